@@ -1,0 +1,47 @@
+-- The laws of spelling, projection and typing: what a reader may hold the definitions to.
+use Rattle.std.specs.Prelude.{◌≡◌, ◌↔◌, ◌<◌, ◌^◌, ℕ, true, List, [], ◌++◌, length}
+use Rattle.core_terms.specs.Types.{Ty, Table}
+use Rattle.core_terms.specs.Values.{Value, IsIdeal, IsShallow, size, depth}
+use Rattle.core_terms.specs.Spelling.{AreBytes, Spells, spelling, shallow}
+use Rattle.core_terms.specs.Reading.{Good, read}
+use Rattle.core_terms.specs.Terms.{Program, IsTyped}
+use Rattle.core_terms.specs.Roles.{IsPlain}
+use Rattle.core_terms.specs.Typing.{is_typed}
+
+-- Bytes are read as a value exactly where they spell it, in a format whose limit fits the length field of a text.
+abbrev pub ReadingIsExact : Type 0
+ReadingIsExact = (limit : ℕ) → limit < 2 ^ 32 → (types : Table) (bytes : List ℕ) (t : Ty) (s : Value) → AreBytes bytes
+    → Spells limit types bytes t s ↔ ((place : ℕ) × (read limit types t bytes ≡ Good s [] place))
+
+-- A string spells at most one value at a type.
+abbrev pub OneIsSpelled : Type 0
+OneIsSpelled = (limit : ℕ) → limit < 2 ^ 32 → (types : Table) (bytes : List ℕ) (t : Ty) (s s' : Value)
+    → Spells limit types bytes t s → Spells limit types bytes t s' → s ≡ s'
+
+-- No spelling at a type is a proper prefix of another at that type.
+abbrev pub NoneIsPrefix : Type 0
+NoneIsPrefix = (limit : ℕ) → limit < 2 ^ 32 → (types : Table) (bytes more : List ℕ) (t : Ty) (s s' : Value)
+    → Spells limit types bytes t s → Spells limit types (bytes ++ more) t s' → more ≡ []
+
+-- The size of a shallow value is the number of bytes of its spelling.
+abbrev pub SizeIsLength : Type 0
+SizeIsLength = (types : Table) (t : Ty) (s : Value) → IsShallow types t s → length (spelling s) ≡ size types t s
+
+-- A value and its projection have one size and one depth.
+abbrev pub ProjectionKeepsLimits : Type 0
+ProjectionKeepsLimits = (digest : Ty → List ℕ → List ℕ) (types : Table) (t : Ty) (v : Value)
+    → (size types t (shallow digest types t v) ≡ size types t v) × (depth types t (shallow digest types t v) ≡ depth types t v)
+
+-- The projection of an ideal value is a shallow value of the same type, where digests have 32 bytes.
+abbrev pub ProjectionIsShallow : Type 0
+ProjectionIsShallow = (digest : Ty → List ℕ → List ℕ) → ((t : Ty) (bytes : List ℕ) → length (digest t bytes) ≡ 32)
+    → (types : Table) (t : Ty) (v : Value) → IsIdeal types t v → IsShallow types t (shallow digest types t v)
+
+-- A value of a type without `auth` is its own projection.
+abbrev pub PlainIsOwnProjection : Type 0
+PlainIsOwnProjection = (digest : Ty → List ℕ → List ℕ) (types : Table) (t : Ty) (v : Value)
+    → IsPlain types t → IsIdeal types t v → shallow digest types t v ≡ v
+
+-- The typing test says yes exactly where the typing rules hold.
+abbrev pub TypingTestIsExact : Type 0
+TypingTestIsExact = (P : Program) → (is_typed P ≡ true) ↔ IsTyped P

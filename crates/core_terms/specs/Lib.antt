@@ -1,0 +1,10 @@
+pub mod Types
+pub mod Formats
+pub mod Values
+pub mod Spelling
+pub mod Reading
+pub mod Terms
+pub mod Roles
+pub mod Projection
+pub mod Typing
+pub mod Laws
