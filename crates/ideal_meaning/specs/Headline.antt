@@ -1,47 +1,57 @@
--- The main theorem and its companion, over the definitions.
+-- The headline and its companion, over the definitions.
 use Rattle.std.specs.Prelude.{◌≡◌, ◌⊎◌, ℕ, ◌≤◌, List, [], ◌∷◌, length, drop, Some}
 use Rattle.core_terms.specs.Types.{Ty}
-use Rattle.core_terms.specs.Values.{Value, Values, NoV, AndV, IsIdeal, AreIdeal, IsWithin, AreWithin, AuthWithin}
-use Rattle.core_terms.specs.Spelling.{spelling, shallow, shallow_all}
-use Rattle.core_terms.specs.Terms.{Program, function_at, IsTyped}
-use Rattle.ideal_meaning.specs.Ideal.{Outcome, outcome, shallow_outcome, ideal, honest_pieces}
+use Rattle.core_terms.specs.Formats.{Hash, IsHash, IsFormat}
+use Rattle.core_terms.specs.Values.{Value, Values, NoV, AndV, IsIdeal, AreIdeal, AuthWithin}
+use Rattle.core_terms.specs.Spelling.{spelling}
+use Rattle.core_terms.specs.Terms.{Kind, Program, function_at, IsTyped}
+use Rattle.core_terms.specs.Roles.{IsRole, ReadsState, role_result}
+use Rattle.core_terms.specs.Projection.{digest_at, projection, projections, Fits, AllFit}
+use Rattle.ideal_meaning.specs.Ideal.{Outcome, outcome, outcome_projection, ideal, honest_pieces, bytes_of}
 use Rattle.ideal_meaning.specs.Frames.{offered, offered_pieces, header, proof_file}
 use Rattle.ideal_meaning.specs.Checked.{Accepted, verdict, judge, IsSplitAt}
 
--- H gives 32 bytes
-abbrev pub IsHash : (List ℕ → List ℕ) → Type 0
-IsHash H = (bytes : List ℕ) → length (H bytes) ≡ 32
+-- the call of a query or update on a state and an argument
+abbrev pub call_of : (state argument : Value) → Values
+call_of state argument = AndV state (AndV argument NoV)
 
--- the offered pieces are the honest ones and the outcome is the projection of the ideal one,
--- or the first offered piece that differs from the honest one has its digest
-abbrev pub TrueOrSplit : (List ℕ → List ℕ) → Program → ℕ → Values → ℕ → List (List ℕ) → Outcome → Type 0
-TrueOrSplit H P f args k pieces o =
-    ((pieces ≡ honest_pieces H P f args k) × (o ≡ shallow_outcome H P.types (function_at P f).result (outcome (ideal P f args k))))
-    ⊎ ((i : ℕ) × IsSplitAt H pieces (honest_pieces H P f args k) i)
+-- The offered pieces are the honest ones and the outcome, at type t, is the projection of the ideal one; or the first offered
+-- piece that differs from the honest one has its digest, and its place is named.
+abbrev pub TrueOrSplit : Hash → Program → ℕ → Ty → Values → ℕ → List (List ℕ) → Outcome → Type 0
+TrueOrSplit hash P f t args k pieces o =
+    ((pieces ≡ bytes_of (honest_pieces hash P f args k)) × (o ≡ outcome_projection hash P t (outcome (ideal P f args k))))
+    ⊎ ((i : ℕ) × IsSplitAt (digest_at hash P) pieces (honest_pieces hash P f args k) i)
 
--- whatever frames are offered, over whatever ring
-abbrev pub Headline : Type 0
-Headline = (H : List ℕ → List ℕ) → IsHash H → (P : Program) → IsTyped P
+-- Of frames alone, over whatever pieces were kept before: what is accepted is true, or there is a split.
+abbrev pub HeadlineOfFrames : Type 0
+HeadlineOfFrames = (hash : Hash) → IsHash hash → (P : Program) → IsFormat P.format → IsTyped P
     → (f : ℕ) (args : Values) (k : ℕ) (bytes : List ℕ) (n : ℕ) (recent : List (List ℕ)) (o : Outcome)
-    → AreIdeal P.types (function_at P f).parameters args → AreWithin P.types (function_at P f).parameters args
-    → judge H P f (shallow_all P.types H (function_at P f).parameters args) k bytes n recent ≡ Accepted o
-    → TrueOrSplit H P f args k (offered_pieces (offered bytes n recent)) o
+    → AreIdeal P.types (function_at P f).parameters args → AllFit P (function_at P f).parameters args
+    → judge hash P f (projections hash P (function_at P f).parameters args) k bytes n recent ≡ Accepted o
+    → TrueOrSplit hash P f (function_at P f).result args k (offered_pieces (offered P.format.limit bytes n recent)) o
 
--- the same of a proof file, given the spellings of the projected state and argument alone
-abbrev pub VerdictHeadline : Type 0
-VerdictHeadline = (H : List ℕ → List ℕ) → IsHash H → (P : Program) → IsTyped P
-    → (f : ℕ) (t : Ty) → (function_at P f).parameters ≡ P.state ∷ t ∷ []
-    → (v a : Value) → IsIdeal P.types P.state v → IsIdeal P.types t a
+-- The headline. For each well-typed program, query or update, ideal state and argument, fuel and bytes of a proof file, made by
+-- anybody: if the verdict, given the spellings of the projected state and argument alone, accepts an outcome, then the header
+-- is good, and what is accepted is true, or there is a split. Of the hash nothing is asked but 32 bytes.
+abbrev pub Headline : Type 0
+Headline = (hash : Hash) → IsHash hash → (P : Program) → IsFormat P.format → IsTyped P
+    → (f : ℕ) (kind : Kind) (t answer : Ty) → IsRole P f kind t answer → ReadsState kind
+    → (state argument : Value) → IsIdeal P.types P.state state → IsIdeal P.types t argument
     → (k : ℕ) (bytes : List ℕ) (o : Outcome)
-    → verdict H P t f (spelling (shallow P.types H P.state v)) (spelling (shallow P.types H t a)) k bytes ≡ Accepted o
-    → (n : ℕ) × (header bytes ≡ Some n) × TrueOrSplit H P f (AndV v (AndV a NoV)) k (offered_pieces (offered (drop 6 bytes) n [])) o
+    → verdict hash P t f (spelling (projection hash P P.state state)) (spelling (projection hash P t argument)) k bytes ≡ Accepted o
+    → (n : ℕ) × (header P.format bytes ≡ Some n)
+    × TrueOrSplit hash P f (role_result kind P.state answer) (call_of state argument) k (offered_pieces (offered P.format.limit (drop 6 bytes) n [])) o
 
--- the proof file of the honest pieces is accepted with the projection of the ideal outcome
+-- The companion. The proof file of the honest pieces, with whatever ring size the format allows, is accepted with the projection
+-- of the ideal outcome. The state
+-- and the argument are within the limits, and so is each authenticated value in the state.
 abbrev pub Companion : Type 0
-Companion = (H : List ℕ → List ℕ) → IsHash H → (P : Program) → IsTyped P
-    → (f : ℕ) (t : Ty) → (function_at P f).parameters ≡ P.state ∷ t ∷ []
-    → (v a : Value) → IsIdeal P.types P.state v → IsIdeal P.types t a
-    → IsWithin P.types P.state v → IsWithin P.types t a → AuthWithin P.types P.state v → AuthWithin P.types t a
-    → (k n : ℕ) → n ≤ 1024
-    → verdict H P t f (spelling (shallow P.types H P.state v)) (spelling (shallow P.types H t a)) k (proof_file n (honest_pieces H P f (AndV v (AndV a NoV)) k))
-    ≡ Accepted (shallow_outcome H P.types (function_at P f).result (outcome (ideal P f (AndV v (AndV a NoV)) k)))
+Companion = (hash : Hash) → IsHash hash → (P : Program) → IsFormat P.format → IsTyped P
+    → (f : ℕ) (kind : Kind) (t answer : Ty) → IsRole P f kind t answer → ReadsState kind
+    → (state argument : Value) → IsIdeal P.types P.state state → IsIdeal P.types t argument
+    → Fits P P.state state → Fits P t argument
+    → AuthWithin P.format.limit P.types P.state state
+    → (k n : ℕ) → n ≤ P.format.most_kept
+    → verdict hash P t f (spelling (projection hash P P.state state)) (spelling (projection hash P t argument)) k
+    (proof_file P.format n (bytes_of (honest_pieces hash P f (call_of state argument) k)))
+    ≡ Accepted (outcome_projection hash P (role_result kind P.state answer) (outcome (ideal P f (call_of state argument) k)))

@@ -1,7 +1,8 @@
 -- The meaning of expressions, for any meaning of `auth` and `unauth`.
 use Rattle.std.specs.Prelude.{ℕ, zero, suc, Bool, true, false, not, ◌&&◌, ◌||◌, List, [], ◌∷◌, ◌++◌, length, ℤ, pos, ◌+ℤ◌, ◌-ℤ◌, ◌*ℤ◌, int_lt, int_le, int_div, int_rem, nat_lt, nat_eq, bytes_eq, if◌then◌else◌}
 use Rattle.std.specs.Ordering.{int_eq}
-use Rattle.core_terms.specs.Types.{Ty, TextTy, PairTy, NamedTy}
+use Rattle.core_terms.specs.Types.{Ty, TextTy, PairTy, NamedTy, Table}
+use Rattle.core_terms.specs.Formats.{depth_limit}
 use Rattle.core_terms.specs.Values.{Value, UnitV, BoolV, IntV, TextV, PairV, ConV, Values, NoV, AndV, int_fits, size, depth}
 use Rattle.core_terms.specs.Terms.{Arith, Add, Sub, Mul, Div, Rem, Compare, Eq, Lt, Le, TextCompare, TEq, TLt, Expression, UnitE, BoolE, IntE, TextE, LocalE, PairE, FstE, SndE, NotE, LenE, AuthE, UnauthE, ConE, ArithE, CompareE, TextCompareE, CatE, LetE, IfE, MatchE, CallE, Expressions, NoE, AndE, Arms, NoArm, AndArm, Program, function_at}
 
@@ -32,10 +33,20 @@ abbrev pub state_of : {C W A : Type 0} → Run C W A → W
 state_of (Gives a k w) = w
 state_of (Ends stop k w) = w
 
--- what `auth` and `unauth` mean at a type, over a state of the mode
+-- what opening an authenticated value gives, with the mode's state then: a value, or the cause of a rejection
+pub data Opening (C W : Type 0) : Type 0 where
+  Opens : (v : Value) (w : W) → Opening C W
+  Refuses : (cause : C) (w : W) → Opening C W
+
+-- opening takes no fuel
+abbrev pub with_fuel : {C W : Type 0} → ℕ → Opening C W → Run C W Value
+with_fuel k (Opens v w) = Gives v k w
+with_fuel k (Refuses cause w) = Ends (Rejects cause) k w
+
+-- A mode: what `auth` and `unauth` mean at a type, over a state of the mode. `C` are the causes for which it may reject.
 pub record Mode (C W : Type 0) : Type 0 where
   pub auth : Ty → Value → Value
-  pub unauth : Ty → Value → ℕ → W → Run C W Value
+  pub unauth : Ty → Value → W → Opening C W
 
 -- the parts of a value of a known kind
 abbrev pub first_in : Value → Value
@@ -110,13 +121,13 @@ abbrev pub choose : {C W : Type 0} → Bool → (Values → ℕ → W → Run C 
 choose true first other env k w = first env k w
 choose false first other env k w = other env k w
 
-module _ (P : Program) where
-  -- a new value, within the limits of size and then of depth
-  abbrev pub limited : {C W : Type 0} → Ty → Value → ℕ → W → Run C W Value
-  limited t v k w =
-      if nat_lt 65536 (size P.types t v) then Ends (Traps TooBig) k w
-      else (if nat_lt 512 (depth P.types t v) then Ends (Traps TooDeep) k w else Gives v k w)
+-- A new value of type t, where it is within the limits: its size is tested first, then its depth.
+abbrev pub limited : {C W : Type 0} → ℕ → Table → Ty → Value → ℕ → W → Run C W Value
+limited limit types t v k w =
+    if nat_lt limit (size types t v) then Ends (Traps TooBig) k w
+    else (if nat_lt depth_limit (depth types t v) then Ends (Traps TooDeep) k w else Gives v k w)
 
+module _ (P : Program) where
   -- the meaning of an expression, where `call` is the meaning of calls
   module _ {C W : Type 0} (mode : Mode C W) (call : ℕ → Values → ℕ → W → Run C W Value) where
     abbrev mutual
@@ -127,15 +138,15 @@ module _ (P : Program) where
       run (TextE bytes) env k w = Gives (TextV bytes) k w
       run (LocalE i) env k w = Gives (local env i) k w
       run (PairE a b x y) env k w =
-          then_run (run x env k w) (λ u k w. then_run (run y env k w) (λ v k w. limited (PairTy a b) (PairV u v) k w))
+          then_run (run x env k w) (λ u k w. then_run (run y env k w) (λ v k w. limited P.format.limit P.types (PairTy a b) (PairV u v) k w))
       run (FstE a b x) env k w = then_run (run x env k w) (λ v k w. Gives (first_in v) k w)
       run (SndE a b x) env k w = then_run (run x env k w) (λ v k w. Gives (second_in v) k w)
       run (NotE x) env k w = then_run (run x env k w) (λ v k w. Gives (BoolV (not (bool_in v))) k w)
       run (LenE x) env k w = then_run (run x env k w) (λ v k w. Gives (IntV (pos (length (text_in v)))) k w)
       run (AuthE t x) env k w = then_run (run x env k w) (λ v k w. Gives (mode.auth t v) k w)
-      run (UnauthE t x) env k w = then_run (run x env k w) (λ v k w. mode.unauth t v k w)
+      run (UnauthE t x) env k w = then_run (run x env k w) (λ v k w. with_fuel k (mode.unauth t v w))
       run (ConE number tag xs) env k w =
-          then_run (run_all xs env k w) (λ vs k w. limited (NamedTy number) (ConV tag vs) k w)
+          then_run (run_all xs env k w) (λ vs k w. limited P.format.limit P.types (NamedTy number) (ConV tag vs) k w)
       run (ArithE op x y) env k w =
           then_run (run x env k w) (λ u k w. then_run (run y env k w) (λ v k w. arith_of op (int_in u) (int_in v) k w))
       run (CompareE op x y) env k w =
@@ -143,7 +154,7 @@ module _ (P : Program) where
       run (TextCompareE op x y) env k w =
           then_run (run x env k w) (λ u k w. then_run (run y env k w) (λ v k w. Gives (BoolV (text_compare_of op (text_in u) (text_in v))) k w))
       run (CatE x y) env k w =
-          then_run (run x env k w) (λ u k w. then_run (run y env k w) (λ v k w. limited TextTy (TextV (text_in u ++ text_in v)) k w))
+          then_run (run x env k w) (λ u k w. then_run (run y env k w) (λ v k w. limited P.format.limit P.types TextTy (TextV (text_in u ++ text_in v)) k w))
       run (LetE a x body) env k w = then_run (run x env k w) (λ v k w. run body (join env (AndV v NoV)) k w)
       run (IfE test first other) env k w = then_run (run test env k w) (λ v k w. choose (bool_in v) (run first) (run other) env k w)
       run (MatchE number x arms) env k w =
@@ -162,11 +173,12 @@ module _ (P : Program) where
       run_arm (AndArm body arms) zero env k w = run body env k w
       run_arm (AndArm body arms) (suc tag) env k w = run_arm arms tag env k w
 
-  -- a call of a function with so much fuel; `depth_left` bounds how deep calls nest, and is never below the fuel
+  -- A call of a function with so much fuel, of which it takes one unit; Out where none is left. `nesting` bounds how deep
+  -- calls nest. It starts at the fuel and is never below it, so it never ends a run: a law says so.
   abbrev pub call : {C W : Type 0} → Mode C W → ℕ → ℕ → Values → ℕ → W → Run C W Value
   call mode zero f args k w = Ends IsOut k w
-  call mode (suc depth_left) f args zero w = Ends IsOut zero w
-  call mode (suc depth_left) f args (suc k) w = run mode (call mode depth_left) (function_at P f).body args k w
+  call mode (suc nesting) f args zero w = Ends IsOut zero w
+  call mode (suc nesting) f args (suc k) w = run mode (call mode nesting) (function_at P f).body args k w
 
   -- a call with all its fuel
   abbrev pub call_from : {C W : Type 0} → Mode C W → ℕ → Values → ℕ → W → Run C W Value

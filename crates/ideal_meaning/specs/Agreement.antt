@@ -1,0 +1,71 @@
+-- The relation between the ideal and the checked run, which is behind the headline and its companion.
+use Rattle.std.specs.Prelude.{◌≡◌, ◌≢◌, ◌⊎◌, ℕ, ◌+◌, List, [], ◌∷◌, ◌++◌, length, map}
+use Rattle.core_terms.specs.Types.{Ty}
+use Rattle.core_terms.specs.Formats.{Hash, IsHash, IsFormat}
+use Rattle.core_terms.specs.Values.{Value, Values, IsIdeal, AreIdeal, AuthWithin, AuthWithinAll}
+use Rattle.core_terms.specs.Terms.{Program, function_at, IsTyped}
+use Rattle.core_terms.specs.Projection.{digest_at, projection, projections, Fits, AllFit}
+use Rattle.ideal_meaning.specs.Run.{Stop, Traps, IsOut, Rejects, Run, Gives, Ends, state_of, call}
+use Rattle.ideal_meaning.specs.Ideal.{Opened, ideal_mode, honest_bytes}
+use Rattle.ideal_meaning.specs.Frames.{Offer, offered_pieces}
+use Rattle.ideal_meaning.specs.Checked.{Taking, Cause, BadPiece, checked_mode}
+
+-- a trap or the want of fuel, as the end of a checked run; an ideal run has no causes
+abbrev pub as_checked : Stop ⊥ → Stop Cause
+as_checked (Traps trap) = Traps trap
+as_checked IsOut = IsOut
+as_checked (Rejects c) = elim c [ ]
+
+-- the bytes that an honest prover appends for what was opened
+abbrev pub honest_so_far : Hash → Program → List Opened → List (List ℕ)
+honest_so_far hash P seen = map (honest_bytes hash P) seen
+
+module _ (hash : Hash) (P : Program) where
+  -- Between `began` and `w` the verifier took one piece for each opened value, and each was the honest one.
+  pub record TookHonest (began : Taking) (seen : List Opened) (w : Taking) : Type 0 where
+    pub pieces : offered_pieces began.more ≡ honest_so_far hash P seen ++ offered_pieces w.more
+    pub place : w.place ≡ began.place + length seen
+
+  -- The next piece isn't the honest one for x, and has its digest.
+  pub record OffersOther (x : Opened) (w : Taking) : Type 0 where
+    pub found : List ℕ
+    pub later : List (List ℕ)
+    pub next : offered_pieces w.more ≡ found ∷ later
+    pub differs : found ≢ honest_bytes hash P x
+    pub one_digest : digest_at hash P x.ty found ≡ digest_at hash P x.ty (honest_bytes hash P x)
+
+  -- The checked run is rejected where x is opened. Where the next piece is the honest one, that is since x isn't within the
+  -- limits, and the cause is that the piece is no spelling.
+  pub record IsRefused {B : Type 0} (x : Opened) (w : Taking) (checked : Run Cause Taking B) : Type 0 where
+    pub cause : Cause
+    pub fuel : ℕ
+    pub left : Taking
+    pub is : checked ≡ Ends (Rejects cause) fuel left
+    pub only : (later : List (List ℕ)) → offered_pieces w.more ≡ honest_bytes hash P x ∷ later
+        → (offset : ℕ) × (cause ≡ BadPiece w.place offset) × (Fits P x.ty x.value → ⊥)
+
+  -- Up to the opening of x all pieces were honest, and there the runs part.
+  pub record Parts {A B : Type 0} (began : Taking) (ideal : Run ⊥ (List Opened) A) (checked : Run Cause Taking B) : Type 0 where
+    pub before : List Opened
+    pub x : Opened
+    pub after : List Opened
+    pub seen : state_of ideal ≡ before ++ x ∷ after
+    pub at : Taking
+    pub honest : TookHonest began before at
+    pub why : OffersOther x at ⊎ IsRefused x at checked
+
+  -- The checked run did as the ideal one: it gives the projection of its value, or ends as it does, with the same fuel left.
+  abbrev pub Follows : {A B : Type 0} → (A → B) → Taking → Run ⊥ (List Opened) A → Run Cause Taking B → Type 0
+  Follows project began (Gives a k seen) checked = (w : Taking) × (checked ≡ Gives (project a) k w) × TookHonest began seen w
+  Follows project began (Ends stop k seen) checked = (w : Taking) × (checked ≡ Ends (as_checked stop) k w) × TookHonest began seen w
+
+-- The relation. A typed program's function, called in both modes on ideal values within the limits and their projections, with
+-- the same fuel and whatever pieces are offered, does the same in both, the checked run in projection, or the two part at one
+-- opening. It holds at every bound of nested calls.
+abbrev pub Agreement : Type 0
+Agreement = (hash : Hash) → IsHash hash → (P : Program) → IsFormat P.format → IsTyped P
+    → (nesting f : ℕ) (args : Values) (k : ℕ) (began : Taking)
+    → AreIdeal P.types (function_at P f).parameters args → AllFit P (function_at P f).parameters args
+    → let ideal = call P ideal_mode nesting f args k [] in
+    let checked = call P (checked_mode hash P) nesting f (projections hash P (function_at P f).parameters args) k began in
+    Follows hash P (projection hash P (function_at P f).result) began ideal checked ⊎ Parts hash P began ideal checked
