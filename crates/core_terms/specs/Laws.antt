@@ -1,12 +1,12 @@
 -- The laws of spelling, projection and typing: what a reader may hold the definitions to.
-use Rattle.std.specs.Prelude.{◌≡◌, ◌↔◌, ◌<◌, ◌^◌, ℕ, true, List, [], ◌++◌, length}
+use Rattle.std.specs.Prelude.{◌≡◌, ◌↔◌, ◌<◌, ◌^◌, ℕ, true, List, [], ◌++◌, length, Some, slice_get}
 use Rattle.core_terms.specs.Types.{Ty, Table}
 use Rattle.core_terms.specs.Values.{Value, IsIdeal, IsShallow, size, depth}
 use Rattle.core_terms.specs.Spelling.{AreBytes, Spells, spelling, shallow}
 use Rattle.core_terms.specs.Reading.{Good, read}
-use Rattle.core_terms.specs.Terms.{Program, IsTyped}
-use Rattle.core_terms.specs.Roles.{IsPlain}
-use Rattle.core_terms.specs.Typing.{is_typed}
+use Rattle.core_terms.specs.Terms.{Function, Program, IsTyped}
+use Rattle.core_terms.specs.Roles.{IsPlain, IsRole, is_entered}
+use Rattle.core_terms.specs.Typing.{is_typed, is_shaped}
 
 -- Bytes are read as a value exactly where they spell it, in a format whose limit fits the length field of a text.
 abbrev pub ReadingIsExact : Type 0
@@ -45,3 +45,9 @@ PlainIsOwnProjection = (digest : Ty → List ℕ → List ℕ) (types : Table) (
 -- The typing test says yes exactly where the typing rules hold.
 abbrev pub TypingTestIsExact : Type 0
 TypingTestIsExact = (P : Program) → (is_typed P ≡ true) ↔ IsTyped P
+
+-- The shape test says yes exactly where each function that can be entered from outside is a role of its kind.
+abbrev pub ShapeTestIsExact : Type 0
+ShapeTestIsExact = (P : Program) → (is_shaped P ≡ true)
+    ↔ ((f : ℕ) (g : Function) → slice_get P.functions f ≡ Some g → is_entered g.kind ≡ true
+    → (argument : Ty) × (answer : Ty) × IsRole P f g.kind argument answer)

@@ -7,4 +7,7 @@ pub mod Terms
 pub mod Roles
 pub mod Projection
 pub mod Typing
+pub mod TypeTables
+pub mod ProgramTrees
+pub mod Programs
 pub mod Laws

@@ -1,5 +1,5 @@
 -- The roles of a program: the functions that can be entered from outside.
-use Rattle.std.specs.Prelude.{◌≡◌, ℕ, zero, suc, Bool, true, false, ◌&&◌, ◌||◌, List, [], ◌∷◌, Option, Some, None, option_map, slice_get, unwrap_or, bytes_eq, if◌then◌else◌}
+use Rattle.std.specs.Prelude.{◌≡◌, ℕ, zero, suc, Bool, true, false, ◌&&◌, ◌||◌, List, [], ◌∷◌, length, Option, Some, None, option_map, slice_get, unwrap_or, bytes_eq, if◌then◌else◌}
 use Rattle.core_terms.specs.Types.{Ty, PairTy, NamedTy, AuthTy, Table}
 use Rattle.core_terms.specs.Terms.{Kind, Inner, Init, Query, Update, Function, Program}
 
@@ -19,6 +19,10 @@ has_auth_within types opened t = false
 -- no `auth` stands in the type at any depth, through named types too
 abbrev pub IsPlain : Table → Ty → Type 0
 IsPlain types t = (opened : ℕ) → has_auth_within types opened t ≡ false
+
+-- the same as a test: a path to an `auth` needs to open each named type once at most
+abbrev pub has_auth : Table → Ty → Bool
+has_auth types t = has_auth_within types (length types) t
 
 -- the types of a role's parameters, where its caller passes an argument of type `argument`
 abbrev pub role_parameters : Kind → (state argument : Ty) → List Ty

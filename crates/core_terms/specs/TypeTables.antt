@@ -1,0 +1,33 @@
+-- The types that the forms of a table stand for.
+use Rattle.std.specs.Prelude.{◌≡◌, ℕ, ◌<◌, List, [], ◌∷◌, ◌++◌, length, slice_index_or}
+use Rattle.core_terms.specs.Types.{Ty, UnitTy, AuthTy}
+use Rattle.core_terms.specs.declared.types.TyId.{TyId}
+use Rattle.core_terms.specs.declared.types.TyForm.{TyForm}
+use Rattle.core_terms.specs.declared.types.TyForm.TheVariants.{UnitForm, AuthForm}
+
+-- the type with a number, among these
+abbrev pub type_at : List Ty → TyId → Ty
+type_at types id = slice_index_or types id.0 UnitTy
+
+-- the type of a form whose parts are among these
+abbrev pub type_of_form : List Ty → TyForm → Ty
+type_of_form types UnitForm = UnitTy
+type_of_form types (AuthForm part) = AuthTy (type_at types part)
+
+-- the types of the forms behind these, each with its parts among the earlier ones
+abbrev pub types_behind : List Ty → List TyForm → List Ty
+types_behind before [] = before
+types_behind before (form ∷ forms) = types_behind (before ++ type_of_form before form ∷ []) forms
+
+-- the types of a table, by number
+abbrev pub types_of_forms : List TyForm → List Ty
+types_of_forms forms = types_behind [] forms
+
+-- the parts of a form are among the first n types
+abbrev pub PartsStandBefore : ℕ → TyForm → Type 0
+PartsStandBefore n UnitForm = Unit {0}
+PartsStandBefore n (AuthForm part) = part.0 < n
+
+-- no two numbers stand for one type
+abbrev pub HasOneNumber : List Ty → Type 0
+HasOneNumber types = (i j : ℕ) → i < length types → j < length types → slice_index_or types i UnitTy ≡ slice_index_or types j UnitTy → i ≡ j

@@ -1,0 +1,25 @@
+// How a run ends.
+
+/// Why a run ends without a value, by the program's own doing.
+#[derive(Clone, Copy, Debug, PartialEq, Eq)]
+pub enum Trap {
+    /// An exact result is no int of 64 bits.
+    Overflow,
+    /// A divisor is 0.
+    DivZero,
+    /// The spelling of a new value would pass its limit.
+    TooBig,
+    /// The depth of a new value would pass its limit.
+    TooDeep,
+}
+
+/// How a run ends.
+#[derive(Clone, Copy, Debug, PartialEq, Eq)]
+pub enum Outcome<V> {
+    /// With a value.
+    Done(V),
+    /// With a trap.
+    Trapped(Trap),
+    /// Without the fuel for a call.
+    Out,
+}
