@@ -1,1 +1,2 @@
-
+pub mod TypeTables
+pub mod Roles

@@ -1,5 +1,5 @@
 -- The types that the forms of a table stand for.
-use Rattle.std.specs.Prelude.{◌≡◌, ℕ, ◌<◌, List, [], ◌∷◌, ◌++◌, length, slice_index_or}
+use Rattle.std.specs.Prelude.{◌≡◌, ℕ, ◌+◌, ◌<◌, Bool, true, ◌&&◌, List, [], ◌∷◌, ◌++◌, length, nat_lt, slice_index_or}
 use Rattle.core_terms.specs.Types.{Ty, UnitTy, AuthTy}
 use Rattle.core_terms.specs.declared.types.TyId.{TyId}
 use Rattle.core_terms.specs.declared.types.TyForm.{TyForm}
@@ -24,9 +24,14 @@ abbrev pub types_of_forms : List TyForm → List Ty
 types_of_forms forms = types_behind [] forms
 
 -- the parts of a form are among the first n types
-abbrev pub PartsStandBefore : ℕ → TyForm → Type 0
-PartsStandBefore n UnitForm = Unit {0}
-PartsStandBefore n (AuthForm part) = part.0 < n
+abbrev pub stands_behind : ℕ → TyForm → Bool
+stands_behind n UnitForm = true
+stands_behind n (AuthForm part) = nat_lt part.0 n
+
+-- parts stand before what they are parts of, where n types stand before these forms
+abbrev pub is_in_order : ℕ → List TyForm → Bool
+is_in_order n [] = true
+is_in_order n (form ∷ forms) = stands_behind n form && is_in_order (n + 1) forms
 
 -- no two numbers stand for one type
 abbrev pub HasOneNumber : List Ty → Type 0

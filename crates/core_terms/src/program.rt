@@ -1,5 +1,6 @@
 // Programs, well-typed by their type.
-ghost use Rattle.std.specs.Prelude.{◌≡◌, ◌<◌, true, length, option_map, slice_get, Some};
+ghost use Rattle.std.specs.Prelude.{◌≡◌, ◌<◌, true, length, option_map, bytes_eq};
+ghost use Rattle.std.specs.List.{position};
 ghost use Rattle.core_terms.specs.ProgramTrees.{function_of, program_format, program_of};
 ghost use Rattle.core_terms.specs.TypeTables.{type_at, type_of_form};
 ghost use Rattle.core_terms.specs.Roles.{role_named};
@@ -56,8 +57,10 @@ impl Program {
     pub fn role(&self, name: &str) -> Option<FunctionId>
         ensures { option_map (λ id. id.0) result ≡ role_named (meaning self.now) name.now }
     {
-        let found = self.functions.iter().position(|function| function.name.as_bytes() == name.as_bytes());
-        found.map(FunctionId)
+        match named(&self.functions, name) {
+            Some(number) => Some(FunctionId(number)),
+            None => None,
+        }
     }
 
     /// The function with a number.
@@ -95,4 +98,13 @@ impl Program {
     {
         H::of(spelling)
     }
+}
+
+/// The place of the first function of this name.
+fn named(functions: &[Function], name: &str) -> Option<usize>
+    ensures { result ≡ position (λ f. bytes_eq f.name name.now) functions.now }
+{
+    functions
+        .iter()
+        .position(|function| function.name.as_bytes() == name.as_bytes())
 }

@@ -1,7 +1,8 @@
 // Types by number, in a table in which equal types have one number.
-ghost use Rattle.std.specs.Prelude.{◌≡◌, ◌<◌, ◌++◌, ◌⊎◌, ◌∷◌, [], ℕ, length, Some, slice_get, IfOk, OnOk, OnErr, slice_index_or};
-ghost use Rattle.core_terms.specs.TypeTables.{HasOneNumber, PartsStandBefore, type_at, type_of_form, types_of_forms};
+ghost use Rattle.std.specs.Prelude.{◌≡◌, true, ◌<◌, ◌++◌, ◌⊎◌, ◌∷◌, [], ℕ, length, Some, slice_get, IfOk, OnOk, OnErr, slice_index_or};
+ghost use Rattle.core_terms.specs.TypeTables.{HasOneNumber, is_in_order, type_at, type_of_form, types_of_forms};
 ghost use Rattle.core_terms.specs.Types.{Ty, UnitTy};
+ghost use Rattle.core_terms.specs.declared.types.TyForm.{TyForm};
 
 use std::alloc::{AllocError, Global};
 
@@ -20,6 +21,7 @@ pub enum TyForm {
 #[derive(Drop)]
 pub struct TyTable {
     forms: Vec<TyForm>,
+    ghost in_order: { is_in_order 0 forms.items ≡ true },
     ghost one_number: { HasOneNumber (types_of_forms forms.items) },
 }
 
@@ -30,6 +32,17 @@ impl TyTable {
     pub fn form(&self, ty: TyId) -> TyForm
         ensures { type_of_form (types_in self.now) result ≡ type_at (types_in self.now) ty }
     {
-        self.forms.get(ty.0).copied().unwrap_or(TyForm::UnitForm)
+        form_at(&self.forms, ty)
+    }
+}
+
+/// The form with a number, among these.
+fn form_at(forms: &[TyForm], ty: TyId) -> TyForm
+    ensures { result ≡ slice_index_or forms.now ty.0 TyForm.UnitForm }
+{
+    if ty.0 < forms.len() {
+        forms[ty.0]
+    } else {
+        TyForm::UnitForm
     }
 }

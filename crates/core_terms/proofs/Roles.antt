@@ -1,0 +1,46 @@
+-- A role is found by its name.
+use Rattle.std.proofs.Common.{◌≡◌, ℕ, zero, suc, Bool, true, false, ◌&&◌, List, [], ◌∷◌, map, Option, Some, None, option_map, bytes_eq, if◌then◌else◌, refl, ap, ◌∙◌, sym, cond, not, nat_lt, length, ◌+◌, lt-ltb, ltb-true, arith}
+use Rattle.std.specs.List.{position, position_or_len}
+use Rattle.core_terms.specs.Types.{Ty}
+use Rattle.core_terms.specs.Terms as tree
+use Rattle.core_terms.specs.Roles.{is_entered, role_among}
+use Rattle.core_terms.specs.ProgramTrees.{function_of, kind_of}
+use Rattle.core_terms.specs.declared.term.Function.{Function}
+use Rattle.core_terms.specs.declared.term.Kind.{Kind}
+use Rattle.core_terms.specs.declared.term.Kind.TheVariants.{Init, Query}
+
+all_entered : (kind : Kind) → is_entered (kind_of kind) ≡ true
+all_entered Init = refl
+all_entered Query = refl
+
+-- the test of two numbers is that of their successors
+lt_suc : (a b : ℕ) → nat_lt (1 + a) (suc b) ≡ nat_lt a b
+lt_suc a b = by (nat_lt a b) refl
+  where
+    by : (t : Bool) → nat_lt a b ≡ t → nat_lt (1 + a) (suc b) ≡ t
+    by true e = lt-ltb (1 + a) (suc b) (omega (arith, ltb-true a b e))
+    by false e = by_other (nat_lt (1 + a) (suc b)) refl
+      where
+        by_other : (u : Bool) → nat_lt (1 + a) (suc b) ≡ u → u ≡ false
+        by_other false f = refl
+        by_other true f = sym (lt-ltb a b (omega (arith, ltb-true (1 + a) (suc b) f))) ∙ e
+
+-- the first place behind an element that fails the test is one more
+one_later : {A : Type 0} (p : A → Bool) (xs : List A) → cond (nat_lt (1 + position_or_len p xs) (suc (length xs))) (Some (1 + position_or_len p xs)) None ≡ option_map suc (position p xs)
+one_later p xs = ap (λ t. cond t (Some (1 + position_or_len p xs)) None) (lt_suc (position_or_len p xs) (length xs)) ∙ by (nat_lt (position_or_len p xs) (length xs)) (position_or_len p xs)
+  where
+    by : (t : Bool) (n : ℕ) → cond t (Some (1 + n)) None ≡ option_map suc (cond t (Some n) None)
+    by true n = ap Some (omega arith)
+    by false n = refl
+
+pub role_position : (types : List Ty) (functions : List Function) (name : List ℕ)
+    → position (λ f. bytes_eq f.name name) functions ≡ role_among (map (function_of types) functions) name
+role_position types [] name = refl
+role_position types (f ∷ fs) name = by (is_entered (kind_of f.kind)) (bytes_eq f.name name) (all_entered f.kind) (role_position types fs name)
+  where
+    by : (e b : Bool) → e ≡ true → position (λ f. bytes_eq f.name name) fs ≡ role_among (map (function_of types) fs) name
+        → cond (nat_lt (cond (not b) (1 + position_or_len (λ f. bytes_eq f.name name) fs) 0) (suc (length fs))) (Some (cond (not b) (1 + position_or_len (λ f. bytes_eq f.name name) fs) 0)) None
+        ≡ (if e && b then Some 0 else option_map suc (role_among (map (function_of types) fs) name))
+    by true true h r = ap (λ t. cond t (Some 0) None) (lt-ltb 0 (suc (length fs)) (omega arith))
+    by true false h r = one_later (λ f. bytes_eq f.name name) fs ∙ ap (option_map suc) r
+    by false b h r = absurd (cc)

@@ -1,0 +1,10 @@
+use Rattle.std.proofs.Common.{◌∙◌, ap, sym}
+use Rattle.core_terms.specs.Programs.{types_of}
+use Rattle.core_terms.proofs.Roles.{role_position}
+use Rattle.core_terms.proofs.program.Program.role.Goals as goal
+
+pub returns-in-Some : goal.returns-in-Some
+returns-in-Some c = sym c.in-Some.is ∙ (rw c.deref.ensures.value at c.named.ensures) ∙ role_position (types_of c.args.self.now) c.args.self.now.functions.items c.args.name.now
+
+pub returns-in-None : goal.returns-in-None
+returns-in-None c = sym c.in-None.is ∙ (rw c.deref.ensures.value at c.named.ensures) ∙ role_position (types_of c.args.self.now) c.args.self.now.functions.items c.args.name.now
