@@ -1,0 +1,67 @@
+//! SHA-256 as the hash of lambda-auth, and the texts of digests.
+#![tactic(auto)]
+
+ghost use Rattle.std.specs.Prelude.{◌≡◌};
+ghost use Rattle.hex.specs.Hex.{encode_lower};
+ghost use Rattle.sha2.specs.Sha256.{sha256};
+
+use core_terms::{Digest, Hash32};
+use sha2::{Digest as Hasher, Sha256};
+
+/// SHA-256, as FIPS 180-4 defines it.
+pub struct Sha;
+
+impl Hash32 for Sha {
+    ghost use Rattle.sha2.proofs.Facts256.{length-sha256};
+
+    ghost hash = { sha256 };
+
+    ghost digest_length = { length-sha256 };
+
+    fn of(bytes: &[u8]) -> Digest {
+        Digest(Sha256::digest(bytes))
+    }
+}
+
+/// The text of a digest: two lower-case hexadecimal digits for each byte, the high one first.
+pub fn hex_text(digest: &Digest) -> [u8; 64]
+    ensures { result ≡ encode_lower digest.now.0 }
+{
+    let mut text = [0; 64];
+    // The text has room for two digits a byte, so this can't fail.
+    let _ = hex::encode_to_slice(&digest.0, &mut text);
+    text
+}
+
+#[cfg(test)]
+mod tests {
+    use super::{Sha, hex_text};
+    use core_terms::Hash32;
+    use std::test::Fail;
+
+    fn text_of(bytes: &[u8]) -> [u8; 64] {
+        hex_text(&Sha::of(bytes))
+    }
+
+    // From FIPS 180-4's examples, and `sha256sum`.
+    #[test]
+    fn known_digests(rt: HostRuntime) -> Result<(), Fail> {
+        assert_eq!(rt;
+            text_of(b"abc"),
+            *b"ba7816bf8f01cfea414140de5dae2223b00361a396177a9cb410ff61f20015ad"
+        );
+        assert_eq!(rt;
+            text_of(b""),
+            *b"e3b0c44298fc1c149afbf4c8996fb92427ae41e4649b934ca495991b7852b855"
+        );
+        assert_eq!(rt;
+            text_of(&[0]),
+            *b"6e340b9cffb37a989ca544e6bb780a2c78901d3fb33738768511a30617afa01d"
+        );
+        assert_eq!(rt;
+            text_of(&[1]),
+            *b"4bf5122f344554c53bde2ebb8cd2b7e3d1600ad631c385a5d7cce23c7785459a"
+        );
+        Ok(())
+    }
+}
