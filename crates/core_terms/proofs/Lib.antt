@@ -1,2 +1,12 @@
 pub mod TypeTables
 pub mod Roles
+pub mod Numbers
+pub mod Fields
+pub mod Projection
+pub mod Spelled
+pub mod ReadOnly
+pub mod TypingSound
+pub mod TypingComplete
+pub mod ReadBack
+pub mod Plain
+pub mod LawProofs

@@ -1,8 +1,7 @@
 -- A role is found by its name.
-use Rattle.std.proofs.Common.{◌≡◌, ℕ, zero, suc, Bool, true, false, ◌&&◌, List, [], ◌∷◌, map, Option, Some, None, option_map, bytes_eq, if◌then◌else◌, refl, ap, ◌∙◌, sym, cond, not, nat_lt, length, ◌+◌, lt-ltb, ltb-true, arith}
+use Rattle.std.proofs.Common.{◌≡◌, ℕ, suc, Bool, true, false, ◌&&◌, List, [], ◌∷◌, map, Some, None, option_map, bytes_eq, if◌then◌else◌, refl, ap, ◌∙◌, sym, cond, not, nat_lt, length, ◌+◌, lt-ltb, ltb-true, arith}
 use Rattle.std.specs.List.{position, position_or_len}
 use Rattle.core_terms.specs.Types.{Ty}
-use Rattle.core_terms.specs.Terms as tree
 use Rattle.core_terms.specs.Roles.{is_entered, role_among}
 use Rattle.core_terms.specs.ProgramTrees.{function_of, kind_of}
 use Rattle.core_terms.specs.declared.term.Function.{Function}

@@ -1,9 +1,9 @@
 -- The laws of spelling, projection and typing: what a reader may hold the definitions to.
-use Rattle.std.specs.Prelude.{◌≡◌, ◌↔◌, ◌<◌, ◌^◌, ℕ, true, List, [], ◌++◌, length, Some, slice_get}
+use Rattle.std.specs.Prelude.{◌≡◌, ◌⊎◌, ◌↔◌, ◌<◌, ◌^◌, ℕ, true, List, [], ◌++◌, length, Some, slice_get}
 use Rattle.core_terms.specs.Types.{Ty, Table}
-use Rattle.core_terms.specs.Values.{Value, IsIdeal, IsShallow, size, depth}
+use Rattle.core_terms.specs.Values.{Value, IsIdeal, IsShallow, IsWithin, size, depth}
 use Rattle.core_terms.specs.Spelling.{AreBytes, Spells, spelling, shallow}
-use Rattle.core_terms.specs.Reading.{Good, read}
+use Rattle.core_terms.specs.Reading.{Good, BadAt, read}
 use Rattle.core_terms.specs.Terms.{Function, Program, IsTyped}
 use Rattle.core_terms.specs.Roles.{IsPlain, IsRole, is_entered}
 use Rattle.core_terms.specs.Typing.{is_typed, is_shaped}
@@ -51,3 +51,12 @@ abbrev pub ShapeTestIsExact : Type 0
 ShapeTestIsExact = (P : Program) → (is_shaped P ≡ true)
     ↔ ((f : ℕ) (g : Function) → slice_get P.functions f ≡ Some g → is_entered g.kind ≡ true
     → (argument : Ty) × (answer : Ty) × IsRole P f g.kind argument answer)
+
+-- The projection of an ideal value is read back from its spelling exactly where the value is within the limits; else its
+-- spelling is refused.
+abbrev pub ProjectionIsReadBack : Type 0
+ProjectionIsReadBack = (digest : Ty → List ℕ → List ℕ) → ((t : Ty) (bytes : List ℕ) → length (digest t bytes) ≡ 32)
+    → (limit : ℕ) → limit < 2 ^ 32 → (types : Table) (t : Ty) (v : Value) → IsIdeal types t v
+    → let projected = shallow digest types t v in
+    (IsWithin limit types t v × ((place : ℕ) × (read limit types t (spelling projected) ≡ Good projected [] place)))
+    ⊎ ((IsWithin limit types t v → ⊥) × ((place : ℕ) × (read limit types t (spelling projected) ≡ BadAt place)))

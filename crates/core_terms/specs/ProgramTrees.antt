@@ -1,5 +1,5 @@
 -- The program of the definitions that a table of types and a list of functions stand for.
-use Rattle.std.specs.Prelude.{ℕ, List, [], map}
+use Rattle.std.specs.Prelude.{List, [], map}
 use Rattle.core_terms.specs.Types.{Ty}
 use Rattle.core_terms.specs.Formats.{Format, first_format}
 use Rattle.core_terms.specs.Terms.{Expression, UnitE, LocalE, AuthE, UnauthE}

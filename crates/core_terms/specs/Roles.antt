@@ -1,5 +1,5 @@
 -- The roles of a program: the functions that can be entered from outside.
-use Rattle.std.specs.Prelude.{◌≡◌, ℕ, zero, suc, Bool, true, false, ◌&&◌, ◌||◌, List, [], ◌∷◌, length, Option, Some, None, option_map, slice_get, unwrap_or, bytes_eq, if◌then◌else◌}
+use Rattle.std.specs.Prelude.{◌≡◌, ℕ, suc, Bool, true, false, ◌&&◌, ◌||◌, List, [], ◌∷◌, length, Option, Some, None, option_map, slice_get, unwrap_or, bytes_eq, if◌then◌else◌}
 use Rattle.core_terms.specs.Types.{Ty, PairTy, NamedTy, AuthTy, Table}
 use Rattle.core_terms.specs.Terms.{Kind, Inner, Init, Query, Update, Function, Program}
 

@@ -6,6 +6,7 @@
 #![tactic(auto)]
 
 pub mod digest;
+pub mod laws;
 pub mod outcome;
 pub mod program;
 pub mod spelling;

@@ -1,4 +1,4 @@
-use Rattle.std.proofs.Common.{◌∙◌, ap, sym}
+use Rattle.std.proofs.Common.{◌∙◌, sym}
 use Rattle.core_terms.specs.Programs.{types_of}
 use Rattle.core_terms.proofs.Roles.{role_position}
 use Rattle.core_terms.proofs.program.Program.role.Goals as goal

@@ -1,0 +1,50 @@
+-- A value of a type without `auth` is its own projection.
+use Rattle.std.proofs.Common.{◌≡◌, ℕ, zero, suc, Bool, true, false, ◌||◌, List, [], ◌∷◌, Option, Some, None, unwrap_or, slice_get, refl, sym, ap, ap₂, ◌∙◌}
+use Rattle.std.specs.Option.{option_and_then}
+use Rattle.core_terms.specs.Types.{Ty, UnitTy, BoolTy, IntTy, TextTy, PairTy, NamedTy, AuthTy, Table, fields_at, OnFields}
+use Rattle.core_terms.specs.Values.{Value, UnitV, BoolV, IntV, TextV, PairV, ConV, Values, NoV, AndV, IsIdeal, AreIdeal}
+use Rattle.core_terms.specs.Spelling.{shallow, shallow_all}
+use Rattle.core_terms.specs.Roles.{some_passes, has_auth_within, IsPlain}
+
+first_no : (a b : Bool) → a || b ≡ false → a ≡ false
+first_no true b e = cc
+first_no false b e = refl
+
+second_no : (a b : Bool) → a || b ≡ false → b ≡ false
+second_no true b e = cc
+second_no false b e = e
+
+-- where none of a list passes, the element with a number doesn't
+none_at : {A : Type 0} (test : A → Bool) (xs : List A) (i : ℕ) (x : A) → some_passes test xs ≡ false → slice_get xs i ≡ Some x → test x ≡ false
+none_at test [] i x e at = cc
+none_at test (y ∷ ys) zero x e at = let same : y ≡ x = cc in ap test (sym same) ∙ first_no (test y) _ e
+none_at test (y ∷ ys) (suc i) x e at = none_at test ys i x (second_no (test y) _ e) at
+
+-- the field types of a constructor are plain where its type is
+fields_none : (types : Table) (opened tag : ℕ) (o : Option (List (List Ty))) (ts : List Ty) → some_passes (some_passes (has_auth_within types opened)) (unwrap_or o []) ≡ false
+    → option_and_then (λ constructors. slice_get constructors tag) o ≡ Some ts → some_passes (has_auth_within types opened) ts ≡ false
+fields_none types opened tag None ts e at = cc
+fields_none types opened tag (Some constructors) ts e at = none_at (some_passes (has_auth_within types opened)) constructors tag ts e at
+
+-- each type of a list is plain
+abbrev ArePlain : Table → List Ty → Type 0
+ArePlain types ts = (opened : ℕ) → some_passes (has_auth_within types opened) ts ≡ false
+
+module _ (digest : Ty → List ℕ → List ℕ) (types : Table) where
+  mutual
+    pub own : (t : Ty) (v : Value) → IsPlain types t → IsIdeal types t v → shallow digest types t v ≡ v
+    own (AuthTy t) v p h = absurd (cc (p 0))
+    own UnitTy UnitV p h = refl
+    own BoolTy (BoolV b) p h = refl
+    own IntTy (IntV z) p h = refl
+    own TextTy (TextV bytes) p h = refl
+    own (PairTy a b) (PairV x y) p h = ap₂ PairV (own a x (λ n. first_no (has_auth_within types n a) _ (p n)) h.0) (own b y (λ n. second_no (has_auth_within types n a) _ (p n)) h.1)
+    own (NamedTy number) (ConV tag vs) p h = ap (λ vs. ConV tag vs) (owns (fields_at types number tag) vs (λ ts at n. fields_none types n tag (slice_get types number) ts (p (suc n)) at) h)
+    own t v p h = elim h [ ]
+
+    owns : (o : Option (List Ty)) (vs : Values) → ((ts : List Ty) → o ≡ Some ts → ArePlain types ts) → OnFields o (λ ts. AreIdeal types ts vs) → shallow_all digest types (unwrap_or o []) vs ≡ vs
+    owns (Some []) NoV p h = refl
+    owns (Some (t ∷ ts)) (AndV v vs) p h =
+        ap₂ AndV (own t v (λ n. first_no (has_auth_within types n t) _ (p (t ∷ ts) refl n)) h.0)
+        (owns (Some ts) vs (λ us at n. let same : ts ≡ us = cc (at) in ap (some_passes (has_auth_within types n)) (sym same) ∙ second_no (has_auth_within types n t) _ (p (t ∷ ts) refl n)) h.1)
+    owns o vs p h = elim h [ ]
