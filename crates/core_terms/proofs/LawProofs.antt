@@ -1,9 +1,10 @@
 -- The laws, from the lemmas.
-use Rattle.core_terms.specs.Laws.{NoneIsPrefix, OneIsSpelled, PlainIsOwnProjection, ProjectionIsReadBack, ProjectionIsShallow, ProjectionKeepsLimits, ReadingIsExact, SizeIsLength, TypingTestIsExact}
+use Rattle.core_terms.specs.Laws.{NoneIsPrefix, OneIsSpelled, PlainIsOwnProjection, ProjectionIsReadBack, ProjectionIsShallow, ProjectionKeepsLimits, ReadingIsExact, ShapeTestIsExact, SizeIsLength, TypingTestIsExact}
 use Rattle.core_terms.proofs.Plain.{own}
 use Rattle.core_terms.proofs.Projection.{size_shallow, depth_shallow}
 use Rattle.core_terms.proofs.ReadBack.{shallow_is, reads_back}
 use Rattle.core_terms.proofs.ReadOnly.{read_spells}
+use Rattle.core_terms.proofs.Shapes.{roles_sound, roles_complete}
 use Rattle.core_terms.proofs.Spelled.{length_spelling, spells_read, spells_one, spells_prefix}
 use Rattle.core_terms.proofs.TypingComplete.{typed_complete}
 use Rattle.core_terms.proofs.TypingSound.{typed_sound}
@@ -34,3 +35,6 @@ projection_is_read_back digest long limit fits types t v h = reads_back digest l
 
 pub typing_test_is_exact : TypingTestIsExact
 typing_test_is_exact P = (typed_sound P, typed_complete P)
+
+pub shape_test_is_exact : ShapeTestIsExact
+shape_test_is_exact P = (roles_sound P, roles_complete P)

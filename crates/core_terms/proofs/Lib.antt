@@ -9,4 +9,6 @@ pub mod TypingSound
 pub mod TypingComplete
 pub mod ReadBack
 pub mod Plain
+pub mod Shapes
 pub mod LawProofs
+pub mod Reach

@@ -14,7 +14,7 @@ pub second_of : (a b : Bool) → a && b ≡ true → b ≡ true
 second_of true b e = e
 second_of false b e = cc
 
-same_sound : (a b : Ty) → same_type a b ≡ true → a ≡ b
+pub same_sound : (a b : Ty) → same_type a b ≡ true → a ≡ b
 same_sound UnitTy UnitTy e = refl
 same_sound BoolTy BoolTy e = refl
 same_sound IntTy IntTy e = refl

@@ -1,5 +1,5 @@
 //! The laws of the definitions in `specs/`: each is a function without parameters, whose contract is the law.
-ghost use Rattle.core_terms.specs.Laws.{NoneIsPrefix, OneIsSpelled, PlainIsOwnProjection, ProjectionIsReadBack, ProjectionIsShallow, ProjectionKeepsLimits, ReadingIsExact, SizeIsLength, TypingTestIsExact};
+ghost use Rattle.core_terms.specs.Laws.{NoneIsPrefix, OneIsSpelled, PlainIsOwnProjection, ProjectionIsReadBack, ProjectionIsShallow, ProjectionKeepsLimits, ReadingIsExact, ShapeTestIsExact, SizeIsLength, TypingTestIsExact};
 
 /// Bytes are read as a value exactly where they spell it; a string spells one value at a type at most; no spelling at a type
 /// is a proper prefix of another; the size of a value is the length of its spelling.
@@ -19,7 +19,9 @@ pub fn projection()
     ensures read_back { ProjectionIsReadBack }
 {}
 
-/// The typing test says yes exactly where the typing rules hold.
+/// The typing test says yes exactly where the typing rules hold, and the shape test exactly where each function that can be
+/// entered from outside has the shape of its role.
 pub fn typing()
-    ensures { TypingTestIsExact }
+    ensures types { TypingTestIsExact }
+    ensures shapes { ShapeTestIsExact }
 {}
