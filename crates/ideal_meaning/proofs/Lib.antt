@@ -1,1 +1,4 @@
 pub mod FramesBack
+pub mod Nesting
+pub mod Splitting
+pub mod Rules
