@@ -6,3 +6,7 @@ pub mod Headline
 pub mod Agreement
 pub mod Table
 pub mod Laws
+pub mod Examples
+pub mod ExampleSpellings
+pub mod ExampleRuns
+pub mod ExampleProofs
