@@ -10,3 +10,5 @@ pub mod Examples
 pub mod ExampleSpellings
 pub mod ExampleRuns
 pub mod ExampleProofs
+pub mod Library
+pub mod LibraryRuns
