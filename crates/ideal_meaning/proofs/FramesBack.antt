@@ -1,12 +1,14 @@
 -- What frames offer: those of an honest prover offer its pieces and no byte behind them, and each piece takes a byte at least.
-use Rattle.std.proofs.Common.{◌≡◌, ℕ, zero, suc, ◌+◌, ◌<◌, ◌≤◌, ◌^◌, Bool, true, false, ◌&&◌, List, [], ◌∷◌, ◌++◌, length, take, drop, Option, Some, None, option_map, slice_get, nat_lt, nat_le, bytes_eq, if◌then◌else◌, refl, sym, ap, ap₂, subst, arith, length-append, le-ltb, le-leb, length-take}
+use Rattle.std.proofs.Common.{le_refl, ◌≡◌, ℕ, zero, suc, ◌+◌, ◌<◌, ◌≤◌, ◌^◌, Bool, true, false, ◌&&◌, List, [], ◌∷◌, ◌++◌, length, take, drop, Option, Some, None, option_map, slice_get, nat_lt, nat_le, bytes_eq, if◌then◌else◌, refl, sym, ap, ap₂, subst, arith, length-append, le-ltb, le-leb, length-take}
+use Rattle.std.specs.Prelude.{All}
 use Rattle.std.specs.Int.{w16, w32, to_be_bytes, from_be_bytes}
 use Rattle.std.proofs.lemmas.Slice.Eq.{bytes_eq-Decides}
 use Rattle.std.proofs.lemmas.Nat.{from_be_bytes-to_be_bytes_2, from_be_bytes-to_be_bytes_4}
 use Rattle.std.proofs.lemmas.Option.{slice_get_within}
 use Rattle.std.proofs.Math.Seq.{take-append_seam, drop-append_seam}
 use Rattle.core_terms.specs.Formats.{Format, IsFormat}
-use Rattle.ideal_meaning.specs.Frames.{NoByte, IsCut, LongBy, Offer, NoMore, Offers, new_frame, used_piece, use_frame, frames, offered_pieces, header, Frame, New, Use, place_of, frame_at, honest_frames, frame_bytes, proof_file}
+use Rattle.ideal_meaning.specs.Laws.{ProofFileIsReadBack}
+use Rattle.ideal_meaning.specs.Frames.{offered, NoByte, IsCut, LongBy, Offer, NoMore, Offers, new_frame, used_piece, use_frame, frames, offered_pieces, header, Frame, New, Use, place_of, frame_at, honest_frames, frame_bytes, proof_file}
 
 -- a new piece within the limit is read back
 new_back : (limit : ℕ) (p rest : List ℕ) (recent : List (List ℕ)) (more : List (List ℕ) → List ℕ → Offer) → limit < 2 ^ 32 → length p ≤ limit
@@ -140,6 +142,27 @@ header_then magic rest most n e low small = absurd (omega arith)
 pub header_back : (format : Format) (n : ℕ) (ps : List (List ℕ)) → IsFormat format → n ≤ format.most_kept → header format (proof_file format n ps) ≡ Some n
 header_back format n ps is small =
     header_then format.magic (frame_bytes (honest_frames n [] ps)) format.most_kept n is.magic_length (omega (arith, is.kept_fits)) small
+
+-- the frames of a proof file stand behind its first six bytes
+behind_magic : (magic rest : List ℕ) (n : ℕ) → length magic ≡ 4 → drop 6 (magic ++ (to_be_bytes w16 n ++ rest)) ≡ rest
+behind_magic (a ∷ b ∷ c ∷ d ∷ []) rest n e = refl
+behind_magic magic rest n e = absurd (omega arith)
+
+pub behind_header : (format : Format) (n : ℕ) (ps : List (List ℕ)) → IsFormat format → drop 6 (proof_file format n ps) ≡ frame_bytes (honest_frames n [] ps)
+behind_header format n ps is = behind_magic format.magic (frame_bytes (honest_frames n [] ps)) n is.magic_length
+
+-- pieces that are each within the limit, by their places
+pub all_short : (limit : ℕ) (ps : List (List ℕ)) → All (λ p. length p ≤ limit) ps → AllShort limit ps
+all_short limit [] h = tt
+all_short limit (p ∷ ps) h = (h 0 [] (omega arith), all_short limit ps (λ k d l. h (suc k) d (omega (arith, l))))
+
+-- the proof file of pieces within the limit is read back
+pub proof_file_back : ProofFileIsReadBack
+proof_file_back format is n small ps short =
+    let fs = frame_bytes (honest_frames n [] ps) in
+    let back = frames_back format.limit n is.limit_fits (omega (arith, is.kept_fits)) (length fs) [] ps (all_short format.limit ps short) (le_refl (length fs)) in
+    let offers : offered_pieces (offered format.limit fs n []) ≡ ps = back.pieces in
+    (header_back format n ps is small, subst (λ bytes. offered_pieces (offered format.limit bytes n []) ≡ ps) (sym (behind_header format n ps is)) offers)
 
 -- an offer of given pieces, without frames
 abbrev pub offer_of : List (List ℕ) → Offer
