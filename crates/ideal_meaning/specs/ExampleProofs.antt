@@ -5,7 +5,7 @@ use Rattle.std.proofs.Common.{subst}
 use Rattle.std.specs.Str.{is_utf8, chars}
 use lib.Utf8.{encode}
 use Rattle.core_terms.specs.Types.{UnitTy, BoolTy, PairTy, AuthTy}
-use Rattle.core_terms.specs.Formats.{Hash, first_format}
+use Rattle.core_terms.specs.Formats.{Hash, IsHash, first_format}
 use Rattle.core_terms.specs.Values.{UnitV, BoolV, IntV, TextV, PairV, DigestV}
 use Rattle.core_terms.specs.Spelling.{spelling}
 use Rattle.core_terms.specs.Projection.{digest_at}
@@ -23,6 +23,10 @@ file bytes = 0x4C ∷ 0x41 ∷ 0x50 ∷ 0x31 ∷ bytes
 -- the verdict on opening a unit, whose digest is that of no bytes, with so much fuel
 abbrev pub on_open : Hash → ℕ → List ℕ → Verdict
 on_open hash fuel bytes = verdict hash unit_program UnitTy 1 (toy []) [] fuel bytes
+
+-- the digest for examples is one that the laws speak of
+pub toy_gives_32_bytes : IsHash toy
+toy_gives_32_bytes bytes = refl
 
 -- the empty piece
 pub empty_piece_is_accepted : on_open toy 1 (file (0 ∷ 0 ∷ 0 ∷ 0 ∷ 0 ∷ 0 ∷ 0 ∷ [])) ≡ Accepted (Done UnitV)
@@ -65,7 +69,7 @@ byte_is_left = refl
 pub kind_is_bad : (hash : Hash) → on_open hash 1 (file (0 ∷ 0 ∷ 7 ∷ [])) ≡ Rejected (BadKind 0 7)
 kind_is_bad hash = refl
 
--- the last piece is asked for, and none is kept
+-- the frame names the last new piece, and none is kept
 pub use_is_bad : (hash : Hash) → on_open hash 1 (file (0 ∷ 0 ∷ 1 ∷ 0 ∷ 0 ∷ [])) ≡ Rejected (BadUse 0 0 0)
 use_is_bad hash = refl
 
@@ -142,7 +146,7 @@ nested_pieces_are_accepted = refl
 pub nested_proof_has_48_bytes : length (proof_file (first_format 1024) 0 (bytes_of (honest_pieces toy nested_program 1 (call_of UnitV UnitV) 1))) ≡ 48
 nested_proof_has_48_bytes = refl
 
--- the longest piece
+-- a piece of as many bytes as the format allows
 pub longest_piece_is_accepted : verdict toy text_program UnitTy 1 (toy (spelling (TextV (replicate 65532 0x61)))) [] 1
     (proof_file (first_format 1024) 0 (spelling (TextV (replicate 65532 0x61)) ∷ [])) ≡ Accepted (Done (IntV (pos 65532)))
 unfolding is_utf8 chars encode

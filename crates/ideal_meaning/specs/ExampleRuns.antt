@@ -75,7 +75,7 @@ put_is_done_with_five = refl
 pub put_is_out_with_four : outcome (ideal spin_program 2 (call_of (BoolV true) (PairV (IntV (pos 3)) (BoolV true))) 4) ≡ Out
 put_is_out_with_four = refl
 
--- the most fuel that a call may have costs nothing but what is spent
+-- of the most fuel that a call may have, what isn't spent is left
 pub most_fuel_is_left : fuel_of (ideal spin_program 0 (values (IntV (pos 40) ∷ [])) 1000000000000) ≡ 999999999959
 most_fuel_is_left = refl
 
@@ -122,7 +122,7 @@ alone e = ideal (expression_program [] IntTy e) 0 (values []) 1
 pub least_by_minus_one_overflows : alone (ArithE Div (ArithE Sub (IntE (negsuc 9223372036854775806)) (IntE (pos 1))) (IntE (negsuc 0))) ≡ Ends (Traps Overflow) 0 []
 least_by_minus_one_overflows = refl
 
--- nor is its remainder given
+-- and so the remainder traps too
 pub least_rem_minus_one_overflows : alone (ArithE Rem (ArithE Sub (IntE (negsuc 9223372036854775806)) (IntE (pos 1))) (IntE (negsuc 0))) ≡ Ends (Traps Overflow) 0 []
 least_rem_minus_one_overflows = refl
 
@@ -144,7 +144,7 @@ doublings (suc n) t i = LetE (PairTy t t) (PairE t t (LocalE i) (LocalE i)) (dou
 abbrev pub doubled : ℕ → Run ⊥ (List Opened) Value
 doubled n = ideal (expression_program (IntTy ∷ []) UnitTy (doublings n IntTy 0)) 0 (values (IntV (pos 7) ∷ [])) 1
 
--- an int doubled 13 times spells 65,536 bytes, and is let pass; a time more is too big
+-- an int doubled 13 times spells 65,536 bytes, which is within the limit; once more is too big
 pub thirteen_doublings_fit : doubled 13 ≡ Gives UnitV 0 []
 thirteen_doublings_fit = refl
 
