@@ -1,1 +1,5 @@
-
+pub mod FramesBack
+pub mod FramesBound
+pub mod Nesting
+pub mod Splitting
+pub mod Rules

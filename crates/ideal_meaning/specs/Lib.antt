@@ -6,3 +6,9 @@ pub mod Headline
 pub mod Agreement
 pub mod Table
 pub mod Laws
+pub mod Examples
+pub mod ExampleSpellings
+pub mod ExampleRuns
+pub mod ExampleProofs
+pub mod Library
+pub mod LibraryRuns

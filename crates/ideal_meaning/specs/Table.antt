@@ -44,13 +44,11 @@ module _ (P : Program) (n : ℕ) where
     pub int : (z : ℤ) (env : Values) (k : ℕ) (s : List Opened) → eval P n (IntE z) env k s ≡ Gives (IntV z) k s
     pub text : (bytes : List ℕ) (env : Values) (k : ℕ) (s : List Opened) → eval P n (TextE bytes) env k s ≡ Gives (TextV bytes) k s
     pub name : (i : ℕ) (env : Values) (k : ℕ) (s : List Opened) → eval P n (LocalE i) env k s ≡ Gives (local env i) k s
-
     -- `auth` is the identity; `unauth` too, and adds the value to what was opened, at the end
     pub auth_is : (t : Ty) (x : Expression) (env : Values) (k : ℕ) (s : List Opened)
         → eval P n (AuthE t x) env k s ≡ then_run (eval P n x env k s) (λ v k s. Gives v k s)
     pub unauth_is : (t : Ty) (x : Expression) (env : Values) (k : ℕ) (s : List Opened)
         → eval P n (UnauthE t x) env k s ≡ then_run (eval P n x env k s) (λ v k s. Gives v k (s ++ record { ty = t; value = v } ∷ []))
-
     pub pair : (a b : Ty) (x y : Expression) (env : Values) (k : ℕ) (s : List Opened)
         → eval P n (PairE a b x y) env k s ≡ then_run (eval P n x env k s) (λ u k s. then_run (eval P n y env k s) (λ v k s. made P (PairTy a b) (PairV u v) k s))
     pub constructor : (number tag : ℕ) (xs : Expressions) (env : Values) (k : ℕ) (s : List Opened)
@@ -61,45 +59,42 @@ module _ (P : Program) (n : ℕ) where
         → eval P n (SndE a b x) env k s ≡ then_run (eval P n x env k s) (λ v k s. Gives (second_in v) k s)
     pub not_is : (x : Expression) (env : Values) (k : ℕ) (s : List Opened)
         → eval P n (NotE x) env k s ≡ then_run (eval P n x env k s) (λ v k s. Gives (BoolV (not (bool_in v))) k s)
-
     -- arithmetic is exact, and traps where the result is no int; quotients are truncated toward zero
     pub add : (x y : Expression) (env : Values) (k : ℕ) (s : List Opened)
         → eval P n (ArithE Add x y) env k s ≡ then_run (eval P n x env k s) (λ u k s. then_run (eval P n y env k s) (λ v k s.
-            if int_fits (int_in u +ℤ int_in v) then Gives (IntV (int_in u +ℤ int_in v)) k s else Ends (Traps Overflow) k s))
+        if int_fits (int_in u +ℤ int_in v) then Gives (IntV (int_in u +ℤ int_in v)) k s else Ends (Traps Overflow) k s))
     pub sub : (x y : Expression) (env : Values) (k : ℕ) (s : List Opened)
         → eval P n (ArithE Sub x y) env k s ≡ then_run (eval P n x env k s) (λ u k s. then_run (eval P n y env k s) (λ v k s.
-            if int_fits (int_in u -ℤ int_in v) then Gives (IntV (int_in u -ℤ int_in v)) k s else Ends (Traps Overflow) k s))
+        if int_fits (int_in u -ℤ int_in v) then Gives (IntV (int_in u -ℤ int_in v)) k s else Ends (Traps Overflow) k s))
     pub mul : (x y : Expression) (env : Values) (k : ℕ) (s : List Opened)
         → eval P n (ArithE Mul x y) env k s ≡ then_run (eval P n x env k s) (λ u k s. then_run (eval P n y env k s) (λ v k s.
-            if int_fits (int_in u *ℤ int_in v) then Gives (IntV (int_in u *ℤ int_in v)) k s else Ends (Traps Overflow) k s))
+        if int_fits (int_in u *ℤ int_in v) then Gives (IntV (int_in u *ℤ int_in v)) k s else Ends (Traps Overflow) k s))
     pub div : (x y : Expression) (env : Values) (k : ℕ) (s : List Opened)
         → eval P n (ArithE Div x y) env k s ≡ then_run (eval P n x env k s) (λ u k s. then_run (eval P n y env k s) (λ v k s.
-            divides (int_div (int_in u) (int_in v)) (int_in u) (int_in v) k s))
+        divides (int_div (int_in u) (int_in v)) (int_in u) (int_in v) k s))
     pub rem : (x y : Expression) (env : Values) (k : ℕ) (s : List Opened)
         → eval P n (ArithE Rem x y) env k s ≡ then_run (eval P n x env k s) (λ u k s. then_run (eval P n y env k s) (λ v k s.
-            divides (int_rem (int_in u) (int_in v)) (int_in u) (int_in v) k s))
-
+        divides (int_rem (int_in u) (int_in v)) (int_in u) (int_in v) k s))
     pub eq : (x y : Expression) (env : Values) (k : ℕ) (s : List Opened)
         → eval P n (CompareE Eq x y) env k s ≡ then_run (eval P n x env k s) (λ u k s. then_run (eval P n y env k s) (λ v k s.
-            Gives (BoolV (int_eq (int_in u) (int_in v))) k s))
+        Gives (BoolV (int_eq (int_in u) (int_in v))) k s))
     pub lt : (x y : Expression) (env : Values) (k : ℕ) (s : List Opened)
         → eval P n (CompareE Lt x y) env k s ≡ then_run (eval P n x env k s) (λ u k s. then_run (eval P n y env k s) (λ v k s.
-            Gives (BoolV (int_lt (int_in u) (int_in v))) k s))
+        Gives (BoolV (int_lt (int_in u) (int_in v))) k s))
     pub le : (x y : Expression) (env : Values) (k : ℕ) (s : List Opened)
         → eval P n (CompareE Le x y) env k s ≡ then_run (eval P n x env k s) (λ u k s. then_run (eval P n y env k s) (λ v k s.
-            Gives (BoolV (int_le (int_in u) (int_in v))) k s))
+        Gives (BoolV (int_le (int_in u) (int_in v))) k s))
     pub teq : (x y : Expression) (env : Values) (k : ℕ) (s : List Opened)
         → eval P n (TextCompareE TEq x y) env k s ≡ then_run (eval P n x env k s) (λ u k s. then_run (eval P n y env k s) (λ v k s.
-            Gives (BoolV (bytes_eq (text_in u) (text_in v))) k s))
+        Gives (BoolV (bytes_eq (text_in u) (text_in v))) k s))
     pub tlt : (x y : Expression) (env : Values) (k : ℕ) (s : List Opened)
         → eval P n (TextCompareE TLt x y) env k s ≡ then_run (eval P n x env k s) (λ u k s. then_run (eval P n y env k s) (λ v k s.
-            Gives (BoolV (text_lt (text_in u) (text_in v))) k s))
+        Gives (BoolV (text_lt (text_in u) (text_in v))) k s))
     pub len : (x : Expression) (env : Values) (k : ℕ) (s : List Opened)
         → eval P n (LenE x) env k s ≡ then_run (eval P n x env k s) (λ v k s. Gives (IntV (pos (length (text_in v)))) k s)
     pub cat : (x y : Expression) (env : Values) (k : ℕ) (s : List Opened)
         → eval P n (CatE x y) env k s ≡ then_run (eval P n x env k s) (λ u k s. then_run (eval P n y env k s) (λ v k s.
-            made P TextTy (TextV (text_in u ++ text_in v)) k s))
-
+        made P TextTy (TextV (text_in u ++ text_in v)) k s))
     -- the bound part, then the body with one local more; the test, then one branch; the scrutinee, then the arm of its tag with
     -- its fields as locals
     pub let_is : (a : Ty) (x body : Expression) (env : Values) (k : ℕ) (s : List Opened)
@@ -114,14 +109,12 @@ module _ (P : Program) (n : ℕ) where
         → eval_arm P n (AndArm body arms) 0 env k s ≡ eval P n body env k s
     pub arm_later : (body : Expression) (arms : Arms) (tag : ℕ) (env : Values) (k : ℕ) (s : List Opened)
         → eval_arm P n (AndArm body arms) (suc tag) env k s ≡ eval_arm P n arms tag env k s
-
     -- after the operands a call takes one unit of fuel, and is out where none is left
     pub call_is : (f : ℕ) (xs : Expressions) (env : Values) (k : ℕ) (s : List Opened)
         → eval P n (CallE f xs) env k s ≡ then_run (eval_all P n xs env k s) (λ vs k s. call P ideal_mode n f vs k s)
     pub call_out : (f : ℕ) (vs : Values) (s : List Opened) → call P ideal_mode n f vs 0 s ≡ Ends IsOut 0 s
     pub call_goes : (f : ℕ) (vs : Values) (k : ℕ) (s : List Opened)
         → call P ideal_mode (suc n) f vs (suc k) s ≡ eval P n (function_at P f).body vs k s
-
     pub no_operand : (env : Values) (k : ℕ) (s : List Opened) → eval_all P n NoE env k s ≡ Gives NoV k s
     pub operands : (x : Expression) (xs : Expressions) (env : Values) (k : ℕ) (s : List Opened)
         → eval_all P n (AndE x xs) env k s ≡ then_run (eval P n x env k s) (λ v k s. then_run (eval_all P n xs env k s) (λ vs k s. Gives (AndV v vs) k s))

@@ -1,0 +1,71 @@
+-- The rules of the ideal meaning: nearly all hold as the definitions compute.
+use Rattle.std.proofs.Common.{◌≡◌, ℕ, zero, suc, pos, negsuc, ℤ, List, int_div, int_rem, refl, ap}
+use Rattle.core_terms.specs.Values.{Value, Values}
+use Rattle.core_terms.specs.Terms.{Arith, Div, Rem, Expression, Program}
+use Rattle.ideal_meaning.specs.Run.{Gives, Ends, IsOut, then_run, choose, bool_in, int_in, arith_of, divided, call}
+use Rattle.ideal_meaning.specs.Ideal.{Opened, ideal_mode}
+use Rattle.ideal_meaning.specs.Table.{IdealTable, Evaluation, eval, divides}
+
+-- a run goes on alike where the ways to go on are alike
+then_alike : {A B : Type 0} (r : Evaluation A) (f g : A → ℕ → List Opened → Evaluation B)
+    → ((a : A) (k : ℕ) (s : List Opened) → f a k s ≡ g a k s) → then_run r f ≡ then_run r g
+then_alike (Gives a k s) f g h = h a k s
+then_alike (Ends stop k s) f g h = refl
+
+-- a quotient or remainder as the table says it
+divided_is : (z x y : ℤ) (k : ℕ) (s : List Opened) → divided z x y k s ≡ divides z x y k s
+divided_is z x (pos zero) k s = refl
+divided_is z x (pos (suc n)) k s = refl
+divided_is z x (negsuc n) k s = refl
+
+-- an operation whose results are the same at all ints is the same on two operands
+operation_is : (P : Program) (n : ℕ) (op : Arith) (of : ℤ → ℤ → ℕ → List Opened → Evaluation Value) (x y : Expression) (env : Values) (k : ℕ) (s : List Opened)
+    → ((a b : ℤ) (k : ℕ) (s : List Opened) → arith_of op a b k s ≡ of a b k s)
+    → then_run (eval P n x env k s) (λ u k s. then_run (eval P n y env k s) (λ v k s. arith_of op (int_in u) (int_in v) k s))
+    ≡ then_run (eval P n x env k s) (λ u k s. then_run (eval P n y env k s) (λ v k s. of (int_in u) (int_in v) k s))
+operation_is P n op of x y env k s h =
+    then_alike (eval P n x env k s) _ _ (λ u k s. then_alike (eval P n y env k s) _ _ (λ v k s. h (int_in u) (int_in v) k s))
+
+-- no call is made without fuel, whatever the bound
+no_fuel : (P : Program) (n f : ℕ) (vs : Values) (s : List Opened) → call P ideal_mode n f vs 0 s ≡ Ends IsOut 0 s
+no_fuel P zero f vs s = refl
+no_fuel P (suc n) f vs s = refl
+
+pub ideal_table : IdealTable
+ideal_table P n = record {
+  unit = λ env k s. refl;
+  bool = λ b env k s. refl;
+  int = λ z env k s. refl;
+  text = λ bytes env k s. refl;
+  name = λ i env k s. refl;
+  auth_is = λ t x env k s. refl;
+  unauth_is = λ t x env k s. refl;
+  pair = λ a b x y env k s. refl;
+  constructor = λ number tag xs env k s. refl;
+  first = λ a b x env k s. refl;
+  second = λ a b x env k s. refl;
+  not_is = λ x env k s. refl;
+  add = λ x y env k s. refl;
+  sub = λ x y env k s. refl;
+  mul = λ x y env k s. refl;
+  div = λ x y env k s. operation_is P n Div (λ a b k s. divides (int_div a b) a b k s) x y env k s (λ a b k s. divided_is (int_div a b) a b k s);
+  rem = λ x y env k s. operation_is P n Rem (λ a b k s. divides (int_rem a b) a b k s) x y env k s (λ a b k s. divided_is (int_rem a b) a b k s);
+  eq = λ x y env k s. refl;
+  lt = λ x y env k s. refl;
+  le = λ x y env k s. refl;
+  teq = λ x y env k s. refl;
+  tlt = λ x y env k s. refl;
+  len = λ x env k s. refl;
+  cat = λ x y env k s. refl;
+  let_is = λ a x body env k s. refl;
+  if_true = λ x e f env k k' s s' h. ap (λ r. then_run r (λ v k s. choose (bool_in v) (eval P n e) (eval P n f) env k s)) h;
+  if_false = λ x e f env k k' s s' h. ap (λ r. then_run r (λ v k s. choose (bool_in v) (eval P n e) (eval P n f) env k s)) h;
+  match_is = λ number x arms env k s. refl;
+  arm_first = λ body arms env k s. refl;
+  arm_later = λ body arms tag env k s. refl;
+  call_is = λ f xs env k s. refl;
+  call_out = λ f vs s. no_fuel P n f vs s;
+  call_goes = λ f vs k s. refl;
+  no_operand = λ env k s. refl;
+  operands = λ x xs env k s. refl;
+}
