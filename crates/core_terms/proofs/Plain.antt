@@ -6,11 +6,11 @@ use Rattle.core_terms.specs.Values.{Value, UnitV, BoolV, IntV, TextV, PairV, Con
 use Rattle.core_terms.specs.Spelling.{shallow, shallow_all}
 use Rattle.core_terms.specs.Roles.{some_passes, has_auth_within, IsPlain}
 
-first_no : (a b : Bool) → a || b ≡ false → a ≡ false
+pub first_no : (a b : Bool) → a || b ≡ false → a ≡ false
 first_no true b e = cc
 first_no false b e = refl
 
-second_no : (a b : Bool) → a || b ≡ false → b ≡ false
+pub second_no : (a b : Bool) → a || b ≡ false → b ≡ false
 second_no true b e = cc
 second_no false b e = e
 
@@ -21,7 +21,7 @@ none_at test (y ∷ ys) zero x e at = let same : y ≡ x = cc in ap test (sym sa
 none_at test (y ∷ ys) (suc i) x e at = none_at test ys i x (second_no (test y) _ e) at
 
 -- the field types of a constructor are plain where its type is
-fields_none : (types : Table) (opened tag : ℕ) (o : Option (List (List Ty))) (ts : List Ty) → some_passes (some_passes (has_auth_within types opened)) (unwrap_or o []) ≡ false
+pub fields_none : (types : Table) (opened tag : ℕ) (o : Option (List (List Ty))) (ts : List Ty) → some_passes (some_passes (has_auth_within types opened)) (unwrap_or o []) ≡ false
     → option_and_then (λ constructors. slice_get constructors tag) o ≡ Some ts → some_passes (has_auth_within types opened) ts ≡ false
 fields_none types opened tag None ts e at = cc
 fields_none types opened tag (Some constructors) ts e at = none_at (some_passes (has_auth_within types opened)) constructors tag ts e at

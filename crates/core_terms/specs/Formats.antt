@@ -1,5 +1,5 @@
 -- What a format fixes: how spellings are digested, how long they may be, and how a proof file begins.
-use Rattle.std.specs.Prelude.{◌≡◌, ℕ, ◌<◌, ◌^◌, List, [], ◌∷◌, length}
+use Rattle.std.specs.Prelude.{◌≡◌, ℕ, ◌<◌, ◌≤◌, ◌^◌, List, [], ◌∷◌, length}
 use Rattle.core_terms.specs.Types.{Ty}
 
 -- A function from bytes to a digest, which is the call's own. No law needs more of it than the length of what it gives.
@@ -20,10 +20,13 @@ pub record Format : Type 0 where
   -- the greatest number of pieces that a proof may ask the verifier to keep
   pub most_kept : ℕ
 
--- A format whose numbers fit their fields in a proof file, and whose digests are as long as those of the hash.
+-- A format whose numbers fit their fields in a proof file, whose limit isn't too small for a text literal, and whose digests
+-- are as long as those of the hash.
 pub record IsFormat (format : Format) : Type 0 where
   pub digest_length : (hash : Hash) → IsHash hash → (t : Ty) (bytes : List ℕ) → length (format.digest hash t bytes) ≡ 32
   pub limit_fits : format.limit < 2 ^ 32
+  -- each text literal, which has at most 65,532 bytes, is within the limit
+  pub limit_holds : 65536 ≤ format.limit
   pub magic_length : length format.magic ≡ 4
   pub kept_fits : format.most_kept < 2 ^ 16
 

@@ -3,3 +3,14 @@ pub mod FramesBound
 pub mod Nesting
 pub mod Splitting
 pub mod Rules
+pub mod Grows
+pub mod InHand
+pub mod Relation
+pub mod Opening
+pub mod Simulation
+pub mod Calls
+pub mod Judged
+pub mod Projections
+pub mod RoleCalls
+pub mod Headline
+pub mod Companion

@@ -1,13 +1,12 @@
 -- The relation between the ideal and the checked run, which is behind the headline and its companion.
 use Rattle.std.specs.Prelude.{◌≡◌, ◌≢◌, ◌⊎◌, ℕ, ◌+◌, List, [], ◌∷◌, ◌++◌, length, map}
-use Rattle.core_terms.specs.Types.{Ty}
 use Rattle.core_terms.specs.Formats.{Hash, IsHash, IsFormat}
-use Rattle.core_terms.specs.Values.{Value, Values, IsIdeal, AreIdeal, AuthWithin, AuthWithinAll}
+use Rattle.core_terms.specs.Values.{Values, AreIdeal}
 use Rattle.core_terms.specs.Terms.{Program, function_at, IsTyped}
 use Rattle.core_terms.specs.Projection.{digest_at, projection, projections, Fits, AllFit}
 use Rattle.ideal_meaning.specs.Run.{Stop, Traps, IsOut, Rejects, Run, Gives, Ends, state_of, call}
 use Rattle.ideal_meaning.specs.Ideal.{Opened, ideal_mode, honest_bytes}
-use Rattle.ideal_meaning.specs.Frames.{Offer, offered_pieces}
+use Rattle.ideal_meaning.specs.Frames.{offered_pieces}
 use Rattle.ideal_meaning.specs.Checked.{Taking, Cause, BadPiece, checked_mode}
 
 -- a trap or the want of fuel, as the end of a checked run; an ideal run has no causes

@@ -1,7 +1,28 @@
 //! Laws over the definitions alone, each the contract of a function that does nothing.
 
+ghost use Rattle.ideal_meaning.specs.Headline.{HeadlineOfFrames, Headline, Companion};
+ghost use Rattle.ideal_meaning.specs.Agreement.{Agreement};
 ghost use Rattle.ideal_meaning.specs.Laws.{BoundIsEnough, FrameBoundIsEnough, OneSplit, ProofFileIsReadBack};
 ghost use Rattle.ideal_meaning.specs.Table.{IdealTable};
+
+/// What is accepted is true, or a collision of the hash is shown and its place named.
+///
+/// `frames` says it of the frames of a proof alone, over whatever pieces were kept before. `file` says it of the bytes of a
+/// proof file, whoever made them, given no more of the state and of the argument than the spellings of their projections.
+pub fn headline()
+    ensures frames { HeadlineOfFrames }
+    ensures file { Headline }
+{}
+
+/// The proof file of the honest pieces is accepted, with the projection of the ideal outcome.
+pub fn companion()
+    ensures { Companion }
+{}
+
+/// On ideal values and their projections the ideal and the checked run do the same, or part at one opening.
+pub fn agreement()
+    ensures { Agreement }
+{}
 
 /// The bound on nested calls never ends a run: in any mode, each bound that isn't below the fuel gives the same run.
 pub fn bound<C, W>()

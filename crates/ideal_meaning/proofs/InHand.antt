@@ -1,0 +1,150 @@
+-- What is known of every value in hand of an ideal run.
+use Rattle.std.proofs.Common.{◌≡◌, ℕ, zero, suc, ◌+◌, ◌≤◌, Bool, true, List, [], ◌∷◌, ◌++◌, length, ℤ, Some, unwrap_or, slice_get, IsUtf8, refl, sym, ap, subst, arith, lit≤}
+use Rattle.core_terms.proofs.Fields.{on_fields}
+use Rattle.core_terms.specs.Types.{Ty, UnitTy, BoolTy, IntTy, TextTy, PairTy, NamedTy, AuthTy, Table, fields_at, OnFields}
+use Rattle.core_terms.specs.Values.{Value, UnitV, BoolV, IntV, TextV, PairV, ConV, Values, NoV, AndV, IsIdeal, AreIdeal, int_fits, size, sizes, depth, depths, AuthWithin, AuthWithinAll}
+use Rattle.core_terms.specs.Formats.{Hash, IsFormat, depth_limit}
+use Rattle.core_terms.specs.Terms.{Program}
+use Rattle.core_terms.specs.Projection.{projection, projections, Fits, AllFit}
+use Rattle.ideal_meaning.specs.Run.{local, join, first_in, second_in}
+
+module _ (types : Table) where
+  -- the shape of an ideal value of a known type
+  pub at_unit : (P : Value → Type 0) (v : Value) → IsIdeal types UnitTy v → P UnitV → P v
+  at_unit P UnitV h f = f
+  at_unit P _ h f = elim h [ ]
+
+  pub at_bool : (P : Value → Type 0) (v : Value) → IsIdeal types BoolTy v → ((b : Bool) → P (BoolV b)) → P v
+  at_bool P (BoolV b) h f = f b
+  at_bool P _ h f = elim h [ ]
+
+  pub at_int : (P : Value → Type 0) (v : Value) → IsIdeal types IntTy v → ((z : ℤ) → int_fits z ≡ true → P (IntV z)) → P v
+  at_int P (IntV z) h f = f z h
+  at_int P _ h f = elim h [ ]
+
+  pub at_text : (P : Value → Type 0) (v : Value) → IsIdeal types TextTy v → ((bytes : List ℕ) → IsUtf8 bytes → P (TextV bytes)) → P v
+  at_text P (TextV bytes) h f = f bytes h
+  at_text P _ h f = elim h [ ]
+
+  pub at_pair : (P : Value → Type 0) (a b : Ty) (v : Value) → IsIdeal types (PairTy a b) v → ((x y : Value) → IsIdeal types a x → IsIdeal types b y → P (PairV x y)) → P v
+  at_pair P a b (PairV x y) h f = f x y h.0 h.1
+  at_pair P a b _ h f = elim h [ ]
+
+  pub at_con : (P : Value → Type 0) (n : ℕ) (v : Value) → IsIdeal types (NamedTy n) v → ((tag : ℕ) (vs : Values) (ts : List Ty) → fields_at types n tag ≡ Some ts → AreIdeal types ts vs → P (ConV tag vs)) → P v
+  at_con P n (ConV tag vs) h f =
+      let r = on_fields (fields_at types n tag) (λ ts. AreIdeal types ts vs) h in f tag vs r.0 r.1 r.2
+  at_con P n _ h f = elim h [ ]
+
+module _ (P : Program) (Deep : Type 0) where
+  -- a value in hand: ideal, within the limits, and, under the premise Deep, with all that is authenticated in it within them
+  pub record IsHeld (t : Ty) (v : Value) : Type 0 where
+    pub ideal : IsIdeal P.types t v
+    pub within : Fits P t v
+    pub deep : Deep → AuthWithin P.format.limit P.types t v
+
+  abbrev pub AreHeld : List Ty → Values → Type 0
+  AreHeld [] NoV = Unit {0}
+  AreHeld (t ∷ ts) NoV = ⊥
+  AreHeld [] (AndV v vs) = ⊥
+  AreHeld (t ∷ ts) (AndV v vs) = IsHeld t v × AreHeld ts vs
+
+  pub ideals_of : (ts : List Ty) (vs : Values) → AreHeld ts vs → AreIdeal P.types ts vs
+  ideals_of [] NoV h = tt
+  ideals_of (t ∷ ts) NoV h = elim h [ ]
+  ideals_of [] (AndV v vs) h = elim h [ ]
+  ideals_of (t ∷ ts) (AndV v vs) h = (h.0.ideal, ideals_of ts vs h.1)
+
+  pub deeps_of : (ts : List Ty) (vs : Values) → AreHeld ts vs → Deep → AuthWithinAll P.format.limit P.types ts vs
+  deeps_of [] NoV h l = tt
+  deeps_of (t ∷ ts) NoV h l = tt
+  deeps_of [] (AndV v vs) h l = tt
+  deeps_of (t ∷ ts) (AndV v vs) h l = (h.0.deep l, deeps_of ts vs h.1 l)
+
+  pub held_fields : (ts : List Ty) (vs : Values) → AreIdeal P.types ts vs → sizes P.types ts vs ≤ P.format.limit → depths P.types ts vs ≤ depth_limit → (Deep → AuthWithinAll P.format.limit P.types ts vs) → AreHeld ts vs
+  held_fields [] NoV h s d l = tt
+  held_fields (t ∷ ts) NoV h s d l = elim h [ ]
+  held_fields [] (AndV v vs) h s d l = elim h [ ]
+  held_fields (t ∷ ts) (AndV v vs) h s d l = (
+    record { ideal = h.0; within = record { size_fits = omega arith; depth_fits = omega arith }; deep = λ p. (l p).0 },
+    held_fields ts vs h.1 (omega arith) (omega arith) (λ p. (l p).1),
+  )
+
+  pub held_inputs : (ts : List Ty) (vs : Values) → AreIdeal P.types ts vs → AllFit P ts vs → (Deep → AuthWithinAll P.format.limit P.types ts vs) → AreHeld ts vs
+  held_inputs [] NoV h w l = tt
+  held_inputs (t ∷ ts) NoV h w l = elim h [ ]
+  held_inputs [] (AndV v vs) h w l = elim h [ ]
+  held_inputs (t ∷ ts) (AndV v vs) h w l =
+      (record { ideal = h.0; within = w.0; deep = λ p. (l p).0 }, held_inputs ts vs h.1 w.1 (λ p. (l p).1))
+
+  -- locals
+  pub held_local : (ts : List Ty) (vs : Values) (i : ℕ) (t : Ty) → AreHeld ts vs → slice_get ts i ≡ Some t → IsHeld t (local vs i)
+  held_local [] vs i t h e = cc
+  held_local (u ∷ ts) NoV i t h e = elim h [ ]
+  held_local (u ∷ ts) (AndV v vs) zero t h e = let e' : u ≡ t = cc in subst (λ t. IsHeld t v) e' h.0
+  held_local (u ∷ ts) (AndV v vs) (suc i) t h e = held_local ts vs i t h.1 e
+
+  pub local_projection : (hash : Hash) (ts : List Ty) (vs : Values) (i : ℕ) (t : Ty) → AreHeld ts vs → slice_get ts i ≡ Some t → local (projections hash P ts vs) i ≡ projection hash P t (local vs i)
+  local_projection hash [] vs i t h e = cc
+  local_projection hash (u ∷ ts) NoV i t h e = elim h [ ]
+  local_projection hash (u ∷ ts) (AndV v vs) zero t h e = let e' : u ≡ t = cc in ap (λ t. projection hash P t v) e'
+  local_projection hash (u ∷ ts) (AndV v vs) (suc i) t h e = local_projection hash ts vs i t h.1 e
+
+  pub held_join : (ts us : List Ty) (vs ws : Values) → AreHeld ts vs → AreHeld us ws → AreHeld (ts ++ us) (join vs ws)
+  held_join [] us NoV ws h j = j
+  held_join (t ∷ ts) us NoV ws h j = elim h [ ]
+  held_join [] us (AndV v vs) ws h j = elim h [ ]
+  held_join (t ∷ ts) us (AndV v vs) ws h j = (h.0, held_join ts us vs ws h.1 j)
+
+  pub join_projection : (hash : Hash) (ts us : List Ty) (vs ws : Values) → AreHeld ts vs → projections hash P (ts ++ us) (join vs ws) ≡ join (projections hash P ts vs) (projections hash P us ws)
+  join_projection hash [] us NoV ws h = refl
+  join_projection hash (t ∷ ts) us NoV ws h = elim h [ ]
+  join_projection hash [] us (AndV v vs) ws h = elim h [ ]
+  join_projection hash (t ∷ ts) us (AndV v vs) ws h = ap (λ r. AndV (projection hash P t v) r) (join_projection hash ts us vs ws h.1)
+
+  -- pairs
+  pub held_pair : (a b : Ty) (x y : Value) → IsHeld a x → IsHeld b y → size P.types (PairTy a b) (PairV x y) ≤ P.format.limit → depth P.types (PairTy a b) (PairV x y) ≤ depth_limit → IsHeld (PairTy a b) (PairV x y)
+  held_pair a b x y h j s d =
+      record { ideal = (h.ideal, j.ideal); within = record { size_fits = s; depth_fits = d }; deep = λ l. (h.deep l, j.deep l) }
+
+  pub held_first : (a b : Ty) (v : Value) → IsHeld (PairTy a b) v → IsHeld a (first_in v)
+  held_first a b v h =
+      at_pair P.types (λ v. IsHeld (PairTy a b) v → IsHeld a (first_in v)) a b v h.ideal (λ x y i j h.
+      record { ideal = i; within = record { size_fits = omega (arith, h.within.size_fits); depth_fits = omega (arith, h.within.depth_fits) }; deep = λ l. (h.deep l).0 }) h
+
+  pub held_second : (a b : Ty) (v : Value) → IsHeld (PairTy a b) v → IsHeld b (second_in v)
+  held_second a b v h =
+      at_pair P.types (λ v. IsHeld (PairTy a b) v → IsHeld b (second_in v)) a b v h.ideal (λ x y i j h.
+      record { ideal = j; within = record { size_fits = omega (arith, h.within.size_fits); depth_fits = omega (arith, h.within.depth_fits) }; deep = λ l. (h.deep l).1 }) h
+
+  -- constructor values
+  pub held_con : (n tag : ℕ) (ts : List Ty) (vs : Values) → fields_at P.types n tag ≡ Some ts → AreHeld ts vs → size P.types (NamedTy n) (ConV tag vs) ≤ P.format.limit → depth P.types (NamedTy n) (ConV tag vs) ≤ depth_limit → IsHeld (NamedTy n) (ConV tag vs)
+  held_con n tag ts vs e h s d =
+      record {
+        ideal = subst (λ o. OnFields o (λ ts. AreIdeal P.types ts vs)) (sym e) (ideals_of ts vs h);
+        within = record { size_fits = s; depth_fits = d };
+        deep = λ l. subst (λ o. OnFields o (λ ts. AuthWithinAll P.format.limit P.types ts vs)) (sym e) (deeps_of ts vs h l);
+      }
+
+  pub held_parts : (n tag : ℕ) (ts : List Ty) (vs : Values) → fields_at P.types n tag ≡ Some ts → AreIdeal P.types ts vs → IsHeld (NamedTy n) (ConV tag vs) → AreHeld ts vs
+  held_parts n tag ts vs e i h =
+      let s : 1 + sizes P.types ts vs ≤ P.format.limit = subst (λ o. 1 + sizes P.types (unwrap_or o []) vs ≤ P.format.limit) e h.within.size_fits in
+      let d : 1 + depths P.types ts vs ≤ depth_limit = subst (λ o. 1 + depths P.types (unwrap_or o []) vs ≤ depth_limit) e h.within.depth_fits in
+      held_fields ts vs i (omega arith) (omega arith) (λ l. subst (λ o. OnFields o (λ ts. AuthWithinAll P.format.limit P.types ts vs)) e (h.deep l))
+
+module _ (P : Program) (format : IsFormat P.format) (Deep : Type 0) where
+  -- values without parts, and what is authenticated
+  pub held_unit : IsHeld P Deep UnitTy UnitV
+  held_unit = record { ideal = tt; within = record { size_fits = omega arith; depth_fits = lit≤ tt }; deep = λ l. tt }
+
+  pub held_bool : (b : Bool) → IsHeld P Deep BoolTy (BoolV b)
+  held_bool b = record { ideal = tt; within = record { size_fits = omega (arith, format.limit_holds); depth_fits = lit≤ tt }; deep = λ l. tt }
+
+  pub held_int : (z : ℤ) → int_fits z ≡ true → IsHeld P Deep IntTy (IntV z)
+  held_int z e = record { ideal = e; within = record { size_fits = omega (arith, format.limit_holds); depth_fits = lit≤ tt }; deep = λ l. tt }
+
+  pub held_text : (bytes : List ℕ) → IsUtf8 bytes → 4 + length bytes ≤ P.format.limit → IsHeld P Deep TextTy (TextV bytes)
+  held_text bytes u n = record { ideal = u; within = record { size_fits = n; depth_fits = lit≤ tt }; deep = λ l. tt }
+
+  pub held_auth : (t : Ty) (v : Value) → IsHeld P Deep t v → IsHeld P Deep (AuthTy t) v
+  held_auth t v h =
+      record { ideal = h.ideal; within = record { size_fits = omega (arith, format.limit_holds); depth_fits = lit≤ tt }; deep = λ l. (h.within, h.deep l) }

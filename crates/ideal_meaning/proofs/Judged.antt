@@ -1,0 +1,86 @@
+-- What is judged of a run that stands in the relation: what is accepted is true, or there is a split.
+use Rattle.std.proofs.Common.{◌≡◌, ◌≢◌, ◌⊎◌, inl, inr, ℕ, zero, suc, List, [], ◌∷◌, ◌++◌, length, map, refl, sym, ap, ◌∙◌, subst, arith, append-nil}
+use Rattle.std.proofs.lemmas.List.{map-append}
+use Rattle.core_terms.specs.Types.{Ty}
+use Rattle.core_terms.specs.Formats.{Hash}
+use Rattle.core_terms.specs.Values.{Value}
+use Rattle.core_terms.specs.Terms.{Program}
+use Rattle.core_terms.specs.Projection.{digest_at, projection}
+use Rattle.ideal_meaning.specs.Run.{Traps, IsOut, Rejects, Run, Gives, Ends, state_of}
+use Rattle.ideal_meaning.specs.Ideal.{Opened, Outcome, Done, Trapped, Out, outcome, outcome_projection, honest_bytes, honest_piece, bytes_of}
+use Rattle.ideal_meaning.specs.Frames.{Offer, NoMore, Offers, offered_pieces}
+use Rattle.ideal_meaning.specs.Checked.{Taking, Cause, Accepted, with_rest, judged, IsSplitAt}
+use Rattle.ideal_meaning.specs.Agreement.{OffersOther, IsRefused, honest_so_far}
+use Rattle.ideal_meaning.proofs.FramesBack.{Coherent}
+use Rattle.ideal_meaning.proofs.InHand.{IsHeld}
+use Rattle.ideal_meaning.proofs.Relation.{InStep, Parted, Same, Agree}
+
+-- the bytes of the honest pieces
+pub bytes_are : (hash : Hash) (P : Program) (seen : List Opened) → bytes_of (map (honest_piece hash P) seen) ≡ honest_so_far hash P seen
+bytes_are hash P [] = refl
+bytes_are hash P (x ∷ seen) = ap (λ l. honest_bytes hash P x ∷ l) (bytes_are hash P seen)
+
+-- another piece with the digest, behind honest ones, is a split
+split_after : (hash : Hash) (P : Program) (before after : List Opened) (x : Opened) (found : List ℕ) (later : List (List ℕ)) → found ≢ honest_bytes hash P x
+    → digest_at hash P x.ty found ≡ digest_at hash P x.ty (honest_bytes hash P x)
+    → IsSplitAt (digest_at hash P) (honest_so_far hash P before ++ found ∷ later) (map (honest_piece hash P) (before ++ x ∷ after)) (length before)
+split_after hash P [] after x found later differs same = (differs, same)
+split_after hash P (y ∷ before) after x found later differs same = (refl, split_after hash P before after x found later differs same)
+
+-- an outcome is accepted where no byte is left
+accepted_rest : (o o' : Outcome) (n : ℕ) → with_rest o n ≡ Accepted o' → (n ≡ 0) × (o' ≡ o)
+accepted_rest o o' zero e = (refl, cc)
+accepted_rest o o' (suc n) e = absurd (cc)
+
+-- and then no piece is left
+none_left : (n : ℕ) (o : Offer) → n ≡ 0 → Coherent n o → offered_pieces o ≡ []
+none_left n (NoMore e) z c = refl
+none_left n (Offers p left more) z c = absurd (omega (arith, c.0))
+
+module _ (hash : Hash) (P : Program) (Deep : Type 0) (began : Taking) (t : Ty) where
+  -- the two runs do the same to the end, at a result of type t
+  abbrev pub IsSame : Run ⊥ (List Opened) Value → Run Cause Taking Value → Type 0
+  IsSame ideal checked = Same hash P Deep began (IsHeld P Deep t) (projection hash P t) ideal checked
+
+  pub same_judged : (ideal : Run ⊥ (List Opened) Value) (checked : Run Cause Taking Value) → IsSame ideal checked
+      → judged checked ≡ with_rest (outcome_projection hash P t (outcome ideal)) ((state_of checked).left)
+  same_judged (Gives v k s) checked h = ap judged h.1.1 ∙ ap (λ (r : Run Cause Taking Value). with_rest (Done (projection hash P t v)) ((state_of r).left)) (sym h.1.1)
+  same_judged (Ends (Traps trap) k s) checked h = ap judged h.1 ∙ ap (λ (r : Run Cause Taking Value). with_rest (Trapped trap) ((state_of r).left)) (sym h.1)
+  same_judged (Ends IsOut k s) checked h = ap judged h.1 ∙ ap (λ (r : Run Cause Taking Value). with_rest Out ((state_of r).left)) (sym h.1)
+  same_judged (Ends (Rejects c) k s) checked h = elim c [ ]
+
+  pub same_state : (ideal : Run ⊥ (List Opened) Value) (checked : Run Cause Taking Value) → IsSame ideal checked → InStep hash P Deep began (state_of ideal) (state_of checked)
+  same_state (Gives v k s) checked h = subst (λ r. InStep hash P Deep began s (state_of r)) (sym h.1.1) h.1.2
+  same_state (Ends stop k s) checked h = subst (λ r. InStep hash P Deep began s (state_of r)) (sym h.1) h.2
+
+  -- at a parting: the honest pieces, and the split where another piece with the digest was offered
+  pub parted_honest : (ideal : Run ⊥ (List Opened) Value) (checked : Run Cause Taking Value) (p : Parted hash P Deep began ideal checked)
+      → honest_so_far hash P (state_of ideal) ≡ honest_so_far hash P p.parts.before ++ (honest_bytes hash P p.parts.x ∷ honest_so_far hash P p.parts.after)
+  parted_honest ideal checked p = ap (honest_so_far hash P) p.parts.seen ∙ map-append (honest_bytes hash P) p.parts.before (p.parts.x ∷ p.parts.after)
+
+  parted_split : (ideal : Run ⊥ (List Opened) Value) (checked : Run Cause Taking Value) (p : Parted hash P Deep began ideal checked) → OffersOther hash P p.parts.x p.parts.at
+      → IsSplitAt (digest_at hash P) (offered_pieces began.more) (map (honest_piece hash P) (state_of ideal)) (length p.parts.before)
+  parted_split ideal checked p d =
+      let e = p.parts.honest.pieces ∙ ap (λ l. honest_so_far hash P p.parts.before ++ l) d.next in
+      let Offered : List (List ℕ) → Type 0 = λ l. IsSplitAt (digest_at hash P) l (map (honest_piece hash P) (state_of ideal)) (length p.parts.before) in
+      let Seen : List Opened → Type 0 = λ seen. IsSplitAt (digest_at hash P) (honest_so_far hash P p.parts.before ++ (d.found ∷ d.later)) (map (honest_piece hash P) seen) (length p.parts.before) in
+      subst Offered (sym e) (subst Seen (sym p.parts.seen) (split_after hash P p.parts.before p.parts.after p.parts.x d.found d.later d.differs d.one_digest))
+
+  -- an accepted run took the honest pieces and is the ideal one in projection, or there is a split
+  abbrev pub IsTrueOrSplit : Run ⊥ (List Opened) Value → Outcome → Type 0
+  IsTrueOrSplit ideal o =
+      ((offered_pieces began.more ≡ bytes_of (map (honest_piece hash P) (state_of ideal))) × (o ≡ outcome_projection hash P t (outcome ideal)))
+      ⊎ ((i : ℕ) × IsSplitAt (digest_at hash P) (offered_pieces began.more) (map (honest_piece hash P) (state_of ideal)) i)
+
+  pub judged_well : (ideal : Run ⊥ (List Opened) Value) (checked : Run Cause Taking Value) (o : Outcome) → Coherent began.left began.more
+      → Agree hash P Deep began (IsHeld P Deep t) (projection hash P t) ideal checked → judged checked ≡ Accepted o → IsTrueOrSplit ideal o
+  judged_well ideal checked o coherent (inl h) e =
+      let y = same_state ideal checked h in
+      let r = accepted_rest _ o _ (sym (same_judged ideal checked h) ∙ e) in
+      let none = none_left ((state_of checked).left) ((state_of checked).more) r.0 (y.coherent coherent) in
+      inl (y.honest.pieces ∙ ap (λ l. honest_so_far hash P (state_of ideal) ++ l) none ∙ append-nil (honest_so_far hash P (state_of ideal)) ∙ sym (bytes_are hash P (state_of ideal)), r.1)
+  judged_well ideal checked o coherent (inr p) e = by p.parts.why
+    where
+      by : OffersOther hash P p.parts.x p.parts.at ⊎ IsRefused hash P p.parts.x p.parts.at checked → IsTrueOrSplit ideal o
+      by (inl d) = inr (_, parted_split ideal checked p d)
+      by (inr r) = let j = ap judged r.is in absurd (cc)
