@@ -1,5 +1,6 @@
 -- The laws, from the lemmas.
-use Rattle.core_terms.specs.Laws.{NoneIsPrefix, OneIsSpelled, PlainIsOwnProjection, ProjectionIsReadBack, ProjectionIsShallow, ProjectionKeepsLimits, ReadingIsExact, ShapeTestIsExact, SizeIsLength, TypingTestIsExact}
+use Rattle.std.proofs.Common.{refl, lit<, lit≤}
+use Rattle.core_terms.specs.Laws.{FirstFormatIsFormat, NoneIsPrefix, OneIsSpelled, PlainIsOwnProjection, ProjectionIsReadBack, ProjectionIsShallow, ProjectionKeepsLimits, ReadingIsExact, ShapeTestIsExact, SizeIsLength, TypingTestIsExact}
 use Rattle.core_terms.proofs.Plain.{own}
 use Rattle.core_terms.proofs.Projection.{size_shallow, depth_shallow}
 use Rattle.core_terms.proofs.ReadBack.{shallow_is, reads_back}
@@ -38,3 +39,6 @@ typing_test_is_exact P = (typed_sound P, typed_complete P)
 
 pub shape_test_is_exact : ShapeTestIsExact
 shape_test_is_exact P = (roles_sound P, roles_complete P)
+
+pub first_format_is_format : FirstFormatIsFormat
+first_format_is_format most fits = record { digest_length = λ hash h t bytes. h bytes; limit_fits = lit< tt; limit_holds = lit≤ tt; magic_length = refl; kept_fits = fits }

@@ -9,6 +9,7 @@ pub mod TypingSound
 pub mod TypingComplete
 pub mod ReadBack
 pub mod Plain
+pub mod TypePushing
 pub mod Shapes
 pub mod LawProofs
 pub mod Reach

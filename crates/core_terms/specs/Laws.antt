@@ -1,6 +1,7 @@
 -- The laws of spelling, projection and typing: what a reader may hold the definitions to.
 use Rattle.std.specs.Prelude.{◌≡◌, ◌⊎◌, ◌↔◌, ◌<◌, ◌^◌, ℕ, true, List, [], ◌++◌, length, Some, slice_get}
 use Rattle.core_terms.specs.Types.{Ty, Table}
+use Rattle.core_terms.specs.Formats.{IsFormat, first_format}
 use Rattle.core_terms.specs.Values.{Value, IsIdeal, IsShallow, IsWithin, size, depth}
 use Rattle.core_terms.specs.Spelling.{AreBytes, Spells, spelling, shallow}
 use Rattle.core_terms.specs.Reading.{Good, BadAt, read}
@@ -60,3 +61,7 @@ ProjectionIsReadBack = (digest : Ty → List ℕ → List ℕ) → ((t : Ty) (by
     → let projected = shallow digest types t v in
     (IsWithin limit types t v × ((place : ℕ) × (read limit types t (spelling projected) ≡ Good projected [] place)))
     ⊎ ((IsWithin limit types t v → ⊥) × ((place : ℕ) × (read limit types t (spelling projected) ≡ BadAt place)))
+
+-- The first format is one, for each ring size that fits its field.
+abbrev pub FirstFormatIsFormat : Type 0
+FirstFormatIsFormat = (most : ℕ) → most < 2 ^ 16 → IsFormat (first_format most)

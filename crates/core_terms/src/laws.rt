@@ -1,5 +1,5 @@
 //! The laws of the definitions in `specs/`: each is a function without parameters, whose contract is the law.
-ghost use Rattle.core_terms.specs.Laws.{NoneIsPrefix, OneIsSpelled, PlainIsOwnProjection, ProjectionIsReadBack, ProjectionIsShallow, ProjectionKeepsLimits, ReadingIsExact, ShapeTestIsExact, SizeIsLength, TypingTestIsExact};
+ghost use Rattle.core_terms.specs.Laws.{FirstFormatIsFormat, NoneIsPrefix, OneIsSpelled, PlainIsOwnProjection, ProjectionIsReadBack, ProjectionIsShallow, ProjectionKeepsLimits, ReadingIsExact, ShapeTestIsExact, SizeIsLength, TypingTestIsExact};
 
 /// Bytes are read as a value exactly where they spell it; a string spells one value at a type at most; no spelling at a type
 /// is a proper prefix of another; the size of a value is the length of its spelling.
@@ -24,4 +24,9 @@ pub fn projection()
 pub fn typing()
     ensures types { TypingTestIsExact }
     ensures shapes { ShapeTestIsExact }
+{}
+
+/// The first format is one: its digests have 32 bytes where the hash gives 32, and its numbers fit their fields.
+pub fn format()
+    ensures { FirstFormatIsFormat }
 {}
