@@ -1,4 +1,4 @@
-use Rattle.std.proofs.Common.{rules, ◌++◌, take, arith, length-append}
+use Rattle.std.proofs.Common.{◌++◌, take, arith}
 use Rattle.std.proofs.lemmas.Grind.{common_steps}
 use Rattle.lam_outside.proofs.Coming.{front_more, took_no_memory}
 use Rattle.lam_outside.proofs.load.load_all.Goals as goal
