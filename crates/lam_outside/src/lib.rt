@@ -1,5 +1,7 @@
-//! The outside as traits: a source, a sink and files, each with what it tells and a count of its faults.
-//! Beside them stand fakes in memory, which tell all and fail by a list.
+//! The outside as traits: a source, a sink and files, each with what it tells of its bytes and a count of its
+//! faults. A call fails only where its own count rose, and no call raises another's.
+//!
+//! Beside them stand fakes in memory for tests, which tell their bytes and fail by a plan.
 #![tactic(auto)]
 
 mod load;

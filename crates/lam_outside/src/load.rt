@@ -9,10 +9,14 @@ ghost use Rattle.lam_outside.specs.declared.load.Load.TheVariants.{ReadFault, No
 use crate::{Failed, Files};
 use std::alloc::{AllocError, Global};
 
+/// Why a file was not loaded.
 #[derive(Clone, Copy, Debug, PartialEq, Eq)]
 pub enum Load {
+    /// The outside failed at the start or at a read, and its count of faults rose.
     ReadFault,
+    /// More bytes came than the caller's limit.
     TooLong,
+    /// There was no memory for the bytes that came.
     NoMemory,
 }
 
@@ -32,9 +36,14 @@ impl From<AllocError> for Load {
     }
 }
 
+/// How many bytes are asked for at once.
 const CHUNK: usize = 4096;
 
-/// The file's bytes to its end, of which there are at most `max`.
+/// Loads a file of at most `max` bytes, to its end.
+///
+/// - `ReadFault` where the outside failed, also where there is no such file; at most `max` bytes came before.
+/// - `TooLong` exactly where more than `max` bytes came.
+/// - `NoMemory` where the bytes that came, at most `max`, found no memory.
 pub fn load_all<F: Files>(
     alloc: Global,
     files: &mut F,
@@ -63,7 +72,7 @@ pub fn load_all<F: Files>(
     }
 }
 
-/// One read, which leaves the files and what was stored.
+/// One read, which changes no file and stores nothing.
 fn read_some<F: Files>(files: &mut F, into: &mut [u8]) -> Result<usize, Failed>
     ensures bound { ReadsAtMost result into.new }
     ensures bytes { Reads (F.given files.old) (F.left files.old) (F.given files.new) (F.left files.new) into.new result }
