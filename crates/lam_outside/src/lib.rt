@@ -1,0 +1,19 @@
+//! The outside as traits: a source, a sink and files, each with what it tells of its bytes and a count of its
+//! faults. A call fails only where its own count rose, and no call raises another's.
+//!
+//! Beside them stand fakes in memory for tests, which tell their bytes and fail by a plan.
+#![tactic(auto)]
+
+mod load;
+mod mem_files;
+mod mem_sink;
+mod plan;
+#[cfg(test)]
+mod tests;
+mod traits;
+
+pub use load::{Load, load_all};
+pub use mem_files::{MemFile, MemFiles};
+pub use mem_sink::MemSink;
+pub use plan::Plan;
+pub use traits::{Failed, Files, Sink, Source};
