@@ -50,17 +50,17 @@ StepOnTwo = (C W : Type 0) → Value → Value → ℕ → W → Run C W Value
 
 -- In all that follows k is the fuel left, s what was opened so far, w the verifier's state, and y says that w fits s.
 module _ (hash : Hash) (P : Program) (format : IsFormat P.format) (Deep : Type 0) (began : Taking) where
-  abbrev Proj : Ty → Value → Value
-  Proj t v = projection hash P t v
+  abbrev Projected : Ty → Value → Value
+  Projected t v = projection hash P t v
 
-  abbrev Projs : List Ty → Values → Values
-  Projs ts vs = projections hash P ts vs
+  abbrev AllProjected : List Ty → Values → Values
+  AllProjected ts vs = projections hash P ts vs
 
   abbrev Held : Ty → Value → Type 0
   Held t v = IsHeld P Deep t v
 
-  abbrev Sync : List Opened → Taking → Type 0
-  Sync s w = InStep hash P Deep began s w
+  abbrev Synced : List Opened → Taking → Type 0
+  Synced s w = InStep hash P Deep began s w
 
   -- the runs agree at a value of type t, and at values of these types
   abbrev pub Both : Ty → Run ⊥ (List Opened) Value → Run Cause Taking Value → Type 0
@@ -72,7 +72,7 @@ module _ (hash : Hash) (P : Program) (format : IsFormat P.format) (Deep : Type 0
   -- a value, and what goes on behind it
   after : (a t : Ty) (ideal : Run ⊥ (List Opened) Value) (checked : Run Cause Taking Value) (f : IdealStep) (g : CheckedStep)
       → Both a ideal checked → ((v : Value) (k : ℕ) (s : List Opened) → Grows s (f v k s))
-      → ((v : Value) (k : ℕ) (s : List Opened) (w : Taking) → Held a v → Sync s w → Both t (f v k s) (g (Proj a v) k w))
+      → ((v : Value) (k : ℕ) (s : List Opened) (w : Taking) → Held a v → Synced s w → Both t (f v k s) (g (Projected a v) k w))
       → Both t (then_run ideal f) (then_run checked g)
   after a t ideal checked f g h grow on =
       agree_then hash P Deep began (IsHeld P Deep a) (projection hash P a) (IsHeld P Deep t) (projection hash P t) ideal checked f g h grow on
@@ -80,16 +80,16 @@ module _ (hash : Hash) (P : Program) (format : IsFormat P.format) (Deep : Type 0
   -- values, and what goes on behind them
   after_all : (us : List Ty) (t : Ty) (ideal : Run ⊥ (List Opened) Values) (checked : Run Cause Taking Values) (f : Values → ℕ → List Opened → Run ⊥ (List Opened) Value) (g : Values → ℕ → Taking → Run Cause Taking Value)
       → BothAll us ideal checked → ((vs : Values) (k : ℕ) (s : List Opened) → Grows s (f vs k s))
-      → ((vs : Values) (k : ℕ) (s : List Opened) (w : Taking) → AreHeld P Deep us vs → Sync s w → Both t (f vs k s) (g (Projs us vs) k w))
+      → ((vs : Values) (k : ℕ) (s : List Opened) (w : Taking) → AreHeld P Deep us vs → Synced s w → Both t (f vs k s) (g (AllProjected us vs) k w))
       → Both t (then_run ideal f) (then_run checked g)
   after_all us t ideal checked f g h grow on =
       agree_then hash P Deep began (AreHeld P Deep us) (projections hash P us) (IsHeld P Deep t) (projection hash P t) ideal checked f g h grow on
 
   -- both give a value, or trap, or take the same branch
-  both_gives : (t : Ty) (v shallow : Value) (k : ℕ) (s : List Opened) (w : Taking) → Held t v → shallow ≡ Proj t v → Sync s w → Both t (Gives v k s) (Gives shallow k w)
+  both_gives : (t : Ty) (v shallow : Value) (k : ℕ) (s : List Opened) (w : Taking) → Held t v → shallow ≡ Projected t v → Synced s w → Both t (Gives v k s) (Gives shallow k w)
   both_gives t v shallow k s w h e y = agree_gives hash P Deep began (IsHeld P Deep t) (projection hash P t) v shallow k s w h e y
 
-  both_traps : (t : Ty) (trap : Trap) (k : ℕ) (s : List Opened) (w : Taking) → Sync s w → Both t (Ends (Traps trap) k s) (Ends (Traps trap) k w)
+  both_traps : (t : Ty) (trap : Trap) (k : ℕ) (s : List Opened) (w : Taking) → Synced s w → Both t (Ends (Traps trap) k s) (Ends (Traps trap) k w)
   both_traps t trap k s w y = agree_traps hash P Deep began (IsHeld P Deep t) (projection hash P t) trap k s w y
 
   both_if : (t : Ty) (b c : Bool) (r1 r2 : Run ⊥ (List Opened) Value) (q1 q2 : Run Cause Taking Value)
@@ -102,31 +102,31 @@ module _ (hash : Hash) (P : Program) (format : IsFormat P.format) (Deep : Type 0
   both_choose t false f1 f2 g1 g2 env shallow k s w h j = j
 
   -- a new value is within the limits in both runs, or in neither
-  both_limited : (t : Ty) (v shallow : Value) (k : ℕ) (s : List Opened) (w : Taking) → shallow ≡ Proj t v
-      → (size P.types t v ≤ P.format.limit → depth P.types t v ≤ depth_limit → Held t v) → Sync s w
+  both_limited : (t : Ty) (v shallow : Value) (k : ℕ) (s : List Opened) (w : Taking) → shallow ≡ Projected t v
+      → (size P.types t v ≤ P.format.limit → depth P.types t v ≤ depth_limit → Held t v) → Synced s w
       → Both t (limited P.format.limit P.types t v k s) (limited P.format.limit P.types t shallow k w)
   both_limited t v shallow k s w e held y =
       subst (λ shallow. Both t (limited P.format.limit P.types t v k s) (limited P.format.limit P.types t shallow k w)) (sym e)
-      (both_if t (nat_lt P.format.limit (size P.types t v)) (nat_lt P.format.limit (size P.types t (Proj t v))) _ _ _ _
+      (both_if t (nat_lt P.format.limit (size P.types t v)) (nat_lt P.format.limit (size P.types t (Projected t v))) _ _ _ _
       (ap (λ n. nat_lt P.format.limit n) (size_shallow (digest_at hash P) P.types t v))
       (λ q. both_traps t TooBig k s w y)
-      (λ q. both_if t (nat_lt depth_limit (depth P.types t v)) (nat_lt depth_limit (depth P.types t (Proj t v))) _ _ _ _
+      (λ q. both_if t (nat_lt depth_limit (depth P.types t v)) (nat_lt depth_limit (depth P.types t (Projected t v))) _ _ _ _
       (ap (λ n. nat_lt depth_limit n) (depth_shallow (digest_at hash P) P.types t v))
       (λ r. both_traps t TooDeep k s w y)
-      (λ r. both_gives t v (Proj t v) k s w (held (ltb-false P.format.limit _ q) (ltb-false depth_limit _ r)) refl y)))
+      (λ r. both_gives t v (Projected t v) k s w (held (ltb-false P.format.limit _ q) (ltb-false depth_limit _ r)) refl y)))
 
   -- arithmetic
-  both_int : (b : Bool) (z : ℤ) (k : ℕ) (s : List Opened) (w : Taking) → (b ≡ true → int_fits z ≡ true) → Sync s w
+  both_int : (b : Bool) (z : ℤ) (k : ℕ) (s : List Opened) (w : Taking) → (b ≡ true → int_fits z ≡ true) → Synced s w
       → Both IntTy (if b then Gives (IntV z) k s else Ends (Traps Overflow) k s) (if b then Gives (IntV z) k w else Ends (Traps Overflow) k w)
   both_int b z k s w fits y =
       both_if IntTy b b _ _ _ _ refl (λ q. both_gives IntTy (IntV z) (IntV z) k s w (held_int P format Deep z (fits q)) refl y) (λ q. both_traps IntTy Overflow k s w y)
 
-  both_divided : (z x d : ℤ) (k : ℕ) (s : List Opened) (w : Taking) → (int_fits (int_div x d) ≡ true → int_fits z ≡ true) → Sync s w → Both IntTy (divided z x d k s) (divided z x d k w)
+  both_divided : (z x d : ℤ) (k : ℕ) (s : List Opened) (w : Taking) → (int_fits (int_div x d) ≡ true → int_fits z ≡ true) → Synced s w → Both IntTy (divided z x d k s) (divided z x d k w)
   both_divided z x (pos zero) k s w fits y = both_traps IntTy _ k s w y
   both_divided z x (pos (suc n)) k s w fits y = both_int (int_fits (int_div x (pos (suc n)))) z k s w fits y
   both_divided z x (negsuc n) k s w fits y = both_int (int_fits (int_div x (negsuc n))) z k s w fits y
 
-  both_arith : (op : Arith) (x d : ℤ) (k : ℕ) (s : List Opened) (w : Taking) → int_fits x ≡ true → Sync s w → Both IntTy (arith_of op x d k s) (arith_of op x d k w)
+  both_arith : (op : Arith) (x d : ℤ) (k : ℕ) (s : List Opened) (w : Taking) → int_fits x ≡ true → Synced s w → Both IntTy (arith_of op x d k s) (arith_of op x d k w)
   both_arith Add x d k s w fx y = both_int (int_fits (x +ℤ d)) (x +ℤ d) k s w (λ q. q) y
   both_arith Sub x d k s w fx y = both_int (int_fits (x -ℤ d)) (x -ℤ d) k s w (λ q. q) y
   both_arith Mul x d k s w fx y = both_int (int_fits (x *ℤ d)) (x *ℤ d) k s w (λ q. q) y
@@ -137,7 +137,7 @@ module _ (hash : Hash) (P : Program) (format : IsFormat P.format) (Deep : Type 0
   module _ (reads_back : (t : Ty) (v : Value) → IsIdeal P.types t v → ReadsBack hash P t v)
       (ideal_call : ℕ → Values → ℕ → List Opened → Run ⊥ (List Opened) Value) (checked_call : ℕ → Values → ℕ → Taking → Run Cause Taking Value)
       (ideal_grows : (f : ℕ) (vs : Values) (k : ℕ) (s : List Opened) → Grows s (ideal_call f vs k s))
-      (calls : (f : ℕ) (vs : Values) (k : ℕ) (s : List Opened) (w : Taking) → AreHeld P Deep (function_at P f).parameters vs → Sync s w
+      (calls : (f : ℕ) (vs : Values) (k : ℕ) (s : List Opened) (w : Taking) → AreHeld P Deep (function_at P f).parameters vs → Synced s w
       → Both (function_at P f).result (ideal_call f vs k s) (checked_call f (projections hash P (function_at P f).parameters vs) k w)) where
     abbrev ideal_run : Expression → Values → ℕ → List Opened → Run ⊥ (List Opened) Value
     ideal_run e env k s = run P ideal_mode ideal_call e env k s
@@ -162,34 +162,34 @@ module _ (hash : Hash) (P : Program) (format : IsFormat P.format) (Deep : Type 0
 
     -- where the locals have the types ts and the values env, the two runs of e agree at type t
     abbrev Agrees : Expression → List Ty → Values → ℕ → List Opened → Taking → Ty → Type 0
-    Agrees e ts env k s w t = Both t (ideal_run e env k s) (checked_run e (Projs ts env) k w)
+    Agrees e ts env k s w t = Both t (ideal_run e env k s) (checked_run e (AllProjected ts env) k w)
 
     -- an expression, and one step behind it
     one : (x : Expression) (ts : List Ty) (env : Values) (k : ℕ) (s : List Opened) (w : Taking) (a t : Ty) (step : Step) → Agrees x ts env k s w a
         → ((v : Value) (k : ℕ) (s : List Opened) → Grows s (step ⊥ (List Opened) v k s))
-        → ((v : Value) (k : ℕ) (s : List Opened) (w : Taking) → Held a v → Sync s w → Both t (step ⊥ (List Opened) v k s) (step Cause Taking (Proj a v) k w))
-        → Both t (then_run (ideal_run x env k s) (λ v k s. step ⊥ (List Opened) v k s)) (then_run (checked_run x (Projs ts env) k w) (λ v k w. step Cause Taking v k w))
-    one x ts env k s w a t step h grow on = after a t (ideal_run x env k s) (checked_run x (Projs ts env) k w) (λ v k s. step ⊥ (List Opened) v k s) (λ v k w. step Cause Taking v k w) h grow on
+        → ((v : Value) (k : ℕ) (s : List Opened) (w : Taking) → Held a v → Synced s w → Both t (step ⊥ (List Opened) v k s) (step Cause Taking (Projected a v) k w))
+        → Both t (then_run (ideal_run x env k s) (λ v k s. step ⊥ (List Opened) v k s)) (then_run (checked_run x (AllProjected ts env) k w) (λ v k w. step Cause Taking v k w))
+    one x ts env k s w a t step h grow on = after a t (ideal_run x env k s) (checked_run x (AllProjected ts env) k w) (λ v k s. step ⊥ (List Opened) v k s) (λ v k w. step Cause Taking v k w) h grow on
 
     -- two expressions, and one step behind them
     two : (x z : Expression) (ts : List Ty) (env : Values) (k : ℕ) (s : List Opened) (w : Taking) (a b t : Ty) (step : StepOnTwo) → Agrees x ts env k s w a
-        → ((k : ℕ) (s : List Opened) (w : Taking) → Sync s w → Agrees z ts env k s w b)
+        → ((k : ℕ) (s : List Opened) (w : Taking) → Synced s w → Agrees z ts env k s w b)
         → ((u v : Value) (k : ℕ) (s : List Opened) → Grows s (step ⊥ (List Opened) u v k s))
-        → ((u v : Value) (k : ℕ) (s : List Opened) (w : Taking) → Held a u → Held b v → Sync s w → Both t (step ⊥ (List Opened) u v k s) (step Cause Taking (Proj a u) (Proj b v) k w))
-        → Both t (then_run (ideal_run x env k s) (λ u k s. then_run (ideal_run z env k s) (λ v k s. step ⊥ (List Opened) u v k s))) (then_run (checked_run x (Projs ts env) k w) (λ u k w. then_run (checked_run z (Projs ts env) k w) (λ v k w. step Cause Taking u v k w)))
+        → ((u v : Value) (k : ℕ) (s : List Opened) (w : Taking) → Held a u → Held b v → Synced s w → Both t (step ⊥ (List Opened) u v k s) (step Cause Taking (Projected a u) (Projected b v) k w))
+        → Both t (then_run (ideal_run x env k s) (λ u k s. then_run (ideal_run z env k s) (λ v k s. step ⊥ (List Opened) u v k s))) (then_run (checked_run x (AllProjected ts env) k w) (λ u k w. then_run (checked_run z (AllProjected ts env) k w) (λ v k w. step Cause Taking u v k w)))
     two x z ts env k s w a b t step h j grow_step on =
-        after a t (ideal_run x env k s) (checked_run x (Projs ts env) k w) (λ u k s. then_run (ideal_run z env k s) (λ v k s. step ⊥ (List Opened) u v k s)) (λ u k w. then_run (checked_run z (Projs ts env) k w) (λ v k w. step Cause Taking u v k w)) h
+        after a t (ideal_run x env k s) (checked_run x (AllProjected ts env) k w) (λ u k s. then_run (ideal_run z env k s) (λ v k s. step ⊥ (List Opened) u v k s)) (λ u k w. then_run (checked_run z (AllProjected ts env) k w) (λ v k w. step Cause Taking u v k w)) h
         (λ u k s. grows_then s (ideal_run z env k s) (λ v k s. step ⊥ (List Opened) u v k s) (grow z env k s) (λ v k s. grow_step u v k s))
-        (λ u k s w hu y. after b t (ideal_run z env k s) (checked_run z (Projs ts env) k w) (λ v k s. step ⊥ (List Opened) u v k s) (λ v k w. step Cause Taking (Proj a u) v k w) (j k s w y) (λ v k s. grow_step u v k s) (λ v k s w hv y. on u v k s w hu hv y))
+        (λ u k s w hu y. after b t (ideal_run z env k s) (checked_run z (AllProjected ts env) k w) (λ v k s. step ⊥ (List Opened) u v k s) (λ v k w. step Cause Taking (Projected a u) v k w) (j k s w y) (λ v k s. grow_step u v k s) (λ v k s w hv y. on u v k s w hu hv y))
 
     -- where more locals were added behind the ones there
     joined : (e : Expression) (ts us : List Ty) (t : Ty) (env vs : Values) (k : ℕ) (s : List Opened) (w : Taking) → AreHeld P Deep ts env → Agrees e (ts ++ us) (join env vs) k s w t
-        → Both t (ideal_run e (join env vs) k s) (checked_run e (join (Projs ts env) (Projs us vs)) k w)
+        → Both t (ideal_run e (join env vs) k s) (checked_run e (join (AllProjected ts env) (AllProjected us vs)) k w)
     joined e ts us t env vs k s w i h =
         subst (λ shallow. Both t (ideal_run e (join env vs) k s) (checked_run e shallow k w)) (join_projection P Deep hash ts us env vs i) h
 
     mutual
-      pub sim : (e : Expression) (ts : List Ty) (t : Ty) → HasType P ts e t → (env : Values) (k : ℕ) (s : List Opened) (w : Taking) → AreHeld P Deep ts env → Sync s w → Agrees e ts env k s w t
+      pub sim : (e : Expression) (ts : List Ty) (t : Ty) → HasType P ts e t → (env : Values) (k : ℕ) (s : List Opened) (w : Taking) → AreHeld P Deep ts env → Synced s w → Agrees e ts env k s w t
       sim UnitE ts t h env k s w i y = subst (Agrees UnitE ts env k s w) h (both_gives UnitTy UnitV UnitV k s w (held_unit P format Deep) refl y)
       sim (BoolE b) ts t h env k s w i y = subst (Agrees (BoolE b) ts env k s w) h (both_gives BoolTy (BoolV b) (BoolV b) k s w (held_bool P format Deep b) refl y)
       sim (IntE z) ts t h env k s w i y = subst (Agrees (IntE z) ts env k s w) h.0 (both_gives IntTy (IntV z) (IntV z) k s w (held_int P format Deep z h.1) refl y)
@@ -197,20 +197,20 @@ module _ (hash : Hash) (P : Program) (format : IsFormat P.format) (Deep : Type 0
           subst (Agrees (TextE bytes) ts env k s w) h.0
           (both_gives TextTy (TextV bytes) (TextV bytes) k s w (held_text P format Deep bytes h.1 (omega (arith, h.2, format.limit_holds))) refl y)
       sim (LocalE n) ts t h env k s w i y =
-          both_gives t (local env n) (local (Projs ts env) n) k s w (held_local P Deep ts env n t i h) (local_projection P Deep hash ts env n t i h) y
+          both_gives t (local env n) (local (AllProjected ts env) n) k s w (held_local P Deep ts env n t i h) (local_projection P Deep hash ts env n t i h) y
       sim (PairE a b x z) ts t h env k s w i y =
           subst (Agrees (PairE a b x z) ts env k s w) h.0
           (two x z ts env k s w a b (PairTy a b) (λ C W u v k w. limited P.format.limit P.types (PairTy a b) (PairV u v) k w)
           (sim x ts a h.1 env k s w i y) (λ k s w y. sim z ts b h.2 env k s w i y) (λ u v k s. grows_limited P (PairTy a b) (PairV u v) k s)
-          (λ u v k s w hu hv y. both_limited (PairTy a b) (PairV u v) (PairV (Proj a u) (Proj b v)) k s w refl (λ p q. held_pair P Deep a b u v hu hv p q) y))
+          (λ u v k s w hu hv y. both_limited (PairTy a b) (PairV u v) (PairV (Projected a u) (Projected b v)) k s w refl (λ p q. held_pair P Deep a b u v hu hv p q) y))
       sim (FstE a b x) ts t h env k s w i y =
           subst (Agrees (FstE a b x) ts env k s w) h.0
           (one x ts env k s w (PairTy a b) a (λ C W v k w. Gives (first_in v) k w) (sim x ts (PairTy a b) h.1 env k s w i y) (λ v k s. gives _ k s)
-          (λ v k s w hv y. both_gives a (first_in v) (first_in (Proj (PairTy a b) v)) k s w (held_first P Deep a b v hv) (first_projection P.types hash P a b v hv.ideal) y))
+          (λ v k s w hv y. both_gives a (first_in v) (first_in (Projected (PairTy a b) v)) k s w (held_first P Deep a b v hv) (first_projection P.types hash P a b v hv.ideal) y))
       sim (SndE a b x) ts t h env k s w i y =
           subst (Agrees (SndE a b x) ts env k s w) h.0
           (one x ts env k s w (PairTy a b) b (λ C W v k w. Gives (second_in v) k w) (sim x ts (PairTy a b) h.1 env k s w i y) (λ v k s. gives _ k s)
-          (λ v k s w hv y. both_gives b (second_in v) (second_in (Proj (PairTy a b) v)) k s w (held_second P Deep a b v hv) (second_projection P.types hash P a b v hv.ideal) y))
+          (λ v k s w hv y. both_gives b (second_in v) (second_in (Projected (PairTy a b) v)) k s w (held_second P Deep a b v hv) (second_projection P.types hash P a b v hv.ideal) y))
       sim (NotE x) ts t h env k s w i y =
           subst (Agrees (NotE x) ts env k s w) h.0
           (one x ts env k s w BoolTy BoolTy (λ C W v k w. Gives (BoolV (not (bool_in v))) k w) (sim x ts BoolTy h.1 env k s w i y) (λ v k s. gives _ k s)
@@ -222,21 +222,21 @@ module _ (hash : Hash) (P : Program) (format : IsFormat P.format) (Deep : Type 0
           both_gives IntTy (IntV (pos (length (text_in v)))) (IntV (pos (length (text_in v)))) k s w (held_int P format Deep (pos (length (text_in v))) (lt-ltb (length (text_in v)) (2 ^ 63) low)) refl y))
       sim (AuthE a x) ts t h env k s w i y =
           subst (Agrees (AuthE a x) ts env k s w) h.0
-          (after a (AuthTy a) (ideal_run x env k s) (checked_run x (Projs ts env) k w) (λ v k s. Gives v k s) (λ v k w. Gives (DigestV (digest_at hash P a (spelling v))) k w)
+          (after a (AuthTy a) (ideal_run x env k s) (checked_run x (AllProjected ts env) k w) (λ v k s. Gives v k s) (λ v k w. Gives (DigestV (digest_at hash P a (spelling v))) k w)
           (sim x ts a h.1 env k s w i y) (λ v k s. gives _ k s)
-          (λ v k s w hv y. both_gives (AuthTy a) v (Proj (AuthTy a) v) k s w (held_auth P format Deep a v hv) refl y))
+          (λ v k s w hv y. both_gives (AuthTy a) v (Projected (AuthTy a) v) k s w (held_auth P format Deep a v hv) refl y))
       sim (UnauthE a x) ts t h env k s w i y =
           subst (Agrees (UnauthE a x) ts env k s w) h.0
-          (after (AuthTy a) a (ideal_run x env k s) (checked_run x (Projs ts env) k w) (λ v k s. Gives v k (s ++ record { ty = a; value = v } ∷ [])) (λ v k w. with_fuel k (take_piece hash P a (digest_in v) w.place w.more w))
+          (after (AuthTy a) a (ideal_run x env k s) (checked_run x (AllProjected ts env) k w) (λ v k s. Gives v k (s ++ record { ty = a; value = v } ∷ [])) (λ v k w. with_fuel k (take_piece hash P a (digest_in v) w.place w.more w))
           (sim x ts (AuthTy a) h.1 env k s w i y) (λ v k s. record { added = _; is = refl })
           (λ v k s w hv y. opens hash P reads_back Deep began a v hv k s w y))
       sim (ConE number tag xs) ts t h env k s w i y =
           let q = on_fields (fields_at P.types number tag) (λ us. HaveTypes P ts xs us) h.1 in
           subst (Agrees (ConE number tag xs) ts env k s w) h.0
-          (after_all q.0 (NamedTy number) (ideal_run_all xs env k s) (checked_run_all xs (Projs ts env) k w) (λ vs k s. limited P.format.limit P.types (NamedTy number) (ConV tag vs) k s) (λ vs k w. limited P.format.limit P.types (NamedTy number) (ConV tag vs) k w)
+          (after_all q.0 (NamedTy number) (ideal_run_all xs env k s) (checked_run_all xs (AllProjected ts env) k w) (λ vs k s. limited P.format.limit P.types (NamedTy number) (ConV tag vs) k s) (λ vs k w. limited P.format.limit P.types (NamedTy number) (ConV tag vs) k w)
           (sim_all xs ts q.0 q.2 env k s w i y) (λ vs k s. grows_limited P (NamedTy number) (ConV tag vs) k s)
-          (λ vs k s w hv y. both_limited (NamedTy number) (ConV tag vs) (ConV tag (Projs q.0 vs)) k s w
-          (ap (λ o. ConV tag (Projs (unwrap_or o []) vs)) (sym q.1))
+          (λ vs k s w hv y. both_limited (NamedTy number) (ConV tag vs) (ConV tag (AllProjected q.0 vs)) k s w
+          (ap (λ o. ConV tag (AllProjected (unwrap_or o []) vs)) (sym q.1))
           (λ p d. held_con P Deep number tag q.0 vs q.1 hv p d) y))
       sim (ArithE op x z) ts t h env k s w i y =
           subst (Agrees (ArithE op x z) ts env k s w) h.0
@@ -260,48 +260,48 @@ module _ (hash : Hash) (P : Program) (format : IsFormat P.format) (Deep : Type 0
           (λ u v k s w hu hv y. both_limited TextTy (TextV (text_in u ++ text_in v)) (TextV (text_in u ++ text_in v)) k s w refl
           (λ p d. held_text P format Deep (text_in u ++ text_in v) (IsUtf8-append (text_in u) (text_in v) (utf8_in P.types u hu.ideal) (utf8_in P.types v hv.ideal)) p) y))
       sim (LetE a x body) ts t h env k s w i y =
-          after a t (ideal_run x env k s) (checked_run x (Projs ts env) k w) (λ v k s. ideal_run body (join env (AndV v NoV)) k s) (λ v k w. checked_run body (join (Projs ts env) (AndV v NoV)) k w)
+          after a t (ideal_run x env k s) (checked_run x (AllProjected ts env) k w) (λ v k s. ideal_run body (join env (AndV v NoV)) k s) (λ v k w. checked_run body (join (AllProjected ts env) (AndV v NoV)) k w)
           (sim x ts a h.0 env k s w i y) (λ v k s. grow body (join env (AndV v NoV)) k s)
           (λ v k s w hv y. joined body ts (a ∷ []) t env (AndV v NoV) k s w i
           (sim body (ts ++ a ∷ []) t h.1 (join env (AndV v NoV)) k s w (held_join P Deep ts (a ∷ []) env (AndV v NoV) i (hv, tt)) y))
       sim (IfE test first other) ts t h env k s w i y =
-          after BoolTy t (ideal_run test env k s) (checked_run test (Projs ts env) k w) (λ v k s. choose (bool_in v) (ideal_run first) (ideal_run other) env k s)
-          (λ v k w. choose (bool_in v) (checked_run first) (checked_run other) (Projs ts env) k w)
+          after BoolTy t (ideal_run test env k s) (checked_run test (AllProjected ts env) k w) (λ v k s. choose (bool_in v) (ideal_run first) (ideal_run other) env k s)
+          (λ v k w. choose (bool_in v) (checked_run first) (checked_run other) (AllProjected ts env) k w)
           (sim test ts BoolTy h.0 env k s w i y) (λ v k s. grows_choose (bool_in v) (ideal_run first) (ideal_run other) env k s (grow first env k s) (grow other env k s))
-          (λ v k s w hv y. both_choose t (bool_in v) (ideal_run first) (ideal_run other) _ _ env (Projs ts env) k s w (sim first ts t h.1 env k s w i y) (sim other ts t h.2 env k s w i y))
+          (λ v k s w hv y. both_choose t (bool_in v) (ideal_run first) (ideal_run other) _ _ env (AllProjected ts env) k s w (sim first ts t h.1 env k s w i y) (sim other ts t h.2 env k s w i y))
       sim (MatchE number x arms) ts t h env k s w i y =
-          after (NamedTy number) t (ideal_run x env k s) (checked_run x (Projs ts env) k w) (λ v k s. ideal_arm arms (tag_in v) (join env (fields_in v)) k s)
-          (λ v k w. checked_arm arms (tag_in v) (join (Projs ts env) (fields_in v)) k w)
+          after (NamedTy number) t (ideal_run x env k s) (checked_run x (AllProjected ts env) k w) (λ v k s. ideal_arm arms (tag_in v) (join env (fields_in v)) k s)
+          (λ v k w. checked_arm arms (tag_in v) (join (AllProjected ts env) (fields_in v)) k w)
           (sim x ts (NamedTy number) h.0 env k s w i y) (λ v k s. grows_arm P ideal_call ideal_grows arms (tag_in v) (join env (fields_in v)) k s)
           (λ v k s w hv y. at_con P.types (λ v. Held (NamedTy number) v → Both t (ideal_arm arms (tag_in v) (join env (fields_in v)) k s)
-          (checked_arm arms (tag_in (Proj (NamedTy number) v)) (join (Projs ts env) (fields_in (Proj (NamedTy number) v))) k w)) number v hv.ideal
-          (λ tag vs us e ideals hv. subst (λ o. Both t (ideal_arm arms tag (join env vs) k s) (checked_arm arms tag (join (Projs ts env) (Projs (unwrap_or o []) vs)) k w)) (sym e)
+          (checked_arm arms (tag_in (Projected (NamedTy number) v)) (join (AllProjected ts env) (fields_in (Projected (NamedTy number) v))) k w)) number v hv.ideal
+          (λ tag vs us e ideals hv. subst (λ o. Both t (ideal_arm arms tag (join env vs) k s) (checked_arm arms tag (join (AllProjected ts env) (AllProjected (unwrap_or o []) vs)) k w)) (sym e)
           (sim_arm arms ts (unwrap_or (slice_get P.types number) []) t h.1 tag us (tag_fields (slice_get P.types number) tag us e) env vs k s w i (held_parts P Deep number tag us vs e ideals hv) y)) hv)
       sim (CallE f args) ts t h env k s w i y =
           let typed : ((function_at P f).result ≡ t) × HaveTypes P ts args (function_at P f).parameters = on_function (slice_get P.functions f) (λ g. (g.result ≡ t) × HaveTypes P ts args g.parameters) h in
           subst (Agrees (CallE f args) ts env k s w) typed.0
-          (after_all (function_at P f).parameters (function_at P f).result (ideal_run_all args env k s) (checked_run_all args (Projs ts env) k w) (λ vs k s. ideal_call f vs k s) (λ vs k w. checked_call f vs k w)
+          (after_all (function_at P f).parameters (function_at P f).result (ideal_run_all args env k s) (checked_run_all args (AllProjected ts env) k w) (λ vs k s. ideal_call f vs k s) (λ vs k w. checked_call f vs k w)
           (sim_all args ts (function_at P f).parameters typed.1 env k s w i y) (λ vs k s. ideal_grows f vs k s) (λ vs k s w hv y. calls f vs k s w hv y))
 
       -- operands
-      sim_all : (xs : Expressions) (ts us : List Ty) → HaveTypes P ts xs us → (env : Values) (k : ℕ) (s : List Opened) (w : Taking) → AreHeld P Deep ts env → Sync s w → BothAll us (ideal_run_all xs env k s) (checked_run_all xs (Projs ts env) k w)
+      sim_all : (xs : Expressions) (ts us : List Ty) → HaveTypes P ts xs us → (env : Values) (k : ℕ) (s : List Opened) (w : Taking) → AreHeld P Deep ts env → Synced s w → BothAll us (ideal_run_all xs env k s) (checked_run_all xs (AllProjected ts env) k w)
       sim_all NoE ts [] h env k s w i y = agree_gives hash P Deep began (AreHeld P Deep []) (projections hash P []) NoV NoV k s w tt refl y
       sim_all NoE ts (u ∷ us) h env k s w i y = elim h [ ]
       sim_all (AndE x xs) ts [] h env k s w i y = elim h [ ]
       sim_all (AndE x xs) ts (u ∷ us) h env k s w i y =
-          agree_then hash P Deep began (IsHeld P Deep u) (projection hash P u) (AreHeld P Deep (u ∷ us)) (projections hash P (u ∷ us)) (ideal_run x env k s) (checked_run x (Projs ts env) k w)
-          (λ v k s. then_run (ideal_run_all xs env k s) (λ vs k s. Gives (AndV v vs) k s)) (λ v k w. then_run (checked_run_all xs (Projs ts env) k w) (λ vs k w. Gives (AndV v vs) k w))
+          agree_then hash P Deep began (IsHeld P Deep u) (projection hash P u) (AreHeld P Deep (u ∷ us)) (projections hash P (u ∷ us)) (ideal_run x env k s) (checked_run x (AllProjected ts env) k w)
+          (λ v k s. then_run (ideal_run_all xs env k s) (λ vs k s. Gives (AndV v vs) k s)) (λ v k w. then_run (checked_run_all xs (AllProjected ts env) k w) (λ vs k w. Gives (AndV v vs) k w))
           (sim x ts u h.0 env k s w i y)
           (λ v k s. grows_then s _ _ (grows_all P ideal_call ideal_grows xs env k s) (λ vs k s. gives _ k s))
-          (λ v k s w hv y. agree_then hash P Deep began (AreHeld P Deep us) (projections hash P us) (AreHeld P Deep (u ∷ us)) (projections hash P (u ∷ us)) (ideal_run_all xs env k s) (checked_run_all xs (Projs ts env) k w)
-          (λ vs k s. Gives (AndV v vs) k s) (λ vs k w. Gives (AndV (Proj u v) vs) k w)
+          (λ v k s w hv y. agree_then hash P Deep began (AreHeld P Deep us) (projections hash P us) (AreHeld P Deep (u ∷ us)) (projections hash P (u ∷ us)) (ideal_run_all xs env k s) (checked_run_all xs (AllProjected ts env) k w)
+          (λ vs k s. Gives (AndV v vs) k s) (λ vs k w. Gives (AndV (Projected u v) vs) k w)
           (sim_all xs ts us h.1 env k s w i y) (λ vs k s. gives _ k s)
-          (λ vs k s w hvs y. agree_gives hash P Deep began (AreHeld P Deep (u ∷ us)) (projections hash P (u ∷ us)) (AndV v vs) (AndV (Proj u v) (Projs us vs)) k s w (hv, hvs) refl y))
+          (λ vs k s w hvs y. agree_gives hash P Deep began (AreHeld P Deep (u ∷ us)) (projections hash P (u ∷ us)) (AndV v vs) (AndV (Projected u v) (AllProjected us vs)) k s w (hv, hvs) refl y))
 
       -- the arm of a tag, with the fields as locals behind the ones there
       sim_arm : (arms : Arms) (ts : List Ty) (cs : List (List Ty)) (t : Ty) → HaveArms P ts cs arms t → (tag : ℕ) (us : List Ty) → slice_get cs tag ≡ Some us
-          → (env vs : Values) (k : ℕ) (s : List Opened) (w : Taking) → AreHeld P Deep ts env → AreHeld P Deep us vs → Sync s w
-          → Both t (ideal_arm arms tag (join env vs) k s) (checked_arm arms tag (join (Projs ts env) (Projs us vs)) k w)
+          → (env vs : Values) (k : ℕ) (s : List Opened) (w : Taking) → AreHeld P Deep ts env → AreHeld P Deep us vs → Synced s w
+          → Both t (ideal_arm arms tag (join env vs) k s) (checked_arm arms tag (join (AllProjected ts env) (AllProjected us vs)) k w)
       sim_arm NoArm ts [] t h tag us e env vs k s w i j y = cc
       sim_arm NoArm ts (c ∷ cs) t h tag us e env vs k s w i j y = elim h [ ]
       sim_arm (AndArm body arms) ts [] t h tag us e env vs k s w i j y = elim h [ ]
