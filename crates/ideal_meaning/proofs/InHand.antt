@@ -53,6 +53,7 @@ module _ (P : Program) (Deep : Type 0) where
   AreHeld [] (AndV v vs) = ⊥
   AreHeld (t ∷ ts) (AndV v vs) = IsHeld t v × AreHeld ts vs
 
+  -- what is known of each, of all
   ideals_of : (ts : List Ty) (vs : Values) → AreHeld ts vs → AreIdeal P.types ts vs
   ideals_of [] NoV h = tt
   ideals_of (t ∷ ts) NoV h = elim h [ ]
@@ -65,6 +66,7 @@ module _ (P : Program) (Deep : Type 0) where
   deeps_of [] (AndV v vs) h l = tt
   deeps_of (t ∷ ts) (AndV v vs) h l = (h.0.deep l, deeps_of ts vs h.1 l)
 
+  -- fields of a value in hand, and the arguments of a call from outside
   held_fields : (ts : List Ty) (vs : Values) → AreIdeal P.types ts vs → sizes P.types ts vs ≤ P.format.limit → depths P.types ts vs ≤ depth_limit → (Deep → AuthWithinAll P.format.limit P.types ts vs) → AreHeld ts vs
   held_fields [] NoV h s d l = tt
   held_fields (t ∷ ts) NoV h s d l = elim h [ ]
@@ -81,7 +83,7 @@ module _ (P : Program) (Deep : Type 0) where
   held_inputs (t ∷ ts) (AndV v vs) h w l =
       (record { ideal = h.0; within = w.0; deep = λ p. (l p).0 }, held_inputs ts vs h.1 w.1 (λ p. (l p).1))
 
-  -- locals
+  -- locals, and their projections
   pub held_local : (ts : List Ty) (vs : Values) (i : ℕ) (t : Ty) → AreHeld ts vs → slice_get ts i ≡ Some t → IsHeld t (local vs i)
   held_local [] vs i t h e = cc
   held_local (u ∷ ts) NoV i t h e = elim h [ ]

@@ -48,7 +48,8 @@ Step = (C W : Type 0) → Value → ℕ → W → Run C W Value
 abbrev StepOnTwo : Type 1
 StepOnTwo = (C W : Type 0) → Value → Value → ℕ → W → Run C W Value
 
--- In all that follows k is the fuel left, s what was opened so far, w the verifier's state, and y says that w fits s.
+-- In all that follows k is the fuel left, s what was opened so far, w the verifier's state, y says that w fits s, and i that the
+-- locals are known as values in hand.
 module _ (hash : Hash) (P : Program) (format : IsFormat P.format) (Deep : Type 0) (began : Taking) where
   abbrev Projected : Ty → Value → Value
   Projected t v = projection hash P t v
@@ -139,6 +140,7 @@ module _ (hash : Hash) (P : Program) (format : IsFormat P.format) (Deep : Type 0
       (ideal_grows : (f : ℕ) (vs : Values) (k : ℕ) (s : List Opened) → Grows s (ideal_call f vs k s))
       (calls : (f : ℕ) (vs : Values) (k : ℕ) (s : List Opened) (w : Taking) → AreHeld P Deep (function_at P f).parameters vs → Synced s w
       → Both (function_at P f).result (ideal_call f vs k s) (checked_call f (projections hash P (function_at P f).parameters vs) k w)) where
+    -- the two runs of an expression, of operands and of arms
     abbrev ideal_run : Expression → Values → ℕ → List Opened → Run ⊥ (List Opened) Value
     ideal_run e env k s = run P ideal_mode ideal_call e env k s
 
@@ -157,6 +159,7 @@ module _ (hash : Hash) (P : Program) (format : IsFormat P.format) (Deep : Type 0
     abbrev checked_arm : Arms → ℕ → Values → ℕ → Taking → Run Cause Taking Value
     checked_arm arms tag env k w = run_arm P (checked_mode hash P) checked_call arms tag env k w
 
+    -- the ideal run only adds to what was opened
     grow : (e : Expression) (env : Values) (k : ℕ) (s : List Opened) → Grows s (ideal_run e env k s)
     grow e env k s = grows P ideal_call ideal_grows e env k s
 
@@ -189,6 +192,7 @@ module _ (hash : Hash) (P : Program) (format : IsFormat P.format) (Deep : Type 0
         subst (λ shallow. Both t (ideal_run e (join env vs) k s) (checked_run e shallow k w)) (join_projection P Deep hash ts us env vs i) h
 
     mutual
+      -- an expression of type t
       pub sim : (e : Expression) (ts : List Ty) (t : Ty) → HasType P ts e t → (env : Values) (k : ℕ) (s : List Opened) (w : Taking) → AreHeld P Deep ts env → Synced s w → Agrees e ts env k s w t
       sim UnitE ts t h env k s w i y = subst (Agrees UnitE ts env k s w) h (both_gives UnitTy UnitV UnitV k s w (held_unit P format Deep) refl y)
       sim (BoolE b) ts t h env k s w i y = subst (Agrees (BoolE b) ts env k s w) h (both_gives BoolTy (BoolV b) (BoolV b) k s w (held_bool P format Deep b) refl y)
