@@ -1,5 +1,6 @@
 -- The laws, from the lemmas.
-use Rattle.core_terms.specs.Laws.{NoneIsPrefix, OneIsSpelled, PlainIsOwnProjection, ProjectionIsReadBack, ProjectionIsShallow, ProjectionKeepsLimits, ReadingIsExact, ShapeTestIsExact, SizeIsLength, TypingTestIsExact}
+use Rattle.std.proofs.Common.{refl, lit<, lit≤}
+use Rattle.core_terms.specs.Laws.{FirstFormatIsFormat, NoneIsPrefix, OneIsSpelled, PlainIsOwnProjection, ProjectionIsReadBack, ProjectionIsShallow, ProjectionKeepsLimits, ReadingIsExact, ShapeTestIsExact, SizeIsLength, TypingTestIsExact}
 use Rattle.core_terms.proofs.Plain.{own}
 use Rattle.core_terms.proofs.Projection.{size_shallow, depth_shallow}
 use Rattle.core_terms.proofs.ReadBack.{shallow_is, reads_back}
@@ -8,6 +9,10 @@ use Rattle.core_terms.proofs.Shapes.{roles_sound, roles_complete}
 use Rattle.core_terms.proofs.Spelled.{length_spelling, spells_read, spells_one, spells_prefix}
 use Rattle.core_terms.proofs.TypingComplete.{typed_complete}
 use Rattle.core_terms.proofs.TypingSound.{typed_sound}
+
+pub first_format_is_format : FirstFormatIsFormat
+first_format_is_format most small =
+    record { digest_length = λ hash is_hash t bytes. is_hash bytes; limit_fits = lit< tt; limit_holds = lit≤ tt; magic_length = refl; kept_fits = small }
 
 pub reading_is_exact : ReadingIsExact
 reading_is_exact limit fits types bytes t s h = (λ r. spells_read types limit fits bytes t s r, λ r. read_spells types limit bytes t s _ r.0 h r.1)

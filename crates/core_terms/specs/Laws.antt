@@ -1,12 +1,17 @@
 -- The laws of spelling, projection and typing: what a reader may hold the definitions to.
 use Rattle.std.specs.Prelude.{◌≡◌, ◌⊎◌, ◌↔◌, ◌<◌, ◌^◌, ℕ, true, List, [], ◌++◌, length, Some, slice_get}
 use Rattle.core_terms.specs.Types.{Ty, Table}
+use Rattle.core_terms.specs.Formats.{IsFormat, first_format}
 use Rattle.core_terms.specs.Values.{Value, IsIdeal, IsShallow, IsWithin, size, depth}
 use Rattle.core_terms.specs.Spelling.{AreBytes, Spells, spelling, shallow}
 use Rattle.core_terms.specs.Reading.{Good, BadAt, read}
 use Rattle.core_terms.specs.Terms.{Function, Program, IsTyped}
 use Rattle.core_terms.specs.Roles.{IsPlain, IsRole, is_entered}
 use Rattle.core_terms.specs.Typing.{is_typed, is_shaped}
+
+-- The first format is one, with whatever greatest ring size fits its field.
+abbrev pub FirstFormatIsFormat : Type 0
+FirstFormatIsFormat = (most : ℕ) → most < 2 ^ 16 → IsFormat (first_format most)
 
 -- Bytes are read as a value exactly where they spell it, in a format whose limit fits the length field of a text.
 abbrev pub ReadingIsExact : Type 0
