@@ -10,6 +10,10 @@ use Rattle.core_terms.proofs.Spelled.{length_spelling, spells_read, spells_one, 
 use Rattle.core_terms.proofs.TypingComplete.{typed_complete}
 use Rattle.core_terms.proofs.TypingSound.{typed_sound}
 
+pub first_format_is_format : FirstFormatIsFormat
+first_format_is_format most small =
+    record { digest_length = λ hash is_hash t bytes. is_hash bytes; limit_fits = lit< tt; limit_holds = lit≤ tt; magic_length = refl; kept_fits = small }
+
 pub reading_is_exact : ReadingIsExact
 reading_is_exact limit fits types bytes t s h = (λ r. spells_read types limit fits bytes t s r, λ r. read_spells types limit bytes t s _ r.0 h r.1)
 
@@ -39,6 +43,3 @@ typing_test_is_exact P = (typed_sound P, typed_complete P)
 
 pub shape_test_is_exact : ShapeTestIsExact
 shape_test_is_exact P = (roles_sound P, roles_complete P)
-
-pub first_format_is_format : FirstFormatIsFormat
-first_format_is_format most fits = record { digest_length = λ hash h t bytes. h bytes; limit_fits = lit< tt; limit_holds = lit≤ tt; magic_length = refl; kept_fits = fits }

@@ -9,6 +9,10 @@ use Rattle.core_terms.specs.Terms.{Function, Program, IsTyped}
 use Rattle.core_terms.specs.Roles.{IsPlain, IsRole, is_entered}
 use Rattle.core_terms.specs.Typing.{is_typed, is_shaped}
 
+-- The first format is one, with whatever greatest ring size fits its field.
+abbrev pub FirstFormatIsFormat : Type 0
+FirstFormatIsFormat = (most : ℕ) → most < 2 ^ 16 → IsFormat (first_format most)
+
 -- Bytes are read as a value exactly where they spell it, in a format whose limit fits the length field of a text.
 abbrev pub ReadingIsExact : Type 0
 ReadingIsExact = (limit : ℕ) → limit < 2 ^ 32 → (types : Table) (bytes : List ℕ) (t : Ty) (s : Value) → AreBytes bytes
@@ -61,7 +65,3 @@ ProjectionIsReadBack = (digest : Ty → List ℕ → List ℕ) → ((t : Ty) (by
     → let projected = shallow digest types t v in
     (IsWithin limit types t v × ((place : ℕ) × (read limit types t (spelling projected) ≡ Good projected [] place)))
     ⊎ ((IsWithin limit types t v → ⊥) × ((place : ℕ) × (read limit types t (spelling projected) ≡ BadAt place)))
-
--- The first format is one, for each ring size that fits its field.
-abbrev pub FirstFormatIsFormat : Type 0
-FirstFormatIsFormat = (most : ℕ) → most < 2 ^ 16 → IsFormat (first_format most)

@@ -1,6 +1,12 @@
 //! The laws of the definitions in `specs/`: each is a function without parameters, whose contract is the law.
 ghost use Rattle.core_terms.specs.Laws.{FirstFormatIsFormat, NoneIsPrefix, OneIsSpelled, PlainIsOwnProjection, ProjectionIsReadBack, ProjectionIsShallow, ProjectionKeepsLimits, ReadingIsExact, ShapeTestIsExact, SizeIsLength, TypingTestIsExact};
 
+/// The first format is one that the laws speak of: its numbers fit their fields, its limit holds each text literal, and its
+/// digests are as long as those of the hash.
+pub fn formats()
+    ensures { FirstFormatIsFormat }
+{}
+
 /// Bytes are read as a value exactly where they spell it; a string spells one value at a type at most; no spelling at a type
 /// is a proper prefix of another; the size of a value is the length of its spelling.
 pub fn spelling()
@@ -24,9 +30,4 @@ pub fn projection()
 pub fn typing()
     ensures types { TypingTestIsExact }
     ensures shapes { ShapeTestIsExact }
-{}
-
-/// The first format is one: its digests have 32 bytes where the hash gives 32, and its numbers fit their fields.
-pub fn format()
-    ensures { FirstFormatIsFormat }
 {}

@@ -31,11 +31,11 @@ at_start hash P Deep began =
 module _ (hash : Hash) (P : Program) (format : IsFormat P.format) (typed : IsTyped P) (reads_back : (t : Ty) (v : Value) → IsIdeal P.types t v → ReadsBack hash P t v) (Deep : Type 0) (began : Taking) where
   -- calls with any bound on nesting, wherever the runs stand
   calls : (n f : ℕ) (vs : Values) (k : ℕ) (s : List Opened) (w : Taking) → AreHeld P Deep (function_at P f).parameters vs → InStep hash P Deep began s w
-      → Both hash P format reads_back Deep began (function_at P f).result (call P ideal_mode n f vs k s) (call P (checked_mode hash P) n f (projections hash P (function_at P f).parameters vs) k w)
+      → Both hash P format Deep began (function_at P f).result (call P ideal_mode n f vs k s) (call P (checked_mode hash P) n f (projections hash P (function_at P f).parameters vs) k w)
   calls zero f vs k s w h y = inl (w, refl, y)
   calls (suc n) f vs zero s w h y = inl (w, refl, y)
   calls (suc n) f vs (suc k) s w h y =
-      sim hash P format reads_back Deep began (call P ideal_mode n) (call P (checked_mode hash P) n) (grows_call P n) (calls n)
+      sim hash P format Deep began reads_back (call P ideal_mode n) (call P (checked_mode hash P) n) (grows_call P n) (calls n)
       (function_at P f).body (function_at P f).parameters (function_at P f).result (typed_at P typed f) vs k s w h y
 
   -- a call from outside, on values within the limits

@@ -6,34 +6,39 @@ use Rattle.core_terms.specs.Values.{Value, UnitV, BoolV, IntV, TextV, PairV, Con
 use Rattle.core_terms.specs.Formats.{Hash, IsFormat, depth_limit}
 use Rattle.core_terms.specs.Terms.{Program}
 use Rattle.core_terms.specs.Projection.{projection, projections, Fits, AllFit}
-use Rattle.ideal_meaning.specs.Run.{local, join, first_in, second_in}
+use Rattle.ideal_meaning.specs.Run.{local, join, first_in, second_in, int_in, text_in}
 
+-- the parts of an ideal value of a known type
 module _ (types : Table) where
-  -- the shape of an ideal value of a known type
-  pub at_unit : (P : Value → Type 0) (v : Value) → IsIdeal types UnitTy v → P UnitV → P v
-  at_unit P UnitV h f = f
-  at_unit P _ h f = elim h [ ]
+  pub int_fits_in : (v : Value) → IsIdeal types IntTy v → int_fits (int_in v) ≡ true
+  int_fits_in (IntV z) h = h
+  int_fits_in _ h = elim h [ ]
 
-  pub at_bool : (P : Value → Type 0) (v : Value) → IsIdeal types BoolTy v → ((b : Bool) → P (BoolV b)) → P v
-  at_bool P (BoolV b) h f = f b
-  at_bool P _ h f = elim h [ ]
+  pub utf8_in : (v : Value) → IsIdeal types TextTy v → IsUtf8 (text_in v)
+  utf8_in (TextV bytes) h = h
+  utf8_in _ h = elim h [ ]
 
-  pub at_int : (P : Value → Type 0) (v : Value) → IsIdeal types IntTy v → ((z : ℤ) → int_fits z ≡ true → P (IntV z)) → P v
-  at_int P (IntV z) h f = f z h
-  at_int P _ h f = elim h [ ]
+  pub length_in : (v : Value) → IsIdeal types TextTy v → size types TextTy v ≡ 4 + length (text_in v)
+  length_in (TextV bytes) h = refl
+  length_in _ h = elim h [ ]
 
-  pub at_text : (P : Value → Type 0) (v : Value) → IsIdeal types TextTy v → ((bytes : List ℕ) → IsUtf8 bytes → P (TextV bytes)) → P v
-  at_text P (TextV bytes) h f = f bytes h
-  at_text P _ h f = elim h [ ]
+  at_pair : (Q : Value → Type 0) (a b : Ty) (v : Value) → IsIdeal types (PairTy a b) v → ((x y : Value) → IsIdeal types a x → IsIdeal types b y → Q (PairV x y)) → Q v
+  at_pair Q a b (PairV x y) h f = f x y h.0 h.1
+  at_pair Q a b _ h f = elim h [ ]
 
-  pub at_pair : (P : Value → Type 0) (a b : Ty) (v : Value) → IsIdeal types (PairTy a b) v → ((x y : Value) → IsIdeal types a x → IsIdeal types b y → P (PairV x y)) → P v
-  at_pair P a b (PairV x y) h f = f x y h.0 h.1
-  at_pair P a b _ h f = elim h [ ]
+  pub first_projection : (hash : Hash) (P : Program) (a b : Ty) (v : Value) → IsIdeal types (PairTy a b) v → first_in (projection hash P (PairTy a b) v) ≡ projection hash P a (first_in v)
+  first_projection hash P a b (PairV x y) h = refl
+  first_projection hash P a b _ h = elim h [ ]
 
-  pub at_con : (P : Value → Type 0) (n : ℕ) (v : Value) → IsIdeal types (NamedTy n) v → ((tag : ℕ) (vs : Values) (ts : List Ty) → fields_at types n tag ≡ Some ts → AreIdeal types ts vs → P (ConV tag vs)) → P v
-  at_con P n (ConV tag vs) h f =
+  pub second_projection : (hash : Hash) (P : Program) (a b : Ty) (v : Value) → IsIdeal types (PairTy a b) v → second_in (projection hash P (PairTy a b) v) ≡ projection hash P b (second_in v)
+  second_projection hash P a b (PairV x y) h = refl
+  second_projection hash P a b _ h = elim h [ ]
+
+  pub at_con : (Q : Value → Type 0) (n : ℕ) (v : Value) → IsIdeal types (NamedTy n) v
+      → ((tag : ℕ) (vs : Values) (ts : List Ty) → fields_at types n tag ≡ Some ts → AreIdeal types ts vs → Q (ConV tag vs)) → Q v
+  at_con Q n (ConV tag vs) h f =
       let r = on_fields (fields_at types n tag) (λ ts. AreIdeal types ts vs) h in f tag vs r.0 r.1 r.2
-  at_con P n _ h f = elim h [ ]
+  at_con Q n _ h f = elim h [ ]
 
 module _ (P : Program) (Deep : Type 0) where
   -- a value in hand: ideal, within the limits, and, under the premise Deep, with all that is authenticated in it within them
@@ -48,19 +53,21 @@ module _ (P : Program) (Deep : Type 0) where
   AreHeld [] (AndV v vs) = ⊥
   AreHeld (t ∷ ts) (AndV v vs) = IsHeld t v × AreHeld ts vs
 
-  pub ideals_of : (ts : List Ty) (vs : Values) → AreHeld ts vs → AreIdeal P.types ts vs
+  -- what is known of each, of all
+  ideals_of : (ts : List Ty) (vs : Values) → AreHeld ts vs → AreIdeal P.types ts vs
   ideals_of [] NoV h = tt
   ideals_of (t ∷ ts) NoV h = elim h [ ]
   ideals_of [] (AndV v vs) h = elim h [ ]
   ideals_of (t ∷ ts) (AndV v vs) h = (h.0.ideal, ideals_of ts vs h.1)
 
-  pub deeps_of : (ts : List Ty) (vs : Values) → AreHeld ts vs → Deep → AuthWithinAll P.format.limit P.types ts vs
+  deeps_of : (ts : List Ty) (vs : Values) → AreHeld ts vs → Deep → AuthWithinAll P.format.limit P.types ts vs
   deeps_of [] NoV h l = tt
   deeps_of (t ∷ ts) NoV h l = tt
   deeps_of [] (AndV v vs) h l = tt
   deeps_of (t ∷ ts) (AndV v vs) h l = (h.0.deep l, deeps_of ts vs h.1 l)
 
-  pub held_fields : (ts : List Ty) (vs : Values) → AreIdeal P.types ts vs → sizes P.types ts vs ≤ P.format.limit → depths P.types ts vs ≤ depth_limit → (Deep → AuthWithinAll P.format.limit P.types ts vs) → AreHeld ts vs
+  -- fields of a value in hand, and the arguments of a call from outside
+  held_fields : (ts : List Ty) (vs : Values) → AreIdeal P.types ts vs → sizes P.types ts vs ≤ P.format.limit → depths P.types ts vs ≤ depth_limit → (Deep → AuthWithinAll P.format.limit P.types ts vs) → AreHeld ts vs
   held_fields [] NoV h s d l = tt
   held_fields (t ∷ ts) NoV h s d l = elim h [ ]
   held_fields [] (AndV v vs) h s d l = elim h [ ]
@@ -76,7 +83,7 @@ module _ (P : Program) (Deep : Type 0) where
   held_inputs (t ∷ ts) (AndV v vs) h w l =
       (record { ideal = h.0; within = w.0; deep = λ p. (l p).0 }, held_inputs ts vs h.1 w.1 (λ p. (l p).1))
 
-  -- locals
+  -- locals, and their projections
   pub held_local : (ts : List Ty) (vs : Values) (i : ℕ) (t : Ty) → AreHeld ts vs → slice_get ts i ≡ Some t → IsHeld t (local vs i)
   held_local [] vs i t h e = cc
   held_local (u ∷ ts) NoV i t h e = elim h [ ]

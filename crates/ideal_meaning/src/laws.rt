@@ -5,21 +5,28 @@ ghost use Rattle.ideal_meaning.specs.Agreement.{Agreement};
 ghost use Rattle.ideal_meaning.specs.Laws.{BoundIsEnough, FrameBoundIsEnough, OneSplit, ProofFileIsReadBack};
 ghost use Rattle.ideal_meaning.specs.Table.{IdealTable};
 
-/// What is accepted is true, or a collision of the hash is shown and its place named.
+/// The headline: what a verifier accepts is true, or a collision of the hash is shown and its place named.
 ///
-/// `frames` says it of the frames of a proof alone, over whatever pieces were kept before. `file` says it of the bytes of a
-/// proof file, whoever made them, given no more of the state and of the argument than the spellings of their projections.
+/// For each well-typed program, each function, ideal state and argument, fuel and proof, whoever made it: if the outcome
+/// is accepted, then the offered pieces are the honest ones and the outcome is the projection of the ideal one, or the
+/// first offered piece that differs from the honest one has its digest. Of the hash nothing is asked but 32 bytes.
+/// `frames` says it of the frames of a proof alone, over whatever pieces were kept before. `file` says it of the bytes of
+/// a proof file, given no more of the state and of the argument than the spellings of their projections.
 pub fn headline()
     ensures frames { HeadlineOfFrames }
     ensures file { Headline }
 {}
 
-/// The proof file of the honest pieces is accepted, with the projection of the ideal outcome.
+/// The headline's companion: the proof file of the honest pieces is accepted, with the projection of the ideal outcome.
+///
+/// The state and the argument are within the limits, and so is each authenticated value in the state; the ring size is
+/// any that the format allows.
 pub fn companion()
     ensures { Companion }
 {}
 
-/// On ideal values and their projections the ideal and the checked run do the same, or part at one opening.
+/// The relation behind both: called on ideal values and on their projections, with the same fuel and whatever pieces are
+/// offered, the ideal and the checked run do the same, or part at one opening.
 pub fn agreement()
     ensures { Agreement }
 {}

@@ -1,5 +1,5 @@
 use Rattle.core_terms.proofs.LawProofs.{first_format_is_format}
-use Rattle.core_terms.proofs.laws.format.Goals as goal
+use Rattle.core_terms.proofs.laws.formats.Goals as goal
 
 pub returns : goal.returns
 returns c = first_format_is_format
