@@ -1,0 +1,103 @@
+// What `verify` says of proofs, and what it does where the outside fails.
+use crate::stage::{OPEN, PROOF, STATE, Stage, files, sink, stage, verdict};
+use auth_cli::run;
+use std::test::Fail;
+
+const WORDS: [&str; 8] = ["lamauth", "verify", "p", "open", "s", "()", "1", "q"];
+
+/// A proof with this fuel: its bytes, the status and the line.
+const PROOFS: [(&[u8], &str, u8, &str); 19] = [
+    (b"LAP1\0\0\0\0\0\0\0", "1", 0, "done ()\n"),
+    (b"LAP1\0\0\0\0\0\0\0", "1000000000000", 0, "done ()\n"),
+    // nothing is left, and a header that isn't whole, begins otherwise, or asks for a ring
+    (b"LAP1\0\0", "1", 5, "rejected\n"),
+    (b"LAP1\0", "1", 5, "rejected\n"),
+    (b"", "1", 5, "rejected\n"),
+    (b"LAP2\0\0\0\0\0\0\0", "1", 5, "rejected\n"),
+    (b"LAP1\0\x01\0\0\0\0\0", "1", 5, "rejected\n"),
+    // a frame that is cut in its length, in its piece and in its number
+    (b"LAP1\0\0\0\0\0", "1", 5, "rejected\n"),
+    (b"LAP1\0\0\0\0\0\0\x01", "1", 5, "rejected\n"),
+    (b"LAP1\0\0\x01\0", "1", 5, "rejected\n"),
+    // another piece, and one longer than the limit
+    (b"LAP1\0\0\0\0\0\0\x01\0", "1", 5, "rejected\n"),
+    (b"LAP1\0\0\0\0\x01\0\x01", "1", 5, "rejected\n"),
+    // bytes left behind, another kind of frame, and a piece that isn't kept
+    (b"LAP1\0\0\0\0\0\0\0\0", "1", 5, "rejected\n"),
+    (b"LAP1\0\0\x07", "1", 5, "rejected\n"),
+    (b"LAP1\0\0\x01\0\0", "1", 5, "rejected\n"),
+    // no fuel
+    (b"LAP1\0\0", "0", 4, "out of fuel\n"),
+    (b"LAP1\0\0", "00000000000000000000", 4, "out of fuel\n"),
+    (b"LAP1\0\0\0\0\0\0\0", "0", 5, "rejected\n"),
+    (b"LAP1\0", "0", 5, "rejected\n"),
+];
+
+#[test]
+fn proofs_are_judged(rt: HostRuntime) -> Result<(), Fail> {
+    for (proof, fuel, status, line) in PROOFS {
+        verdict(&rt, &stage(OPEN, &STATE, proof), fuel, status, line)?;
+    }
+    Ok(())
+}
+
+#[test]
+fn reads_of_few_bytes_change_nothing(rt: HostRuntime) -> Result<(), Fail> {
+    for most_read in [1, 2, 3, 7] {
+        for (proof, fuel, status, line) in PROOFS {
+            let stage = Stage {
+                program: OPEN,
+                state: &STATE,
+                proof,
+                most_read,
+            };
+            verdict(&rt, &stage, fuel, status, line)?;
+        }
+    }
+    Ok(())
+}
+
+// The state of the state of `()`: a piece of 32 bytes, then one of none.
+#[test]
+fn nested_states_are_opened(rt: HostRuntime) -> Result<(), Fail> {
+    let program = b"state auth auth unit; init make(x: unit): auth auth unit = auth(auth(x)); query open(s: auth auth unit, x: unit): unit = unauth(unauth(s)); query top(s: auth auth unit, x: unit): auth unit = unauth(s);";
+    let state = [
+        0x5d, 0xf6, 0xe0, 0xe2, 0x76, 0x13, 0x59, 0xd3, 0x0a, 0x82, 0x75, 0x05, 0x8e, 0x29, 0x9f,
+        0xcc, 0x03, 0x81, 0x53, 0x45, 0x45, 0xf5, 0x5c, 0xf4, 0x3e, 0x41, 0x98, 0x3f, 0x5d, 0x4c,
+        0x94, 0x56,
+    ];
+    let proof = b"LAP1\0\0\0\0\0\0\x20\xe3\xb0\xc4\x42\x98\xfc\x1c\x14\x9a\xfb\xf4\xc8\x99\x6f\xb9\x24\x27\xae\x41\xe4\x64\x9b\x93\x4c\xa4\x95\x99\x1b\x78\x52\xb8\x55\0\0\0\0\0";
+    verdict(&rt, &stage(program, &state, proof), "1", 0, "done ()\n")?;
+    let words = ["verify", "p", "top", "s", " ( ) # the argument", "1", "q"];
+    let line = "done #e3b0c44298fc1c149afbf4c8996fb92427ae41e4649b934ca495991b7852b855\n";
+    crate::stage::tells(&rt, &stage(program, &state, &proof[..43]), &words, 0, line)
+}
+
+#[test]
+fn stops_at_a_failed_write(rt: HostRuntime) -> Result<(), Fail> {
+    let alloc = rt.alloc();
+    let mut files = files(alloc, &stage(OPEN, &STATE, PROOF), &[])?;
+    let mut out = sink(alloc, 2, &[2])?;
+    assert_eq!(rt; run(alloc, &WORDS, &mut files, &mut out), 9);
+    assert_eq!(rt; out.bytes(), b"done".as_slice());
+    Ok(())
+}
+
+// For each of the three files: start, a read of all, a read at the end.
+#[test]
+fn each_call_of_the_files_fails_once(rt: HostRuntime) -> Result<(), Fail> {
+    let alloc = rt.alloc();
+    for call in 0..10 {
+        let mut files = files(alloc, &stage(OPEN, &STATE, PROOF), &[call])?;
+        let mut out = sink(alloc, 100, &[])?;
+        let told = run(alloc, &WORDS, &mut files, &mut out);
+        let (status, line): (u8, &[u8]) = if call < 9 {
+            (8, b"read fault\n")
+        } else {
+            (0, b"done ()\n")
+        };
+        assert_eq!(rt; told, status, "at call {call}");
+        assert_eq!(rt; out.bytes(), line, "at call {call}");
+    }
+    Ok(())
+}
