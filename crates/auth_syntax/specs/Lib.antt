@@ -1,0 +1,4 @@
+pub mod Syntax
+pub mod Tokens
+pub mod Grammar
+pub mod Trees

@@ -1,0 +1,5 @@
+//! The syntax of lambda-auth: from the bytes of a text to the tree of a program or of a literal.
+#![tactic(auto)]
+
+pub mod name;
+pub mod tree;
