@@ -1,4 +1,6 @@
 pub mod Syntax
 pub mod Tokens
 pub mod Grammar
+pub mod Parsing
 pub mod Trees
+pub mod Laws
