@@ -7,12 +7,12 @@ use Rattle.auth_syntax.specs.Grammar.{nesting_limit}
 -- what stands at the head of some tokens, with the tokens behind it; or that no such thing stands there
 pub data Reading (A : Type 0) : Type 0 where
   Found : (value : A) (rest : List Token) → Reading A
-  Refused : Reading A
+  NotFound : Reading A
 
 -- reads on behind what was found
 abbrev pub then_read : {A B : Type 0} → Reading A → (A → List Token → Reading B) → Reading B
 then_read (Found value rest) go = go value rest
-then_read Refused go = Refused
+then_read NotFound go = NotFound
 
 abbrev pub is_mark : Mark → Mark → Bool
 is_mark LeftParenthesis LeftParenthesis = true
@@ -25,19 +25,19 @@ is_mark wanted found = false
 
 -- this mark
 abbrev pub read_mark : Mark → List Token → Reading (Unit {0})
-read_mark wanted (MarkToken found ∷ rest) = if is_mark wanted found then Found tt rest else Refused
-read_mark wanted tokens = Refused
+read_mark wanted (MarkToken found ∷ rest) = if is_mark wanted found then Found tt rest else NotFound
+read_mark wanted tokens = NotFound
 
 abbrev pub read_name : List Token → Reading (List ℕ)
 read_name (NameToken bytes ∷ rest) = Found bytes rest
-read_name tokens = Refused
+read_name tokens = NotFound
 
 -- a type, of at most so many levels
 abbrev pub read_type : ℕ → List Token → Reading TypeSyntax
 read_type (suc levels) (KeywordToken UnitWord ∷ rest) = Found UnitTypeSyntax rest
 read_type (suc levels) (KeywordToken AuthWord ∷ rest) =
     then_read (read_type levels rest) (λ inner rest. Found (AuthTypeSyntax inner) rest)
-read_type levels tokens = Refused
+read_type levels tokens = NotFound
 
 -- what is read between parentheses
 abbrev pub read_parenthesized : {A : Type 0} → (List Token → Reading A) → List Token → Reading A
@@ -55,7 +55,7 @@ read_expression (suc levels) (KeywordToken AuthWord ∷ rest) =
     then_read (read_parenthesized (read_expression levels) rest) (λ inner rest. Found (AuthSyntax inner) rest)
 read_expression (suc levels) (KeywordToken UnauthWord ∷ rest) =
     then_read (read_parenthesized (read_expression levels) rest) (λ inner rest. Found (UnauthSyntax inner) rest)
-read_expression levels tokens = Refused
+read_expression levels tokens = NotFound
 
 abbrev pub read_parameter : List Token → Reading ParameterSyntax
 read_parameter tokens =
@@ -67,11 +67,11 @@ read_parameter tokens =
 abbrev pub read_more_parameters : (List Token → Reading (List ParameterSyntax)) → List Token → Reading (List ParameterSyntax)
 read_more_parameters more (MarkToken RightParenthesis ∷ rest) = Found [] rest
 read_more_parameters more (MarkToken Comma ∷ rest) = more rest
-read_more_parameters more tokens = Refused
+read_more_parameters more tokens = NotFound
 
 -- at least one and at most so many parameters, and the parenthesis that ends them
 abbrev pub read_parameters : ℕ → List Token → Reading (List ParameterSyntax)
-read_parameters zero tokens = Refused
+read_parameters zero tokens = NotFound
 read_parameters (suc most) tokens =
     then_read (read_parameter tokens) (λ parameter tokens.
     then_read (read_more_parameters (read_parameters most) tokens) (λ others tokens. Found (parameter ∷ others) tokens))
@@ -102,12 +102,12 @@ read_declaration (KeywordToken InitWord ∷ rest) =
     then_read (read_function InitSyntax rest) (λ function rest. Found (FunctionDeclaration function) rest)
 read_declaration (KeywordToken QueryWord ∷ rest) =
     then_read (read_function QuerySyntax rest) (λ function rest. Found (FunctionDeclaration function) rest)
-read_declaration tokens = Refused
+read_declaration tokens = NotFound
 
 -- the declaration that was found, before those that are read behind it
 abbrev pub before_others : Reading DeclarationSyntax → (List Token → Option Program) → Option Program
 before_others (Found declaration rest) others = option_map (λ program. declaration ∷ program) (others rest)
-before_others Refused others = None
+before_others NotFound others = None
 
 -- at most so many declarations, which end with the tokens
 abbrev pub read_program : ℕ → List Token → Option Program

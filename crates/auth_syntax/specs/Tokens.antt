@@ -1,5 +1,5 @@
 -- The tokens of a text: the words and marks that it consists of, without the blanks and comments between them.
-use Rattle.std.specs.Prelude.{ℕ, zero, suc, Bool, not, ◌==◌, ◌||◌, nat_lt, List, [], ◌∷◌, length, Option, Some, None, option_map, if◌then◌else◌, codes, bytes_eq, take}
+use Rattle.std.specs.Prelude.{ℕ, zero, suc, Bool, not, ◌==◌, ◌||◌, nat_lt, ◌-◌, List, [], ◌∷◌, length, Option, Some, None, option_map, if◌then◌else◌, codes, bytes_eq, take}
 use Rattle.std.specs.List.{prefix_len, list_any}
 use Rattle.std.specs.Char.{is_ascii_lowercase, is_ascii_alphanumeric}
 
@@ -75,32 +75,33 @@ token_unless_keyword None word = if is_reserved word || nat_lt name_limit (lengt
 abbrev pub word_token : List ℕ → Option Token
 word_token word = token_unless_keyword (keyword_of word) word
 
--- What stands at the head of a text: something to pass over, or a token. Its first byte has so many more behind it.
+-- what stands at the head of a text, with its length in bytes: something to pass over, or a token
 pub data Piece : Type 0 where
-  PassedOver : (more : ℕ) → Piece
-  Taken : (token : Token) (more : ℕ) → Piece
+  PassedOver : (size : ℕ) → Piece
+  Taken : (token : Token) (size : ℕ) → Piece
 
--- The piece that begins with this byte, before these: a comment up to the end of its line, a single blank or mark, or a word,
--- which is the longest run of name bytes that begins with a small letter. Nothing else begins a piece.
-abbrev pub first_piece : ℕ → List ℕ → Option Piece
-first_piece b rest =
-    if is_blank b then Some (PassedOver 0) else
-    if b == 35 then Some (PassedOver (prefix_len is_in_line rest)) else
+-- The piece at the head of a text: a comment up to the end of its line, a single blank or mark, or a word, which is the longest
+-- run of name bytes that begins with a small letter. Nothing else is a piece.
+abbrev pub first_piece : List ℕ → Option Piece
+first_piece [] = None
+first_piece (b ∷ rest) =
+    if is_blank b then Some (PassedOver 1) else
+    if b == 35 then Some (PassedOver (prefix_len is_in_line (b ∷ rest))) else
     if is_ascii_lowercase b then
-    (let more = prefix_len is_name_byte rest in option_map (λ token. Taken token more) (word_token (b ∷ take more rest))) else
-    option_map (λ mark. Taken (MarkToken mark) 0) (mark_of b)
+    (let size = prefix_len is_name_byte (b ∷ rest) in option_map (λ token. Taken token size) (word_token (take size (b ∷ rest)))) else
+    option_map (λ mark. Taken (MarkToken mark) 1) (mark_of b)
 
--- the tokens from a piece on, where `behind` gives those behind so many more bytes
+-- the tokens from a piece on, where `behind` gives those behind so many bytes
 abbrev pub from_piece : Option Piece → (ℕ → Option (List Token)) → Option (List Token)
 from_piece None behind = None
-from_piece (Some (PassedOver more)) behind = behind more
-from_piece (Some (Taken token more)) behind = option_map (λ tokens. token ∷ tokens) (behind more)
+from_piece (Some (PassedOver size)) behind = behind size
+from_piece (Some (Taken token size)) behind = option_map (λ tokens. token ∷ tokens) (behind size)
 
 -- the tokens of a text behind its first so many bytes, which belong to a piece before
 abbrev pub tokens_behind : ℕ → List ℕ → Option (List Token)
 tokens_behind n [] = Some []
 tokens_behind (suc n) (b ∷ rest) = tokens_behind n rest
-tokens_behind zero (b ∷ rest) = from_piece (first_piece b rest) (λ more. tokens_behind more rest)
+tokens_behind zero (b ∷ rest) = from_piece (first_piece (b ∷ rest)) (λ size. tokens_behind (size - 1) rest)
 
 -- The tokens of a text, which is a list of bytes. It has none where some part of it is no piece.
 abbrev pub tokens : List ℕ → Option (List Token)

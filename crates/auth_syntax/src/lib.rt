@@ -1,5 +1,8 @@
 //! The syntax of lambda-auth: from the bytes of a text to the tree of a program or of a literal.
 #![tactic(auto)]
 
+pub mod fault;
+mod lexer;
 pub mod name;
+mod token;
 pub mod tree;
