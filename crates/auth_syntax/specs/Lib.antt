@@ -4,4 +4,6 @@ pub mod Grammar
 pub mod Parsing
 pub mod Trees
 pub mod TokenViews
+pub mod Outcomes
+pub mod Left
 pub mod Laws

@@ -1,6 +1,6 @@
 // How parsing fails.
 
-use std::alloc::AllocError;
+use std::alloc::{AllocError, AllocFailed};
 
 /// Why a text gave no tree.
 #[derive(Clone, Copy, Debug, PartialEq, Eq)]
@@ -18,6 +18,17 @@ impl From<AllocError> for SyntaxFault {
     ghost from_gives = { λ _ fault. fault ≡ NoMemory };
 
     fn from(_: AllocError) -> SyntaxFault {
+        SyntaxFault::NoMemory
+    }
+}
+
+impl<T: Drop> From<AllocFailed<T>> for SyntaxFault {
+    ghost use Rattle.std.specs.Prelude.{◌≡◌};
+    ghost use Rattle.auth_syntax.specs.declared.fault.SyntaxFault.TheVariants.{NoMemory};
+
+    ghost from_gives = { λ _ fault. fault ≡ NoMemory };
+
+    fn from(_: AllocFailed<T>) -> SyntaxFault {
         SyntaxFault::NoMemory
     }
 }

@@ -4,5 +4,6 @@
 pub mod fault;
 mod lexer;
 pub mod name;
+mod parser;
 mod token;
 pub mod tree;
