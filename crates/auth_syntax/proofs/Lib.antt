@@ -1,2 +1,4 @@
 mod Rows
 pub mod TokenLemmas
+pub mod Soundness
+pub mod Completeness
