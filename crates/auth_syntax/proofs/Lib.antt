@@ -2,3 +2,4 @@ mod Rows
 pub mod TokenLemmas
 pub mod Soundness
 pub mod Completeness
+pub mod Exact

@@ -175,7 +175,7 @@ read_parameters-sound (suc most) tokens =
     (λ others second e1 all. (parameters_joined tokens first second parameter others e0 e1, (tt, (within, all)))))
 
 -- a function behind the keyword of its kind, as it is written and as it is read
-abbrev function_written : FunctionSyntax → List Token
+abbrev pub function_written : FunctionSyntax → List Token
 function_written function =
     NameToken function.name
     ∷ MarkToken LeftParenthesis ∷ parameters_tokens function.parameters

@@ -2,6 +2,7 @@
 #![tactic(auto)]
 
 pub mod fault;
+pub mod laws;
 mod lexer;
 pub mod name;
 mod parser;
