@@ -139,7 +139,7 @@ read_program-complete (suc most) (declaration ∷ rest) within enough =
         (read_declaration-complete declaration (program_tokens rest) within.0)
     ∙ ap (λ o. option_map (λ program. declaration ∷ program) o) (read_program-complete most rest within.1 (omega arith))
 
-declaration_tokens-some : (declaration : DeclarationSyntax) → 0 < length (declaration_tokens declaration)
+pub declaration_tokens-some : (declaration : DeclarationSyntax) → 0 < length (declaration_tokens declaration)
 declaration_tokens-some (StateDeclaration t) = omega arith
 declaration_tokens-some (FunctionDeclaration function) = omega arith
 

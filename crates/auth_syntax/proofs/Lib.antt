@@ -3,3 +3,5 @@ pub mod TokenLemmas
 pub mod Soundness
 pub mod Completeness
 pub mod Exact
+pub mod Refusals
+pub mod Loops

@@ -113,7 +113,7 @@ read_expression-sound (suc levels) (KeywordToken UnauthWord ∷ rest) =
     (λ inner after e within. (ap (λ ts. KeywordToken UnauthWord ∷ ts) e, omega (arith, within)))
 read_expression-sound levels tokens = tt
 
-abbrev IsParameterWithin : ParameterSyntax → Type 0
+abbrev pub IsParameterWithin : ParameterSyntax → Type 0
 IsParameterWithin parameter = type_levels parameter.of_type ≤ nesting_limit
 
 pub read_parameter-sound : (tokens : List Token) → IsSound parameter_tokens IsParameterWithin tokens (read_parameter tokens)

@@ -63,11 +63,15 @@ read_parameter tokens =
     then_read (read_mark Colon tokens) (λ _ tokens.
     then_read (read_type nesting_limit tokens) (λ of_type tokens. Found (record { name = name; of_type = of_type }) tokens)))
 
--- behind a parameter, either the end of the parameters or a comma and more of them
+-- what stands behind a parameter: a comma, so that another one follows, or the parenthesis that ends them
+abbrev pub read_separator : List Token → Reading Bool
+read_separator (MarkToken Comma ∷ rest) = Found true rest
+read_separator (MarkToken RightParenthesis ∷ rest) = Found false rest
+read_separator tokens = NotFound
+
+-- the other parameters, behind one
 abbrev pub read_more_parameters : (List Token → Reading (List ParameterSyntax)) → List Token → Reading (List ParameterSyntax)
-read_more_parameters more (MarkToken RightParenthesis ∷ rest) = Found [] rest
-read_more_parameters more (MarkToken Comma ∷ rest) = more rest
-read_more_parameters more tokens = NotFound
+read_more_parameters more tokens = then_read (read_separator tokens) (λ follows rest. if follows then more rest else Found [] rest)
 
 -- at least one and at most so many parameters, and the parenthesis that ends them
 abbrev pub read_parameters : ℕ → List Token → Reading (List ParameterSyntax)

@@ -1,5 +1,6 @@
 -- What the trees of the code stand for.
-use Rattle.std.specs.Prelude.{map}
+use Rattle.std.specs.Prelude.{List, map, Vec}
+use Rattle.std.specs.declared.alloc.Global.{Global}
 use Rattle.auth_syntax.specs.Syntax.{TypeSyntax, UnitTypeSyntax, AuthTypeSyntax, ExpSyntax, UnitSyntax, LocalSyntax, AuthSyntax, UnauthSyntax, ParameterSyntax, KindSyntax, InitSyntax, QuerySyntax, FunctionSyntax, DeclarationSyntax, StateDeclaration, FunctionDeclaration, Program, LiteralSyntax, UnitLiteralSyntax}
 use Rattle.auth_syntax.specs.declared.tree.TypeTree.{TypeTree}
 use Rattle.auth_syntax.specs.declared.tree.TypeTree.TheVariants.{UnitType, AuthType'}
@@ -26,6 +27,9 @@ expression_of (Unauth' place inner) = UnauthSyntax (expression_of inner)
 abbrev pub parameter_of : Parameter → ParameterSyntax
 parameter_of parameter = record { name = parameter.name; of_type = type_of parameter.of_type }
 
+abbrev pub parameters_of : Vec Parameter Global → List ParameterSyntax
+parameters_of parameters = map parameter_of parameters.items
+
 abbrev pub kind_of : FunctionKind → KindSyntax
 kind_of Init = InitSyntax
 kind_of Query = QuerySyntax
@@ -34,7 +38,7 @@ abbrev pub function_of : Function → FunctionSyntax
 function_of function = record {
   kind = kind_of function.kind;
   name = function.name;
-  parameters = map parameter_of function.parameters.items;
+  parameters = parameters_of function.parameters;
   result_type = type_of function.result_type;
   body = expression_of function.body;
 }
@@ -43,5 +47,8 @@ abbrev pub declaration_of : Declaration → DeclarationSyntax
 declaration_of (State of_type) = StateDeclaration (type_of of_type)
 declaration_of (FunctionVariant function) = FunctionDeclaration (function_of function)
 
+abbrev pub declarations_of : Vec Declaration Global → Program
+declarations_of declarations = map declaration_of declarations.items
+
 abbrev pub program_of : Ast → Program
-program_of ast = map declaration_of ast.declarations.items
+program_of ast = declarations_of ast.declarations
