@@ -1,0 +1,9 @@
+pub mod Syntax
+pub mod Tokens
+pub mod Grammar
+pub mod Parsing
+pub mod Trees
+pub mod TokenViews
+pub mod Outcomes
+pub mod Left
+pub mod Laws
