@@ -16,6 +16,7 @@ record HasShape (P : Program) (kind : Kind) (parameters : List Ty) (result : Ty)
   result_is : result ≡ role_result kind P.state answer
   plain : IsPlain P.types argument
 
+-- the negation of a test passes exactly where the test does not
 not_true : (b : Bool) → not b ≡ true → b ≡ false
 not_true true e = absurd (cc)
 not_true false e = refl
@@ -25,6 +26,7 @@ not_false true e = absurd (cc)
 not_false false e = refl
 
 module _ (P : Program) where
+  -- a function that can be entered has the shape of its kind, where the test says yes
   shape_sound : (kind : Kind) (parameters : List Ty) (result : Ty) → is_entered kind ≡ true → shape_test P kind parameters result ≡ true → HasShape P kind parameters result
   shape_sound Init (a ∷ []) r n e =
       record { argument = a; answer = UnitTy; parameters_are = refl; result_is = sym (same_sound P.state r (first_of _ _ e)); plain = plain_by_test P.types a (not_true _ (second_of (same_type P.state r) _ e)) }
@@ -42,6 +44,7 @@ module _ (P : Program) where
   shape_sound Inner ts r n e = absurd (cc)
   shape_sound kind ts r n e = absurd (cc)
 
+  -- and the other way round
   shape_complete : (kind : Kind) (parameters : List Ty) (result a answer : Ty) → parameters ≡ role_parameters kind P.state a → result ≡ role_result kind P.state answer → IsPlain P.types a → shape_test P kind parameters result ≡ true
   shape_complete kind ts r a answer p q plain = subst (λ ts. shape_test P kind ts r ≡ true) (sym p) (subst (λ r. shape_test P kind (role_parameters kind P.state a) r ≡ true) (sym q) (at kind))
     where
@@ -54,6 +57,7 @@ module _ (P : Program) where
       at Query = both _ _ (same_self P.state) bare
       at Update = both _ _ (same_self P.state) (both _ _ (same_self P.state) bare)
 
+  -- the test on a list of functions says yes exactly where it does on each of them
   all_sound : (gs : List Function) → all_shaped P gs ≡ true → (f : ℕ) (g : Function) → slice_get gs f ≡ Some g → shape_test P g.kind g.parameters g.result ≡ true
   all_sound [] e f g at = absurd (cc)
   all_sound (h ∷ gs) e zero g at = let same : h ≡ g = cc in ap (λ (g : Function). shape_test P g.kind g.parameters g.result) (sym same) ∙ first_of _ _ e
