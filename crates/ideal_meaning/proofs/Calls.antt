@@ -24,7 +24,7 @@ typed_at P typed f = by (slice_get P.functions f) refl
     by None e = refl
 
 -- before the first opening
-pub at_start : (hash : Hash) (P : Program) (Deep : Type 0) (began : Taking) → InStep hash P Deep began [] began
+at_start : (hash : Hash) (P : Program) (Deep : Type 0) (began : Taking) → InStep hash P Deep began [] began
 at_start hash P Deep began =
     record { honest = record { pieces = refl; place = omega arith }; lefts = refl; fit = λ l. tt; coherent = λ c. c }
 

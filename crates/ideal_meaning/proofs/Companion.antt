@@ -1,7 +1,6 @@
 -- The companion: the honest proof is accepted.
-use Rattle.std.proofs.Common.{◌≡◌, ◌⊎◌, inl, inr, ℕ, ◌<◌, ◌≤◌, ◌^◌, List, [], ◌∷◌, ◌++◌, length, drop, refl, sym, ap, ◌∙◌, subst, arith, append-nil}
+use Rattle.std.proofs.Common.{◌≡◌, ◌⊎◌, inl, inr, ℕ, ◌<◌, ◌≤◌, ◌^◌, List, [], ◌∷◌, length, drop, sym, ap, ◌∙◌, subst, arith, append-nil}
 use Rattle.std.proofs.lemmas.List.{append_cancel_left, map-append}
-use Rattle.std.specs.Int.{w16, to_be_bytes}
 use Rattle.core_terms.specs.Formats.{Hash, IsHash, IsFormat}
 use Rattle.core_terms.specs.Values.{Value, Values, AreIdeal, AuthWithinAll}
 use Rattle.core_terms.specs.Spelling.{spelling}
@@ -14,7 +13,7 @@ use Rattle.ideal_meaning.specs.Frames.{Offer, NoMore, Offers, offered, offered_p
 use Rattle.ideal_meaning.specs.Checked.{Taking, Cause, checked, before_all, Accepted, with_rest, judge, with_header, with_argument, with_state, verdict}
 use Rattle.ideal_meaning.specs.Headline.{call_of, Companion}
 use Rattle.ideal_meaning.specs.Agreement.{honest_so_far, OffersOther, IsRefused}
-use Rattle.ideal_meaning.proofs.FramesBack.{last_left, AllShort, frames_back, header_back, offer_of, offers_of}
+use Rattle.ideal_meaning.proofs.FramesBack.{last_left, AllShort, frames_back, header_back, behind_header, offer_of, offers_of}
 use Rattle.ideal_meaning.proofs.InHand.{IsHeld}
 use Rattle.ideal_meaning.proofs.Relation.{AllOpenedFit, Parted, Agree}
 use Rattle.ideal_meaning.proofs.Opening.{ReadsBack}
@@ -36,14 +35,9 @@ module _ (hash : Hash) (is_hash : IsHash hash) (P : Program) (format : IsFormat 
       by e (inr r) = (r.only _ e).2 (p.fits tt)
 
   -- the honest pieces are within the limit
-  all_short : (s : List Opened) → AllOpenedFit P s → AllShort P.format.limit (honest_so_far hash P s)
-  all_short [] h = tt
-  all_short (x ∷ s) h = (omega (arith, length_piece hash is_hash P format x.ty x.value h.0, h.1.size_fits), all_short s h.2)
-
--- the frames stand behind the header's 6 bytes
-behind_header : (magic rest : List ℕ) (n : ℕ) → length magic ≡ 4 → drop 6 (magic ++ (to_be_bytes w16 n ++ rest)) ≡ rest
-behind_header (a ∷ b ∷ c ∷ d ∷ []) rest n e = refl
-behind_header magic rest n e = absurd (omega arith)
+  honest_are_short : (s : List Opened) → AllOpenedFit P s → AllShort P.format.limit (honest_so_far hash P s)
+  honest_are_short [] h = tt
+  honest_are_short (x ∷ s) h = (omega (arith, length_piece hash is_hash P format x.ty x.value h.0, h.1.size_fits), honest_are_short s h.2)
 
 -- where nothing is left of the pieces, nothing is left of the bytes
 no_rest : (o : Offer) (left : ℕ) → offered_pieces o ≡ [] → last_left left o ≡ 0 → left ≡ 0
@@ -73,7 +67,7 @@ module _ (hash : Hash) (is_hash : IsHash hash) (P : Program) (format : IsFormat 
   honest_short =
       let same = same_on 0 (offer_of Honest) (offers_of Honest) in
       let y = same_state hash P (Unit {0}) (before_all 0 (offer_of Honest)) (function_at P f).result (ideal P f args k) _ same in
-      all_short hash is_hash P format (state_of (ideal P f args k)) (y.fit tt)
+      honest_are_short hash is_hash P format (state_of (ideal P f args k)) (y.fit tt)
 
   -- the frames of the honest pieces are accepted
   honest_judged : (n : ℕ) → n ≤ P.format.most_kept
@@ -115,13 +109,12 @@ companion hash is_hash P format typed f kind t answer role reads state argument 
     at_frames : judge hash P f (call_of (projection hash P P.state state) (projection hash P t argument)) k (drop 6 file) n []
         ≡ Accepted (outcome_projection hash P (role_result kind P.state answer) (outcome (ideal P f (call_of state argument) k)))
     at_frames =
-        let args = call_of state argument in
         let shape = parameters_are P f kind t answer role reads in
         let ideals : AreIdeal P.types (function_at P f).parameters (call_of state argument) = subst (λ ts. AreIdeal P.types ts (call_of state argument)) (sym shape) (state_ideal, (argument_ideal, tt)) in
         let fits : AllFit P (function_at P f).parameters (call_of state argument) = subst (λ ts. AllFit P ts (call_of state argument)) (sym shape) (state_fits, (argument_fits, tt)) in
         let deep : AuthWithinAll P.format.limit P.types (function_at P f).parameters (call_of state argument) = subst (λ ts. AuthWithinAll P.format.limit P.types ts (call_of state argument)) (sym shape) (state_deep, (plain_within P.format.limit P.types t argument role.plain argument_ideal, tt)) in
         let seen = state_of (ideal P f (call_of state argument) k) in
-        let frames_are = behind_header P.format.magic (frame_bytes (honest_frames n [] (bytes_of (honest_pieces hash P f (call_of state argument) k)))) n format.magic_length ∙ ap (λ ps. frame_bytes (honest_frames n [] ps)) (bytes_are hash P seen) in
+        let frames_are = behind_header P.format n (bytes_of (honest_pieces hash P f (call_of state argument) k)) format ∙ ap (λ ps. frame_bytes (honest_frames n [] ps)) (bytes_are hash P seen) in
         ap (λ bytes. judge hash P f (call_of (projection hash P P.state state) (projection hash P t argument)) k bytes n []) frames_are
         ∙ ap (λ ts. judge hash P f (projections hash P ts (call_of state argument)) k (frame_bytes (honest_frames n [] (honest_so_far hash P seen))) n []) (sym shape)
         ∙ honest_judged hash is_hash P format typed f (call_of state argument) k ideals fits deep n small

@@ -13,7 +13,7 @@ pub record Grows {A : Type 0} (s : List Opened) (r : Run ⊥ (List Opened) A) : 
   pub is : state_of r ≡ s ++ added
 
 -- a run that opens nothing
-pub stays : {A : Type 0} (s : List Opened) (r : Run ⊥ (List Opened) A) → state_of r ≡ s → Grows s r
+stays : {A : Type 0} (s : List Opened) (r : Run ⊥ (List Opened) A) → state_of r ≡ s → Grows s r
 stays s r e = record { added = []; is = e ∙ sym (append-nil s) }
 
 -- a run and what goes on behind it
@@ -24,7 +24,7 @@ grows_then s (Gives a k t) f g h =
 grows_then s (Ends stop k t) f g h = record { added = g.added; is = g.is }
 
 -- one of two runs
-pub grows_if : {A : Type 0} (s : List Opened) (b : Bool) (x y : Run ⊥ (List Opened) A) → Grows s x → Grows s y → Grows s (if b then x else y)
+grows_if : {A : Type 0} (s : List Opened) (b : Bool) (x y : Run ⊥ (List Opened) A) → Grows s x → Grows s y → Grows s (if b then x else y)
 grows_if s true x y g h = g
 grows_if s false x y g h = h
 

@@ -1,6 +1,5 @@
 -- What is judged of a run that stands in the relation: what is accepted is true, or there is a split.
 use Rattle.std.proofs.Common.{◌≡◌, ◌≢◌, ◌⊎◌, inl, inr, ℕ, zero, suc, List, [], ◌∷◌, ◌++◌, length, map, refl, sym, ap, ◌∙◌, subst, arith, append-nil}
-use Rattle.std.proofs.lemmas.List.{map-append}
 use Rattle.core_terms.specs.Types.{Ty}
 use Rattle.core_terms.specs.Formats.{Hash}
 use Rattle.core_terms.specs.Values.{Value}
@@ -53,11 +52,7 @@ module _ (hash : Hash) (P : Program) (Deep : Type 0) (began : Taking) (t : Ty) w
   same_state (Gives v k s) checked h = subst (λ r. InStep hash P Deep began s (state_of r)) (sym h.1.1) h.1.2
   same_state (Ends stop k s) checked h = subst (λ r. InStep hash P Deep began s (state_of r)) (sym h.1) h.2
 
-  -- at a parting: the honest pieces, and the split where another piece with the digest was offered
-  pub parted_honest : (ideal : Run ⊥ (List Opened) Value) (checked : Run Cause Taking Value) (p : Parted hash P Deep began ideal checked)
-      → honest_so_far hash P (state_of ideal) ≡ honest_so_far hash P p.parts.before ++ (honest_bytes hash P p.parts.x ∷ honest_so_far hash P p.parts.after)
-  parted_honest ideal checked p = ap (honest_so_far hash P) p.parts.seen ∙ map-append (honest_bytes hash P) p.parts.before (p.parts.x ∷ p.parts.after)
-
+  -- at a parting where another piece with the digest was offered: the split
   parted_split : (ideal : Run ⊥ (List Opened) Value) (checked : Run Cause Taking Value) (p : Parted hash P Deep began ideal checked) → OffersOther hash P p.parts.x p.parts.at
       → IsSplitAt (digest_at hash P) (offered_pieces began.more) (map (honest_piece hash P) (state_of ideal)) (length p.parts.before)
   parted_split ideal checked p d =
