@@ -1,1 +1,2 @@
+pub mod Elaboration
 pub mod Verdicts
