@@ -1,2 +1,3 @@
 pub mod Elaboration
+pub mod Growing
 pub mod Verdicts
