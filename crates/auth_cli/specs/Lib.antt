@@ -1,3 +1,2 @@
 pub mod Elaboration
-pub mod Growing
 pub mod Verdicts

@@ -1,5 +1,4 @@
 //! The commands of lambda-auth, over the files and the sink that they are handed.
 #![tactic(auto)]
 
-pub mod resolve;
 pub mod verify;
