@@ -3,6 +3,7 @@ use Rattle.std.proofs.Common.{◌≡◌, ◌≢◌, ◌⊎◌, inl, inr, ℕ, ze
 use Rattle.std.proofs.Math.ListN.{get_or-append}
 use Rattle.std.proofs.Math.Seq.{get_or-append_seam}
 use Rattle.std.proofs.lemmas.Bool.{ltb-false}
+use Rattle.std.proofs.lemmas.List.{get_or_past}
 use Rattle.std.proofs.lemmas.Option.{slice_get-get_or, slice_get_within, get_or_from_slice_get}
 use Rattle.std.proofs.lemmas.Grind.{common_steps}
 use Rattle.core_terms.specs.Types.{Ty, UnitTy}
@@ -118,3 +119,11 @@ pub one_number_either : (old new : List TyForm) (form : TyForm) → (new ≡ old
     → ((i : ℕ) → slice_get old i ≢ Some form) → HasOneNumber (types_of_forms new)
 one_number_either old new form (inl e) h one s absent = subst (λ l. HasOneNumber (types_of_forms l)) (sym e) one
 one_number_either old new form (inr e) h one s absent = subst (λ l. HasOneNumber (types_of_forms l)) (sym e) (one_number_push old form h one s absent)
+
+-- the parts of the form with a number stand before it
+pub parts_before : (forms : List TyForm) (i : ℕ) → is_in_order 0 forms ≡ true → stands_behind i (slice_index_or forms i UnitForm) ≡ true
+parts_before forms i h = by (nat_lt i (length forms)) refl
+  where
+    by : (b : Bool) → nat_lt i (length forms) ≡ b → stands_behind i (slice_index_or forms i UnitForm) ≡ true
+    by true e = subst (λ n. stands_behind n (slice_index_or forms i UnitForm) ≡ true) (zero-add i) (stands_at 0 forms i (slice_index_or forms i UnitForm) h (slice_get-get_or forms i UnitForm (ltb-true i (length forms) e)))
+    by false e = subst (λ f. stands_behind i f ≡ true) (sym (get_or_past forms i UnitForm (ltb-false i (length forms) e))) refl

@@ -62,9 +62,10 @@ impl TyTable {
         a == b
     }
 
-    /// The form of a type.
+    /// The form of a type. Its parts stand before the type.
     pub fn form(&self, ty: TyId) -> TyForm
-        ensures { type_of_form (types_in self.now) result ≡ type_at (types_in self.now) ty }
+        ensures form { type_of_form (types_in self.now) result ≡ type_at (types_in self.now) ty }
+        ensures parts { stands_behind ty.0 result ≡ true }
     {
         form_at(&self.forms, ty)
     }

@@ -1,5 +1,9 @@
 use Rattle.core_terms.proofs.TypeTables.{form_means}
+use Rattle.core_terms.proofs.TypePushing.{parts_before}
 use Rattle.core_terms.proofs.types.TyTable.form.Goals as goal
 
 pub returns : goal.returns
-returns c = rw (c.form_at.ensures, c.deref.ensures.value) (form_means c.args.self.now.forms.items c.args.ty.0 c.args.self.now.in_order)
+returns c = record {
+  form = rw (c.form_at.ensures, c.deref.ensures.value) (form_means c.args.self.now.forms.items c.args.ty.0 c.args.self.now.in_order);
+  parts = rw (c.form_at.ensures, c.deref.ensures.value) (parts_before c.args.self.now.forms.items c.args.ty.0 c.args.self.now.in_order);
+}
