@@ -156,19 +156,3 @@ program_so_far-more whole so_far rest after declaration h found = more h.most h.
           ∙ program_joined so_far declaration (read_program most after));
         enough = omega arith;
       }
-
--- nothing is left
-pub program_so_far-end : (whole : List Token) (so_far : Program) (rest : List Token) → IsProgramSoFar whole so_far rest → length rest ≡ 0
-    → read_program (length whole) whole ≡ Some so_far
-program_so_far-end whole so_far [] h empty = rw append-nil at h.reading
-program_so_far-end whole so_far (token ∷ rest) h empty = absurd (omega arith)
-
-no_declaration : (most : ℕ) (rest : List Token) → 0 < length rest → read_declaration rest ≡ NotFound → read_program most rest ≡ None
-no_declaration most [] some h = absurd (omega arith)
-no_declaration zero (token ∷ rest) some h = refl
-no_declaration (suc most) (token ∷ rest) some h = ap (λ r. before_others r (read_program most)) h
-
--- what is left begins with no declaration
-pub program_so_far-none : (whole : List Token) (so_far : Program) (rest : List Token) → IsProgramSoFar whole so_far rest → 0 < length rest
-    → read_declaration rest ≡ NotFound → read_program (length whole) whole ≡ None
-program_so_far-none whole so_far rest h some none = h.reading ∙ ap (option_map (λ others. so_far ++ others)) (no_declaration h.most rest some none)

@@ -2,6 +2,8 @@
 
 use std::alloc::{AllocError, AllocFailed};
 
+use crate::lexer::NoToken;
+
 /// Why a text gave no tree.
 #[derive(Clone, Copy, Debug, PartialEq, Eq)]
 pub enum SyntaxFault {
@@ -30,5 +32,16 @@ impl<T: Drop> From<AllocFailed<T>> for SyntaxFault {
 
     fn from(_: AllocFailed<T>) -> SyntaxFault {
         SyntaxFault::NoMemory
+    }
+}
+
+impl From<NoToken> for SyntaxFault {
+    ghost use Rattle.std.specs.Prelude.{◌≡◌};
+    ghost use Rattle.auth_syntax.specs.declared.fault.SyntaxFault.TheVariants.{Refused};
+
+    ghost from_gives = { λ _ fault. fault ≡ Refused };
+
+    fn from(_: NoToken) -> SyntaxFault {
+        SyntaxFault::Refused
     }
 }

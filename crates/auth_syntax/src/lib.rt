@@ -4,6 +4,7 @@
 pub mod fault;
 pub mod laws;
 mod lexer;
+pub mod literal;
 pub mod name;
 mod parser;
 mod token;
