@@ -6,5 +6,5 @@ pub mod Trees
 pub mod TokenViews
 pub mod Literals
 pub mod Outcomes
-pub mod Left
+pub mod Remaining
 pub mod Laws
