@@ -66,8 +66,8 @@ first_piece-is_part (b ∷ rest) =
     either_part text (is_blank b) _ _ (λ h. (omega arith, omega arith)) (λ h.
     either_part text (b == 35) _ _ (λ h. prefix_is_part is_in_line b rest (hash_is_in_line b h)) (λ h.
     either_part text (is_ascii_lowercase b) _ _
-        (λ h. word_is_part text _ _ (prefix_is_part is_name_byte b rest (small_is_name_byte b h)))
-        (λ h. mark_is_part b rest (mark_of b))))
+    (λ h. word_is_part text _ _ (prefix_is_part is_name_byte b rest (small_is_name_byte b h)))
+    (λ h. mark_is_part b rest (mark_of b))))
 
 -- behind a byte, so many bytes less are passed
 behind : (b : ℕ) (rest : List ℕ) (size : ℕ) → 0 < size → tokens_behind (size - 1) rest ≡ tokens (drop size (b ∷ rest))

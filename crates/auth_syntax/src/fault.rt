@@ -1,8 +1,7 @@
 // How parsing fails.
 
-use std::alloc::{AllocError, AllocFailed};
-
 use crate::lexer::NoToken;
+use std::alloc::{AllocError, AllocFailed};
 
 /// Why a text gave no tree.
 #[derive(Clone, Copy, Debug, PartialEq, Eq)]

@@ -6,10 +6,9 @@ ghost use Rattle.auth_syntax.specs.Tokens.{is_in_line, is_name_byte, keyword_of,
 ghost use Rattle.auth_syntax.specs.TokenViews.{keyword_view, mark_view, token_view, piece_view};
 ghost use Rattle.auth_syntax.specs.Outcomes.{Finds};
 
-use std::alloc::Global;
-
 use crate::fault::SyntaxFault;
 use crate::token::{Keyword, Mark, Token};
+use std::alloc::Global;
 
 const NAME_LIMIT: usize = 64;
 
@@ -31,7 +30,9 @@ fn line_len(text: &[u8]) -> usize
 fn word_len(text: &[u8]) -> usize
     ensures { result ≡ prefix_len is_name_byte text.now }
 {
-    text.iter().take_while(|b| b.is_ascii_alphanumeric() || **b == b'_').count()
+    text.iter()
+        .take_while(|b| b.is_ascii_alphanumeric() || **b == b'_')
+        .count()
 }
 
 fn mark_of_byte(byte: u8) -> Option<Mark>

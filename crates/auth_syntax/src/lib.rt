@@ -10,8 +10,7 @@ mod lexer;
 pub mod literal;
 pub mod name;
 pub mod parser;
-mod token;
-pub mod tree;
-
 #[cfg(test)]
 mod tests;
+mod token;
+pub mod tree;

@@ -8,13 +8,12 @@ ghost use Rattle.auth_syntax.specs.Trees.{type_of, expression_of, parameter_of, 
 ghost use Rattle.auth_syntax.specs.Syntax.{Program};
 ghost use Rattle.auth_syntax.specs.Outcomes.{Finds, Reads};
 
-use std::alloc::Global;
-
 use crate::fault::SyntaxFault;
 use crate::lexer::tokens;
 use crate::name::Name;
 use crate::token::{Keyword, Mark, Token};
 use crate::tree::{Ast, Declaration, ExpTree, Function, FunctionKind, Parameter, TypeTree};
+use std::alloc::Global;
 
 // How many types, or expressions, may stand inside one another.
 const NESTING_LIMIT: usize = 100;
@@ -208,7 +207,9 @@ pub fn parse(alloc: Global, text: &[u8]) -> Result<Ast, SyntaxFault>
     ensures written { IfOk result (λ ast. IsProgramText text.now (program_of ast)) }
     ensures unwritten { result ≡ Err SyntaxFault.Refused → (program : Program) → IsProgramText text.now program → ⊥ }
 {
-    Ok(Ast { declarations: read_declarations(alloc, text)? })
+    Ok(Ast {
+        declarations: read_declarations(alloc, text)?,
+    })
 }
 
 // The declarations of a program's text.
@@ -216,6 +217,9 @@ fn read_declarations(alloc: Global, text: &[u8]) -> Result<Vec<Declaration>, Syn
     ensures { Finds declarations_of (parsed text.now) result }
 {
     let tokens = tokens(alloc, text)?;
-    let mut parser = Parser { alloc, rest: &tokens };
+    let mut parser = Parser {
+        alloc,
+        rest: &tokens,
+    };
     parser.declarations()
 }

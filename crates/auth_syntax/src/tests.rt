@@ -1,11 +1,10 @@
 // Each public call once, on a text from outside, with ample memory.
 
-use std::test::Fail;
-
 use crate::fault::SyntaxFault;
 use crate::literal::{LiteralFault, LiteralTree, parse_literal};
 use crate::parser::parse;
 use crate::tree::{Declaration, FunctionKind};
+use std::test::Fail;
 
 const PROGRAM: &str = "state auth unit; init make(x: unit): auth unit = auth(x);\n\
     query open(s: auth unit, x: unit): unit = unauth(s); # the state, opened";
@@ -31,6 +30,9 @@ fn a_reserved_word_is_refused(rt: HostRuntime) {
 
 #[test]
 fn literals_are_read(rt: HostRuntime) {
-    assert_eq!(rt; parse_literal(b" ( # a comment\n) "), Ok(LiteralTree::UnitLiteral));
+    assert_eq!(rt;
+        parse_literal(b" ( # a comment\n) "),
+        Ok(LiteralTree::UnitLiteral)
+    );
     assert_eq!(rt; parse_literal(b"()()"), Err(LiteralFault::Refused));
 }

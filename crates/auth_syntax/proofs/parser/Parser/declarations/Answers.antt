@@ -18,7 +18,7 @@ each-smaller c =
 pub each-preserved : goal.each-preserved
 each-preserved c =
     let kept : declarations_of c.push.new.self ≡ declarations_of c.each.declarations ++ declaration_of c.in_ok-declaration.field-0 ∷ [] =
-        ap (map declaration_of) c.in_ok-push.ensures.items ∙ map-append declaration_of c.each.declarations.items (c.in_ok-declaration.field-0 ∷ []) in
+    ap (map declaration_of) c.in_ok-push.ensures.items ∙ map-append declaration_of c.each.declarations.items (c.in_ok-declaration.field-0 ∷ []) in
     subst (λ (so_far : Program). IsProgramSoFar (remaining c.args.self.now) so_far (remaining c.declaration.new.self)) (sym kept)
     (program_so_far-more (remaining c.args.self.now) (declarations_of c.each.declarations) (remaining c.each.self) (remaining c.declaration.new.self)
-        (declaration_of c.in_ok-declaration.field-0) c.each.invariant c.in_ok-declaration.ensures)
+    (declaration_of c.in_ok-declaration.field-0) c.each.invariant c.in_ok-declaration.ensures)
