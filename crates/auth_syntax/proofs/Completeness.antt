@@ -59,9 +59,9 @@ read_parameters-complete (suc most) (parameter ∷ []) rest some within enough =
 read_parameters-complete (suc most) (parameter ∷ next ∷ others) rest some within enough =
     let after : List Token = MarkToken Comma ∷ (parameters_tokens (next ∷ others) ++ MarkToken RightParenthesis ∷ rest) in
     ap (read_parameters (suc most))
-        (append_assoc (parameter_tokens parameter) (MarkToken Comma ∷ parameters_tokens (next ∷ others)) (MarkToken RightParenthesis ∷ rest))
+    (append_assoc (parameter_tokens parameter) (MarkToken Comma ∷ parameters_tokens (next ∷ others)) (MarkToken RightParenthesis ∷ rest))
     ∙ parameters_step most (parameter_tokens parameter ++ after) after rest parameter (next ∷ others)
-        (read_parameter-complete parameter after within.0) (read_parameters-complete most (next ∷ others) rest tt within.1 (omega arith))
+    (read_parameter-complete parameter after within.0) (read_parameters-complete most (next ∷ others) rest tt within.1 (omega arith))
 
 -- parameters are no more than their tokens
 length-parameters_tokens : (parameters : List ParameterSyntax) → length parameters ≤ length (parameters_tokens parameters)
@@ -79,8 +79,8 @@ then_found reading value rest go result h h' = ap (λ r. then_read r go) h ∙ h
 function_flat : (function : FunctionSyntax) (rest : List Token)
     → function_written function ++ rest
     ≡ NameToken function.name ∷ MarkToken LeftParenthesis
-        ∷ (parameters_tokens function.parameters ++ MarkToken RightParenthesis
-        ∷ (MarkToken Colon ∷ (type_tokens function.result_type ++ (MarkToken EqualsSign ∷ (expression_tokens function.body ++ (MarkToken Semicolon ∷ rest))))))
+    ∷ (parameters_tokens function.parameters ++ MarkToken RightParenthesis
+    ∷ (MarkToken Colon ∷ (type_tokens function.result_type ++ (MarkToken EqualsSign ∷ (expression_tokens function.body ++ (MarkToken Semicolon ∷ rest))))))
 function_flat function rest = simp append_assoc
 
 parameters_fit : (parameters : List ParameterSyntax) (rest : List Token)
@@ -97,19 +97,19 @@ read_function-complete function rest within =
     let t2 : List Token = parameters_tokens function.parameters ++ MarkToken RightParenthesis ∷ t3 in
     ap (read_function function.kind) (function_flat function rest)
     ∙ then_found (read_parameters (length t2) t2) function.parameters t3 _ (Found function rest)
-        (read_parameters-complete (length t2) function.parameters t3 within.has_parameter within.parameters
-        (parameters_fit function.parameters t3))
+    (read_parameters-complete (length t2) function.parameters t3 within.has_parameter within.parameters
+    (parameters_fit function.parameters t3))
     (then_found (read_type nesting_limit (type_tokens function.result_type ++ t5)) function.result_type t5 _ (Found function rest)
-        (read_type-complete nesting_limit function.result_type t5 within.result_type)
+    (read_type-complete nesting_limit function.result_type t5 within.result_type)
     (then_found (read_expression nesting_limit (expression_tokens function.body ++ t7)) function.body t7 _ (Found function rest)
-        (read_expression-complete nesting_limit function.body t7 within.body) refl))
+    (read_expression-complete nesting_limit function.body t7 within.body) refl))
 
 read_state-complete : (t : TypeSyntax) (rest : List Token) → type_levels t ≤ nesting_limit
     → read_state ((type_tokens t ++ MarkToken Semicolon ∷ []) ++ rest) ≡ Found t rest
 read_state-complete t rest within =
     ap read_state (append_assoc (type_tokens t) (MarkToken Semicolon ∷ []) rest)
     ∙ then_found (read_type nesting_limit (type_tokens t ++ MarkToken Semicolon ∷ rest)) t (MarkToken Semicolon ∷ rest) _ (Found t rest)
-        (read_type-complete nesting_limit t (MarkToken Semicolon ∷ rest) within) refl
+    (read_type-complete nesting_limit t (MarkToken Semicolon ∷ rest) within) refl
 
 function_declared : (kind : KindSyntax) (function : FunctionSyntax) (tokens rest : List Token) → read_function kind tokens ≡ Found function rest
     → read_declaration (KeywordToken (kind_keyword kind) ∷ tokens) ≡ Found (FunctionDeclaration function) rest
@@ -136,7 +136,7 @@ read_program-complete most [] within enough = refl
 read_program-complete zero (declaration ∷ rest) within enough = absurd (omega arith)
 read_program-complete (suc most) (declaration ∷ rest) within enough =
     program_step most (declaration_tokens declaration ++ program_tokens rest) (program_tokens rest) declaration
-        (read_declaration-complete declaration (program_tokens rest) within.0)
+    (read_declaration-complete declaration (program_tokens rest) within.0)
     ∙ ap (λ o. option_map (λ program. declaration ∷ program) o) (read_program-complete most rest within.1 (omega arith))
 
 pub declaration_tokens-some : (declaration : DeclarationSyntax) → 0 < length (declaration_tokens declaration)

@@ -171,7 +171,7 @@ read_parameters-sound (suc most) tokens =
     then_sound parameter_tokens IsParameterWithin parameters_written ArePresentWithin tokens tokens (read_parameter tokens) _ (read_parameter-sound tokens)
     (λ parameter first e0 within.
     then_sound others_written AreParametersWithin parameters_written ArePresentWithin tokens first (read_more_parameters (read_parameters most) first) _
-        (read_more_parameters-sound (read_parameters most) first (read_parameters-sound most))
+    (read_more_parameters-sound (read_parameters most) first (read_parameters-sound most))
     (λ others second e1 all. (parameters_joined tokens first second parameter others e0 e1, (tt, (within, all)))))
 
 -- a function behind the keyword of its kind, as it is written and as it is read
@@ -185,10 +185,10 @@ function_written function =
 
 function_grouped : (name : List ℕ) (parameters result_type body rest : List Token)
     → NameToken name ∷ MarkToken LeftParenthesis
-        ∷ ((parameters ++ MarkToken RightParenthesis ∷ [])
-        ++ (MarkToken Colon ∷ (result_type ++ (MarkToken EqualsSign ∷ (body ++ (MarkToken Semicolon ∷ rest))))))
+    ∷ ((parameters ++ MarkToken RightParenthesis ∷ [])
+    ++ (MarkToken Colon ∷ (result_type ++ (MarkToken EqualsSign ∷ (body ++ (MarkToken Semicolon ∷ rest))))))
     ≡ (NameToken name ∷ MarkToken LeftParenthesis ∷ parameters ++ MarkToken RightParenthesis ∷ MarkToken Colon ∷ result_type
-        ++ MarkToken EqualsSign ∷ body ++ MarkToken Semicolon ∷ []) ++ rest
+    ++ MarkToken EqualsSign ∷ body ++ MarkToken Semicolon ∷ []) ++ rest
 function_grouped name parameters result_type body rest = simp append_assoc
 
 -- the function has this kind, and is within the limits
@@ -208,13 +208,14 @@ read_function-sound kind tokens =
     mark_then W Q tokens EqualsSign t5 _ (λ t6 e5.
     then_sound expression_tokens (IsExpressionWithin nesting_limit) W Q tokens t6 (read_expression nesting_limit t6) _ (read_expression-sound nesting_limit t6)
     (λ body t7 e6 body_within.
-    mark_then W Q tokens Semicolon t7 _ (λ t8 e7.
-    ((e0 ∙ ap (λ ts. NameToken name ∷ ts) (e1 ∙ ap (λ ts. MarkToken LeftParenthesis ∷ ts)
-        (e2 ∙ ap (λ ts. parameters_written parameters ++ ts) (e3 ∙ ap (λ ts. MarkToken Colon ∷ ts)
-        (e4 ∙ ap (λ ts. type_tokens result_type ++ ts) (e5 ∙ ap (λ ts. MarkToken EqualsSign ∷ ts)
-        (e6 ∙ ap (λ ts. expression_tokens body ++ ts) e7)))))))
-        ∙ function_grouped name (parameters_tokens parameters) (type_tokens result_type) (expression_tokens body) t8,
-    (refl, record { has_parameter = all.0; parameters = all.1; result_type = result_within; body = body_within }))))))))))
+    mark_then W Q tokens Semicolon t7 _ (λ t8 e7. (
+      (e0 ∙ ap (λ ts. NameToken name ∷ ts) (e1 ∙ ap (λ ts. MarkToken LeftParenthesis ∷ ts)
+          (e2 ∙ ap (λ ts. parameters_written parameters ++ ts) (e3 ∙ ap (λ ts. MarkToken Colon ∷ ts)
+          (e4 ∙ ap (λ ts. type_tokens result_type ++ ts) (e5 ∙ ap (λ ts. MarkToken EqualsSign ∷ ts)
+          (e6 ∙ ap (λ ts. expression_tokens body ++ ts) e7)))))))
+          ∙ function_grouped name (parameters_tokens parameters) (type_tokens result_type) (expression_tokens body) t8,
+      (refl, record { has_parameter = all.0; parameters = all.1; result_type = result_within; body = body_within }),
+    )))))))))
 
 -- the type of the state, behind its keyword
 abbrev state_written : TypeSyntax → List Token
@@ -228,12 +229,15 @@ read_state-sound tokens =
 
 function_declared : (kind : KindSyntax) (rest : List Token)
     → IsSound declaration_tokens IsDeclarationWithin (KeywordToken (kind_keyword kind) ∷ rest)
-        (then_read (read_function kind rest) (λ function rest. Found (FunctionDeclaration function) rest))
+    (then_read (read_function kind rest) (λ function rest. Found (FunctionDeclaration function) rest))
 function_declared kind rest =
     then_sound function_written (IsOfKindWithin kind) declaration_tokens IsDeclarationWithin (KeywordToken (kind_keyword kind) ∷ rest) rest
     (read_function kind rest) _ (read_function-sound kind rest)
-    (λ function after e h. (ap (λ ts. KeywordToken (kind_keyword kind) ∷ ts) e
-        ∙ ap (λ k. KeywordToken (kind_keyword k) ∷ (function_written function ++ after)) (sym h.0), h.1))
+    (λ function after e h. (
+      ap (λ ts. KeywordToken (kind_keyword kind) ∷ ts) e
+          ∙ ap (λ k. KeywordToken (kind_keyword k) ∷ (function_written function ++ after)) (sym h.0),
+      h.1,
+    ))
 
 pub read_declaration-sound : (tokens : List Token) → IsSound declaration_tokens IsDeclarationWithin tokens (read_declaration tokens)
 read_declaration-sound (KeywordToken StateWord ∷ rest) =

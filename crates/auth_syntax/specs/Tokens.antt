@@ -1,5 +1,5 @@
 -- The tokens of a text: the words and marks that it consists of, without the blanks and comments between them.
-use Rattle.std.specs.Prelude.{ℕ, zero, suc, Bool, not, ◌==◌, ◌||◌, nat_lt, ◌-◌, List, [], ◌∷◌, ◌++◌, length, Option, Some, None, option_map, if◌then◌else◌, codes, bytes_eq, take}
+use Rattle.std.specs.Prelude.{ℕ, zero, suc, Bool, not, ◌==◌, ◌||◌, nat_lt, ◌-◌, List, [], ◌∷◌, length, Option, Some, None, option_map, if◌then◌else◌, codes, bytes_eq, take}
 use Rattle.std.specs.List.{prefix_len, list_any}
 use Rattle.std.specs.Char.{is_ascii_lowercase, is_ascii_alphanumeric}
 
@@ -83,11 +83,6 @@ pub data Piece : Type 0 where
 abbrev pub size_of : Piece → ℕ
 size_of (PassedOver size) = size
 size_of (Taken token size) = size
-
--- tokens, with that of one more piece
-abbrev pub with_piece : List Token → Piece → List Token
-with_piece before (PassedOver size) = before
-with_piece before (Taken token size) = before ++ token ∷ []
 
 -- The piece at the head of a text: a comment up to the end of its line, a single blank or mark, or a word, which is the longest
 -- run of name bytes that begins with a small letter. Nothing else is a piece.
