@@ -1,1 +1,4 @@
 pub mod Verdicts
+pub mod Pieces
+pub mod Shallow
+pub mod Standing
