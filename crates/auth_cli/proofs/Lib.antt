@@ -1,3 +1,5 @@
 
 pub mod Offers
 pub mod ReadShallow
+pub mod Opening
+pub mod Locals

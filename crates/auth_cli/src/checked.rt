@@ -8,6 +8,7 @@ ghost use Rattle.core_terms.specs.TypeTables.{type_at};
 ghost use Rattle.core_terms.specs.Values.{AreShallow, IsShallow, Value, Values};
 ghost use Rattle.ideal_meaning.specs.Run as meant;
 ghost use Rattle.ideal_meaning.specs.Checked.{Cause, Taking, checked_mode, take_piece};
+ghost use Rattle.auth_cli.specs.declared.checked.Rejection.TheVariants.{NoPiece};
 ghost use Rattle.auth_cli.specs.Shallow.{value_of, values_of};
 ghost use Rattle.auth_cli.specs.Standing.{IsTypedWith, OpensAs, RunsAs, standing};
 
@@ -24,6 +25,14 @@ pub enum Rejection {
     WrongPiece,
     /// The digests agree, and the piece is no spelling at the type.
     BadPiece,
+}
+
+impl From<NoPiece> for Rejection {
+    ghost from_gives = { λ refusal result. result ≡ NoPiece refusal };
+
+    fn from(refusal: NoPiece) -> Self {
+        Rejection::NoPiece(refusal)
+    }
 }
 
 /// Runs a term on these locals, with the pieces that the frames offer.
@@ -66,9 +75,7 @@ fn open<H: Hash32>(
         (take_piece H.hash (meaning program.now) (type_at (types_of program.now) ty) want.0 place (standing program.now frames.old.rest.now place).more w) }
     ensures shape { IfOk result (λ v. IsShallow (meaning program.now).types (type_at (types_of program.now) ty) (value_of v)) }
 {
-    let piece = frames
-        .take_piece(program.spelling_limit())
-        .map_err(Rejection::NoPiece)?;
+    let piece = frames.take_piece(program.spelling_limit())?;
     if program.digest_at::<H>(ty, piece) != want {
         return Err(Rejection::WrongPiece);
     }
