@@ -28,6 +28,7 @@ pub enum NoPiece {
 }
 
 /// The frames of a proof that are still to be taken.
+#[derive(Drop)]
 pub struct Frames<'a> {
     rest: &'a [u8],
 }

@@ -1,12 +1,13 @@
 // The verifier: a call is judged from the spellings of its state and argument and the bytes of a proof.
-ghost use Rattle.std.specs.Prelude.{◌≡◌, ◌<◌, ◌≤◌, ◌^◌, length, OnErr, OnOk};
+ghost use Rattle.std.specs.Prelude.{◌≡◌, ◌<◌, ◌≤◌, ◌^◌, length, IfOk};
 ghost use Rattle.core_terms.specs.Programs.{meaning};
 ghost use Rattle.core_terms.specs.Terms.{function_at};
 ghost use Rattle.core_terms.specs.Terms as tree;
+ghost use Rattle.core_terms.specs.Values.{AreShallow};
 ghost use Rattle.ideal_meaning.specs.Checked.{checked, verdict};
 ghost use Rattle.auth_cli.specs.Verdicts.{Answers, SaysTrue, argument_type};
 ghost use Rattle.auth_cli.specs.Shallow.{values_of};
-ghost use Rattle.auth_cli.specs.Standing.{EndsAs, IsTypedWith, standing};
+ghost use Rattle.auth_cli.specs.Standing.{EndsAs, HasShape, IsSpelledAs, standing};
 
 use crate::checked::{Rejection, run};
 use crate::frames::Frames;
@@ -74,10 +75,10 @@ fn call<H: Hash32>(
     frames: &mut Frames,
 ) -> Result<Outcome<Shallow>, Rejection>
     requires there { role.0 < length (meaning program.now).functions }
-    requires typed { AreShallow (meaning program.now).types (function_at (meaning program.now) role.0).parameters (values_of arguments.now) }
+    requires typed { AreShallow (meaning program.now).types (function_at (meaning program.now) role.0).parameters (values_of arguments.entry) }
     ensures value { EndsAs program.now frames.new.rest.now result
         (checked H.hash (meaning program.now) role.0 (values_of arguments.entry) fuel (standing program.now frames.old.rest.now 0)) }
-    ensures shape { IfOk result (HasShape (function_at (meaning program.now) role.0).result) }
+    ensures shape { IfOk result (HasShape program.now (function_at (meaning program.now) role.0).result) }
 {
     if fuel == 0 {
         return Ok(Outcome::Out);
@@ -90,7 +91,7 @@ fn call<H: Hash32>(
 
 /// The outcome with the spelling of its value.
 fn spelled(alloc: Global, outcome: Outcome<Shallow>) -> Result<Outcome<Spelling>, AllocError>
-    ensures { IfOk result (λ told. IsOutcomeSpelled outcome told) }
+    ensures { IfOk result (λ told. IsSpelledAs outcome told) }
 {
     Ok(match outcome {
         Outcome::Done(value) => Outcome::Done(Spelling::new(
