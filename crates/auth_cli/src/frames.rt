@@ -1,5 +1,5 @@
 // The frames of a proof file, taken one after another. No piece is kept, so a frame that names a kept one is refused.
-ghost use Rattle.std.specs.Prelude.{◌≡◌, ◌∷◌, ℕ, length, drop, MatchOption, MatchResult, None, OnErr, Some};
+ghost use Rattle.std.specs.Prelude.{◌≡◌, ◌↔◌, ◌∷◌, [], ℕ, IsTrue, length, drop, MatchOption, MatchResult, None, OnErr, Some};
 ghost use Rattle.core_terms.specs.Programs.{meaning};
 ghost use Rattle.ideal_meaning.specs.Frames.{header, NoMore, Offers};
 ghost use Rattle.auth_cli.specs.Pieces.{end_of, offer};
@@ -49,7 +49,9 @@ impl<'a> Frames<'a> {
     }
 
     /// No byte is left.
-    pub fn is_empty(&self) -> bool {
+    pub fn is_empty(&self) -> bool
+        ensures { IsTrue result ↔ (self.now.rest.now ≡ []) }
+    {
         self.rest.is_empty()
     }
 

@@ -6,6 +6,7 @@ ghost use Rattle.core_terms.specs.Terms as tree;
 ghost use Rattle.core_terms.specs.Values.{AreShallow};
 ghost use Rattle.ideal_meaning.specs.Checked.{checked, verdict};
 ghost use Rattle.auth_cli.specs.Verdicts.{Answers, SaysTrue, argument_type};
+ghost use Rattle.auth_cli.specs.declared.verify.Verdict.TheVariants.{NoMemory, Rejected};
 ghost use Rattle.auth_cli.specs.Shallow.{values_of};
 ghost use Rattle.auth_cli.specs.Standing.{EndsAs, HasShape, IsSpelledAs, standing};
 
@@ -26,6 +27,22 @@ pub enum Verdict {
     BadArgument,
     /// Memory was wanting.
     NoMemory,
+}
+
+impl From<Rejection> for Verdict {
+    ghost from_gives = { λ rejection result. result ≡ Rejected };
+
+    fn from(_rejection: Rejection) -> Self {
+        Verdict::Rejected
+    }
+}
+
+impl From<AllocError> for Verdict {
+    ghost from_gives = { λ error result. result ≡ NoMemory };
+
+    fn from(_error: AllocError) -> Self {
+        Verdict::NoMemory
+    }
 }
 
 /// Judges a call of a query with this much fuel (at most 10^12), from the spellings of its state and its argument.
@@ -57,13 +74,11 @@ pub fn verify<H: Hash32>(
     let Some(mut frames) = Frames::open(program, proof) else {
         return Err(Verdict::Rejected);
     };
-    let ended = call::<H>(program, role, [state, argument], fuel, &mut frames);
-    match ended {
-        Ok(outcome) if frames.is_empty() => {
-            spelled(alloc, outcome).map_err(|_| Verdict::NoMemory)
-        }
-        _ => Err(Verdict::Rejected),
+    let outcome = call::<H>(program, role, [state, argument], fuel, &mut frames)?;
+    if !frames.is_empty() {
+        return Err(Verdict::Rejected);
     }
+    Ok(spelled(alloc, outcome)?)
 }
 
 /// Calls a query on its state and argument: it is out of fuel where none is left for the call.
@@ -75,9 +90,9 @@ fn call<H: Hash32>(
     frames: &mut Frames,
 ) -> Result<Outcome<Shallow>, Rejection>
     requires there { role.0 < length (meaning program.now).functions }
-    requires typed { AreShallow (meaning program.now).types (function_at (meaning program.now) role.0).parameters (values_of arguments.entry) }
+    requires typed { AreShallow (meaning program.now).types (function_at (meaning program.now) role.0).parameters (values_of arguments) }
     ensures value { EndsAs program.now frames.new.rest.now result
-        (checked H.hash (meaning program.now) role.0 (values_of arguments.entry) fuel (standing program.now frames.old.rest.now 0)) }
+        (checked H.hash (meaning program.now) role.0 (values_of arguments) fuel (standing program.now frames.old.rest.now 0)) }
     ensures shape { IfOk result (HasShape program.now (function_at (meaning program.now) role.0).result) }
 {
     if fuel == 0 {

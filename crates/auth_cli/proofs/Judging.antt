@@ -1,0 +1,98 @@
+-- The verdict on a call, step by step: the state, the argument, the header, the run and what is left behind it.
+use Rattle.std.proofs.Common.{◌≡◌, ℕ, zero, suc, ◌<◌, List, [], ◌∷◌, length, drop, Option, Some, None, Ok, Err, refl, sym, ap, ◌∙◌, subst}
+use Rattle.core_terms.specs.Types.{Ty}
+use Rattle.core_terms.specs.Formats.{Hash}
+use Rattle.core_terms.specs.Values.{Value, Values, NoV, AndV}
+use Rattle.core_terms.specs.Reading.{Read, Good, BadAt}
+use Rattle.core_terms.specs.Projection.{read_at}
+use Rattle.core_terms.specs.Programs.{meaning, types_of}
+use Rattle.core_terms.specs.TypeTables.{type_at}
+use Rattle.core_terms.specs.declared.program.Program.{Program}
+use Rattle.core_terms.specs.declared.types.TyId.{TyId}
+use Rattle.core_terms.specs.declared.outcome.Outcome.{Outcome}
+use Rattle.core_terms.specs.declared.outcome.Outcome.TheVariants as told
+use Rattle.core_terms.specs.declared.spelling.Spelling.{Spelling}
+use Rattle.ideal_meaning.specs.Run.{Run}
+use Rattle.ideal_meaning.specs.Ideal as ideal
+use Rattle.ideal_meaning.specs.Frames.{header}
+use Rattle.ideal_meaning.specs.Checked.{Cause, Taking, Verdict, Rejected, Accepted, BadState, BadArgument, checked, judged, verdict}
+use Rattle.auth_cli.specs.Shallow.{IsReadAs, value_of, values_of}
+use Rattle.auth_cli.specs.Standing.{EndsAs, HasShape, IsSpelledAs, standing}
+use Rattle.auth_cli.specs.Verdicts.{IsSpelled}
+use Rattle.auth_cli.specs.declared.reading.Shallow.{Shallow}
+use Rattle.auth_cli.specs.declared.checked.Rejection.{Rejection}
+
+-- what is read at a type by its number is read at the type
+pub read_there : (p : Program) (ty : TyId) (t : Ty) (bytes : List ℕ) (found : Option Shallow) → type_at (types_of p) ty ≡ t
+    → IsReadAs (read_at (meaning p) (type_at (types_of p) ty) bytes) found → IsReadAs (read_at (meaning p) t bytes) found
+read_there p ty t bytes found e h = subst (λ (t : Ty). IsReadAs (read_at (meaning p) t bytes) found) e h
+
+fault_at : (r : Read Value) → IsReadAs r None → (offset : ℕ) × (r ≡ BadAt offset)
+fault_at (BadAt offset) h = (offset, refl)
+fault_at (Good v rest place) h = absurd h
+
+good_at : (r : Read Value) (s : Shallow) → IsReadAs r (Some s) → (rest : List ℕ) × (place : ℕ) × (r ≡ Good (value_of s) rest place)
+good_at (BadAt offset) s h = absurd h
+good_at (Good v rest place) s h = (rest, place, ap (λ v. Good v rest place) h)
+
+module _ (hash : Hash) (p : Program) (t : Ty) (f : ℕ) (state argument : List ℕ) (k : ℕ) (proof : List ℕ) where
+  pub bad_state : IsReadAs (read_at (meaning p) (meaning p).state state) None
+      → (offset : ℕ) × (verdict hash (meaning p) t f state argument k proof ≡ BadState offset)
+  bad_state h =
+      let fault = fault_at (read_at (meaning p) (meaning p).state state) h in
+      (fault.0, rw fault.1 refl)
+
+  pub bad_argument : (s : Shallow) → IsReadAs (read_at (meaning p) (meaning p).state state) (Some s) → IsReadAs (read_at (meaning p) t argument) None
+      → (offset : ℕ) × (verdict hash (meaning p) t f state argument k proof ≡ BadArgument offset)
+  bad_argument s h h' =
+      let good = good_at (read_at (meaning p) (meaning p).state state) s h in
+      let fault = fault_at (read_at (meaning p) t argument) h' in
+      (fault.0, rw (good.2, fault.1) refl)
+
+  pub bad_header : (s a : Shallow) → IsReadAs (read_at (meaning p) (meaning p).state state) (Some s) → IsReadAs (read_at (meaning p) t argument) (Some a)
+      → header (meaning p).format proof ≡ None
+      → (cause : Cause) × (verdict hash (meaning p) t f state argument k proof ≡ Rejected cause)
+  bad_header s a h h' n =
+      let good = good_at (read_at (meaning p) (meaning p).state state) s h in
+      let good' = good_at (read_at (meaning p) t argument) a h' in
+      (_, rw (good.2, good'.2, n) refl)
+
+  pub judged_as : (s a : Shallow) → IsReadAs (read_at (meaning p) (meaning p).state state) (Some s) → IsReadAs (read_at (meaning p) t argument) (Some a)
+      → header (meaning p).format proof ≡ Some 0
+      → verdict hash (meaning p) t f state argument k proof ≡ judged (checked hash (meaning p) f (values_of (s ∷ a ∷ [])) k (standing p (drop 6 proof) 0))
+  judged_as s a h h' n =
+      let good = good_at (read_at (meaning p) (meaning p).state state) s h in
+      let good' = good_at (read_at (meaning p) t argument) a h' in
+      rw (good.2, good'.2, n) refl
+
+-- a run that is rejected is told as a rejection
+pub rejected : (p : Program) (rest : List ℕ) (refusal : Rejection) (run : Run Cause Taking Value) (v : Verdict) → v ≡ judged run
+    → EndsAs p rest (Err refusal) run → (cause : Cause) × (v ≡ Rejected cause)
+rejected p rest refusal run v h (cause, k, w, e) = (cause, h ∙ ap judged e)
+
+-- bytes that are left are a rejection
+pub left_over : (p : Program) (rest : List ℕ) (o : Outcome Shallow) (run : Run Cause Taking Value) (v : Verdict) → v ≡ judged run
+    → EndsAs p rest (Ok o) run → (rest ≡ [] → ⊥) → (cause : Cause) × (v ≡ Rejected cause)
+left_over p [] o run v h ends n = absurd (n refl)
+left_over p (b ∷ rest) (told.Done s) run v h (place, k, e) n = (_, h ∙ ap judged e)
+left_over p (b ∷ rest) (told.Trapped trap) run v h ends n = absurd ends
+left_over p (b ∷ rest) told.Out run v h (place, k, e) n = (_, h ∙ ap judged e)
+
+answered_at : (p : Program) (t : Ty) (o : Outcome Shallow) (with_spelling : Outcome Spelling) (run : Run Cause Taking Value) (v : Verdict) → v ≡ judged run
+    → EndsAs p [] (Ok o) run → HasShape p t o → IsSpelledAs o with_spelling
+    → (outcome : ideal.Outcome) × (v ≡ Accepted outcome) × IsSpelled (meaning p) t outcome with_spelling
+answered_at p t (told.Done s) (told.Done bytes) run v h (place, k, e) shape e' =
+    (ideal.Done (value_of s), h ∙ ap judged e, (value_of s, refl, shape, sym e'))
+answered_at p t told.Out told.Out run v h (place, k, e) shape e' = (ideal.Out, h ∙ ap judged e, refl)
+answered_at p t (told.Trapped trap) other run v h ends shape e' = absurd ends
+answered_at p t (told.Done s) (told.Trapped trap) run v h ends shape e' = absurd e'
+answered_at p t (told.Done s) told.Out run v h ends shape e' = absurd e'
+answered_at p t told.Out (told.Done bytes) run v h ends shape e' = absurd e'
+answered_at p t told.Out (told.Trapped trap) run v h ends shape e' = absurd e'
+
+-- where none is left, the outcome is accepted
+pub answered : (p : Program) (rest : List ℕ) (t : Ty) (o : Outcome Shallow) (with_spelling : Outcome Spelling) (run : Run Cause Taking Value) (v : Verdict) → v ≡ judged run
+    → EndsAs p rest (Ok o) run → rest ≡ [] → HasShape p t o → IsSpelledAs o with_spelling
+    → (outcome : ideal.Outcome) × (v ≡ Accepted outcome) × IsSpelled (meaning p) t outcome with_spelling
+answered p rest t o with_spelling run v h ends none shape e =
+    answered_at p t o with_spelling run v h (subst (λ (rest : List ℕ). EndsAs p rest (Ok o) run) none ends) shape e
