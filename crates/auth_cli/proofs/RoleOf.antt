@@ -1,5 +1,5 @@
 -- What a program's type says of its roles: a body is typed, and a query has the state and an argument as parameters.
-use Rattle.std.proofs.Common.{◌≡◌, ℕ, ◌<◌, List, [], ◌∷◌, length, map, slice_index_or, slice_get, Some, unwrap_or, refl, sym, ap, ◌∙◌, subst, lit<, arith}
+use Rattle.std.proofs.Common.{◌≡◌, ℕ, ◌<◌, List, [], ◌∷◌, length, map, slice_index_or, slice_get, Some, unwrap_or, refl, sym, ap, ◌∙◌, subst, lit<, arith, vec_len}
 use Rattle.std.proofs.lemmas.Option.{slice_get-get_or, unwrap_or-slice_get}
 use Rattle.std.proofs.lemmas.List.{length-map, get_or-map}
 use Rattle.core_terms.specs.Types.{Ty, UnitTy}
@@ -14,6 +14,9 @@ use Rattle.core_terms.specs.declared.program.Program.{Program}
 use Rattle.core_terms.specs.declared.term.Function.{Function}
 use Rattle.core_terms.specs.declared.types.TyId.{TyId}
 use Rattle.core_terms.proofs.LawProofs.{typing_test_is_exact, shape_test_is_exact, first_format_is_format}
+use Rattle.core_terms.specs.Values.{AreShallow, IsShallow}
+use Rattle.auth_cli.specs.Shallow.{value_of, values_of}
+use Rattle.auth_cli.specs.declared.reading.Shallow.{Shallow}
 use Rattle.auth_cli.specs.Verdicts.{argument_type}
 
 -- a program of the code is well-typed
@@ -67,10 +70,10 @@ code_parameters : (p : Program) (f : ℕ) (fn : Function) → f < length (meanin
 code_parameters p f fn h q e = ap (λ (g : tree.Function). g.parameters) e ∙ query_parameters p f h q
 
 pub two_parameters : (p : Program) (f : ℕ) (fn : Function) → f < length (meaning p).functions → (function_at (meaning p) f).kind ≡ tree.Query
-    → function_of (types_of p) fn ≡ function_at (meaning p) f → 1 < length fn.parameters.items
+    → function_of (types_of p) fn ≡ function_at (meaning p) f → 1 < vec_len fn.parameters
 two_parameters p f fn h q e =
     let two : length fn.parameters.items ≡ 2 = sym (length-map fn.parameters.items (type_at (types_of p))) ∙ ap length (code_parameters p f fn h q e) in
-    omega (arith, two)
+    omega (arith, two, fn.parameters.ok)
 
 -- the second of them is the argument's type
 pub second_type : (p : Program) (f : ℕ) (fn : Function) (second none : TyId) → f < length (meaning p).functions → (function_at (meaning p) f).kind ≡ tree.Query
@@ -78,5 +81,14 @@ pub second_type : (p : Program) (f : ℕ) (fn : Function) (second none : TyId) �
     → type_at (types_of p) second ≡ argument_type (meaning p) f
 second_type p f fn second none h q e is =
     ap (type_at (types_of p)) is
-    ∙ sym (get_or-map (type_at (types_of p)) fn.parameters.items 1 none UnitTy (two_parameters p f fn h q e))
+    ∙ sym (get_or-map (type_at (types_of p)) fn.parameters.items 1 none UnitTy (omega (arith, two_parameters p f fn h q e, fn.parameters.ok)))
     ∙ ap (λ ts. slice_index_or ts 1 UnitTy) (code_parameters p f fn h q e)
+
+-- a state and an argument of these types are what a query takes
+pub takes : (p : Program) (f : ℕ) (state_type argument_ty : TyId) (s a : Shallow) → f < length (meaning p).functions → (function_at (meaning p) f).kind ≡ tree.Query
+    → type_at (types_of p) state_type ≡ (meaning p).state → IsShallow [] (type_at (types_of p) state_type) (value_of s)
+    → type_at (types_of p) argument_ty ≡ argument_type (meaning p) f → IsShallow [] (type_at (types_of p) argument_ty) (value_of a)
+    → AreShallow [] (function_at (meaning p) f).parameters (values_of (s ∷ a ∷ []))
+takes p f state_type argument_ty s a h q e shape e' shape' =
+    subst (λ ts. AreShallow [] ts (values_of (s ∷ a ∷ []))) (sym (query_parameters p f h q))
+    (subst (λ (t : Ty). IsShallow [] t (value_of s)) e shape, (subst (λ (t : Ty). IsShallow [] t (value_of a)) e' shape', tt))
