@@ -1,4 +1,5 @@
 use Rattle.std.proofs.Common.{Ok}
+use Rattle.core_terms.specs.Formats.{IsHash}
 use Rattle.core_terms.specs.Programs.{meaning}
 use Rattle.core_terms.specs.Terms.{function_at}
 use Rattle.auth_cli.specs.Verdicts.{argument_type}
@@ -64,5 +65,6 @@ returns-clause-verdict g c =
 
 pub returns-clause-headline : goal.returns-clause-headline
 returns-clause-headline g c =
-    says_true g.H.Hash32.hash g.H.Hash32.digest_length c.args.program.now c.args.role.0 c.requires.there c.requires.query c.args.state.now c.args.argument.now c.args.fuel c.args.proof.now
+    let is_hash : IsHash g.H.Hash32.hash = (g.met.H.Hash32 g.world.𝓛 g.world.𝓜 g.world.𝓡 ((λ s x. x), (λ x. x), (λ x. x), (λ x. x))).digest_length in
+    says_true g.H.Hash32.hash is_hash c.args.program.now c.args.role.0 c.requires.there c.requires.query c.args.state.now c.args.argument.now c.args.fuel c.args.proof.now
     (Ok c.in_ok-spelled.field-0) (returns-clause-verdict g c)
