@@ -1,8 +1,8 @@
 -- The verdict on a call, step by step: the state, the argument, the header, the run and what is left behind it.
-use Rattle.std.proofs.Common.{◌≡◌, ℕ, zero, suc, ◌<◌, List, [], ◌∷◌, length, drop, Option, Some, None, Result, Ok, Err, IsErrAnd, Bool, true, false, refl, sym, ap, ◌∙◌, subst}
+use Rattle.std.proofs.Common.{◌≡◌, ℕ, List, [], ◌∷◌, drop, Option, Some, None, Result, Ok, Err, IsErrAnd, Bool, true, false, refl, sym, ap, ◌∙◌, subst}
 use Rattle.core_terms.specs.Types.{Ty}
 use Rattle.core_terms.specs.Formats.{Hash}
-use Rattle.core_terms.specs.Values.{Value, Values, NoV, AndV}
+use Rattle.core_terms.specs.Values.{Value}
 use Rattle.core_terms.specs.Reading.{Read, Good, BadAt}
 use Rattle.core_terms.specs.Projection.{read_at}
 use Rattle.core_terms.specs.Programs.{meaning, types_of}

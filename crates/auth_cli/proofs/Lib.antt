@@ -1,4 +1,3 @@
-
 pub mod Offers
 pub mod ReadShallow
 pub mod Opening

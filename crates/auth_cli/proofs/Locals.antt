@@ -1,5 +1,5 @@
 -- The locals of a run: their number, values and types.
-use Rattle.std.proofs.Common.{◌≡◌, ℕ, zero, suc, ◌<◌, List, [], ◌∷◌, length, slice_index_or, slice_get, Some, refl, sym, ap, ◌∙◌, subst}
+use Rattle.std.proofs.Common.{◌≡◌, ℕ, zero, suc, ◌<◌, List, [], ◌∷◌, length, slice_index_or, slice_get, Some, refl, ap, subst}
 use Rattle.std.proofs.lemmas.Option.{slice_get_within}
 use Rattle.core_terms.specs.Types.{Ty, Table}
 use Rattle.core_terms.specs.Values.{AreShallow, IsShallow}

@@ -1,5 +1,5 @@
 -- What bytes offer where no piece is kept: it depends neither on the bound on frames nor on the pieces before.
-use Rattle.std.proofs.Common.{◌≡◌, ℕ, zero, suc, ◌+◌, ◌≤◌, ◌<◌, List, [], ◌∷◌, length, take, drop, nat_lt, if◌then◌else◌, refl, ap, arith, length-drop, le-ltb, subst, ◌∙◌}
+use Rattle.std.proofs.Common.{◌≡◌, ℕ, zero, suc, ◌+◌, ◌≤◌, List, [], ◌∷◌, length, take, drop, nat_lt, if◌then◌else◌, refl, ap, arith, length-drop, le-ltb, subst, ◌∙◌}
 use Rattle.std.specs.Int.{w32, from_be_bytes}
 use Rattle.byteorder.specs.Endian.{big_number}
 use Rattle.ideal_meaning.specs.Frames.{NoMore, IsCut, LongBy, Offers, frames}
@@ -40,7 +40,7 @@ took_at limit frame h l w =
     let whole = le-ltb (length frame) (4 + len) long in
     let fits : length (behind frame) ≤ length frame = omega (arith, length-drop len (drop 4 frame), length-drop 4 frame) in
     let same : frames limit (length frame) 0 (piece_of frame ∷ []) (behind frame) ≡ offer limit (behind frame) =
-        any_bound limit (length frame) (length (behind frame)) (piece_of frame ∷ []) [] (behind frame) fits (omega arith) in
+    any_bound limit (length frame) (length (behind frame)) (piece_of frame ∷ []) [] (behind frame) fits (omega arith) in
     rw (whole_head, short, whole) (ap (Offers (piece_of frame) (length (behind frame))) same)
 
 -- four bytes are read as one number

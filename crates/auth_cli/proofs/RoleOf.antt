@@ -1,5 +1,5 @@
 -- What a program's type says of its roles: a body is typed, and a query has the state and an argument as parameters.
-use Rattle.std.proofs.Common.{◌≡◌, ℕ, ◌<◌, List, [], ◌∷◌, length, map, slice_index_or, slice_get, Some, unwrap_or, refl, sym, ap, ◌∙◌, subst, lit<, arith, vec_len}
+use Rattle.std.proofs.Common.{◌≡◌, ℕ, ◌<◌, [], ◌∷◌, length, map, slice_index_or, slice_get, Some, unwrap_or, refl, sym, ap, ◌∙◌, subst, lit<, arith, vec_len}
 use Rattle.std.proofs.lemmas.Option.{slice_get-get_or, unwrap_or-slice_get}
 use Rattle.std.proofs.lemmas.List.{length-map, get_or-map}
 use Rattle.core_terms.specs.Types.{Ty, UnitTy}

@@ -24,5 +24,5 @@ says_true hash is_hash p f there query state argument k proof (Ok told) (o, acce
     let P = meaning p in
     let t = argument_type P f in
     let same = sym (ap (λ bytes. verdict hash P t f bytes (spelling (projection hash P t a)) k proof) state_is)
-        ∙ (sym (ap (λ bytes. verdict hash P t f state bytes k proof) argument_is) ∙ accepted) in
+    ∙ (sym (ap (λ bytes. verdict hash P t f state bytes k proof) argument_is) ∙ accepted) in
     (o, spelled, headline hash is_hash P (is_format p) (is_typed p) f tree.Query t (function_at P f).result (query_role p f there query) tt v a ideal_state ideal_argument k proof o same)

@@ -1,5 +1,5 @@
 -- The values that the verifier holds, as values of the definitions.
-use Rattle.std.specs.Prelude.{◌≡◌, ℕ, List, [], ◌∷◌, Option, Some, None}
+use Rattle.std.specs.Prelude.{◌≡◌, List, [], ◌∷◌, Option, Some, None}
 use Rattle.core_terms.specs.Values.{Value, UnitV, DigestV, Values, NoV, AndV}
 use Rattle.core_terms.specs.Reading.{Read, Good, BadAt}
 use Rattle.auth_cli.specs.declared.reading.Shallow.{Shallow}

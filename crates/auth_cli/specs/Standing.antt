@@ -1,5 +1,5 @@
 -- Where the verifier stands in a proof, and how its results tell the checked meaning.
-use Rattle.std.specs.Prelude.{◌≡◌, ℕ, List, [], length, Result, Ok, Err}
+use Rattle.std.specs.Prelude.{◌≡◌, ℕ, List, length, Result, Ok, Err}
 use Rattle.core_terms.specs.Types.{Ty}
 use Rattle.core_terms.specs.Values.{Value, AreShallow, IsShallow}
 use Rattle.core_terms.specs.Spelling.{spelling}

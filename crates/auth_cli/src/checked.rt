@@ -53,9 +53,7 @@ pub fn run<H: Hash32>(
         Term::Local(id) => Ok(locals[id.0]),
         Term::Auth(ty, term) => {
             let value = run::<H>(program, term, locals, frames)?;
-            Ok(Shallow::Digest(
-                program.digest_at::<H>(*ty, value.spelling()),
-            ))
+            Ok(Shallow::Digest(program.digest_at::<H>(*ty, value.spelling())))
         }
         Term::Unauth(ty, term) => match run::<H>(program, term, locals, frames)? {
             Shallow::Digest(want) => open::<H>(program, *ty, want, frames),

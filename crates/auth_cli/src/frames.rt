@@ -41,7 +41,9 @@ impl<'a> Frames<'a> {
     {
         let (magic, behind) = proof.split_at_checked(4)?;
         let (kept, rest) = behind.split_at_checked(2)?;
-        if magic == program.proof_magic().as_slice() && BigEndian::read_u16(kept) <= program.most_kept() {
+        if magic == program.proof_magic().as_slice()
+            && BigEndian::read_u16(kept) <= program.most_kept()
+        {
             Some(Frames { rest })
         } else {
             None

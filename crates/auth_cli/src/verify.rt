@@ -64,6 +64,7 @@ pub fn verify<H: Hash32>(
         Answers P role.0 (verdict H.hash P (argument_type P role.0) role.0 state.now argument.now fuel proof.now) result }
     ensures headline { SaysTrue H.hash (meaning program.now) role.0 state.now argument.now fuel proof.now result }
 {
+    // of a query: the state and the argument
     let parameters = &program.function(role).parameters;
     let Some(state) = Shallow::read(program, program.state_type(), state) else {
         return Err(Verdict::BadState);
@@ -99,9 +100,8 @@ fn call<H: Hash32>(
         return Ok(Outcome::Out);
     }
     let body = &program.function(role).body;
-    Ok(Outcome::Done(
-        run::<H>(program, body, &arguments, frames)?,
-    ))
+    let value = run::<H>(program, body, &arguments, frames)?;
+    Ok(Outcome::Done(value))
 }
 
 /// The outcome with the spelling of its value.
@@ -109,9 +109,7 @@ fn spelled(alloc: Global, outcome: Outcome<Shallow>) -> Result<Outcome<Spelling>
     ensures { IfOk result (λ told. IsSpelledAs outcome told) }
 {
     Ok(match outcome {
-        Outcome::Done(value) => Outcome::Done(Spelling::new(
-            value.spelling().to_vec(alloc)?,
-        )),
+        Outcome::Done(value) => Outcome::Done(Spelling::new(value.spelling().to_vec(alloc)?)),
         Outcome::Trapped(trap) => Outcome::Trapped(trap),
         Outcome::Out => Outcome::Out,
     })

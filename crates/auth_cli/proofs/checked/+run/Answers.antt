@@ -1,4 +1,4 @@
-use Rattle.std.proofs.Common.{◌≡◌, ◌<◌, length, refl, ap, ◌∙◌, sym, arith}
+use Rattle.std.proofs.Common.{◌<◌, length, refl, ap, arith}
 use Rattle.core_terms.specs.Programs.{types_of}
 use Rattle.core_terms.specs.ProgramTrees.{expression_of}
 use Rattle.auth_cli.proofs.Locals.{local_is_there, local_value, local_has_type}

@@ -40,8 +40,8 @@ pub returns-in_err-outcome-clause-verdict : goal.returns-in_err-outcome-clause-v
 returns-in_err-outcome-clause-verdict g c =
     let second = second_type c.args.program.now c.args.role.0 c.function.result.now c.index.result.now c.index.result.now c.requires.there c.requires.query c.function.ensures c.index.ensures in
     let judged = judged_as g.H.Hash32.hash c.args.program.now c.args.role.0 c.args.state.now c.args.argument.now c.args.fuel c.args.proof.now c.in-Some.state c.in-Some-read.argument c.in-Some-open.frames.rest.now
-        (read_there c.args.program.now _ (meaning c.args.program.now).state _ _ c.state_type.ensures c.in-Some.ensures.value)
-        (read_there c.args.program.now _ (argument_type (meaning c.args.program.now) c.args.role.0) _ _ second c.in-Some-read.ensures.value) c.in-Some-open.ensures.0 c.in-Some-open.ensures.1 in
+    (read_there c.args.program.now _ (meaning c.args.program.now).state _ _ c.state_type.ensures c.in-Some.ensures.value)
+    (read_there c.args.program.now _ (argument_type (meaning c.args.program.now) c.args.role.0) _ _ second c.in-Some-read.ensures.value) c.in-Some-open.ensures.0 c.in-Some-open.ensures.1 in
     refused (meaning c.args.program.now) c.args.role.0 _ _ c.from_residual.ensures.1
     (rejected c.args.program.now c.call.new.frames.rest.now c.in_err-outcome.field-0.0 _ _ judged c.in_err-outcome.ensures.value)
 
@@ -49,8 +49,8 @@ pub returns-then-not-is_empty-clause-verdict : goal.returns-then-not-is_empty-cl
 returns-then-not-is_empty-clause-verdict g c =
     let second = second_type c.args.program.now c.args.role.0 c.function.result.now c.index.result.now c.index.result.now c.requires.there c.requires.query c.function.ensures c.index.ensures in
     let judged = judged_as g.H.Hash32.hash c.args.program.now c.args.role.0 c.args.state.now c.args.argument.now c.args.fuel c.args.proof.now c.in-Some.state c.in-Some-read.argument c.in-Some-open.frames.rest.now
-        (read_there c.args.program.now _ (meaning c.args.program.now).state _ _ c.state_type.ensures c.in-Some.ensures.value)
-        (read_there c.args.program.now _ (argument_type (meaning c.args.program.now) c.args.role.0) _ _ second c.in-Some-read.ensures.value) c.in-Some-open.ensures.0 c.in-Some-open.ensures.1 in
+    (read_there c.args.program.now _ (meaning c.args.program.now).state _ _ c.state_type.ensures c.in-Some.ensures.value)
+    (read_there c.args.program.now _ (argument_type (meaning c.args.program.now) c.args.role.0) _ _ second c.in-Some-read.ensures.value) c.in-Some-open.ensures.0 c.in-Some-open.ensures.1 in
     left_over c.args.program.now c.call.new.frames.rest.now c.in_ok-outcome.outcome _ _ judged c.in_ok-outcome.ensures.value
     (λ none. differ c.is_empty.result c.if-not-is_empty.true (c.is_empty.ensures.1 none))
 
@@ -58,8 +58,8 @@ pub returns-clause-verdict : goal.returns-clause-verdict
 returns-clause-verdict g c =
     let second = second_type c.args.program.now c.args.role.0 c.function.result.now c.index.result.now c.index.result.now c.requires.there c.requires.query c.function.ensures c.index.ensures in
     let judged = judged_as g.H.Hash32.hash c.args.program.now c.args.role.0 c.args.state.now c.args.argument.now c.args.fuel c.args.proof.now c.in-Some.state c.in-Some-read.argument c.in-Some-open.frames.rest.now
-        (read_there c.args.program.now _ (meaning c.args.program.now).state _ _ c.state_type.ensures c.in-Some.ensures.value)
-        (read_there c.args.program.now _ (argument_type (meaning c.args.program.now) c.args.role.0) _ _ second c.in-Some-read.ensures.value) c.in-Some-open.ensures.0 c.in-Some-open.ensures.1 in
+    (read_there c.args.program.now _ (meaning c.args.program.now).state _ _ c.state_type.ensures c.in-Some.ensures.value)
+    (read_there c.args.program.now _ (argument_type (meaning c.args.program.now) c.args.role.0) _ _ second c.in-Some-read.ensures.value) c.in-Some-open.ensures.0 c.in-Some-open.ensures.1 in
     answered c.args.program.now c.call.new.frames.rest.now (function_at (meaning c.args.program.now) c.args.role.0).result c.in_ok-outcome.outcome c.in_ok-spelled.field-0 _ _ judged
     c.in_ok-outcome.ensures.value (c.is_empty.ensures.0 c.if-not-is_empty.false) c.in_ok-outcome.ensures.shape c.in_ok-spelled.ensures
 
