@@ -1,1 +1,8 @@
-
+pub mod Offers
+pub mod ReadShallow
+pub mod Opening
+pub mod Locals
+pub mod RoleOf
+pub mod Judging
+pub mod Called
+pub mod SaysTrue
