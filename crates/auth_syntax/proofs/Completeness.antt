@@ -1,11 +1,11 @@
 -- What is written with the tokens of a tree within the limits is read as that tree.
-use Rattle.std.proofs.Common.{◌≡◌, ℕ, zero, suc, ◌+◌, ◌<◌, ◌≤◌, List, [], ◌∷◌, ◌++◌, length, Option, Some, None, refl, sym, ap, ◌∙◌, arith, append_assoc, length-append}
+use Rattle.std.proofs.Common.{◌≡◌, ℕ, zero, suc, ◌<◌, ◌≤◌, List, [], ◌∷◌, ◌++◌, length, Some, refl, ap, ◌∙◌, arith, append_assoc, length-append}
 use Rattle.std.specs.Prelude.{option_map}
-use Rattle.auth_syntax.specs.Tokens.{Token, KeywordToken, MarkToken, NameToken, Keyword, StateWord, InitWord, QueryWord, UnitWord, AuthWord, UnauthWord, Mark, LeftParenthesis, RightParenthesis, Comma, Semicolon, Colon, EqualsSign}
+use Rattle.auth_syntax.specs.Tokens.{Token, KeywordToken, MarkToken, NameToken, LeftParenthesis, RightParenthesis, Comma, Semicolon, Colon, EqualsSign}
 use Rattle.auth_syntax.specs.Syntax.{TypeSyntax, UnitTypeSyntax, AuthTypeSyntax, ExpSyntax, UnitSyntax, LocalSyntax, AuthSyntax, UnauthSyntax, ParameterSyntax, KindSyntax, InitSyntax, QuerySyntax, FunctionSyntax, DeclarationSyntax, StateDeclaration, FunctionDeclaration, Program}
-use Rattle.auth_syntax.specs.Grammar.{type_tokens, expression_tokens, parameter_tokens, parameters_tokens, kind_keyword, function_tokens, declaration_tokens, program_tokens, type_levels, expression_levels, nesting_limit, AreParametersWithin, HasParameter, IsFunctionWithin, IsDeclarationWithin, IsProgramWithin}
+use Rattle.auth_syntax.specs.Grammar.{type_tokens, expression_tokens, parameter_tokens, parameters_tokens, kind_keyword, declaration_tokens, program_tokens, type_levels, expression_levels, nesting_limit, AreParametersWithin, HasParameter, IsFunctionWithin, IsDeclarationWithin, IsProgramWithin}
 use Rattle.auth_syntax.proofs.Soundness.{function_written}
-use Rattle.auth_syntax.specs.Parsing.{Reading, Found, NotFound, then_read, is_mark, read_mark, read_name, read_type, read_parenthesized, read_expression, read_parameter, read_more_parameters, read_parameters, read_function, read_state, read_declaration, before_others, read_program}
+use Rattle.auth_syntax.specs.Parsing.{Reading, Found, then_read, read_type, read_parenthesized, read_expression, read_parameter, read_more_parameters, read_parameters, read_function, read_state, read_declaration, before_others, read_program}
 
 pub read_type-complete : (levels : ℕ) (t : TypeSyntax) (rest : List Token) → type_levels t ≤ levels
     → read_type levels (type_tokens t ++ rest) ≡ Found t rest

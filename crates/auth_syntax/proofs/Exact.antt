@@ -1,7 +1,7 @@
 -- Parsing finds exactly what the grammar gives.
-use Rattle.std.proofs.Common.{◌≡◌, ℕ, List, [], ◌∷◌, length, Option, Some, None, refl, sym, ap, subst, ◌∙◌}
-use Rattle.std.specs.Prelude.{◌↔◌, option_and_then}
-use Rattle.auth_syntax.specs.Tokens.{Token, KeywordToken, MarkToken, NameToken, LeftParenthesis, RightParenthesis, Comma, Semicolon, Colon, EqualsSign, tokens}
+use Rattle.std.proofs.Common.{◌≡◌, ℕ, List, [], ◌∷◌, length, Option, Some, None, refl, ap, subst, ◌∙◌}
+use Rattle.std.specs.Prelude.{option_and_then}
+use Rattle.auth_syntax.specs.Tokens.{Token, MarkToken, LeftParenthesis, RightParenthesis, tokens}
 use Rattle.auth_syntax.specs.Syntax.{Program, LiteralSyntax, UnitLiteralSyntax}
 use Rattle.auth_syntax.specs.Grammar.{program_tokens, literal_tokens, IsProgramText, IsLiteralText}
 use Rattle.auth_syntax.specs.Parsing.{read_program, parsed, read_literal, literal}

@@ -1,9 +1,9 @@
 -- What is read is written with the tokens that were read, and is within the limits.
-use Rattle.std.proofs.Common.{◌≡◌, ℕ, zero, suc, ◌+◌, ◌<◌, ◌≤◌, Bool, true, false, List, [], ◌∷◌, ◌++◌, length, Option, Some, None, refl, sym, ap, ◌∙◌, arith, cond, append_assoc}
+use Rattle.std.proofs.Common.{◌≡◌, ℕ, zero, suc, ◌≤◌, Bool, true, false, List, [], ◌∷◌, ◌++◌, length, Option, Some, None, refl, sym, ap, ◌∙◌, arith, cond, append_assoc}
 use Rattle.std.specs.Prelude.{option_map}
-use Rattle.auth_syntax.specs.Tokens.{Token, KeywordToken, MarkToken, NameToken, Keyword, StateWord, InitWord, QueryWord, UnitWord, AuthWord, UnauthWord, Mark, LeftParenthesis, RightParenthesis, Comma, Semicolon, Colon, EqualsSign}
-use Rattle.auth_syntax.specs.Syntax.{TypeSyntax, AuthTypeSyntax, ExpSyntax, AuthSyntax, UnauthSyntax, ParameterSyntax, KindSyntax, InitSyntax, QuerySyntax, FunctionSyntax, DeclarationSyntax, StateDeclaration, FunctionDeclaration, Program}
-use Rattle.auth_syntax.specs.Grammar.{type_tokens, expression_tokens, parameter_tokens, parameters_tokens, kind_keyword, function_tokens, declaration_tokens, program_tokens, type_levels, expression_levels, nesting_limit, AreParametersWithin, HasParameter, IsFunctionWithin, IsDeclarationWithin, IsProgramWithin}
+use Rattle.auth_syntax.specs.Tokens.{Token, KeywordToken, MarkToken, NameToken, StateWord, InitWord, QueryWord, UnitWord, AuthWord, UnauthWord, Mark, LeftParenthesis, RightParenthesis, Comma, Semicolon, Colon, EqualsSign}
+use Rattle.auth_syntax.specs.Syntax.{TypeSyntax, ExpSyntax, ParameterSyntax, KindSyntax, InitSyntax, QuerySyntax, FunctionSyntax, DeclarationSyntax, FunctionDeclaration, Program}
+use Rattle.auth_syntax.specs.Grammar.{type_tokens, expression_tokens, parameter_tokens, parameters_tokens, kind_keyword, declaration_tokens, program_tokens, type_levels, expression_levels, nesting_limit, AreParametersWithin, HasParameter, IsFunctionWithin, IsDeclarationWithin, IsProgramWithin}
 use Rattle.auth_syntax.specs.Parsing.{Reading, Found, NotFound, then_read, is_mark, read_mark, read_name, read_type, read_parenthesized, read_expression, read_parameter, read_more_parameters, read_parameters, read_function, read_state, read_declaration, before_others, read_program}
 
 -- what is found at the head of the tokens is written so, and this holds of it

@@ -5,7 +5,7 @@ use Rattle.std.proofs.lemmas.List.{take_rest, append-nil}
 use Rattle.std.specs.Prelude.{option_map, ◌==◌, ◌||◌}
 use Rattle.std.specs.List.{prefix_len}
 use Rattle.std.specs.Char.{is_ascii_lowercase}
-use Rattle.auth_syntax.specs.Tokens.{Token, MarkToken, Mark, is_in_line, is_name_byte, is_blank, mark_of, word_token, Piece, PassedOver, Taken, first_piece, from_piece, tokens_behind, tokens, size_of}
+use Rattle.auth_syntax.specs.Tokens.{Token, MarkToken, Mark, is_in_line, is_name_byte, is_blank, mark_of, Piece, PassedOver, Taken, first_piece, from_piece, tokens_behind, tokens, size_of}
 
 -- what is passed by a part of the bytes is no more than all of them
 prefix_len-≤ : (p : ℕ → Bool) (xs : List ℕ) → prefix_len p xs ≤ length xs

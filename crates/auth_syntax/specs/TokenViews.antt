@@ -1,5 +1,4 @@
 -- What the tokens of the code stand for.
-use Rattle.std.specs.Prelude.{ℕ}
 use Rattle.auth_syntax.specs.Tokens.{Keyword, StateWord, InitWord, QueryWord, UnitWord, AuthWord, UnauthWord, Mark, LeftParenthesis, RightParenthesis, Comma, Semicolon, Colon, EqualsSign, Token, KeywordToken, MarkToken, NameToken, Piece, PassedOver, Taken}
 use Rattle.auth_syntax.specs.declared.token.Keyword.{Keyword as KeywordCode}
 use Rattle.auth_syntax.specs.declared.token.Keyword.TheVariants.{State, Init, Query, Unit as UnitCode, Auth, Unauth}

@@ -1,7 +1,7 @@
 -- What the trees of the code stand for.
 use Rattle.std.specs.Prelude.{List, map, Vec}
 use Rattle.std.specs.declared.alloc.Global.{Global}
-use Rattle.auth_syntax.specs.Syntax.{TypeSyntax, UnitTypeSyntax, AuthTypeSyntax, ExpSyntax, UnitSyntax, LocalSyntax, AuthSyntax, UnauthSyntax, ParameterSyntax, KindSyntax, InitSyntax, QuerySyntax, FunctionSyntax, DeclarationSyntax, StateDeclaration, FunctionDeclaration, Program, LiteralSyntax, UnitLiteralSyntax}
+use Rattle.auth_syntax.specs.Syntax.{TypeSyntax, UnitTypeSyntax, AuthTypeSyntax, ExpSyntax, UnitSyntax, LocalSyntax, AuthSyntax, UnauthSyntax, ParameterSyntax, KindSyntax, InitSyntax, QuerySyntax, FunctionSyntax, DeclarationSyntax, StateDeclaration, FunctionDeclaration, Program}
 use Rattle.auth_syntax.specs.declared.tree.TypeTree.{TypeTree}
 use Rattle.auth_syntax.specs.declared.tree.TypeTree.TheVariants.{UnitType, AuthType'}
 use Rattle.auth_syntax.specs.declared.tree.ExpTree.{ExpTree}
