@@ -1,12 +1,13 @@
 -- What is written with the tokens of a tree within the limits is read as that tree.
-use Rattle.std.proofs.Common.{◌≡◌, ℕ, zero, suc, ◌+◌, ◌<◌, ◌≤◌, List, [], ◌∷◌, ◌++◌, length, Option, Some, None, refl, sym, ap, ◌∙◌, arith, append_assoc, length-append}
+use Rattle.std.proofs.Common.{◌≡◌, ℕ, zero, suc, ◌<◌, ◌≤◌, List, [], ◌∷◌, ◌++◌, length, Some, refl, ap, ◌∙◌, arith, append_assoc, length-append}
 use Rattle.std.specs.Prelude.{option_map}
-use Rattle.auth_syntax.specs.Tokens.{Token, KeywordToken, MarkToken, NameToken, Keyword, StateWord, InitWord, QueryWord, UnitWord, AuthWord, UnauthWord, Mark, LeftParenthesis, RightParenthesis, Comma, Semicolon, Colon, EqualsSign}
+use Rattle.auth_syntax.specs.Tokens.{Token, KeywordToken, MarkToken, NameToken, LeftParenthesis, RightParenthesis, Comma, Semicolon, Colon, EqualsSign}
 use Rattle.auth_syntax.specs.Syntax.{TypeSyntax, UnitTypeSyntax, AuthTypeSyntax, ExpSyntax, UnitSyntax, LocalSyntax, AuthSyntax, UnauthSyntax, ParameterSyntax, KindSyntax, InitSyntax, QuerySyntax, FunctionSyntax, DeclarationSyntax, StateDeclaration, FunctionDeclaration, Program}
-use Rattle.auth_syntax.specs.Grammar.{type_tokens, expression_tokens, parameter_tokens, parameters_tokens, kind_keyword, function_tokens, declaration_tokens, program_tokens, type_levels, expression_levels, nesting_limit, AreParametersWithin, HasParameter, IsFunctionWithin, IsDeclarationWithin, IsProgramWithin}
+use Rattle.auth_syntax.specs.Grammar.{type_tokens, expression_tokens, parameter_tokens, parameters_tokens, kind_keyword, declaration_tokens, program_tokens, type_levels, expression_levels, nesting_limit, AreParametersWithin, HasParameter, IsFunctionWithin, IsDeclarationWithin, IsProgramWithin}
 use Rattle.auth_syntax.proofs.Soundness.{function_written}
-use Rattle.auth_syntax.specs.Parsing.{Reading, Found, NotFound, then_read, is_mark, read_mark, read_name, read_type, read_parenthesized, read_expression, read_parameter, read_more_parameters, read_parameters, read_function, read_state, read_declaration, before_others, read_program}
+use Rattle.auth_syntax.specs.Parsing.{Reading, Found, then_read, read_type, read_parenthesized, read_expression, read_parameter, read_more_parameters, read_parameters, read_function, read_state, read_declaration, before_others, read_program}
 
+-- types and expressions
 pub read_type-complete : (levels : ℕ) (t : TypeSyntax) (rest : List Token) → type_levels t ≤ levels
     → read_type levels (type_tokens t ++ rest) ≡ Found t rest
 read_type-complete zero UnitTypeSyntax rest h = absurd (omega arith)
@@ -36,6 +37,7 @@ read_expression-complete (suc levels) (UnauthSyntax inner) rest h =
     ap (λ r. then_read r (λ e ts. Found (UnauthSyntax e) ts)) (parenthesized-complete (read_expression levels) inner rest
     (read_expression-complete levels inner (MarkToken RightParenthesis ∷ rest) (omega arith)))
 
+-- one parameter, and then all of them with the parenthesis that ends them
 read_parameter-complete : (parameter : ParameterSyntax) (rest : List Token) → type_levels parameter.of_type ≤ nesting_limit
     → read_parameter (parameter_tokens parameter ++ rest) ≡ Found parameter rest
 read_parameter-complete parameter rest h =
@@ -76,6 +78,7 @@ then_found : {A B : Type 0} (reading : Reading A) (value : A) (rest : List Token
     → reading ≡ Found value rest → go value rest ≡ result → then_read reading go ≡ result
 then_found reading value rest go result h h' = ap (λ r. then_read r go) h ∙ h'
 
+-- a function behind the keyword of its kind, in the order in which it is read
 function_flat : (function : FunctionSyntax) (rest : List Token)
     → function_written function ++ rest
     ≡ NameToken function.name ∷ MarkToken LeftParenthesis
@@ -83,6 +86,7 @@ function_flat : (function : FunctionSyntax) (rest : List Token)
     ∷ (MarkToken Colon ∷ (type_tokens function.result_type ++ (MarkToken EqualsSign ∷ (expression_tokens function.body ++ (MarkToken Semicolon ∷ rest))))))
 function_flat function rest = simp append_assoc
 
+-- there are tokens enough for the parameters
 parameters_fit : (parameters : List ParameterSyntax) (rest : List Token)
     → length parameters ≤ length (parameters_tokens parameters ++ MarkToken RightParenthesis ∷ rest)
 parameters_fit parameters rest =
@@ -130,6 +134,7 @@ pub program_step : (most : ℕ) (tokens rest : List Token) (declaration : Declar
 program_step most [] rest declaration h = absurd (cc)
 program_step most (token ∷ tokens) rest declaration h = ap (λ r. before_others r (read_program most)) h
 
+-- the whole program
 pub read_program-complete : (most : ℕ) (program : Program) → IsProgramWithin program → length program ≤ most
     → read_program most (program_tokens program) ≡ Some program
 read_program-complete most [] within enough = refl
@@ -139,6 +144,7 @@ read_program-complete (suc most) (declaration ∷ rest) within enough =
     (read_declaration-complete declaration (program_tokens rest) within.0)
     ∙ ap (λ o. option_map (λ program. declaration ∷ program) o) (read_program-complete most rest within.1 (omega arith))
 
+-- a declaration has a token
 pub declaration_tokens-some : (declaration : DeclarationSyntax) → 0 < length (declaration_tokens declaration)
 declaration_tokens-some (StateDeclaration t) = omega arith
 declaration_tokens-some (FunctionDeclaration function) = omega arith

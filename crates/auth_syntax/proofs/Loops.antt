@@ -1,11 +1,10 @@
 -- Parameters and declarations one by one, as the code reads them.
-use Rattle.std.proofs.Common.{◌≡◌, ℕ, zero, suc, Bool, true, false, ◌+◌, ◌<◌, ◌≤◌, List, [], ◌∷◌, ◌++◌, length, Option, Some, None, refl, sym, ap, subst, ◌∙◌, arith, append_assoc, length-append}
-use Rattle.std.proofs.lemmas.List.{append-nil}
+use Rattle.std.proofs.Common.{◌≡◌, ℕ, zero, suc, Bool, true, false, ◌<◌, ◌≤◌, List, [], ◌∷◌, ◌++◌, length, Option, Some, None, refl, ap, subst, ◌∙◌, arith, append_assoc, length-append}
 use Rattle.std.specs.Prelude.{option_map, if◌then◌else◌}
 use Rattle.auth_syntax.specs.Tokens.{Token, MarkToken, RightParenthesis, Comma}
 use Rattle.auth_syntax.specs.Syntax.{ParameterSyntax, DeclarationSyntax, Program}
 use Rattle.auth_syntax.specs.Grammar.{parameter_tokens, declaration_tokens, IsDeclarationWithin}
-use Rattle.auth_syntax.specs.Parsing.{Reading, Found, NotFound, then_read, read_parameter, read_separator, read_more_parameters, read_parameters, read_declaration, read_program, before_others}
+use Rattle.auth_syntax.specs.Parsing.{Reading, Found, NotFound, then_read, read_parameter, read_separator, read_more_parameters, read_parameters, read_declaration, read_program}
 use Rattle.auth_syntax.proofs.Soundness.{IsSound, IsParameterWithin, read_parameter-sound, read_declaration-sound}
 use Rattle.auth_syntax.proofs.Completeness.{program_step, declaration_tokens-some}
 

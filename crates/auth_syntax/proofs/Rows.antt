@@ -1,5 +1,5 @@
 -- Worked texts, with the trees that they parse to.
-use Rattle.std.proofs.Common.{◌≡◌, ℕ, zero, suc, List, [], ◌∷◌, ◌++◌, Option, Some, None, refl, replicate}
+use Rattle.std.proofs.Common.{◌≡◌, ℕ, zero, suc, List, [], ◌∷◌, ◌++◌, Some, None, refl, replicate}
 use Rattle.std.specs.Prelude.{codes}
 use Rattle.auth_syntax.specs.Syntax.{TypeSyntax, UnitTypeSyntax, AuthTypeSyntax, ExpSyntax, UnitSyntax, LocalSyntax, AuthSyntax, UnauthSyntax, InitSyntax, QuerySyntax, StateDeclaration, FunctionDeclaration, UnitLiteralSyntax}
 use Rattle.auth_syntax.specs.Parsing.{parsed, literal}

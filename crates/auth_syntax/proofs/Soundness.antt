@@ -1,9 +1,9 @@
 -- What is read is written with the tokens that were read, and is within the limits.
-use Rattle.std.proofs.Common.{◌≡◌, ℕ, zero, suc, ◌+◌, ◌<◌, ◌≤◌, Bool, true, false, List, [], ◌∷◌, ◌++◌, length, Option, Some, None, refl, sym, ap, ◌∙◌, arith, cond, append_assoc}
+use Rattle.std.proofs.Common.{◌≡◌, ℕ, zero, suc, ◌≤◌, Bool, true, false, List, [], ◌∷◌, ◌++◌, length, Option, Some, None, refl, sym, ap, ◌∙◌, arith, cond, append_assoc}
 use Rattle.std.specs.Prelude.{option_map}
-use Rattle.auth_syntax.specs.Tokens.{Token, KeywordToken, MarkToken, NameToken, Keyword, StateWord, InitWord, QueryWord, UnitWord, AuthWord, UnauthWord, Mark, LeftParenthesis, RightParenthesis, Comma, Semicolon, Colon, EqualsSign}
-use Rattle.auth_syntax.specs.Syntax.{TypeSyntax, AuthTypeSyntax, ExpSyntax, AuthSyntax, UnauthSyntax, ParameterSyntax, KindSyntax, InitSyntax, QuerySyntax, FunctionSyntax, DeclarationSyntax, StateDeclaration, FunctionDeclaration, Program}
-use Rattle.auth_syntax.specs.Grammar.{type_tokens, expression_tokens, parameter_tokens, parameters_tokens, kind_keyword, function_tokens, declaration_tokens, program_tokens, type_levels, expression_levels, nesting_limit, AreParametersWithin, HasParameter, IsFunctionWithin, IsDeclarationWithin, IsProgramWithin}
+use Rattle.auth_syntax.specs.Tokens.{Token, KeywordToken, MarkToken, NameToken, StateWord, InitWord, QueryWord, UnitWord, AuthWord, UnauthWord, Mark, LeftParenthesis, RightParenthesis, Comma, Semicolon, Colon, EqualsSign}
+use Rattle.auth_syntax.specs.Syntax.{TypeSyntax, ExpSyntax, ParameterSyntax, KindSyntax, InitSyntax, QuerySyntax, FunctionSyntax, DeclarationSyntax, FunctionDeclaration, Program}
+use Rattle.auth_syntax.specs.Grammar.{type_tokens, expression_tokens, parameter_tokens, parameters_tokens, kind_keyword, declaration_tokens, program_tokens, type_levels, expression_levels, nesting_limit, AreParametersWithin, HasParameter, IsFunctionWithin, IsDeclarationWithin, IsProgramWithin}
 use Rattle.auth_syntax.specs.Parsing.{Reading, Found, NotFound, then_read, is_mark, read_mark, read_name, read_type, read_parenthesized, read_expression, read_parameter, read_more_parameters, read_parameters, read_function, read_state, read_declaration, before_others, read_program}
 
 -- what is found at the head of the tokens is written so, and this holds of it
@@ -19,15 +19,18 @@ then_sound : {A B : Type 0} (written : A → List Token) (P : A → Type 0) (wri
 then_sound written P written' Q whole tokens (Found value rest) go sound on = on value rest sound.0 sound.1
 then_sound written P written' Q whole tokens NotFound go sound on = tt
 
+-- nothing more is said of what is found
 abbrev pub Any : {A : Type 0} → A → Type 0
 Any value = Unit {0}
 
+-- how a mark and a name are written
 abbrev mark_written : Mark → Unit {0} → List Token
 mark_written mark _ = MarkToken mark ∷ []
 
 abbrev name_written : List ℕ → List Token
 name_written name = NameToken name ∷ []
 
+-- the test of marks tells them apart
 is_mark-true : (a b : Mark) → is_mark a b ≡ true → a ≡ b
 is_mark-true LeftParenthesis LeftParenthesis h = refl
 is_mark-true RightParenthesis RightParenthesis h = refl
@@ -61,6 +64,7 @@ read_type-sound (suc levels) (KeywordToken AuthWord ∷ rest) =
     (read_type-sound levels rest) (λ inner after e within. (ap (λ ts. KeywordToken AuthWord ∷ ts) e, omega (arith, within)))
 read_type-sound levels tokens = tt
 
+-- an expression within so many levels
 abbrev IsExpressionWithin : ℕ → ExpSyntax → Type 0
 IsExpressionWithin levels e = expression_levels e ≤ levels
 
@@ -113,6 +117,7 @@ read_expression-sound (suc levels) (KeywordToken UnauthWord ∷ rest) =
     (λ inner after e within. (ap (λ ts. KeywordToken UnauthWord ∷ ts) e, omega (arith, within)))
 read_expression-sound levels tokens = tt
 
+-- a parameter whose type is within the limit
 abbrev pub IsParameterWithin : ParameterSyntax → Type 0
 IsParameterWithin parameter = type_levels parameter.of_type ≤ nesting_limit
 
@@ -127,6 +132,7 @@ read_parameter-sound tokens =
 abbrev parameters_written : List ParameterSyntax → List Token
 parameters_written parameters = parameters_tokens parameters ++ MarkToken RightParenthesis ∷ []
 
+-- there is a parameter, and each is within the limit
 abbrev ArePresentWithin : List ParameterSyntax → Type 0
 ArePresentWithin parameters = HasParameter parameters × AreParametersWithin parameters
 
@@ -252,6 +258,7 @@ abbrev pub IsWholeSound : List Token → Option Program → Type 0
 IsWholeSound tokens (Some program) = (tokens ≡ program_tokens program) × IsProgramWithin program
 IsWholeSound tokens None = Unit {0}
 
+-- the declarations behind one
 others_sound : (tokens rest : List Token) (declaration : DeclarationSyntax) (others : Option Program)
     → tokens ≡ declaration_tokens declaration ++ rest → IsDeclarationWithin declaration → IsWholeSound rest others
     → IsWholeSound tokens (option_map (λ program. declaration ∷ program) others)

@@ -5,7 +5,7 @@ use Rattle.std.proofs.lemmas.List.{take_rest, append-nil}
 use Rattle.std.specs.Prelude.{option_map, ◌==◌, ◌||◌}
 use Rattle.std.specs.List.{prefix_len}
 use Rattle.std.specs.Char.{is_ascii_lowercase}
-use Rattle.auth_syntax.specs.Tokens.{Token, MarkToken, Mark, is_in_line, is_name_byte, is_blank, mark_of, word_token, Piece, PassedOver, Taken, first_piece, from_piece, tokens_behind, tokens, size_of}
+use Rattle.auth_syntax.specs.Tokens.{Token, MarkToken, Mark, is_in_line, is_name_byte, is_blank, mark_of, Piece, PassedOver, Taken, first_piece, from_piece, tokens_behind, tokens, size_of}
 
 -- what is passed by a part of the bytes is no more than all of them
 prefix_len-≤ : (p : ℕ → Bool) (xs : List ℕ) → prefix_len p xs ≤ length xs
@@ -27,15 +27,18 @@ abbrev pub IsPart : List ℕ → Option Piece → Type 0
 IsPart text None = Unit {0}
 IsPart text (Some piece) = (0 < size_of piece) × (size_of piece ≤ length text)
 
+-- either way of a test
 either_part : (text : List ℕ) (test : Bool) (x y : Option Piece) → (test ≡ true → IsPart text x) → (test ≡ false → IsPart text y)
     → IsPart text (cond test x y)
 either_part text true x y first other = first refl
 either_part text false x y first other = other refl
 
+-- a run that the first byte begins
 prefix_is_part : (p : ℕ → Bool) (b : ℕ) (rest : List ℕ) → p b ≡ true
     → (0 < prefix_len p (b ∷ rest)) × (prefix_len p (b ∷ rest) ≤ length (b ∷ rest))
 prefix_is_part p b rest h = (rw h (omega arith), prefix_len-≤ p (b ∷ rest))
 
+-- what the tests of bytes say of one another
 or_true : (x y : Bool) → y ≡ true → (x || y) ≡ true
 or_true true y h = refl
 or_true false y h = h
@@ -50,6 +53,7 @@ hash_is_in_line b h = let e : b ≡ 35 = eqb-true b 35 h in rw e
 small_is_name_byte : (b : ℕ) → is_ascii_lowercase b ≡ true → is_name_byte b ≡ true
 small_is_name_byte b h = true_or _ _ (or_true _ _ h)
 
+-- a word and a mark are parts
 word_is_part : (text : List ℕ) (size : ℕ) (token : Option Token) → (0 < size) × (size ≤ length text)
     → IsPart text (option_map (λ t. Taken t size) token)
 word_is_part text size None h = tt
@@ -59,6 +63,7 @@ mark_is_part : (b : ℕ) (rest : List ℕ) (mark : Option Mark) → IsPart (b �
 mark_is_part b rest None = tt
 mark_is_part b rest (Some mark) = (omega arith, omega arith)
 
+-- so is the first piece
 pub first_piece-is_part : (text : List ℕ) → IsPart text (first_piece text)
 first_piece-is_part [] = tt
 first_piece-is_part (b ∷ rest) =

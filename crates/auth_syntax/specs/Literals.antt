@@ -5,6 +5,7 @@ use Rattle.auth_syntax.specs.Syntax.{LiteralSyntax, UnitLiteralSyntax}
 use Rattle.auth_syntax.specs.declared.literal.LiteralTree.{LiteralTree}
 use Rattle.auth_syntax.specs.declared.literal.LiteralTree.TheVariants.{UnitLiteral}
 
+-- the literal that a tree stands for
 abbrev pub literal_of : LiteralTree → LiteralSyntax
 literal_of UnitLiteral = UnitLiteralSyntax
 

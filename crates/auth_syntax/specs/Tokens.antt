@@ -59,6 +59,7 @@ reserved_words =
     ∷ codes "true" ∷ codes "false" ∷ codes "add" ∷ codes "sub" ∷ codes "mul" ∷ codes "div" ∷ codes "rem" ∷ codes "eq"
     ∷ codes "lt" ∷ codes "le" ∷ codes "teq" ∷ codes "tlt" ∷ codes "cat" ∷ codes "len" ∷ codes "not" ∷ []
 
+-- the word is one of these
 abbrev pub is_reserved : List ℕ → Bool
 is_reserved word = list_any (bytes_eq word) reserved_words
 
@@ -80,6 +81,7 @@ pub data Piece : Type 0 where
   PassedOver : (size : ℕ) → Piece
   Taken : (token : Token) (size : ℕ) → Piece
 
+-- the length of a piece
 abbrev pub size_of : Piece → ℕ
 size_of (PassedOver size) = size
 size_of (Taken token size) = size

@@ -14,6 +14,7 @@ use crate::token::{Mark, Token};
 /// A literal.
 #[derive(Clone, Copy, Debug, PartialEq, Eq)]
 pub enum LiteralTree {
+    /// `()`
     UnitLiteral,
 }
 

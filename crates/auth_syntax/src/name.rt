@@ -36,6 +36,7 @@ impl Name {
     {
         self.bytes.as_slice()
     }
+
     /// The bytes of the name, given back.
     pub fn into_bytes(self) -> Vec<u8>
         ensures { result.items ≡ self }

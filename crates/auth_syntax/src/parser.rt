@@ -18,7 +18,7 @@ use std::alloc::Global;
 // How many types, or expressions, may stand inside one another.
 const NESTING_LIMIT: usize = 100;
 
-// The tokens that are left to read.
+// The tokens that are still to be read.
 #[derive(Drop)]
 struct Parser<'t, 'a> {
     alloc: Global,
@@ -197,7 +197,8 @@ impl<'t, 'a> Parser<'t, 'a> {
 ///
 /// # Errors
 ///
-/// `Refused` where the text is none of a program, and `NoMemory` where there is no memory for its tokens or its tree.
+/// `Refused` where the text is none of a program: some part of it is no token, the grammar does not allow its tokens, or a type or an
+/// expression has more than 100 levels. `NoMemory` where there is no memory for the tokens or the tree.
 pub fn parse(alloc: Global, text: &[u8]) -> Result<Ast, SyntaxFault>
     requires { length text.now ≤ 262144 }
     ensures found { IfOk result (λ ast. parsed text.now ≡ Some (program_of ast)) }

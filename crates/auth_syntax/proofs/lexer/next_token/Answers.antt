@@ -1,4 +1,4 @@
-use Rattle.std.proofs.Common.{arith, ◌∙◌, ◌≡◌, ◌≤◌, ◌<◌, length, length-take, length-drop, Some}
+use Rattle.std.proofs.Common.{arith, ◌∙◌, ◌≡◌, length-take, length-drop, Some}
 use Rattle.auth_syntax.specs.Tokens.{first_piece, PassedOver, Taken}
 use Rattle.auth_syntax.specs.TokenViews.{token_view}
 use Rattle.auth_syntax.proofs.TokenLemmas.{piece-is_part, tokens-passed_over, tokens-taken}

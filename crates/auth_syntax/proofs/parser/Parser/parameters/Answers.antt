@@ -1,8 +1,8 @@
-use Rattle.std.proofs.Common.{rules, arith, sym, subst, ◌≡◌, ◌∙◌, ap, List, map, length, true, false, [], ◌∷◌, ◌++◌}
+use Rattle.std.proofs.Common.{sym, subst, ◌≡◌, ◌∙◌, ap, List, map, length, true, false, [], ◌∷◌, ◌++◌}
 use Rattle.std.proofs.lemmas.List.{map-append}
 use Rattle.std.proofs.lemmas.Result.{err_from_is_err_and}
 use Rattle.auth_syntax.specs.Syntax.{ParameterSyntax}
-use Rattle.auth_syntax.specs.Parsing.{Reading, Found, read_parameter, read_separator, read_parameters}
+use Rattle.auth_syntax.specs.Parsing.{Found, read_parameter, read_separator, read_parameters}
 use Rattle.auth_syntax.specs.Trees.{parameter_of, parameters_of}
 use Rattle.auth_syntax.specs.Remaining.{remaining}
 use Rattle.auth_syntax.proofs.Loops.{IsReadSoFar, read_so_far-none, read_so_far-other, read_so_far-end, read_so_far-comma, separated_is_shorter}
