@@ -12,7 +12,7 @@ piece_of frame = take (from_be_bytes w32 (take 4 frame)) (drop 4 frame)
 abbrev pub behind : List ℕ → List ℕ
 behind frame = drop (from_be_bytes w32 (take 4 frame)) (drop 4 frame)
 
--- any bound on the number of frames that isn't below the number of bytes serves, whatever pieces came before
+-- where no piece is kept, any bound on the number of frames that isn't below the number of bytes serves, whatever pieces came before
 pub any_bound : (limit most most' : ℕ) (recent recent' : List (List ℕ)) (bytes : List ℕ) → length bytes ≤ most → length bytes ≤ most'
     → frames limit most 0 recent bytes ≡ frames limit most' 0 recent' bytes
 any_bound limit zero zero recent recent' bytes h h' = refl
@@ -47,6 +47,7 @@ took_at limit frame h l w =
 number_is : (bytes : List ℕ) → big_number 4 bytes ≡ from_be_bytes w32 bytes
 number_is bytes = omega arith
 
+-- the same, for what the code split off
 pub took : (limit len : ℕ) (frame head after piece rest : List ℕ) → 4 ≤ length frame → head ≡ take 4 frame → after ≡ drop 4 frame
     → len ≡ big_number 4 head → len ≤ limit → len ≤ length after → piece ≡ take len after → rest ≡ drop len after
     → offer limit (0 ∷ frame) ≡ Offers piece (length rest) (offer limit rest)

@@ -1,3 +1,4 @@
+-- In each place what was read so far is told at the state's and the argument's types, and the verdict is computed from there.
 use Rattle.std.proofs.Common.{Ok}
 use Rattle.core_terms.specs.Formats.{IsHash}
 use Rattle.core_terms.specs.Programs.{meaning}
@@ -65,6 +66,7 @@ returns-clause-verdict g c =
 
 pub returns-clause-headline : goal.returns-clause-headline
 returns-clause-headline g c =
+    -- the law of the bound holds in every world like this one, and this one is like itself
     let is_hash : IsHash g.H.Hash32.hash = (g.met.H.Hash32 g.world.𝓛 g.world.𝓜 g.world.𝓡 ((λ s x. x), (λ x. x), (λ x. x), (λ x. x))).digest_length in
     says_true g.H.Hash32.hash is_hash c.args.program.now c.args.role.0 c.requires.there c.requires.query c.args.state.now c.args.argument.now c.args.fuel c.args.proof.now
     (Ok c.in_ok-spelled.field-0) (returns-clause-verdict g c)
