@@ -6,3 +6,13 @@ pub mod RoleOf
 pub mod Judging
 pub mod Called
 pub mod SaysTrue
+pub mod ElaborationSound
+pub mod Ends
+pub mod Known
+pub mod Leading
+pub mod Numbers
+pub mod Queries
+pub mod Steps
+pub mod TextPrograms
+pub mod TrueLine
+pub mod WordLists

@@ -26,7 +26,7 @@ is_typed p = (typing_test_is_exact (meaning p)).0 p.typed
 pub is_format : (p : Program) → IsFormat (meaning p).format
 is_format p = first_format_is_format 0 (lit< tt)
 
-there : (P : tree.Program) (f : ℕ) → f < length P.functions → slice_get P.functions f ≡ Some (function_at P f)
+pub there : (P : tree.Program) (f : ℕ) → f < length P.functions → slice_get P.functions f ≡ Some (function_at P f)
 there P f h = slice_get-get_or P.functions f no_function h ∙ ap Some (sym (unwrap_or-slice_get P.functions f no_function))
 
 -- the body of a function that the code holds has the function's type
@@ -44,7 +44,7 @@ parameters_are P f argument answer role =
     ap (λ (g : tree.Function). g.parameters) (sym (function_is P f tree.Query argument answer role)) ∙ role.parameters
 
 -- a role has the argument and the answer of its function
-own_role : (P : tree.Program) (f : ℕ) (argument answer : Ty) → IsRole P f tree.Query argument answer → IsRole P f tree.Query (argument_type P f) (function_at P f).result
+pub own_role : (P : tree.Program) (f : ℕ) (argument answer : Ty) → IsRole P f tree.Query argument answer → IsRole P f tree.Query (argument_type P f) (function_at P f).result
 own_role P f argument answer role =
     let same : argument ≡ argument_type P f = sym (ap (λ ts. slice_index_or ts 1 UnitTy) (parameters_are P f argument answer role)) in
     let result : answer ≡ (function_at P f).result = sym role.result ∙ ap (λ (g : tree.Function). g.result) (function_is P f tree.Query argument answer role) in
