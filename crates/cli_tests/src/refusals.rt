@@ -1,12 +1,12 @@
 // What `run` refuses, and in which order.
-use crate::stage::{OPEN, PROOF, STATE, stage, told, verdict};
+use crate::stage::{OPEN, PROOF, STATE, run_words, staged, verdict};
 use std::test::Fail;
 
 const USAGE: &str = "usage: lamauth COMMAND ARGUMENTS\n";
 
 #[test]
 fn words_are_refused(rt: HostRuntime) -> Result<(), Fail> {
-    let stage = stage(OPEN, &STATE, PROOF);
+    let stage = staged(OPEN, &STATE, PROOF);
     let lines: [&[&str]; 10] = [
         &[],
         &["verify"],
@@ -20,7 +20,7 @@ fn words_are_refused(rt: HostRuntime) -> Result<(), Fail> {
         &["verified", "p", "open", "s", "()", "1", "q"],
     ];
     for words in lines {
-        let told = told(rt.alloc(), &stage, words)?;
+        let told = run_words(rt.alloc(), &stage, words)?;
         assert!(rt; told.is(2, USAGE));
     }
     Ok(())
@@ -73,7 +73,7 @@ const NO_PROGRAMS: [&[u8]; 40] = [
 #[test]
 fn programs_are_refused(rt: HostRuntime) -> Result<(), Fail> {
     for program in NO_PROGRAMS {
-        let told = verdict(rt.alloc(), &stage(program, &STATE, PROOF), "1")?;
+        let told = verdict(rt.alloc(), &staged(program, &STATE, PROOF), "1")?;
         assert!(rt; told.is(6, "program refused\n"));
     }
     Ok(())
@@ -90,7 +90,7 @@ fn programs_are_taken(rt: HostRuntime) -> Result<(), Fail> {
         b"state auth unit; query a234567890123456789012345678901234567890123456789012345678901234(s: auth unit, x: unit): unit = (); query open(s: auth unit, x: unit): unit = unauth(s);",
     ];
     for program in programs {
-        let told = verdict(rt.alloc(), &stage(program, &STATE, PROOF), "1")?;
+        let told = verdict(rt.alloc(), &staged(program, &STATE, PROOF), "1")?;
         assert!(rt; told.is(0, "done ()\n"));
     }
     Ok(())
@@ -100,10 +100,10 @@ fn programs_are_taken(rt: HostRuntime) -> Result<(), Fail> {
 fn a_program_has_a_greatest_length(rt: HostRuntime) -> Result<(), Fail> {
     let mut text = Vec::from_slice(rt.alloc(), OPEN)?;
     text.resize(262_144, b' ')?;
-    let longest = verdict(rt.alloc(), &stage(&text, &STATE, PROOF), "1")?;
+    let longest = verdict(rt.alloc(), &staged(&text, &STATE, PROOF), "1")?;
     assert!(rt; longest.is(0, "done ()\n"));
     text.push(b' ')?;
-    let longer = verdict(rt.alloc(), &stage(&text, &STATE, PROOF), "1")?;
+    let longer = verdict(rt.alloc(), &staged(&text, &STATE, PROOF), "1")?;
     assert!(rt; longer.is(7, INPUT));
     Ok(())
 }
@@ -126,7 +126,7 @@ fn nesting_has_a_greatest_depth(rt: HostRuntime) -> Result<(), Fail> {
             text.extend_from_slice(b"))")?;
         }
         text.push(b';')?;
-        let told = verdict(rt.alloc(), &stage(&text, &STATE, PROOF), "1")?;
+        let told = verdict(rt.alloc(), &staged(&text, &STATE, PROOF), "1")?;
         assert!(rt; told.is(status, line));
     }
     Ok(())
@@ -136,7 +136,7 @@ const INPUT: &str = "input refused\n";
 
 #[test]
 fn inputs_are_refused(rt: HostRuntime) -> Result<(), Fail> {
-    let stage = stage(OPEN, &STATE, PROOF);
+    let stage = staged(OPEN, &STATE, PROOF);
     // the role, the argument and the fuel
     let inputs: [[&str; 3]; 22] = [
         ["close", "()", "1"],
@@ -164,7 +164,7 @@ fn inputs_are_refused(rt: HostRuntime) -> Result<(), Fail> {
     ];
     for [role, argument, fuel] in inputs {
         let words = ["verify", "p", role, "s", argument, fuel, "q"];
-        let told = told(rt.alloc(), &stage, &words)?;
+        let told = run_words(rt.alloc(), &stage, &words)?;
         assert!(rt; told.is(7, INPUT), "{role} {argument} {fuel}");
     }
     Ok(())
@@ -176,7 +176,7 @@ fn states_are_refused(rt: HostRuntime) -> Result<(), Fail> {
     long.push(0)?;
     let states: [&[u8]; 3] = [&STATE[..31], &[], &long];
     for state in states {
-        let told = verdict(rt.alloc(), &stage(OPEN, state, PROOF), "1")?;
+        let told = verdict(rt.alloc(), &staged(OPEN, state, PROOF), "1")?;
         assert!(rt; told.is(7, INPUT));
     }
     Ok(())
@@ -185,18 +185,66 @@ fn states_are_refused(rt: HostRuntime) -> Result<(), Fail> {
 // Of two refusals the earlier is told: the program, the role, the fuel, the state, the argument. The proof is opened last.
 #[test]
 fn the_first_refusal_is_told(rt: HostRuntime) -> Result<(), Fail> {
-    let cases: [(&[u8], &[u8], [&str; 7], u8, &str); 8] = [
-        (b"abc", &[], ["verify", "p", "close", "s", "(", "x", "none"], 6, "program refused\n"),
-        (b"abc", &[], ["verify", "none", "close", "s", "(", "x", "none"], 8, "read fault\n"),
-        (OPEN, &[], ["verify", "p", "close", "none", "(", "1", "none"], 7, INPUT),
-        (OPEN, &[], ["verify", "p", "open", "none", "(", "x", "none"], 7, INPUT),
-        (OPEN, &[], ["verify", "p", "open", "none", "(", "1", "none"], 8, "read fault\n"),
-        (OPEN, &[], ["verify", "p", "open", "s", "(", "1", "none"], 7, INPUT),
-        (OPEN, &STATE, ["verify", "p", "open", "s", "(", "1", "none"], 7, INPUT),
-        (OPEN, &STATE, ["verify", "p", "open", "s", "()", "1", "none"], 8, "read fault\n"),
+    let cases: [(&[u8], &[u8], &[&str], u8, &str); 8] = [
+        (
+            b"abc",
+            &[],
+            &["verify", "p", "close", "s", "(", "x", "none"],
+            6,
+            "program refused\n",
+        ),
+        (
+            b"abc",
+            &[],
+            &["verify", "none", "close", "s", "(", "x", "none"],
+            8,
+            "read fault\n",
+        ),
+        (
+            OPEN,
+            &[],
+            &["verify", "p", "close", "none", "(", "1", "none"],
+            7,
+            INPUT,
+        ),
+        (
+            OPEN,
+            &[],
+            &["verify", "p", "open", "none", "(", "x", "none"],
+            7,
+            INPUT,
+        ),
+        (
+            OPEN,
+            &[],
+            &["verify", "p", "open", "none", "(", "1", "none"],
+            8,
+            "read fault\n",
+        ),
+        (
+            OPEN,
+            &[],
+            &["verify", "p", "open", "s", "(", "1", "none"],
+            7,
+            INPUT,
+        ),
+        (
+            OPEN,
+            &STATE,
+            &["verify", "p", "open", "s", "(", "1", "none"],
+            7,
+            INPUT,
+        ),
+        (
+            OPEN,
+            &STATE,
+            &["verify", "p", "open", "s", "()", "1", "none"],
+            8,
+            "read fault\n",
+        ),
     ];
     for (program, state, words, status, line) in cases {
-        let told = told(rt.alloc(), &stage(program, state, PROOF), &words)?;
+        let told = run_words(rt.alloc(), &staged(program, state, PROOF), words)?;
         assert!(rt; told.is(status, line), "{line}");
     }
     Ok(())

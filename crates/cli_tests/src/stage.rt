@@ -7,7 +7,8 @@ use lam_outside::{MemFile, MemFiles, MemSink, Plan};
 use std::alloc::{AllocError, Global};
 
 /// A program that opens its state.
-pub const OPEN: &[u8] = b"state auth unit; init make(x: unit): auth unit = auth(x); query open(s: auth unit, x: unit): unit = unauth(s);";
+pub const OPEN: &[u8] =
+    b"state auth unit; init make(x: unit): auth unit = auth(x); query open(s: auth unit, x: unit): unit = unauth(s);";
 
 /// The SHA-256 digest of no bytes: the spelling of the state of `()`.
 pub const STATE: [u8; 32] = [
@@ -27,7 +28,7 @@ pub struct Stage<'a> {
     pub most_read: usize,
 }
 
-pub fn stage<'a>(program: &'a [u8], state: &'a [u8], proof: &'a [u8]) -> Stage<'a>
+pub fn staged<'a>(program: &'a [u8], state: &'a [u8], proof: &'a [u8]) -> Stage<'a>
     ensures { 0 < result.most_read }
 {
     Stage {
@@ -63,11 +64,7 @@ pub fn sink(alloc: Global, most: usize, failing: &[u64]) -> Result<MemSink, Allo
     requires { 0 < most }
     ensures { IfOk result (λ sink. sink_faults sink ≡ 0) }
 {
-    Ok(MemSink::new(
-        alloc,
-        most,
-        Plan::new(Vec::from_slice(alloc, failing)?),
-    ))
+    Ok(MemSink::new(alloc, most, Plan::new(Vec::from_slice(alloc, failing)?)))
 }
 
 /// What a run told.
@@ -86,7 +83,7 @@ impl Told {
 }
 
 /// Runs these words behind the program's name.
-pub fn told(alloc: Global, stage: &Stage, words: &[&str]) -> Result<Told, AllocError>
+pub fn run_words(alloc: Global, stage: &Stage, words: &[&str]) -> Result<Told, AllocError>
     requires { 0 < stage.now.most_read }
 {
     let mut files = files(alloc, stage, &[])?;
@@ -106,9 +103,5 @@ pub fn told(alloc: Global, stage: &Stage, words: &[&str]) -> Result<Told, AllocE
 pub fn verdict(alloc: Global, stage: &Stage, fuel: &str) -> Result<Told, AllocError>
     requires { 0 < stage.now.most_read }
 {
-    told(
-        alloc,
-        stage,
-        &["verify", "p", "open", "s", "()", fuel, "q"],
-    )
+    run_words(alloc, stage, &["verify", "p", "open", "s", "()", fuel, "q"])
 }

@@ -1,5 +1,5 @@
 // What `verify` says of proofs, and what it does where the outside fails.
-use crate::stage::{OPEN, PROOF, STATE, Stage, files, sink, stage, told, verdict};
+use crate::stage::{OPEN, PROOF, STATE, Stage, files, run_words, sink, staged, verdict};
 use auth_cli::run;
 use std::test::Fail;
 
@@ -36,7 +36,7 @@ const PROOFS: [(&[u8], &str, u8, &str); 19] = [
 #[test]
 fn proofs_are_judged(rt: HostRuntime) -> Result<(), Fail> {
     for (proof, fuel, status, line) in PROOFS {
-        let told = verdict(rt.alloc(), &stage(OPEN, &STATE, proof), fuel)?;
+        let told = verdict(rt.alloc(), &staged(OPEN, &STATE, proof), fuel)?;
         assert!(rt; told.is(status, line), "{line}");
     }
     Ok(())
@@ -62,18 +62,20 @@ fn reads_of_few_bytes_change_nothing(rt: HostRuntime) -> Result<(), Fail> {
 // The state of the state of `()`: a piece of 32 bytes, then one of none.
 #[test]
 fn nested_states_are_opened(rt: HostRuntime) -> Result<(), Fail> {
-    let program = b"state auth auth unit; init make(x: unit): auth auth unit = auth(auth(x)); query open(s: auth auth unit, x: unit): unit = unauth(unauth(s)); query top(s: auth auth unit, x: unit): auth unit = unauth(s);";
+    let program =
+        b"state auth auth unit; init make(x: unit): auth auth unit = auth(auth(x)); query open(s: auth auth unit, x: unit): unit = unauth(unauth(s)); query top(s: auth auth unit, x: unit): auth unit = unauth(s);";
     let state = [
         0x5d, 0xf6, 0xe0, 0xe2, 0x76, 0x13, 0x59, 0xd3, 0x0a, 0x82, 0x75, 0x05, 0x8e, 0x29, 0x9f,
         0xcc, 0x03, 0x81, 0x53, 0x45, 0x45, 0xf5, 0x5c, 0xf4, 0x3e, 0x41, 0x98, 0x3f, 0x5d, 0x4c,
         0x94, 0x56,
     ];
-    let proof = b"LAP1\0\0\0\0\0\0\x20\xe3\xb0\xc4\x42\x98\xfc\x1c\x14\x9a\xfb\xf4\xc8\x99\x6f\xb9\x24\x27\xae\x41\xe4\x64\x9b\x93\x4c\xa4\x95\x99\x1b\x78\x52\xb8\x55\0\0\0\0\0";
-    let told_deep = verdict(rt.alloc(), &stage(program, &state, proof), "1")?;
+    let proof =
+        b"LAP1\0\0\0\0\0\0\x20\xe3\xb0\xc4\x42\x98\xfc\x1c\x14\x9a\xfb\xf4\xc8\x99\x6f\xb9\x24\x27\xae\x41\xe4\x64\x9b\x93\x4c\xa4\x95\x99\x1b\x78\x52\xb8\x55\0\0\0\0\0";
+    let told_deep = verdict(rt.alloc(), &staged(program, &state, proof), "1")?;
     assert!(rt; told_deep.is(0, "done ()\n"));
     let words = ["verify", "p", "top", "s", " ( ) # the argument", "1", "q"];
     let line = "done #e3b0c44298fc1c149afbf4c8996fb92427ae41e4649b934ca495991b7852b855\n";
-    let told_top = told(rt.alloc(), &stage(program, &state, &proof[..43]), &words)?;
+    let told_top = run_words(rt.alloc(), &staged(program, &state, &proof[..43]), &words)?;
     assert!(rt; told_top.is(0, line));
     Ok(())
 }
@@ -81,7 +83,7 @@ fn nested_states_are_opened(rt: HostRuntime) -> Result<(), Fail> {
 #[test]
 fn stops_at_a_failed_write(rt: HostRuntime) -> Result<(), Fail> {
     let alloc = rt.alloc();
-    let mut files = files(alloc, &stage(OPEN, &STATE, PROOF), &[])?;
+    let mut files = files(alloc, &staged(OPEN, &STATE, PROOF), &[])?;
     let mut out = sink(alloc, 2, &[2])?;
     assert_eq!(rt; run(alloc, &WORDS, &mut files, &mut out), 9);
     assert_eq!(rt; out.bytes(), b"done".as_slice());
@@ -93,7 +95,7 @@ fn stops_at_a_failed_write(rt: HostRuntime) -> Result<(), Fail> {
 fn each_call_of_the_files_fails_once(rt: HostRuntime) -> Result<(), Fail> {
     let alloc = rt.alloc();
     for call in 0..10 {
-        let mut files = files(alloc, &stage(OPEN, &STATE, PROOF), &[call])?;
+        let mut files = files(alloc, &staged(OPEN, &STATE, PROOF), &[call])?;
         let mut out = sink(alloc, 100, &[])?;
         let told = run(alloc, &WORDS, &mut files, &mut out);
         let (status, line): (u8, &[u8]) = if call < 9 {
