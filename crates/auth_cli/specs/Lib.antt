@@ -1,1 +1,3 @@
+pub mod Elaboration
+pub mod Checking
 pub mod Verdicts
