@@ -1,5 +1,6 @@
 // The type checker: from the tree of a program to its terms.
 ghost use Rattle.std.specs.Prelude.{◌≡◌, ◌<◌, ◌≤◌, ◌+◌, ◌∷◌, [], ℕ, List, Some, length, map, IfOk, slice_get, bytes_eq};
+ghost use Rattle.std.specs.List.{position};
 ghost use Rattle.core_terms.specs.Programs.{meaning, types_in};
 ghost use Rattle.core_terms.specs.ProgramTrees.{function_of};
 ghost use Rattle.core_terms.specs.TypeTables.{type_at};
@@ -65,7 +66,7 @@ fn is_same_type(a: &TypeTree, b: &TypeTree) -> bool
 
 /// The place of the parameter of this name.
 fn place(name: &Name, parameters: &[Parameter]) -> Option<usize>
-    ensures { result ≡ place_of name.now (parameters_of parameters.now) }
+    ensures { result ≡ position (λ p. bytes_eq p.name name.now) parameters.now }
 {
     parameters
         .iter()
