@@ -1,9 +1,10 @@
 -- Lemmas of the checker: places of names, and types that keep their numbers.
-use Rattle.std.proofs.Common.{◌≡◌, ◌⊎◌, inl, inr, ℕ, zero, suc, ◌+◌, ◌<◌, Bool, true, false, not, ◌&&◌, ◌||◌, List, [], ◌∷◌, ◌++◌, length, map, Option, Some, None, option_map, slice_get, slice_index_or, bytes_eq, nat_lt, cond, if◌then◌else◌, refl, sym, ap, ◌∙◌, subst, arith, lt-ltb, ltb-true, length-append, append_assoc}
+use Rattle.std.proofs.Common.{◌≡◌, ◌⊎◌, inl, inr, ℕ, zero, suc, ◌+◌, ◌<◌, Bool, true, false, not, ◌&&◌, ◌||◌, List, [], ◌∷◌, ◌++◌, length, map, Option, Some, None, option_map, Result, take, slice_get, slice_index_or, bytes_eq, nat_lt, cond, if◌then◌else◌, refl, sym, ap, ◌∙◌, subst, arith, lt-ltb, ltb-true, length-append, append_assoc}
 use Rattle.std.specs.List.{position, position_or_len}
+use Rattle.std.specs.Option.{option_and_then}
 use Rattle.std.proofs.Math.ListN.{get_or-append}
 use Rattle.std.proofs.lemmas.Option.{slice_get-get_or, slice_get_within, get_or_from_slice_get}
-use Rattle.std.proofs.lemmas.List.{append-nil}
+use Rattle.std.proofs.lemmas.List.{append-nil, map-append, take_more}
 use Rattle.std.proofs.lemmas.Grind.{common_steps}
 use Rattle.core_terms.specs.Types.{Ty, UnitTy, AuthTy}
 use Rattle.core_terms.specs.Terms.{Expression, UnitE, LocalE, AuthE, UnauthE}
@@ -11,10 +12,12 @@ use Rattle.core_terms.specs.TypeTables.{type_at}
 use Rattle.core_terms.specs.ProgramTrees.{expression_of}
 use Rattle.core_terms.specs.declared.types.TyId.{TyId}
 use Rattle.core_terms.specs.declared.term.Term.{Term}
-use Rattle.auth_syntax.specs.Syntax.{ParameterSyntax, LocalSyntax}
+use Rattle.auth_syntax.specs.Syntax.{ParameterSyntax, ExpSyntax, UnitSyntax, LocalSyntax, AuthSyntax, UnauthSyntax}
+use Rattle.auth_syntax.specs.Trees as written
 use Rattle.auth_syntax.specs.declared.tree.Parameter.{Parameter}
-use Rattle.auth_cli.specs.Elaboration.{Elaborated, authenticated, elaborated_expression, local_at, opened, opened_at, place_of, parameter_types}
+use Rattle.auth_cli.specs.Elaboration.{Elaborated, type_meant, authenticated, elaborated_expression, local_at, opened, opened_at, place_of, parameter_types}
 use Rattle.auth_cli.specs.declared.check.Typed.{Typed}
+use Rattle.auth_cli.specs.declared.check.TypeFault.{TypeFault}
 use Rattle.auth_cli.specs.Checking.{AreNumbers, FindsOver, Grows, StandsFor, parameters_of, typed_of}
 
 -- the test of two numbers is that of their successors
@@ -169,6 +172,53 @@ local_stands types ids parameters name i h e more =
     let stays = type_stays types (slice_index_or ids i (record { 0 = 0 })).0 (slice_index_or (parameter_types (parameters_of parameters)) i UnitTy) (local_found types ids parameters name i h e) more in
     ap (option_map (local_at (parameters_of parameters))) found ∙ ap (λ t. Some (record { expression = LocalE i; of_type = t })) (sym stays)
 
+-- a name of no parameter is no local
+pub local_none : (parameters : List Parameter) (name : List ℕ) → None ≡ position (λ p. bytes_eq p.name name) parameters → elaborated_expression (parameters_of parameters) (LocalSyntax name) ≡ None
+local_none parameters name e = ap (option_map (local_at (parameters_of parameters))) (sym (e ∙ place_position parameters name))
+
 -- `()` has the type that was numbered for it
-pub unit_stands : (types : List Ty) (ty : TyId) → slice_get types ty.0 ≡ Some UnitTy → (more : List Ty) → Some (record { expression = UnitE; of_type = UnitTy }) ≡ Some (record { expression = UnitE; of_type = type_at (types ++ more) ty })
-unit_stands types ty h more = ap (λ t. Some (record { expression = UnitE; of_type = t })) (sym (type_stays types ty.0 UnitTy h more))
+pub unit_stands : (ps : List ParameterSyntax) (types : List Ty) (ty : TyId) → slice_get types ty.0 ≡ Some UnitTy → (more : List Ty) → elaborated_expression ps UnitSyntax ≡ Some (record { expression = UnitE; of_type = type_at (types ++ more) ty })
+unit_stands ps types ty h more =
+    let with_type : Ty → Option Elaborated = λ t. Some (record { expression = UnitE; of_type = t }) in
+    ap with_type (sym (type_stays types ty.0 UnitTy h more))
+
+-- `auth` of an expression whose term was found
+pub auth_found : (ps : List ParameterSyntax) (x : ExpSyntax) (old new : List Ty) (inner typed : Typed) → ((more : List Ty) → elaborated_expression ps x ≡ Some (typed_of (old ++ more) inner))
+    → ((e : Elaborated) → StandsFor old inner e → StandsFor new typed (authenticated e)) → (more : List Ty) → elaborated_expression ps (AuthSyntax x) ≡ Some (typed_of (new ++ more) typed)
+auth_found ps x old new inner typed found whole more =
+    let (e, is, stands) = found_stands old (elaborated_expression ps x) inner found in
+    ap (option_map authenticated) is ∙ ap Some (sym (whole e stands more))
+
+-- `unauth` of an expression whose term was found
+pub unauth_found : (ps : List ParameterSyntax) (x : ExpSyntax) (types : List Ty) (inner : Typed) (r : Result Typed TypeFault) → ((more : List Ty) → elaborated_expression ps x ≡ Some (typed_of (types ++ more) inner))
+    → ((e : Elaborated) → StandsFor types inner e → FindsOver types typed_of (opened e) r) → FindsOver types typed_of (elaborated_expression ps (UnauthSyntax x)) r
+unauth_found ps x types inner r found whole =
+    let (e, is, stands) = found_stands types (elaborated_expression ps x) inner found in
+    subst (λ o. FindsOver types typed_of (option_and_then opened o) r) (sym is) (whole e stands)
+
+-- one number more, of one type more
+pub numbers_push : (types : List Ty) (ids : List TyId) (ts : List Ty) (id : TyId) (t : Ty) → AreNumbers types ids ts → slice_get types id.0 ≡ Some t → AreNumbers types (ids ++ id ∷ []) (ts ++ t ∷ [])
+numbers_push types [] [] id t h e = cc
+numbers_push types [] (u ∷ ts) id t h e = absurd (cc)
+numbers_push types (i ∷ ids) [] id t h e = absurd (cc)
+numbers_push types (i ∷ ids) (u ∷ ts) id t h e =
+    let first : slice_get types i.0 ≡ Some u = cc in
+    let others : AreNumbers types ids ts = cc in
+    let pushed = numbers_push types ids ts id t others e in
+    cc
+
+types_taken : (parameters : List Parameter) (i : ℕ) (p : Parameter) → i < length parameters → p ≡ slice_index_or parameters i p
+    → parameter_types (parameters_of (take (i + 1) parameters)) ≡ parameter_types (parameters_of (take i parameters)) ++ type_meant (written.type_of p.of_type) ∷ []
+types_taken parameters i p inside e =
+    let taken = take_more parameters i p inside ∙ ap (λ q. take i parameters ++ q ∷ []) (sym e) in
+    ap (λ l. parameter_types (parameters_of l)) taken
+    ∙ ap (λ l. map (λ q. type_meant q.of_type) l) (map-append written.parameter_of (take i parameters) (p ∷ []))
+    ∙ map-append (λ (q : ParameterSyntax). type_meant q.of_type) (parameters_of (take i parameters)) (written.parameter_of p ∷ [])
+
+-- the numbers of the first parameters' types, and of one more
+pub numbers_taken : (a b : List Ty) (parameters : List Parameter) (i : ℕ) (ids : List TyId) (id : TyId) (p : Parameter) → Grows a b → i < length parameters → p ≡ slice_index_or parameters i p
+    → AreNumbers a ids (parameter_types (parameters_of (take i parameters))) → slice_get b id.0 ≡ Some (type_meant (written.type_of p.of_type))
+    → AreNumbers b (ids ++ id ∷ []) (parameter_types (parameters_of (take (i + 1) parameters)))
+numbers_taken a b parameters i ids id p grows inside e h found =
+    subst (λ ts. AreNumbers b (ids ++ id ∷ []) ts) (sym (types_taken parameters i p inside e))
+    (numbers_push b ids (parameter_types (parameters_of (take i parameters))) id (type_meant (written.type_of p.of_type)) (numbers_grow a b ids (parameter_types (parameters_of (take i parameters))) grows h) found)

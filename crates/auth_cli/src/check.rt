@@ -1,19 +1,24 @@
 // The type checker: from the tree of a program to its terms.
-ghost use Rattle.std.specs.Prelude.{◌≡◌, ◌<◌, ◌≤◌, ◌+◌, ◌∷◌, [], ℕ, List, Some, length, map, IfOk, slice_get, bytes_eq};
+ghost use Rattle.std.specs.Prelude.{◌≡◌, ◌<◌, ◌≤◌, ◌+◌, ◌∷◌, [], ℕ, List, Some, length, map, IfOk, slice_get, bytes_eq, not};
 ghost use Rattle.std.specs.List.{position};
 ghost use Rattle.core_terms.specs.Programs.{meaning, types_in};
-ghost use Rattle.core_terms.specs.ProgramTrees.{function_of};
+ghost use Rattle.core_terms.specs.ProgramTrees.{function_of, kind_of};
+ghost use Rattle.core_terms.specs.Roles.{has_auth};
 ghost use Rattle.core_terms.specs.TypeTables.{type_at};
 ghost use Rattle.core_terms.specs.Types.{Ty};
 ghost use Rattle.core_terms.specs.Typing.{is_shaped, is_typed, same_type};
 ghost use Rattle.auth_syntax.specs.Trees as written;
-ghost use Rattle.auth_cli.specs.Elaboration.{Elaborated, authenticated, elaborated, elaborated_expression, elaborated_function, elaborated_functions, functions, is_among, names_differ, only_state, opened, parameter_types, place_of, states, type_meant};
+ghost use Rattle.auth_cli.specs.Elaboration.{Elaborated, authenticated, elaborated, elaborated_expression, elaborated_function, elaborated_functions, functions, is_among, kind_meant, names_differ, only_state, opened, parameter_types, place_of, states, type_meant};
 ghost use Rattle.auth_cli.specs.Checking.{AreNumbers, Finds, FindsOver, Grows, StandsFor, has_shape, parameters_of, typed_of};
 
 use auth_syntax::name::Name;
 use auth_syntax::tree::{self, Ast, Declaration, ExpTree, FunctionKind, Parameter, TypeTree};
 use core_terms::{Function, Kind, LocalId, Program, Term, TyForm, TyId, TyTable};
 use std::alloc::{AllocError, AllocFailed, Global};
+
+// How many functions a program has at most, and how many parameters a function.
+const MOST_FUNCTIONS: usize = 1024;
+const MOST_PARAMETERS: usize = 8;
 
 /// Why a tree gives no program.
 #[derive(Clone, Copy, Debug, PartialEq, Eq)]
@@ -147,5 +152,105 @@ fn opened_term(alloc: Global, types: &TyTable, inner: Typed) -> Result<Typed, Ty
             Ok(Typed { term, ty })
         }
         TyForm::UnitForm => Err(TypeFault::Refused),
+    }
+}
+
+/// Whether a parameter has this name.
+fn is_parameter(name: &Name, parameters: &[Parameter]) -> bool
+    ensures { result ≡ is_among name.now (map (λ p. p.name) parameters.now) }
+{
+    parameters
+        .iter()
+        .any(|parameter| parameter.name.as_bytes() == name.as_bytes())
+}
+
+/// Whether no two parameters have one name.
+fn have_own_names(parameters: &[Parameter]) -> bool
+    ensures { result ≡ names_differ (map (λ p. p.name) parameters.now) }
+{
+    let mut left = parameters;
+    while let [parameter, others @ ..] = left {
+        if is_parameter(&parameter.name, others) {
+            return false;
+        }
+        left = others;
+    }
+    true
+}
+
+/// Whether a function has this name.
+fn is_function(name: &Name, functions: &[tree::Function]) -> bool
+    ensures { result ≡ is_among name.now (map (λ f. f.name) functions.now) }
+{
+    functions
+        .iter()
+        .any(|function| function.name.as_bytes() == name.as_bytes())
+}
+
+/// Whether no two functions have one name.
+fn are_distinct(functions: &[tree::Function]) -> bool
+    ensures { result ≡ names_differ (map (λ f. f.name) functions.now) }
+{
+    let mut left = functions;
+    while let [function, others @ ..] = left {
+        if is_function(&function.name, others) {
+            return false;
+        }
+        left = others;
+    }
+    true
+}
+
+/// The kind of a function.
+fn kind(kind: FunctionKind) -> Kind
+    ensures { kind_of result ≡ kind_meant (written.kind_of kind) }
+{
+    match kind {
+        FunctionKind::Init => Kind::Init,
+        FunctionKind::Query => Kind::Query,
+    }
+}
+
+/// A function with its types and its body.
+fn typed_function(alloc: Global, types: &mut TyTable, function: tree::Function) -> Result<Function, TypeFault>
+    ensures grows { Grows (types_in types.old) (types_in types.new) }
+    ensures found { FindsOver (types_in types.new) function_of (elaborated_function (written.function_of function)) result }
+{
+    if !have_own_names(&function.parameters) || function.parameters.len() > MOST_PARAMETERS {
+        return Err(TypeFault::Refused);
+    }
+    let parameters = numbers(alloc, types, &function.parameters)?;
+    let body = term(alloc, types, &function.parameters, &parameters, &function.body)?;
+    let ty = number(types, &function.result_type)?;
+    if !types.is_same(body.ty, ty) {
+        return Err(TypeFault::Refused);
+    }
+    Ok(Function {
+        name: core_terms::Name::new(function.name.into_bytes()),
+        kind: kind(function.kind),
+        parameters,
+        result: ty,
+        body: body.term,
+    })
+}
+
+/// Whether a function has the shape of its kind.
+fn is_role(state: &TypeTree, function: &tree::Function) -> bool
+    ensures { result ≡ has_shape (type_meant (written.type_of state.now)) (written.function_of function.now) }
+{
+    match (function.kind, function.parameters.as_slice()) {
+        (FunctionKind::Init, [argument]) => is_same_type(state, &function.result_type) && is_plain(&argument.of_type),
+        (FunctionKind::Query, [first, argument]) => is_same_type(state, &first.of_type) && is_plain(&argument.of_type),
+        _ => false,
+    }
+}
+
+/// Whether no `auth` stands in a type.
+fn is_plain(tree: &TypeTree) -> bool
+    ensures { result ≡ not (has_auth [] (type_meant (written.type_of tree.now))) }
+{
+    match tree {
+        TypeTree::UnitType => true,
+        TypeTree::AuthType(_) => false,
     }
 }
