@@ -1,5 +1,5 @@
 -- What an answer of the checker says of what a definition finds. Where memory ran out nothing is said.
-use Rattle.std.specs.Prelude.{◌≡◌, ℕ, List, ◌++◌, [], map, slice_get, Bool, Option, Some, None, Result, Ok, Err, ⊤}
+use Rattle.std.specs.Prelude.{◌≡◌, ℕ, List, ◌++◌, [], ◌∷◌, map, slice_get, Bool, true, ◌&&◌, Option, option_map, Vec, Global, Some, None, Result, Ok, Err, ⊤}
 use Rattle.core_terms.specs.Types.{Ty}
 use Rattle.core_terms.specs.Terms as tree
 use Rattle.core_terms.specs.Typing.{shape_test}
@@ -8,12 +8,14 @@ use Rattle.core_terms.specs.ProgramTrees.{expression_of, function_of}
 use Rattle.core_terms.specs.declared.types.TyId.{TyId}
 use Rattle.core_terms.specs.declared.term.Function.{Function}
 use Rattle.auth_syntax.specs.Syntax.{FunctionSyntax, ParameterSyntax}
+use Rattle.auth_syntax.specs.Syntax as syntax
 use Rattle.auth_syntax.specs.Trees as written
 use Rattle.auth_syntax.specs.declared.tree.Parameter.{Parameter}
-use Rattle.auth_cli.specs.Elaboration.{Elaborated, parameter_types, kind_meant, type_meant, program_of_parts}
+use Rattle.auth_cli.specs.Elaboration.{Elaborated, functions, only_state, states, parameter_types, kind_meant, type_meant, program_of_parts}
 use Rattle.auth_cli.specs.declared.check.TypeFault.{TypeFault}
 use Rattle.auth_cli.specs.declared.check.TypeFault.TheVariants.{Refused, NoMemory}
 use Rattle.auth_cli.specs.declared.check.Typed.{Typed}
+use Rattle.auth_cli.specs.declared.check.Declared.{Declared}
 
 -- Ok gives what is found, as `view` shows it; a refusal says that nothing is
 abbrev pub Finds : {A B : Type 0} → (A → B) → Option B → Result A TypeFault → Type 0
@@ -50,3 +52,18 @@ parameters_of parameters = map written.parameter_of parameters
 -- the function has the shape of its kind, where the state has this type
 abbrev pub has_shape : Ty → FunctionSyntax → Bool
 has_shape state f = shape_test (program_of_parts state []) (kind_meant f.kind) (parameter_types f.parameters) (type_meant f.result_type)
+
+abbrev pub have_shapes : Ty → List FunctionSyntax → Bool
+have_shapes state [] = true
+have_shapes state (f ∷ fs) = has_shape state f && have_shapes state fs
+
+-- the functions of the definitions
+abbrev pub functions_of : List Ty → Vec Function Global → List tree.Function
+functions_of types functions = map (function_of types) functions.items
+
+-- the type of the state, where there is exactly one, and the functions
+abbrev pub parts : syntax.Program → Option (Ty × List FunctionSyntax)
+parts p = option_map (λ state. (state, functions p)) (only_state (states p))
+
+abbrev pub parts_of : Declared → Ty × List FunctionSyntax
+parts_of declared = (type_meant (written.type_of declared.state), map written.function_of declared.functions.items)

@@ -1,6 +1,6 @@
 // The type checker: from the tree of a program to its terms.
 ghost use Rattle.std.specs.Prelude.{◌≡◌, ◌<◌, ◌≤◌, ◌+◌, ◌∷◌, [], ℕ, List, Some, length, map, IfOk, slice_get, bytes_eq, not};
-ghost use Rattle.std.specs.List.{position};
+ghost use Rattle.std.specs.List.{list_any, position};
 ghost use Rattle.core_terms.specs.Programs.{meaning, types_in};
 ghost use Rattle.core_terms.specs.ProgramTrees.{function_of, kind_of};
 ghost use Rattle.core_terms.specs.Roles.{has_auth};
@@ -8,8 +8,8 @@ ghost use Rattle.core_terms.specs.TypeTables.{type_at};
 ghost use Rattle.core_terms.specs.Types.{Ty};
 ghost use Rattle.core_terms.specs.Typing.{is_shaped, is_typed, same_type};
 ghost use Rattle.auth_syntax.specs.Trees as written;
-ghost use Rattle.auth_cli.specs.Elaboration.{Elaborated, authenticated, elaborated, elaborated_expression, elaborated_function, elaborated_functions, functions, is_among, kind_meant, names_differ, only_state, opened, parameter_types, place_of, states, type_meant};
-ghost use Rattle.auth_cli.specs.Checking.{AreNumbers, Finds, FindsOver, Grows, StandsFor, has_shape, parameters_of, typed_of};
+ghost use Rattle.auth_cli.specs.Elaboration.{Elaborated, authenticated, elaborated, elaborated_expression, elaborated_function, elaborated_functions, functions, kind_meant, names_differ, only_state, opened, parameter_types, place_of, states, type_meant};
+ghost use Rattle.auth_cli.specs.Checking.{AreNumbers, Finds, FindsOver, Grows, StandsFor, functions_of, has_shape, have_shapes, parameters_of, parts, parts_of, typed_of};
 
 use auth_syntax::name::Name;
 use auth_syntax::tree::{self, Ast, Declaration, ExpTree, FunctionKind, Parameter, TypeTree};
@@ -157,7 +157,7 @@ fn opened_term(alloc: Global, types: &TyTable, inner: Typed) -> Result<Typed, Ty
 
 /// Whether a parameter has this name.
 fn is_parameter(name: &Name, parameters: &[Parameter]) -> bool
-    ensures { result ≡ is_among name.now (map (λ p. p.name) parameters.now) }
+    ensures { result ≡ list_any (λ p. bytes_eq p.name name.now) parameters.now }
 {
     parameters
         .iter()
@@ -180,7 +180,7 @@ fn have_own_names(parameters: &[Parameter]) -> bool
 
 /// Whether a function has this name.
 fn is_function(name: &Name, functions: &[tree::Function]) -> bool
-    ensures { result ≡ is_among name.now (map (λ f. f.name) functions.now) }
+    ensures { result ≡ list_any (λ f. bytes_eq f.name name.now) functions.now }
 {
     functions
         .iter()
@@ -253,4 +253,74 @@ fn is_plain(tree: &TypeTree) -> bool
         TypeTree::UnitType => true,
         TypeTree::AuthType(_) => false,
     }
+}
+
+/// The functions, in their order.
+fn typed_functions(alloc: Global, types: &mut TyTable, functions: Vec<tree::Function>) -> Result<Vec<Function>, TypeFault>
+    ensures { FindsOver (types_in types.new) functions_of (elaborated_functions (map written.function_of functions.items)) result }
+{
+    let mut typed = Vec::new(alloc);
+    for function in functions {
+        typed.push(typed_function(alloc, types, function)?)?;
+    }
+    Ok(typed)
+}
+
+/// Whether each function has the shape of its kind.
+fn are_roles(state: &TypeTree, functions: &[tree::Function]) -> bool
+    ensures { result ≡ have_shapes (type_meant (written.type_of state.now)) (map written.function_of functions.now) }
+{
+    for function in functions {
+        if !is_role(state, function) {
+            return false;
+        }
+    }
+    true
+}
+
+/// What a program declares: the type of its state, and its functions.
+#[derive(Drop)]
+struct Declared {
+    state: TypeTree,
+    functions: Vec<tree::Function>,
+}
+
+/// The parts of a program, in which exactly one state is declared.
+fn split(alloc: Global, declarations: Vec<Declaration>) -> Result<Declared, TypeFault>
+    ensures { Finds parts_of (parts (map written.declaration_of declarations.items)) result }
+{
+    let mut state = None;
+    let mut functions = Vec::new(alloc);
+    for declaration in declarations {
+        match declaration {
+            Declaration::State(_) if state.is_some() => return Err(TypeFault::Refused),
+            Declaration::State(tree) => state = Some(tree),
+            Declaration::Function(function) => functions.push(function)?,
+        }
+    }
+    match state {
+        Some(state) => Ok(Declared { state, functions }),
+        None => Err(TypeFault::Refused),
+    }
+}
+
+/// The program of a tree. The tree is consumed, and its names are moved into the program.
+///
+/// # Errors
+///
+/// `Refused` where the tree breaks a rule of the language, and `NoMemory` where there is no memory for the program.
+pub fn check(alloc: Global, ast: Ast) -> Result<Program, TypeFault>
+    ensures { Finds meaning (elaborated (written.program_of ast)) result }
+{
+    let declared = split(alloc, ast.declarations)?;
+    if declared.functions.len() > MOST_FUNCTIONS
+        || !are_distinct(&declared.functions)
+        || !are_roles(&declared.state, &declared.functions)
+    {
+        return Err(TypeFault::Refused);
+    }
+    let mut types = TyTable::new(alloc);
+    let state = number(&mut types, &declared.state)?;
+    let functions = typed_functions(alloc, &mut types, declared.functions)?;
+    Ok(Program::new(types, state, functions))
 }
