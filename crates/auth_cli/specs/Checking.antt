@@ -1,5 +1,6 @@
 -- What an answer of the checker says of what a definition finds. Where memory ran out nothing is said.
-use Rattle.std.specs.Prelude.{◌≡◌, ℕ, List, ◌++◌, [], ◌∷◌, map, slice_get, Bool, true, ◌&&◌, Option, option_map, Vec, Global, Some, None, Result, Ok, Err, ⊤}
+use Rattle.std.specs.Prelude.{◌≡◌, ℕ, List, ◌++◌, [], ◌∷◌, map, slice_get, Bool, true, ◌&&◌, Option, option_map, Vec, length, nat_le, Some, None, Result, Ok, Err, ⊤}
+use Rattle.std.specs.Global.{Global}
 use Rattle.core_terms.specs.Types.{Ty}
 use Rattle.core_terms.specs.Terms as tree
 use Rattle.core_terms.specs.Typing.{shape_test}
@@ -11,7 +12,7 @@ use Rattle.auth_syntax.specs.Syntax.{FunctionSyntax, ParameterSyntax}
 use Rattle.auth_syntax.specs.Syntax as syntax
 use Rattle.auth_syntax.specs.Trees as written
 use Rattle.auth_syntax.specs.declared.tree.Parameter.{Parameter}
-use Rattle.auth_cli.specs.Elaboration.{Elaborated, functions, only_state, states, parameter_types, kind_meant, type_meant, program_of_parts}
+use Rattle.auth_cli.specs.Elaboration.{Elaborated, functions, names_differ, only_state, states, parameter_types, kind_meant, type_meant, program_of_parts}
 use Rattle.auth_cli.specs.declared.check.TypeFault.{TypeFault}
 use Rattle.auth_cli.specs.declared.check.TypeFault.TheVariants.{Refused, NoMemory}
 use Rattle.auth_cli.specs.declared.check.Typed.{Typed}
@@ -48,6 +49,10 @@ AreNumbers types ids ts = map (λ id. slice_get types id.0) ids ≡ map Some ts
 -- the parameters of the trees
 abbrev pub parameters_of : List Parameter → List ParameterSyntax
 parameters_of parameters = map written.parameter_of parameters
+
+-- no two of the parameters have one name, and there are at most 8
+abbrev pub are_locals : List ParameterSyntax → Bool
+are_locals parameters = names_differ (map (λ p. p.name) parameters) && nat_le (length parameters) 8
 
 -- the function has the shape of its kind, where the state has this type
 abbrev pub has_shape : Ty → FunctionSyntax → Bool

@@ -9,7 +9,7 @@ ghost use Rattle.core_terms.specs.Types.{Ty};
 ghost use Rattle.core_terms.specs.Typing.{is_shaped, is_typed, same_type};
 ghost use Rattle.auth_syntax.specs.Trees as written;
 ghost use Rattle.auth_cli.specs.Elaboration.{Elaborated, authenticated, elaborated, elaborated_expression, elaborated_function, elaborated_functions, functions, kind_meant, names_differ, only_state, opened, parameter_types, place_of, states, type_meant};
-ghost use Rattle.auth_cli.specs.Checking.{AreNumbers, Finds, FindsOver, Grows, StandsFor, functions_of, has_shape, have_shapes, parameters_of, parts, parts_of, typed_of};
+ghost use Rattle.auth_cli.specs.Checking.{AreNumbers, Finds, FindsOver, Grows, StandsFor, are_locals, functions_of, has_shape, have_shapes, parameters_of, parts, parts_of, typed_of};
 
 use auth_syntax::name::Name;
 use auth_syntax::tree::{self, Ast, Declaration, ExpTree, FunctionKind, Parameter, TypeTree};
@@ -168,12 +168,10 @@ fn is_parameter(name: &Name, parameters: &[Parameter]) -> bool
 fn have_own_names(parameters: &[Parameter]) -> bool
     ensures { result ≡ names_differ (map (λ p. p.name) parameters.now) }
 {
-    let mut left = parameters;
-    while let [parameter, others @ ..] = left {
-        if is_parameter(&parameter.name, others) {
+    for (place, parameter) in parameters.iter().enumerate() {
+        if is_parameter(&parameter.name, &parameters[place + 1..]) {
             return false;
         }
-        left = others;
     }
     true
 }
@@ -191,12 +189,10 @@ fn is_function(name: &Name, functions: &[tree::Function]) -> bool
 fn are_distinct(functions: &[tree::Function]) -> bool
     ensures { result ≡ names_differ (map (λ f. f.name) functions.now) }
 {
-    let mut left = functions;
-    while let [function, others @ ..] = left {
-        if is_function(&function.name, others) {
+    for (place, function) in functions.iter().enumerate() {
+        if is_function(&function.name, &functions[place + 1..]) {
             return false;
         }
-        left = others;
     }
     true
 }
@@ -211,12 +207,19 @@ fn kind(kind: FunctionKind) -> Kind
     }
 }
 
+/// Whether these are parameters of a function: at most 8, and no two of one name.
+fn are_parameters(parameters: &[Parameter]) -> bool
+    ensures { result ≡ are_locals (parameters_of parameters.now) }
+{
+    parameters.len() <= MOST_PARAMETERS && have_own_names(parameters)
+}
+
 /// A function with its types and its body.
 fn typed_function(alloc: Global, types: &mut TyTable, function: tree::Function) -> Result<Function, TypeFault>
     ensures grows { Grows (types_in types.old) (types_in types.new) }
     ensures found { FindsOver (types_in types.new) function_of (elaborated_function (written.function_of function)) result }
 {
-    if !have_own_names(&function.parameters) || function.parameters.len() > MOST_PARAMETERS {
+    if !are_parameters(&function.parameters) {
         return Err(TypeFault::Refused);
     }
     let parameters = numbers(alloc, types, &function.parameters)?;
