@@ -1,3 +1,4 @@
 pub mod Checking
 pub mod CheckedFunctions
 pub mod Declarations
+pub mod Elaborated

@@ -260,7 +260,8 @@ fn is_plain(tree: &TypeTree) -> bool
 
 /// The functions, in their order.
 fn typed_functions(alloc: Global, types: &mut TyTable, functions: Vec<tree::Function>) -> Result<Vec<Function>, TypeFault>
-    ensures { FindsOver (types_in types.new) functions_of (elaborated_functions (map written.function_of functions.items)) result }
+    ensures grows { Grows (types_in types.old) (types_in types.new) }
+    ensures found { FindsOver (types_in types.new) functions_of (elaborated_functions (map written.function_of functions.items)) result }
 {
     let mut typed = Vec::new(alloc);
     for function in functions {
