@@ -10,6 +10,8 @@ use Rattle.auth_syntax.specs.Syntax.{FunctionSyntax}
 use Rattle.auth_syntax.specs.Syntax as syntax
 use Rattle.auth_syntax.specs.Trees as written
 use Rattle.auth_syntax.specs.declared.tree.TypeTree.{TypeTree}
+use Rattle.auth_syntax.specs.declared.tree.Declaration.{Declaration}
+use Rattle.auth_syntax.specs.declared.tree.Declaration.TheVariants.{State}
 use Rattle.auth_syntax.specs.declared.tree.Function.{Function as FunctionTree}
 use Rattle.auth_cli.specs.Elaboration.{elaborated_function, elaborated_functions, functions, only_state, states, type_meant}
 use Rattle.auth_cli.specs.Checking.{FindsOver, Grows, functions_of, parts}
@@ -23,9 +25,13 @@ state_types None = []
 state_types (Some t) = type_meant (written.type_of t) ∷ []
 
 -- a state that is declared behind another
-pub second_state : (p : syntax.Program) (state : Option TypeTree) (t : TypeTree) (rest : List Ty) → is_some state ≡ true → states p ≡ state_types state ++ type_meant (written.type_of t) ∷ rest → parts p ≡ None
-second_state p None t rest some e = absurd (cc)
-second_state p (Some s) t rest some e = ap (λ l. option_map (λ state. (state, functions p)) (only_state l)) e
+pub second_state : (all left next : List Declaration) (state : Option TypeTree) (d : Declaration) (t : TypeTree) → is_some state ≡ true
+    → states (map written.declaration_of all) ≡ state_types state ++ states (map written.declaration_of left) → left ≡ d ∷ next → d ≡ State t → parts (map written.declaration_of all) ≡ None
+second_state all left next None d t some so_far one is = absurd (cc)
+second_state all left next (Some s) d t some so_far one is =
+    let both : states (map written.declaration_of all) ≡ type_meant (written.type_of s) ∷ type_meant (written.type_of t) ∷ states (map written.declaration_of next) =
+        so_far ∙ ap (λ l. type_meant (written.type_of s) ∷ states (map written.declaration_of l)) (one ∙ ap (λ d. d ∷ next) is) in
+    ap (λ l. option_map (λ state. (state, functions (map written.declaration_of all))) (only_state l)) both
 
 -- Where functions stand so far: those before the iterator's, each found.
 abbrev pub Done : List Ty → List FunctionTree → List FunctionTree → List Function → Type 0

@@ -47,3 +47,75 @@ expression_typed P ps (UnauthSyntax x) e h = by (elaborated_expression ps x) (ex
         → option_and_then opened o ≡ Some e → has_type P (parameter_types ps) e.expression e.of_type ≡ true
     by None on h = absurd (cc)
     by (Some d) on h = at d.expression d.of_type (on d refl) h
+
+-- a function has its type
+pub function_typed : (P : Program) (f : FunctionSyntax) (g : tree.Function) → elaborated_function f ≡ Some g → has_type P g.parameters g.body g.result ≡ true
+function_typed P f g h = by (are_locals f.parameters) (elaborated_expression f.parameters f.body) (expression_typed P f.parameters f.body) h
+  where
+    ends : (e : Elaborated) → has_type P (parameter_types f.parameters) e.expression e.of_type ≡ true → (b : Bool) → same_type e.of_type (type_meant f.result_type) ≡ b
+        → (d : tree.Function) → d ≡ record { name = f.name; kind = kind_meant f.kind; parameters = parameter_types f.parameters; result = type_meant f.result_type; body = e.expression }
+        → (if b then Some d else None) ≡ Some g → has_type P g.parameters g.body g.result ≡ true
+    ends e typed false same d is h = absurd (cc)
+    ends e typed true same d is h =
+        let whole : record { name = f.name; kind = kind_meant f.kind; parameters = parameter_types f.parameters; result = type_meant f.result_type; body = e.expression } ≡ g = cc in
+        subst (λ g. has_type P g.parameters g.body g.result ≡ true) whole (subst (λ t. has_type P (parameter_types f.parameters) e.expression t ≡ true) (same_sound e.of_type (type_meant f.result_type) same) typed)
+    by : (b : Bool) (o : Option Elaborated) → ((e : Elaborated) → o ≡ Some e → has_type P (parameter_types f.parameters) e.expression e.of_type ≡ true)
+        → (if b then option_and_then (with_body f) o else None) ≡ Some g → has_type P g.parameters g.body g.result ≡ true
+    by false o on h = absurd (cc)
+    by true None on h = absurd (cc)
+    by true (Some e) on h = ends e (on e refl) (same_type e.of_type (type_meant f.result_type)) refl _ refl h
+
+-- a function has the kind, the parameters and the result of its tree
+pub function_kept : (f : FunctionSyntax) (g : tree.Function) → elaborated_function f ≡ Some g → (g.kind ≡ kind_meant f.kind) × (g.parameters ≡ parameter_types f.parameters) × (g.result ≡ type_meant f.result_type)
+function_kept f g h = by (are_locals f.parameters) (elaborated_expression f.parameters f.body) h
+  where
+    ends : (e : Elaborated) (b : Bool) (d : tree.Function) → d ≡ record { name = f.name; kind = kind_meant f.kind; parameters = parameter_types f.parameters; result = type_meant f.result_type; body = e.expression }
+        → (if b then Some d else None) ≡ Some g → (g.kind ≡ kind_meant f.kind) × (g.parameters ≡ parameter_types f.parameters) × (g.result ≡ type_meant f.result_type)
+    ends e false d is h = absurd (cc)
+    ends e true d is h =
+        let whole : record { name = f.name; kind = kind_meant f.kind; parameters = parameter_types f.parameters; result = type_meant f.result_type; body = e.expression } ≡ g = cc in
+        (sym (ap (λ g. g.kind) whole), sym (ap (λ g. g.parameters) whole), sym (ap (λ g. g.result) whole))
+    by : (b : Bool) (o : Option Elaborated) → (if b then option_and_then (with_body f) o else None) ≡ Some g → (g.kind ≡ kind_meant f.kind) × (g.parameters ≡ parameter_types f.parameters) × (g.result ≡ type_meant f.result_type)
+    by false o h = absurd (cc)
+    by true None h = absurd (cc)
+    by true (Some e) h = ends e (same_type e.of_type (type_meant f.result_type)) _ refl h
+
+-- a shape depends on the type of the state alone
+shape_same : (state : Ty) (gs hs : List tree.Function) (kind : Kind) (parameters : List Ty) (result : Ty) → shape_test (program_of_parts state gs) kind parameters result ≡ shape_test (program_of_parts state hs) kind parameters result
+shape_same state gs hs Inner parameters result = refl
+shape_same state gs hs Init (a ∷ []) result = refl
+shape_same state gs hs Query (s ∷ a ∷ []) result = refl
+shape_same state gs hs Update (s ∷ a ∷ []) (PairTy new answer) = refl
+shape_same state gs hs kind parameters result = refl
+
+-- the functions that are elaborated, one by one
+module _ where
+  split_functions : (f : FunctionSyntax) (fs : List FunctionSyntax) (gs : List tree.Function) → elaborated_functions (f ∷ fs) ≡ Some gs
+      → (g : tree.Function) × (hs : List tree.Function) × (elaborated_function f ≡ Some g) × (elaborated_functions fs ≡ Some hs) × (g ∷ hs ≡ gs)
+  split_functions f fs gs h = by (elaborated_function f) (elaborated_functions fs) h
+    where
+      by : (o : Option tree.Function) (r : Option (List tree.Function)) → option_and_then (λ g. option_map (λ gs. g ∷ gs) r) o ≡ Some gs
+          → (g : tree.Function) × (hs : List tree.Function) × (o ≡ Some g) × (r ≡ Some hs) × (g ∷ hs ≡ gs)
+      by None r h = absurd (cc)
+      by (Some g) None h = absurd (cc)
+      by (Some g) (Some hs) h = (g, hs, refl, refl, cc)
+
+pub functions_typed : (P : Program) (fs : List FunctionSyntax) (gs : List tree.Function) → elaborated_functions fs ≡ Some gs → all_typed P gs ≡ true
+functions_typed P [] gs h = let none : [] ≡ gs = cc in subst (λ gs. all_typed P gs ≡ true) none refl
+functions_typed P (f ∷ fs) gs h =
+    let (g, hs, one, others, is) = split_functions f fs gs h in
+    subst (λ gs. all_typed P gs ≡ true) is (both _ _ (function_typed P f g one) (functions_typed P fs hs others))
+
+-- functions have their shapes where their trees have
+pub functions_shaped : (state : Ty) (all : List tree.Function) (fs : List FunctionSyntax) (gs : List tree.Function) → elaborated_functions fs ≡ Some gs → all_shaped (program_of_parts state all) gs ≡ have_shapes state fs
+functions_shaped state all [] gs h = let none : [] ≡ gs = cc in subst (λ gs. all_shaped (program_of_parts state all) gs ≡ true) none refl
+functions_shaped state all (f ∷ fs) gs h =
+    let (g, hs, one, others, is) = split_functions f fs gs h in
+    let (kind, parameters, result) = function_kept f g one in
+    let here : shape_test (program_of_parts state all) g.kind g.parameters g.result ≡ has_shape state f =
+        ap (λ k. shape_test (program_of_parts state all) k g.parameters g.result) kind
+        ∙ ap (λ ts. shape_test (program_of_parts state all) (kind_meant f.kind) ts g.result) parameters
+        ∙ ap (λ t. shape_test (program_of_parts state all) (kind_meant f.kind) (parameter_types f.parameters) t) result
+        ∙ shape_same state all [] (kind_meant f.kind) (parameter_types f.parameters) (type_meant f.result_type) in
+    let behind = functions_shaped state all fs hs others in
+    sym (ap (all_shaped (program_of_parts state all)) is) ∙ ap (λ b. b && all_shaped (program_of_parts state all) hs) here ∙ ap (λ b. has_shape state f && b) behind

@@ -3,7 +3,7 @@ use Rattle.auth_cli.proofs.Declarations.{functions_fault, functions_step}
 use Rattle.auth_cli.proofs.check.typed_functions.Goals as goal
 
 pub returns-in_err-typed_function-clause-found : goal.returns-in_err-typed_function-clause-found
-returns-in_err-typed_function-clause-found c = ?
+returns-in_err-typed_function-clause-found c = let h = c.from_residual.ensures.1 in let k = c.in_err-typed_function.ensures.found in ?
 
 pub returns-in_err-typed_function-clause-grows : goal.returns-in_err-typed_function-clause-grows
 returns-in_err-typed_function-clause-grows c = grows_on _ _ _ c.loop-function.invariant.grows c.typed_function.ensures.grows
