@@ -2,3 +2,4 @@ pub mod Checking
 pub mod CheckedFunctions
 pub mod Declarations
 pub mod Elaborated
+pub mod CheckedPrograms

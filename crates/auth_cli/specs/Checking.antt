@@ -62,6 +62,10 @@ abbrev pub have_shapes : Ty → List FunctionSyntax → Bool
 have_shapes state [] = true
 have_shapes state (f ∷ fs) = has_shape state f && have_shapes state fs
 
+-- there are at most 1,024 functions, no two of one name, and each has the shape of its kind
+abbrev pub are_shaped_functions : Ty → List FunctionSyntax → Bool
+are_shaped_functions state fs = (nat_le (length fs) 1024 && names_differ (map (λ f. f.name) fs)) && have_shapes state fs
+
 -- the functions of the definitions
 abbrev pub functions_of : List Ty → Vec Function Global → List tree.Function
 functions_of types functions = map (function_of types) functions.items

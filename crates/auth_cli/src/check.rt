@@ -9,7 +9,7 @@ ghost use Rattle.core_terms.specs.Types.{Ty};
 ghost use Rattle.core_terms.specs.Typing.{is_shaped, is_typed, same_type};
 ghost use Rattle.auth_syntax.specs.Trees as written;
 ghost use Rattle.auth_cli.specs.Elaboration.{Elaborated, authenticated, elaborated, elaborated_expression, elaborated_function, elaborated_functions, functions, kind_meant, names_differ, only_state, opened, parameter_types, place_of, states, type_meant};
-ghost use Rattle.auth_cli.specs.Checking.{AreNumbers, Finds, FindsOver, Grows, StandsFor, are_locals, functions_of, has_shape, have_shapes, parameters_of, parts, parts_of, typed_of};
+ghost use Rattle.auth_cli.specs.Checking.{AreNumbers, Finds, FindsOver, Grows, StandsFor, are_locals, are_shaped_functions, functions_of, has_shape, have_shapes, parameters_of, parts, parts_of, typed_of};
 
 use auth_syntax::name::Name;
 use auth_syntax::tree::{self, Ast, Declaration, ExpTree, FunctionKind, Parameter, TypeTree};
@@ -282,6 +282,16 @@ fn are_roles(state: &TypeTree, functions: &[tree::Function]) -> bool
     true
 }
 
+/// Whether these are functions of a program: at most 1,024, no two of one name, and each of the shape of its kind.
+fn are_functions(state: &TypeTree, functions: &[tree::Function]) -> bool
+    ensures { result ≡ are_shaped_functions (type_meant (written.type_of state.now)) (map written.function_of functions.now) }
+{
+    if functions.len() > MOST_FUNCTIONS {
+        return false;
+    }
+    are_distinct(functions) && are_roles(state, functions)
+}
+
 /// What a program declares: the type of its state, and its functions.
 #[derive(Drop)]
 struct Declared {
@@ -317,10 +327,7 @@ pub fn check(alloc: Global, ast: Ast) -> Result<Program, TypeFault>
     ensures { Finds meaning (elaborated (written.program_of ast)) result }
 {
     let declared = split(alloc, ast.declarations)?;
-    if declared.functions.len() > MOST_FUNCTIONS
-        || !are_distinct(&declared.functions)
-        || !are_roles(&declared.state, &declared.functions)
-    {
+    if !are_functions(&declared.state, &declared.functions) {
         return Err(TypeFault::Refused);
     }
     let mut types = TyTable::new(alloc);
