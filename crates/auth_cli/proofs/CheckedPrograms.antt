@@ -32,7 +32,11 @@ with_functions state fs = option_and_then (λ gs. shaped (program_of_parts state
 -- the parts of a program are its only state and its functions
 parts_are : (o : Option Ty) (all : List FunctionSyntax) (state : Ty) (fs : List FunctionSyntax) → option_map {U = Ty × List FunctionSyntax} (λ state. (state, all)) o ≡ Some (state, fs) → (o ≡ Some state) × (all ≡ fs)
 parts_are None all state fs h = absurd (cc)
-parts_are (Some t) all state fs h = (cc, cc)
+parts_are (Some t) all state fs h =
+    let state_is : Some t ≡ Some state = ap (option_map (λ (q : Ty × List FunctionSyntax). q.0)) h in
+    let lists : Some all ≡ Some fs = ap (option_map (λ (q : Ty × List FunctionSyntax). q.1)) h in
+    let functions_are : all ≡ fs = cc in
+    (state_is, functions_are)
 
 no_parts : (o : Option Ty) (all : List FunctionSyntax) → option_map {U = Ty × List FunctionSyntax} (λ state. (state, all)) o ≡ None → o ≡ None
 no_parts None all h = refl
@@ -45,7 +49,7 @@ elaborated_parts p state fs h =
     ap (λ o. if are_functions (functions p) then option_and_then (λ state. with_functions state (functions p)) o else None) state_is
     ∙ ap (λ fs. if are_functions fs then with_functions state fs else None) functions_are
 
--- a program with no parts, as a state is missing or is declared again
+-- a program with refused parts, as a state is missing or is declared again
 pub elaborated_no_parts : (p : syntax.Program) → parts p ≡ None → elaborated p ≡ None
 elaborated_no_parts p h =
     ap (λ o. if are_functions (functions p) then option_and_then (λ state. with_functions state (functions p)) o else None) (no_parts (only_state (states p)) (functions p) h) ∙ none (are_functions (functions p))
@@ -97,26 +101,26 @@ functions_many state fs many =
 
 -- a program whose functions are refused as they are written
 pub refused_functions : (p : syntax.Program) (state : Ty) (fs : List FunctionSyntax) → parts p ≡ Some (state, fs) → are_shaped_functions state fs ≡ false → elaborated p ≡ None
-refused_functions p state fs h no = elaborated_parts p state fs h ∙ by (are_functions fs) (have_shapes state fs) refl no
+refused_functions p state fs h refused = elaborated_parts p state fs h ∙ by (are_functions fs) (have_shapes state fs) refl refused
   where
     by : (a b : Bool) → have_shapes state fs ≡ b → a && b ≡ false → (if a then with_functions state fs else None) ≡ None
-    by false b e no = refl
-    by true true e no = absurd (cc)
-    by true false e no = with_no_shapes state fs e
+    by false b e refused = refl
+    by true true e refused = absurd (cc)
+    by true false e refused = with_no_shapes state fs e
 
 -- a program of which a function is refused
 pub refused_function : (p : syntax.Program) (state : Ty) (fs : List FunctionSyntax) → parts p ≡ Some (state, fs) → elaborated_functions fs ≡ None → elaborated p ≡ None
-refused_function p state fs h no = elaborated_parts p state fs h ∙ by (are_functions fs)
+refused_function p state fs h refused = elaborated_parts p state fs h ∙ by (are_functions fs)
   where
     by : (a : Bool) → (if a then with_functions state fs else None) ≡ None
     by false = refl
-    by true = with_none state fs no
+    by true = with_none state fs refused
 
 -- a program whose functions are taken
 pub taken_functions : (p : syntax.Program) (state : Ty) (fs : List FunctionSyntax) (gs : List tree.Function) → parts p ≡ Some (state, fs) → are_shaped_functions state fs ≡ true → elaborated_functions fs ≡ Some gs → elaborated p ≡ Some (program_of_parts state gs)
-taken_functions p state fs gs h yes e =
-    elaborated_parts p state fs h ∙ ap (λ b. if b then with_functions state fs else None) (first_of (are_functions fs) (have_shapes state fs) yes)
-    ∙ with_shapes state fs gs (second_of (are_functions fs) (have_shapes state fs) yes) e
+taken_functions p state fs gs h shaped_as e =
+    elaborated_parts p state fs h ∙ ap (λ b. if b then with_functions state fs else None) (first_of (are_functions fs) (have_shapes state fs) shaped_as)
+    ∙ with_shapes state fs gs (second_of (are_functions fs) (have_shapes state fs) shaped_as) e
 
 -- the program of a table, where the numbers stand for the types of these parts
 pub program_is : (forms : List TyForm) (before : List Ty) (id : TyId) (typed : List Function) (state : Ty) (fs : List FunctionSyntax) → Grows before (types_of_forms forms) → slice_get before id.0 ≡ Some state
@@ -137,13 +141,13 @@ program_typed forms before id typed state fs grows at found =
 
 pub program_shaped : (forms : List TyForm) (before : List Ty) (id : TyId) (typed : List Function) (state : Ty) (fs : List FunctionSyntax) → Grows before (types_of_forms forms) → slice_get before id.0 ≡ Some state
     → ((more : List Ty) → elaborated_functions fs ≡ Some (map (function_of (types_of_forms forms ++ more)) typed)) → are_shaped_functions state fs ≡ true → is_shaped (program_of forms id typed) ≡ true
-program_shaped forms before id typed state fs grows at found yes =
+program_shaped forms before id typed state fs grows at found shaped_as =
     let (gs, all, is) = program_is forms before id typed state fs grows at found in
-    ap is_shaped is ∙ functions_shaped state gs fs gs all ∙ second_of (are_functions fs) (have_shapes state fs) yes
+    ap is_shaped is ∙ functions_shaped state gs fs gs all ∙ second_of (are_functions fs) (have_shapes state fs) shaped_as
 
 pub program_found : (p : syntax.Program) (forms : List TyForm) (before : List Ty) (id : TyId) (typed : List Function) (state : Ty) (fs : List FunctionSyntax) → Grows before (types_of_forms forms) → slice_get before id.0 ≡ Some state
     → ((more : List Ty) → elaborated_functions fs ≡ Some (map (function_of (types_of_forms forms ++ more)) typed)) → are_shaped_functions state fs ≡ true → parts p ≡ Some (state, fs)
     → elaborated p ≡ Some (program_of forms id typed)
-program_found p forms before id typed state fs grows at found yes h =
+program_found p forms before id typed state fs grows at found shaped_as h =
     let (gs, all, is) = program_is forms before id typed state fs grows at found in
-    taken_functions p state fs gs h yes all ∙ ap Some (sym is)
+    taken_functions p state fs gs h shaped_as all ∙ ap Some (sym is)

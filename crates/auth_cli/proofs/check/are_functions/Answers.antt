@@ -16,5 +16,5 @@ returns-then-are_distinct c =
 
 pub returns-else-are_distinct : goal.returns-else-are_distinct
 returns-else-are_distinct c =
-    ap (λ b. b && have_shapes (type_meant (type_of c.args.state.now)) (map function_of c.args.functions.now)) (sym c.if-are_distinct.false ∙ c.are_distinct.ensures)
+    c.if-are_distinct.false ∙ ap (λ b. b && have_shapes (type_meant (type_of c.args.state.now)) (map function_of c.args.functions.now)) (sym c.if-are_distinct.false ∙ c.are_distinct.ensures)
     ∙ sym (functions_few _ c.args.functions.now (omega arith))
