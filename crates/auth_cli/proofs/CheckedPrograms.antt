@@ -19,7 +19,8 @@ use Rattle.auth_syntax.specs.declared.tree.Function.{Function as FunctionTree}
 use Rattle.auth_cli.specs.Elaboration.{elaborated, elaborated_functions, functions, names_differ, only_state, program_of_parts, shaped, states, type_meant}
 use Rattle.auth_cli.specs.Checking.{Grows, are_shaped_functions, have_shapes, parts}
 use Rattle.auth_cli.proofs.Checking.{type_stays}
-use Rattle.auth_cli.proofs.Elaborated.{functions_shaped, functions_typed}
+use Rattle.auth_cli.proofs.Elaborated.{functions_shaped}
+use Rattle.auth_cli.proofs.ElaborationSound.{all_are_typed}
 
 -- there are few enough functions, and their names differ
 abbrev pub are_functions : List FunctionSyntax → Bool
@@ -137,7 +138,7 @@ pub program_typed : (forms : List TyForm) (before : List Ty) (id : TyId) (typed 
     → ((more : List Ty) → elaborated_functions fs ≡ Some (map (function_of (types_of_forms forms ++ more)) typed)) → is_typed (program_of forms id typed) ≡ true
 program_typed forms before id typed state fs grows at found =
     let (gs, all, is) = program_is forms before id typed state fs grows at found in
-    ap is_typed is ∙ functions_typed (program_of_parts state gs) fs gs all
+    ap is_typed is ∙ all_are_typed (program_of_parts state gs) fs gs all
 
 pub program_shaped : (forms : List TyForm) (before : List Ty) (id : TyId) (typed : List Function) (state : Ty) (fs : List FunctionSyntax) → Grows before (types_of_forms forms) → slice_get before id.0 ≡ Some state
     → ((more : List Ty) → elaborated_functions fs ≡ Some (map (function_of (types_of_forms forms ++ more)) typed)) → are_shaped_functions state fs ≡ true → is_shaped (program_of forms id typed) ≡ true

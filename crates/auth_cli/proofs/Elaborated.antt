@@ -1,4 +1,4 @@
--- What the elaboration gives is well-typed, and its functions have the shapes that their trees have.
+-- The functions that are elaborated have the shapes that their trees have.
 use Rattle.std.proofs.Common.{◌≡◌, ℕ, zero, suc, ◌<◌, Bool, true, false, ◌&&◌, List, [], ◌∷◌, length, map, Option, Some, None, option_map, slice_get, slice_index_or, bytes_eq, nat_le, if◌then◌else◌, refl, sym, ap, ◌∙◌, subst}
 use Rattle.std.specs.Option.{option_and_then}
 use Rattle.std.proofs.lemmas.Option.{slice_get-get_or}
@@ -13,57 +13,6 @@ use Rattle.auth_syntax.specs.Syntax as syntax
 use Rattle.auth_cli.specs.Elaboration.{Elaborated, authenticated, elaborated, elaborated_expression, elaborated_function, elaborated_functions, functions, kind_meant, local_at, names_differ, only_state, opened, opened_at, parameter_types, place_of, program_of_parts, shaped, states, type_meant, with_body}
 use Rattle.auth_cli.specs.Checking.{are_locals, has_shape, have_shapes}
 use Rattle.auth_cli.proofs.Checking.{place_inside}
-
--- an expression has its type
-pub expression_typed : (P : Program) (ps : List ParameterSyntax) (x : ExpSyntax) (e : Elaborated) → elaborated_expression ps x ≡ Some e → has_type P (parameter_types ps) e.expression e.of_type ≡ true
-expression_typed P ps UnitSyntax e h =
-    let is : record { expression = tree.UnitE; of_type = UnitTy } ≡ e = cc in
-    subst (λ e. has_type P (parameter_types ps) e.expression e.of_type ≡ true) is refl
-expression_typed P ps (LocalSyntax name) e h = by (place_of name ps) refl h
-  where
-    by : (o : Option ℕ) → place_of name ps ≡ o → option_map (local_at ps) o ≡ Some e → has_type P (parameter_types ps) e.expression e.of_type ≡ true
-    by None p h = absurd (cc)
-    by (Some i) p h =
-        let is : local_at ps i ≡ e = cc in
-        let there = slice_get-get_or (parameter_types ps) i UnitTy (place_inside name ps i p) in
-        subst (λ e. has_type P (parameter_types ps) e.expression e.of_type ≡ true) is
-        (ap (λ o. is_at o (slice_index_or (parameter_types ps) i UnitTy)) there ∙ same_self (slice_index_or (parameter_types ps) i UnitTy))
-expression_typed P ps (AuthSyntax x) e h = by (elaborated_expression ps x) (expression_typed P ps x) h
-  where
-    by : (o : Option Elaborated) → ((d : Elaborated) → o ≡ Some d → has_type P (parameter_types ps) d.expression d.of_type ≡ true)
-        → option_map authenticated o ≡ Some e → has_type P (parameter_types ps) e.expression e.of_type ≡ true
-    by None on h = absurd (cc)
-    by (Some d) on h =
-        let is : authenticated d ≡ e = cc in
-        subst (λ e. has_type P (parameter_types ps) e.expression e.of_type ≡ true) is (both _ _ (same_self d.of_type) (on d refl))
-expression_typed P ps (UnauthSyntax x) e h = by (elaborated_expression ps x) (expression_typed P ps x) h
-  where
-    at : (y : Expression) (t : Ty) → has_type P (parameter_types ps) y t ≡ true → opened_at y t ≡ Some e → has_type P (parameter_types ps) e.expression e.of_type ≡ true
-    at y (AuthTy t) typed h =
-        let is : record { expression = tree.UnauthE t y; of_type = t } ≡ e = cc in
-        subst (λ e. has_type P (parameter_types ps) e.expression e.of_type ≡ true) is (both _ _ (same_self t) typed)
-    at y t typed h = absurd (cc)
-    by : (o : Option Elaborated) → ((d : Elaborated) → o ≡ Some d → has_type P (parameter_types ps) d.expression d.of_type ≡ true)
-        → option_and_then opened o ≡ Some e → has_type P (parameter_types ps) e.expression e.of_type ≡ true
-    by None on h = absurd (cc)
-    by (Some d) on h = at d.expression d.of_type (on d refl) h
-
--- a function has its type
-pub function_typed : (P : Program) (f : FunctionSyntax) (g : tree.Function) → elaborated_function f ≡ Some g → has_type P g.parameters g.body g.result ≡ true
-function_typed P f g h = by (are_locals f.parameters) (elaborated_expression f.parameters f.body) (expression_typed P f.parameters f.body) h
-  where
-    ends : (e : Elaborated) → has_type P (parameter_types f.parameters) e.expression e.of_type ≡ true → (b : Bool) → same_type e.of_type (type_meant f.result_type) ≡ b
-        → (d : tree.Function) → d ≡ record { name = f.name; kind = kind_meant f.kind; parameters = parameter_types f.parameters; result = type_meant f.result_type; body = e.expression }
-        → (if b then Some d else None) ≡ Some g → has_type P g.parameters g.body g.result ≡ true
-    ends e typed false same d is h = absurd (cc)
-    ends e typed true same d is h =
-        let whole : record { name = f.name; kind = kind_meant f.kind; parameters = parameter_types f.parameters; result = type_meant f.result_type; body = e.expression } ≡ g = cc in
-        subst (λ g. has_type P g.parameters g.body g.result ≡ true) whole (subst (λ t. has_type P (parameter_types f.parameters) e.expression t ≡ true) (same_sound e.of_type (type_meant f.result_type) same) typed)
-    by : (b : Bool) (o : Option Elaborated) → ((e : Elaborated) → o ≡ Some e → has_type P (parameter_types f.parameters) e.expression e.of_type ≡ true)
-        → (if b then option_and_then (with_body f) o else None) ≡ Some g → has_type P g.parameters g.body g.result ≡ true
-    by false o on h = absurd (cc)
-    by true None on h = absurd (cc)
-    by true (Some e) on h = ends e (on e refl) (same_type e.of_type (type_meant f.result_type)) refl _ refl h
 
 -- a function has the kind, the parameters and the result of its tree
 pub function_kept : (f : FunctionSyntax) (g : tree.Function) → elaborated_function f ≡ Some g → (g.kind ≡ kind_meant f.kind) × (g.parameters ≡ parameter_types f.parameters) × (g.result ≡ type_meant f.result_type)
@@ -89,22 +38,15 @@ shape_same state gs hs Update (s ∷ a ∷ []) (PairTy new answer) = refl
 shape_same state gs hs kind parameters result = refl
 
 -- the functions that are elaborated, one by one
-module _ where
-  split_functions : (f : FunctionSyntax) (fs : List FunctionSyntax) (gs : List tree.Function) → elaborated_functions (f ∷ fs) ≡ Some gs
-      → (g : tree.Function) × (hs : List tree.Function) × (elaborated_function f ≡ Some g) × (elaborated_functions fs ≡ Some hs) × (g ∷ hs ≡ gs)
-  split_functions f fs gs h = by (elaborated_function f) (elaborated_functions fs) h
-    where
-      by : (o : Option tree.Function) (r : Option (List tree.Function)) → option_and_then (λ g. option_map (λ gs. g ∷ gs) r) o ≡ Some gs
-          → (g : tree.Function) × (hs : List tree.Function) × (o ≡ Some g) × (r ≡ Some hs) × (g ∷ hs ≡ gs)
-      by None r h = absurd (cc)
-      by (Some g) None h = absurd (cc)
-      by (Some g) (Some hs) h = (g, hs, refl, refl, cc)
-
-pub functions_typed : (P : Program) (fs : List FunctionSyntax) (gs : List tree.Function) → elaborated_functions fs ≡ Some gs → all_typed P gs ≡ true
-functions_typed P [] gs h = let none : [] ≡ gs = cc in subst (λ gs. all_typed P gs ≡ true) none refl
-functions_typed P (f ∷ fs) gs h =
-    let (g, hs, one, others, is) = split_functions f fs gs h in
-    subst (λ gs. all_typed P gs ≡ true) is (both _ _ (function_typed P f g one) (functions_typed P fs hs others))
+split_functions : (f : FunctionSyntax) (fs : List FunctionSyntax) (gs : List tree.Function) → elaborated_functions (f ∷ fs) ≡ Some gs
+    → (g : tree.Function) × (hs : List tree.Function) × (elaborated_function f ≡ Some g) × (elaborated_functions fs ≡ Some hs) × (g ∷ hs ≡ gs)
+split_functions f fs gs h = by (elaborated_function f) (elaborated_functions fs) h
+  where
+    by : (o : Option tree.Function) (r : Option (List tree.Function)) → option_and_then (λ g. option_map (λ gs. g ∷ gs) r) o ≡ Some gs
+        → (g : tree.Function) × (hs : List tree.Function) × (o ≡ Some g) × (r ≡ Some hs) × (g ∷ hs ≡ gs)
+    by None r h = absurd (cc)
+    by (Some g) None h = absurd (cc)
+    by (Some g) (Some hs) h = (g, hs, refl, refl, cc)
 
 -- functions have their shapes where their trees have
 pub functions_shaped : (state : Ty) (all : List tree.Function) (fs : List FunctionSyntax) (gs : List tree.Function) → elaborated_functions fs ≡ Some gs → all_shaped (program_of_parts state all) gs ≡ have_shapes state fs

@@ -1,3 +1,17 @@
 pub mod Elaboration
 pub mod Checking
 pub mod Verdicts
+pub mod Pieces
+pub mod Shallow
+pub mod Standing
+pub mod Answer
+pub mod Arguments
+pub mod Calls
+pub mod Codes
+pub mod Ending
+pub mod Halting
+pub mod ReadPrograms
+pub mod Reporting
+pub mod Telling
+pub mod TrueLines
+pub mod Words

@@ -1,5 +1,5 @@
 -- How the answer of `verify` tells a verdict, and what it says of the ideal run.
-use Rattle.std.specs.Prelude.{◌≡◌, ◌⊎◌, ℕ, List, [], ◌∷◌, length, drop, Some, Result, Ok, Err, slice_index_or, ⊤}
+use Rattle.std.specs.Prelude.{◌≡◌, ℕ, List, [], drop, Some, Result, Ok, Err, slice_index_or, ⊤}
 use Rattle.core_terms.specs.Types.{Ty, UnitTy}
 use Rattle.core_terms.specs.Formats.{Hash}
 use Rattle.core_terms.specs.Values.{Value, IsIdeal, IsShallow}

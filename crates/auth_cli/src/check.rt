@@ -8,10 +8,13 @@ ghost use Rattle.core_terms.specs.TypeTables.{type_at};
 ghost use Rattle.core_terms.specs.Types.{Ty};
 ghost use Rattle.core_terms.specs.Typing.{is_shaped, is_typed, same_type};
 ghost use Rattle.auth_syntax.specs.Trees as written;
-ghost use Rattle.auth_cli.specs.Elaboration.{Elaborated, authenticated, elaborated, elaborated_expression, elaborated_function, elaborated_functions, functions, kind_meant, names_differ, only_state, opened, parameter_types, place_of, states, type_meant};
+ghost use Rattle.auth_cli.specs.Elaboration.{Elaborated, authenticated, elaborated, elaborated_expression, elaborated_function, elaborated_functions, functions, kind_meant, names_differ, only_state, opened, parameter_types, place_of, program_of_text, states, type_meant};
+ghost use Rattle.auth_cli.specs.ReadPrograms.{ReadsProgram};
 ghost use Rattle.auth_cli.specs.Checking.{AreNumbers, Finds, FindsOver, Grows, StandsFor, are_locals, are_shaped_functions, functions_of, has_shape, have_shapes, parameters_of, parts, parts_of, typed_of};
 
+use auth_syntax::fault::SyntaxFault;
 use auth_syntax::name::Name;
+use auth_syntax::parser::parse;
 use auth_syntax::tree::{self, Ast, Declaration, ExpTree, FunctionKind, Parameter, TypeTree};
 use core_terms::{Function, Kind, LocalId, Program, Term, TyForm, TyId, TyTable};
 use std::alloc::{AllocError, AllocFailed, Global};
@@ -48,6 +51,43 @@ impl<T: Drop> From<AllocFailed<T>> for TypeFault {
 
     fn from(_: AllocFailed<T>) -> TypeFault {
         TypeFault::NoMemory
+    }
+}
+
+/// Why a text gives no program.
+#[derive(Clone, Copy, Debug, PartialEq, Eq)]
+pub enum ProgramFault {
+    /// The text is none of a program, or its tree breaks a rule of the language.
+    Refused,
+    /// Memory was wanting.
+    NoMemory,
+}
+
+impl From<SyntaxFault> for ProgramFault {
+    ghost use Rattle.std.specs.Prelude.{◌≡◌};
+    ghost use Rattle.auth_cli.specs.ReadPrograms.{of_syntax_fault};
+
+    ghost from_gives = { λ given fault. fault ≡ of_syntax_fault given };
+
+    fn from(fault: SyntaxFault) -> ProgramFault {
+        match fault {
+            SyntaxFault::Refused => ProgramFault::Refused,
+            SyntaxFault::NoMemory => ProgramFault::NoMemory,
+        }
+    }
+}
+
+impl From<TypeFault> for ProgramFault {
+    ghost use Rattle.std.specs.Prelude.{◌≡◌};
+    ghost use Rattle.auth_cli.specs.ReadPrograms.{of_type_fault};
+
+    ghost from_gives = { λ given fault. fault ≡ of_type_fault given };
+
+    fn from(fault: TypeFault) -> ProgramFault {
+        match fault {
+            TypeFault::Refused => ProgramFault::Refused,
+            TypeFault::NoMemory => ProgramFault::NoMemory,
+        }
     }
 }
 
@@ -334,4 +374,18 @@ pub fn check(alloc: Global, ast: Ast) -> Result<Program, TypeFault>
     let state = number(&mut types, &declared.state)?;
     let functions = typed_functions(alloc, &mut types, declared.functions)?;
     Ok(Program::new(types, state, functions))
+}
+
+/// The program of a text of at most 262,144 bytes.
+///
+/// # Errors
+///
+/// `Refused` where the text is none of a program or its tree breaks a rule of the language, and `NoMemory` where there is no
+/// memory for its tokens, its tree or its program.
+pub fn read_program(alloc: Global, text: &[u8]) -> Result<Program, ProgramFault>
+    requires { length text.now ≤ 262144 }
+    ensures { ReadsProgram (program_of_text text.now) result }
+{
+    let ast = parse(alloc, text)?;
+    Ok(check(alloc, ast)?)
 }

@@ -1,12 +1,13 @@
 -- What is written with the tokens of a tree within the limits is read as that tree.
-use Rattle.std.proofs.Common.{◌≡◌, ℕ, zero, suc, ◌+◌, ◌<◌, ◌≤◌, List, [], ◌∷◌, ◌++◌, length, Option, Some, None, refl, sym, ap, ◌∙◌, arith, append_assoc, length-append}
+use Rattle.std.proofs.Common.{◌≡◌, ℕ, zero, suc, ◌<◌, ◌≤◌, List, [], ◌∷◌, ◌++◌, length, Some, refl, ap, ◌∙◌, arith, append_assoc, length-append}
 use Rattle.std.specs.Prelude.{option_map}
-use Rattle.auth_syntax.specs.Tokens.{Token, KeywordToken, MarkToken, NameToken, Keyword, StateWord, InitWord, QueryWord, UnitWord, AuthWord, UnauthWord, Mark, LeftParenthesis, RightParenthesis, Comma, Semicolon, Colon, EqualsSign}
+use Rattle.auth_syntax.specs.Tokens.{Token, KeywordToken, MarkToken, NameToken, LeftParenthesis, RightParenthesis, Comma, Semicolon, Colon, EqualsSign}
 use Rattle.auth_syntax.specs.Syntax.{TypeSyntax, UnitTypeSyntax, AuthTypeSyntax, ExpSyntax, UnitSyntax, LocalSyntax, AuthSyntax, UnauthSyntax, ParameterSyntax, KindSyntax, InitSyntax, QuerySyntax, FunctionSyntax, DeclarationSyntax, StateDeclaration, FunctionDeclaration, Program}
-use Rattle.auth_syntax.specs.Grammar.{type_tokens, expression_tokens, parameter_tokens, parameters_tokens, kind_keyword, function_tokens, declaration_tokens, program_tokens, type_levels, expression_levels, nesting_limit, AreParametersWithin, HasParameter, IsFunctionWithin, IsDeclarationWithin, IsProgramWithin}
+use Rattle.auth_syntax.specs.Grammar.{type_tokens, expression_tokens, parameter_tokens, parameters_tokens, kind_keyword, declaration_tokens, program_tokens, type_levels, expression_levels, nesting_limit, AreParametersWithin, HasParameter, IsFunctionWithin, IsDeclarationWithin, IsProgramWithin}
 use Rattle.auth_syntax.proofs.Soundness.{function_written}
-use Rattle.auth_syntax.specs.Parsing.{Reading, Found, NotFound, then_read, is_mark, read_mark, read_name, read_type, read_parenthesized, read_expression, read_parameter, read_more_parameters, read_parameters, read_function, read_state, read_declaration, before_others, read_program}
+use Rattle.auth_syntax.specs.Parsing.{Reading, Found, then_read, read_type, read_parenthesized, read_expression, read_parameter, read_more_parameters, read_parameters, read_function, read_state, read_declaration, before_others, read_program}
 
+-- types and expressions
 pub read_type-complete : (levels : ℕ) (t : TypeSyntax) (rest : List Token) → type_levels t ≤ levels
     → read_type levels (type_tokens t ++ rest) ≡ Found t rest
 read_type-complete zero UnitTypeSyntax rest h = absurd (omega arith)
@@ -36,6 +37,7 @@ read_expression-complete (suc levels) (UnauthSyntax inner) rest h =
     ap (λ r. then_read r (λ e ts. Found (UnauthSyntax e) ts)) (parenthesized-complete (read_expression levels) inner rest
     (read_expression-complete levels inner (MarkToken RightParenthesis ∷ rest) (omega arith)))
 
+-- one parameter, and then all of them with the parenthesis that ends them
 read_parameter-complete : (parameter : ParameterSyntax) (rest : List Token) → type_levels parameter.of_type ≤ nesting_limit
     → read_parameter (parameter_tokens parameter ++ rest) ≡ Found parameter rest
 read_parameter-complete parameter rest h =
@@ -59,9 +61,9 @@ read_parameters-complete (suc most) (parameter ∷ []) rest some within enough =
 read_parameters-complete (suc most) (parameter ∷ next ∷ others) rest some within enough =
     let after : List Token = MarkToken Comma ∷ (parameters_tokens (next ∷ others) ++ MarkToken RightParenthesis ∷ rest) in
     ap (read_parameters (suc most))
-        (append_assoc (parameter_tokens parameter) (MarkToken Comma ∷ parameters_tokens (next ∷ others)) (MarkToken RightParenthesis ∷ rest))
+    (append_assoc (parameter_tokens parameter) (MarkToken Comma ∷ parameters_tokens (next ∷ others)) (MarkToken RightParenthesis ∷ rest))
     ∙ parameters_step most (parameter_tokens parameter ++ after) after rest parameter (next ∷ others)
-        (read_parameter-complete parameter after within.0) (read_parameters-complete most (next ∷ others) rest tt within.1 (omega arith))
+    (read_parameter-complete parameter after within.0) (read_parameters-complete most (next ∷ others) rest tt within.1 (omega arith))
 
 -- parameters are no more than their tokens
 length-parameters_tokens : (parameters : List ParameterSyntax) → length parameters ≤ length (parameters_tokens parameters)
@@ -76,13 +78,15 @@ then_found : {A B : Type 0} (reading : Reading A) (value : A) (rest : List Token
     → reading ≡ Found value rest → go value rest ≡ result → then_read reading go ≡ result
 then_found reading value rest go result h h' = ap (λ r. then_read r go) h ∙ h'
 
+-- a function behind the keyword of its kind, in the order in which it is read
 function_flat : (function : FunctionSyntax) (rest : List Token)
     → function_written function ++ rest
     ≡ NameToken function.name ∷ MarkToken LeftParenthesis
-        ∷ (parameters_tokens function.parameters ++ MarkToken RightParenthesis
-        ∷ (MarkToken Colon ∷ (type_tokens function.result_type ++ (MarkToken EqualsSign ∷ (expression_tokens function.body ++ (MarkToken Semicolon ∷ rest))))))
+    ∷ (parameters_tokens function.parameters ++ MarkToken RightParenthesis
+    ∷ (MarkToken Colon ∷ (type_tokens function.result_type ++ (MarkToken EqualsSign ∷ (expression_tokens function.body ++ (MarkToken Semicolon ∷ rest))))))
 function_flat function rest = simp append_assoc
 
+-- there are tokens enough for the parameters
 parameters_fit : (parameters : List ParameterSyntax) (rest : List Token)
     → length parameters ≤ length (parameters_tokens parameters ++ MarkToken RightParenthesis ∷ rest)
 parameters_fit parameters rest =
@@ -97,19 +101,19 @@ read_function-complete function rest within =
     let t2 : List Token = parameters_tokens function.parameters ++ MarkToken RightParenthesis ∷ t3 in
     ap (read_function function.kind) (function_flat function rest)
     ∙ then_found (read_parameters (length t2) t2) function.parameters t3 _ (Found function rest)
-        (read_parameters-complete (length t2) function.parameters t3 within.has_parameter within.parameters
-        (parameters_fit function.parameters t3))
+    (read_parameters-complete (length t2) function.parameters t3 within.has_parameter within.parameters
+    (parameters_fit function.parameters t3))
     (then_found (read_type nesting_limit (type_tokens function.result_type ++ t5)) function.result_type t5 _ (Found function rest)
-        (read_type-complete nesting_limit function.result_type t5 within.result_type)
+    (read_type-complete nesting_limit function.result_type t5 within.result_type)
     (then_found (read_expression nesting_limit (expression_tokens function.body ++ t7)) function.body t7 _ (Found function rest)
-        (read_expression-complete nesting_limit function.body t7 within.body) refl))
+    (read_expression-complete nesting_limit function.body t7 within.body) refl))
 
 read_state-complete : (t : TypeSyntax) (rest : List Token) → type_levels t ≤ nesting_limit
     → read_state ((type_tokens t ++ MarkToken Semicolon ∷ []) ++ rest) ≡ Found t rest
 read_state-complete t rest within =
     ap read_state (append_assoc (type_tokens t) (MarkToken Semicolon ∷ []) rest)
     ∙ then_found (read_type nesting_limit (type_tokens t ++ MarkToken Semicolon ∷ rest)) t (MarkToken Semicolon ∷ rest) _ (Found t rest)
-        (read_type-complete nesting_limit t (MarkToken Semicolon ∷ rest) within) refl
+    (read_type-complete nesting_limit t (MarkToken Semicolon ∷ rest) within) refl
 
 function_declared : (kind : KindSyntax) (function : FunctionSyntax) (tokens rest : List Token) → read_function kind tokens ≡ Found function rest
     → read_declaration (KeywordToken (kind_keyword kind) ∷ tokens) ≡ Found (FunctionDeclaration function) rest
@@ -130,15 +134,17 @@ pub program_step : (most : ℕ) (tokens rest : List Token) (declaration : Declar
 program_step most [] rest declaration h = absurd (cc)
 program_step most (token ∷ tokens) rest declaration h = ap (λ r. before_others r (read_program most)) h
 
+-- the whole program
 pub read_program-complete : (most : ℕ) (program : Program) → IsProgramWithin program → length program ≤ most
     → read_program most (program_tokens program) ≡ Some program
 read_program-complete most [] within enough = refl
 read_program-complete zero (declaration ∷ rest) within enough = absurd (omega arith)
 read_program-complete (suc most) (declaration ∷ rest) within enough =
     program_step most (declaration_tokens declaration ++ program_tokens rest) (program_tokens rest) declaration
-        (read_declaration-complete declaration (program_tokens rest) within.0)
+    (read_declaration-complete declaration (program_tokens rest) within.0)
     ∙ ap (λ o. option_map (λ program. declaration ∷ program) o) (read_program-complete most rest within.1 (omega arith))
 
+-- a declaration has a token
 pub declaration_tokens-some : (declaration : DeclarationSyntax) → 0 < length (declaration_tokens declaration)
 declaration_tokens-some (StateDeclaration t) = omega arith
 declaration_tokens-some (FunctionDeclaration function) = omega arith

@@ -1,7 +1,7 @@
 -- Parsing finds exactly what the grammar gives.
-use Rattle.std.proofs.Common.{◌≡◌, ℕ, List, [], ◌∷◌, length, Option, Some, None, refl, sym, ap, subst, ◌∙◌}
-use Rattle.std.specs.Prelude.{◌↔◌, option_and_then}
-use Rattle.auth_syntax.specs.Tokens.{Token, KeywordToken, MarkToken, NameToken, LeftParenthesis, RightParenthesis, Comma, Semicolon, Colon, EqualsSign, tokens}
+use Rattle.std.proofs.Common.{◌≡◌, ℕ, List, [], ◌∷◌, length, Option, Some, None, refl, ap, subst, ◌∙◌}
+use Rattle.std.specs.Prelude.{option_and_then}
+use Rattle.auth_syntax.specs.Tokens.{Token, MarkToken, LeftParenthesis, RightParenthesis, tokens}
 use Rattle.auth_syntax.specs.Syntax.{Program, LiteralSyntax, UnitLiteralSyntax}
 use Rattle.auth_syntax.specs.Grammar.{program_tokens, literal_tokens, IsProgramText, IsLiteralText}
 use Rattle.auth_syntax.specs.Parsing.{read_program, parsed, read_literal, literal}
@@ -9,6 +9,7 @@ use Rattle.auth_syntax.specs.Laws.{ParsingIsExact, OneIsWritten, LiteralsAreExac
 use Rattle.auth_syntax.proofs.Soundness.{IsWholeSound, read_program-sound}
 use Rattle.auth_syntax.proofs.Completeness.{read_program-complete, length-program_tokens}
 
+-- a program that is parsed is written
 program_found : (text : List ℕ) (program : Program) (found : Option (List Token)) → tokens text ≡ found
     → option_and_then (λ ts. read_program (length ts) ts) found ≡ Some program → IsProgramText text program
 program_found text program None e h = absurd (cc)
@@ -16,6 +17,7 @@ program_found text program (Some ts) e h =
     let sound : IsWholeSound ts (Some program) = subst (IsWholeSound ts) h (read_program-sound (length ts) ts) in
     record { written = e ∙ ap (λ ts. Some ts) sound.0; within = sound.1 }
 
+-- a program that is written is parsed
 pub written_is_parsed : (text : List ℕ) (program : Program) → IsProgramText text program → parsed text ≡ Some program
 written_is_parsed text program h =
     ap (λ found. option_and_then (λ ts. read_program (length ts) ts) found) h.written
@@ -27,6 +29,7 @@ parsed_is_written text program h = program_found text program (tokens text) refl
 pub parsing_is_exact : ParsingIsExact
 parsing_is_exact text program = (parsed_is_written text program, written_is_parsed text program)
 
+-- so one at most is written
 pub one_is_written : OneIsWritten
 one_is_written text program other h h' =
     let first = written_is_parsed text program h in let second = written_is_parsed text other h' in cc
@@ -35,6 +38,7 @@ one_is_written text program other h h' =
 pub unparsed_is_unwritten : (text : List ℕ) → parsed text ≡ None → (program : Program) → IsProgramText text program → ⊥
 unparsed_is_unwritten text h program written = let found = written_is_parsed text program written in cc
 
+-- the same of literals
 read_literal-sound : (ts : List Token) (value : LiteralSyntax) → read_literal ts ≡ Some value → ts ≡ literal_tokens value
 read_literal-sound (MarkToken LeftParenthesis ∷ MarkToken RightParenthesis ∷ []) UnitLiteralSyntax h = refl
 read_literal-sound ts value h = absurd (cc)

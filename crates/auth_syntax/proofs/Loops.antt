@@ -1,11 +1,10 @@
 -- Parameters and declarations one by one, as the code reads them.
-use Rattle.std.proofs.Common.{◌≡◌, ℕ, zero, suc, Bool, true, false, ◌+◌, ◌<◌, ◌≤◌, List, [], ◌∷◌, ◌++◌, length, Option, Some, None, refl, sym, ap, subst, ◌∙◌, arith, append_assoc, length-append}
-use Rattle.std.proofs.lemmas.List.{append-nil}
+use Rattle.std.proofs.Common.{◌≡◌, ℕ, zero, suc, Bool, true, false, ◌<◌, ◌≤◌, List, [], ◌∷◌, ◌++◌, length, Option, Some, None, refl, ap, subst, ◌∙◌, arith, append_assoc, length-append}
 use Rattle.std.specs.Prelude.{option_map, if◌then◌else◌}
 use Rattle.auth_syntax.specs.Tokens.{Token, MarkToken, RightParenthesis, Comma}
 use Rattle.auth_syntax.specs.Syntax.{ParameterSyntax, DeclarationSyntax, Program}
 use Rattle.auth_syntax.specs.Grammar.{parameter_tokens, declaration_tokens, IsDeclarationWithin}
-use Rattle.auth_syntax.specs.Parsing.{Reading, Found, NotFound, then_read, read_parameter, read_separator, read_more_parameters, read_parameters, read_declaration, read_program, before_others}
+use Rattle.auth_syntax.specs.Parsing.{Reading, Found, NotFound, then_read, read_parameter, read_separator, read_more_parameters, read_parameters, read_declaration, read_program}
 use Rattle.auth_syntax.proofs.Soundness.{IsSound, IsParameterWithin, read_parameter-sound, read_declaration-sound}
 use Rattle.auth_syntax.proofs.Completeness.{program_step, declaration_tokens-some}
 
@@ -35,9 +34,11 @@ one_more zero [] parameter after h enough = absurd (cc)
 one_more zero (token ∷ rest) parameter after h enough = absurd (omega arith)
 one_more (suc most) rest parameter after h enough =
     let sound : IsSound parameter_tokens IsParameterWithin rest (Found parameter after) =
-        subst (IsSound parameter_tokens IsParameterWithin rest) h (read_parameter-sound rest) in
-    (most, omega (arith, ap length sound.0, length-append (parameter_tokens parameter) after),
-    ap (λ r. then_read r (λ p ts. then_read (read_more_parameters (read_parameters most) ts) (λ others ts. Found (p ∷ others) ts))) h)
+    subst (IsSound parameter_tokens IsParameterWithin rest) h (read_parameter-sound rest) in (
+      most,
+      omega (arith, ap length sound.0, length-append (parameter_tokens parameter) after),
+      ap (λ r. then_read r (λ p ts. then_read (read_more_parameters (read_parameters most) ts) (λ others ts. Found (p ∷ others) ts))) h,
+    )
 
 joined : (before : List ParameterSyntax) (parameter : ParameterSyntax) (reading : Reading (List ParameterSyntax))
     → followed before (then_read reading (λ others ts. Found (parameter ∷ others) ts)) ≡ followed (before ++ parameter ∷ []) reading
@@ -63,8 +64,8 @@ read_so_far-comma whole so_far rest after behind parameter h found comma =
     record {
       most = more.0;
       reading = h.reading ∙ (ap (followed so_far) (more.2
-        ∙ ap (behind_parameter more.0 parameter) comma)
-        ∙ joined so_far parameter (read_parameters more.0 behind));
+          ∙ ap (behind_parameter more.0 parameter) comma)
+          ∙ joined so_far parameter (read_parameters more.0 behind));
       enough = omega (arith, more.1, separator_is_token after behind true comma);
     }
 
@@ -75,7 +76,7 @@ pub read_so_far-end : (whole : List Token) (so_far : List ParameterSyntax) (rest
 read_so_far-end whole so_far rest after behind parameter h found closed =
     let more = one_more h.most rest parameter after found h.enough in
     h.reading ∙ ap (followed so_far) (more.2
-        ∙ ap (behind_parameter more.0 parameter) closed)
+    ∙ ap (behind_parameter more.0 parameter) closed)
 
 no_more : (most : ℕ) (rest : List Token) → read_parameter rest ≡ NotFound → read_parameters most rest ≡ NotFound
 no_more zero rest h = refl
@@ -95,13 +96,13 @@ pub read_so_far-other : (whole : List Token) (so_far : List ParameterSyntax) (re
 read_so_far-other whole so_far rest after parameter h found other =
     let more = one_more h.most rest parameter after found h.enough in
     h.reading ∙ ap (followed so_far) (more.2
-        ∙ ap (behind_parameter more.0 parameter) other)
+    ∙ ap (behind_parameter more.0 parameter) other)
 
 -- a parameter is made of tokens
 pub parameter_is_tokens : (rest after : List Token) (parameter : ParameterSyntax) → read_parameter rest ≡ Found parameter after → length after < length rest
 parameter_is_tokens rest after parameter h =
     let sound : IsSound parameter_tokens IsParameterWithin rest (Found parameter after) =
-        subst (IsSound parameter_tokens IsParameterWithin rest) h (read_parameter-sound rest) in
+    subst (IsSound parameter_tokens IsParameterWithin rest) h (read_parameter-sound rest) in
     omega (arith, ap length sound.0, length-append (parameter_tokens parameter) after)
 
 -- behind a parameter and its separator fewer tokens are left
@@ -153,22 +154,6 @@ program_so_far-more whole so_far rest after declaration h found = more h.most h.
       record {
         most = most;
         reading = reading ∙ (ap (option_map (λ others. so_far ++ others)) (program_step most rest after declaration found)
-          ∙ program_joined so_far declaration (read_program most after));
+            ∙ program_joined so_far declaration (read_program most after));
         enough = omega arith;
       }
-
--- nothing is left
-pub program_so_far-end : (whole : List Token) (so_far : Program) (rest : List Token) → IsProgramSoFar whole so_far rest → length rest ≡ 0
-    → read_program (length whole) whole ≡ Some so_far
-program_so_far-end whole so_far [] h empty = rw append-nil at h.reading
-program_so_far-end whole so_far (token ∷ rest) h empty = absurd (omega arith)
-
-no_declaration : (most : ℕ) (rest : List Token) → 0 < length rest → read_declaration rest ≡ NotFound → read_program most rest ≡ None
-no_declaration most [] some h = absurd (omega arith)
-no_declaration zero (token ∷ rest) some h = refl
-no_declaration (suc most) (token ∷ rest) some h = ap (λ r. before_others r (read_program most)) h
-
--- what is left begins with no declaration
-pub program_so_far-none : (whole : List Token) (so_far : Program) (rest : List Token) → IsProgramSoFar whole so_far rest → 0 < length rest
-    → read_declaration rest ≡ NotFound → read_program (length whole) whole ≡ None
-program_so_far-none whole so_far rest h some none = h.reading ∙ ap (option_map (λ others. so_far ++ others)) (no_declaration h.most rest some none)

@@ -1,5 +1,5 @@
 -- How a refusal, or want of memory, is handed on.
-use Rattle.std.proofs.Common.{◌≡◌, List, Option, Some, None, Result, Ok, Err}
+use Rattle.std.proofs.Common.{◌≡◌, List, Option, None, Err}
 use Rattle.auth_syntax.specs.Tokens.{Token}
 use Rattle.auth_syntax.specs.Parsing.{Reading, NotFound}
 use Rattle.auth_syntax.specs.Outcomes.{Finds, Reads}

@@ -1,5 +1,5 @@
 -- Worked texts, with the trees that they parse to.
-use Rattle.std.proofs.Common.{◌≡◌, ℕ, zero, suc, List, [], ◌∷◌, ◌++◌, Option, Some, None, refl, replicate}
+use Rattle.std.proofs.Common.{◌≡◌, ℕ, zero, suc, List, [], ◌∷◌, ◌++◌, Some, None, refl, replicate}
 use Rattle.std.specs.Prelude.{codes}
 use Rattle.auth_syntax.specs.Syntax.{TypeSyntax, UnitTypeSyntax, AuthTypeSyntax, ExpSyntax, UnitSyntax, LocalSyntax, AuthSyntax, UnauthSyntax, InitSyntax, QuerySyntax, StateDeclaration, FunctionDeclaration, UnitLiteralSyntax}
 use Rattle.auth_syntax.specs.Parsing.{parsed, literal}
@@ -8,14 +8,21 @@ use Rattle.auth_syntax.specs.Parsing.{parsed, literal}
 program_is_read :
     parsed (codes "state auth unit; init make(x: unit): auth unit = auth(x); query open(s: auth unit, x: unit): unit = unauth(s);")
     ≡ Some (StateDeclaration (AuthTypeSyntax UnitTypeSyntax)
-        ∷ FunctionDeclaration (record {
-            kind = InitSyntax; name = codes "make"; parameters = record { name = codes "x"; of_type = UnitTypeSyntax } ∷ [];
-            result_type = AuthTypeSyntax UnitTypeSyntax; body = AuthSyntax (LocalSyntax (codes "x")) })
-        ∷ FunctionDeclaration (record {
-            kind = QuerySyntax; name = codes "open";
-            parameters = record { name = codes "s"; of_type = AuthTypeSyntax UnitTypeSyntax } ∷ record { name = codes "x"; of_type = UnitTypeSyntax } ∷ [];
-            result_type = UnitTypeSyntax; body = UnauthSyntax (LocalSyntax (codes "s")) })
-        ∷ [])
+    ∷ FunctionDeclaration (record {
+      kind = InitSyntax;
+      name = codes "make";
+      parameters = record { name = codes "x"; of_type = UnitTypeSyntax } ∷ [];
+      result_type = AuthTypeSyntax UnitTypeSyntax;
+      body = AuthSyntax (LocalSyntax (codes "x"));
+    })
+    ∷ FunctionDeclaration (record {
+      kind = QuerySyntax;
+      name = codes "open";
+      parameters = record { name = codes "s"; of_type = AuthTypeSyntax UnitTypeSyntax } ∷ record { name = codes "x"; of_type = UnitTypeSyntax } ∷ [];
+      result_type = UnitTypeSyntax;
+      body = UnauthSyntax (LocalSyntax (codes "s"));
+    })
+    ∷ [])
 program_is_read = refl
 
 -- a comment may be cut by the end of the text, and may hold any bytes
@@ -39,8 +46,12 @@ missing_parameters = refl
 
 name_of_64_bytes : parsed (codes "init f(" ++ replicate 64 97 ++ codes ": unit): unit = ();")
     ≡ Some (FunctionDeclaration (record {
-        kind = InitSyntax; name = codes "f"; parameters = record { name = replicate 64 97; of_type = UnitTypeSyntax } ∷ [];
-        result_type = UnitTypeSyntax; body = UnitSyntax }) ∷ [])
+      kind = InitSyntax;
+      name = codes "f";
+      parameters = record { name = replicate 64 97; of_type = UnitTypeSyntax } ∷ [];
+      result_type = UnitTypeSyntax;
+      body = UnitSyntax;
+    }) ∷ [])
 name_of_64_bytes = refl
 
 name_of_65_bytes : parsed (codes "init f(" ++ replicate 65 97 ++ codes ": unit): unit = ();") ≡ None
@@ -70,8 +81,12 @@ sealed (suc n) = AuthSyntax (sealed n)
 body_of_100_levels :
     parsed (codes "init f(x: unit): unit = " ++ repeated 99 (codes "auth(") ++ codes "()" ++ repeated 99 (codes ")") ++ codes ";")
     ≡ Some (FunctionDeclaration (record {
-        kind = InitSyntax; name = codes "f"; parameters = record { name = codes "x"; of_type = UnitTypeSyntax } ∷ [];
-        result_type = UnitTypeSyntax; body = sealed 99 }) ∷ [])
+      kind = InitSyntax;
+      name = codes "f";
+      parameters = record { name = codes "x"; of_type = UnitTypeSyntax } ∷ [];
+      result_type = UnitTypeSyntax;
+      body = sealed 99;
+    }) ∷ [])
 body_of_100_levels = refl
 
 body_of_101_levels :

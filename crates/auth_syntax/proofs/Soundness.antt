@@ -1,9 +1,9 @@
 -- What is read is written with the tokens that were read, and is within the limits.
-use Rattle.std.proofs.Common.{◌≡◌, ℕ, zero, suc, ◌+◌, ◌<◌, ◌≤◌, Bool, true, false, List, [], ◌∷◌, ◌++◌, length, Option, Some, None, refl, sym, ap, ◌∙◌, arith, cond, append_assoc}
+use Rattle.std.proofs.Common.{◌≡◌, ℕ, zero, suc, ◌≤◌, Bool, true, false, List, [], ◌∷◌, ◌++◌, length, Option, Some, None, refl, sym, ap, ◌∙◌, arith, cond, append_assoc}
 use Rattle.std.specs.Prelude.{option_map}
-use Rattle.auth_syntax.specs.Tokens.{Token, KeywordToken, MarkToken, NameToken, Keyword, StateWord, InitWord, QueryWord, UnitWord, AuthWord, UnauthWord, Mark, LeftParenthesis, RightParenthesis, Comma, Semicolon, Colon, EqualsSign}
-use Rattle.auth_syntax.specs.Syntax.{TypeSyntax, AuthTypeSyntax, ExpSyntax, AuthSyntax, UnauthSyntax, ParameterSyntax, KindSyntax, InitSyntax, QuerySyntax, FunctionSyntax, DeclarationSyntax, StateDeclaration, FunctionDeclaration, Program}
-use Rattle.auth_syntax.specs.Grammar.{type_tokens, expression_tokens, parameter_tokens, parameters_tokens, kind_keyword, function_tokens, declaration_tokens, program_tokens, type_levels, expression_levels, nesting_limit, AreParametersWithin, HasParameter, IsFunctionWithin, IsDeclarationWithin, IsProgramWithin}
+use Rattle.auth_syntax.specs.Tokens.{Token, KeywordToken, MarkToken, NameToken, StateWord, InitWord, QueryWord, UnitWord, AuthWord, UnauthWord, Mark, LeftParenthesis, RightParenthesis, Comma, Semicolon, Colon, EqualsSign}
+use Rattle.auth_syntax.specs.Syntax.{TypeSyntax, ExpSyntax, ParameterSyntax, KindSyntax, InitSyntax, QuerySyntax, FunctionSyntax, DeclarationSyntax, FunctionDeclaration, Program}
+use Rattle.auth_syntax.specs.Grammar.{type_tokens, expression_tokens, parameter_tokens, parameters_tokens, kind_keyword, declaration_tokens, program_tokens, type_levels, expression_levels, nesting_limit, AreParametersWithin, HasParameter, IsFunctionWithin, IsDeclarationWithin, IsProgramWithin}
 use Rattle.auth_syntax.specs.Parsing.{Reading, Found, NotFound, then_read, is_mark, read_mark, read_name, read_type, read_parenthesized, read_expression, read_parameter, read_more_parameters, read_parameters, read_function, read_state, read_declaration, before_others, read_program}
 
 -- what is found at the head of the tokens is written so, and this holds of it
@@ -19,15 +19,18 @@ then_sound : {A B : Type 0} (written : A → List Token) (P : A → Type 0) (wri
 then_sound written P written' Q whole tokens (Found value rest) go sound on = on value rest sound.0 sound.1
 then_sound written P written' Q whole tokens NotFound go sound on = tt
 
+-- nothing more is said of what is found
 abbrev pub Any : {A : Type 0} → A → Type 0
 Any value = Unit {0}
 
+-- how a mark and a name are written
 abbrev mark_written : Mark → Unit {0} → List Token
 mark_written mark _ = MarkToken mark ∷ []
 
 abbrev name_written : List ℕ → List Token
 name_written name = NameToken name ∷ []
 
+-- the test of marks tells them apart
 is_mark-true : (a b : Mark) → is_mark a b ≡ true → a ≡ b
 is_mark-true LeftParenthesis LeftParenthesis h = refl
 is_mark-true RightParenthesis RightParenthesis h = refl
@@ -61,6 +64,7 @@ read_type-sound (suc levels) (KeywordToken AuthWord ∷ rest) =
     (read_type-sound levels rest) (λ inner after e within. (ap (λ ts. KeywordToken AuthWord ∷ ts) e, omega (arith, within)))
 read_type-sound levels tokens = tt
 
+-- an expression within so many levels
 abbrev IsExpressionWithin : ℕ → ExpSyntax → Type 0
 IsExpressionWithin levels e = expression_levels e ≤ levels
 
@@ -113,6 +117,7 @@ read_expression-sound (suc levels) (KeywordToken UnauthWord ∷ rest) =
     (λ inner after e within. (ap (λ ts. KeywordToken UnauthWord ∷ ts) e, omega (arith, within)))
 read_expression-sound levels tokens = tt
 
+-- a parameter whose type is within the limit
 abbrev pub IsParameterWithin : ParameterSyntax → Type 0
 IsParameterWithin parameter = type_levels parameter.of_type ≤ nesting_limit
 
@@ -127,6 +132,7 @@ read_parameter-sound tokens =
 abbrev parameters_written : List ParameterSyntax → List Token
 parameters_written parameters = parameters_tokens parameters ++ MarkToken RightParenthesis ∷ []
 
+-- there is a parameter, and each is within the limit
 abbrev ArePresentWithin : List ParameterSyntax → Type 0
 ArePresentWithin parameters = HasParameter parameters × AreParametersWithin parameters
 
@@ -171,7 +177,7 @@ read_parameters-sound (suc most) tokens =
     then_sound parameter_tokens IsParameterWithin parameters_written ArePresentWithin tokens tokens (read_parameter tokens) _ (read_parameter-sound tokens)
     (λ parameter first e0 within.
     then_sound others_written AreParametersWithin parameters_written ArePresentWithin tokens first (read_more_parameters (read_parameters most) first) _
-        (read_more_parameters-sound (read_parameters most) first (read_parameters-sound most))
+    (read_more_parameters-sound (read_parameters most) first (read_parameters-sound most))
     (λ others second e1 all. (parameters_joined tokens first second parameter others e0 e1, (tt, (within, all)))))
 
 -- a function behind the keyword of its kind, as it is written and as it is read
@@ -185,10 +191,10 @@ function_written function =
 
 function_grouped : (name : List ℕ) (parameters result_type body rest : List Token)
     → NameToken name ∷ MarkToken LeftParenthesis
-        ∷ ((parameters ++ MarkToken RightParenthesis ∷ [])
-        ++ (MarkToken Colon ∷ (result_type ++ (MarkToken EqualsSign ∷ (body ++ (MarkToken Semicolon ∷ rest))))))
+    ∷ ((parameters ++ MarkToken RightParenthesis ∷ [])
+    ++ (MarkToken Colon ∷ (result_type ++ (MarkToken EqualsSign ∷ (body ++ (MarkToken Semicolon ∷ rest))))))
     ≡ (NameToken name ∷ MarkToken LeftParenthesis ∷ parameters ++ MarkToken RightParenthesis ∷ MarkToken Colon ∷ result_type
-        ++ MarkToken EqualsSign ∷ body ++ MarkToken Semicolon ∷ []) ++ rest
+    ++ MarkToken EqualsSign ∷ body ++ MarkToken Semicolon ∷ []) ++ rest
 function_grouped name parameters result_type body rest = simp append_assoc
 
 -- the function has this kind, and is within the limits
@@ -208,13 +214,14 @@ read_function-sound kind tokens =
     mark_then W Q tokens EqualsSign t5 _ (λ t6 e5.
     then_sound expression_tokens (IsExpressionWithin nesting_limit) W Q tokens t6 (read_expression nesting_limit t6) _ (read_expression-sound nesting_limit t6)
     (λ body t7 e6 body_within.
-    mark_then W Q tokens Semicolon t7 _ (λ t8 e7.
-    ((e0 ∙ ap (λ ts. NameToken name ∷ ts) (e1 ∙ ap (λ ts. MarkToken LeftParenthesis ∷ ts)
-        (e2 ∙ ap (λ ts. parameters_written parameters ++ ts) (e3 ∙ ap (λ ts. MarkToken Colon ∷ ts)
-        (e4 ∙ ap (λ ts. type_tokens result_type ++ ts) (e5 ∙ ap (λ ts. MarkToken EqualsSign ∷ ts)
-        (e6 ∙ ap (λ ts. expression_tokens body ++ ts) e7)))))))
-        ∙ function_grouped name (parameters_tokens parameters) (type_tokens result_type) (expression_tokens body) t8,
-    (refl, record { has_parameter = all.0; parameters = all.1; result_type = result_within; body = body_within }))))))))))
+    mark_then W Q tokens Semicolon t7 _ (λ t8 e7. (
+      (e0 ∙ ap (λ ts. NameToken name ∷ ts) (e1 ∙ ap (λ ts. MarkToken LeftParenthesis ∷ ts)
+          (e2 ∙ ap (λ ts. parameters_written parameters ++ ts) (e3 ∙ ap (λ ts. MarkToken Colon ∷ ts)
+          (e4 ∙ ap (λ ts. type_tokens result_type ++ ts) (e5 ∙ ap (λ ts. MarkToken EqualsSign ∷ ts)
+          (e6 ∙ ap (λ ts. expression_tokens body ++ ts) e7)))))))
+          ∙ function_grouped name (parameters_tokens parameters) (type_tokens result_type) (expression_tokens body) t8,
+      (refl, record { has_parameter = all.0; parameters = all.1; result_type = result_within; body = body_within }),
+    )))))))))
 
 -- the type of the state, behind its keyword
 abbrev state_written : TypeSyntax → List Token
@@ -228,12 +235,15 @@ read_state-sound tokens =
 
 function_declared : (kind : KindSyntax) (rest : List Token)
     → IsSound declaration_tokens IsDeclarationWithin (KeywordToken (kind_keyword kind) ∷ rest)
-        (then_read (read_function kind rest) (λ function rest. Found (FunctionDeclaration function) rest))
+    (then_read (read_function kind rest) (λ function rest. Found (FunctionDeclaration function) rest))
 function_declared kind rest =
     then_sound function_written (IsOfKindWithin kind) declaration_tokens IsDeclarationWithin (KeywordToken (kind_keyword kind) ∷ rest) rest
     (read_function kind rest) _ (read_function-sound kind rest)
-    (λ function after e h. (ap (λ ts. KeywordToken (kind_keyword kind) ∷ ts) e
-        ∙ ap (λ k. KeywordToken (kind_keyword k) ∷ (function_written function ++ after)) (sym h.0), h.1))
+    (λ function after e h. (
+      ap (λ ts. KeywordToken (kind_keyword kind) ∷ ts) e
+          ∙ ap (λ k. KeywordToken (kind_keyword k) ∷ (function_written function ++ after)) (sym h.0),
+      h.1,
+    ))
 
 pub read_declaration-sound : (tokens : List Token) → IsSound declaration_tokens IsDeclarationWithin tokens (read_declaration tokens)
 read_declaration-sound (KeywordToken StateWord ∷ rest) =
@@ -248,6 +258,7 @@ abbrev pub IsWholeSound : List Token → Option Program → Type 0
 IsWholeSound tokens (Some program) = (tokens ≡ program_tokens program) × IsProgramWithin program
 IsWholeSound tokens None = Unit {0}
 
+-- the declarations behind one
 others_sound : (tokens rest : List Token) (declaration : DeclarationSyntax) (others : Option Program)
     → tokens ≡ declaration_tokens declaration ++ rest → IsDeclarationWithin declaration → IsWholeSound rest others
     → IsWholeSound tokens (option_map (λ program. declaration ∷ program) others)

@@ -84,6 +84,7 @@ pub record IsFunctionWithin (function : FunctionSyntax) : Type 0 where
   pub result_type : type_levels function.result_type ≤ nesting_limit
   pub body : expression_levels function.body ≤ nesting_limit
 
+-- a state's type, or a function, is within the limit
 abbrev pub IsDeclarationWithin : DeclarationSyntax → Type 0
 IsDeclarationWithin (StateDeclaration of_type) = type_levels of_type ≤ nesting_limit
 IsDeclarationWithin (FunctionDeclaration function) = IsFunctionWithin function

@@ -4,6 +4,7 @@ pub mod Grammar
 pub mod Parsing
 pub mod Trees
 pub mod TokenViews
+pub mod Literals
 pub mod Outcomes
-pub mod Left
+pub mod Remaining
 pub mod Laws

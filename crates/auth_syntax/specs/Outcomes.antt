@@ -11,8 +11,8 @@ Finds view found (Ok value) = found ≡ Some (view value)
 Finds view found (Err Refused) = found ≡ None
 Finds view found (Err NoMemory) = ⊤
 
--- the same of a reading, behind which these tokens are left
+-- the same of a reading, behind which these tokens remain
 abbrev pub Reads : {A B : Type 0} → (A → B) → Reading B → Result A SyntaxFault → List Token → Type 0
-Reads view reading (Ok value) left = reading ≡ Found (view value) left
-Reads view reading (Err Refused) left = reading ≡ NotFound
-Reads view reading (Err NoMemory) left = ⊤
+Reads view reading (Ok value) rest = reading ≡ Found (view value) rest
+Reads view reading (Err Refused) rest = reading ≡ NotFound
+Reads view reading (Err NoMemory) rest = ⊤

@@ -14,6 +14,7 @@ abbrev pub then_read : {A B : Type 0} → Reading A → (A → List Token → Re
 then_read (Found value rest) go = go value rest
 then_read NotFound go = NotFound
 
+-- the marks are the same
 abbrev pub is_mark : Mark → Mark → Bool
 is_mark LeftParenthesis LeftParenthesis = true
 is_mark RightParenthesis RightParenthesis = true
@@ -28,6 +29,7 @@ abbrev pub read_mark : Mark → List Token → Reading (Unit {0})
 read_mark wanted (MarkToken found ∷ rest) = if is_mark wanted found then Found tt rest else NotFound
 read_mark wanted tokens = NotFound
 
+-- a name
 abbrev pub read_name : List Token → Reading (List ℕ)
 read_name (NameToken bytes ∷ rest) = Found bytes rest
 read_name tokens = NotFound
@@ -57,6 +59,7 @@ read_expression (suc levels) (KeywordToken UnauthWord ∷ rest) =
     then_read (read_parenthesized (read_expression levels) rest) (λ inner rest. Found (UnauthSyntax inner) rest)
 read_expression levels tokens = NotFound
 
+-- a parameter
 abbrev pub read_parameter : List Token → Reading ParameterSyntax
 read_parameter tokens =
     then_read (read_name tokens) (λ name tokens.
@@ -99,6 +102,7 @@ read_state tokens =
     then_read (read_type nesting_limit tokens) (λ of_type tokens.
     then_read (read_mark Semicolon tokens) (λ _ tokens. Found of_type tokens))
 
+-- a declaration
 abbrev pub read_declaration : List Token → Reading DeclarationSyntax
 read_declaration (KeywordToken StateWord ∷ rest) =
     then_read (read_state rest) (λ of_type rest. Found (StateDeclaration of_type) rest)

@@ -1,5 +1,4 @@
 -- What the tokens of the code stand for.
-use Rattle.std.specs.Prelude.{ℕ}
 use Rattle.auth_syntax.specs.Tokens.{Keyword, StateWord, InitWord, QueryWord, UnitWord, AuthWord, UnauthWord, Mark, LeftParenthesis, RightParenthesis, Comma, Semicolon, Colon, EqualsSign, Token, KeywordToken, MarkToken, NameToken, Piece, PassedOver, Taken}
 use Rattle.auth_syntax.specs.declared.token.Keyword.{Keyword as KeywordCode}
 use Rattle.auth_syntax.specs.declared.token.Keyword.TheVariants.{State, Init, Query, Unit as UnitCode, Auth, Unauth}
@@ -10,6 +9,7 @@ use Rattle.auth_syntax.specs.declared.token.Token.TheVariants.{Keyword as Keywor
 use Rattle.auth_syntax.specs.declared.lexer.Piece.{Piece as PieceCode}
 use Rattle.auth_syntax.specs.declared.lexer.Piece.TheVariants.{PassedOver as PassedOverCase, Taken as TakenCase}
 
+-- a keyword, a mark and a token
 abbrev pub keyword_view : KeywordCode → Keyword
 keyword_view State = StateWord
 keyword_view Init = InitWord
@@ -31,6 +31,7 @@ token_view (KeywordCase keyword) = KeywordToken (keyword_view keyword)
 token_view (MarkCase mark) = MarkToken (mark_view mark)
 token_view (NameCase bytes) = NameToken bytes.now
 
+-- a piece of a text
 abbrev pub piece_view : PieceCode → Piece
 piece_view (PassedOverCase size) = PassedOver size
 piece_view (TakenCase token size) = Taken (token_view token) size

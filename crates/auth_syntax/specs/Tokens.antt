@@ -1,5 +1,5 @@
 -- The tokens of a text: the words and marks that it consists of, without the blanks and comments between them.
-use Rattle.std.specs.Prelude.{ℕ, zero, suc, Bool, not, ◌==◌, ◌||◌, nat_lt, ◌-◌, List, [], ◌∷◌, ◌++◌, length, Option, Some, None, option_map, if◌then◌else◌, codes, bytes_eq, take}
+use Rattle.std.specs.Prelude.{ℕ, zero, suc, Bool, not, ◌==◌, ◌||◌, nat_lt, ◌-◌, List, [], ◌∷◌, length, Option, Some, None, option_map, if◌then◌else◌, codes, bytes_eq, take}
 use Rattle.std.specs.List.{prefix_len, list_any}
 use Rattle.std.specs.Char.{is_ascii_lowercase, is_ascii_alphanumeric}
 
@@ -59,6 +59,7 @@ reserved_words =
     ∷ codes "true" ∷ codes "false" ∷ codes "add" ∷ codes "sub" ∷ codes "mul" ∷ codes "div" ∷ codes "rem" ∷ codes "eq"
     ∷ codes "lt" ∷ codes "le" ∷ codes "teq" ∷ codes "tlt" ∷ codes "cat" ∷ codes "len" ∷ codes "not" ∷ []
 
+-- the word is one of these
 abbrev pub is_reserved : List ℕ → Bool
 is_reserved word = list_any (bytes_eq word) reserved_words
 
@@ -80,14 +81,10 @@ pub data Piece : Type 0 where
   PassedOver : (size : ℕ) → Piece
   Taken : (token : Token) (size : ℕ) → Piece
 
+-- the length of a piece
 abbrev pub size_of : Piece → ℕ
 size_of (PassedOver size) = size
 size_of (Taken token size) = size
-
--- tokens, with that of one more piece
-abbrev pub with_piece : List Token → Piece → List Token
-with_piece before (PassedOver size) = before
-with_piece before (Taken token size) = before ++ token ∷ []
 
 -- The piece at the head of a text: a comment up to the end of its line, a single blank or mark, or a word, which is the longest
 -- run of name bytes that begins with a small letter. Nothing else is a piece.

@@ -1,5 +1,6 @@
 // How parsing fails.
 
+use crate::lexer::NoToken;
 use std::alloc::{AllocError, AllocFailed};
 
 /// Why a text gave no tree.
@@ -30,5 +31,16 @@ impl<T: Drop> From<AllocFailed<T>> for SyntaxFault {
 
     fn from(_: AllocFailed<T>) -> SyntaxFault {
         SyntaxFault::NoMemory
+    }
+}
+
+impl From<NoToken> for SyntaxFault {
+    ghost use Rattle.std.specs.Prelude.{◌≡◌};
+    ghost use Rattle.auth_syntax.specs.declared.fault.SyntaxFault.TheVariants.{Refused};
+
+    ghost from_gives = { λ _ fault. fault ≡ Refused };
+
+    fn from(_: NoToken) -> SyntaxFault {
+        SyntaxFault::Refused
     }
 }

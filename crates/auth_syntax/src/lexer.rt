@@ -1,15 +1,14 @@
 // From the bytes of a text to its tokens.
 
-ghost use Rattle.std.specs.Prelude.{◌≡◌, ◌≤◌, length, map, option_map, Some, None, bytes_eq, OnOk, IfErr};
+ghost use Rattle.std.specs.Prelude.{◌≡◌, ◌<◌, length, map, option_map, Some, None, bytes_eq, IfOk, IfErr, IfSome, IfNone, [], ◌∷◌};
 ghost use Rattle.std.specs.List.{prefix_len, list_any};
-ghost use Rattle.auth_syntax.specs.Tokens.{is_in_line, is_name_byte, keyword_of, mark_of, is_reserved, word_token, first_piece, tokens, size_of, with_piece};
+ghost use Rattle.auth_syntax.specs.Tokens.{is_in_line, is_name_byte, keyword_of, mark_of, is_reserved, word_token, first_piece, tokens};
 ghost use Rattle.auth_syntax.specs.TokenViews.{keyword_view, mark_view, token_view, piece_view};
 ghost use Rattle.auth_syntax.specs.Outcomes.{Finds};
 
-use std::alloc::Global;
-
 use crate::fault::SyntaxFault;
 use crate::token::{Keyword, Mark, Token};
+use std::alloc::Global;
 
 const NAME_LIMIT: usize = 64;
 
@@ -31,7 +30,9 @@ fn line_len(text: &[u8]) -> usize
 fn word_len(text: &[u8]) -> usize
     ensures { result ≡ prefix_len is_name_byte text.now }
 {
-    text.iter().take_while(|b| b.is_ascii_alphanumeric() || **b == b'_').count()
+    text.iter()
+        .take_while(|b| b.is_ascii_alphanumeric() || **b == b'_')
+        .count()
 }
 
 fn mark_of_byte(byte: u8) -> Option<Mark>
@@ -109,40 +110,37 @@ fn first_piece<'a>(text: &'a [u8]) -> Option<Piece<'a>>
     }
 }
 
-impl<'a> Piece<'a> {
-    fn size(&self) -> usize
-        ensures { result ≡ size_of (piece_view self.now) }
-    {
-        match self {
-            Piece::PassedOver(size) => *size,
-            Piece::Taken(_, size) => *size,
+// No token begins where one is to begin.
+#[derive(Clone, Copy, Debug, PartialEq, Eq)]
+pub(crate) struct NoToken;
+
+/// The first token of a text, with the text behind it; none where the text has only blanks and comments.
+pub(crate) fn next_token<'a>(text: &'a [u8]) -> Result<Option<(Token<'a>, &'a [u8])>, NoToken>
+    ensures found { IfOk result (λ next. IfSome next (λ split. tokens text.now ≡ option_map (λ others. token_view split.0 ∷ others) (tokens split.1.now))) }
+    ensures shorter { IfOk result (λ next. IfSome next (λ split. length split.1.now < length text.now)) }
+    ensures end { IfOk result (λ next. IfNone next (tokens text.now ≡ Some [])) }
+    ensures none { IfErr result (λ _. tokens text.now ≡ None) }
+{
+    let mut rest = text;
+    while !rest.is_empty() {
+        match first_piece(rest) {
+            Some(Piece::PassedOver(size)) => rest = &rest[size..],
+            Some(Piece::Taken(token, size)) => return Ok(Some((token, &rest[size..]))),
+            None => return Err(NoToken),
         }
     }
+    Ok(None)
 }
 
-// Adds the token of a piece, if it is one.
-fn keep<'a>(tokens: &mut Vec<Token<'a>>, piece: Piece<'a>) -> Result<(), SyntaxFault>
-    ensures ok { OnOk result (map token_view tokens.new.items ≡ with_piece (map token_view tokens.old.items) (piece_view piece.entry)) }
-    ensures err { IfErr result (λ fault. fault ≡ SyntaxFault.NoMemory) }
-{
-    match piece {
-        Piece::PassedOver(_) => Ok(()),
-        Piece::Taken(token, _) => Ok(tokens.push(token)?),
-    }
-}
-
-/// The tokens of a text. It fails where some part of the text is no piece, and where there is no memory for the tokens.
+/// The tokens of a text. It is refused where some part of it is no piece.
 pub(crate) fn tokens<'a>(alloc: Global, text: &'a [u8]) -> Result<Vec<Token<'a>>, SyntaxFault>
     ensures { Finds (λ v. map token_view v.items) (tokens text.now) result }
 {
     let mut tokens = Vec::new(alloc);
     let mut rest = text;
-    while !rest.is_empty() {
-        let Some(piece) = first_piece(rest) else {
-            return Err(SyntaxFault::Refused);
-        };
-        keep(&mut tokens, piece)?;
-        rest = &rest[piece.size()..];
+    while let Some((token, behind)) = next_token(rest)? {
+        tokens.push(token)?;
+        rest = behind;
     }
     Ok(tokens)
 }

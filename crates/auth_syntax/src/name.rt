@@ -5,7 +5,7 @@ ghost use Rattle.std.specs.Prelude.{◌≡◌, ℕ, List, IfOk};
 use std::alloc::{AllocError, Global};
 use std::marker::Model;
 
-/// A name, which owns its bytes. Contracts see it as the list of them.
+/// A name, which owns its bytes. Contracts see it as the list of them, and names are compared by them.
 #[derive(Drop)]
 pub struct Name {
     bytes: Vec<u8>,
@@ -18,7 +18,11 @@ impl Model for Name {
 }
 
 impl Name {
-    /// The name of these bytes, which are copied. It fails where there is no memory for them.
+    /// The name of these bytes, which are copied.
+    ///
+    /// # Errors
+    ///
+    /// `AllocError` where there is no memory for the copy.
     pub fn new(alloc: Global, bytes: &[u8]) -> Result<Name, AllocError>
         ensures { IfOk result (λ name. name ≡ bytes.now) }
     {
@@ -32,10 +36,31 @@ impl Name {
     {
         self.bytes.as_slice()
     }
+
     /// The bytes of the name, given back.
     pub fn into_bytes(self) -> Vec<u8>
         ensures { result.items ≡ self }
     {
         self.bytes
     }
+}
+
+impl PartialEq for Name {
+    ghost use Rattle.std.specs.Prelude.{bytes_eq};
+    ghost use Rattle.std.specs.Cmp.{partial_equiv_from_equiv};
+    ghost use Rattle.std.specs.Cmp.Lexicographic.{nat_list_eq_equiv};
+
+    ghost eq = { bytes_eq };
+
+    ghost laws = { partial_equiv_from_equiv nat_list_eq_equiv };
+
+    fn eq(&self, other: &Name) -> bool {
+        self.as_bytes() == other.as_bytes()
+    }
+}
+
+impl Eq for Name {
+    ghost use Rattle.std.specs.Cmp.Lexicographic.{nat_list_eq_equiv};
+
+    ghost laws = { nat_list_eq_equiv };
 }

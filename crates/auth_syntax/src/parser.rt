@@ -8,18 +8,17 @@ ghost use Rattle.auth_syntax.specs.Trees.{type_of, expression_of, parameter_of, 
 ghost use Rattle.auth_syntax.specs.Syntax.{Program};
 ghost use Rattle.auth_syntax.specs.Outcomes.{Finds, Reads};
 
-use std::alloc::Global;
-
 use crate::fault::SyntaxFault;
 use crate::lexer::tokens;
 use crate::name::Name;
 use crate::token::{Keyword, Mark, Token};
 use crate::tree::{Ast, Declaration, ExpTree, Function, FunctionKind, Parameter, TypeTree};
+use std::alloc::Global;
 
 // How many types, or expressions, may stand inside one another.
 const NESTING_LIMIT: usize = 100;
 
-// The tokens that are left to read.
+// The tokens that are still to be read.
 #[derive(Drop)]
 struct Parser<'t, 'a> {
     alloc: Global,
@@ -27,11 +26,11 @@ struct Parser<'t, 'a> {
 }
 
 impl<'t, 'a> Parser<'t, 'a> {
-    ghost use Rattle.auth_syntax.specs.Left.{left, Takes};
+    ghost use Rattle.auth_syntax.specs.Remaining.{remaining, Takes};
 
     // Takes the next token; at the end there is none.
     fn next(&mut self) -> Option<Token<'a>>
-        ensures { Takes (left self.old) result (left self.new) }
+        ensures { Takes (remaining self.old) result (remaining self.new) }
     {
         let token = *self.rest.first()?;
         self.rest = &self.rest[1..];
@@ -39,7 +38,7 @@ impl<'t, 'a> Parser<'t, 'a> {
     }
 
     fn mark(&mut self, wanted: Mark) -> Result<(), SyntaxFault>
-        ensures { Reads (λ _. tt) (read_mark (mark_view wanted) (left self.old)) result (left self.new) }
+        ensures { Reads (λ _. tt) (read_mark (mark_view wanted) (remaining self.old)) result (remaining self.new) }
     {
         match self.next() {
             Some(Token::Mark(found)) if found == wanted => Ok(()),
@@ -48,7 +47,7 @@ impl<'t, 'a> Parser<'t, 'a> {
     }
 
     fn name(&mut self) -> Result<Name, SyntaxFault>
-        ensures { Reads (λ name. name) (read_name (left self.old)) result (left self.new) }
+        ensures { Reads (λ name. name) (read_name (remaining self.old)) result (remaining self.new) }
     {
         match self.next() {
             Some(Token::Name(bytes)) => Ok(Name::new(self.alloc, bytes)?),
@@ -58,7 +57,7 @@ impl<'t, 'a> Parser<'t, 'a> {
 
     // A type, of at most so many levels.
     fn written_type(&mut self, levels: usize) -> Result<TypeTree, SyntaxFault>
-        ensures { Reads type_of (read_type levels (left self.old)) result (left self.new) }
+        ensures { Reads type_of (read_type levels (remaining self.old)) result (remaining self.new) }
     {
         if levels == 0 {
             return Err(SyntaxFault::Refused);
@@ -76,7 +75,7 @@ impl<'t, 'a> Parser<'t, 'a> {
     // An expression, of at most so many levels.
     #[cycle(expression)]
     fn expression(&mut self, levels: usize) -> Result<ExpTree, SyntaxFault>
-        ensures { Reads expression_of (read_expression levels (left self.old)) result (left self.new) }
+        ensures { Reads expression_of (read_expression levels (remaining self.old)) result (remaining self.new) }
     {
         if levels == 0 {
             return Err(SyntaxFault::Refused);
@@ -96,7 +95,7 @@ impl<'t, 'a> Parser<'t, 'a> {
     // An expression between parentheses.
     #[cycle(expression)]
     fn operand(&mut self, levels: usize) -> Result<Box<ExpTree>, SyntaxFault>
-        ensures { Reads (λ inner. expression_of inner.value) (read_parenthesized (read_expression levels) (left self.old)) result (left self.new) }
+        ensures { Reads (λ inner. expression_of inner.value) (read_parenthesized (read_expression levels) (remaining self.old)) result (remaining self.new) }
     {
         self.mark(Mark::LeftParenthesis)?;
         let inner = self.expression(levels)?;
@@ -105,7 +104,7 @@ impl<'t, 'a> Parser<'t, 'a> {
     }
 
     fn parameter(&mut self) -> Result<Parameter, SyntaxFault>
-        ensures { Reads parameter_of (read_parameter (left self.old)) result (left self.new) }
+        ensures { Reads parameter_of (read_parameter (remaining self.old)) result (remaining self.new) }
     {
         let name = self.name()?;
         self.mark(Mark::Colon)?;
@@ -115,7 +114,7 @@ impl<'t, 'a> Parser<'t, 'a> {
 
     // Whether another parameter follows: behind a comma it does, behind the parenthesis that ends them it does not.
     fn separator(&mut self) -> Result<bool, SyntaxFault>
-        ensures { Reads (λ follows. follows) (read_separator (left self.old)) result (left self.new) }
+        ensures { Reads (λ follows. follows) (read_separator (remaining self.old)) result (remaining self.new) }
     {
         match self.next() {
             Some(Token::Mark(Mark::Comma)) => Ok(true),
@@ -126,7 +125,7 @@ impl<'t, 'a> Parser<'t, 'a> {
 
     // At least one parameter, and the parenthesis that ends them.
     fn parameters(&mut self) -> Result<Vec<Parameter>, SyntaxFault>
-        ensures { Reads parameters_of (read_parameters (length (left self.old)) (left self.old)) result (left self.new) }
+        ensures { Reads parameters_of (read_parameters (length (remaining self.old)) (remaining self.old)) result (remaining self.new) }
     {
         let mut parameters = Vec::new(self.alloc);
         'each: loop {
@@ -139,7 +138,7 @@ impl<'t, 'a> Parser<'t, 'a> {
 
     // A function, behind the keyword of its kind.
     fn function(&mut self, kind: FunctionKind) -> Result<Function, SyntaxFault>
-        ensures { Reads function_of (read_function (kind_of kind) (left self.old)) result (left self.new) }
+        ensures { Reads function_of (read_function (kind_of kind) (remaining self.old)) result (remaining self.new) }
     {
         let name = self.name()?;
         self.mark(Mark::LeftParenthesis)?;
@@ -160,7 +159,7 @@ impl<'t, 'a> Parser<'t, 'a> {
 
     // The type of the state, behind its keyword.
     fn state(&mut self) -> Result<TypeTree, SyntaxFault>
-        ensures { Reads type_of (read_state (left self.old)) result (left self.new) }
+        ensures { Reads type_of (read_state (remaining self.old)) result (remaining self.new) }
     {
         let of_type = self.written_type(NESTING_LIMIT)?;
         self.mark(Mark::Semicolon)?;
@@ -168,7 +167,7 @@ impl<'t, 'a> Parser<'t, 'a> {
     }
 
     fn declaration(&mut self) -> Result<Declaration, SyntaxFault>
-        ensures { Reads declaration_of (read_declaration (left self.old)) result (left self.new) }
+        ensures { Reads declaration_of (read_declaration (remaining self.old)) result (remaining self.new) }
     {
         match self.next() {
             Some(Token::Keyword(Keyword::State)) => Ok(Declaration::State(self.state()?)),
@@ -184,7 +183,7 @@ impl<'t, 'a> Parser<'t, 'a> {
 
     // All declarations up to the end of the tokens.
     fn declarations(&mut self) -> Result<Vec<Declaration>, SyntaxFault>
-        ensures { Finds declarations_of (read_program (length (left self.old)) (left self.old)) result }
+        ensures { Finds declarations_of (read_program (length (remaining self.old)) (remaining self.old)) result }
     {
         let mut declarations = Vec::new(self.alloc);
         'each: while !self.rest.is_empty() {
@@ -198,7 +197,8 @@ impl<'t, 'a> Parser<'t, 'a> {
 ///
 /// # Errors
 ///
-/// `Refused` where the text is none of a program, and `NoMemory` where there is no memory for its tokens or its tree.
+/// `Refused` where the text is none of a program: some part of it is no token, the grammar does not allow its tokens, or a type or an
+/// expression has more than 100 levels. `NoMemory` where there is no memory for the tokens or the tree.
 pub fn parse(alloc: Global, text: &[u8]) -> Result<Ast, SyntaxFault>
     requires { length text.now ≤ 262144 }
     ensures found { IfOk result (λ ast. parsed text.now ≡ Some (program_of ast)) }
@@ -208,7 +208,9 @@ pub fn parse(alloc: Global, text: &[u8]) -> Result<Ast, SyntaxFault>
     ensures written { IfOk result (λ ast. IsProgramText text.now (program_of ast)) }
     ensures unwritten { result ≡ Err SyntaxFault.Refused → (program : Program) → IsProgramText text.now program → ⊥ }
 {
-    Ok(Ast { declarations: read_declarations(alloc, text)? })
+    Ok(Ast {
+        declarations: read_declarations(alloc, text)?,
+    })
 }
 
 // The declarations of a program's text.
@@ -216,6 +218,9 @@ fn read_declarations(alloc: Global, text: &[u8]) -> Result<Vec<Declaration>, Syn
     ensures { Finds declarations_of (parsed text.now) result }
 {
     let tokens = tokens(alloc, text)?;
-    let mut parser = Parser { alloc, rest: &tokens };
+    let mut parser = Parser {
+        alloc,
+        rest: &tokens,
+    };
     parser.declarations()
 }

@@ -1,4 +1,5 @@
-// The trees that texts are parsed to.
+// The trees that texts are parsed to. Those that `parse` gives have names of at most 64 bytes, and no type or expression in them has
+// more than 100 levels.
 
 use crate::name::Name;
 
@@ -8,17 +9,21 @@ pub struct Ast {
     pub declarations: Vec<Declaration>,
 }
 
-/// What a program declares: the type of its state, or a function that is entered from outside.
+/// What a program declares.
 #[derive(Drop)]
 pub enum Declaration {
+    /// The type of the state.
     State(TypeTree),
+    /// A function that is entered from outside.
     Function(Function),
 }
 
-/// What a function is for: to make a first state, or to ask about a state.
+/// What a function is for.
 #[derive(Clone, Copy, Debug, PartialEq, Eq)]
 pub enum FunctionKind {
+    /// It makes a first state.
     Init,
+    /// It asks about a state.
     Query,
 }
 
@@ -42,15 +47,21 @@ pub struct Parameter {
 /// A type, as it is written.
 #[derive(Drop)]
 pub enum TypeTree {
+    /// `unit`
     UnitType,
+    /// `auth` and a type
     AuthType(Box<TypeTree>),
 }
 
-/// An expression. A local goes by its name.
+/// An expression, as it is written.
 #[derive(Drop)]
 pub enum ExpTree {
+    /// `()`
     UnitLiteral,
+    /// The name of a parameter.
     Local(Name),
+    /// `auth(..)`
     Auth(Box<ExpTree>),
+    /// `unauth(..)`
     Unauth(Box<ExpTree>),
 }

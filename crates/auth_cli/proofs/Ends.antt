@@ -1,0 +1,107 @@
+-- From what was found, and how it was told, to how the run ends.
+use Rattle.std.proofs.Common.{◌≡◌, ℕ, List, [], ◌∷◌, take, Option, Some, None, Ok, Err, refl, ap, sym, ◌∙◌, inl, inr}
+use Rattle.std.specs.List.{concat}
+use Rattle.std.specs.Option.{ForSome}
+use Rattle.std.specs.Io.KnownBytes.{append_known}
+use Rattle.std.proofs.lemmas.List.{append-nil}
+use Rattle.lam_outside.specs.Causes.{Rose}
+use Rattle.lam_outside.specs.Told.{Contents, Stores, AddsStores}
+use Rattle.auth_cli.specs.Answer.{Answer, says}
+use Rattle.auth_cli.specs.Ending.{Outside, EndsAnswered, EndsAs, EndsInWriteFault, IsToldAs, MayWrite, StoresSome, WritesPart, lines_of}
+use Rattle.auth_cli.specs.Halting.{Found, Finds, HaltCause, ending_status, line_of, status_of}
+use Rattle.auth_cli.specs.Telling.{Tells}
+use Rattle.auth_cli.specs.declared.report.Ending.{Ending}
+use Rattle.auth_cli.specs.declared.report.Ending.TheVariants as ending
+use Rattle.auth_cli.specs.declared.report.Halt.TheVariants.{Usage, ProgramRefused, InputRefused, Rejected, ReadFault, NoMemory}
+use Rattle.auth_cli.specs.declared.status.Status.{Status}
+use Rattle.auth_cli.specs.declared.status.Status.TheVariants as status
+
+-- nothing was handed to `store`
+adds_none : (old new : Option Stores) → new ≡ old → AddsStores old new []
+adds_none None None same = tt
+adds_none None (Some calls) same = absurd (cc)
+adds_none (Some calls) None same = tt
+adds_none (Some calls) (Some now) same = same ∙ ap Some (sym (append-nil calls))
+
+stores_none : (answer : Option Answer) (old new : Option Stores) → new ≡ old → StoresSome answer old new
+stores_none None old new same = adds_none old new same
+stores_none (Some a) old new same = inl (adds_none old new same)
+
+one_line : (line : List ℕ) → concat (line ∷ []) ≡ line
+one_line line = append-nil line
+
+-- an answer of one line was told
+line_told : (answer : Option Answer) (old new : Outside) (status : Status) (line : List ℕ) → answer ≡ Some (says status line) → new.written ≡ append_known old.written line → new.stores ≡ old.stores → IsToldAs answer old new status
+line_told answer old new status line is written same =
+    rw is (refl, rw (one_line line) written, adds_none old.stores new.stores same)
+
+line_is : (answer : Option Answer) (status : Status) (line : List ℕ) → answer ≡ Some (says status line) → line ≡ concat (lines_of answer)
+line_is answer status line is = rw (is, one_line line) refl
+
+module _ (answer : Contents → Option Answer) (old new : Outside) where
+  abbrev FindsTold : Found → Type 0
+  FindsTold found = ForSome old.contents (λ files. Finds (answer files) found)
+
+  -- an answer of one line, told to the end
+  answered : (status : Status) (line : List ℕ) → ForSome old.contents (λ files. answer files ≡ Some (says status line))
+      → new.written ≡ append_known old.written line → new.stores ≡ old.stores
+      → new.read_faults ≡ old.read_faults → new.store_faults ≡ old.store_faults → new.write_faults ≡ old.write_faults → EndsAnswered answer old new status
+  answered status line finds written same reads stores writes = record {
+    told = λ files known. line_told (answer files) old new status line (finds files known) written same;
+    reads = reads;
+    stores = stores;
+    writes = writes;
+  }
+
+  report_ends : (e : Ending) (line : List ℕ) → ForSome old.contents (λ files. answer files ≡ Some (says (ending_status e) line))
+      → new.written ≡ append_known old.written line → new.stores ≡ old.stores
+      → new.read_faults ≡ old.read_faults → new.store_faults ≡ old.store_faults → new.write_faults ≡ old.write_faults → EndsAs answer old new (ending_status e)
+  report_ends ending.Done line finds written same reads stores writes = answered _ line finds written same reads stores writes
+  report_ends ending.Trap line finds written same reads stores writes = answered _ line finds written same reads stores writes
+  report_ends ending.OutOfFuel line finds written same reads stores writes = answered _ line finds written same reads stores writes
+
+  -- all of the line was written
+  whole : (found : Found) → FindsTold found → HaltCause old.read_faults new.read_faults found → new.stores ≡ old.stores → new.store_faults ≡ old.store_faults
+      → new.written ≡ append_known old.written (line_of found) → new.write_faults ≡ old.write_faults → EndsAs answer old new (status_of found)
+  whole (Ok report) finds cause same stores written writes = report_ends report.ending report.line.items finds written same cause stores writes
+  whole (Err Usage) finds cause same stores written writes = answered _ _ finds written same cause stores writes
+  whole (Err ProgramRefused) finds cause same stores written writes = answered _ _ finds written same cause stores writes
+  whole (Err InputRefused) finds cause same stores written writes = answered _ _ finds written same cause stores writes
+  whole (Err Rejected) finds cause same stores written writes = answered _ _ finds written same cause stores writes
+  whole (Err ReadFault) finds cause same stores written writes = record {
+    rose = cause;
+    written = written;
+    stored = adds_none old.stores new.stores same;
+    stores = stores;
+    writes = writes;
+  }
+  whole (Err NoMemory) finds cause same stores written writes = record {
+    written = λ files known. (0, written);
+    stored = λ files known. stores_none (answer files) old.stores new.stores same;
+    stores = stores;
+    writes = writes;
+  }
+
+  -- the text that was begun
+  may_write : (found : Found) (files : Contents) → Finds (answer files) found → MayWrite (answer files) (line_of found)
+  may_write (Ok report) files finds = inl (line_is (answer files) _ _ finds)
+  may_write (Err Usage) files finds = inl (line_is (answer files) _ _ finds)
+  may_write (Err ProgramRefused) files finds = inl (line_is (answer files) _ _ finds)
+  may_write (Err InputRefused) files finds = inl (line_is (answer files) _ _ finds)
+  may_write (Err Rejected) files finds = inl (line_is (answer files) _ _ finds)
+  may_write (Err ReadFault) files finds = inr (inl refl)
+  may_write (Err NoMemory) files finds = inr (inr (0, refl))
+
+  -- a front of the line was written
+  part : (found : Found) → FindsTold found → new.stores ≡ old.stores → WritesPart old.written new.written (line_of found) → Rose old.write_faults new.write_faults → EndsInWriteFault answer old new
+  part found finds same written rose = record {
+    rose = inl rose;
+    part = λ files known. (line_of found, may_write found files (finds files known), written);
+    stored = λ files known. stores_none (answer files) old.stores new.stores same;
+  }
+
+  -- a command that stores nothing, by what its work found and how that was told
+  pub ends_as : (found : Found) (ended : Status) → FindsTold found → HaltCause old.read_faults new.read_faults found → new.stores ≡ old.stores → new.store_faults ≡ old.store_faults
+      → Tells found ended old.written new.written old.write_faults new.write_faults → EndsAs answer old new ended
+  ends_as found ended finds cause same stores (inl told) = rw told.0 (whole found finds cause same stores told.1 told.2)
+  ends_as found ended finds cause same stores (inr told) = rw told.0 (part found finds same told.1 told.2)

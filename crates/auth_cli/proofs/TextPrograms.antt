@@ -1,0 +1,67 @@
+-- Programs of a text are well-typed, and their queries are roles.
+use Rattle.std.proofs.Common.{◌≡◌, ℕ, ◌<◌, List, [], drop, length, Some, Option, None, cond, true, slice_get, refl, ap, sym, ◌∙◌, subst, lit<}
+use Rattle.std.specs.Option.{option_and_then}
+use Rattle.std.proofs.lemmas.Option.{slice_get-get_or, unwrap_or-slice_get}
+use Rattle.sha2.specs.Sha256.{sha256}
+use Rattle.sha2.proofs.Facts256.{length-sha256}
+use Rattle.core_terms.specs.Formats.{IsFormat}
+use Rattle.core_terms.specs.Values.{Value, IsIdeal}
+use Rattle.core_terms.specs.Spelling.{spelling}
+use Rattle.core_terms.specs.Terms.{Kind, Inner, Init, Query, Update, Program, IsTyped, function_at, no_function}
+use Rattle.core_terms.specs.Roles.{IsRole, role_named}
+use Rattle.core_terms.specs.Projection.{projection}
+use Rattle.ideal_meaning.specs.Ideal.{Outcome}
+use Rattle.ideal_meaning.specs.Checked.{Accepted}
+use Rattle.ideal_meaning.specs.Frames.{offered, offered_pieces, header}
+use Rattle.ideal_meaning.specs.Headline.{TrueOrSplit, call_of}
+use Rattle.ideal_meaning.proofs.Headline.{headline}
+use Rattle.core_terms.proofs.LawProofs.{typing_test_is_exact, shape_test_is_exact, first_format_is_format}
+use Rattle.auth_cli.specs.Answer.{call_verdict}
+use Rattle.auth_cli.specs.Arguments.{is_query, query_at, query_named}
+use Rattle.auth_cli.specs.Elaboration.{program_of_text}
+use Rattle.auth_cli.specs.Verdicts.{argument_type}
+use Rattle.auth_cli.proofs.ElaborationSound.{text_is_sound}
+use Rattle.auth_cli.proofs.Queries.{role_within}
+use Rattle.auth_cli.proofs.RoleOf.{own_role}
+
+text_is_typed : (text : List ℕ) (P : Program) → program_of_text text ≡ Some P → IsTyped P
+text_is_typed text P is = (typing_test_is_exact P).0 (text_is_sound text P is).0
+
+text_is_format : (text : List ℕ) (P : Program) → program_of_text text ≡ Some P → IsFormat P.format
+text_is_format text P is = subst IsFormat (sym (text_is_sound text P is).2) (first_format_is_format 0 (lit< tt))
+
+there : (P : Program) (f : ℕ) → f < length P.functions → slice_get P.functions f ≡ Some (function_at P f)
+there P f inside = slice_get-get_or P.functions f no_function inside ∙ ap Some (sym (unwrap_or-slice_get P.functions f no_function))
+
+-- a role that is a query is found by its name
+query_parts : (P : Program) (name : List ℕ) (f : ℕ) → query_named P name ≡ Some f → (f < length P.functions) × ((function_at P f).kind ≡ Query)
+query_parts P name f is = by (role_named P name) refl is
+  where
+    kind_is : (kind : Kind) (i : ℕ) → cond (is_query kind) (Some i) None ≡ Some f → (i ≡ f) × (kind ≡ Query)
+    kind_is Query i e = (cc, refl)
+    kind_is Inner i e = absurd (cc)
+    kind_is Init i e = absurd (cc)
+    kind_is Update i e = absurd (cc)
+    by : (found : Option ℕ) → role_named P name ≡ found → option_and_then (query_at P) found ≡ Some f → (f < length P.functions) × ((function_at P f).kind ≡ Query)
+    by None found e = absurd (cc)
+    by (Some i) found e =
+        let parts = kind_is (function_at P i).kind i e in
+        (subst (λ n. n < length P.functions) parts.0 (role_within P name i found), subst (λ n. (function_at P n).kind ≡ Query) parts.0 parts.1)
+
+-- a query of a text's program is a role of its kind
+text_query : (text : List ℕ) (P : Program) (name : List ℕ) (f : ℕ) → program_of_text text ≡ Some P → query_named P name ≡ Some f → IsRole P f Query (argument_type P f) (function_at P f).result
+text_query text P name f is named =
+    let parts = query_parts P name f named in
+    let g = function_at P f in
+    let role = (shape_test_is_exact P).0 (text_is_sound text P is).1 f g (there P f parts.0) (rw parts.1 refl) in
+    own_role P f role.0 role.1 (subst (λ (kind : Kind). IsRole P f kind role.0 role.1) parts.1 role.2)
+
+-- what is accepted of a call of a query is true, or there is a split
+pub text_headline : (text : List ℕ) (P : Program) (f k : ℕ) (state argument : Value) (proof : List ℕ) (o : Outcome) → program_of_text text ≡ Some P → (name : List ℕ) → query_named P name ≡ Some f
+    → IsIdeal P.types P.state state → IsIdeal P.types (argument_type P f) argument
+    → call_verdict (record { program = P; role = f; fuel = k; state = spelling (projection sha256 P P.state state); argument = spelling (projection sha256 P (argument_type P f) argument) }) proof ≡ Accepted o
+    → (n : ℕ) × (header P.format proof ≡ Some n) × TrueOrSplit sha256 P f (function_at P f).result (call_of state argument) k (offered_pieces (offered P.format.limit (drop 6 proof) n [])) o
+unfolding call_verdict
+text_headline text P f k state argument proof o is name role ideal_state ideal_argument accepted =
+    headline sha256 length-sha256 P (text_is_format text P is) (text_is_typed text P is) f Query (argument_type P f) (function_at P f).result (text_query text P name f is role) tt
+    state argument ideal_state ideal_argument k proof o accepted

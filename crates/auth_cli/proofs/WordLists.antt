@@ -1,0 +1,40 @@
+-- Lists of words.
+use Rattle.std.proofs.Common.{◌≡◌, ℕ, List, [], ◌∷◌, length, get_or, Bool, ◌||◌, map, take, drop, ◌-◌, Some, Bor, refl, ap, sym, ◌∙◌, arith}
+use Rattle.std.specs.List.{list_any}
+use Rattle.std.proofs.lemmas.List.{take_rest}
+use Rattle.lam_outside.specs.Told.{Contents}
+use Rattle.auth_cli.specs.Answer.{answer, command_answer, judged_answer, verify_answer}
+use Rattle.auth_cli.specs.Words.{command_of, texts}
+use Rattle.auth_cli.specs.declared.words.Command.{Command}
+use Rattle.auth_cli.specs.declared.words.Command.TheVariants.{Verify}
+
+-- a test of what the elements are mapped to
+pub list_any_mapped : {A B : Type 0} (p : B → Bool) (f : A → B) (xs : List A) → list_any p (map f xs) ≡ list_any (λ x. p (f x)) xs
+list_any_mapped p f [] = refl
+list_any_mapped p f (x ∷ xs) = ap (λ b. p (f x) || b) (list_any_mapped p f xs)
+
+-- the six arguments of `verify`
+pub verify_words : (words : List (Bor (List ℕ))) (none : Bor (List ℕ)) (files : Contents) → length words ≡ 6 → verify_answer (texts words) files
+    ≡ judged_answer (get_or words 0 none).now (get_or words 1 none).now (get_or words 2 none).now (get_or words 3 none).now (get_or words 4 none).now (get_or words 5 none).now files
+verify_words [] none files six = absurd (omega arith)
+verify_words (a ∷ []) none files six = absurd (omega arith)
+verify_words (a ∷ b ∷ []) none files six = absurd (omega arith)
+verify_words (a ∷ b ∷ c ∷ []) none files six = absurd (omega arith)
+verify_words (a ∷ b ∷ c ∷ d ∷ []) none files six = absurd (omega arith)
+verify_words (a ∷ b ∷ c ∷ d ∷ e ∷ []) none files six = absurd (omega arith)
+verify_words (a ∷ b ∷ c ∷ d ∷ e ∷ f ∷ []) none files six = refl
+verify_words (a ∷ b ∷ c ∷ d ∷ e ∷ f ∷ g ∷ rest) none files six = absurd (omega arith)
+
+-- the words behind the command
+texts_behind : (words : List (Bor (List ℕ))) → texts (take (length words - 2) (drop 2 words)) ≡ drop 2 (texts words)
+texts_behind words = ap texts (take_rest words 2) ∙ by words
+  where
+    by : (words : List (Bor (List ℕ))) → texts (drop 2 words) ≡ drop 2 (texts words)
+    by [] = refl
+    by (a ∷ []) = refl
+    by (a ∷ b ∷ rest) = refl
+
+-- the answer of words that call `verify` is that of its arguments
+pub verify_called : (words : List (Bor (List ℕ))) (command : Command) → Some command ≡ command_of (texts words) → answer (texts words) ≡ verify_answer (texts (take (length words - 2) (drop 2 words)))
+unfolding answer
+verify_called words Verify called = ap (λ found. command_answer found (drop 2 (texts words))) (sym called) ∙ ap verify_answer (sym (texts_behind words))

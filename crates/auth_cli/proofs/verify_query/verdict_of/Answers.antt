@@ -1,0 +1,16 @@
+use Rattle.std.proofs.Common.{subst}
+use Rattle.sha2.specs.Sha256.{sha256}
+use Rattle.core_terms.specs.Programs.{meaning}
+use Rattle.ideal_meaning.specs.Checked.{verdict}
+use Rattle.auth_cli.specs.Answer.{call_verdict}
+use Rattle.auth_cli.specs.Verdicts.{Answers, argument_type}
+use Rattle.auth_cli.proofs.verify_query.verdict_of.Goals as goal
+
+pub returns : goal.returns
+unfolding call_verdict
+returns c =
+    let call = c.args.call.now in
+    let P = meaning call.program in
+    let f = call.role.0 in
+    subst (λ s. Answers P f (verdict sha256 P (argument_type P f) f s call.argument call.fuel c.args.proof.now) c.verify.result) c.deref.ensures.value
+    (subst (λ a. Answers P f (verdict sha256 P (argument_type P f) f c.deref.result.now a call.fuel c.args.proof.now) c.verify.result) c.as_bytes.ensures c.verify.ensures.verdict)

@@ -1,0 +1,44 @@
+-- The arguments of a command that are no names of files: a role, a number and a literal.
+use Rattle.std.specs.Prelude.{ℕ, ◌^◌, List, [], length, nat_le, Bool, true, false, ◌&&◌, Option, Some, None, if◌then◌else◌}
+use Rattle.std.specs.Option.{option_and_then}
+use Rattle.std.specs.Str.{all_ascii_digits}
+use Rattle.std.specs.Str.Parse.{digits_value}
+use Rattle.core_terms.specs.Types.{Ty, UnitTy}
+use Rattle.core_terms.specs.Terms.{Kind, Inner, Init, Query, Update, Program, function_at}
+use Rattle.core_terms.specs.Roles.{role_named}
+use Rattle.auth_syntax.specs.Syntax.{LiteralSyntax, UnitLiteralSyntax}
+use Rattle.auth_syntax.specs.Parsing.{literal}
+
+-- the kind is that of a query
+abbrev pub is_query : Kind → Bool
+is_query Query = true
+is_query kind = false
+
+-- the number, where its function is a query
+abbrev pub query_at : Program → ℕ → Option ℕ
+query_at P f = if is_query (function_at P f).kind then Some f else None
+
+-- the number of the role of this name, where it is a query
+abbrev pub query_named : Program → List ℕ → Option ℕ
+query_named P name = option_and_then (query_at P) (role_named P name)
+
+-- the greatest amount of fuel: 10^12
+abbrev pub most_fuel : ℕ
+most_fuel = 1000000000000
+
+-- a number on the command line has 1 to 20 decimal digits, and nothing else
+abbrev pub is_number : List ℕ → Bool
+is_number text = nat_le 1 (length text) && (nat_le (length text) 20 && all_ascii_digits text)
+
+-- the amount of fuel that a text tells: a number that is at most the greatest
+abbrev pub fuel_of : List ℕ → Option ℕ
+fuel_of text = if is_number text && nat_le (digits_value 10 text) most_fuel then Some (digits_value 10 text) else None
+
+-- the spelling of a literal's value at a type; none where the literal is of another type
+abbrev pub literal_spelling : Ty → LiteralSyntax → Option (List ℕ)
+literal_spelling UnitTy UnitLiteralSyntax = Some []
+literal_spelling t UnitLiteralSyntax = None
+
+-- the spelling of the value that an argument of this type is a literal of
+abbrev pub argument_spelling : Ty → List ℕ → Option (List ℕ)
+argument_spelling t text = option_and_then (literal_spelling t) (literal text)

@@ -1,0 +1,70 @@
+-- What a command's work found, before it is told.
+use Rattle.std.specs.Prelude.{◌≡◌, ℕ, List, codes, Option, Some, Result, Ok, Err, ⊤}
+use Rattle.lam_outside.specs.Causes.{Rose}
+use Rattle.auth_cli.specs.Answer.{Answer, says}
+use Rattle.auth_cli.specs.declared.report.Ending.{Ending}
+use Rattle.auth_cli.specs.declared.report.Ending.TheVariants as ending
+use Rattle.auth_cli.specs.declared.report.Halt.{Halt}
+use Rattle.auth_cli.specs.declared.report.Halt.TheVariants.{Usage, ProgramRefused, InputRefused, Rejected, ReadFault, NoMemory}
+use Rattle.auth_cli.specs.declared.report.Report.{Report}
+use Rattle.auth_cli.specs.declared.status.Status.{Status}
+use Rattle.auth_cli.specs.declared.status.Status.TheVariants as status
+
+-- a command's report, or what halted its work
+abbrev pub Found : Type 0
+Found = Result Report Halt
+
+abbrev pub ending_status : Ending → Status
+ending_status ending.Done = status.Done
+ending_status ending.Trap = status.Trap
+ending_status ending.OutOfFuel = status.OutOfFuel
+
+abbrev pub halt_status : Halt → Status
+halt_status Usage = status.Usage
+halt_status ProgramRefused = status.ProgramRefused
+halt_status InputRefused = status.InputRefused
+halt_status Rejected = status.Rejected
+halt_status ReadFault = status.ReadFault
+halt_status NoMemory = status.NoMemory
+
+abbrev pub halt_line : Halt → List ℕ
+halt_line Usage = codes "usage: lamauth COMMAND ARGUMENTS\n"
+halt_line ProgramRefused = codes "program refused\n"
+halt_line InputRefused = codes "input refused\n"
+halt_line Rejected = codes "rejected\n"
+halt_line ReadFault = codes "read fault\n"
+halt_line NoMemory = codes "no memory\n"
+
+abbrev pub status_of : Found → Status
+status_of (Ok report) = ending_status report.ending
+status_of (Err halt) = halt_status halt
+
+abbrev pub line_of : Found → List ℕ
+line_of (Ok report) = report.line.items
+line_of (Err halt) = halt_line halt
+
+-- what halted the work is what the answer says, unless a file could not be read or memory was wanting
+abbrev pub HaltsAs : Option Answer → Halt → Type 0
+HaltsAs answer ReadFault = ⊤
+HaltsAs answer NoMemory = ⊤
+HaltsAs answer halt = answer ≡ Some (says (halt_status halt) (halt_line halt))
+
+-- what the work found is what the answer says, with the same exceptions
+abbrev pub Finds : Option Answer → Found → Type 0
+Finds answer (Ok report) = answer ≡ Some (says (ending_status report.ending) report.line.items)
+Finds answer (Err halt) = HaltsAs answer halt
+
+-- the same of work on what is in hand, where no file can fail
+abbrev pub FindsInHand : Answer → Found → Type 0
+FindsInHand answer (Err ReadFault) = ⊥
+FindsInHand answer found = Finds (Some answer) found
+
+-- A step of the work. Whatever the answer goes on with behind it: the step gives the value that it goes on with, or halts.
+abbrev pub GoesOn : {A T : Type 0} → ((A → Option Answer) → Option Answer) → (T → A) → Result T Halt → Type 0
+GoesOn {A = A} step value (Ok t) = (go : A → Option Answer) → step go ≡ go (value t)
+GoesOn {A = A} step value (Err halt) = (go : A → Option Answer) → HaltsAs (step go) halt
+
+-- the count of reads rose at `ReadFault` and nowhere else
+abbrev pub HaltCause : {T : Type 0} → ℕ → ℕ → Result T Halt → Type 0
+HaltCause before now (Err ReadFault) = Rose before now
+HaltCause before now found = now ≡ before

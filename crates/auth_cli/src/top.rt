@@ -1,0 +1,86 @@
+// All that the program does.
+ghost use Rattle.std.specs.Prelude.{◌≡◌, ◌≢◌, ◌⊎◌, ◌↔◌, ◌<◌, ◌-◌, ◌^◌, ℕ, List, codes};
+ghost use Rattle.std.specs.Option.{ForSome};
+ghost use Rattle.std.specs.Io.KnownBytes.{append_known};
+ghost use Rattle.lam_outside.specs.Causes.{Rose};
+ghost use Rattle.auth_cli.specs.Answer.{answer};
+ghost use Rattle.auth_cli.specs.Codes.{code};
+ghost use Rattle.auth_cli.specs.Ending.{outside, EndsAs, IsToldByCode, MayWrite, NoneRose, StoresSome, WritesPart, no_memory_text};
+ghost use Rattle.auth_cli.specs.TrueLines.{IsTrueLine};
+ghost use Rattle.auth_cli.specs.Words.{texts};
+ghost use Rattle.auth_cli.specs.declared.status.Status.{Status};
+
+use crate::report::tell;
+use crate::{Command, Halt, Status, verify_command};
+use lam_outside::{Files, Sink};
+use std::alloc::Global;
+
+/// Runs the words of a command line, the program's name first, and answers the exit status.
+///
+/// Each line ends with a line feed and goes to the sink:
+///
+/// | status | line | comes |
+/// |---|---|---|
+/// | 0 | `done VALUE` | the outcome has this value |
+/// | 2 | `usage: lamauth COMMAND ARGUMENTS` | the words call no command |
+/// | 3 | `trap NAME` | the outcome is this trap: `overflow`, `divzero`, `toobig`, `toodeep` |
+/// | 4 | `out of fuel` | the outcome is the want of fuel |
+/// | 5 | `rejected` | the proof is rejected |
+/// | 6 | `program refused` | the text is no program |
+/// | 7 | `input refused` | a file is too long, or the role, the fuel, the state or the argument is refused |
+/// | 8 | `read fault` | a file could not be read |
+/// | 9 | a part of a line | the sink failed |
+/// | 10 | `no memory` | memory was wanting |
+///
+/// The program's text has at most 262,144 bytes, each other file at most 67,108,864. What is refused first in this order
+/// ends the run: the words, the program, the role, the fuel, the state, the argument, the proof.
+pub fn run<F: Files, O: Sink>(alloc: Global, words: &[&str], files: &mut F, out: &mut O) -> u8
+    requires reads_below { F.faults files.old < 2 ^ 64 - 1 }
+    requires stores_below { F.store_faults files.old < 2 ^ 64 - 1 }
+    requires writes_below { O.faults out.old < 2 ^ 64 - 1 }
+
+    // The one sentence from which the others follow: what was written and stored, and which counts rose, by the status.
+    ensures ends { let seen = outside F.contents F.stores F.faults F.store_faults O.written O.faults in
+        (status : Status) × (result ≡ code status)
+        × EndsAs (answer (texts words.now)) (seen files.old out.old) (seen files.new out.new) status }
+
+    // Where no count rose, status, lines and stored files are those of the defined answer, or memory was wanting.
+    ensures answered { let seen = outside F.contents F.stores F.faults F.store_faults O.written O.faults in
+        NoneRose (seen files.old out.old) (seen files.new out.new) → result ≢ 10
+        → ForSome (F.contents files.old) (λ told. IsToldByCode (answer (texts words.now) told) (seen files.old out.old) (seen files.new out.new) result) }
+
+    // What a told outcome says of the ideal run, whoever made the proof.
+    ensures headline { ForSome (F.contents files.old) (λ told.
+        IsTrueLine (texts words.now) told (O.written out.old) (O.written out.new) result) }
+
+    // 8 exactly where the read count rose, 9 and 10 aside, and then `read fault` alone was written.
+    ensures read_fault { result ≡ 8 → Rose (F.faults files.old) (F.faults files.new) }
+    ensures read_rose { Rose (F.faults files.old) (F.faults files.new) → (result ≡ 8) ⊎ ((result ≡ 9) ⊎ (result ≡ 10)) }
+    ensures read_fault_line { result ≡ 8 → O.written out.new ≡ append_known (O.written out.old) (codes "read fault\n") }
+
+    // 9 exactly where the count of the sink or of `store` rose, and then a part of such a text was written.
+    ensures write_fault { result ≡ 9
+        ↔ (Rose (O.faults out.old) (O.faults out.new) ⊎ Rose (F.store_faults files.old) (F.store_faults files.new)) }
+    ensures write_part { result ≡ 9 → ForSome (F.contents files.old) (λ told.
+        (text : List ℕ) × MayWrite (answer (texts words.now) told) text × WritesPart (O.written out.old) (O.written out.new) text) }
+
+    // At 10 whole lines of the answer were written, and then `no memory`.
+    ensures no_memory { result ≡ 10 → ForSome (F.contents files.old) (λ told.
+        (k : ℕ) × (O.written out.new ≡ append_known (O.written out.old) (no_memory_text (answer (texts words.now) told) k))) }
+
+    // What `store` was given are files of the answer.
+    ensures stored { ForSome (F.contents files.old) (λ told. StoresSome (answer (texts words.now) told) (F.stores files.old) (F.stores files.new)) }
+{
+    ended(alloc, words, files, out).code()
+}
+
+#[tactic(auto, unfolding(crate::specs::Answer::answer))]
+fn ended<F: Files, O: Sink>(alloc: Global, words: &[&str], files: &mut F, out: &mut O) -> Status
+    ensures { let seen = outside F.contents F.stores F.faults F.store_faults O.written O.faults in
+        EndsAs (answer (texts words.now)) (seen files.old out.old) (seen files.new out.new) result }
+{
+    match Command::of_words(words) {
+        Some(Command::Verify) => verify_command(alloc, &words[2..], files, out),
+        None => tell(out, Err(Halt::Usage)),
+    }
+}

@@ -1,0 +1,63 @@
+// The words of a command line.
+ghost use Rattle.std.specs.Prelude.{◌≡◌};
+ghost use Rattle.std.specs.List.{list_any};
+ghost use Rattle.auth_cli.specs.Words.{is_refused, texts, command_named, command_of, argument_count};
+
+/// A command.
+#[derive(Clone, Copy, Debug, PartialEq, Eq)]
+pub enum Command {
+    Verify,
+}
+
+impl Command {
+    /// The command that the words call, the program's name first.
+    ///
+    /// There is none where a word behind the program's name is empty or begins with `-`, where no command has the
+    /// second word as its name, and where other words follow than its arguments.
+    pub fn of_words(words: &[&str]) -> Option<Command>
+        ensures { result ≡ command_of (texts words.now) }
+    {
+        let [_, name, arguments @ ..] = words else {
+            return None;
+        };
+        if is_refused(name) || some_refused(arguments) {
+            return None;
+        }
+        match Command::named(name) {
+            Some(command) if arguments.len() == command.argument_count() => Some(command),
+            _ => None,
+        }
+    }
+
+    fn named(name: &str) -> Option<Command>
+        ensures { result ≡ command_named name.now }
+    {
+        match name {
+            "verify" => Some(Command::Verify),
+            _ => None,
+        }
+    }
+
+    /// How many arguments it has.
+    pub fn argument_count(self) -> usize
+        ensures { result ≡ argument_count self }
+    {
+        match self {
+            Command::Verify => 6,
+        }
+    }
+}
+
+/// Whether one of the words is refused.
+fn some_refused(words: &[&str]) -> bool
+    ensures { result ≡ list_any is_refused (texts words.now) }
+{
+    words.iter().any(|word| is_refused(word))
+}
+
+/// Whether the word is empty or begins with `-`.
+fn is_refused(word: &str) -> bool
+    ensures { result ≡ is_refused word.now }
+{
+    word.is_empty() || word.starts_with('-')
+}

@@ -1,0 +1,125 @@
+// The real files and standard output. They tell nothing of what they hold: this is the trusted edge.
+ghost use Rattle.std.specs.Prelude.{◌≡◌, ℕ, None, refl};
+
+use lam_outside::{Failed, Files, Sink, Source};
+use std::fs::{self, File};
+use std::io::{self, Read, Write};
+
+/// The files of the machine.
+#[derive(Drop)]
+pub struct HostFiles<'a> {
+    rt: &'a HostRuntime,
+    started: Option<File>,
+    read_faults: u64,
+    store_faults: u64,
+}
+
+impl<'a> HostFiles<'a> {
+    /// No file is started, and no call has failed.
+    pub fn new(rt: &'a HostRuntime) -> Self
+        ensures reads { result.read_faults ≡ 0 }
+        ensures stores { result.store_faults ≡ 0 }
+    {
+        HostFiles {
+            rt,
+            started: None,
+            read_faults: 0,
+            store_faults: 0,
+        }
+    }
+}
+
+impl Source for HostFiles<'_> {
+    ghost given = { λ _. None };
+
+    ghost left = { λ _. None };
+
+    ghost faults = { λ files. files.read_faults };
+
+    ghost Rest = { ℕ };
+
+    ghost rest = { λ files. files.store_faults };
+
+    fn read(&mut self, into: &mut [u8]) -> Result<usize, Failed> {
+        let Some(file) = &mut self.started else {
+            return Ok(0);
+        };
+        match file.read(into) {
+            Ok(count) => Ok(count),
+            Err(_) => {
+                self.read_faults = self.read_faults.saturating_add(1);
+                Err(Failed)
+            }
+        }
+    }
+}
+
+impl Files for HostFiles<'_> {
+    ghost contents = { λ _. None };
+
+    ghost stores = { λ _. None };
+
+    ghost store_faults = { λ files. files.store_faults };
+
+    ghost rest_has_contents = { λ old new same. refl };
+
+    ghost rest_has_stores = { λ old new same. refl };
+
+    ghost rest_has_store_faults = { λ old new same. same };
+
+    fn start(&mut self, name: &str) -> Result<(), Failed> {
+        match fs::open(self.rt, name) {
+            Ok(file) => {
+                self.started = Some(file);
+                Ok(())
+            }
+            Err(_) => {
+                self.read_faults = self.read_faults.saturating_add(1);
+                Err(Failed)
+            }
+        }
+    }
+
+    fn store(&mut self, name: &str, bytes: &[u8]) -> Result<(), Failed> {
+        match fs::write(self.rt, name, bytes) {
+            Ok(()) => Ok(()),
+            Err(_) => {
+                self.store_faults = self.store_faults.saturating_add(1);
+                Err(Failed)
+            }
+        }
+    }
+}
+
+/// Standard output, unbuffered.
+#[derive(Drop)]
+pub struct HostSink<'a> {
+    rt: &'a HostRuntime,
+    faults: u64,
+}
+
+impl<'a> HostSink<'a> {
+    /// No call has failed.
+    pub fn new(rt: &'a HostRuntime) -> Self
+        ensures { result.faults ≡ 0 }
+    {
+        HostSink { rt, faults: 0 }
+    }
+}
+
+impl Sink for HostSink<'_> {
+    ghost written = { λ _. None };
+
+    ghost faults = { λ sink. sink.faults };
+
+    fn write(&mut self, piece: &[u8]) -> Result<usize, Failed> {
+        let taken = io::writer(self.rt).write(piece);
+        match taken {
+            Ok(count) if count > 0 || piece.is_empty() => Ok(count),
+            _ => {
+                self.faults = self.faults.saturating_add(1);
+                Err(Failed)
+            }
+        }
+    }
+}
