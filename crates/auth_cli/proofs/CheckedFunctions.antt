@@ -1,5 +1,5 @@
 -- Lemmas of the checker: names that differ, functions, and lists of them.
-use Rattle.std.proofs.Common.{◌≡◌, ◌≢◌, ℕ, zero, suc, ◌+◌, ◌<◌, ◌≤◌, Bool, true, false, not, ◌&&◌, ◌||◌, List, [], ◌∷◌, ◌++◌, length, map, drop, Option, Some, None, option_map, slice_get, slice_index_or, bytes_eq, nat_le, if◌then◌else◌, refl, sym, ap, ◌∙◌, subst, arith, add-one}
+use Rattle.std.proofs.Common.{◌≡◌, ◌≢◌, ℕ, suc, ◌+◌, ◌<◌, Bool, true, false, not, ◌&&◌, ◌||◌, List, [], ◌∷◌, ◌++◌, length, map, drop, Option, Some, None, option_map, slice_get, slice_index_or, bytes_eq, nat_le, if◌then◌else◌, refl, sym, ap, ◌∙◌, add-one}
 use Rattle.std.specs.List.{list_any}
 use Rattle.std.specs.Option.{option_and_then}
 use Rattle.std.proofs.Math.Seq.{drop-cons}
@@ -11,7 +11,7 @@ use Rattle.core_terms.specs.TypeTables.{type_at}
 use Rattle.core_terms.specs.declared.types.TyId.{TyId}
 use Rattle.core_terms.proofs.TypingSound.{same_sound}
 use Rattle.core_terms.proofs.TypingComplete.{same_self}
-use Rattle.auth_syntax.specs.Syntax.{FunctionSyntax, ParameterSyntax}
+use Rattle.auth_syntax.specs.Syntax.{FunctionSyntax}
 use Rattle.auth_syntax.specs.Trees as written
 use Rattle.auth_syntax.specs.declared.tree.Parameter.{Parameter}
 use Rattle.auth_syntax.specs.declared.tree.Function.{Function as FunctionTree}
@@ -134,7 +134,12 @@ pub checked_function : (parsed : FunctionTree) (types : List Ty) (ids : List TyI
     → slice_get types ty.0 ≡ Some (type_meant (written.type_of parsed.result_type))
     → type_at types body.ty ≡ type_at types ty
     → (more : List Ty) → elaborated_function (written.function_of parsed) ≡ Some (record {
-      name = parsed.name; kind = kind_meant (written.kind_of parsed.kind); parameters = map (type_at (types ++ more)) ids; result = type_at (types ++ more) ty; body = expression_of (types ++ more) body.term })
+      name = parsed.name;
+      kind = kind_meant (written.kind_of parsed.kind);
+      parameters = map (type_at (types ++ more)) ids;
+      result = type_at (types ++ more) ty;
+      body = expression_of (types ++ more) body.term;
+    })
 checked_function parsed types ids body ty before found_at locals numbers grows grows_more found result same more =
     let (e, is, stands) = found_stands found_at (elaborated_expression (parameters_of parsed.parameters.items) (written.expression_of parsed.body)) body found in
     let later = stands_grow found_at types body e grows_more stands in

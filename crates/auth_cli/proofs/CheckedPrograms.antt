@@ -1,11 +1,11 @@
 -- Lemmas of the checker: a whole program, from its parts.
-use Rattle.std.proofs.Common.{◌≡◌, ℕ, suc, ◌<◌, ◌≤◌, Bool, true, false, ◌&&◌, List, [], ◌∷◌, ◌++◌, length, map, Option, Some, None, option_map, slice_get, nat_le, if◌then◌else◌, refl, sym, ap, ◌∙◌, subst, arith}
+use Rattle.std.proofs.Common.{◌≡◌, suc, ◌<◌, ◌≤◌, Bool, true, false, ◌&&◌, List, [], ◌∷◌, ◌++◌, length, map, Option, Some, None, option_map, slice_get, nat_le, if◌then◌else◌, refl, sym, ap, ◌∙◌, arith}
 use Rattle.std.specs.Option.{option_and_then}
 use Rattle.std.proofs.lemmas.Bool.{le-leb, leb-true}
 use Rattle.std.proofs.lemmas.List.{append-nil}
-use Rattle.core_terms.specs.Types.{Ty, UnitTy}
+use Rattle.core_terms.specs.Types.{Ty}
 use Rattle.core_terms.specs.Terms as tree
-use Rattle.core_terms.specs.Typing.{all_shaped, all_typed, is_shaped, is_typed}
+use Rattle.core_terms.specs.Typing.{is_shaped, is_typed}
 use Rattle.core_terms.specs.TypeTables.{type_at, types_of_forms}
 use Rattle.core_terms.specs.ProgramTrees.{function_of, program_of}
 use Rattle.core_terms.specs.declared.types.TyForm.{TyForm}
@@ -16,7 +16,7 @@ use Rattle.auth_syntax.specs.Syntax.{FunctionSyntax}
 use Rattle.auth_syntax.specs.Syntax as syntax
 use Rattle.auth_syntax.specs.Trees as written
 use Rattle.auth_syntax.specs.declared.tree.Function.{Function as FunctionTree}
-use Rattle.auth_cli.specs.Elaboration.{elaborated, elaborated_functions, functions, names_differ, only_state, program_of_parts, shaped, states, type_meant}
+use Rattle.auth_cli.specs.Elaboration.{elaborated, elaborated_functions, functions, names_differ, only_state, program_of_parts, shaped, states}
 use Rattle.auth_cli.specs.Checking.{Grows, are_shaped_functions, have_shapes, parts}
 use Rattle.auth_cli.proofs.Checking.{type_stays}
 use Rattle.auth_cli.proofs.Elaborated.{functions_shaped}

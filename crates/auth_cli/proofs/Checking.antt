@@ -1,13 +1,12 @@
 -- Lemmas of the checker: places of names, and types that keep their numbers.
-use Rattle.std.proofs.Common.{◌≡◌, ◌⊎◌, inl, inr, ℕ, zero, suc, ◌+◌, ◌<◌, Bool, true, false, not, ◌&&◌, ◌||◌, List, [], ◌∷◌, ◌++◌, length, map, Option, Some, None, option_map, Result, take, slice_get, slice_index_or, bytes_eq, nat_lt, cond, if◌then◌else◌, refl, sym, ap, ◌∙◌, subst, arith, lt-ltb, ltb-true, length-append, append_assoc}
+use Rattle.std.proofs.Common.{◌≡◌, ◌⊎◌, inl, inr, ℕ, zero, suc, ◌+◌, ◌<◌, Bool, true, false, not, List, [], ◌∷◌, ◌++◌, length, map, Option, Some, None, option_map, Result, take, slice_get, slice_index_or, bytes_eq, nat_lt, cond, if◌then◌else◌, refl, sym, ap, ◌∙◌, subst, arith, lt-ltb, ltb-true, length-append, append_assoc}
 use Rattle.std.specs.List.{position, position_or_len}
 use Rattle.std.specs.Option.{option_and_then}
 use Rattle.std.proofs.Math.ListN.{get_or-append}
 use Rattle.std.proofs.lemmas.Option.{slice_get-get_or, slice_get_within, get_or_from_slice_get}
 use Rattle.std.proofs.lemmas.List.{append-nil, map-append, take_more}
-use Rattle.std.proofs.lemmas.Grind.{common_steps}
 use Rattle.core_terms.specs.Types.{Ty, UnitTy, AuthTy}
-use Rattle.core_terms.specs.Terms.{Expression, UnitE, LocalE, AuthE, UnauthE}
+use Rattle.core_terms.specs.Terms.{UnitE, LocalE, AuthE, UnauthE}
 use Rattle.core_terms.specs.TypeTables.{type_at}
 use Rattle.core_terms.specs.ProgramTrees.{expression_of}
 use Rattle.core_terms.specs.declared.types.TyId.{TyId}

@@ -1,13 +1,11 @@
 -- Lemmas of the declarations of a program, and of its functions one by one.
-use Rattle.std.proofs.Common.{◌≡◌, ℕ, Bool, true, false, List, [], ◌∷◌, ◌++◌, map, Option, Some, None, option_map, Result, Ok, Err, Vec, Global, refl, sym, ap, ◌∙◌, subst, append_assoc}
+use Rattle.std.proofs.Common.{◌≡◌, true, List, [], ◌∷◌, ◌++◌, map, Option, Some, None, option_map, Err, sym, ap, ◌∙◌, append_assoc}
 use Rattle.std.specs.Option.{is_some}
 use Rattle.std.proofs.lemmas.List.{map-append}
 use Rattle.core_terms.specs.Types.{Ty}
-use Rattle.core_terms.specs.Terms as tree
 use Rattle.core_terms.specs.ProgramTrees.{function_of}
 use Rattle.core_terms.specs.declared.term.Function.{Function}
 use Rattle.auth_syntax.specs.Syntax.{FunctionSyntax}
-use Rattle.auth_syntax.specs.Syntax as syntax
 use Rattle.auth_syntax.specs.Trees as written
 use Rattle.auth_syntax.specs.declared.tree.TypeTree.{TypeTree}
 use Rattle.auth_syntax.specs.declared.tree.Declaration.{Declaration}
@@ -30,7 +28,7 @@ pub second_state : (all left next : List Declaration) (state : Option TypeTree) 
 second_state all left next None d t some so_far one is = absurd (cc)
 second_state all left next (Some s) d t some so_far one is =
     let both : states (map written.declaration_of all) ≡ type_meant (written.type_of s) ∷ type_meant (written.type_of t) ∷ states (map written.declaration_of next) =
-        so_far ∙ ap (λ l. type_meant (written.type_of s) ∷ states (map written.declaration_of l)) (one ∙ ap (λ d. d ∷ next) is) in
+    so_far ∙ ap (λ l. type_meant (written.type_of s) ∷ states (map written.declaration_of l)) (one ∙ ap (λ d. d ∷ next) is) in
     ap (λ l. option_map (λ state. (state, functions (map written.declaration_of all))) (only_state l)) both
 
 -- Where functions stand so far: those before the iterator's, each found.
@@ -41,15 +39,16 @@ Done types all left typed = (before : List FunctionSyntax) × (map written.funct
 -- one function more
 pub functions_step : (a b : List Ty) (all left next : List FunctionTree) (f : FunctionTree) (typed new : List Function) (g : Function)
     → Done a all left typed → left ≡ f ∷ next → Grows a b → ((more : List Ty) → elaborated_function (written.function_of f) ≡ Some (function_of (b ++ more) g)) → new ≡ typed ++ g ∷ [] → Done b all next new
-functions_step a b all left next f typed new g (before, is, found) one (m, grows) here pushed =
-    (before ++ written.function_of f ∷ [],
-    is ∙ ap (λ l. before ++ map written.function_of l) one ∙ sym (append_assoc before (written.function_of f ∷ []) (map written.function_of next)),
-    λ more.
-    let types : b ++ more ≡ a ++ (m ++ more) = ap (λ l. l ++ more) grows ∙ append_assoc a m more in
-    let earlier : elaborated_functions before ≡ Some (map (function_of (b ++ more)) typed) = found (m ++ more) ∙ ap (λ l. Some (map (function_of l) typed)) (sym types) in
-    functions_push before (map (function_of (b ++ more)) typed) (written.function_of f) (function_of (b ++ more) g) earlier (here more)
-    ∙ ap Some (sym (map-append (function_of (b ++ more)) typed (g ∷ [])))
-    ∙ ap (λ l. Some (map (function_of (b ++ more)) l)) (sym pushed))
+functions_step a b all left next f typed new g (before, is, found) one (m, grows) here pushed = (
+  before ++ written.function_of f ∷ [],
+  is ∙ ap (λ l. before ++ map written.function_of l) one ∙ sym (append_assoc before (written.function_of f ∷ []) (map written.function_of next)),
+  λ more.
+      let types : b ++ more ≡ a ++ (m ++ more) = ap (λ l. l ++ more) grows ∙ append_assoc a m more in
+      let earlier : elaborated_functions before ≡ Some (map (function_of (b ++ more)) typed) = found (m ++ more) ∙ ap (λ l. Some (map (function_of l) typed)) (sym types) in
+      functions_push before (map (function_of (b ++ more)) typed) (written.function_of f) (function_of (b ++ more) g) earlier (here more)
+      ∙ ap Some (sym (map-append (function_of (b ++ more)) typed (g ∷ [])))
+      ∙ ap (λ l. Some (map (function_of (b ++ more)) l)) (sym pushed),
+)
 
 -- a function that is refused, or whose memory is wanting
 pub functions_fault : (a b : List Ty) (all left next : List FunctionTree) (f : FunctionTree) (typed : List Function) (fault : TypeFault)

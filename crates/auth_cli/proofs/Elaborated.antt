@@ -1,18 +1,13 @@
 -- The functions that are elaborated have the shapes that their trees have.
-use Rattle.std.proofs.Common.{◌≡◌, ℕ, zero, suc, ◌<◌, Bool, true, false, ◌&&◌, List, [], ◌∷◌, length, map, Option, Some, None, option_map, slice_get, slice_index_or, bytes_eq, nat_le, if◌then◌else◌, refl, sym, ap, ◌∙◌, subst}
+use Rattle.std.proofs.Common.{◌≡◌, Bool, true, false, ◌&&◌, List, [], ◌∷◌, Option, Some, None, option_map, if◌then◌else◌, refl, sym, ap, ◌∙◌, subst}
 use Rattle.std.specs.Option.{option_and_then}
-use Rattle.std.proofs.lemmas.Option.{slice_get-get_or}
-use Rattle.core_terms.specs.Types.{Ty, UnitTy, BoolTy, IntTy, TextTy, PairTy, NamedTy, AuthTy}
+use Rattle.core_terms.specs.Types.{Ty, PairTy}
 use Rattle.core_terms.specs.Terms.{Expression, Kind, Inner, Init, Query, Update, Program}
 use Rattle.core_terms.specs.Terms as tree
-use Rattle.core_terms.specs.Typing.{same_type, has_type, is_at, all_typed, is_typed, shape_test, all_shaped, is_shaped}
-use Rattle.core_terms.proofs.TypingSound.{same_sound}
-use Rattle.core_terms.proofs.TypingComplete.{both, same_self}
-use Rattle.auth_syntax.specs.Syntax.{ExpSyntax, UnitSyntax, LocalSyntax, AuthSyntax, UnauthSyntax, FunctionSyntax, ParameterSyntax}
-use Rattle.auth_syntax.specs.Syntax as syntax
-use Rattle.auth_cli.specs.Elaboration.{Elaborated, authenticated, elaborated, elaborated_expression, elaborated_function, elaborated_functions, functions, kind_meant, local_at, names_differ, only_state, opened, opened_at, parameter_types, place_of, program_of_parts, shaped, states, type_meant, with_body}
+use Rattle.core_terms.specs.Typing.{same_type, shape_test, all_shaped}
+use Rattle.auth_syntax.specs.Syntax.{FunctionSyntax}
+use Rattle.auth_cli.specs.Elaboration.{Elaborated, elaborated_expression, elaborated_function, elaborated_functions, kind_meant, parameter_types, program_of_parts, type_meant, with_body}
 use Rattle.auth_cli.specs.Checking.{are_locals, has_shape, have_shapes}
-use Rattle.auth_cli.proofs.Checking.{place_inside}
 
 -- a function has the kind, the parameters and the result of its tree
 pub function_kept : (f : FunctionSyntax) (g : tree.Function) → elaborated_function f ≡ Some g → (g.kind ≡ kind_meant f.kind) × (g.parameters ≡ parameter_types f.parameters) × (g.result ≡ type_meant f.result_type)
@@ -24,6 +19,7 @@ function_kept f g h = by (are_locals f.parameters) (elaborated_expression f.para
     ends e true d is h =
         let whole : record { name = f.name; kind = kind_meant f.kind; parameters = parameter_types f.parameters; result = type_meant f.result_type; body = e.expression } ≡ g = cc in
         (sym (ap (λ g. g.kind) whole), sym (ap (λ g. g.parameters) whole), sym (ap (λ g. g.result) whole))
+
     by : (b : Bool) (o : Option Elaborated) → (if b then option_and_then (with_body f) o else None) ≡ Some g → (g.kind ≡ kind_meant f.kind) × (g.parameters ≡ parameter_types f.parameters) × (g.result ≡ type_meant f.result_type)
     by false o h = absurd (cc)
     by true None h = absurd (cc)
@@ -55,9 +51,9 @@ functions_shaped state all (f ∷ fs) gs h =
     let (g, hs, one, others, is) = split_functions f fs gs h in
     let (kind, parameters, result) = function_kept f g one in
     let here : shape_test (program_of_parts state all) g.kind g.parameters g.result ≡ has_shape state f =
-        ap (λ k. shape_test (program_of_parts state all) k g.parameters g.result) kind
-        ∙ ap (λ ts. shape_test (program_of_parts state all) (kind_meant f.kind) ts g.result) parameters
-        ∙ ap (λ t. shape_test (program_of_parts state all) (kind_meant f.kind) (parameter_types f.parameters) t) result
-        ∙ shape_same state all [] (kind_meant f.kind) (parameter_types f.parameters) (type_meant f.result_type) in
+    ap (λ k. shape_test (program_of_parts state all) k g.parameters g.result) kind
+    ∙ ap (λ ts. shape_test (program_of_parts state all) (kind_meant f.kind) ts g.result) parameters
+    ∙ ap (λ t. shape_test (program_of_parts state all) (kind_meant f.kind) (parameter_types f.parameters) t) result
+    ∙ shape_same state all [] (kind_meant f.kind) (parameter_types f.parameters) (type_meant f.result_type) in
     let behind = functions_shaped state all fs hs others in
     sym (ap (all_shaped (program_of_parts state all)) is) ∙ ap (λ b. b && all_shaped (program_of_parts state all) hs) here ∙ ap (λ b. has_shape state f && b) behind

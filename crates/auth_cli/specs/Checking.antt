@@ -1,5 +1,5 @@
 -- What an answer of the checker says of what a definition finds. Where memory ran out nothing is said.
-use Rattle.std.specs.Prelude.{◌≡◌, ℕ, List, ◌++◌, [], ◌∷◌, map, slice_get, Bool, true, ◌&&◌, Option, option_map, Vec, length, nat_le, Some, None, Result, Ok, Err, ⊤}
+use Rattle.std.specs.Prelude.{◌≡◌, List, ◌++◌, [], ◌∷◌, map, slice_get, Bool, true, ◌&&◌, Option, option_map, Vec, length, nat_le, Some, None, Result, Ok, Err, ⊤}
 use Rattle.std.specs.Global.{Global}
 use Rattle.core_terms.specs.Types.{Ty}
 use Rattle.core_terms.specs.Terms as tree

@@ -1,5 +1,5 @@
 -- What reading a program says of the program of its text. Where memory ran out nothing is said.
-use Rattle.std.specs.Prelude.{◌≡◌, ℕ, List, Option, Some, None, Result, Ok, Err, ⊤}
+use Rattle.std.specs.Prelude.{◌≡◌, Option, Some, None, Result, Ok, Err, ⊤}
 use Rattle.core_terms.specs.Programs.{meaning}
 use Rattle.core_terms.specs.Terms as tree
 use Rattle.core_terms.specs.declared.program.Program.{Program}

@@ -21,6 +21,7 @@ use std::alloc::{AllocError, AllocFailed, Global};
 
 // How many functions a program has at most, and how many parameters a function.
 const MOST_FUNCTIONS: usize = 1024;
+
 const MOST_PARAMETERS: usize = 8;
 
 /// Why a tree gives no program.
@@ -133,7 +134,11 @@ fn number(types: &mut TyTable, tree: &TypeTree) -> Result<TyId, AllocError>
 }
 
 /// The numbers of the parameters' types.
-fn numbers(alloc: Global, types: &mut TyTable, parameters: &[Parameter]) -> Result<Vec<TyId>, AllocError>
+fn numbers(
+    alloc: Global,
+    types: &mut TyTable,
+    parameters: &[Parameter],
+) -> Result<Vec<TyId>, AllocError>
     ensures grows { Grows (types_in types.old) (types_in types.new) }
     ensures found { IfOk result (λ ids. AreNumbers (types_in types.new) ids.items (parameter_types (parameters_of parameters.now))) }
 {
@@ -145,16 +150,28 @@ fn numbers(alloc: Global, types: &mut TyTable, parameters: &[Parameter]) -> Resu
 }
 
 /// The term of an expression, and its type. The locals are the parameters, of these types.
-fn term(alloc: Global, types: &mut TyTable, parameters: &[Parameter], ids: &[TyId], tree: &ExpTree) -> Result<Typed, TypeFault>
+fn term(
+    alloc: Global,
+    types: &mut TyTable,
+    parameters: &[Parameter],
+    ids: &[TyId],
+    tree: &ExpTree,
+) -> Result<Typed, TypeFault>
     requires { AreNumbers (types_in types.old) ids.now (parameter_types (parameters_of parameters.now)) }
     ensures grows { Grows (types_in types.old) (types_in types.new) }
     ensures found { FindsOver (types_in types.new) typed_of (elaborated_expression (parameters_of parameters.now) (written.expression_of tree.now)) result }
     ensures inside { IfOk result (λ typed. typed.ty.0 < length (types_in types.new)) }
 {
     match tree {
-        ExpTree::UnitLiteral => Ok(Typed { term: Term::UnitLiteral, ty: types.intern(TyForm::UnitForm)? }),
+        ExpTree::UnitLiteral => Ok(Typed {
+            term: Term::UnitLiteral,
+            ty: types.intern(TyForm::UnitForm)?,
+        }),
         ExpTree::Local(name) => match place(name, parameters) {
-            Some(number) => Ok(Typed { term: Term::Local(LocalId(number)), ty: ids[number] }),
+            Some(number) => Ok(Typed {
+                term: Term::Local(LocalId(number)),
+                ty: ids[number],
+            }),
             None => Err(TypeFault::Refused),
         },
         ExpTree::Auth(inner) => {
@@ -255,7 +272,11 @@ fn are_parameters(parameters: &[Parameter]) -> bool
 }
 
 /// A function with its types and its body.
-fn typed_function(alloc: Global, types: &mut TyTable, function: tree::Function) -> Result<Function, TypeFault>
+fn typed_function(
+    alloc: Global,
+    types: &mut TyTable,
+    function: tree::Function,
+) -> Result<Function, TypeFault>
     ensures grows { Grows (types_in types.old) (types_in types.new) }
     ensures found { FindsOver (types_in types.new) function_of (elaborated_function (written.function_of function)) result }
 {
@@ -263,7 +284,13 @@ fn typed_function(alloc: Global, types: &mut TyTable, function: tree::Function) 
         return Err(TypeFault::Refused);
     }
     let parameters = numbers(alloc, types, &function.parameters)?;
-    let body = term(alloc, types, &function.parameters, &parameters, &function.body)?;
+    let body = term(
+        alloc,
+        types,
+        &function.parameters,
+        &parameters,
+        &function.body,
+    )?;
     let ty = number(types, &function.result_type)?;
     if !types.is_same(body.ty, ty) {
         return Err(TypeFault::Refused);
@@ -282,8 +309,10 @@ fn is_role(state: &TypeTree, function: &tree::Function) -> bool
     ensures { result ≡ has_shape (type_meant (written.type_of state.now)) (written.function_of function.now) }
 {
     match (function.kind, function.parameters.as_slice()) {
-        (FunctionKind::Init, [argument]) => is_same_type(state, &function.result_type) && is_plain(&argument.of_type),
-        (FunctionKind::Query, [first, argument]) => is_same_type(state, &first.of_type) && is_plain(&argument.of_type),
+        (FunctionKind::Init, [argument]) => is_same_type(state, &function.result_type)
+            && is_plain(&argument.of_type),
+        (FunctionKind::Query, [first, argument]) => is_same_type(state, &first.of_type)
+            && is_plain(&argument.of_type),
         _ => false,
     }
 }
@@ -299,7 +328,11 @@ fn is_plain(tree: &TypeTree) -> bool
 }
 
 /// The functions, in their order.
-fn typed_functions(alloc: Global, types: &mut TyTable, functions: Vec<tree::Function>) -> Result<Vec<Function>, TypeFault>
+fn typed_functions(
+    alloc: Global,
+    types: &mut TyTable,
+    functions: Vec<tree::Function>,
+) -> Result<Vec<Function>, TypeFault>
     ensures grows { Grows (types_in types.old) (types_in types.new) }
     ensures found { FindsOver (types_in types.new) functions_of (elaborated_functions (map written.function_of functions.items)) result }
 {

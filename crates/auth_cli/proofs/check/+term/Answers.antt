@@ -1,10 +1,6 @@
-use Rattle.std.proofs.Common.{◌∙◌, sym, ap, Some, option_map, subst}
-use Rattle.std.specs.Option.{option_and_then}
+use Rattle.std.proofs.Common.{◌∙◌, sym}
 use Rattle.std.proofs.lemmas.Option.{slice_get_within}
-use Rattle.core_terms.specs.Types.{UnitTy}
-use Rattle.core_terms.specs.Programs.{types_in}
 use Rattle.auth_syntax.specs.Trees.{expression_of}
-use Rattle.auth_cli.specs.Elaboration.{authenticated, opened, parameter_types}
 use Rattle.auth_cli.specs.Checking.{parameters_of}
 use Rattle.auth_cli.proofs.Checking.{auth_found, unauth_found, local_none, local_found, local_inside, local_stands, unit_stands}
 use Rattle.auth_cli.proofs.check.+term.Goals as goal

@@ -1,4 +1,4 @@
-use Rattle.std.proofs.Common.{◌∙◌, sym, arith}
+use Rattle.std.proofs.Common.{◌∙◌, sym}
 use Rattle.std.proofs.lemmas.Bool.{le-leb}
 use Rattle.auth_cli.proofs.CheckedFunctions.{locals_few}
 use Rattle.auth_cli.proofs.check.are_parameters.Goals as goal

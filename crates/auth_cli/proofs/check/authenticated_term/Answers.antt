@@ -1,4 +1,3 @@
-use Rattle.std.proofs.Common.{refl}
 use Rattle.std.proofs.lemmas.Option.{slice_get_within}
 use Rattle.auth_cli.proofs.Checking.{authenticated_stands, grows_either}
 use Rattle.auth_cli.proofs.check.authenticated_term.Goals as goal

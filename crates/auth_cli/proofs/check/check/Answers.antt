@@ -1,8 +1,7 @@
-use Rattle.std.proofs.Common.{◌≡◌, ◌∙◌, sym, map, true}
+use Rattle.std.proofs.Common.{◌∙◌, sym, map}
 use Rattle.auth_syntax.specs.Trees.{declaration_of, function_of, type_of}
 use Rattle.auth_cli.specs.Elaboration.{type_meant}
-use Rattle.auth_cli.specs.Checking.{are_shaped_functions}
-use Rattle.auth_cli.proofs.CheckedPrograms.{refused_functions, refused_function, program_typed, program_shaped, program_found}
+use Rattle.auth_cli.proofs.CheckedPrograms.{refused_functions, program_typed, program_shaped, program_found}
 use Rattle.auth_cli.proofs.check.check.Goals as goal
 
 pub returns-then-not-are_functions : goal.returns-then-not-are_functions

@@ -1,4 +1,4 @@
-use Rattle.std.proofs.Common.{◌≡◌, ◌∙◌, sym, ap, Some, true}
+use Rattle.std.proofs.Common.{◌≡◌, ◌∙◌, sym, true}
 use Rattle.auth_cli.specs.Checking.{are_locals, parameters_of}
 use Rattle.auth_cli.proofs.CheckedFunctions.{checked_function, refused_function}
 use Rattle.auth_cli.proofs.check.typed_function.Goals as goal
@@ -13,6 +13,6 @@ pub returns-clause-found : goal.returns-clause-found
 returns-clause-found c =
     let locals : are_locals (parameters_of c.args.function.parameters.items) ≡ true = sym (rw c.deref.ensures.value at c.are_parameters.ensures) ∙ c.if-not-are_parameters.false in
     let found = checked_function c.args.function _ c.in_ok-parameters.parameters.items c.in_ok-body.body c.in_ok-ty.ty _ _ locals
-        (rw c.deref-2.ensures.value at c.in_ok-parameters.ensures.found) c.term.ensures.grows c.number.ensures.grows
-        (rw c.deref-3.ensures.value at c.in_ok-body.ensures.found) c.in_ok-ty.ensures.found (c.is_same.ensures.0 c.if-not-is_same.false) in
+    (rw c.deref-2.ensures.value at c.in_ok-parameters.ensures.found) c.term.ensures.grows c.number.ensures.grows
+    (rw c.deref-3.ensures.value at c.in_ok-body.ensures.found) c.in_ok-ty.ensures.found (c.is_same.ensures.0 c.if-not-is_same.false) in
     rw (c.kind.ensures, c.new.ensures, c.into_bytes.ensures) found

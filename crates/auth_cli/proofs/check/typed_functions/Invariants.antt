@@ -14,5 +14,5 @@ invariant-loop-function l = record {
   is_finite : (goal.iterator-loop-function).is_finite l.function-iterator;
   grows : Grows (types_in l.initial.types) (types_in l.types);
   done : (before : List FunctionSyntax) × (map function_of l.fn.functions.items ≡ before ++ map function_of (into_iter_items l.function-iterator))
-    × ((more : List Ty) → elaborated_functions before ≡ Some (functions_of (types_in l.types ++ more) l.typed));
+      × ((more : List Ty) → elaborated_functions before ≡ Some (functions_of (types_in l.types ++ more) l.typed));
 }
