@@ -1,5 +1,5 @@
 // What `run` refuses, and in which order.
-use crate::stage::{OPEN, PROOF, STATE, stage, tells, verdict};
+use crate::stage::{OPEN, PROOF, STATE, stage, told, verdict};
 use std::test::Fail;
 
 const USAGE: &str = "usage: lamauth COMMAND ARGUMENTS\n";
@@ -7,16 +7,23 @@ const USAGE: &str = "usage: lamauth COMMAND ARGUMENTS\n";
 #[test]
 fn words_are_refused(rt: HostRuntime) -> Result<(), Fail> {
     let stage = stage(OPEN, &STATE, PROOF);
-    tells(&rt, &stage, &[], 2, USAGE)?;
-    tells(&rt, &stage, &["verify"], 2, USAGE)?;
-    tells(&rt, &stage, &["check", "x"], 2, USAGE)?;
-    tells(&rt, &stage, &["-x"], 2, USAGE)?;
-    tells(&rt, &stage, &["help"], 2, USAGE)?;
-    tells(&rt, &stage, &["verify", "p", "open", "s", "()", "1"], 2, USAGE)?;
-    tells(&rt, &stage, &["verify", "p", "open", "s", "()", "1", "q", "o"], 2, USAGE)?;
-    tells(&rt, &stage, &["verify", "p", "open", "s", "", "1", "q"], 2, USAGE)?;
-    tells(&rt, &stage, &["verify", "p", "open", "s", "()", "-1", "q"], 2, USAGE)?;
-    tells(&rt, &stage, &["verified", "p", "open", "s", "()", "1", "q"], 2, USAGE)
+    let lines: [&[&str]; 10] = [
+        &[],
+        &["verify"],
+        &["check", "x"],
+        &["-x"],
+        &["help"],
+        &["verify", "p", "open", "s", "()", "1"],
+        &["verify", "p", "open", "s", "()", "1", "q", "o"],
+        &["verify", "p", "open", "s", "", "1", "q"],
+        &["verify", "p", "open", "s", "()", "-1", "q"],
+        &["verified", "p", "open", "s", "()", "1", "q"],
+    ];
+    for words in lines {
+        let told = told(rt.alloc(), &stage, words)?;
+        assert!(rt; told.is(2, USAGE));
+    }
+    Ok(())
 }
 
 /// Texts that are no programs of the language.
@@ -66,7 +73,8 @@ const NO_PROGRAMS: [&[u8]; 40] = [
 #[test]
 fn programs_are_refused(rt: HostRuntime) -> Result<(), Fail> {
     for program in NO_PROGRAMS {
-        verdict(&rt, &stage(program, &STATE, PROOF), "1", 6, "program refused\n")?;
+        let told = verdict(rt.alloc(), &stage(program, &STATE, PROOF), "1")?;
+        assert!(rt; told.is(6, "program refused\n"));
     }
     Ok(())
 }
@@ -82,7 +90,8 @@ fn programs_are_taken(rt: HostRuntime) -> Result<(), Fail> {
         b"state auth unit; query a234567890123456789012345678901234567890123456789012345678901234(s: auth unit, x: unit): unit = (); query open(s: auth unit, x: unit): unit = unauth(s);",
     ];
     for program in programs {
-        verdict(&rt, &stage(program, &STATE, PROOF), "1", 0, "done ()\n")?;
+        let told = verdict(rt.alloc(), &stage(program, &STATE, PROOF), "1")?;
+        assert!(rt; told.is(0, "done ()\n"));
     }
     Ok(())
 }
@@ -91,9 +100,12 @@ fn programs_are_taken(rt: HostRuntime) -> Result<(), Fail> {
 fn a_program_has_a_greatest_length(rt: HostRuntime) -> Result<(), Fail> {
     let mut text = Vec::from_slice(rt.alloc(), OPEN)?;
     text.resize(262_144, b' ')?;
-    verdict(&rt, &stage(&text, &STATE, PROOF), "1", 0, "done ()\n")?;
+    let longest = verdict(rt.alloc(), &stage(&text, &STATE, PROOF), "1")?;
+    assert!(rt; longest.is(0, "done ()\n"));
     text.push(b' ')?;
-    verdict(&rt, &stage(&text, &STATE, PROOF), "1", 7, "input refused\n")
+    let longer = verdict(rt.alloc(), &stage(&text, &STATE, PROOF), "1")?;
+    assert!(rt; longer.is(7, INPUT));
+    Ok(())
 }
 
 // An expression or a type on level 100 is taken, one on level 101 isn't.
@@ -114,7 +126,8 @@ fn nesting_has_a_greatest_depth(rt: HostRuntime) -> Result<(), Fail> {
             text.extend_from_slice(b"))")?;
         }
         text.push(b';')?;
-        verdict(&rt, &stage(&text, &STATE, PROOF), "1", status, line)?;
+        let told = verdict(rt.alloc(), &stage(&text, &STATE, PROOF), "1")?;
+        assert!(rt; told.is(status, line));
     }
     Ok(())
 }
@@ -124,39 +137,67 @@ const INPUT: &str = "input refused\n";
 #[test]
 fn inputs_are_refused(rt: HostRuntime) -> Result<(), Fail> {
     let stage = stage(OPEN, &STATE, PROOF);
-    for role in ["close", "make", "Open", "open "] {
-        tells(&rt, &stage, &["verify", "p", role, "s", "()", "1", "q"], 7, INPUT)?;
-    }
-    for fuel in ["x", "1x", " 1", "+1", "0x1", "1000000000001", "18446744073709551616", "000000000000000000001"] {
-        tells(&rt, &stage, &["verify", "p", "open", "s", "()", fuel, "q"], 7, INPUT)?;
-    }
-    for argument in ["(", ")", "()()", "unit", "x", "1", "true", "((),())", "#"] {
-        tells(&rt, &stage, &["verify", "p", "open", "s", argument, "1", "q"], 7, INPUT)?;
+    // the role, the argument and the fuel
+    let inputs: [[&str; 3]; 22] = [
+        ["close", "()", "1"],
+        ["make", "()", "1"],
+        ["Open", "()", "1"],
+        ["open ", "()", "1"],
+        ["open", "(", "1"],
+        ["open", ")", "1"],
+        ["open", "()()", "1"],
+        ["open", "unit", "1"],
+        ["open", "x", "1"],
+        ["open", "1", "1"],
+        ["open", "true", "1"],
+        ["open", "((),())", "1"],
+        ["open", "#", "1"],
+        ["open", "(#)", "1"],
+        ["open", "()", "x"],
+        ["open", "()", "1x"],
+        ["open", "()", " 1"],
+        ["open", "()", "+1"],
+        ["open", "()", "0x1"],
+        ["open", "()", "1000000000001"],
+        ["open", "()", "18446744073709551616"],
+        ["open", "()", "000000000000000000001"],
+    ];
+    for [role, argument, fuel] in inputs {
+        let words = ["verify", "p", role, "s", argument, fuel, "q"];
+        let told = told(rt.alloc(), &stage, &words)?;
+        assert!(rt; told.is(7, INPUT), "{role} {argument} {fuel}");
     }
     Ok(())
 }
 
 #[test]
 fn states_are_refused(rt: HostRuntime) -> Result<(), Fail> {
-    verdict(&rt, &stage(OPEN, &STATE[..31], PROOF), "1", 7, INPUT)?;
-    verdict(&rt, &stage(OPEN, &[], PROOF), "1", 7, INPUT)?;
     let mut long = Vec::from_slice(rt.alloc(), &STATE)?;
     long.push(0)?;
-    verdict(&rt, &stage(OPEN, &long, PROOF), "1", 7, INPUT)
+    let states: [&[u8]; 3] = [&STATE[..31], &[], &long];
+    for state in states {
+        let told = verdict(rt.alloc(), &stage(OPEN, state, PROOF), "1")?;
+        assert!(rt; told.is(7, INPUT));
+    }
+    Ok(())
 }
 
-// Of two refusals the earlier is told: the program, the role, the fuel, the state, the argument; a missing proof comes last.
+// Of two refusals the earlier is told: the program, the role, the fuel, the state, the argument. The proof is opened last.
 #[test]
 fn the_first_refusal_is_told(rt: HostRuntime) -> Result<(), Fail> {
-    let bad = stage(b"abc", &[], &[]);
-    tells(&rt, &bad, &["verify", "p", "close", "s", "(", "x", "none"], 6, "program refused\n")?;
-    tells(&rt, &bad, &["verify", "none", "close", "s", "(", "x", "none"], 8, "read fault\n")?;
-    let stage = stage(OPEN, &[], PROOF);
-    tells(&rt, &stage, &["verify", "p", "close", "none", "(", "1", "none"], 7, INPUT)?;
-    tells(&rt, &stage, &["verify", "p", "open", "none", "(", "x", "none"], 7, INPUT)?;
-    tells(&rt, &stage, &["verify", "p", "open", "none", "(", "1", "none"], 8, "read fault\n")?;
-    tells(&rt, &stage, &["verify", "p", "open", "s", "(", "1", "none"], 7, INPUT)?;
-    let good = crate::stage::stage(OPEN, &STATE, PROOF);
-    tells(&rt, &good, &["verify", "p", "open", "s", "(", "1", "none"], 7, INPUT)?;
-    tells(&rt, &good, &["verify", "p", "open", "s", "()", "1", "none"], 8, "read fault\n")
+    let cases: [(&[u8], &[u8], [&str; 7], u8, &str); 8] = [
+        (b"abc", &[], ["verify", "p", "close", "s", "(", "x", "none"], 6, "program refused\n"),
+        (b"abc", &[], ["verify", "none", "close", "s", "(", "x", "none"], 8, "read fault\n"),
+        (OPEN, &[], ["verify", "p", "close", "none", "(", "1", "none"], 7, INPUT),
+        (OPEN, &[], ["verify", "p", "open", "none", "(", "x", "none"], 7, INPUT),
+        (OPEN, &[], ["verify", "p", "open", "none", "(", "1", "none"], 8, "read fault\n"),
+        (OPEN, &[], ["verify", "p", "open", "s", "(", "1", "none"], 7, INPUT),
+        (OPEN, &STATE, ["verify", "p", "open", "s", "(", "1", "none"], 7, INPUT),
+        (OPEN, &STATE, ["verify", "p", "open", "s", "()", "1", "none"], 8, "read fault\n"),
+    ];
+    for (program, state, words, status, line) in cases {
+        let told = told(rt.alloc(), &stage(program, state, PROOF), &words)?;
+        assert!(rt; told.is(status, line), "{line}");
+    }
+    Ok(())
 }

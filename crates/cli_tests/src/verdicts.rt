@@ -1,5 +1,5 @@
 // What `verify` says of proofs, and what it does where the outside fails.
-use crate::stage::{OPEN, PROOF, STATE, Stage, files, sink, stage, verdict};
+use crate::stage::{OPEN, PROOF, STATE, Stage, files, sink, stage, told, verdict};
 use auth_cli::run;
 use std::test::Fail;
 
@@ -36,7 +36,8 @@ const PROOFS: [(&[u8], &str, u8, &str); 19] = [
 #[test]
 fn proofs_are_judged(rt: HostRuntime) -> Result<(), Fail> {
     for (proof, fuel, status, line) in PROOFS {
-        verdict(&rt, &stage(OPEN, &STATE, proof), fuel, status, line)?;
+        let told = verdict(rt.alloc(), &stage(OPEN, &STATE, proof), fuel)?;
+        assert!(rt; told.is(status, line), "{line}");
     }
     Ok(())
 }
@@ -51,7 +52,8 @@ fn reads_of_few_bytes_change_nothing(rt: HostRuntime) -> Result<(), Fail> {
                 proof,
                 most_read,
             };
-            verdict(&rt, &stage, fuel, status, line)?;
+            let told = verdict(rt.alloc(), &stage, fuel)?;
+            assert!(rt; told.is(status, line), "{line}");
         }
     }
     Ok(())
@@ -67,10 +69,13 @@ fn nested_states_are_opened(rt: HostRuntime) -> Result<(), Fail> {
         0x94, 0x56,
     ];
     let proof = b"LAP1\0\0\0\0\0\0\x20\xe3\xb0\xc4\x42\x98\xfc\x1c\x14\x9a\xfb\xf4\xc8\x99\x6f\xb9\x24\x27\xae\x41\xe4\x64\x9b\x93\x4c\xa4\x95\x99\x1b\x78\x52\xb8\x55\0\0\0\0\0";
-    verdict(&rt, &stage(program, &state, proof), "1", 0, "done ()\n")?;
+    let told_deep = verdict(rt.alloc(), &stage(program, &state, proof), "1")?;
+    assert!(rt; told_deep.is(0, "done ()\n"));
     let words = ["verify", "p", "top", "s", " ( ) # the argument", "1", "q"];
     let line = "done #e3b0c44298fc1c149afbf4c8996fb92427ae41e4649b934ca495991b7852b855\n";
-    crate::stage::tells(&rt, &stage(program, &state, &proof[..43]), &words, 0, line)
+    let told_top = told(rt.alloc(), &stage(program, &state, &proof[..43]), &words)?;
+    assert!(rt; told_top.is(0, line));
+    Ok(())
 }
 
 #[test]
