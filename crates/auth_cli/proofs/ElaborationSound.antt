@@ -85,7 +85,8 @@ module _ (P : Program) where
       let typed = subst (λ t. has_type P (parameter_types f.parameters) body.0.expression t ≡ true) (same_sound body.0.of_type (type_meant f.result_type) made.0) (expression_typed f.parameters f.body body.0 body.1) in
       subst (λ (g : tree.Function). has_type P g.parameters g.body g.result ≡ true) (some_is _ g made.1) typed
 
-  all_are_typed : (fs : List FunctionSyntax) (gs : List tree.Function) → elaborated_functions fs ≡ Some gs → all_typed P gs ≡ true
+  -- each function's body has its type
+  pub all_are_typed : (fs : List FunctionSyntax) (gs : List tree.Function) → elaborated_functions fs ≡ Some gs → all_typed P gs ≡ true
   all_are_typed [] gs is = let none : [] ≡ gs = cc in subst (λ gs. all_typed P gs ≡ true) none refl
   all_are_typed (f ∷ fs) gs is =
       let first = and_then_some (elaborated_function f) (λ g. option_map (λ gs. g ∷ gs) (elaborated_functions fs)) gs is in

@@ -1,3 +1,8 @@
+pub mod Checking
+pub mod CheckedFunctions
+pub mod Declarations
+pub mod Elaborated
+pub mod CheckedPrograms
 pub mod Offers
 pub mod ReadShallow
 pub mod Opening

@@ -1,5 +1,5 @@
 -- The typing of a program of the fragment, on its syntax tree, and the program that it gives.
-use Rattle.std.specs.Prelude.{◌≡◌, ℕ, suc, Bool, true, false, ◌&&◌, ◌||◌, not, List, [], ◌∷◌, length, map, Option, Some, None, option_map, slice_index_or, bytes_eq, nat_le, if◌then◌else◌}
+use Rattle.std.specs.Prelude.{ℕ, suc, Bool, true, false, ◌&&◌, ◌||◌, not, List, [], ◌∷◌, length, map, Option, Some, None, option_map, slice_index_or, bytes_eq, nat_le, if◌then◌else◌}
 use Rattle.std.specs.Option.{option_and_then}
 use Rattle.core_terms.specs.Types.{Ty, UnitTy, AuthTy}
 use Rattle.core_terms.specs.Terms.{Expression, UnitE, LocalE, AuthE, UnauthE, Kind, Init, Query}

@@ -1,4 +1,5 @@
 pub mod Elaboration
+pub mod Checking
 pub mod Verdicts
 pub mod Pieces
 pub mod Shallow
