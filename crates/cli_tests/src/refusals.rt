@@ -86,7 +86,7 @@ fn programs_are_taken(rt: HostRuntime) -> Result<(), Fail> {
         b"# \xff\xfe\"\nstate\tauth\r\nunit;query open(s:auth unit,x:unit):unit=unauth(s);#",
         b"state auth unit; query open(s: auth unit, x: unit): unit = unauth(s); # no newline",
         b"state auth unit; query open(x: auth unit, s: unit): unit = unauth(x);",
-        b"state auth unit; query open(s_1A: auth unit, x: unit): unit = unauth(auth(unauth(s_1A)));",
+        b"state auth unit; query open(s_1A: auth unit, x: unit): unit = unauth(s_1A);",
         b"state auth unit; query a234567890123456789012345678901234567890123456789012345678901234(s: auth unit, x: unit): unit = (); query open(s: auth unit, x: unit): unit = unauth(s);",
     ];
     for program in programs {
