@@ -1,14 +1,12 @@
 // The type checker: from the tree of a program to its terms.
-ghost use Rattle.std.specs.Prelude.{◌≡◌, ◌<◌, ◌≤◌, ◌+◌, ◌∷◌, [], ℕ, List, Some, length, map, IfOk, slice_get, bytes_eq, not};
+ghost use Rattle.std.specs.Prelude.{◌≡◌, ◌<◌, ◌≤◌, [], Some, length, map, IfOk, slice_get, bytes_eq, not};
 ghost use Rattle.std.specs.List.{list_any, position};
 ghost use Rattle.core_terms.specs.Programs.{meaning, types_in};
 ghost use Rattle.core_terms.specs.ProgramTrees.{function_of, kind_of};
 ghost use Rattle.core_terms.specs.Roles.{has_auth};
-ghost use Rattle.core_terms.specs.TypeTables.{type_at};
-ghost use Rattle.core_terms.specs.Types.{Ty};
-ghost use Rattle.core_terms.specs.Typing.{is_shaped, is_typed, same_type};
+ghost use Rattle.core_terms.specs.Typing.{same_type};
 ghost use Rattle.auth_syntax.specs.Trees as written;
-ghost use Rattle.auth_cli.specs.Elaboration.{Elaborated, authenticated, elaborated, elaborated_expression, elaborated_function, elaborated_functions, functions, kind_meant, names_differ, only_state, opened, parameter_types, place_of, program_of_text, states, type_meant};
+ghost use Rattle.auth_cli.specs.Elaboration.{Elaborated, authenticated, elaborated, elaborated_expression, elaborated_function, elaborated_functions, kind_meant, names_differ, opened, parameter_types, program_of_text, type_meant};
 ghost use Rattle.auth_cli.specs.ReadPrograms.{ReadsProgram};
 ghost use Rattle.auth_cli.specs.Checking.{AreNumbers, Finds, FindsOver, Grows, StandsFor, are_locals, are_shaped_functions, functions_of, has_shape, have_shapes, parameters_of, parts, parts_of, typed_of};
 
@@ -19,9 +17,10 @@ use auth_syntax::tree::{self, Ast, Declaration, ExpTree, FunctionKind, Parameter
 use core_terms::{Function, Kind, LocalId, Program, Term, TyForm, TyId, TyTable};
 use std::alloc::{AllocError, AllocFailed, Global};
 
-// How many functions a program has at most, and how many parameters a function.
+// How many functions a program has at most.
 const MOST_FUNCTIONS: usize = 1024;
 
+// How many parameters a function has at most.
 const MOST_PARAMETERS: usize = 8;
 
 /// Why a tree gives no program.
