@@ -42,6 +42,7 @@ query_parts P name f is = by (role_named P name) refl is
     kind_is Inner i e = absurd (cc)
     kind_is Init i e = absurd (cc)
     kind_is Update i e = absurd (cc)
+
     by : (found : Option ℕ) → role_named P name ≡ found → option_and_then (query_at P) found ≡ Some f → (f < length P.functions) × ((function_at P f).kind ≡ Query)
     by None found e = absurd (cc)
     by (Some i) found e =

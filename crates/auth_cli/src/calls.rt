@@ -6,11 +6,11 @@ ghost use Rattle.auth_cli.specs.Answer.{is_state, with_call, with_program_file, 
 ghost use Rattle.auth_cli.specs.Calls.{IsQueryCall, call_of};
 ghost use Rattle.auth_cli.specs.Halting.{GoesOn, HaltCause};
 
+use crate::Halt;
 use crate::arguments::{query_named, read_argument, read_fuel};
 use crate::check::{ProgramFault, read_program};
 use crate::reading::is_spelling;
 use crate::report::load;
-use crate::Halt;
 use core_terms::{FunctionId, Program, Spelling};
 use lam_outside::Files;
 use std::alloc::Global;
@@ -72,11 +72,7 @@ pub fn read_call<F: Files>(
 }
 
 /// The program in a file.
-fn read_program_file<F: Files>(
-    alloc: Global,
-    files: &mut F,
-    name: &str,
-) -> Result<Program, Halt>
+fn read_program_file<F: Files>(alloc: Global, files: &mut F, name: &str) -> Result<Program, Halt>
     ensures goes { ForSome (F.contents files.old) (λ told. GoesOn (with_program_file (told name.now)) meaning result) }
     ensures cause { HaltCause (F.faults files.old) (F.faults files.new) result }
     ensures contents { F.contents files.new ≡ F.contents files.old }

@@ -93,12 +93,7 @@ impl Halt {
 }
 
 /// The bytes of a file that an argument names, at most `max` of them.
-pub fn load<F: Files>(
-    alloc: Global,
-    files: &mut F,
-    name: &str,
-    max: usize,
-) -> Result<Vec<u8>, Halt>
+pub fn load<F: Files>(alloc: Global, files: &mut F, name: &str, max: usize) -> Result<Vec<u8>, Halt>
     ensures goes { ForSome (F.contents files.old) (λ told. GoesOn (with_file max (told name.now)) (λ bytes. bytes.items) result) }
     ensures fits { IfOk result (λ bytes. length bytes.items ≤ max) }
     ensures cause { HaltCause (F.faults files.old) (F.faults files.new) result }

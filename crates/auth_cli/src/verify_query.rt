@@ -111,7 +111,10 @@ fn report_of(
 {
     let (ending, line) = match outcome {
         Outcome::Done(value) => (Ending::Done, done_line(alloc, program, ty, &value)?),
-        Outcome::Trapped(trap) => (Ending::Trap, Vec::from_slice(alloc, trap_line(trap).as_bytes())?),
+        Outcome::Trapped(trap) => (
+            Ending::Trap,
+            Vec::from_slice(alloc, trap_line(trap).as_bytes())?,
+        ),
         Outcome::Out => (Ending::OutOfFuel, Vec::from_slice(alloc, b"out of fuel\n")?),
     };
     Ok(Report { ending, line })
