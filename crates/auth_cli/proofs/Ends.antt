@@ -1,5 +1,5 @@
 -- From what was found, and how it was told, to how the run ends.
-use Rattle.std.proofs.Common.{◌≡◌, ℕ, List, [], ◌∷◌, take, Option, Some, None, Ok, Err, refl, ap, sym, ◌∙◌, inl, inr}
+use Rattle.std.proofs.Common.{◌≡◌, ℕ, List, [], ◌∷◌, Option, Some, None, Ok, Err, refl, ap, sym, ◌∙◌, inl, inr}
 use Rattle.std.specs.List.{concat}
 use Rattle.std.specs.Option.{ForSome}
 use Rattle.std.specs.Io.KnownBytes.{append_known}
@@ -14,7 +14,6 @@ use Rattle.auth_cli.specs.declared.report.Ending.{Ending}
 use Rattle.auth_cli.specs.declared.report.Ending.TheVariants as ending
 use Rattle.auth_cli.specs.declared.report.Halt.TheVariants.{Usage, ProgramRefused, InputRefused, Rejected, ReadFault, NoMemory}
 use Rattle.auth_cli.specs.declared.status.Status.{Status}
-use Rattle.auth_cli.specs.declared.status.Status.TheVariants as status
 
 -- nothing was handed to `store`
 adds_none : (old new : Option Stores) → new ≡ old → AddsStores old new []

@@ -1,5 +1,5 @@
 -- Programs of a text are well-typed, and their queries are roles.
-use Rattle.std.proofs.Common.{◌≡◌, ℕ, ◌<◌, List, [], drop, length, Some, Option, None, cond, true, slice_get, refl, ap, sym, ◌∙◌, subst, lit<}
+use Rattle.std.proofs.Common.{◌≡◌, ℕ, ◌<◌, List, [], drop, length, Some, Option, None, cond, slice_get, refl, ap, sym, ◌∙◌, subst, lit<}
 use Rattle.std.specs.Option.{option_and_then}
 use Rattle.std.proofs.lemmas.Option.{slice_get-get_or, unwrap_or-slice_get}
 use Rattle.sha2.specs.Sha256.{sha256}
