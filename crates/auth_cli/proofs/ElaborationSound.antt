@@ -1,9 +1,8 @@
 -- A program that is elaborated is well-typed, has the first format, and its roles have their shapes.
-use Rattle.std.proofs.Common.{◌≡◌, ℕ, suc, ◌<◌, Bool, true, false, ◌&&◌, List, [], ◌∷◌, length, map, Option, Some, None, option_map, cond, refl, ap, sym, ◌∙◌, subst, bytes_eq, slice_get, slice_index_or, arith}
+use Rattle.std.proofs.Common.{◌≡◌, ℕ, ◌<◌, Bool, true, false, ◌&&◌, List, [], ◌∷◌, length, map, Option, Some, None, option_map, cond, refl, subst, slice_get, slice_index_or}
 use Rattle.std.specs.Prelude.{nat_le}
 use Rattle.std.specs.Option.{option_and_then}
 use Rattle.std.proofs.lemmas.Option.{slice_get-get_or}
-use Rattle.std.proofs.lemmas.List.{length-map}
 use Rattle.core_terms.specs.Types.{Ty, UnitTy, BoolTy, IntTy, TextTy, PairTy, NamedTy, AuthTy}
 use Rattle.core_terms.specs.Terms.{Expression, Program}
 use Rattle.core_terms.specs.Terms as tree
@@ -12,8 +11,8 @@ use Rattle.core_terms.proofs.TypingSound.{same_sound}
 use Rattle.core_terms.proofs.TypingComplete.{same_self}
 use Rattle.core_terms.specs.ProgramTrees.{program_format}
 use Rattle.auth_syntax.specs.Syntax.{ExpSyntax, UnitSyntax, LocalSyntax, AuthSyntax, UnauthSyntax, ParameterSyntax, FunctionSyntax}
-use Rattle.auth_syntax.specs.Syntax as syntax
 use Rattle.auth_syntax.specs.Parsing.{parsed}
+use Rattle.auth_cli.proofs.Checking.{place_inside}
 use Rattle.auth_cli.specs.Elaboration.{Elaborated, authenticated, elaborated, elaborated_expression, elaborated_function, elaborated_functions, functions, local_at, names_differ, only_state, opened, opened_at, parameter_types, place_of, program_of_parts, program_of_text, shaped, states, type_meant, with_body}
 
 -- what a step was given, where it gives something
@@ -32,23 +31,14 @@ if_some false found b is = absurd (cc)
 some_is : {A : Type 0} (a b : A) → Some a ≡ Some b → a ≡ b
 some_is a b same = cc
 
--- a name's place is among the parameters
-place_within : (name : List ℕ) (ps : List ParameterSyntax) (i : ℕ) → place_of name ps ≡ Some i → i < length ps
-place_within name [] i is = absurd (cc)
-place_within name (p ∷ ps) i is = by (bytes_eq p.name name) (place_of name ps) (λ j found. place_within name ps j found) is
-  where
-    by : (test : Bool) (rest : Option ℕ) → ((j : ℕ) → rest ≡ Some j → j < length ps) → cond test (Some 0) (option_map suc rest) ≡ Some i → i < suc (length ps)
-    by true rest within is = let here : 0 ≡ i = cc in omega arith
-    by false None within is = absurd (cc)
-    by false (Some j) within is = let behind : suc j ≡ i = cc in let inside : j < length ps = within j refl in omega arith
-
 module _ (P : Program) where
-  local_typed : (ps : List ParameterSyntax) (i : ℕ) → i < length ps → is_at (slice_get (parameter_types ps) i) (slice_index_or (parameter_types ps) i UnitTy) ≡ true
+  -- a local has the type of its parameter
+  local_typed : (ps : List ParameterSyntax) (i : ℕ) → i < length (parameter_types ps) → is_at (slice_get (parameter_types ps) i) (slice_index_or (parameter_types ps) i UnitTy) ≡ true
   local_typed ps i inside =
       let types = parameter_types ps in
-      let within : i < length types = rw length-map inside in
-      rw (slice_get-get_or types i UnitTy within) (same_self (slice_index_or types i UnitTy))
+      rw (slice_get-get_or types i UnitTy inside) (same_self (slice_index_or types i UnitTy))
 
+  -- what `unauth` opens has its type
   opened_typed : (env : List Ty) (e : Expression) (t : Ty) (found : Elaborated) → has_type P env e t ≡ true → opened_at e t ≡ Some found → has_type P env found.expression found.of_type ≡ true
   opened_typed env e (AuthTy t) found typed is =
       let same : record { expression = tree.UnauthE t e; of_type = t } ≡ found = cc in
@@ -67,7 +57,7 @@ module _ (P : Program) where
       subst (λ (f : Elaborated). has_type P (parameter_types ps) f.expression f.of_type ≡ true) same refl
   expression_typed ps (LocalSyntax name) e is =
       let place = map_some (place_of name ps) (local_at ps) e is in
-      subst (λ (f : Elaborated). has_type P (parameter_types ps) f.expression f.of_type ≡ true) place.2 (local_typed ps place.0 (place_within name ps place.0 place.1))
+      subst (λ (f : Elaborated). has_type P (parameter_types ps) f.expression f.of_type ≡ true) place.2 (local_typed ps place.0 (place_inside name ps place.0 place.1))
   expression_typed ps (AuthSyntax x) e is =
       let inner = map_some (elaborated_expression ps x) authenticated e is in
       let typed = expression_typed ps x inner.0 inner.1 in

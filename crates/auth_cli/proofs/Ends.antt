@@ -1,5 +1,5 @@
 -- From what was found, and how it was told, to how the run ends.
-use Rattle.std.proofs.Common.{◌≡◌, ℕ, List, [], ◌∷◌, take, Option, Some, None, Ok, Err, refl, ap, sym, ◌∙◌, inl, inr}
+use Rattle.std.proofs.Common.{◌≡◌, ℕ, List, [], ◌∷◌, Option, Some, None, Ok, Err, refl, ap, sym, ◌∙◌, inl, inr}
 use Rattle.std.specs.List.{concat}
 use Rattle.std.specs.Option.{ForSome}
 use Rattle.std.specs.Io.KnownBytes.{append_known}
@@ -14,7 +14,6 @@ use Rattle.auth_cli.specs.declared.report.Ending.{Ending}
 use Rattle.auth_cli.specs.declared.report.Ending.TheVariants as ending
 use Rattle.auth_cli.specs.declared.report.Halt.TheVariants.{Usage, ProgramRefused, InputRefused, Rejected, ReadFault, NoMemory}
 use Rattle.auth_cli.specs.declared.status.Status.{Status}
-use Rattle.auth_cli.specs.declared.status.Status.TheVariants as status
 
 -- nothing was handed to `store`
 adds_none : (old new : Option Stores) → new ≡ old → AddsStores old new []
@@ -35,6 +34,7 @@ line_told : (answer : Option Answer) (old new : Outside) (status : Status) (line
 line_told answer old new status line is written same =
     rw is (refl, rw (one_line line) written, adds_none old.stores new.stores same)
 
+-- the line of an answer of one line
 line_is : (answer : Option Answer) (status : Status) (line : List ℕ) → answer ≡ Some (says status line) → line ≡ concat (lines_of answer)
 line_is answer status line is = rw (is, one_line line) refl
 
@@ -53,6 +53,7 @@ module _ (answer : Contents → Option Answer) (old new : Outside) where
     writes = writes;
   }
 
+  -- an outcome was told
   report_ends : (e : Ending) (line : List ℕ) → ForSome old.contents (λ files. answer files ≡ Some (says (ending_status e) line))
       → new.written ≡ append_known old.written line → new.stores ≡ old.stores
       → new.read_faults ≡ old.read_faults → new.store_faults ≡ old.store_faults → new.write_faults ≡ old.write_faults → EndsAs answer old new (ending_status e)

@@ -1,17 +1,16 @@
 -- Where an answer tells an outcome, each of its steps went on.
 use Rattle.std.proofs.Common.{◌≡◌, ℕ, Bool, true, false, List, [], ◌∷◌, length, codes, cond, Option, Some, None, refl, ap, ◌∙◌, subst}
-use Rattle.std.specs.Prelude.{nat_le, if◌then◌else◌}
+use Rattle.std.specs.Prelude.{nat_le}
 use Rattle.std.specs.List.{list_any}
 use Rattle.lam_outside.specs.Told.{Contents}
 use Rattle.core_terms.specs.Terms.{Program}
 use Rattle.ideal_meaning.specs.Ideal.{Outcome}
 use Rattle.ideal_meaning.specs.Checked.{Verdict, BadState, BadArgument, Rejected, Accepted}
-use Rattle.auth_cli.specs.Answer.{Answer, Call, answer, call_verdict, command_answer, input_refused, is_state, judged_answer, max_file, outcome_answer, usage_answer, verdict_answer, verify_answer, with_file, with_input, with_program}
+use Rattle.auth_cli.specs.Answer.{Answer, Call, answer, call_verdict, command_answer, input_refused, is_state, judged_answer, verdict_answer, with_file, with_input, with_program}
 use Rattle.auth_cli.specs.Arguments.{query_named, fuel_of, argument_spelling}
 use Rattle.auth_cli.specs.Elaboration.{program_of_text}
 use Rattle.auth_cli.specs.Verdicts.{argument_type}
 use Rattle.auth_cli.specs.Words.{is_refused}
-use Rattle.auth_cli.specs.declared.words.Command.{Command}
 use Rattle.auth_cli.specs.declared.words.Command.TheVariants.{Verify}
 use Rattle.auth_cli.specs.declared.status.Status.{Status}
 use Rattle.auth_cli.specs.declared.status.Status.TheVariants as status

@@ -1,6 +1,6 @@
 -- A query that is found by its name.
-use Rattle.std.proofs.Common.{◌≡◌, ℕ, suc, ◌+◌, ◌<◌, Bool, true, false, ◌&&◌, List, [], ◌∷◌, length, Option, Some, None, option_map, bytes_eq, cond, refl, arith}
-use Rattle.core_terms.specs.Terms.{Function, Program, function_at}
+use Rattle.std.proofs.Common.{◌≡◌, ℕ, suc, ◌<◌, Bool, true, false, ◌&&◌, List, [], ◌∷◌, length, Option, Some, None, option_map, bytes_eq, cond, refl, arith}
+use Rattle.core_terms.specs.Terms.{Function, Program}
 use Rattle.core_terms.specs.Roles.{is_entered, role_among, role_named}
 
 -- the place found at the head or behind it is in the list

@@ -1,27 +1,23 @@
 -- The headline of a run, from the definitions.
-use Rattle.std.proofs.Common.{◌≡◌, ◌⊎◌, ℕ, List, Option, Some, None, refl, ap, sym, ◌∙◌, subst, inl, inr, arith}
+use Rattle.std.proofs.Common.{◌≡◌, ℕ, List, Option, Some, None, ap, sym, ◌∙◌, subst, inl, inr, arith}
 use Rattle.std.specs.List.{concat}
 use Rattle.std.specs.Option.{ForSome}
 use Rattle.std.specs.Io.KnownBytes.{append_known}
 use Rattle.sha2.specs.Sha256.{sha256}
-use Rattle.sha2.proofs.Facts256.{length-sha256}
 use Rattle.lam_outside.specs.Told.{Contents}
-use Rattle.core_terms.specs.Values.{Value}
 use Rattle.core_terms.specs.Spelling.{spelling}
-use Rattle.core_terms.specs.Terms.{Program, Query, function_at}
 use Rattle.core_terms.specs.Projection.{projection}
 use Rattle.ideal_meaning.specs.Ideal.{Outcome}
 use Rattle.ideal_meaning.specs.Checked.{Accepted}
 use Rattle.ideal_meaning.specs.Checked as checked
-use Rattle.ideal_meaning.proofs.Headline.{headline}
 use Rattle.auth_cli.specs.Answer.{Answer, answer, call_verdict, outcome_answer, verdict_answer}
 use Rattle.auth_cli.specs.Codes.{code}
 use Rattle.auth_cli.specs.Ending.{Outside, EndsAs, IsToldAs}
-use Rattle.auth_cli.specs.TrueLines.{Calls, IsTrueLine, TellsOutcome}
+use Rattle.auth_cli.specs.TrueLines.{IsTrueLine, TellsOutcome}
 use Rattle.auth_cli.specs.Verdicts.{argument_type}
 use Rattle.auth_cli.specs.declared.status.Status.{Status}
 use Rattle.auth_cli.specs.declared.status.Status.TheVariants.{Done, Usage, Trap, OutOfFuel, Rejected, ProgramRefused, InputRefused, ReadFault, WriteFault, NoMemory}
-use Rattle.auth_cli.proofs.Leading.{IsOutcome, HasOutcome, meant_call, line_leads, accepted}
+use Rattle.auth_cli.proofs.Leading.{IsOutcome, HasOutcome, line_leads, accepted}
 use Rattle.auth_cli.proofs.TextPrograms.{text_headline}
 
 -- an answer that was told with the status of an outcome tells an outcome

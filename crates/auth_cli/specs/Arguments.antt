@@ -1,10 +1,10 @@
 -- The arguments of a command that are no names of files: a role, a number and a literal.
-use Rattle.std.specs.Prelude.{ℕ, ◌^◌, List, [], length, nat_le, Bool, true, false, ◌&&◌, Option, Some, None, if◌then◌else◌}
+use Rattle.std.specs.Prelude.{ℕ, List, [], length, nat_le, Bool, true, false, ◌&&◌, Option, Some, None, if◌then◌else◌}
 use Rattle.std.specs.Option.{option_and_then}
 use Rattle.std.specs.Str.{all_ascii_digits}
 use Rattle.std.specs.Str.Parse.{digits_value}
 use Rattle.core_terms.specs.Types.{Ty, UnitTy}
-use Rattle.core_terms.specs.Terms.{Kind, Inner, Init, Query, Update, Program, function_at}
+use Rattle.core_terms.specs.Terms.{Kind, Query, Program, function_at}
 use Rattle.core_terms.specs.Roles.{role_named}
 use Rattle.auth_syntax.specs.Syntax.{LiteralSyntax, UnitLiteralSyntax}
 use Rattle.auth_syntax.specs.Parsing.{literal}

@@ -1,4 +1,4 @@
-use Rattle.std.proofs.Common.{◌≡◌, true, false, ap, sym, ◌∙◌, if◌then◌else◌, Some}
+use Rattle.std.proofs.Common.{ap, sym, ◌∙◌, if◌then◌else◌, Some}
 use Rattle.std.proofs.lemmas.Result.{err_from_is_err_and}
 use Rattle.core_terms.specs.Programs.{meaning}
 use Rattle.auth_cli.specs.Answer.{max_file, input_refused, is_state, with_file}
