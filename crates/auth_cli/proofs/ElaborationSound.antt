@@ -12,8 +12,8 @@ use Rattle.core_terms.proofs.TypingComplete.{same_self}
 use Rattle.core_terms.specs.ProgramTrees.{program_format}
 use Rattle.auth_syntax.specs.Syntax.{ExpSyntax, UnitSyntax, LocalSyntax, AuthSyntax, UnauthSyntax, ParameterSyntax, FunctionSyntax}
 use Rattle.auth_syntax.specs.Parsing.{parsed}
-use Rattle.auth_cli.specs.Elaboration.{Elaborated, authenticated, elaborated, elaborated_expression, elaborated_function, elaborated_functions, functions, local_at, names_differ, only_state, opened, opened_at, parameter_types, place_of, program_of_parts, program_of_text, shaped, states, type_meant, with_body}
 use Rattle.auth_cli.proofs.Checking.{place_inside}
+use Rattle.auth_cli.specs.Elaboration.{Elaborated, authenticated, elaborated, elaborated_expression, elaborated_function, elaborated_functions, functions, local_at, names_differ, only_state, opened, opened_at, parameter_types, place_of, program_of_parts, program_of_text, shaped, states, type_meant, with_body}
 
 -- what a step was given, where it gives something
 and_then_some : {A B : Type 0} (o : Option A) (go : A → Option B) (b : B) → option_and_then go o ≡ Some b → (a : A) × (o ≡ Some a) × (go a ≡ Some b)
@@ -32,11 +32,13 @@ some_is : {A : Type 0} (a b : A) → Some a ≡ Some b → a ≡ b
 some_is a b same = cc
 
 module _ (P : Program) where
+  -- a local has the type of its parameter
   local_typed : (ps : List ParameterSyntax) (i : ℕ) → i < length (parameter_types ps) → is_at (slice_get (parameter_types ps) i) (slice_index_or (parameter_types ps) i UnitTy) ≡ true
   local_typed ps i inside =
       let types = parameter_types ps in
       rw (slice_get-get_or types i UnitTy inside) (same_self (slice_index_or types i UnitTy))
 
+  -- what `unauth` opens has its type
   opened_typed : (env : List Ty) (e : Expression) (t : Ty) (found : Elaborated) → has_type P env e t ≡ true → opened_at e t ≡ Some found → has_type P env found.expression found.of_type ≡ true
   opened_typed env e (AuthTy t) found typed is =
       let same : record { expression = tree.UnauthE t e; of_type = t } ≡ found = cc in

@@ -34,6 +34,7 @@ line_told : (answer : Option Answer) (old new : Outside) (status : Status) (line
 line_told answer old new status line is written same =
     rw is (refl, rw (one_line line) written, adds_none old.stores new.stores same)
 
+-- the line of an answer of one line
 line_is : (answer : Option Answer) (status : Status) (line : List ℕ) → answer ≡ Some (says status line) → line ≡ concat (lines_of answer)
 line_is answer status line is = rw (is, one_line line) refl
 
@@ -52,6 +53,7 @@ module _ (answer : Contents → Option Answer) (old new : Outside) where
     writes = writes;
   }
 
+  -- an outcome was told
   report_ends : (e : Ending) (line : List ℕ) → ForSome old.contents (λ files. answer files ≡ Some (says (ending_status e) line))
       → new.written ≡ append_known old.written line → new.stores ≡ old.stores
       → new.read_faults ≡ old.read_faults → new.store_faults ≡ old.store_faults → new.write_faults ≡ old.write_faults → EndsAs answer old new (ending_status e)

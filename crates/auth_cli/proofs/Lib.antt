@@ -20,4 +20,4 @@ pub mod Queries
 pub mod Steps
 pub mod TextPrograms
 pub mod TrueLine
-pub mod WordLists
+pub mod CommandLine

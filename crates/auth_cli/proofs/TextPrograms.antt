@@ -1,13 +1,12 @@
 -- Programs of a text are well-typed, and their queries are roles.
-use Rattle.std.proofs.Common.{◌≡◌, ℕ, ◌<◌, List, [], drop, length, Some, Option, None, cond, slice_get, refl, ap, sym, ◌∙◌, subst, lit<}
+use Rattle.std.proofs.Common.{◌≡◌, ℕ, ◌<◌, List, [], drop, length, Some, Option, None, cond, refl, sym, subst, lit<}
 use Rattle.std.specs.Option.{option_and_then}
-use Rattle.std.proofs.lemmas.Option.{slice_get-get_or, unwrap_or-slice_get}
 use Rattle.sha2.specs.Sha256.{sha256}
 use Rattle.sha2.proofs.Facts256.{length-sha256}
 use Rattle.core_terms.specs.Formats.{IsFormat}
 use Rattle.core_terms.specs.Values.{Value, IsIdeal}
 use Rattle.core_terms.specs.Spelling.{spelling}
-use Rattle.core_terms.specs.Terms.{Kind, Inner, Init, Query, Update, Program, IsTyped, function_at, no_function}
+use Rattle.core_terms.specs.Terms.{Kind, Inner, Init, Query, Update, Program, IsTyped, function_at}
 use Rattle.core_terms.specs.Roles.{IsRole, role_named}
 use Rattle.core_terms.specs.Projection.{projection}
 use Rattle.ideal_meaning.specs.Ideal.{Outcome}
@@ -22,16 +21,15 @@ use Rattle.auth_cli.specs.Elaboration.{program_of_text}
 use Rattle.auth_cli.specs.Verdicts.{argument_type}
 use Rattle.auth_cli.proofs.ElaborationSound.{text_is_sound}
 use Rattle.auth_cli.proofs.Queries.{role_within}
-use Rattle.auth_cli.proofs.RoleOf.{own_role}
+use Rattle.auth_cli.proofs.RoleOf.{own_role, there}
 
+-- it is well-typed
 text_is_typed : (text : List ℕ) (P : Program) → program_of_text text ≡ Some P → IsTyped P
 text_is_typed text P is = (typing_test_is_exact P).0 (text_is_sound text P is).0
 
+-- its format is one that the laws speak of
 text_is_format : (text : List ℕ) (P : Program) → program_of_text text ≡ Some P → IsFormat P.format
 text_is_format text P is = subst IsFormat (sym (text_is_sound text P is).2) (first_format_is_format 0 (lit< tt))
-
-there : (P : Program) (f : ℕ) → f < length P.functions → slice_get P.functions f ≡ Some (function_at P f)
-there P f inside = slice_get-get_or P.functions f no_function inside ∙ ap Some (sym (unwrap_or-slice_get P.functions f no_function))
 
 -- a role that is a query is found by its name
 query_parts : (P : Program) (name : List ℕ) (f : ℕ) → query_named P name ≡ Some f → (f < length P.functions) × ((function_at P f).kind ≡ Query)

@@ -19,6 +19,7 @@ use Rattle.auth_cli.specs.declared.words.Command.TheVariants.{Verify}
 use Rattle.auth_cli.specs.declared.status.Status.{Status}
 use Rattle.auth_cli.specs.declared.status.Status.TheVariants.{Done, Usage, Trap, OutOfFuel, Rejected, ProgramRefused, InputRefused}
 
+-- what a run answers
 pub record Answer : Type 0 where
   pub status : Status
   pub lines : List (List ℕ)
@@ -28,12 +29,15 @@ pub record Answer : Type 0 where
 abbrev pub says : Status → List ℕ → Answer
 says status line = record { status = status; lines = line ∷ []; stored = [] }
 
+-- what is answered to words that call no command
 abbrev pub usage_answer : Answer
 usage_answer = says Usage (codes "usage: lamauth COMMAND ARGUMENTS\n")
 
+-- what is answered to a text that is no program
 abbrev pub program_refused : Answer
 program_refused = says ProgramRefused (codes "program refused\n")
 
+-- what is answered to a file that is too long, and to a role, a number, a state or an argument that is refused
 abbrev pub input_refused : Answer
 input_refused = says InputRefused (codes "input refused\n")
 
@@ -49,6 +53,7 @@ trap_name run.DivZero = codes "divzero"
 trap_name run.TooBig = codes "toobig"
 trap_name run.TooDeep = codes "toodeep"
 
+-- what is answered for an outcome, and for a verdict
 abbrev pub outcome_answer : ideal.Outcome → Answer
 outcome_answer (ideal.Done v) = says Done (codes "done " ++ value_text v ++ codes "\n")
 outcome_answer (ideal.Trapped trap) = says Trap (codes "trap " ++ trap_name trap ++ codes "\n")

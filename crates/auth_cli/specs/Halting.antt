@@ -14,6 +14,7 @@ use Rattle.auth_cli.specs.declared.status.Status.TheVariants as status
 abbrev pub Found : Type 0
 Found = Result Report Halt
 
+-- the statuses that are meant, and the lines
 abbrev pub ending_status : Ending → Status
 ending_status ending.Done = status.Done
 ending_status ending.Trap = status.Trap
@@ -35,6 +36,7 @@ halt_line Rejected = codes "rejected\n"
 halt_line ReadFault = codes "read fault\n"
 halt_line NoMemory = codes "no memory\n"
 
+-- the status and the line of what was found
 abbrev pub status_of : Found → Status
 status_of (Ok report) = ending_status report.ending
 status_of (Err halt) = halt_status halt

@@ -12,5 +12,6 @@ TellsText meant text ended old new before now =
     ((ended ≡ meant) × (new ≡ append_known old text) × (now ≡ before))
     ⊎ ((ended ≡ WriteFault) × ((n : ℕ) × (new ≡ append_known old (take n text))) × Rose before now)
 
+-- the same of what a command found
 abbrev pub Tells : Found → Status → Option (List ℕ) → Option (List ℕ) → ℕ → ℕ → Type 0
 Tells found = TellsText (status_of found) (line_of found)

@@ -19,7 +19,7 @@ use Rattle.auth_cli.specs.Verdicts.{argument_type}
 -- The words call `verify` on files and arguments that mean these: a query of a program with so much fuel, on an ideal state
 -- and an ideal argument. The state's file and the argument have no more than the spellings of their projections; the proof's
 -- file has any bytes.
-pub record Calls (line : List (List ℕ)) (files : Contents) (P : Program) (f k : ℕ) (state argument : Value) (proof : List ℕ) : Type 0 where
+pub record CallsVerify (line : List (List ℕ)) (files : Contents) (P : Program) (f k : ℕ) (state argument : Value) (proof : List ℕ) : Type 0 where
   pub name : List ℕ
   pub program_name : List ℕ
   pub role_name : List ℕ
@@ -48,7 +48,7 @@ TellsOutcome number = (number ≡ 0) ⊎ ((number ≡ 3) ⊎ (number ≡ 4))
 -- piece that differs from the honest one has its digest, and its place is named.
 abbrev pub IsTrueLine : List (List ℕ) → Contents → Option (List ℕ) → Option (List ℕ) → ℕ → Type 0
 IsTrueLine line files old new number =
-    (P : Program) (f k : ℕ) (state argument : Value) (proof : List ℕ) → Calls line files P f k state argument proof → TellsOutcome number
+    (P : Program) (f k : ℕ) (state argument : Value) (proof : List ℕ) → CallsVerify line files P f k state argument proof → TellsOutcome number
     → (o : Outcome) × (new ≡ append_known old (concat (outcome_answer o).lines))
     × ((n : ℕ) × (header P.format proof ≡ Some n)
     × TrueOrSplit sha256 P f (function_at P f).result (call_of state argument) k (offered_pieces (offered P.format.limit (drop 6 proof) n [])) o)

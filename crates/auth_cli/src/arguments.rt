@@ -25,6 +25,7 @@ pub fn query_named(program: &Program, name: &str) -> Option<FunctionId>
     }
 }
 
+/// The greatest amount of fuel.
 const MOST_FUEL: u64 = 1_000_000_000_000;
 
 /// The amount of fuel that a text of 1 to 20 decimal digits tells, where it is at most 10^12.
@@ -47,6 +48,7 @@ fn is_number(text: &str) -> bool
     !text.is_empty() && text.len() <= 20 && has_digits_alone(text)
 }
 
+/// Whether each byte of the text is a decimal digit.
 fn has_digits_alone(text: &str) -> bool
     ensures { result ≡ all_ascii_digits text.now }
 {
@@ -69,6 +71,7 @@ pub fn read_argument(
     spelling_at(alloc, program, parameters[1], text)
 }
 
+/// The same at any type.
 fn spelling_at(alloc: Global, program: &Program, ty: TyId, text: &str) -> Option<Spelling>
     ensures { result ≡ argument_spelling (type_at (types_of program.now) ty) text.now }
 {

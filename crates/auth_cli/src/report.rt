@@ -53,6 +53,7 @@ impl From<AllocError> for Halt {
 }
 
 impl Ending {
+    /// The status of a run that ends so.
     fn status(self) -> Status
         ensures { result ≡ ending_status self }
     {
@@ -65,6 +66,7 @@ impl Ending {
 }
 
 impl Halt {
+    /// The status of a run that is halted by it.
     fn status(self) -> Status
         ensures { result ≡ halt_status self }
     {
@@ -78,6 +80,7 @@ impl Halt {
         }
     }
 
+    /// The line that tells it.
     fn line(self) -> &'static str
         ensures { result.now ≡ halt_line self }
     {
@@ -121,6 +124,7 @@ pub fn tell<O: Sink>(out: &mut O, found: Result<Report, Halt>) -> Status
     }
 }
 
+/// Writes a text, and answers the status that is meant, or `WriteFault`.
 fn tell_text<O: Sink>(out: &mut O, status: Status, text: &[u8]) -> Status
     ensures { TellsText status text.now result (O.written out.old) (O.written out.new) (O.faults out.old) (O.faults out.new) }
 {

@@ -74,6 +74,7 @@ pub fn run<F: Files, O: Sink>(alloc: Global, words: &[&str], files: &mut F, out:
     ended(alloc, words, files, out).code()
 }
 
+/// Judges the words, and carries out the command that they call.
 #[tactic(auto, unfolding(crate::specs::Answer::answer))]
 fn ended<F: Files, O: Sink>(alloc: Global, words: &[&str], files: &mut F, out: &mut O) -> Status
     ensures { let seen = outside F.contents F.stores F.faults F.store_faults O.written O.faults in

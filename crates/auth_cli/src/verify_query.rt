@@ -77,13 +77,13 @@ fn judge(alloc: Global, call: &Call, proof: &[u8]) -> Result<Report, Halt>
             let ty = call.program.function(call.role).result;
             Ok(report_of(alloc, &call.program, ty, outcome)?)
         }
-        Err(Verdict::BadState) => Err(Halt::InputRefused),
-        Err(Verdict::BadArgument) => Err(Halt::InputRefused),
+        Err(Verdict::BadState | Verdict::BadArgument) => Err(Halt::InputRefused),
         Err(Verdict::Rejected) => Err(Halt::Rejected),
         Err(Verdict::NoMemory) => Err(Halt::NoMemory),
     }
 }
 
+/// The verifier's answer on a proof of a call.
 #[tactic(auto, unfolding(crate::specs::Answer::call_verdict))]
 fn verdict_of(alloc: Global, call: &Call, proof: &[u8]) -> Result<Outcome<Spelling>, Verdict>
     requires { IsQueryCall (call_of call.now) }
@@ -145,6 +145,7 @@ fn digest_line(alloc: Global, digest: &[u8]) -> Result<Vec<u8>, AllocError>
     Ok(line)
 }
 
+/// The line of a trap.
 fn trap_line(trap: Trap) -> &'static str
     ensures { result.now ≡ codes "trap " ++ trap_name (trap_of trap) ++ codes "\n" }
 {

@@ -29,6 +29,7 @@ impl Command {
         }
     }
 
+    /// The command of this name.
     fn named(name: &str) -> Option<Command>
         ensures { result ≡ command_named name.now }
     {

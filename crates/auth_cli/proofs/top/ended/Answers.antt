@@ -1,4 +1,4 @@
-use Rattle.auth_cli.proofs.WordLists.{verify_called}
+use Rattle.auth_cli.proofs.CommandLine.{verify_called}
 use Rattle.auth_cli.proofs.top.ended.Goals as goal
 
 pub returns-in-Some-Verify : goal.returns-in-Some-Verify

@@ -3,7 +3,7 @@ use Rattle.auth_cli.specs.Answer.{verify_answer}
 use Rattle.auth_cli.specs.Halting.{Finds}
 use Rattle.auth_cli.specs.Words.{texts}
 use Rattle.auth_cli.proofs.Ends.{ends_as}
-use Rattle.auth_cli.proofs.WordLists.{verify_words}
+use Rattle.auth_cli.proofs.CommandLine.{verify_words}
 use Rattle.auth_cli.proofs.verify_query.verify_command.Goals as goal
 
 pub returns : goal.returns

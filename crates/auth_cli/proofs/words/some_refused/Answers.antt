@@ -2,7 +2,7 @@ use Rattle.std.proofs.Common.{rules, tests, ◌∙◌, sym}
 use Rattle.std.proofs.lemmas.Iterator.{YieldsList-from_slice}
 use Rattle.std.proofs.lemmas.Iterator.Search.{any_from_yields_List}
 use Rattle.auth_cli.specs.Words.{is_refused}
-use Rattle.auth_cli.proofs.WordLists.{list_any_mapped}
+use Rattle.auth_cli.proofs.CommandLine.{list_any_mapped}
 use Rattle.auth_cli.proofs.words.some_refused.Goals as goal
 
 pub returns : goal.returns

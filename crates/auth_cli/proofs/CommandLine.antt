@@ -1,4 +1,4 @@
--- Lists of words.
+-- The words of a command line.
 use Rattle.std.proofs.Common.{◌≡◌, ℕ, List, [], ◌∷◌, length, get_or, Bool, ◌||◌, map, take, drop, ◌-◌, Some, Bor, refl, ap, sym, ◌∙◌, arith}
 use Rattle.std.specs.List.{list_any}
 use Rattle.std.proofs.lemmas.List.{take_rest}
