@@ -123,3 +123,24 @@ impl Sink for HostSink<'_> {
         }
     }
 }
+
+#[cfg(test)]
+mod tests {
+    use super::HostFiles;
+    use lam_outside::{Failed, Files, load_all};
+    use std::fs;
+    use std::test::Fail;
+
+    #[test]
+    fn what_is_stored_is_read(rt: HostRuntime) -> Result<(), Fail> {
+        let name = "/tmp/lamauth_stored_by_a_test";
+        let mut files = HostFiles::new(&rt);
+        assert!(rt; files.store(name, b"abc").is_ok());
+        let loaded = load_all(rt.alloc(), &mut files, name, 3);
+        assert!(rt; loaded.is_ok_and(|bytes| bytes.as_slice() == b"abc".as_slice()));
+        let _ = fs::remove_file(&rt, name);
+        assert!(rt; files.start(name) == Err(Failed));
+        assert!(rt; files.store("/no such folder/file", b"abc") == Err(Failed));
+        Ok(())
+    }
+}
