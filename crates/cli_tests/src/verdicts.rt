@@ -80,6 +80,23 @@ fn nested_states_are_opened(rt: HostRuntime) -> Result<(), Fail> {
     Ok(())
 }
 
+// The state is the digest of the byte 1, which is no spelling of a unit: the digests agree, and the piece is refused.
+#[test]
+fn a_piece_that_is_no_spelling_is_rejected(rt: HostRuntime) -> Result<(), Fail> {
+    let state = [
+        0x4b, 0xf5, 0x12, 0x2f, 0x34, 0x45, 0x54, 0xc5, 0x3b, 0xde, 0x2e, 0xbb, 0x8c, 0xd2, 0xb7,
+        0xe3, 0xd1, 0x60, 0x0a, 0xd6, 0x31, 0xc3, 0x85, 0xa5, 0xd7, 0xcc, 0xe2, 0x3c, 0x77, 0x85,
+        0x45, 0x9a,
+    ];
+    let told = verdict(
+        rt.alloc(),
+        &staged(OPEN, &state, b"LAP1\0\0\0\0\0\0\x01\x01"),
+        "1",
+    )?;
+    assert!(rt; told.is(5, "rejected\n"));
+    Ok(())
+}
+
 #[test]
 fn stops_at_a_failed_write(rt: HostRuntime) -> Result<(), Fail> {
     let alloc = rt.alloc();
