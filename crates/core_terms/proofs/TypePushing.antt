@@ -9,7 +9,7 @@ use Rattle.std.proofs.lemmas.Grind.{common_steps}
 use Rattle.core_terms.specs.Types.{Ty, UnitTy}
 use Rattle.core_terms.specs.TypeTables.{type_of_form, types_behind, types_of_forms, stands_behind, is_in_order, HasOneNumber}
 use Rattle.core_terms.specs.declared.types.TyForm.{TyForm}
-use Rattle.core_terms.specs.declared.types.TyForm.TheVariants.{UnitForm, AuthForm}
+use Rattle.core_terms.specs.declared.types.TyForm.TheVariants.{UnitForm, BoolForm, IntForm, TextForm, AuthForm}
 use Rattle.core_terms.proofs.TypeTables.{length-types_behind, form_means}
 use Rattle.core_terms.proofs.TypingSound.{first_of, second_of}
 use Rattle.core_terms.proofs.TypingComplete.{both}
@@ -35,8 +35,11 @@ in_order_push forms form h s = in_order-push 0 forms form h (subst (λ m. stands
 
 -- a form stands behind its parts wherever it stands behind fewer types
 stands_later : (m n : ℕ) (form : TyForm) → m ≤ n → stands_behind m form ≡ true → stands_behind n form ≡ true
-stands_later m n UnitForm h s = refl
 stands_later m n (AuthForm part) h s = lt-ltb part.0 n (omega (arith, h, ltb-true part.0 m s))
+stands_later m n UnitForm h s = refl
+stands_later m n BoolForm h s = refl
+stands_later m n IntForm h s = refl
+stands_later m n TextForm h s = refl
 
 stands_at : (n : ℕ) (forms : List TyForm) (i : ℕ) (form : TyForm) → is_in_order n forms ≡ true → slice_get forms i ≡ Some form → stands_behind (n + i) form ≡ true
 stands_at n [] i form h at = absurd (cc)
@@ -51,8 +54,29 @@ stands_at n (f ∷ fs) (suc i) form h at =
 -- two forms of one type are one, where types have one number
 one_form : (types : List Ty) → HasOneNumber types → (f g : TyForm) → stands_behind (length types) f ≡ true → stands_behind (length types) g ≡ true → type_of_form types f ≡ type_of_form types g → f ≡ g
 one_form types one UnitForm UnitForm s t e = refl
+one_form types one UnitForm BoolForm s t e = absurd (cc)
+one_form types one UnitForm IntForm s t e = absurd (cc)
+one_form types one UnitForm TextForm s t e = absurd (cc)
 one_form types one UnitForm (AuthForm q) s t e = absurd (cc)
+one_form types one BoolForm UnitForm s t e = absurd (cc)
+one_form types one BoolForm BoolForm s t e = refl
+one_form types one BoolForm IntForm s t e = absurd (cc)
+one_form types one BoolForm TextForm s t e = absurd (cc)
+one_form types one BoolForm (AuthForm q) s t e = absurd (cc)
+one_form types one IntForm UnitForm s t e = absurd (cc)
+one_form types one IntForm BoolForm s t e = absurd (cc)
+one_form types one IntForm IntForm s t e = refl
+one_form types one IntForm TextForm s t e = absurd (cc)
+one_form types one IntForm (AuthForm q) s t e = absurd (cc)
+one_form types one TextForm UnitForm s t e = absurd (cc)
+one_form types one TextForm BoolForm s t e = absurd (cc)
+one_form types one TextForm IntForm s t e = absurd (cc)
+one_form types one TextForm TextForm s t e = refl
+one_form types one TextForm (AuthForm q) s t e = absurd (cc)
 one_form types one (AuthForm p) UnitForm s t e = absurd (cc)
+one_form types one (AuthForm p) BoolForm s t e = absurd (cc)
+one_form types one (AuthForm p) IntForm s t e = absurd (cc)
+one_form types one (AuthForm p) TextForm s t e = absurd (cc)
 one_form types one (AuthForm p) (AuthForm q) s t e =
     let part : slice_index_or types p.0 UnitTy ≡ slice_index_or types q.0 UnitTy = cc in
     let same : p.0 ≡ q.0 = one p.0 q.0 (ltb-true p.0 (length types) s) (ltb-true q.0 (length types) t) part in

@@ -7,7 +7,7 @@ use Rattle.std.proofs.lemmas.Grind.{common_steps}
 use Rattle.core_terms.specs.Types.{Ty, UnitTy, AuthTy}
 use Rattle.core_terms.specs.TypeTables.{type_of_form, types_behind, types_of_forms, stands_behind, is_in_order}
 use Rattle.core_terms.specs.declared.types.TyForm.{TyForm}
-use Rattle.core_terms.specs.declared.types.TyForm.TheVariants.{UnitForm, AuthForm}
+use Rattle.core_terms.specs.declared.types.TyForm.TheVariants.{UnitForm, BoolForm, IntForm, TextForm, AuthForm}
 
 both_first : (a b : Bool) → a && b ≡ true → a ≡ true
 both_first true b h = refl
@@ -34,6 +34,9 @@ length-types_behind before (f ∷ fs) =
 -- a form among these parts means the same among these and more
 more_parts : (before : List Ty) (forms : List TyForm) (f : TyForm) → stands_behind (length before) f ≡ true → type_of_form (types_behind before forms) f ≡ type_of_form before f
 more_parts before forms UnitForm h = refl
+more_parts before forms BoolForm h = refl
+more_parts before forms IntForm h = refl
+more_parts before forms TextForm h = refl
 more_parts before forms (AuthForm part) h = ap AuthTy (types_behind-front before forms part.0 (ltb-true part.0 (length before) h))
 
 -- past the end there is `unit`

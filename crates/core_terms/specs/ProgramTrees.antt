@@ -2,13 +2,14 @@
 use Rattle.std.specs.Prelude.{List, [], map}
 use Rattle.core_terms.specs.Types.{Ty}
 use Rattle.core_terms.specs.Formats.{Format, first_format}
-use Rattle.core_terms.specs.Terms.{Expression, UnitE, LocalE, AuthE, UnauthE}
+use Rattle.core_terms.specs.Terms.{Expression, UnitE, BoolE, IntE, TextE, LocalE, ArithE, Add, AuthE, UnauthE}
 use Rattle.core_terms.specs.Terms as tree
+use Rattle.core_terms.specs.Texts.{bytes_of}
 use Rattle.core_terms.specs.TypeTables.{type_at, types_of_forms}
 use Rattle.core_terms.specs.declared.types.TyId.{TyId}
 use Rattle.core_terms.specs.declared.types.TyForm.{TyForm}
 use Rattle.core_terms.specs.declared.term.Term.{Term}
-use Rattle.core_terms.specs.declared.term.Term.TheVariants.{UnitLiteral, Local, Auth', Unauth'}
+use Rattle.core_terms.specs.declared.term.Term.TheVariants.{UnitLiteral, BoolLiteral, IntLiteral, TextLiteral, Local, Add', Auth', Unauth'}
 use Rattle.core_terms.specs.declared.term.Kind.{Kind}
 use Rattle.core_terms.specs.declared.term.Kind.TheVariants.{Init, Query}
 use Rattle.core_terms.specs.declared.term.Function.{Function}
@@ -24,7 +25,11 @@ kind_of Query = tree.Query
 -- a term as an expression, over the types of its program by number
 abbrev pub expression_of : List Ty → Term → Expression
 expression_of types UnitLiteral = UnitE
+expression_of types (BoolLiteral b) = BoolE b
+expression_of types (IntLiteral z) = IntE z
+expression_of types (TextLiteral text) = TextE (bytes_of text)
 expression_of types (Local i) = LocalE i.0
+expression_of types (Add' p x q y) = ArithE Add (expression_of types x) (expression_of types y)
 expression_of types (Auth' t p x) = AuthE (type_at types t) (expression_of types x)
 expression_of types (Unauth' t p x) = UnauthE (type_at types t) (expression_of types x)
 

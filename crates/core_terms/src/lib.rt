@@ -1,10 +1,11 @@
 //! Types, terms and programs of lambda-auth, digests, and the outcomes of a run.
 //!
 //! `specs/` has what they mean: values, spellings and projections, expressions, typing and roles, for the whole language.
-//! The types of this crate hold the programs of the language's first fragment: the types `unit` and `auth`, the
-//! expressions `()`, names, `auth` and `unauth`, and the roles `init` and `query`.
+//! The types of this crate hold the programs of a fragment of the language: the types `unit`, `bool`, `int`, `text` and `auth`,
+//! the expressions `()`, `true` and `false`, ints, texts, names, `add`, `auth` and `unauth`, and the roles `init` and `query`.
 #![tactic(auto)]
 
+pub mod cause;
 pub mod digest;
 pub mod laws;
 pub mod outcome;
@@ -13,9 +14,10 @@ pub mod spelling;
 pub mod term;
 pub mod types;
 
+pub use cause::Cause;
 pub use digest::{Digest, Hash32};
 pub use outcome::{Outcome, Trap};
 pub use program::{FunctionId, Program};
 pub use spelling::Spelling;
-pub use term::{Function, Kind, LocalId, Name, Term};
+pub use term::{Function, Kind, LocalId, Name, Term, Text};
 pub use types::{TyForm, TyId, TyTable};

@@ -19,6 +19,7 @@ pub struct Program {
     types: TyTable,
     state: TyId,
     functions: Vec<Function>,
+    text_digest: Digest,
     ghost typed: { is_typed (program_of types.forms.items state functions.items) ≡ true },
     ghost shaped: { is_shaped (program_of types.forms.items state functions.items) ≡ true },
 }
@@ -26,17 +27,26 @@ pub struct Program {
 impl Program {
     ghost use Rattle.core_terms.specs.Programs.{meaning, types_in, types_of};
 
-    /// A program of these parts.
-    pub fn new(types: TyTable, state: TyId, functions: Vec<Function>) -> Self
+    /// A program of these parts, whose text has this digest.
+    pub fn new(types: TyTable, state: TyId, functions: Vec<Function>, text_digest: Digest) -> Self
         requires typed { is_typed (program_of types.forms.items state functions.items) ≡ true }
         requires shaped { is_shaped (program_of types.forms.items state functions.items) ≡ true }
-        ensures { meaning result ≡ program_of types.forms.items state functions.items }
+        ensures meaning { meaning result ≡ program_of types.forms.items state functions.items }
+        ensures digest { result.text_digest ≡ text_digest }
     {
         Program {
             types,
             state,
             functions,
+            text_digest,
         }
+    }
+
+    /// The SHA-256 digest of the program's text.
+    pub fn text_digest(&self) -> &Digest
+        ensures { result.now ≡ self.now.text_digest }
+    {
+        &self.text_digest
     }
 
     /// The form of a type.

@@ -1,5 +1,6 @@
 // Terms: the bodies of functions, with names resolved and types written.
-ghost use Rattle.std.specs.Prelude.{◌≡◌, ℕ, List};
+ghost use Rattle.std.specs.Prelude.{◌≡◌, ◌≤◌, true, length, ℕ, List};
+ghost use Rattle.std.specs.Str.{is_utf8};
 
 use crate::TyId;
 use std::marker::Model;
@@ -32,6 +33,55 @@ impl Name {
     }
 }
 
+/// Two names are equal where their bytes are.
+impl PartialEq for Name {
+    ghost use Rattle.std.specs.Prelude.{bytes_eq};
+    ghost use Rattle.std.specs.Cmp.{partial_equiv_from_equiv};
+    ghost use Rattle.std.specs.Cmp.Lexicographic.{nat_list_eq_equiv};
+
+    ghost eq = { bytes_eq };
+
+    ghost laws = { partial_equiv_from_equiv nat_list_eq_equiv };
+
+    fn eq(&self, other: &Name) -> bool {
+        self.as_bytes() == other.as_bytes()
+    }
+}
+
+impl Eq for Name {
+    ghost use Rattle.std.specs.Cmp.Lexicographic.{nat_list_eq_equiv};
+
+    ghost laws = { nat_list_eq_equiv };
+}
+
+/// A text that stands in a program: UTF-8 of at most 65,532 bytes.
+#[derive(Drop)]
+pub struct Text {
+    bytes: Vec<u8>,
+    ghost utf8: { is_utf8 bytes.items ≡ true },
+    ghost fits: { length bytes.items ≤ 65532 },
+}
+
+impl Text {
+    ghost use Rattle.core_terms.specs.Texts.{bytes_of};
+
+    /// Takes the bytes over.
+    pub fn new(bytes: Vec<u8>) -> Self
+        requires utf8 { is_utf8 bytes.items ≡ true }
+        requires fits { length bytes.items ≤ 65532 }
+        ensures { bytes_of result ≡ bytes.items }
+    {
+        Text { bytes }
+    }
+
+    /// The bytes, lent.
+    pub fn as_bytes(&self) -> &[u8]
+        ensures { result.now ≡ bytes_of self.now }
+    {
+        &self.bytes
+    }
+}
+
 /// The number of a local, the outermost being 0: parameters come first.
 #[derive(Clone, Copy, Debug, PartialEq, Eq)]
 pub struct LocalId(pub usize);
@@ -40,7 +90,12 @@ pub struct LocalId(pub usize);
 #[derive(Drop)]
 pub enum Term {
     UnitLiteral,
+    BoolLiteral(bool),
+    IntLiteral(i64),
+    TextLiteral(Text),
     Local(LocalId),
+    /// The sum of two ints.
+    Add(Box<Term>, Box<Term>),
     /// `auth` of a term of this type.
     Auth(TyId, Box<Term>),
     /// `unauth` to a value of this type.

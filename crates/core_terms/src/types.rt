@@ -14,6 +14,9 @@ pub struct TyId(pub usize);
 #[derive(Clone, Copy, Debug, PartialEq, Eq)]
 pub enum TyForm {
     UnitForm,
+    BoolForm,
+    IntForm,
+    TextForm,
     AuthForm(TyId),
 }
 

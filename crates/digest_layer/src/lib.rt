@@ -1,11 +1,14 @@
 //! SHA-256 as the hash of lambda-auth, and the texts of digests.
 #![tactic(auto)]
 
-ghost use Rattle.std.specs.Prelude.{◌≡◌};
-ghost use Rattle.hex.specs.Hex.{encode_lower};
+ghost use Rattle.std.specs.Prelude.{◌≡◌, ◌↔◌, length, IfSome, IsSome};
+ghost use Rattle.std.specs.List.{AllPass};
+ghost use Rattle.std.specs.Str.{str_to_ascii_lowercase};
+ghost use Rattle.hex.specs.Hex.{encode_lower, is_hex_digit};
 ghost use Rattle.sha2.specs.Sha256.{sha256};
 
 use core_terms::{Digest, Hash32};
+use hex::FromHex;
 use sha2::{Digest as Hasher, Sha256};
 
 /// SHA-256, as FIPS 180-4 defines it.
@@ -33,9 +36,18 @@ pub fn hex_text(digest: &Digest) -> [u8; 64]
     text
 }
 
+/// The digest whose text is 64 hexadecimal digits, each of either case; `None` exactly where the text isn't that.
+#[tactic(auto, using(crate::proofs::ReadDigits::text_of))]
+pub fn read_hex(text: &str) -> Option<Digest>
+    ensures digits { IsSome result ↔ ((length text.now ≡ 64) × AllPass is_hex_digit text.now) }
+    ensures value { IfSome result (λ digest. encode_lower digest.0 ≡ str_to_ascii_lowercase text.now) }
+{
+    <[u8; 32] as FromHex>::from_hex(text).ok().map(Digest)
+}
+
 #[cfg(test)]
 mod tests {
-    use super::{Sha, hex_text};
+    use super::{Sha, hex_text, read_hex};
     use core_terms::Hash32;
     use std::test::Fail;
 
@@ -61,6 +73,28 @@ mod tests {
         assert_eq!(rt;
             text_of(&[1]),
             *b"4bf5122f344554c53bde2ebb8cd2b7e3d1600ad631c385a5d7cce23c7785459a"
+        );
+        Ok(())
+    }
+
+    #[test]
+    fn reads_64_digits_of_either_case(rt: HostRuntime) -> Result<(), Fail> {
+        let digest = Some(Sha::of(b"abc"));
+        assert_eq!(rt;
+            read_hex("ba7816bf8f01cfea414140de5dae2223b00361a396177a9cb410ff61f20015ad"),
+            digest
+        );
+        assert_eq!(rt;
+            read_hex("BA7816BF8F01CFEA414140DE5DAE2223B00361A396177A9CB410FF61F20015AD"),
+            digest
+        );
+        assert_eq!(rt;
+            read_hex("ba7816bf8f01cfea414140de5dae2223b00361a396177a9cb410ff61f20015a"),
+            None
+        );
+        assert_eq!(rt;
+            read_hex("ba7816bf8f01cfea414140de5dae2223b00361a396177a9cb410ff61f20015ag"),
+            None
         );
         Ok(())
     }
