@@ -1,65 +1,196 @@
--- Parsing finds exactly what the grammar gives.
-use Rattle.std.proofs.Common.{◌≡◌, ℕ, List, [], ◌∷◌, length, Option, Some, None, refl, ap, subst, ◌∙◌}
-use Rattle.std.specs.Prelude.{option_and_then}
-use Rattle.auth_syntax.specs.Tokens.{Token, MarkToken, LeftParenthesis, RightParenthesis, tokens}
-use Rattle.auth_syntax.specs.Syntax.{Program, LiteralSyntax, UnitLiteralSyntax}
-use Rattle.auth_syntax.specs.Grammar.{program_tokens, literal_tokens, IsProgramText, IsLiteralText}
-use Rattle.auth_syntax.specs.Parsing.{read_program, parsed, read_literal, literal}
-use Rattle.auth_syntax.specs.Laws.{ParsingIsExact, OneIsWritten, LiteralsAreExact}
-use Rattle.auth_syntax.proofs.Soundness.{IsWholeSound, read_program-sound}
-use Rattle.auth_syntax.proofs.Completeness.{read_program-complete, length-program_tokens}
+-- Parsing finds exactly the program that the grammar gives a text.
+use Rattle.std.proofs.Common.{◌≡◌, ℕ, zero, suc, ◌<◌, ◌≤◌, List, [], ◌∷◌, length, refl, sym, ap, ap₂, subst, ◌∙◌, arith, length-append}
+use mathlib.Core.Path.{fun_ext}
+use Rattle.auth_syntax.specs.declared.place.Place.{Place}
+use Rattle.auth_syntax.specs.declared.token.Keyword.{Keyword}
+use Rattle.auth_syntax.specs.declared.token.Keyword.TheVariants.{«Type» as TypeWord}
+use Rattle.auth_syntax.specs.Tokens.{Token, KeywordToken, Tokens, Next, End, Faulty, tokens, count}
+use Rattle.auth_syntax.specs.Syntax.{ConstructorDeclaration, DeclarationSyntax, TypeDeclaration, StateDeclaration, FunctionDeclaration, Program}
+use Rattle.auth_syntax.specs.Vocabulary.{Vocabulary, NamedTypes}
+use Rattle.auth_syntax.specs.Grammar.{Written, declaration_tokens, declarations_tokens, nesting_limit, AreDeclarations, AreWritten, IsProgramText}
+use Rattle.auth_syntax.specs.Parsing.{Reading, Found, FaultAt, then_read, refused, allowed, read_bar, read_others, read_lower, read_mark, read_constructor_declaration, read_constructors, read_type_declaration, read_declaration, read_declarations, Tree, end_of, as_program, parsed}
+use Rattle.auth_syntax.specs.declared.token.Mark.TheVariants.{EqualsSign}
+use Rattle.auth_syntax.specs.Laws.{ParsingIsExact, OneIsWritten}
+use Rattle.auth_syntax.proofs.Beginnings.{written-append, written-parted}
+use Rattle.auth_syntax.proofs.Readers.{IsClear, found_thing, found_left, gone_on, then_found, read_row}
+use Rattle.auth_syntax.proofs.Lists.{read_separated}
+use Rattle.auth_syntax.proofs.Declarations.{constructor_row, type_row, read_declaration_at, declarations_are}
 
--- a program that is parsed is written
-program_found : (text : List ℕ) (program : Program) (found : Option (List Token)) → tokens text ≡ found
-    → option_and_then (λ ts. read_program (length ts) ts) found ≡ Some program → IsProgramText text program
-program_found text program None e h = absurd (cc)
-program_found text program (Some ts) e h =
-    let sound : IsWholeSound ts (Some program) = subst (IsWholeSound ts) h (read_program-sound (length ts) ts) in
-    record { written = e ∙ ap (λ ts. Some ts) sound.0; within = sound.1 }
+-- declarations, each within a limit
+abbrev pub read_declarations_at : Vocabulary → ℕ → ℕ → Tokens → Reading (List DeclarationSyntax)
+read_declarations_at words limit most (End at) = Found [] (End at)
+read_declarations_at words limit zero tokens = refused tokens
+read_declarations_at words limit (suc most) tokens =
+    then_read (read_declaration_at words limit limit tokens) (λ declaration tokens.
+    then_read (read_declarations_at words limit most tokens) (λ rest tokens. Found (declaration ∷ rest) tokens))
 
--- a program that is written is parsed
-pub written_is_parsed : (text : List ℕ) (program : Program) → IsProgramText text program → parsed text ≡ Some program
-written_is_parsed text program h =
-    ap (λ found. option_and_then (λ ts. read_program (length ts) ts) found) h.written
-    ∙ read_program-complete (length (program_tokens program)) program h.within (length-program_tokens program)
+module _ (words : Vocabulary) where
+  -- at the limit of the language they are read so
+  read_constructors-is : (most : ℕ) → read_constructors words most ≡ read_separated read_bar (read_row (constructor_row words nesting_limit) nesting_limit) most
+  read_constructors-is zero = refl
+  read_constructors-is (suc most) =
+      ap (λ (more : Tokens → Reading (List ConstructorDeclaration)). λ (tokens : Tokens).
+      then_read (read_constructor_declaration words tokens) (λ first tokens.
+      then_read (read_others (read_bar tokens) more) (λ others tokens. Found (first ∷ others) tokens)))
+      (read_constructors-is most)
 
-pub parsed_is_written : (text : List ℕ) (program : Program) → parsed text ≡ Some program → IsProgramText text program
-parsed_is_written text program h = program_found text program (tokens text) refl h
+  read_type_declaration-is : (at : Place) (tokens : Tokens)
+      → read_type_declaration words at tokens ≡ read_row (type_row words nesting_limit at) nesting_limit tokens
+  read_type_declaration-is at tokens =
+      ap (λ (read : ℕ → Tokens → Reading (List ConstructorDeclaration)).
+      then_read (read_lower tokens) (λ name tokens.
+      then_read (read_mark EqualsSign tokens) (λ _ tokens.
+      then_read (read (count tokens) tokens) (λ constructors tokens. Found (TypeDeclaration at name constructors) tokens))))
+      (fun_ext read_constructors-is)
+
+  read_declaration-is : (tokens : Tokens) → read_declaration words tokens ≡ read_declaration_at words nesting_limit nesting_limit tokens
+  read_declaration-is (Next at (KeywordToken TypeWord) rest) = ap (allowed (words NamedTypes) at) (read_type_declaration-is at rest)
+  read_declaration-is tokens = refl
+
+  pub read_declarations-is : (most : ℕ) (tokens : Tokens) → read_declarations words most tokens ≡ read_declarations_at words nesting_limit most tokens
+  read_declarations-is most (End at) = refl
+  read_declarations-is zero (Next at token rest) = refl
+  read_declarations-is zero (Faulty at kind) = refl
+  read_declarations-is (suc most) (Faulty at kind) = refl
+  read_declarations-is (suc most) (Next at token rest) =
+      ap₂ (λ (reading : Reading DeclarationSyntax) (others : Tokens → Reading (List DeclarationSyntax)).
+      then_read reading (λ declaration tokens.
+      then_read (others tokens) (λ rest tokens. Found (declaration ∷ rest) tokens)))
+      (read_declaration-is (Next at token rest)) (fun_ext (read_declarations-is most))
+
+module _ (words : Vocabulary) (limit : ℕ) where
+  -- where the tokens are those of these declarations, to the end
+  pub record AreTheWhole (tokens : Tokens) (found : List DeclarationSyntax) (left : Tokens) : Type 0 where
+    pub end : Place
+    pub ends : left ≡ End end
+    pub written : AreWritten tokens (declarations_tokens found) end
+    pub fit : AreDeclarations words limit found
+
+  one_more : (most : ℕ) (before : Tokens) (found : List DeclarationSyntax) (left : Tokens)
+      → ((before : Tokens) (found : List DeclarationSyntax) (left : Tokens) → read_declarations_at words limit most before ≡ Found found left
+      → AreTheWhole before found left)
+      → then_read (read_declaration_at words limit limit before) (λ declaration tokens.
+      then_read (read_declarations_at words limit most tokens) (λ rest tokens. Found (declaration ∷ rest) tokens)) ≡ Found found left
+      → AreTheWhole before found left
+  one_more most before found left others e =
+      let g = gone_on (read_declaration_at words limit limit before) _ found left e in
+      let g' = gone_on (read_declarations_at words limit most g.middle) _ found left g.others in
+      let one = (declarations_are words limit).sound before g.thing g.middle g.first in
+      let o = others g.middle g'.thing g'.middle g'.first in
+      subst (λ (d : List DeclarationSyntax). AreTheWhole before d left) (found_thing g'.others)
+      (record {
+        end = o.end;
+        ends = sym (found_left g'.others) ∙ o.ends;
+        written = written-append (declaration_tokens g.thing) before g.middle (declarations_tokens g'.thing) o.end one.0.is o.written;
+        fit = (one.1, o.fit);
+      })
+
+  pub declarations_found : (most : ℕ) (before : Tokens) (found : List DeclarationSyntax) (left : Tokens)
+      → read_declarations_at words limit most before ≡ Found found left → AreTheWhole before found left
+  declarations_found most (End at) found left e =
+      let e' : End at ≡ left = found_left e in
+      subst (λ (d : List DeclarationSyntax). AreTheWhole (End at) d left) (found_thing e)
+      (record { end = at; ends = sym e'; written = refl; fit = tt })
+  declarations_found zero (Next at token rest) found left e = absurd (cc)
+  declarations_found zero (Faulty at kind) found left e = absurd (cc)
+  declarations_found (suc most) (Next at token rest) found left e = one_more most (Next at token rest) found left (declarations_found most) e
+  declarations_found (suc most) (Faulty at kind) found left e = absurd (cc)
+
+  -- no parenthesis opens where declarations begin
+  keyword_clear : (at : Place) (token : Token) (rest : Tokens) (keyword : Keyword) → token ≡ KeywordToken keyword → IsClear (Next at token rest)
+  keyword_clear at token rest keyword h = subst (λ (t : Token). IsClear (Next at t rest)) (sym h) tt
+
+  declarations_clear : (declarations : List DeclarationSyntax) (before : Tokens) (end : Place) → AreWritten before (declarations_tokens declarations) end
+      → IsClear before
+  declarations_clear declarations (End at) end h = tt
+  declarations_clear declarations (Faulty at kind) end h = tt
+  declarations_clear [] (Next at token rest) end h = absurd h
+  declarations_clear (TypeDeclaration place name constructors ∷ others) (Next at token rest) end h = keyword_clear at token rest _ h.0
+  declarations_clear (StateDeclaration place of_type ∷ others) (Next at token rest) end h = keyword_clear at token rest _ h.0
+  declarations_clear (FunctionDeclaration place function ∷ others) (Next at token rest) end h = keyword_clear at token rest _ h.0
+
+  -- one more declaration is read
+  step : (most : ℕ) (before middle : Tokens) (declaration : DeclarationSyntax) → read_declaration_at words limit limit before ≡ Found declaration middle
+      → read_declarations_at words limit (suc most) before
+      ≡ then_read (read_declarations_at words limit most middle) (λ rest tokens. Found (declaration ∷ rest) tokens)
+  step most (End at) middle declaration e = absurd (cc)
+  step most (Faulty at kind) middle declaration e = absurd (cc)
+  step most (Next at token rest) middle declaration e =
+      ap (λ reading. then_read reading (λ declaration tokens.
+      then_read (read_declarations_at words limit most tokens) (λ rest tokens. Found (declaration ∷ rest) tokens))) e
+
+  pub declarations_read : (most : ℕ) (declarations : List DeclarationSyntax) (before : Tokens) (end : Place)
+      → AreWritten before (declarations_tokens declarations) end → AreDeclarations words limit declarations → length declarations ≤ most
+      → read_declarations_at words limit most before ≡ Found declarations (End end)
+  declarations_read most [] (End at) end h fit enough = ap (λ (at : Place). Found [] (End at)) h
+  declarations_read most [] (Next at token rest) end h fit enough = absurd h
+  declarations_read most [] (Faulty at kind) end h fit enough = absurd h
+  declarations_read zero (declaration ∷ others) before end h fit enough = absurd (omega arith)
+  declarations_read (suc most) (declaration ∷ others) before end h fit enough =
+      let p = written-parted (declaration_tokens declaration) (declarations_tokens others) before end h in
+      step most before p.middle declaration
+      ((declarations_are words limit).complete declaration before p.middle p.begin fit.0 (declarations_clear others p.middle end p.go_on))
+      ∙ then_found (read_declarations_at words limit most p.middle) others (End end) _ _
+      (declarations_read most others p.middle end p.go_on fit.1 (omega arith)) refl
+
+-- declarations are no more than their tokens
+pub declaration_some : (declaration : DeclarationSyntax) → 0 < length (declaration_tokens declaration)
+declaration_some (TypeDeclaration at name constructors) = omega arith
+declaration_some (StateDeclaration at of_type) = omega arith
+declaration_some (FunctionDeclaration at function) = omega arith
+
+pub declarations_fit : (declarations : List DeclarationSyntax) → length declarations ≤ length (declarations_tokens declarations)
+declarations_fit [] = omega arith
+declarations_fit (declaration ∷ others) =
+    let more = declarations_fit others in
+    omega (arith, more, declaration_some declaration, length-append (declaration_tokens declaration) (declarations_tokens others))
+
+pub written_fit : (before : Tokens) (ws : List Written) (end : Place) → AreWritten before ws end → length ws ≤ count before
+written_fit (End at) [] end h = omega arith
+written_fit (End at) (w ∷ ws) end h = absurd h
+written_fit (Faulty at kind) ws end h = absurd h
+written_fit (Next at token rest) [] end h = absurd h
+written_fit (Next at token rest) (w ∷ ws) end h = let more = written_fit rest ws end h.2 in omega arith
+
+-- a program from what was read
+record IsProgramOf (reading : Reading (List DeclarationSyntax)) (program : Program) : Type 0 where
+  pub left : Tokens
+  pub found : reading ≡ Found program.declarations left
+  pub ends : end_of left ≡ program.end
+
+tree_found : (reading : Reading (List DeclarationSyntax)) (program : Program) → as_program reading ≡ Tree program → IsProgramOf reading program
+tree_found (Found declarations left) program e =
+    let p : record { declarations = declarations; end = end_of left } ≡ program = tree_is e in record {
+      left = left;
+      found = ap (λ (p : Program). Found p.declarations left) p;
+      ends = ap (λ (p : Program). p.end) p;
+    } where
+      tree_is : {a b : Program} → Tree a ≡ Tree b → a ≡ b
+      tree_is h = cc
+tree_found (FaultAt kind at) program e = absurd (cc)
+
+pub parsed_is_written : (words : Vocabulary) (text : List ℕ) (program : Program) → parsed words text ≡ Tree program → IsProgramText words text program
+parsed_is_written words text program e =
+    let ts = tokens text in
+    let t = tree_found (read_declarations words (count ts) ts) program e in
+    let whole = declarations_found words nesting_limit (count ts) ts program.declarations t.left (sym (read_declarations-is words (count ts) ts) ∙ t.found) in
+    record {
+      written = subst (AreWritten ts (declarations_tokens program.declarations)) (sym (ap end_of whole.ends) ∙ t.ends) whole.written;
+      well_formed = whole.fit;
+    }
+
+pub written_is_parsed : (words : Vocabulary) (text : List ℕ) (program : Program) → IsProgramText words text program → parsed words text ≡ Tree program
+written_is_parsed words text program h =
+    let ts = tokens text in
+    let enough : length program.declarations ≤ count ts =
+    omega (arith, declarations_fit program.declarations, written_fit ts (declarations_tokens program.declarations) program.end h.written) in
+    ap as_program (read_declarations-is words (count ts) ts
+    ∙ declarations_read words nesting_limit (count ts) program.declarations ts program.end h.written h.well_formed enough)
 
 pub parsing_is_exact : ParsingIsExact
-parsing_is_exact text program = (parsed_is_written text program, written_is_parsed text program)
+parsing_is_exact words text program = (parsed_is_written words text program, written_is_parsed words text program)
 
 -- so one at most is written
 pub one_is_written : OneIsWritten
-one_is_written text program other h h' =
-    let first = written_is_parsed text program h in let second = written_is_parsed text other h' in cc
-
--- where nothing is parsed, no program is written
-pub unparsed_is_unwritten : (text : List ℕ) → parsed text ≡ None → (program : Program) → IsProgramText text program → ⊥
-unparsed_is_unwritten text h program written = let found = written_is_parsed text program written in cc
-
--- the same of literals
-read_literal-sound : (ts : List Token) (value : LiteralSyntax) → read_literal ts ≡ Some value → ts ≡ literal_tokens value
-read_literal-sound (MarkToken LeftParenthesis ∷ MarkToken RightParenthesis ∷ []) UnitLiteralSyntax h = refl
-read_literal-sound ts value h = absurd (cc)
-
-literal_found : (text : List ℕ) (value : LiteralSyntax) (found : Option (List Token)) → tokens text ≡ found
-    → option_and_then read_literal found ≡ Some value → IsLiteralText text value
-literal_found text value None e h = absurd (cc)
-literal_found text value (Some ts) e h = e ∙ ap (λ ts. Some ts) (read_literal-sound ts value h)
-
-pub literal_is_written : (text : List ℕ) (value : LiteralSyntax) → literal text ≡ Some value → IsLiteralText text value
-literal_is_written text value h = literal_found text value (tokens text) refl h
-
-read_literal-complete : (value : LiteralSyntax) → read_literal (literal_tokens value) ≡ Some value
-read_literal-complete UnitLiteralSyntax = refl
-
-pub written_literal_is_read : (text : List ℕ) (value : LiteralSyntax) → IsLiteralText text value → literal text ≡ Some value
-written_literal_is_read text value h = ap (λ found. option_and_then read_literal found) h ∙ read_literal-complete value
-
-pub literals_are_exact : LiteralsAreExact
-literals_are_exact text value = (literal_is_written text value, written_literal_is_read text value)
-
--- where no literal is read, none is written
-pub unread_is_unwritten : (text : List ℕ) → literal text ≡ None → (value : LiteralSyntax) → IsLiteralText text value → ⊥
-unread_is_unwritten text h value written = let found = written_literal_is_read text value written in cc
+one_is_written words text program other h h' =
+    let first = written_is_parsed words text program h in let second = written_is_parsed words text other h' in cc

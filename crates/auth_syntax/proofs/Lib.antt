@@ -1,7 +1,37 @@
-mod Rows
+pub mod PrintedTexts
+mod PrintedRows
+mod TokenRows
+pub mod TextLemmas
+pub mod NumberLemmas
+pub mod PlaceLemmas
 pub mod TokenLemmas
-pub mod Soundness
-pub mod Completeness
-pub mod Exact
-pub mod Refusals
+pub mod LevelSteps
+pub mod FewerTokens
 pub mod Loops
+pub mod Faults
+mod GrammarRows
+pub mod Signs
+pub mod Beginnings
+pub mod Readers
+pub mod Lists
+pub mod Heads
+pub mod Types
+pub mod Expressions
+pub mod Declarations
+pub mod Exact
+mod PrintedTokens
+mod PrintedReadBack
+pub mod LiteralReadings
+pub mod Counted
+pub mod Fronts
+pub mod FrontRows
+pub mod Productions
+pub mod Levels
+pub mod FrontTypes
+pub mod FrontLists
+pub mod FrontCommas
+pub mod FrontArms
+pub mod FrontExpressions
+pub mod FrontDeclarations
+pub mod FrontPrograms
+pub mod Told

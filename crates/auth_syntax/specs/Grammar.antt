@@ -1,108 +1,317 @@
 -- The grammar: the tokens with which each syntax tree is written, an equation for each production.
-use Rattle.std.specs.Prelude.{◌≡◌, ℕ, suc, ◌≤◌, List, [], ◌∷◌, ◌++◌, Some}
-use Rattle.auth_syntax.specs.Tokens.{Token, KeywordToken, MarkToken, NameToken, Keyword, StateWord, InitWord, QueryWord, UnitWord, AuthWord, UnauthWord, LeftParenthesis, RightParenthesis, Comma, Semicolon, Colon, EqualsSign, tokens}
-use Rattle.auth_syntax.specs.Syntax.{TypeSyntax, UnitTypeSyntax, AuthTypeSyntax, ExpSyntax, UnitSyntax, LocalSyntax, AuthSyntax, UnauthSyntax, ParameterSyntax, KindSyntax, InitSyntax, QuerySyntax, FunctionSyntax, DeclarationSyntax, StateDeclaration, FunctionDeclaration, Program, LiteralSyntax, UnitLiteralSyntax}
+use Rattle.std.specs.Prelude.{◌≡◌, ℕ, suc, max, ◌≤◌, Bool, true, false, List, [], ◌∷◌, ◌++◌, Option, Some, None}
+use Rattle.auth_syntax.specs.declared.place.Place.{Place}
+use Rattle.auth_syntax.specs.Tokens.{Token, KeywordToken, MarkToken, LowerToken, UpperToken, IntToken, TextToken, Tokens, Next, End, tokens}
+use Rattle.auth_syntax.specs.declared.token.Keyword.{Keyword}
+use Rattle.auth_syntax.specs.declared.token.Keyword.TheVariants.{«Type» as TypeWord, State as StateWord, Fun as FunWord, Init as InitWord, Query as QueryWord, Update as UpdateWord, Let as LetWord, In as InWord, Match as MatchWord, With as WithWord, End as EndWord, If as IfWord, Then as ThenWord, Else as ElseWord, Auth as AuthWord, Unauth as UnauthWord, Fst as FstWord, Snd as SndWord, Unit as UnitWord, Bool as BoolWord, Int as IntWord, Text as TextWord, True as TrueWord, False as FalseWord, Add as AddWord, Sub as SubWord, Mul as MulWord, Div as DivWord, Rem as RemWord, Eq as EqWord, Lt as LtWord, Le as LeWord, Teq as TeqWord, Tlt as TltWord, Cat as CatWord, Len as LenWord, Not as NotWord}
+use Rattle.auth_syntax.specs.declared.token.Mark.{Mark}
+use Rattle.auth_syntax.specs.declared.token.Mark.TheVariants.{LeftParenthesis, RightParenthesis, Comma, Semicolon, Colon, EqualsSign, Bar, Arrow}
+use Rattle.auth_syntax.specs.Syntax.{NameSyntax, TypeSyntax, UnitTypeSyntax, BoolTypeSyntax, IntTypeSyntax, TextTypeSyntax, NamedTypeSyntax, AuthTypeSyntax, PairTypeSyntax, UnaryOperation, FstOperation, SndOperation, AuthOperation, UnauthOperation, LenOperation, NotOperation, BinaryOperation, AddOperation, SubOperation, MulOperation, DivOperation, RemOperation, EqOperation, LtOperation, LeOperation, TeqOperation, TltOperation, CatOperation, ExpSyntax, UnitSyntax, BoolSyntax, IntSyntax, TextSyntax, LocalSyntax, PairSyntax, UnarySyntax, BinarySyntax, CallSyntax, ConstructorSyntax, LetSyntax, IfSyntax, MatchSyntax, ExpsSyntax, NoExp, AndExp, ArmsSyntax, NoArmSyntax, AndArmSyntax, ParameterSyntax, KindSyntax, InnerSyntax, InitSyntax, QuerySyntax, UpdateSyntax, FunctionSyntax, ConstructorDeclaration, DeclarationSyntax, TypeDeclaration, StateDeclaration, FunctionDeclaration, Program}
+use Rattle.auth_syntax.specs.Vocabulary.{Vocabulary, NamedTypes, InnerFunctions, Updates, Bools, Ints, Texts, AuthTypes, Pairs, Unary, Binary, Calls, Constructors, Lets, Conditions, Matches}
 
--- type  =  "unit"  |  "auth" type
-abbrev pub type_tokens : TypeSyntax → List Token
-type_tokens UnitTypeSyntax = KeywordToken UnitWord ∷ []
-type_tokens (AuthTypeSyntax inner) = KeywordToken AuthWord ∷ type_tokens inner
+-- a token of a tree, with its place where the tree keeps it
+pub record Written : Type 0 where
+  pub at : Option Place
+  pub token : Token
 
--- expression  =  "(" ")"  |  name  |  ( "auth" | "unauth" ) "(" expression ")"
-abbrev pub expression_tokens : ExpSyntax → List Token
-expression_tokens UnitSyntax = MarkToken LeftParenthesis ∷ MarkToken RightParenthesis ∷ []
-expression_tokens (LocalSyntax name) = NameToken name ∷ []
-expression_tokens (AuthSyntax inner) =
-    KeywordToken AuthWord ∷ MarkToken LeftParenthesis ∷ expression_tokens inner ++ MarkToken RightParenthesis ∷ []
-expression_tokens (UnauthSyntax inner) =
-    KeywordToken UnauthWord ∷ MarkToken LeftParenthesis ∷ expression_tokens inner ++ MarkToken RightParenthesis ∷ []
+abbrev pub anywhere : Token → Written
+anywhere token = record { at = None; token = token }
 
--- parameter  =  name ":" type
-abbrev pub parameter_tokens : ParameterSyntax → List Token
-parameter_tokens parameter = NameToken parameter.name ∷ MarkToken Colon ∷ type_tokens parameter.of_type
+abbrev pub standing : Place → Token → Written
+standing at token = record { at = Some at; token = token }
+
+-- a mark, and a keyword
+abbrev pub mark : Mark → Written
+mark m = anywhere (MarkToken m)
+
+abbrev pub word : Keyword → Written
+word keyword = anywhere (KeywordToken keyword)
+
+-- lower, upper: a name where it stands
+abbrev pub lower : NameSyntax → Written
+lower name = standing name.at (LowerToken name.name)
+
+abbrev pub upper : NameSyntax → Written
+upper name = standing name.at (UpperToken name.name)
+
+-- the words of the operations
+abbrev pub unary_word : UnaryOperation → Keyword
+unary_word FstOperation = FstWord
+unary_word SndOperation = SndWord
+unary_word AuthOperation = AuthWord
+unary_word UnauthOperation = UnauthWord
+unary_word LenOperation = LenWord
+unary_word NotOperation = NotWord
+
+abbrev pub binary_word : BinaryOperation → Keyword
+binary_word AddOperation = AddWord
+binary_word SubOperation = SubWord
+binary_word MulOperation = MulWord
+binary_word DivOperation = DivWord
+binary_word RemOperation = RemWord
+binary_word EqOperation = EqWord
+binary_word LtOperation = LtWord
+binary_word LeOperation = LeWord
+binary_word TeqOperation = TeqWord
+binary_word TltOperation = TltWord
+binary_word CatOperation = CatWord
+
+-- type  =  "unit" | "bool" | "int" | "text" | lower | "auth" type | "(" type "," type ")"
+abbrev pub type_tokens : TypeSyntax → List Written
+type_tokens (UnitTypeSyntax at) = standing at (KeywordToken UnitWord) ∷ []
+type_tokens (BoolTypeSyntax at) = standing at (KeywordToken BoolWord) ∷ []
+type_tokens (IntTypeSyntax at) = standing at (KeywordToken IntWord) ∷ []
+type_tokens (TextTypeSyntax at) = standing at (KeywordToken TextWord) ∷ []
+type_tokens (NamedTypeSyntax at name) = standing at (LowerToken name) ∷ []
+type_tokens (AuthTypeSyntax at inner) = standing at (KeywordToken AuthWord) ∷ type_tokens inner
+type_tokens (PairTypeSyntax at first second) =
+    standing at (MarkToken LeftParenthesis) ∷ type_tokens first ++ mark Comma ∷ type_tokens second ++ mark RightParenthesis ∷ []
+
+-- "true"  |  "false"
+abbrev pub bool_word : Bool → Keyword
+bool_word true = TrueWord
+bool_word false = FalseWord
+
+-- names  =  lower { "," lower }
+abbrev pub names_tokens : List NameSyntax → List Written
+names_tokens [] = []
+names_tokens (name ∷ []) = lower name ∷ []
+names_tokens (name ∷ next ∷ rest) = lower name ∷ mark Comma ∷ names_tokens (next ∷ rest)
+
+-- what stands between parentheses, where there is anything
+abbrev pub in_parentheses : List Written → List Written
+in_parentheses [] = []
+in_parentheses (first ∷ rest) = mark LeftParenthesis ∷ (first ∷ rest) ++ mark RightParenthesis ∷ []
+
+abbrev mutual
+  -- expression  =  "(" ")"  |  "(" expression "," expression ")"  |  "true"  |  "false"  |  int  |  text
+  --   |  lower  |  lower "(" expressions ")"  |  upper [ "(" expressions ")" ]
+  --   |  unary "(" expression ")"  |  binary "(" expression "," expression ")"
+  --   |  "let" lower "=" expression "in" expression
+  --   |  "if" expression "then" expression "else" expression
+  --   |  "match" expression "with" arms "end"
+  pub expression_tokens : ExpSyntax → List Written
+  expression_tokens (UnitSyntax at) = standing at (MarkToken LeftParenthesis) ∷ mark RightParenthesis ∷ []
+  expression_tokens (BoolSyntax at b) = standing at (KeywordToken (bool_word b)) ∷ []
+  expression_tokens (IntSyntax at z) = standing at (IntToken z) ∷ []
+  expression_tokens (TextSyntax at bytes) = standing at (TextToken bytes) ∷ []
+  expression_tokens (LocalSyntax at name) = standing at (LowerToken name) ∷ []
+  expression_tokens (PairSyntax at first second) =
+      standing at (MarkToken LeftParenthesis) ∷ expression_tokens first ++ mark Comma ∷ expression_tokens second ++ mark RightParenthesis ∷ []
+  expression_tokens (UnarySyntax at operation operand) =
+      standing at (KeywordToken (unary_word operation)) ∷ mark LeftParenthesis ∷ expression_tokens operand ++ mark RightParenthesis ∷ []
+  expression_tokens (BinarySyntax at operation first second) =
+      standing at (KeywordToken (binary_word operation)) ∷ mark LeftParenthesis
+      ∷ expression_tokens first ++ mark Comma ∷ expression_tokens second ++ mark RightParenthesis ∷ []
+  expression_tokens (CallSyntax at name operands) =
+      standing at (LowerToken name) ∷ mark LeftParenthesis ∷ expressions_tokens operands ++ mark RightParenthesis ∷ []
+  expression_tokens (ConstructorSyntax at name operands) = standing at (UpperToken name) ∷ in_parentheses (expressions_tokens operands)
+  expression_tokens (LetSyntax at name bound body) =
+      standing at (KeywordToken LetWord) ∷ lower name ∷ mark EqualsSign
+      ∷ expression_tokens bound ++ word InWord ∷ expression_tokens body
+  expression_tokens (IfSyntax at test first other) =
+      standing at (KeywordToken IfWord) ∷ expression_tokens test
+      ++ word ThenWord ∷ expression_tokens first ++ word ElseWord ∷ expression_tokens other
+  expression_tokens (MatchSyntax at subject arms) =
+      standing at (KeywordToken MatchWord) ∷ expression_tokens subject ++ word WithWord ∷ arms_tokens arms ++ word EndWord ∷ []
+
+  -- expressions  =  expression { "," expression }
+  pub expressions_tokens : ExpsSyntax → List Written
+  expressions_tokens NoExp = []
+  expressions_tokens (AndExp e NoExp) = expression_tokens e
+  expressions_tokens (AndExp e (AndExp next rest)) = expression_tokens e ++ mark Comma ∷ expressions_tokens (AndExp next rest)
+
+  -- arms  =  { "|" upper [ "(" names ")" ] "->" expression }
+  pub arms_tokens : ArmsSyntax → List Written
+  arms_tokens NoArmSyntax = []
+  arms_tokens (AndArmSyntax constructor fields body rest) =
+      mark Bar ∷ upper constructor ∷ in_parentheses (names_tokens fields) ++ mark Arrow ∷ expression_tokens body ++ arms_tokens rest
+
+-- parameter  =  lower ":" type
+abbrev pub parameter_tokens : ParameterSyntax → List Written
+parameter_tokens parameter = lower parameter.name ∷ mark Colon ∷ type_tokens parameter.of_type
 
 -- parameters  =  parameter { "," parameter }
-abbrev pub parameters_tokens : List ParameterSyntax → List Token
+abbrev pub parameters_tokens : List ParameterSyntax → List Written
 parameters_tokens [] = []
 parameters_tokens (parameter ∷ []) = parameter_tokens parameter
-parameters_tokens (parameter ∷ next ∷ rest) = parameter_tokens parameter ++ MarkToken Comma ∷ parameters_tokens (next ∷ rest)
+parameters_tokens (parameter ∷ next ∷ rest) = parameter_tokens parameter ++ mark Comma ∷ parameters_tokens (next ∷ rest)
 
--- "init"  |  "query"
+-- types  =  type { "," type }
+abbrev pub types_tokens : List TypeSyntax → List Written
+types_tokens [] = []
+types_tokens (t ∷ []) = type_tokens t
+types_tokens (t ∷ next ∷ rest) = type_tokens t ++ mark Comma ∷ types_tokens (next ∷ rest)
+
+-- constructor  =  upper [ "(" types ")" ]
+abbrev pub constructor_tokens : ConstructorDeclaration → List Written
+constructor_tokens constructor = upper constructor.name ∷ in_parentheses (types_tokens constructor.fields)
+
+-- constructors  =  constructor { "|" constructor }
+abbrev pub constructors_tokens : List ConstructorDeclaration → List Written
+constructors_tokens [] = []
+constructors_tokens (constructor ∷ []) = constructor_tokens constructor
+constructors_tokens (constructor ∷ next ∷ rest) = constructor_tokens constructor ++ mark Bar ∷ constructors_tokens (next ∷ rest)
+
+-- "fun"  |  "init"  |  "query"  |  "update"
 abbrev pub kind_keyword : KindSyntax → Keyword
+kind_keyword InnerSyntax = FunWord
 kind_keyword InitSyntax = InitWord
 kind_keyword QuerySyntax = QueryWord
+kind_keyword UpdateSyntax = UpdateWord
 
--- function  =  ( "init" | "query" ) name "(" parameters ")" ":" type "=" expression ";"
-abbrev pub function_tokens : FunctionSyntax → List Token
-function_tokens function =
-    KeywordToken (kind_keyword function.kind) ∷ NameToken function.name
-    ∷ MarkToken LeftParenthesis ∷ parameters_tokens function.parameters
-    ++ MarkToken RightParenthesis ∷ MarkToken Colon ∷ type_tokens function.result_type
-    ++ MarkToken EqualsSign ∷ expression_tokens function.body
-    ++ MarkToken Semicolon ∷ []
-
--- declaration  =  "state" type ";"  |  function
-abbrev pub declaration_tokens : DeclarationSyntax → List Token
-declaration_tokens (StateDeclaration of_type) = KeywordToken StateWord ∷ type_tokens of_type ++ MarkToken Semicolon ∷ []
-declaration_tokens (FunctionDeclaration function) = function_tokens function
+-- declaration  =  "type" lower "=" constructors ";"
+--   |  "state" type ";"
+--   |  ( "fun" | "init" | "query" | "update" ) lower "(" parameters ")" ":" type "=" expression ";"
+abbrev pub declaration_tokens : DeclarationSyntax → List Written
+declaration_tokens (TypeDeclaration at name constructors) =
+    standing at (KeywordToken TypeWord) ∷ lower name ∷ mark EqualsSign ∷ constructors_tokens constructors ++ mark Semicolon ∷ []
+declaration_tokens (StateDeclaration at of_type) = standing at (KeywordToken StateWord) ∷ type_tokens of_type ++ mark Semicolon ∷ []
+declaration_tokens (FunctionDeclaration at function) =
+    standing at (KeywordToken (kind_keyword function.kind)) ∷ lower function.name
+    ∷ mark LeftParenthesis ∷ parameters_tokens function.parameters
+    ++ mark RightParenthesis ∷ mark Colon ∷ type_tokens function.result_type
+    ++ mark EqualsSign ∷ expression_tokens function.body
+    ++ mark Semicolon ∷ []
 
 -- program  =  { declaration }
-abbrev pub program_tokens : Program → List Token
-program_tokens [] = []
-program_tokens (declaration ∷ rest) = declaration_tokens declaration ++ program_tokens rest
+abbrev pub declarations_tokens : List DeclarationSyntax → List Written
+declarations_tokens [] = []
+declarations_tokens (declaration ∷ rest) = declaration_tokens declaration ++ declarations_tokens rest
 
 -- how many types stand inside one another, the outermost among them
 abbrev pub type_levels : TypeSyntax → ℕ
-type_levels UnitTypeSyntax = 1
-type_levels (AuthTypeSyntax inner) = suc (type_levels inner)
+type_levels (AuthTypeSyntax at inner) = suc (type_levels inner)
+type_levels (PairTypeSyntax at first second) = suc (max (type_levels first) (type_levels second))
+type_levels t = 1
 
--- how many expressions stand inside one another, the outermost among them
-abbrev pub expression_levels : ExpSyntax → ℕ
-expression_levels UnitSyntax = 1
-expression_levels (LocalSyntax name) = 1
-expression_levels (AuthSyntax inner) = suc (expression_levels inner)
-expression_levels (UnauthSyntax inner) = suc (expression_levels inner)
+abbrev mutual
+  -- how many expressions stand inside one another, the outermost among them
+  pub expression_levels : ExpSyntax → ℕ
+  expression_levels (PairSyntax at first second) = suc (max (expression_levels first) (expression_levels second))
+  expression_levels (UnarySyntax at operation operand) = suc (expression_levels operand)
+  expression_levels (BinarySyntax at operation first second) = suc (max (expression_levels first) (expression_levels second))
+  expression_levels (CallSyntax at name operands) = suc (expressions_levels operands)
+  expression_levels (ConstructorSyntax at name operands) = suc (expressions_levels operands)
+  expression_levels (LetSyntax at name bound body) = suc (max (expression_levels bound) (expression_levels body))
+  expression_levels (IfSyntax at test first other) =
+      suc (max (expression_levels test) (max (expression_levels first) (expression_levels other)))
+  expression_levels (MatchSyntax at subject arms) = suc (max (expression_levels subject) (arms_levels arms))
+  expression_levels e = 1
+
+  pub expressions_levels : ExpsSyntax → ℕ
+  expressions_levels NoExp = 0
+  expressions_levels (AndExp e rest) = max (expression_levels e) (expressions_levels rest)
+
+  pub arms_levels : ArmsSyntax → ℕ
+  arms_levels NoArmSyntax = 0
+  arms_levels (AndArmSyntax constructor fields body rest) = max (expression_levels body) (arms_levels rest)
 
 -- how many types, or expressions, may stand inside one another
 abbrev pub nesting_limit : ℕ
 nesting_limit = 100
 
--- each parameter's type is within the limit
-abbrev pub AreParametersWithin : List ParameterSyntax → Type 0
-AreParametersWithin [] = Unit {0}
-AreParametersWithin (parameter ∷ rest) = (type_levels parameter.of_type ≤ nesting_limit) × AreParametersWithin rest
+module _ (words : Vocabulary) where
+  -- each form of a type is one of the vocabulary
+  abbrev pub HasTypeForms : TypeSyntax → Type 0
+  HasTypeForms (UnitTypeSyntax at) = Unit {0}
+  HasTypeForms (BoolTypeSyntax at) = words Bools ≡ true
+  HasTypeForms (IntTypeSyntax at) = words Ints ≡ true
+  HasTypeForms (TextTypeSyntax at) = words Texts ≡ true
+  HasTypeForms (NamedTypeSyntax at name) = words NamedTypes ≡ true
+  HasTypeForms (AuthTypeSyntax at inner) = (words AuthTypes ≡ true) × HasTypeForms inner
+  HasTypeForms (PairTypeSyntax at first second) = (words Pairs ≡ true) × HasTypeForms first × HasTypeForms second
 
--- there is a parameter
-abbrev pub HasParameter : List ParameterSyntax → Type 0
-HasParameter [] = ⊥
-HasParameter (parameter ∷ rest) = Unit {0}
+  abbrev mutual
+    -- each form of an expression is one of the vocabulary; a call has an argument, and a match an arm
+    pub HasForms : ExpSyntax → Type 0
+    HasForms (UnitSyntax at) = Unit {0}
+    HasForms (BoolSyntax at b) = words Bools ≡ true
+    HasForms (IntSyntax at z) = words Ints ≡ true
+    HasForms (TextSyntax at bytes) = words Texts ≡ true
+    HasForms (LocalSyntax at name) = Unit {0}
+    HasForms (PairSyntax at first second) = (words Pairs ≡ true) × HasForms first × HasForms second
+    HasForms (UnarySyntax at operation operand) = (words (Unary operation) ≡ true) × HasForms operand
+    HasForms (BinarySyntax at operation first second) = (words (Binary operation) ≡ true) × HasForms first × HasForms second
+    HasForms (CallSyntax at name NoExp) = ⊥
+    HasForms (CallSyntax at name (AndExp e rest)) = (words Calls ≡ true) × HaveForms (AndExp e rest)
+    HasForms (ConstructorSyntax at name operands) = (words Constructors ≡ true) × HaveForms operands
+    HasForms (LetSyntax at name bound body) = (words Lets ≡ true) × HasForms bound × HasForms body
+    HasForms (IfSyntax at test first other) = (words Conditions ≡ true) × HasForms test × HasForms first × HasForms other
+    HasForms (MatchSyntax at subject NoArmSyntax) = ⊥
+    HasForms (MatchSyntax at subject (AndArmSyntax constructor fields body rest)) =
+        (words Matches ≡ true) × HasForms subject × ArmsHaveForms (AndArmSyntax constructor fields body rest)
 
--- a function has a parameter, and its types and its body are within the limit
-pub record IsFunctionWithin (function : FunctionSyntax) : Type 0 where
-  pub has_parameter : HasParameter function.parameters
-  pub parameters : AreParametersWithin function.parameters
-  pub result_type : type_levels function.result_type ≤ nesting_limit
-  pub body : expression_levels function.body ≤ nesting_limit
+    pub HaveForms : ExpsSyntax → Type 0
+    HaveForms NoExp = Unit {0}
+    HaveForms (AndExp e rest) = HasForms e × HaveForms rest
 
--- a state's type, or a function, is within the limit
-abbrev pub IsDeclarationWithin : DeclarationSyntax → Type 0
-IsDeclarationWithin (StateDeclaration of_type) = type_levels of_type ≤ nesting_limit
-IsDeclarationWithin (FunctionDeclaration function) = IsFunctionWithin function
+    pub ArmsHaveForms : ArmsSyntax → Type 0
+    ArmsHaveForms NoArmSyntax = Unit {0}
+    ArmsHaveForms (AndArmSyntax constructor fields body rest) = HasForms body × ArmsHaveForms rest
 
--- each declaration is within the limit
-abbrev pub IsProgramWithin : Program → Type 0
-IsProgramWithin [] = Unit {0}
-IsProgramWithin (declaration ∷ rest) = IsDeclarationWithin declaration × IsProgramWithin rest
+  -- functions of this kind are declared
+  abbrev pub HasKind : KindSyntax → Type 0
+  HasKind InnerSyntax = words InnerFunctions ≡ true
+  HasKind UpdateSyntax = words Updates ≡ true
+  HasKind kind = Unit {0}
 
--- The text is one of the program: its tokens are those with which the program is written, and the program is within the limits.
-pub record IsProgramText (text : List ℕ) (program : Program) : Type 0 where
-  pub written : tokens text ≡ Some (program_tokens program)
-  pub within : IsProgramWithin program
+-- there is a first one
+abbrev pub IsSome : {A : Type 0} → List A → Type 0
+IsSome [] = ⊥
+IsSome (first ∷ rest) = Unit {0}
 
--- literal  =  "(" ")"
-abbrev pub literal_tokens : LiteralSyntax → List Token
-literal_tokens UnitLiteralSyntax = MarkToken LeftParenthesis ∷ MarkToken RightParenthesis ∷ []
+module _ (words : Vocabulary) (limit : ℕ) where
+  -- a type, and an expression, of the vocabulary, within a limit of nesting
+  abbrev pub IsType : TypeSyntax → Type 0
+  IsType t = HasTypeForms words t × (type_levels t ≤ limit)
 
--- The text is one of the literal.
-abbrev pub IsLiteralText : List ℕ → LiteralSyntax → Type 0
-IsLiteralText text literal = tokens text ≡ Some (literal_tokens literal)
+  abbrev pub IsExpression : ExpSyntax → Type 0
+  IsExpression e = HasForms words e × (expression_levels e ≤ limit)
+
+  abbrev pub AreTypes : List TypeSyntax → Type 0
+  AreTypes [] = Unit {0}
+  AreTypes (t ∷ rest) = IsType t × AreTypes rest
+
+  abbrev pub AreParameters : List ParameterSyntax → Type 0
+  AreParameters [] = Unit {0}
+  AreParameters (parameter ∷ rest) = IsType parameter.of_type × AreParameters rest
+
+  abbrev pub AreConstructors : List ConstructorDeclaration → Type 0
+  AreConstructors [] = Unit {0}
+  AreConstructors (constructor ∷ rest) = AreTypes constructor.fields × AreConstructors rest
+
+  -- a function has a parameter
+  pub record IsFunction (function : FunctionSyntax) : Type 0 where
+    pub kind : HasKind words function.kind
+    pub has_parameter : IsSome function.parameters
+    pub parameters : AreParameters function.parameters
+    pub result_type : IsType function.result_type
+    pub body : IsExpression function.body
+
+  -- a named type has a constructor
+  abbrev pub IsDeclaration : DeclarationSyntax → Type 0
+  IsDeclaration (TypeDeclaration at name constructors) = (words NamedTypes ≡ true) × IsSome constructors × AreConstructors constructors
+  IsDeclaration (StateDeclaration at of_type) = IsType of_type
+  IsDeclaration (FunctionDeclaration at function) = IsFunction function
+
+  abbrev pub AreDeclarations : List DeclarationSyntax → Type 0
+  AreDeclarations [] = Unit {0}
+  AreDeclarations (declaration ∷ rest) = IsDeclaration declaration × AreDeclarations rest
+
+-- a place that a tree keeps is that of the token
+abbrev pub IsKept : Option Place → Place → Type 0
+IsKept None at = Unit {0}
+IsKept (Some kept) at = kept ≡ at
+
+-- the tokens of a text are those of a tree, and behind them the text ends at this place
+abbrev pub AreWritten : Tokens → List Written → Place → Type 0
+AreWritten (End at) [] end = at ≡ end
+AreWritten (Next at token rest) (written ∷ others) end = (token ≡ written.token) × IsKept written.at at × AreWritten rest others end
+AreWritten found written end = ⊥
+
+-- The text is one of the program, in a vocabulary: its tokens are those with which the program is written, each form of the program is
+-- one of the vocabulary, and the program is within the limit of nesting.
+pub record IsProgramText (words : Vocabulary) (text : List ℕ) (program : Program) : Type 0 where
+  pub written : AreWritten (tokens text) (declarations_tokens program.declarations) program.end
+  pub well_formed : AreDeclarations words nesting_limit program.declarations

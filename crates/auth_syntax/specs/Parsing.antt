@@ -1,20 +1,45 @@
--- Parsing as a function: the tree of a text, found from left to right with one token of lookahead.
-use Rattle.std.specs.Prelude.{ℕ, zero, suc, Bool, true, false, List, [], ◌∷◌, length, Option, Some, None, option_map, option_and_then, if◌then◌else◌}
-use Rattle.auth_syntax.specs.Tokens.{Token, KeywordToken, MarkToken, NameToken, StateWord, InitWord, QueryWord, UnitWord, AuthWord, UnauthWord, Mark, LeftParenthesis, RightParenthesis, Comma, Semicolon, Colon, EqualsSign, tokens}
-use Rattle.auth_syntax.specs.Syntax.{TypeSyntax, UnitTypeSyntax, AuthTypeSyntax, ExpSyntax, UnitSyntax, LocalSyntax, AuthSyntax, UnauthSyntax, ParameterSyntax, KindSyntax, InitSyntax, QuerySyntax, FunctionSyntax, DeclarationSyntax, StateDeclaration, FunctionDeclaration, Program, LiteralSyntax, UnitLiteralSyntax}
+-- Parsing as a function: the tree of a text, found from left to right with one token of lookahead, or the first fault: that of the first
+-- token that is faulty or is not allowed where it stands.
+use Rattle.std.specs.Prelude.{ℕ, zero, suc, Bool, true, false, List, [], ◌∷◌, Option, Some, None, bytes_eq, if◌then◌else◌}
+use Rattle.auth_syntax.specs.declared.place.Place.{Place}
+use Rattle.auth_syntax.specs.Tokens.{Token, KeywordToken, MarkToken, LowerToken, UpperToken, IntToken, TextToken, Tokens, Next, End, Faulty, tokens, count, keyword_text}
+use Rattle.auth_syntax.specs.declared.token.Keyword.{Keyword}
+use Rattle.auth_syntax.specs.declared.token.Keyword.TheVariants.{«Type» as TypeWord, State as StateWord, Fun as FunWord, Init as InitWord, Query as QueryWord, Update as UpdateWord, Let as LetWord, In as InWord, Match as MatchWord, With as WithWord, End as EndWord, If as IfWord, Then as ThenWord, Else as ElseWord, Auth as AuthWord, Unauth as UnauthWord, Fst as FstWord, Snd as SndWord, Unit as UnitWord, Bool as BoolWord, Int as IntWord, Text as TextWord, True as TrueWord, False as FalseWord, Add as AddWord, Sub as SubWord, Mul as MulWord, Div as DivWord, Rem as RemWord, Eq as EqWord, Lt as LtWord, Le as LeWord, Teq as TeqWord, Tlt as TltWord, Cat as CatWord, Len as LenWord, Not as NotWord}
+use Rattle.auth_syntax.specs.declared.token.Mark.{Mark}
+use Rattle.auth_syntax.specs.declared.token.Mark.TheVariants.{LeftParenthesis, RightParenthesis, Comma, Semicolon, Colon, EqualsSign, Bar, Arrow}
+use Rattle.auth_syntax.specs.declared.fault.SyntaxKind.{SyntaxKind}
+use Rattle.auth_syntax.specs.declared.fault.SyntaxKind.TheVariants.{Lexical, Expected, TooNested}
+use Rattle.auth_syntax.specs.Syntax.{NameSyntax, TypeSyntax, UnitTypeSyntax, BoolTypeSyntax, IntTypeSyntax, TextTypeSyntax, NamedTypeSyntax, AuthTypeSyntax, PairTypeSyntax, UnaryOperation, FstOperation, SndOperation, AuthOperation, UnauthOperation, LenOperation, NotOperation, BinaryOperation, AddOperation, SubOperation, MulOperation, DivOperation, RemOperation, EqOperation, LtOperation, LeOperation, TeqOperation, TltOperation, CatOperation, ExpSyntax, UnitSyntax, BoolSyntax, IntSyntax, TextSyntax, LocalSyntax, PairSyntax, UnarySyntax, BinarySyntax, CallSyntax, ConstructorSyntax, LetSyntax, IfSyntax, MatchSyntax, ExpsSyntax, NoExp, AndExp, ArmsSyntax, NoArmSyntax, AndArmSyntax, ParameterSyntax, KindSyntax, InnerSyntax, InitSyntax, QuerySyntax, UpdateSyntax, FunctionSyntax, ConstructorDeclaration, DeclarationSyntax, TypeDeclaration, StateDeclaration, FunctionDeclaration, Program}
+use Rattle.auth_syntax.specs.Vocabulary.{Vocabulary, NamedTypes, InnerFunctions, Updates, Bools, Ints, Texts, AuthTypes, Pairs, Unary, Binary, Calls, Constructors, Lets, Conditions, Matches}
 use Rattle.auth_syntax.specs.Grammar.{nesting_limit}
 
--- what stands at the head of some tokens, with the tokens behind it; or that no such thing stands there
+-- what stands at the head of some tokens, with the tokens behind it; or the first fault
 pub data Reading (A : Type 0) : Type 0 where
-  Found : (value : A) (rest : List Token) → Reading A
-  NotFound : Reading A
+  Found : (value : A) (rest : Tokens) → Reading A
+  FaultAt : (kind : SyntaxKind) (at : Place) → Reading A
 
 -- reads on behind what was found
-abbrev pub then_read : {A B : Type 0} → Reading A → (A → List Token → Reading B) → Reading B
+abbrev pub then_read : {A B : Type 0} → Reading A → (A → Tokens → Reading B) → Reading B
 then_read (Found value rest) go = go value rest
-then_read NotFound go = NotFound
+then_read (FaultAt kind at) go = FaultAt kind at
 
--- the marks are the same
+-- the token at the head is not allowed there
+abbrev pub refused : {A : Type 0} → Tokens → Reading A
+refused (Next at token rest) = FaultAt Expected at
+refused (End at) = FaultAt Expected at
+refused (Faulty at kind) = FaultAt (Lexical kind) at
+
+-- the token at this place is allowed, where the vocabulary has its form
+abbrev pub allowed : {A : Type 0} → Bool → Place → Reading A → Reading A
+allowed true at reading = reading
+allowed false at reading = FaultAt Expected at
+
+-- nothing more may be nested: a token that would begin something nested is told apart from one that begins nothing
+abbrev pub too_nested : {A : Type 0} → (Token → Bool) → Tokens → Reading A
+too_nested begins (Next at token rest) = FaultAt (if begins token then TooNested else Expected) at
+too_nested begins tokens = refused tokens
+
+-- the marks are the same, and the keywords are
 abbrev pub is_mark : Mark → Mark → Bool
 is_mark LeftParenthesis LeftParenthesis = true
 is_mark RightParenthesis RightParenthesis = true
@@ -22,116 +47,361 @@ is_mark Comma Comma = true
 is_mark Semicolon Semicolon = true
 is_mark Colon Colon = true
 is_mark EqualsSign EqualsSign = true
+is_mark Bar Bar = true
+is_mark Arrow Arrow = true
 is_mark wanted found = false
 
--- this mark
-abbrev pub read_mark : Mark → List Token → Reading (Unit {0})
-read_mark wanted (MarkToken found ∷ rest) = if is_mark wanted found then Found tt rest else NotFound
-read_mark wanted tokens = NotFound
+abbrev pub is_keyword : Keyword → Keyword → Bool
+is_keyword wanted found = bytes_eq (keyword_text wanted) (keyword_text found)
 
--- a name
-abbrev pub read_name : List Token → Reading (List ℕ)
-read_name (NameToken bytes ∷ rest) = Found bytes rest
-read_name tokens = NotFound
+-- this mark, and this keyword
+abbrev pub read_mark : Mark → Tokens → Reading (Unit {0})
+read_mark wanted (Next at (MarkToken found) rest) = if is_mark wanted found then Found tt rest else FaultAt Expected at
+read_mark wanted tokens = refused tokens
 
--- a type, of at most so many levels
-abbrev pub read_type : ℕ → List Token → Reading TypeSyntax
-read_type (suc levels) (KeywordToken UnitWord ∷ rest) = Found UnitTypeSyntax rest
-read_type (suc levels) (KeywordToken AuthWord ∷ rest) =
-    then_read (read_type levels rest) (λ inner rest. Found (AuthTypeSyntax inner) rest)
-read_type levels tokens = NotFound
+abbrev pub read_keyword : Keyword → Tokens → Reading (Unit {0})
+read_keyword wanted (Next at (KeywordToken found) rest) = if is_keyword wanted found then Found tt rest else FaultAt Expected at
+read_keyword wanted tokens = refused tokens
 
--- what is read between parentheses
-abbrev pub read_parenthesized : {A : Type 0} → (List Token → Reading A) → List Token → Reading A
-read_parenthesized read tokens =
+-- a lower name, and an upper name
+abbrev pub read_lower : Tokens → Reading NameSyntax
+read_lower (Next at (LowerToken name) rest) = Found (record { at = at; name = name }) rest
+read_lower tokens = refused tokens
+
+abbrev pub read_upper : Tokens → Reading NameSyntax
+read_upper (Next at (UpperToken name) rest) = Found (record { at = at; name = name }) rest
+read_upper tokens = refused tokens
+
+-- what follows something in a list: a comma, so that another one follows, or the parenthesis that ends the list
+abbrev pub read_separator : Tokens → Reading Bool
+read_separator (Next at (MarkToken Comma) rest) = Found true rest
+read_separator (Next at (MarkToken RightParenthesis) rest) = Found false rest
+read_separator tokens = refused tokens
+
+-- the others of a list, behind its first: where the separator says so another one follows
+abbrev pub read_others : {A : Type 0} → Reading Bool → (Tokens → Reading (List A)) → Reading (List A)
+read_others separator more = then_read separator (λ follows rest. if follows then more rest else Found [] rest)
+
+-- At least one and at most so many of a kind, with commas between them, and the parenthesis that ends them. A text has no more of
+-- anything than tokens, so the number of tokens is bound enough.
+abbrev pub read_list : {A : Type 0} → (Tokens → Reading A) → ℕ → Tokens → Reading (List A)
+read_list one zero tokens = refused tokens
+read_list one (suc most) tokens =
+    then_read (one tokens) (λ first tokens.
+    then_read (read_others (read_separator tokens) (read_list one most)) (λ others tokens. Found (first ∷ others) tokens))
+
+-- a list in parentheses, or none where no parenthesis stands
+abbrev pub read_optional_list : {A : Type 0} → (Tokens → Reading A) → Tokens → Reading (List A)
+read_optional_list one (Next at (MarkToken LeftParenthesis) rest) = read_list one (count rest) rest
+read_optional_list one tokens = Found [] tokens
+
+-- the type `auth t`, and a pair of types, behind their first token; `part` reads a part
+abbrev pub read_auth_type : (Tokens → Reading TypeSyntax) → Place → Tokens → Reading TypeSyntax
+read_auth_type part at tokens = then_read (part tokens) (λ inner rest. Found (AuthTypeSyntax at inner) rest)
+
+abbrev pub read_pair_type : (Tokens → Reading TypeSyntax) → Place → Tokens → Reading TypeSyntax
+read_pair_type part at tokens =
+    then_read (part tokens) (λ first tokens.
+    then_read (read_mark Comma tokens) (λ _ tokens.
+    then_read (part tokens) (λ second tokens.
+    then_read (read_mark RightParenthesis tokens) (λ _ tokens. Found (PairTypeSyntax at first second) tokens))))
+
+-- the operation whose word a keyword is
+abbrev pub unary_of : Keyword → Option UnaryOperation
+unary_of FstWord = Some FstOperation
+unary_of SndWord = Some SndOperation
+unary_of AuthWord = Some AuthOperation
+unary_of UnauthWord = Some UnauthOperation
+unary_of LenWord = Some LenOperation
+unary_of NotWord = Some NotOperation
+unary_of keyword = None
+
+abbrev pub binary_of : Keyword → Option BinaryOperation
+binary_of AddWord = Some AddOperation
+binary_of SubWord = Some SubOperation
+binary_of MulWord = Some MulOperation
+binary_of DivWord = Some DivOperation
+binary_of RemWord = Some RemOperation
+binary_of EqWord = Some EqOperation
+binary_of LtWord = Some LtOperation
+binary_of LeWord = Some LeOperation
+binary_of TeqWord = Some TeqOperation
+binary_of TltWord = Some TltOperation
+binary_of CatWord = Some CatOperation
+binary_of keyword = None
+
+-- expressions in a row, from a list of them
+abbrev pub in_a_row : List ExpSyntax → ExpsSyntax
+in_a_row [] = NoExp
+in_a_row (e ∷ rest) = AndExp e (in_a_row rest)
+
+-- What stands behind the first token of an expression; `part` reads a part. Behind `(`: its end, or a pair.
+abbrev pub read_pair : (Tokens → Reading ExpSyntax) → Place → Tokens → Reading ExpSyntax
+read_pair part at tokens =
+    then_read (part tokens) (λ first tokens.
+    then_read (read_mark Comma tokens) (λ _ tokens.
+    then_read (part tokens) (λ second tokens.
+    then_read (read_mark RightParenthesis tokens) (λ _ tokens. Found (PairSyntax at first second) tokens))))
+
+-- a pair, where the vocabulary has pairs; else nothing may stand there
+abbrev pub pair_or_refused : Bool → (Tokens → Reading ExpSyntax) → Place → Tokens → Reading ExpSyntax
+pair_or_refused true part at tokens = read_pair part at tokens
+pair_or_refused false part at tokens = refused tokens
+
+-- behind a lower name: the arguments of a call, where the vocabulary has calls; else the name is a local
+abbrev pub read_call : Bool → (Tokens → Reading ExpSyntax) → Place → List ℕ → Tokens → Reading ExpSyntax
+read_call true part at name (Next next (MarkToken LeftParenthesis) rest) =
+    then_read (read_list part (count rest) rest) (λ operands rest. Found (CallSyntax at name (in_a_row operands)) rest)
+read_call calls part at name tokens = Found (LocalSyntax at name) tokens
+
+-- behind an upper name: the fields of a constructor
+abbrev pub read_constructor : (Tokens → Reading ExpSyntax) → Place → List ℕ → Tokens → Reading ExpSyntax
+read_constructor part at name tokens =
+    then_read (read_optional_list part tokens) (λ operands rest. Found (ConstructorSyntax at name (in_a_row operands)) rest)
+
+-- behind the word of an operation: its operands
+abbrev pub read_unary : (Tokens → Reading ExpSyntax) → Place → UnaryOperation → Tokens → Reading ExpSyntax
+read_unary part at operation tokens =
     then_read (read_mark LeftParenthesis tokens) (λ _ tokens.
-    then_read (read tokens) (λ inner tokens.
-    then_read (read_mark RightParenthesis tokens) (λ _ tokens. Found inner tokens)))
+    then_read (part tokens) (λ operand tokens.
+    then_read (read_mark RightParenthesis tokens) (λ _ tokens. Found (UnarySyntax at operation operand) tokens)))
 
--- an expression, of at most so many levels
-abbrev pub read_expression : ℕ → List Token → Reading ExpSyntax
-read_expression (suc levels) (MarkToken LeftParenthesis ∷ rest) =
-    then_read (read_mark RightParenthesis rest) (λ _ rest. Found UnitSyntax rest)
-read_expression (suc levels) (NameToken name ∷ rest) = Found (LocalSyntax name) rest
-read_expression (suc levels) (KeywordToken AuthWord ∷ rest) =
-    then_read (read_parenthesized (read_expression levels) rest) (λ inner rest. Found (AuthSyntax inner) rest)
-read_expression (suc levels) (KeywordToken UnauthWord ∷ rest) =
-    then_read (read_parenthesized (read_expression levels) rest) (λ inner rest. Found (UnauthSyntax inner) rest)
-read_expression levels tokens = NotFound
-
--- a parameter
-abbrev pub read_parameter : List Token → Reading ParameterSyntax
-read_parameter tokens =
-    then_read (read_name tokens) (λ name tokens.
-    then_read (read_mark Colon tokens) (λ _ tokens.
-    then_read (read_type nesting_limit tokens) (λ of_type tokens. Found (record { name = name; of_type = of_type }) tokens)))
-
--- what stands behind a parameter: a comma, so that another one follows, or the parenthesis that ends them
-abbrev pub read_separator : List Token → Reading Bool
-read_separator (MarkToken Comma ∷ rest) = Found true rest
-read_separator (MarkToken RightParenthesis ∷ rest) = Found false rest
-read_separator tokens = NotFound
-
--- the other parameters, behind one
-abbrev pub read_more_parameters : (List Token → Reading (List ParameterSyntax)) → List Token → Reading (List ParameterSyntax)
-read_more_parameters more tokens = then_read (read_separator tokens) (λ follows rest. if follows then more rest else Found [] rest)
-
--- at least one and at most so many parameters, and the parenthesis that ends them
-abbrev pub read_parameters : ℕ → List Token → Reading (List ParameterSyntax)
-read_parameters zero tokens = NotFound
-read_parameters (suc most) tokens =
-    then_read (read_parameter tokens) (λ parameter tokens.
-    then_read (read_more_parameters (read_parameters most) tokens) (λ others tokens. Found (parameter ∷ others) tokens))
-
--- a function, behind the keyword of its kind
-abbrev pub read_function : KindSyntax → List Token → Reading FunctionSyntax
-read_function kind tokens =
-    then_read (read_name tokens) (λ name tokens.
+abbrev pub read_binary : (Tokens → Reading ExpSyntax) → Place → BinaryOperation → Tokens → Reading ExpSyntax
+read_binary part at operation tokens =
     then_read (read_mark LeftParenthesis tokens) (λ _ tokens.
-    then_read (read_parameters (length tokens) tokens) (λ parameters tokens.
-    then_read (read_mark Colon tokens) (λ _ tokens.
-    then_read (read_type nesting_limit tokens) (λ result_type tokens.
+    then_read (part tokens) (λ first tokens.
+    then_read (read_mark Comma tokens) (λ _ tokens.
+    then_read (part tokens) (λ second tokens.
+    then_read (read_mark RightParenthesis tokens) (λ _ tokens. Found (BinarySyntax at operation first second) tokens)))))
+
+-- behind `let`, `if` and `match`
+abbrev pub read_let : (Tokens → Reading ExpSyntax) → Place → Tokens → Reading ExpSyntax
+read_let part at tokens =
+    then_read (read_lower tokens) (λ name tokens.
     then_read (read_mark EqualsSign tokens) (λ _ tokens.
-    then_read (read_expression nesting_limit tokens) (λ body tokens.
-    then_read (read_mark Semicolon tokens) (λ _ tokens.
-    Found (record { kind = kind; name = name; parameters = parameters; result_type = result_type; body = body }) tokens))))))))
+    then_read (part tokens) (λ bound tokens.
+    then_read (read_keyword InWord tokens) (λ _ tokens.
+    then_read (part tokens) (λ body tokens. Found (LetSyntax at name bound body) tokens)))))
 
--- the type of the state, behind its keyword
-abbrev pub read_state : List Token → Reading TypeSyntax
-read_state tokens =
-    then_read (read_type nesting_limit tokens) (λ of_type tokens.
-    then_read (read_mark Semicolon tokens) (λ _ tokens. Found of_type tokens))
+abbrev pub read_if : (Tokens → Reading ExpSyntax) → Place → Tokens → Reading ExpSyntax
+read_if part at tokens =
+    then_read (part tokens) (λ test tokens.
+    then_read (read_keyword ThenWord tokens) (λ _ tokens.
+    then_read (part tokens) (λ first tokens.
+    then_read (read_keyword ElseWord tokens) (λ _ tokens.
+    then_read (part tokens) (λ other tokens. Found (IfSyntax at test first other) tokens)))))
 
--- a declaration
-abbrev pub read_declaration : List Token → Reading DeclarationSyntax
-read_declaration (KeywordToken StateWord ∷ rest) =
-    then_read (read_state rest) (λ of_type rest. Found (StateDeclaration of_type) rest)
-read_declaration (KeywordToken InitWord ∷ rest) =
-    then_read (read_function InitSyntax rest) (λ function rest. Found (FunctionDeclaration function) rest)
-read_declaration (KeywordToken QueryWord ∷ rest) =
-    then_read (read_function QuerySyntax rest) (λ function rest. Found (FunctionDeclaration function) rest)
-read_declaration tokens = NotFound
+-- behind the body of an arm: a bar, so that another arm follows, or `end`
+abbrev pub read_arm_separator : Tokens → Reading Bool
+read_arm_separator (Next at (MarkToken Bar) rest) = Found true rest
+read_arm_separator (Next at (KeywordToken EndWord) rest) = Found false rest
+read_arm_separator tokens = refused tokens
 
--- the declaration that was found, before those that are read behind it
-abbrev pub before_others : Reading DeclarationSyntax → (List Token → Option Program) → Option Program
-before_others (Found declaration rest) others = option_map (λ program. declaration ∷ program) (others rest)
-before_others NotFound others = None
+abbrev pub read_other_arms : Reading Bool → (Tokens → Reading ArmsSyntax) → Reading ArmsSyntax
+read_other_arms separator more = then_read separator (λ follows rest. if follows then more rest else Found NoArmSyntax rest)
 
--- at most so many declarations, which end with the tokens
-abbrev pub read_program : ℕ → List Token → Option Program
-read_program most [] = Some []
-read_program zero (token ∷ rest) = None
-read_program (suc most) (token ∷ rest) = before_others (read_declaration (token ∷ rest)) (read_program most)
+-- at least one arm, behind its bar, and at most so many, with the `end` behind them
+abbrev pub read_arms : (Tokens → Reading ExpSyntax) → ℕ → Tokens → Reading ArmsSyntax
+read_arms part zero tokens = refused tokens
+read_arms part (suc most) tokens =
+    then_read (read_upper tokens) (λ constructor tokens.
+    then_read (read_optional_list read_lower tokens) (λ fields tokens.
+    then_read (read_mark Arrow tokens) (λ _ tokens.
+    then_read (part tokens) (λ body tokens.
+    then_read (read_other_arms (read_arm_separator tokens) (read_arms part most)) (λ rest tokens.
+    Found (AndArmSyntax constructor fields body rest) tokens)))))
 
--- the program that a text is one of
-abbrev pub parsed : List ℕ → Option Program
-parsed text = option_and_then (λ found. read_program (length found) found) (tokens text)
+abbrev pub read_match : (Tokens → Reading ExpSyntax) → Place → Tokens → Reading ExpSyntax
+read_match part at tokens =
+    then_read (part tokens) (λ subject tokens.
+    then_read (read_keyword WithWord tokens) (λ _ tokens.
+    then_read (read_mark Bar tokens) (λ _ tokens.
+    then_read (read_arms part (count tokens) tokens) (λ arms tokens. Found (MatchSyntax at subject arms) tokens))))
 
--- the literal that tokens are
-abbrev pub read_literal : List Token → Option LiteralSyntax
-read_literal (MarkToken LeftParenthesis ∷ MarkToken RightParenthesis ∷ []) = Some UnitLiteralSyntax
-read_literal tokens = None
+-- behind a constructor: a bar, so that another one follows, or the semicolon that ends the type
+abbrev pub read_bar : Tokens → Reading Bool
+read_bar (Next at (MarkToken Bar) rest) = Found true rest
+read_bar (Next at (MarkToken Semicolon) rest) = Found false rest
+read_bar tokens = refused tokens
 
--- the literal that a text is one of
-abbrev pub literal : List ℕ → Option LiteralSyntax
-literal text = option_and_then read_literal (tokens text)
+module _ (words : Vocabulary) where
+  -- whether a token begins a type
+  abbrev pub begins_type : Token → Bool
+  begins_type (KeywordToken UnitWord) = true
+  begins_type (KeywordToken BoolWord) = words Bools
+  begins_type (KeywordToken IntWord) = words Ints
+  begins_type (KeywordToken TextWord) = words Texts
+  begins_type (KeywordToken AuthWord) = words AuthTypes
+  begins_type (LowerToken name) = words NamedTypes
+  begins_type (MarkToken LeftParenthesis) = words Pairs
+  begins_type token = false
+
+  -- the type that a token begins
+  abbrev pub type_from : (Tokens → Reading TypeSyntax) → Place → Token → Tokens → Reading TypeSyntax
+  type_from part at (KeywordToken UnitWord) rest = Found (UnitTypeSyntax at) rest
+  type_from part at (KeywordToken BoolWord) rest = allowed (words Bools) at (Found (BoolTypeSyntax at) rest)
+  type_from part at (KeywordToken IntWord) rest = allowed (words Ints) at (Found (IntTypeSyntax at) rest)
+  type_from part at (KeywordToken TextWord) rest = allowed (words Texts) at (Found (TextTypeSyntax at) rest)
+  type_from part at (LowerToken name) rest = allowed (words NamedTypes) at (Found (NamedTypeSyntax at name) rest)
+  type_from part at (KeywordToken AuthWord) rest = allowed (words AuthTypes) at (read_auth_type part at rest)
+  type_from part at (MarkToken LeftParenthesis) rest = allowed (words Pairs) at (read_pair_type part at rest)
+  type_from part at token rest = FaultAt Expected at
+
+  -- a type, of at most so many levels
+  abbrev pub read_type : ℕ → Tokens → Reading TypeSyntax
+  read_type zero tokens = too_nested begins_type tokens
+  read_type (suc levels) (Next at token rest) = type_from (read_type levels) at token rest
+  read_type (suc levels) tokens = refused tokens
+
+  -- a type that stands in no other
+  abbrev pub read_whole_type : Tokens → Reading TypeSyntax
+  read_whole_type tokens = read_type nesting_limit tokens
+
+  -- whether a keyword begins an expression
+  abbrev pub operation_begins : Option UnaryOperation → Option BinaryOperation → Bool
+  operation_begins (Some operation) binary = words (Unary operation)
+  operation_begins None (Some operation) = words (Binary operation)
+  operation_begins None None = false
+
+  abbrev pub word_begins : Keyword → Bool
+  word_begins TrueWord = words Bools
+  word_begins FalseWord = words Bools
+  word_begins LetWord = words Lets
+  word_begins IfWord = words Conditions
+  word_begins MatchWord = words Matches
+  word_begins keyword = operation_begins (unary_of keyword) (binary_of keyword)
+
+  -- whether a token begins an expression
+  abbrev pub begins_expression : Token → Bool
+  begins_expression (MarkToken LeftParenthesis) = true
+  begins_expression (LowerToken name) = true
+  begins_expression (UpperToken name) = words Constructors
+  begins_expression (IntToken z) = words Ints
+  begins_expression (TextToken bytes) = words Texts
+  begins_expression (KeywordToken keyword) = word_begins keyword
+  begins_expression token = false
+
+  abbrev pub read_unit_or_pair : (Tokens → Reading ExpSyntax) → Place → Tokens → Reading ExpSyntax
+  read_unit_or_pair part at (Next next (MarkToken RightParenthesis) rest) = Found (UnitSyntax at) rest
+  read_unit_or_pair part at tokens = pair_or_refused (words Pairs) part at tokens
+
+  abbrev pub operation_from : (Tokens → Reading ExpSyntax) → Place → Option UnaryOperation → Option BinaryOperation → Tokens → Reading ExpSyntax
+  operation_from part at (Some operation) binary rest = allowed (words (Unary operation)) at (read_unary part at operation rest)
+  operation_from part at None (Some operation) rest = allowed (words (Binary operation)) at (read_binary part at operation rest)
+  operation_from part at None None rest = FaultAt Expected at
+
+  -- the expression that a keyword begins
+  abbrev pub word_from : (Tokens → Reading ExpSyntax) → Place → Keyword → Tokens → Reading ExpSyntax
+  word_from part at TrueWord rest = allowed (words Bools) at (Found (BoolSyntax at true) rest)
+  word_from part at FalseWord rest = allowed (words Bools) at (Found (BoolSyntax at false) rest)
+  word_from part at LetWord rest = allowed (words Lets) at (read_let part at rest)
+  word_from part at IfWord rest = allowed (words Conditions) at (read_if part at rest)
+  word_from part at MatchWord rest = allowed (words Matches) at (read_match part at rest)
+  word_from part at keyword rest = operation_from part at (unary_of keyword) (binary_of keyword) rest
+
+  -- the expression that a token begins
+  abbrev pub expression_from : (Tokens → Reading ExpSyntax) → Place → Token → Tokens → Reading ExpSyntax
+  expression_from part at (MarkToken LeftParenthesis) rest = read_unit_or_pair part at rest
+  expression_from part at (LowerToken name) rest = read_call (words Calls) part at name rest
+  expression_from part at (UpperToken name) rest = allowed (words Constructors) at (read_constructor part at name rest)
+  expression_from part at (IntToken z) rest = allowed (words Ints) at (Found (IntSyntax at z) rest)
+  expression_from part at (TextToken bytes) rest = allowed (words Texts) at (Found (TextSyntax at bytes) rest)
+  expression_from part at (KeywordToken keyword) rest = word_from part at keyword rest
+  expression_from part at token rest = FaultAt Expected at
+
+  -- an expression, of at most so many levels
+  abbrev pub read_expression : ℕ → Tokens → Reading ExpSyntax
+  read_expression zero tokens = too_nested begins_expression tokens
+  read_expression (suc levels) (Next at token rest) = expression_from (read_expression levels) at token rest
+  read_expression (suc levels) tokens = refused tokens
+
+  -- an expression that stands in no other
+  abbrev pub read_whole_expression : Tokens → Reading ExpSyntax
+  read_whole_expression tokens = read_expression nesting_limit tokens
+
+  -- a parameter
+  abbrev pub read_parameter : Tokens → Reading ParameterSyntax
+  read_parameter tokens =
+      then_read (read_lower tokens) (λ name tokens.
+      then_read (read_mark Colon tokens) (λ _ tokens.
+      then_read (read_whole_type tokens) (λ of_type tokens. Found (record { name = name; of_type = of_type }) tokens)))
+
+  -- a function, behind the keyword of its kind
+  abbrev pub read_function : KindSyntax → Tokens → Reading FunctionSyntax
+  read_function kind tokens =
+      then_read (read_lower tokens) (λ name tokens.
+      then_read (read_mark LeftParenthesis tokens) (λ _ tokens.
+      then_read (read_list read_parameter (count tokens) tokens) (λ parameters tokens.
+      then_read (read_mark Colon tokens) (λ _ tokens.
+      then_read (read_whole_type tokens) (λ result_type tokens.
+      then_read (read_mark EqualsSign tokens) (λ _ tokens.
+      then_read (read_whole_expression tokens) (λ body tokens.
+      then_read (read_mark Semicolon tokens) (λ _ tokens.
+      Found (record { kind = kind; name = name; parameters = parameters; result_type = result_type; body = body }) tokens))))))))
+
+  abbrev pub read_function_declaration : Place → KindSyntax → Tokens → Reading DeclarationSyntax
+  read_function_declaration at kind tokens =
+      then_read (read_function kind tokens) (λ function tokens. Found (FunctionDeclaration at function) tokens)
+
+  -- the type of the state, behind its keyword
+  abbrev pub read_state : Place → Tokens → Reading DeclarationSyntax
+  read_state at tokens =
+      then_read (read_whole_type tokens) (λ of_type tokens.
+      then_read (read_mark Semicolon tokens) (λ _ tokens. Found (StateDeclaration at of_type) tokens))
+
+  -- a constructor of a named type
+  abbrev pub read_constructor_declaration : Tokens → Reading ConstructorDeclaration
+  read_constructor_declaration tokens =
+      then_read (read_upper tokens) (λ name tokens.
+      then_read (read_optional_list read_whole_type tokens) (λ fields tokens. Found (record { name = name; fields = fields }) tokens))
+
+  -- at least one and at most so many constructors, and the semicolon that ends them
+  abbrev pub read_constructors : ℕ → Tokens → Reading (List ConstructorDeclaration)
+  read_constructors zero tokens = refused tokens
+  read_constructors (suc most) tokens =
+      then_read (read_constructor_declaration tokens) (λ first tokens.
+      then_read (read_others (read_bar tokens) (read_constructors most)) (λ others tokens. Found (first ∷ others) tokens))
+
+  -- a named type, behind its keyword
+  abbrev pub read_type_declaration : Place → Tokens → Reading DeclarationSyntax
+  read_type_declaration at tokens =
+      then_read (read_lower tokens) (λ name tokens.
+      then_read (read_mark EqualsSign tokens) (λ _ tokens.
+      then_read (read_constructors (count tokens) tokens) (λ constructors tokens. Found (TypeDeclaration at name constructors) tokens)))
+
+  -- a declaration
+  abbrev pub read_declaration : Tokens → Reading DeclarationSyntax
+  read_declaration (Next at (KeywordToken TypeWord) rest) = allowed (words NamedTypes) at (read_type_declaration at rest)
+  read_declaration (Next at (KeywordToken StateWord) rest) = read_state at rest
+  read_declaration (Next at (KeywordToken FunWord) rest) = allowed (words InnerFunctions) at (read_function_declaration at InnerSyntax rest)
+  read_declaration (Next at (KeywordToken InitWord) rest) = read_function_declaration at InitSyntax rest
+  read_declaration (Next at (KeywordToken QueryWord) rest) = read_function_declaration at QuerySyntax rest
+  read_declaration (Next at (KeywordToken UpdateWord) rest) = allowed (words Updates) at (read_function_declaration at UpdateSyntax rest)
+  read_declaration tokens = refused tokens
+
+  -- at most so many declarations, which end with the text
+  abbrev pub read_declarations : ℕ → Tokens → Reading (List DeclarationSyntax)
+  read_declarations most (End at) = Found [] (End at)
+  read_declarations zero tokens = refused tokens
+  read_declarations (suc most) tokens =
+      then_read (read_declaration tokens) (λ declaration tokens.
+      then_read (read_declarations most tokens) (λ rest tokens. Found (declaration ∷ rest) tokens))
+
+-- what parsing a text gives: its tree, or its first fault with the line and column of its place
+pub data Parsed : Type 0 where
+  Tree : (program : Program) → Parsed
+  FirstFault : (kind : SyntaxKind) (line column : ℕ) → Parsed
+
+-- the place at which some tokens end
+abbrev pub end_of : Tokens → Place
+end_of (Next at token rest) = end_of rest
+end_of (End at) = at
+end_of (Faulty at kind) = at
+
+abbrev pub as_program : Reading (List DeclarationSyntax) → Parsed
+as_program (Found declarations rest) = Tree (record { declarations = declarations; end = end_of rest })
+as_program (FaultAt kind at) = FirstFault kind at.line at.column
+
+-- the program that a text is one of, in a vocabulary, or the text's first fault
+abbrev pub parsed : Vocabulary → List ℕ → Parsed
+parsed words text = let found = tokens text in as_program (read_declarations words (count found) found)

@@ -1,14 +1,27 @@
 -- The tokens that a parser has still to read.
-use Rattle.std.specs.Prelude.{◌≡◌, List, [], ◌∷◌, map, Option, Some, None}
-use Rattle.auth_syntax.specs.Tokens.{Token}
-use Rattle.auth_syntax.specs.TokenViews.{token_view}
+use Rattle.std.specs.Prelude.{◌≡◌, Result, Ok, Err, ⊤}
+use Rattle.auth_syntax.specs.Tokens.{Tokens, Next, End, Faulty}
+use Rattle.auth_syntax.specs.TokenViews.{token_view, tokens_left}
+use Rattle.auth_syntax.specs.Parsing.{Reading, Found, FaultAt}
+use Rattle.auth_syntax.specs.declared.fault.Fault.{Fault}
+use Rattle.auth_syntax.specs.declared.fault.Fault.TheVariants.{At, NoMemory}
+use Rattle.auth_syntax.specs.declared.fault.SyntaxKind.TheVariants.{Lexical, Expected, TooNested}
 use Rattle.auth_syntax.specs.declared.parser.Parser.{Parser}
-use Rattle.auth_syntax.specs.declared.token.Token.{Token as TokenCode}
+use Rattle.auth_syntax.specs.declared.parser.Placed.{Placed}
 
-abbrev pub remaining : Parser → List Token
-remaining parser = map token_view parser.rest.now
+abbrev pub remaining : Parser → Tokens
+remaining parser = tokens_left parser.lexer
 
--- the first token is taken and the others remain; or there is none
-abbrev pub Takes : List Token → Option TokenCode → List Token → Type 0
-Takes before (Some token) after = before ≡ token_view token ∷ after
-Takes before None after = (before ≡ []) × (after ≡ [])
+-- The first token is taken and the others remain; or none stands there, and this is the fault.
+abbrev pub Takes : Tokens → Result Placed Fault → Tokens → Type 0
+Takes before (Ok placed) after = before ≡ Next placed.at (token_view placed.token) after
+Takes before (Err (At Expected at)) after = before ≡ End at
+Takes before (Err (At (Lexical kind) at)) after = before ≡ Faulty at kind
+Takes before (Err (At TooNested at)) after = ⊥
+Takes before (Err NoMemory) after = ⊤
+
+-- the end of the text, where nothing else is left
+abbrev pub read_end : Tokens → Reading (Unit {0})
+read_end (Next at token rest) = FaultAt Expected at
+read_end (End at) = Found tt (End at)
+read_end (Faulty at kind) = FaultAt (Lexical kind) at

@@ -1,37 +1,28 @@
 -- What the tokens of the code stand for.
-use Rattle.auth_syntax.specs.Tokens.{Keyword, StateWord, InitWord, QueryWord, UnitWord, AuthWord, UnauthWord, Mark, LeftParenthesis, RightParenthesis, Comma, Semicolon, Colon, EqualsSign, Token, KeywordToken, MarkToken, NameToken, Piece, PassedOver, Taken}
-use Rattle.auth_syntax.specs.declared.token.Keyword.{Keyword as KeywordCode}
-use Rattle.auth_syntax.specs.declared.token.Keyword.TheVariants.{State, Init, Query, Unit as UnitCode, Auth, Unauth}
-use Rattle.auth_syntax.specs.declared.token.Mark.{Mark as MarkCode}
-use Rattle.auth_syntax.specs.declared.token.Mark.TheVariants.{LeftParenthesis as LeftCode, RightParenthesis as RightCode, Comma as CommaCode, Semicolon as SemicolonCode, Colon as ColonCode, EqualsSign as EqualsCode}
+use Rattle.std.specs.Prelude.{◌≡◌}
+use Rattle.core_terms.specs.Texts.{bytes_of}
+use Rattle.auth_syntax.specs.Tokens.{Token, KeywordToken, MarkToken, LowerToken, UpperToken, IntToken, TextToken, Tokens, Next, End, Faulty, tokens_from}
 use Rattle.auth_syntax.specs.declared.token.Token.{Token as TokenCode}
-use Rattle.auth_syntax.specs.declared.token.Token.TheVariants.{Keyword as KeywordCase, Mark as MarkCase, Name as NameCase}
-use Rattle.auth_syntax.specs.declared.lexer.Piece.{Piece as PieceCode}
-use Rattle.auth_syntax.specs.declared.lexer.Piece.TheVariants.{PassedOver as PassedOverCase, Taken as TakenCase}
+use Rattle.auth_syntax.specs.declared.token.Token.TheVariants as code
+use Rattle.auth_syntax.specs.declared.lexer.Lexeme.{Lexeme}
+use Rattle.auth_syntax.specs.declared.lexer.Lexeme.TheVariants as head
+use Rattle.auth_syntax.specs.declared.lexer.Lexer.{Lexer}
 
--- a keyword, a mark and a token
-abbrev pub keyword_view : KeywordCode → Keyword
-keyword_view State = StateWord
-keyword_view Init = InitWord
-keyword_view Query = QueryWord
-keyword_view UnitCode = UnitWord
-keyword_view Auth = AuthWord
-keyword_view Unauth = UnauthWord
-
-abbrev pub mark_view : MarkCode → Mark
-mark_view LeftCode = LeftParenthesis
-mark_view RightCode = RightParenthesis
-mark_view CommaCode = Comma
-mark_view SemicolonCode = Semicolon
-mark_view ColonCode = Colon
-mark_view EqualsCode = EqualsSign
-
+-- a token
 abbrev pub token_view : TokenCode → Token
-token_view (KeywordCase keyword) = KeywordToken (keyword_view keyword)
-token_view (MarkCase mark) = MarkToken (mark_view mark)
-token_view (NameCase bytes) = NameToken bytes.now
+token_view (code.Keyword keyword) = KeywordToken keyword
+token_view (code.Mark mark) = MarkToken mark
+token_view (code.Lower name) = LowerToken name.now
+token_view (code.Upper name) = UpperToken name.now
+token_view (code.Int z) = IntToken z
+token_view (code.Text text) = TextToken (bytes_of text)
 
--- a piece of a text
-abbrev pub piece_view : PieceCode → Piece
-piece_view (PassedOverCase size) = PassedOver size
-piece_view (TakenCase token size) = Taken (token_view token) size
+-- the tokens that a lexer has still to give
+abbrev pub tokens_left : Lexer → Tokens
+tokens_left lexer = tokens_from lexer.at lexer.rest.now
+
+-- these tokens begin with what was found, and behind it these remain; the end and a fault remain what they are
+abbrev pub IsHead : Tokens → Lexeme → Tokens → Type 0
+IsHead before (head.Token at token) after = before ≡ Next at (token_view token) after
+IsHead before (head.End at) after = (before ≡ End at) × (after ≡ End at)
+IsHead before (head.Fault at kind) after = (before ≡ Faulty at kind) × (after ≡ Faulty at kind)

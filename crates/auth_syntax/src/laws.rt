@@ -1,6 +1,6 @@
-// What holds of the definitions, for every text.
+// The laws of the grammar in `specs/`: each is a function without parameters, whose contract is the law.
 
-ghost use Rattle.auth_syntax.specs.Laws.{ParsingIsExact, OneIsWritten, LiteralsAreExact};
+ghost use Rattle.auth_syntax.specs.Laws.{FirstFaultIsFirst, FirstFaultIsTold, OneIsWritten, ParsingIsExact, PlacesAreCounted};
 
 /// Parsing finds exactly the program that the grammar gives a text.
 pub fn parsing_is_exact()
@@ -12,7 +12,19 @@ pub fn one_is_written()
     ensures { OneIsWritten }
 {}
 
-/// Reading a literal finds exactly the literal that the grammar gives a text.
-pub fn literals_are_exact()
-    ensures { LiteralsAreExact }
+/// The first fault that is told is a first one in the words of the grammar: the tokens before it can be gone on with to a
+/// program, and with the token that stands there they can't, or not within the limit of nesting. Of a fault of nesting the law
+/// leaves open at which token of what is nested it stands.
+pub fn first_fault_is_first()
+    ensures { FirstFaultIsFirst }
+{}
+
+/// Such a fault is told, where the tokens before it can be gone on with within the limit itself, and it isn't one of nesting.
+pub fn first_fault_is_told()
+    ensures { FirstFaultIsTold }
+{}
+
+/// Offset, line and column of a place count the bytes before it.
+pub fn places_are_counted()
+    ensures { PlacesAreCounted }
 {}

@@ -1,21 +1,30 @@
-// The trees that texts are parsed to. Those that `parse` gives have names of at most 64 bytes, and no type or expression in them has
-// more than 100 levels.
+// The trees that texts are parsed to. Those that `parse` gives have names of at most 64 bytes, texts of at most 65,532 bytes of UTF-8, and
+// no type or expression in them has more than 100 levels. Each node has the place of its first token.
 
-use crate::name::Name;
+use crate::place::Place;
+use core_terms::{Name, Text};
 
-/// A program: its declarations, in order.
+/// A program: its declarations, in order, and the place behind the last byte of its text.
 #[derive(Drop)]
 pub struct Ast {
     pub declarations: Vec<Declaration>,
+    pub end: Place,
 }
 
-/// What a program declares.
+/// A name where it stands.
+#[derive(Drop)]
+pub struct PlacedName {
+    pub at: Place,
+    pub name: Name,
+}
+
+/// What a program declares; the place is that of the declaration's keyword.
 #[derive(Drop)]
 pub enum Declaration {
     /// The type of the state.
-    State(TypeTree),
+    State(Place, TypeTree),
     /// A function that is entered from outside.
-    Function(Function),
+    Function(Place, Function),
 }
 
 /// What a function is for.
@@ -31,7 +40,7 @@ pub enum FunctionKind {
 #[derive(Drop)]
 pub struct Function {
     pub kind: FunctionKind,
-    pub name: Name,
+    pub name: PlacedName,
     pub parameters: Vec<Parameter>,
     pub result_type: TypeTree,
     pub body: ExpTree,
@@ -40,7 +49,7 @@ pub struct Function {
 /// A parameter of a function.
 #[derive(Drop)]
 pub struct Parameter {
-    pub name: Name,
+    pub name: PlacedName,
     pub of_type: TypeTree,
 }
 
@@ -48,20 +57,42 @@ pub struct Parameter {
 #[derive(Drop)]
 pub enum TypeTree {
     /// `unit`
-    UnitType,
+    UnitType(Place),
+    /// `bool`
+    BoolType(Place),
+    /// `int`
+    IntType(Place),
+    /// `text`
+    TextType(Place),
     /// `auth` and a type
-    AuthType(Box<TypeTree>),
+    AuthType(Place, Box<TypeTree>),
+}
+
+/// An operation on one operand.
+#[derive(Clone, Copy, Debug, PartialEq, Eq)]
+pub enum UnaryOperator {
+    Auth,
+    Unauth,
+}
+
+/// An operation on two operands.
+#[derive(Clone, Copy, Debug, PartialEq, Eq)]
+pub enum BinaryOperator {
+    Add,
 }
 
 /// An expression, as it is written.
 #[derive(Drop)]
 pub enum ExpTree {
     /// `()`
-    UnitLiteral,
+    UnitLiteral(Place),
+    /// `true` or `false`
+    BoolLiteral(Place, bool),
+    IntLiteral(Place, i64),
+    /// A text, by the bytes that it stands for.
+    TextLiteral(Place, Text),
     /// The name of a parameter.
-    Local(Name),
-    /// `auth(..)`
-    Auth(Box<ExpTree>),
-    /// `unauth(..)`
-    Unauth(Box<ExpTree>),
+    Local(Place, Name),
+    Unary(Place, UnaryOperator, Box<ExpTree>),
+    Binary(Place, BinaryOperator, Box<ExpTree>, Box<ExpTree>),
 }

@@ -1,27 +1,31 @@
-use Rattle.std.proofs.Common.{sym, subst, ◌≡◌, ◌∙◌, ap, List, map, length, true, false, [], ◌∷◌, ◌++◌}
+use Rattle.std.proofs.Common.{◌≡◌, ◌∙◌, ap, sym, subst, List, map, [], ◌∷◌, ◌++◌, true, false}
 use Rattle.std.proofs.lemmas.List.{map-append}
 use Rattle.std.proofs.lemmas.Result.{err_from_is_err_and}
+use Rattle.auth_syntax.specs.Tokens.{count}
 use Rattle.auth_syntax.specs.Syntax.{ParameterSyntax}
-use Rattle.auth_syntax.specs.Parsing.{Found, read_parameter, read_separator, read_parameters}
+use Rattle.auth_syntax.specs.Vocabulary.{fragment}
+use Rattle.auth_syntax.specs.Parsing.{Found, read_parameter, read_separator}
 use Rattle.auth_syntax.specs.Trees.{parameter_of, parameters_of}
 use Rattle.auth_syntax.specs.Remaining.{remaining}
-use Rattle.auth_syntax.proofs.Loops.{IsReadSoFar, read_so_far-none, read_so_far-other, read_so_far-end, read_so_far-comma, separated_is_shorter}
-use Rattle.auth_syntax.proofs.Refusals.{Reads-err}
+use Rattle.auth_syntax.proofs.Faults.{Reads-err}
+use Rattle.auth_syntax.proofs.Loops.{IsReadSoFar, parameters_at, read_so_far-none, read_so_far-other, read_so_far-end, read_so_far-comma, separated_is_shorter}
 use Rattle.auth_syntax.proofs.parser.Parser.parameters.Goals as goal
 
 pub returns-in_err-parameter : goal.returns-in_err-parameter
 returns-in_err-parameter c =
+    let whole = remaining c.args.self.now in
     let p = err_from_is_err_and c.from_residual.result c.from_residual.ensures.1 in
-    rw (p.1, p.2) (Reads-err parameter_of parameters_of (read_parameter (remaining c.each.self))
-    (read_parameters (length (remaining c.args.self.now)) (remaining c.args.self.now)) (remaining c.parameter.new.self) (remaining c.parameter.new.self) c.in_err-parameter.field-0.0
-    (read_so_far-none (remaining c.args.self.now) (map parameter_of c.each.parameters.items) (remaining c.each.self) c.each.invariant) c.in_err-parameter.ensures)
+    rw (p.1, p.2) (Reads-err parameter_of parameters_of (read_parameter fragment (remaining c.each.self)) (parameters_at (count whole) whole)
+    (remaining c.parameter.new.self) (remaining c.parameter.new.self) c.in_err-parameter.field-0.0
+    (read_so_far-none whole (map parameter_of c.each.parameters.items) (remaining c.each.self) c.each.invariant) c.in_err-parameter.ensures)
 
 pub returns-in_err-separator : goal.returns-in_err-separator
 returns-in_err-separator c =
+    let whole = remaining c.args.self.now in
     let p = err_from_is_err_and c.from_residual-in_err-separator.result c.from_residual-in_err-separator.ensures.1 in
-    rw (p.1, p.2) (Reads-err (λ follows. follows) parameters_of (read_separator (remaining c.parameter.new.self))
-    (read_parameters (length (remaining c.args.self.now)) (remaining c.args.self.now)) (remaining c.separator.new.self) (remaining c.separator.new.self) c.in_err-separator.field-0.0
-    (read_so_far-other (remaining c.args.self.now) (map parameter_of c.each.parameters.items) (remaining c.each.self) (remaining c.parameter.new.self)
+    rw (p.1, p.2) (Reads-err (λ follows. follows) parameters_of (read_separator (remaining c.parameter.new.self)) (parameters_at (count whole) whole)
+    (remaining c.separator.new.self) (remaining c.separator.new.self) c.in_err-separator.field-0.0
+    (read_so_far-other whole (map parameter_of c.each.parameters.items) (remaining c.each.self) (remaining c.parameter.new.self)
     (parameter_of c.in_ok-parameter.field-0) c.each.invariant c.in_ok-parameter.ensures) c.in_err-separator.ensures)
 
 pub returns-then-not-branch : goal.returns-then-not-branch

@@ -1,4 +1,5 @@
-use Rattle.std.proofs.Common.{map, length}
+use Rattle.std.proofs.Common.{map}
+use Rattle.auth_syntax.specs.Tokens.{count}
 use Rattle.auth_syntax.specs.Trees.{parameter_of}
 use Rattle.auth_syntax.specs.Remaining.{remaining}
 use Rattle.auth_syntax.proofs.Loops.{IsReadSoFar}
@@ -8,4 +9,4 @@ abbrev pub invariant-each : goal.invariant-each
 invariant-each l = IsReadSoFar (remaining l.fn.self) (map parameter_of l.parameters.items) (remaining l.self)
 
 abbrev pub decreases-each : goal.decreases-each
-decreases-each l = length (remaining l.self)
+decreases-each l = count (remaining l.self)

@@ -1,0 +1,147 @@
+-- The tokens of printed values.
+use Rattle.std.proofs.Common.{◌++◌, ◌/◌, ◌%◌, ◌*◌, Bool, Option, Some, None, unwrap_or, slice_index, nat_le, codes, IsUtf8, sym, subst, append_assoc, length-append, le-leb, lt-ltb, ltb-true, eqb-true, ◌≡◌, ℕ, zero, suc, ◌+◌, ◌-◌, ◌<◌, ◌≤◌, ◌^◌, ◌==◌, true, false, List, [], ◌∷◌, length, take, pos, negsuc, nat_lt, if◌then◌else◌, refl, ap, ◌∙◌, arith}
+use Rattle.std.specs.Char.{is_ascii_digit, is_ascii_lowercase, is_ascii_uppercase, digit_value}
+use Rattle.std.specs.List.{prefix_len}
+use Rattle.std.specs.Str.Parse.{AllDigits, IsNumeral, digits_value}
+use Rattle.std.proofs.lemmas.Bool.{agree_below_at}
+use Rattle.std.proofs.lemmas.Str.{is_utf8-from_IsUtf8}
+use Rattle.std.proofs.lemmas.List.{take_all}
+use Rattle.std.proofs.lemmas.Str.Parse.{digit_from_value}
+use Rattle.auth_syntax.specs.declared.place.Place.{Place}
+use Rattle.auth_syntax.specs.declared.fault.LexicalFault.TheVariants.{NumberRange, TextLong, Utf8}
+use Rattle.auth_syntax.specs.Places.{start, behind_byte}
+use Rattle.hex.specs.Hex.{encode_lower, encode_with, lower_digits}
+use Rattle.auth_syntax.specs.PrintedValues.{all_escaped, escaped, quoted_text}
+use Rattle.auth_syntax.specs.Tokens.{Closed, TextToken, hex_digit, is_control, put, quoted_behind, text_limit, text_piece, Token, IntToken, Next, End, Taken, Wrong, digits_of, first_piece, from_piece, int_piece, is_blank, minus_piece, negative, tokens, tokens_behind}
+
+-- bytes that all belong to the piece before
+passed : (bytes : List ℕ) (n : ℕ) (at : Place) → length bytes ≤ n → (end : Place) × (tokens_behind n at bytes ≡ End end)
+passed [] n at h = (at, refl)
+passed (b ∷ bytes) zero at h = absurd (omega arith)
+passed (b ∷ bytes) (suc n) at h = passed bytes n (behind_byte at b) (omega arith)
+
+-- a text is one token
+abbrev pub IsOneToken : List ℕ → Token → Type 0
+IsOneToken text token = (end : Place) × (tokens text ≡ Next start token (End end))
+
+whole_token : (b : ℕ) (rest : List ℕ) (token : Token) → first_piece b rest ≡ Taken token (length (b ∷ rest)) → IsOneToken (b ∷ rest) token
+whole_token b rest token e =
+    let past = passed rest (length (b ∷ rest) - 1) (behind_byte start b) (omega arith) in
+    (past.0, ap (λ piece. from_piece piece start (b ∷ rest) (λ size. tokens_behind (size - 1) (behind_byte start b) rest)) e ∙ ap (λ ts. Next start token ts) past.1)
+
+is_digit : (c : ℕ) → digit_value c < 10 → is_ascii_digit c ≡ true
+is_digit c h = grind (arith, digit_from_value)
+
+-- digits alone are all in the run of digits
+all_in_run : (ds : List ℕ) → AllDigits 10 ds → prefix_len is_ascii_digit ds ≡ length ds
+all_in_run [] h = refl
+all_in_run (d ∷ ds) h = ap (λ b. if b then 1 + prefix_len is_ascii_digit ds else zero) (is_digit d h.0) ∙ (let more = all_in_run ds h.1 in omega arith)
+
+run_of_digits : (ds : List ℕ) → AllDigits 10 ds → digits_of ds ≡ ds
+run_of_digits ds h = ap (λ n. take n ds) (all_in_run ds h) ∙ take_all (length ds) ds (omega arith)
+
+-- a digit is nothing that is asked for before it
+no_blank : (b : ℕ) → is_ascii_digit b ≡ true → is_blank b ≡ false
+no_blank b h = grind (arith)
+
+no_comment : (b : ℕ) → is_ascii_digit b ≡ true → b == 35 ≡ false
+no_comment b h = grind (arith)
+
+no_small : (b : ℕ) → is_ascii_digit b ≡ true → is_ascii_lowercase b ≡ false
+no_small b h = grind (arith)
+
+no_capital : (b : ℕ) → is_ascii_digit b ≡ true → is_ascii_uppercase b ≡ false
+no_capital b h = grind (arith)
+
+no_arrow : (b : ℕ) → is_ascii_digit b ≡ true → b == 62 ≡ false
+no_arrow b h = grind (arith)
+
+first_digit : (b : ℕ) (rest : List ℕ) → is_ascii_digit b ≡ true → first_piece b rest ≡ int_piece false (digits_of (b ∷ rest)) (length (digits_of (b ∷ rest)))
+first_digit b rest h = rw (no_blank b h, no_comment b h, no_small b h, no_capital b h, h) refl
+
+-- the digits of a number are one token
+pub whole_int : (ds : List ℕ) (n : ℕ) → IsNumeral 10 ds → digits_value 10 ds ≡ n → nat_lt n (2 ^ 63) ≡ true → IsOneToken ds (IntToken (pos n))
+whole_int [] n h value fits = absurd (omega (arith, h.0))
+whole_int (b ∷ rest) n h value fits =
+    whole_token b rest (IntToken (pos n))
+    (first_digit b rest (is_digit b h.1.0)
+    ∙ ap (λ ds. int_piece false ds (length ds)) (run_of_digits (b ∷ rest) h.1)
+    ∙ ap (λ n. if nat_lt n (2 ^ 63) then Taken (IntToken (pos n)) (length (b ∷ rest)) else Wrong NumberRange 0) value
+    ∙ ap (λ test. if test then Taken (IntToken (pos n)) (length (b ∷ rest)) else Wrong NumberRange 0) fits)
+
+-- and so they are behind a minus
+behind_minus : (ds : List ℕ) → IsNumeral 10 ds → minus_piece ds ≡ int_piece true (digits_of ds) (length (digits_of ds) + 1)
+behind_minus [] h = absurd (omega (arith, h.0))
+behind_minus (d ∷ ds) h = let digit = is_digit d h.1.0 in rw (no_arrow d digit, digit) refl
+
+pub whole_negative : (ds : List ℕ) (n : ℕ) → IsNumeral 10 ds → digits_value 10 ds ≡ suc n → nat_lt n (2 ^ 63) ≡ true → IsOneToken (45 ∷ ds) (IntToken (negsuc n))
+whole_negative ds n h value fits =
+    let small : suc n ≤ 2 ^ 63 = omega (arith, ltb-true n (2 ^ 63) fits) in
+    let size : length ds + 1 ≡ suc (length ds) = omega arith in
+    whole_token 45 ds (IntToken (negsuc n))
+    (behind_minus ds h
+    ∙ ap (λ ds. int_piece true ds (length ds + 1)) (run_of_digits ds h.1)
+    ∙ ap (λ n. if nat_le n (2 ^ 63) then Taken (IntToken (negative n)) (length ds + 1) else Wrong NumberRange 0) value
+    ∙ ap (λ test. if test then Taken (IntToken (negsuc n)) (length ds + 1) else Wrong NumberRange 0) (le-leb (suc n) (2 ^ 63) small)
+    ∙ ap (Taken (IntToken (negsuc n))) size)
+
+-- the two digits of an escape have their values
+some_from_unwrap : (o : Option ℕ) (d : ℕ) → d < 16 → unwrap_or o 99 ≡ d → o ≡ Some d
+some_from_unwrap (Some v) d h e = ap Some e
+some_from_unwrap None d h e = absurd (omega arith)
+
+value_of_digit : (d : ℕ) → d < 16 → hex_digit (slice_index lower_digits d) ≡ Some d
+value_of_digit d h =
+    some_from_unwrap (hex_digit (slice_index lower_digits d)) d h
+    (eqb-true (unwrap_or (hex_digit (slice_index lower_digits d)) 99) d
+    (agree_below_at (λ d. unwrap_or (hex_digit (slice_index lower_digits d)) 99 == d) (λ d. true) 16 d refl h))
+
+-- a byte that is printed between quotes is read back
+abbrev IsReadBack : ℕ → Type 0
+IsReadBack b = (offset : ℕ) (rest : List ℕ) → quoted_behind zero offset (escaped b ++ rest) ≡ put b (quoted_behind zero (offset + length (escaped b)) rest)
+
+escape_back : (b : ℕ) → b < 128 → escaped b ≡ codes "\\x" ++ encode_lower (b ∷ []) → IsReadBack b
+unfolding encode_with
+escape_back b h e offset rest =
+    let high : b / 16 < 16 = omega arith in
+    let low : b % 16 < 16 = omega arith in
+    let ascii : b / 16 < 8 = omega arith in
+    let same : b / 16 * 16 + b % 16 ≡ b = omega arith in
+    let place : offset + 1 + 1 + 1 + 1 ≡ offset + 4 = omega arith in
+    rw (e, value_of_digit (b / 16) high, value_of_digit (b % 16) low, lt-ltb (b / 16) 8 ascii, same, place) refl
+
+plain_back : (b : ℕ) → b == 34 ≡ false → b == 92 ≡ false → is_control b ≡ false → escaped b ≡ b ∷ [] → IsReadBack b
+plain_back b q s c e offset rest = rw (e, q, s, c) refl
+
+control_is_ascii : (b : ℕ) → is_control b ≡ true → b < 128
+control_is_ascii b h = grind (arith)
+
+by_tests : (b : ℕ) (q s n t c : Bool) → b == 34 ≡ q → b == 92 ≡ s → b == 10 ≡ n → b == 9 ≡ t → is_control b ≡ c → IsReadBack b
+by_tests b true s n t c eq es en et ec = subst IsReadBack (sym (eqb-true b 34 eq)) (λ offset rest. ap (λ o. put 34 (quoted_behind zero o rest)) (omega arith))
+by_tests b false true n t c eq es en et ec = subst IsReadBack (sym (eqb-true b 92 es)) (λ offset rest. ap (λ o. put 92 (quoted_behind zero o rest)) (omega arith))
+by_tests b false false true t c eq es en et ec = subst IsReadBack (sym (eqb-true b 10 en)) (λ offset rest. ap (λ o. put 10 (quoted_behind zero o rest)) (omega arith))
+by_tests b false false false true c eq es en et ec = subst IsReadBack (sym (eqb-true b 9 et)) (λ offset rest. ap (λ o. put 9 (quoted_behind zero o rest)) (omega arith))
+by_tests b false false false false true eq es en et ec = escape_back b (control_is_ascii b ec) (rw (eq, es, en, et, ec) refl)
+by_tests b false false false false false eq es en et ec = plain_back b eq es ec (rw (eq, es, en, et, ec) refl)
+
+read_escaped : (b : ℕ) → IsReadBack b
+read_escaped b = by_tests b (b == 34) (b == 92) (b == 10) (b == 9) (is_control b) refl refl refl refl refl
+
+read_all : (bytes : List ℕ) (offset : ℕ) → quoted_behind zero offset (all_escaped bytes ++ codes "\"") ≡ Closed bytes (offset + length (all_escaped bytes) + 1)
+read_all [] offset = ap (Closed []) (omega arith)
+read_all (b ∷ bytes) offset =
+    let size : offset + length (escaped b) + length (all_escaped bytes) + 1 ≡ offset + length (escaped b ++ all_escaped bytes) + 1 = omega (arith, length-append (escaped b) (all_escaped bytes)) in
+    ap (quoted_behind zero offset) (append_assoc (escaped b) (all_escaped bytes) (codes "\""))
+    ∙ read_escaped b offset (all_escaped bytes ++ codes "\"")
+    ∙ ap (put b) (read_all bytes (offset + length (escaped b)))
+    ∙ ap (Closed (b ∷ bytes)) size
+
+-- a text in quotes is one token
+pub whole_text : (bytes : List ℕ) → IsUtf8 bytes → length bytes ≤ text_limit → IsOneToken (quoted_text bytes) (TextToken bytes)
+whole_text bytes utf8 short =
+    let size : 1 + length (all_escaped bytes) + 1 ≡ suc (length (all_escaped bytes ++ codes "\"")) = omega (arith, length-append (all_escaped bytes) (codes "\"")) in
+    whole_token 34 (all_escaped bytes ++ codes "\"") (TextToken bytes)
+    (ap text_piece (read_all bytes 1)
+    ∙ ap (λ test. if test then (if nat_le (length bytes) text_limit then Taken (TextToken bytes) (1 + length (all_escaped bytes) + 1) else Wrong TextLong 0) else Wrong Utf8 0) (is_utf8-from_IsUtf8 bytes utf8)
+    ∙ ap (λ test. if test then Taken (TextToken bytes) (1 + length (all_escaped bytes) + 1) else Wrong TextLong 0) (le-leb (length bytes) text_limit short)
+    ∙ ap (Taken (TextToken bytes)) size)
