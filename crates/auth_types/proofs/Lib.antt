@@ -1,0 +1,10 @@
+pub mod NamesBefore
+pub mod ParameterNames
+pub mod Rows
+pub mod RowsOfLimits
+pub mod TypeNumbers
+pub mod Sizes
+pub mod Elaborating
+pub mod CheckedFunctions
+pub mod TypedTrees
+pub mod CheckedTrees

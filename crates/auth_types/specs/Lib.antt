@@ -1,0 +1,9 @@
+pub mod Checking
+pub mod Declarations
+pub mod WrittenTypes
+pub mod RoleRules
+pub mod Bodies
+pub mod CheckedPrograms
+pub mod Outcomes
+pub mod DeclaredNames
+pub mod OverTypes

@@ -1,0 +1,83 @@
+-- What answers of the checker that hold numbers of types say: over the types of a table, and over any with more behind them.
+use Rattle.std.specs.Prelude.{◌≡◌, Bool, true, ◌&&◌, List, [], ◌∷◌, ◌++◌, map, slice_get, Some, Vec, Result, Ok, Err, ⊤}
+use Rattle.std.specs.Global.{Global}
+use Rattle.core_terms.specs.Types.{Ty}
+use Rattle.core_terms.specs.Terms as tree
+use Rattle.core_terms.specs.Values.{int_fits}
+use Rattle.core_terms.specs.TypeTables.{type_at}
+use Rattle.core_terms.specs.ProgramTrees.{expression_of, function_of}
+use Rattle.core_terms.specs.declared.types.TyId.{TyId}
+use Rattle.core_terms.specs.declared.term.Function.{Function}
+use Rattle.auth_syntax.specs.Syntax.{FunctionSyntax, TypeSyntax}
+use Rattle.auth_syntax.specs.Trees as written
+use Rattle.auth_syntax.specs.declared.place.Place.{Place}
+use Rattle.auth_syntax.specs.declared.tree.ExpTree.{ExpTree}
+use Rattle.auth_syntax.specs.declared.tree.ExpTree.TheVariants.{IntLiteral, Unary', Binary'}
+use Rattle.auth_syntax.specs.declared.tree.Parameter.{Parameter}
+use Rattle.auth_syntax.specs.declared.tree.Declaration.{Declaration}
+use Rattle.auth_syntax.specs.declared.tree.Declaration.TheVariants.{State, Function as FunctionVariant}
+use Rattle.auth_types.specs.Checking.{Checking, Sound, FaultAt}
+use Rattle.auth_types.specs.WrittenTypes.{type_meant, functions_in}
+use Rattle.auth_types.specs.Bodies.{Local, Scope, Typed, parameter_locals}
+use Rattle.auth_types.specs.declared.fault.TypeKind.TheVariants.{NoState}
+use Rattle.auth_types.specs.declared.fault.Fault.{Fault}
+use Rattle.auth_types.specs.declared.fault.Fault.TheVariants.{At, NoMemory}
+use Rattle.auth_types.specs.declared.bodies.Typed.{Typed as TypedTerm}
+
+-- the value shows what is found, over these types and over any with more behind them
+abbrev pub Shows : {A B : Type 0} → List Ty → (List Ty → A → B) → Checking B → A → Type 0
+Shows types view found value = (more : List Ty) → found ≡ Sound (view (types ++ more) value)
+
+-- Ok shows what a part stands for; a refusal gives its first fault
+abbrev pub FindsOver : {A B : Type 0} → List Ty → (List Ty → A → B) → Checking B → Result A Fault → Type 0
+FindsOver types view found (Ok value) = Shows types view found value
+FindsOver types view found (Err (At kind at)) = found ≡ FaultAt kind at
+FindsOver types view found (Err NoMemory) = ⊤
+
+-- each type keeps its number
+abbrev pub Grows : List Ty → List Ty → Type 0
+Grows old new = (more : List Ty) × (new ≡ old ++ more)
+
+-- these are the numbers of these types
+abbrev pub AreNumbers : List Ty → List TyId → List Ty → Type 0
+AreNumbers types ids ts = map (λ id. slice_get types id.0) ids ≡ map Some ts
+
+-- a term and its type, as an expression with its type
+abbrev pub typed_of : List Ty → TypedTerm → Typed
+typed_of types typed = record { expression = expression_of types typed.term; of_type = type_at types typed.ty }
+
+-- the functions of the definitions
+abbrev pub functions_of : List Ty → Vec Function Global → List tree.Function
+functions_of types functions = map (function_of types) functions.items
+
+-- the parameters of the trees as locals, and their types; no named types stand in the fragment
+abbrev pub locals_of : List Parameter → List Local
+locals_of parameters = parameter_locals [] (map written.parameter_of parameters)
+
+abbrev pub types_written : List Parameter → List Ty
+types_written parameters = map (λ p. type_meant [] (written.type_of p.of_type)) parameters
+
+-- what the bodies of the fragment name beside their locals: nothing
+abbrev pub fragment_scope : Scope
+fragment_scope = record { functions = []; constructors = []; table = [] }
+
+-- the functions among the declarations of a tree
+abbrev pub functions_written : List Declaration → List FunctionSyntax
+functions_written declarations = functions_in (map written.declaration_of declarations)
+
+-- each int literal has 64 bits
+abbrev pub ints_fit : ExpTree → Bool
+ints_fit (IntLiteral at z) = int_fits z
+ints_fit (Unary' at operation p operand) = ints_fit operand
+ints_fit (Binary' at operation p first q second) = ints_fit first && ints_fit second
+ints_fit expression = true
+
+abbrev pub all_ints_fit : List Declaration → Bool
+all_ints_fit [] = true
+all_ints_fit (State at of_type ∷ rest) = all_ints_fit rest
+all_ints_fit (FunctionVariant at function ∷ rest) = ints_fit function.body && all_ints_fit rest
+
+-- the type of the first state that is declared, in a text that ends at this place
+abbrev pub state_in : Place → List TypeSyntax → Checking Ty
+state_in end [] = FaultAt NoState end
+state_in end (t ∷ ts) = Sound (type_meant [] t)

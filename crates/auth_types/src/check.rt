@@ -1,0 +1,59 @@
+// The four passes over the tree of a program.
+
+ghost use Rattle.std.specs.Prelude.{◌≡◌, [], IfOk, map};
+ghost use Rattle.core_terms.specs.Programs.{meaning};
+ghost use Rattle.auth_syntax.specs.Trees as written;
+ghost use Rattle.auth_types.specs.CheckedPrograms as specified;
+ghost use Rattle.auth_types.specs.CheckedPrograms.{checked};
+ghost use Rattle.auth_types.specs.Outcomes.{Checks, Finds};
+ghost use Rattle.auth_types.specs.OverTypes.{state_in};
+ghost use Rattle.auth_types.specs.WrittenTypes.{states_in, type_meant};
+
+use crate::bodies::{fourth_pass, number};
+use crate::declarations::first_pass;
+use crate::fault::{Fault, TypeFault, TypeKind};
+use crate::roles::third_pass;
+use auth_syntax::place::Place;
+use auth_syntax::tree::{Ast, Declaration, TypeTree};
+use core_terms::{Digest, Program, TyTable};
+use std::alloc::Global;
+
+/// The written type of the first state. A text without one breaks a rule at its end, which the first pass tells before.
+fn declared_state(declarations: &[Declaration], end: Place) -> Result<&TypeTree, Fault>
+    ensures { Finds (λ tree. type_meant [] (written.type_of tree.now)) (state_in end (states_in (map written.declaration_of declarations.now))) result }
+{
+    for declaration in declarations {
+        if let Declaration::State(_, tree) = declaration {
+            return Ok(tree);
+        }
+    }
+    Err(Fault::At(TypeKind::NoState, end))
+}
+
+/// One pass after another. All names of types are known, since no named types are declared: the second pass finds no fault.
+fn all_passes(alloc: Global, ast: Ast, digest: Digest) -> Result<Program, Fault>
+    ensures answer { Finds meaning (specified.all_passes (written.program_of ast)) result }
+    ensures digest { IfOk result (λ p. p.text_digest ≡ digest) }
+{
+    let Ast { declarations, end } = ast;
+    first_pass(alloc, &declarations, end)?;
+    let tree = declared_state(&declarations, end)?;
+    third_pass(&declarations, tree)?;
+    let mut types = TyTable::new(alloc);
+    let state = number(&mut types, tree)?;
+    let functions = fourth_pass(alloc, &mut types, declarations)?;
+    Ok(Program::new(types, state, functions, digest))
+}
+
+/// The program of a tree, whose text has this digest. The tree is consumed, and its names are moved into the program.
+///
+/// # Errors
+///
+/// `At` with the first fault, by place, of the first pass that has one, and `NoMemory` where there is no memory for the program.
+#[tactic(auto, unfolding(crate::specs::CheckedPrograms::checked))]
+pub fn check(alloc: Global, ast: Ast, digest: Digest) -> Result<Program, TypeFault>
+    ensures answer { Checks (checked (written.program_of ast)) result }
+    ensures digest { IfOk result (λ p. p.text_digest ≡ digest) }
+{
+    Ok(all_passes(alloc, ast, digest)?)
+}

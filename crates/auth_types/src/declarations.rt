@@ -1,0 +1,109 @@
+// The first pass: the names that are declared, and how many.
+ghost use Rattle.std.specs.Prelude.{◌≡◌, [], ◌∷◌, map};
+ghost use Rattle.std.specs.List.{list_any};
+ghost use Rattle.std.specs.Str.{bytes_eq};
+ghost use Rattle.auth_syntax.specs.Trees as written;
+ghost use Rattle.auth_types.specs.Checking.{Sound, new_name};
+ghost use Rattle.auth_types.specs.Declarations as spec;
+ghost use Rattle.auth_types.specs.DeclaredNames.{declared_of, names_met};
+ghost use Rattle.auth_types.specs.Outcomes.{Finds};
+ghost use Rattle.auth_types.specs.declared.fault.Limited.TheVariants.{Functions};
+
+use crate::fault::{Fault, Limited, TypeKind};
+use auth_syntax::place::Place;
+use auth_syntax::tree::{Declaration, Function, Parameter, PlacedName};
+use indexmap::IndexSet;
+use std::alloc::Global;
+
+// How many functions a program has at most.
+const MOST_FUNCTIONS: usize = 1024;
+
+// How many parameters a function has at most.
+const MOST_PARAMETERS: usize = 8;
+
+/// What was declared so far.
+#[derive(Drop)]
+struct Declared<'a> {
+    functions: IndexSet<&'a [u8]>,
+    has_state: bool,
+}
+
+/// The first pass over the declarations of a text that ends at `end`.
+///
+/// # Errors
+///
+/// `At` with the first fault: `Twice` at the name of a function or of a parameter of one function that stood before, or at a second
+/// `state`; `Limit` at the name of a 1,025th function or of a 9th parameter that stands nowhere before; behind all, `NoState` at the
+/// end. `NoMemory` where there is no memory for the names.
+pub(crate) fn first_pass(
+    alloc: Global,
+    declarations: &[Declaration],
+    end: Place,
+) -> Result<(), Fault>
+    ensures { Finds (λ _. tt) (spec.first_pass (record { declarations = map written.declaration_of declarations.now; end = end })) result }
+{
+    let mut declared = Declared {
+        functions: IndexSet::new(alloc),
+        has_state: false,
+    };
+    for declaration in declarations {
+        declare(&mut declared, declaration)?;
+    }
+    if declared.has_state {
+        Ok(())
+    } else {
+        Err(Fault::At(TypeKind::NoState, end))
+    }
+}
+
+/// Adds a declaration to those before it, or finds its first fault.
+fn declare<'a>(declared: &mut Declared<'a>, declaration: &'a Declaration) -> Result<(), Fault>
+    ensures { Finds (λ _. declared_of declared.new) (spec.checked_declaration (declared_of declared.old) (written.declaration_of declaration.now)) result }
+{
+    match declaration {
+        Declaration::State(at, _) if declared.has_state => Err(Fault::At(TypeKind::Twice, *at)),
+        Declaration::State(_, _) => {
+            declared.has_state = true;
+            Ok(())
+        }
+        Declaration::Function(_, function) => {
+            name_function(&mut declared.functions, &function.name)?;
+            check_parameters(&function.parameters)
+        }
+    }
+}
+
+/// Adds the name of a function to those before it, or finds that it may not stand there.
+fn name_function<'a>(names: &mut IndexSet<&'a [u8]>, name: &'a PlacedName) -> Result<(), Fault>
+    ensures { Finds (λ _. names_met names.new.keys) (new_name (names_met names.old.keys) spec.most_functions Functions (written.name_of name.now) (Sound (name.now.name ∷ names_met names.old.keys))) result }
+{
+    if !names.insert(name.name.as_bytes())? {
+        return Err(Fault::At(TypeKind::Twice, name.at));
+    }
+    if names.len() > MOST_FUNCTIONS {
+        return Err(Fault::At(TypeKind::Limit(Limited::Functions), name.at));
+    }
+    Ok(())
+}
+
+/// Whether a parameter has this name.
+fn is_parameter(name: &PlacedName, parameters: &[Parameter]) -> bool
+    ensures { result ≡ list_any (λ p. bytes_eq p.name.name name.now.name) parameters.now }
+{
+    parameters.iter().any(|parameter| parameter.name.name.as_bytes() == name.name.as_bytes())
+}
+
+/// The first fault of the names of a function's parameters.
+fn check_parameters(parameters: &[Parameter]) -> Result<(), Fault>
+    ensures { Finds (λ _. tt) (spec.checked_parameters [] (map written.parameter_of parameters.now)) result }
+{
+    for (place, parameter) in parameters.iter().enumerate() {
+        if is_parameter(&parameter.name, &parameters[..place]) {
+            return Err(Fault::At(TypeKind::Twice, parameter.name.at));
+        }
+        if place >= MOST_PARAMETERS {
+            return Err(Fault::At(TypeKind::Limit(Limited::Parameters), parameter.name.at));
+        }
+    }
+    Ok(())
+}

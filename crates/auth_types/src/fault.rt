@@ -1,0 +1,102 @@
+// How a program's tree breaks the rules of the language.
+
+use auth_syntax::place::Place;
+use std::alloc::{AllocError, AllocFailed};
+
+/// What a program may have only so many of.
+#[derive(Clone, Copy, Debug, PartialEq, Eq)]
+pub enum Limited {
+    /// Named types: 256.
+    Types,
+    /// Constructors of a type: 255.
+    Constructors,
+    /// Fields of a constructor: 8.
+    Fields,
+    /// Functions, roles included: 1,024.
+    Functions,
+    /// Parameters of a function: 8.
+    Parameters,
+    /// Locals at one place: 255.
+    Locals,
+}
+
+/// Which rule a program breaks.
+#[derive(Clone, Copy, Debug, PartialEq, Eq)]
+pub enum TypeKind {
+    /// The name stood before among those of its kind, or the state is declared a second time.
+    Twice,
+    /// One more than there may be.
+    Limit(Limited),
+    /// No state is declared. It stands at the end of the text.
+    NoState,
+    /// Nothing of its kind has this name.
+    UnknownName,
+    /// The role hasn't the shape of its kind.
+    RoleShape,
+    /// An `auth` stands in the type of a role's argument, at any depth.
+    AuthInArgument,
+    /// The part has another type than the one wanted.
+    WrongType,
+    /// The operand of `fst` or `snd` is no pair.
+    NotPair,
+    /// The operand of `unauth` is no authenticated value.
+    NotAuth,
+    /// What is matched is of no named type.
+    NotSum,
+    /// The arms' constructors aren't those of the type, in order.
+    ArmsWrong,
+    /// Another number of parts than a function, a constructor or a pattern has.
+    WrongCount,
+}
+
+/// Why a tree gives no program.
+#[derive(Clone, Copy, Debug, PartialEq, Eq)]
+pub enum TypeFault {
+    /// The first fault: its kind, its line and its column, from 1 and by bytes.
+    At(TypeKind, usize, usize),
+    /// There was no memory for the program.
+    NoMemory,
+}
+
+/// The same inside the checker, with the whole place.
+#[derive(Clone, Copy, Debug, PartialEq, Eq)]
+pub(crate) enum Fault {
+    At(TypeKind, Place),
+    NoMemory,
+}
+
+impl From<Fault> for TypeFault {
+    ghost use Rattle.std.specs.Prelude.{◌≡◌};
+    ghost use Rattle.auth_types.specs.Outcomes.{told_fault};
+
+    ghost from_gives = { λ given fault. fault ≡ told_fault given };
+
+    fn from(fault: Fault) -> TypeFault {
+        match fault {
+            Fault::At(kind, at) => TypeFault::At(kind, at.line, at.column),
+            Fault::NoMemory => TypeFault::NoMemory,
+        }
+    }
+}
+
+impl From<AllocError> for Fault {
+    ghost use Rattle.std.specs.Prelude.{◌≡◌};
+    ghost use Rattle.auth_types.specs.declared.fault.Fault.TheVariants.{NoMemory};
+
+    ghost from_gives = { λ _ fault. fault ≡ NoMemory };
+
+    fn from(_: AllocError) -> Fault {
+        Fault::NoMemory
+    }
+}
+
+impl<T: Drop> From<AllocFailed<T>> for Fault {
+    ghost use Rattle.std.specs.Prelude.{◌≡◌};
+    ghost use Rattle.auth_types.specs.declared.fault.Fault.TheVariants.{NoMemory};
+
+    ghost from_gives = { λ _ fault. fault ≡ NoMemory };
+
+    fn from(_: AllocFailed<T>) -> Fault {
+        Fault::NoMemory
+    }
+}
