@@ -1,0 +1,9 @@
+pub mod Offers
+pub mod ReadShallow
+pub mod InHand
+pub mod Locals
+pub mod Sums
+pub mod Called
+pub mod RoleOf
+pub mod Judging
+pub mod SaysTrue

@@ -1,0 +1,5 @@
+pub mod Causes
+pub mod Pieces
+pub mod Shallow
+pub mod Standing
+pub mod Verdicts
