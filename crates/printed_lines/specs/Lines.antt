@@ -1,0 +1,155 @@
+-- The texts of the lines that are printed. Numbers are decimal, digests 64 lower-case hexadecimal digits.
+use Rattle.std.specs.Prelude.{ℕ, List, ◌++◌, codes, decimal}
+use Rattle.hex.specs.Hex.{encode_lower}
+use Rattle.core_terms.specs.Types.{Ty}
+use Rattle.core_terms.specs.Values.{Value}
+use Rattle.core_terms.specs.declared.cause.Cause.{Cause}
+use Rattle.core_terms.specs.declared.cause.Cause.TheVariants as cause
+use Rattle.core_terms.specs.declared.outcome.Trap.{Trap}
+use Rattle.core_terms.specs.declared.outcome.Trap.TheVariants as trap
+use Rattle.auth_syntax.specs.PrintedValues.{value_text}
+use Rattle.auth_syntax.specs.declared.fault.LexicalFault.{LexicalFault}
+use Rattle.auth_syntax.specs.declared.fault.LexicalFault.TheVariants as lexical
+use Rattle.auth_syntax.specs.declared.fault.SyntaxKind.{SyntaxKind}
+use Rattle.auth_syntax.specs.declared.fault.SyntaxKind.TheVariants as syntax
+use Rattle.auth_syntax.specs.declared.fault.LiteralKind.{LiteralKind}
+use Rattle.auth_syntax.specs.declared.fault.LiteralKind.TheVariants as literal
+use Rattle.auth_types.specs.declared.fault.TypeKind.{TypeKind}
+use Rattle.auth_types.specs.declared.fault.TypeKind.TheVariants as typing
+use Rattle.auth_types.specs.declared.fault.Limited.{Limited}
+use Rattle.auth_types.specs.declared.fault.Limited.TheVariants as limited
+use Rattle.printed_lines.specs.declared.refusal.ProgramKind.{ProgramKind}
+use Rattle.printed_lines.specs.declared.refusal.ProgramKind.TheVariants.{Syntax, Typing}
+use Rattle.printed_lines.specs.declared.refusal.Argument.{Argument}
+use Rattle.printed_lines.specs.declared.refusal.Argument.TheVariants as argument
+use Rattle.printed_lines.specs.declared.refusal.InputFault.{InputFault}
+use Rattle.printed_lines.specs.declared.refusal.InputFault.TheVariants.{TooLong, RoleUnknown, RoleKind, Number, State, Literal}
+use Rattle.printed_lines.specs.declared.refusal.Refusal.{Refusal}
+use Rattle.printed_lines.specs.declared.refusal.Refusal.TheVariants as refusal
+
+-- a text, and a number, behind a blank
+abbrev pub word : List ℕ → List ℕ
+word text = codes " " ++ text
+
+abbrev pub also : ℕ → List ℕ
+also n = word (decimal n)
+
+-- the kinds of faults
+abbrev pub lexical_name : LexicalFault → List ℕ
+lexical_name lexical.Char = codes "Char"
+lexical_name lexical.BadEscape = codes "BadEscape"
+lexical_name lexical.Unclosed = codes "Unclosed"
+lexical_name lexical.Utf8 = codes "Utf8"
+lexical_name lexical.TextLong = codes "TextLong"
+lexical_name lexical.NumberRange = codes "NumberRange"
+lexical_name lexical.NameLong = codes "NameLong"
+
+abbrev pub syntax_name : SyntaxKind → List ℕ
+syntax_name (syntax.Lexical kind) = lexical_name kind
+syntax_name syntax.Expected = codes "Expected"
+syntax_name syntax.TooNested = codes "TooNested"
+
+abbrev pub literal_name : LiteralKind → List ℕ
+literal_name (literal.Lexical kind) = lexical_name kind
+literal_name literal.Mismatch = codes "Mismatch"
+literal_name literal.TooDeep = codes "TooDeep"
+literal_name literal.TooBig = codes "TooBig"
+
+abbrev pub limited_name : Limited → List ℕ
+limited_name limited.Types = codes "types"
+limited_name limited.Constructors = codes "constructors"
+limited_name limited.Fields = codes "fields"
+limited_name limited.Functions = codes "functions"
+limited_name limited.Parameters = codes "parameters"
+limited_name limited.Locals = codes "locals"
+
+abbrev pub typing_name : TypeKind → List ℕ
+typing_name typing.Twice = codes "Twice"
+typing_name (typing.Limit thing) = codes "Limit-" ++ limited_name thing
+typing_name typing.NoState = codes "NoState"
+typing_name typing.UnknownName = codes "UnknownName"
+typing_name typing.RoleShape = codes "RoleShape"
+typing_name typing.AuthInArgument = codes "AuthInArgument"
+typing_name typing.WrongType = codes "WrongType"
+typing_name typing.NotPair = codes "NotPair"
+typing_name typing.NotAuth = codes "NotAuth"
+typing_name typing.NotSum = codes "NotSum"
+typing_name typing.ArmsWrong = codes "ArmsWrong"
+typing_name typing.WrongCount = codes "WrongCount"
+
+-- one more of a thing than there may be
+abbrev pub limit_of : Limited → TypeKind
+limit_of thing = typing.Limit thing
+
+abbrev pub program_name : ProgramKind → List ℕ
+program_name (Syntax kind) = syntax_name kind
+program_name (Typing kind) = typing_name kind
+
+-- the names of arguments
+abbrev pub argument_name : Argument → List ℕ
+argument_name argument.Program = codes "P"
+argument_name argument.State = codes "STATE"
+argument_name argument.Fuel = codes "FUEL"
+argument_name argument.Proof = codes "PROOF"
+
+-- why an input is refused
+abbrev pub input_text : InputFault → List ℕ
+input_text (TooLong argument) = codes "too long" ++ word (argument_name argument)
+input_text RoleUnknown = codes "role unknown"
+input_text RoleKind = codes "role kind"
+input_text (Number argument) = codes "number" ++ word (argument_name argument)
+input_text (State offset) = codes "state" ++ also offset
+input_text (Literal kind offset) = codes "argument" ++ (word (literal_name kind) ++ also offset)
+
+-- that a frame names a kept piece which isn't there
+abbrev pub bad_use_text : ℕ → ℕ → ℕ → List ℕ
+bad_use_text place k held = codes "bad-use" ++ (also place ++ (also k ++ also held))
+
+-- that a piece has another digest than the one held, both in hexadecimal digits
+abbrev pub wrong_piece_text : ℕ → List ℕ → List ℕ → List ℕ
+wrong_piece_text place want found = codes "wrong-piece" ++ (also place ++ (word want ++ word found))
+
+-- why a proof is rejected
+abbrev pub cause_text : Cause → List ℕ
+cause_text cause.Header = codes "header"
+cause_text (cause.Short place) = codes "short" ++ also place
+cause_text (cause.BadKind place byte) = codes "bad-kind" ++ also place ++ also byte
+cause_text (cause.Cut place) = codes "cut" ++ also place
+cause_text (cause.PieceLong place len) = codes "piece-long" ++ also place ++ also len
+cause_text (cause.BadUse place k held) = bad_use_text place k held
+cause_text (cause.WrongPiece place want found) = wrong_piece_text place (encode_lower want.0) (encode_lower found.0)
+cause_text (cause.BadPiece place offset) = codes "bad-piece" ++ also place ++ also offset
+cause_text (cause.Leftover bytes) = codes "leftover" ++ also bytes
+
+-- a line of two parts
+abbrev pub line_of : List ℕ → List ℕ → List ℕ
+line_of front text = front ++ text ++ codes "\n"
+
+-- the line of a refusal
+abbrev pub program_line : ProgramKind → ℕ → ℕ → List ℕ
+program_line kind line column = line_of (codes "program refused: ") (program_name kind ++ also line ++ also column)
+
+abbrev pub refusal_line : Refusal → List ℕ
+refusal_line (refusal.Program kind line column) = program_line kind line column
+refusal_line (refusal.Input fault) = line_of (codes "input refused: ") (input_text fault)
+refusal_line (refusal.Proof cause) = line_of (codes "rejected ") (cause_text cause)
+
+-- the lines of outcomes
+abbrev pub done_line : Ty → Value → List ℕ
+done_line t v = line_of (codes "done ") (value_text t v)
+
+abbrev pub trap_name : Trap → List ℕ
+trap_name trap.Overflow = codes "overflow"
+trap_name trap.DivZero = codes "divzero"
+trap_name trap.TooBig = codes "toobig"
+trap_name trap.TooDeep = codes "toodeep"
+
+abbrev pub trap_line : Trap → List ℕ
+trap_line trap = codes "trap " ++ trap_name trap ++ codes "\n"
+
+abbrev pub out_line : List ℕ
+out_line = codes "out of fuel\n"
+
+-- the line of `check`, with the digest of the program's text
+abbrev pub ok_line : List ℕ → List ℕ
+ok_line digest = line_of (codes "ok ") (encode_lower digest)

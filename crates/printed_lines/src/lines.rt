@@ -1,0 +1,170 @@
+// The lines of outcomes and refusals.
+
+ghost use Rattle.std.specs.Prelude.{◌≡◌, IfOk, string_bytes};
+ghost use Rattle.hex.specs.Hex.{encode_lower};
+ghost use Rattle.core_terms.specs.Programs.{meaning, types_of};
+ghost use Rattle.core_terms.specs.Spelling.{spelling};
+ghost use Rattle.core_terms.specs.TypeTables.{type_at};
+ghost use Rattle.core_terms.specs.Values.{IsShallow, Value};
+ghost use Rattle.printed_lines.specs.Lines as def;
+
+use crate::names::{argument_name, literal_name, program_name};
+use crate::refusal::{InputFault, ProgramKind, Refusal};
+use auth_syntax::printing::print_value;
+use core_terms::{Cause, Digest, Program, Trap, TyId};
+use std::alloc::{AllocError, Global};
+
+/// The line of a refusal.
+pub fn refusal_line(alloc: Global, refusal: &Refusal) -> Result<Vec<u8>, AllocError>
+    ensures { IfOk result (λ line. line.items ≡ def.refusal_line refusal.now) }
+{
+    match *refusal {
+        Refusal::Program(kind, line, column) => program_line(alloc, kind, line, column),
+        Refusal::Input(fault) => {
+            let text = input_text(alloc, fault)?;
+            between(alloc, b"input refused: ", text.as_bytes())
+        }
+        Refusal::Proof(cause) => {
+            let text = cause_text(alloc, cause)?;
+            between(alloc, b"rejected ", text.as_bytes())
+        }
+    }
+}
+
+/// The line of a text that is no program.
+fn program_line(
+    alloc: Global,
+    kind: ProgramKind,
+    line: usize,
+    column: usize,
+) -> Result<Vec<u8>, AllocError>
+    ensures { IfOk result (λ text. text.items ≡ def.program_line kind line column) }
+{
+    let kind = program_name(kind);
+    let fault = format!(in alloc; "{kind} {line} {column}")?;
+    between(alloc, b"program refused: ", fault.as_bytes())
+}
+
+/// Why an input is refused.
+fn input_text(alloc: Global, fault: InputFault) -> Result<String, AllocError>
+    ensures { IfOk result (λ text. string_bytes text ≡ def.input_text fault) }
+{
+    match fault {
+        InputFault::TooLong(word) => {
+            let word = argument_name(word);
+            format!(in alloc; "too long {word}")
+        }
+        InputFault::RoleUnknown => format!(in alloc; "role unknown"),
+        InputFault::RoleKind => format!(in alloc; "role kind"),
+        InputFault::Number(word) => {
+            let word = argument_name(word);
+            format!(in alloc; "number {word}")
+        }
+        InputFault::State(offset) => format!(in alloc; "state {offset}"),
+        InputFault::Literal(kind, offset) => {
+            let kind = literal_name(kind);
+            format!(in alloc; "argument {kind} {offset}")
+        }
+    }
+}
+
+/// Why a proof is rejected.
+fn cause_text(alloc: Global, cause: Cause) -> Result<String, AllocError>
+    ensures { IfOk result (λ text. string_bytes text ≡ def.cause_text cause) }
+{
+    match cause {
+        Cause::Header => format!(in alloc; "header"),
+        Cause::Short(place) => format!(in alloc; "short {place}"),
+        Cause::BadKind(place, byte) => format!(in alloc; "bad-kind {place} {byte}"),
+        Cause::Cut(place) => format!(in alloc; "cut {place}"),
+        Cause::PieceLong(place, len) => format!(in alloc; "piece-long {place} {len}"),
+        Cause::BadUse(place, k, held) => bad_use_text(alloc, place, k, held),
+        Cause::WrongPiece(place, want, found) => wrong_piece_text(alloc, place, &want, &found),
+        Cause::BadPiece(place, offset) => format!(in alloc; "bad-piece {place} {offset}"),
+        Cause::Leftover(bytes) => format!(in alloc; "leftover {bytes}"),
+    }
+}
+
+/// That a frame names a kept piece which isn't there.
+fn bad_use_text(alloc: Global, place: u64, k: u16, held: u16) -> Result<String, AllocError>
+    ensures { IfOk result (λ text. string_bytes text ≡ def.bad_use_text place k held) }
+{
+    format!(in alloc; "bad-use {place} {k} {held}")
+}
+
+/// That a piece has another digest than the one held.
+fn wrong_piece_text(
+    alloc: Global,
+    place: u64,
+    want: &Digest,
+    found: &Digest,
+) -> Result<String, AllocError>
+    ensures { IfOk result (λ text. string_bytes text ≡ def.wrong_piece_text place (encode_lower want.now.0) (encode_lower found.now.0)) }
+{
+    let want = hex::encode(alloc, &want.0)?;
+    let found = hex::encode(alloc, &found.0)?;
+    wrong_digests_text(alloc, place, &want, &found)
+}
+
+/// The same, with the digests in hexadecimal digits.
+fn wrong_digests_text(
+    alloc: Global,
+    place: u64,
+    want: &str,
+    found: &str,
+) -> Result<String, AllocError>
+    ensures { IfOk result (λ text. string_bytes text ≡ def.wrong_piece_text place want.now found.now) }
+{
+    format!(in alloc; "wrong-piece {place} {want} {found}")
+}
+
+/// The line of an outcome with a value of a type of the program, which these bytes spell.
+pub fn done_line(
+    alloc: Global,
+    program: &Program,
+    ty: TyId,
+    bytes: &[u8],
+) -> Result<Vec<u8>, AllocError>
+    ensures { IfOk result (λ line. (v : Value) → IsShallow (meaning program.now).types (type_at (types_of program.now) ty) v → bytes.now ≡ spelling v
+        → line.items ≡ def.done_line (type_at (types_of program.now) ty) v) }
+{
+    let value = print_value(alloc, program, ty, bytes)?;
+    between(alloc, b"done ", &value)
+}
+
+/// A line that ends with these bytes.
+fn between(alloc: Global, front: &[u8], text: &[u8]) -> Result<Vec<u8>, AllocError>
+    ensures { IfOk result (λ line. line.items ≡ def.line_of front.now text.now) }
+{
+    let mut line = Vec::from_slice(alloc, front)?;
+    line.extend_from_slice(text)?;
+    line.push(b'\n')?;
+    Ok(line)
+}
+
+/// The line of a trap.
+pub fn trap_line(trap: Trap) -> &'static str
+    ensures { result.now ≡ def.trap_line trap }
+{
+    match trap {
+        Trap::Overflow => "trap overflow\n",
+        Trap::DivZero => "trap divzero\n",
+        Trap::TooBig => "trap toobig\n",
+        Trap::TooDeep => "trap toodeep\n",
+    }
+}
+
+/// The line of an outcome without the fuel that was wanted.
+pub fn out_line() -> &'static str
+    ensures { result.now ≡ def.out_line }
+{
+    "out of fuel\n"
+}
+
+/// The line of a program that is accepted, with the digest of its text.
+pub fn ok_line(alloc: Global, digest: &Digest) -> Result<Vec<u8>, AllocError>
+    ensures { IfOk result (λ line. line.items ≡ def.ok_line digest.now.0) }
+{
+    let digest = hex::encode(alloc, &digest.0)?;
+    between(alloc, b"ok ", digest.as_bytes())
+}
