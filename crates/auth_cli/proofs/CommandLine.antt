@@ -3,10 +3,11 @@ use Rattle.std.proofs.Common.{◌≡◌, ℕ, List, [], ◌∷◌, length, get_o
 use Rattle.std.specs.List.{list_any}
 use Rattle.std.proofs.lemmas.List.{take_rest}
 use Rattle.lam_outside.specs.Told.{Contents}
-use Rattle.auth_cli.specs.Answer.{answer, command_answer, judged_answer, verify_answer}
+use Rattle.auth_cli.specs.Answer.{answer, check_answer, checked_answer, command_answer, judged_answer, verify_answer}
+use Rattle.auth_cli.specs.SoundPrograms.{HoldsSound, IsOutcome, ReadSound}
 use Rattle.auth_cli.specs.Words.{command_of, texts}
 use Rattle.auth_cli.specs.declared.words.Command.{Command}
-use Rattle.auth_cli.specs.declared.words.Command.TheVariants.{Verify}
+use Rattle.auth_cli.specs.declared.status.Status.{Status}
 
 -- a test of what the elements are mapped to
 pub list_any_mapped : {A B : Type 0} (p : B → Bool) (f : A → B) (xs : List A) → list_any p (map f xs) ≡ list_any (λ x. p (f x)) xs
@@ -25,8 +26,19 @@ verify_words (a ∷ b ∷ c ∷ d ∷ e ∷ []) none files six = absurd (omega a
 verify_words (a ∷ b ∷ c ∷ d ∷ e ∷ f ∷ []) none files six = refl
 verify_words (a ∷ b ∷ c ∷ d ∷ e ∷ f ∷ g ∷ rest) none files six = absurd (omega arith)
 
+-- the one argument of `check`
+pub check_words : (words : List (Bor (List ℕ))) (none : Bor (List ℕ)) (files : Contents) → length words ≡ 1 → check_answer (texts words) files ≡ checked_answer (get_or words 0 none).now files
+check_words [] none files one = absurd (omega arith)
+check_words (a ∷ []) none files one = refl
+check_words (a ∷ b ∷ rest) none files one = absurd (omega arith)
+
+-- the first of some arguments
+pub first_word : (words : List (Bor (List ℕ))) (none : Bor (List ℕ)) (files : Contents) (status : Status) → (IsOutcome status → HoldsSound (files (get_or words 0 none).now)) → ReadSound (texts words) files status
+first_word [] none files status sound = tt
+first_word (a ∷ rest) none files status sound = sound
+
 -- the words behind the command
-texts_behind : (words : List (Bor (List ℕ))) → texts (take (length words - 2) (drop 2 words)) ≡ drop 2 (texts words)
+pub texts_behind : (words : List (Bor (List ℕ))) → texts (take (length words - 2) (drop 2 words)) ≡ drop 2 (texts words)
 texts_behind words = ap texts (take_rest words 2) ∙ by words
   where
     by : (words : List (Bor (List ℕ))) → texts (drop 2 words) ≡ drop 2 (texts words)
@@ -34,7 +46,7 @@ texts_behind words = ap texts (take_rest words 2) ∙ by words
     by (a ∷ []) = refl
     by (a ∷ b ∷ rest) = refl
 
--- the answer of words that call `verify` is that of its arguments
-pub verify_called : (words : List (Bor (List ℕ))) (command : Command) → Some command ≡ command_of (texts words) → answer (texts words) ≡ verify_answer (texts (take (length words - 2) (drop 2 words)))
+-- the answer of words that call a command is that of its arguments
+pub command_called : (words : List (Bor (List ℕ))) (command : Command) → Some command ≡ command_of (texts words) → answer (texts words) ≡ command_answer (Some command) (texts (take (length words - 2) (drop 2 words)))
 unfolding answer
-verify_called words Verify called = ap (λ found. command_answer found (drop 2 (texts words))) (sym called) ∙ ap verify_answer (sym (texts_behind words))
+command_called words command called = ap (λ found. command_answer found (drop 2 (texts words))) (sym called) ∙ ap (command_answer (Some command)) (sym (texts_behind words))

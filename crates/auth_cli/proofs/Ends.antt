@@ -1,19 +1,23 @@
 -- From what was found, and how it was told, to how the run ends.
-use Rattle.std.proofs.Common.{◌≡◌, ℕ, List, [], ◌∷◌, Option, Some, None, Ok, Err, refl, ap, sym, ◌∙◌, inl, inr}
+use Rattle.std.proofs.Common.{◌≡◌, ℕ, List, [], ◌∷◌, codes, Option, Some, None, Ok, Err, refl, ap, sym, ◌∙◌, inl, inr}
 use Rattle.std.specs.List.{concat}
 use Rattle.std.specs.Option.{ForSome}
 use Rattle.std.specs.Io.KnownBytes.{append_known}
 use Rattle.std.proofs.lemmas.List.{append-nil}
 use Rattle.lam_outside.specs.Causes.{Rose}
 use Rattle.lam_outside.specs.Told.{Contents, Stores, AddsStores}
-use Rattle.auth_cli.specs.Answer.{Answer, says}
+use Rattle.printed_lines.specs.Lines.{refusal_line}
+use Rattle.printed_lines.specs.declared.refusal.Refusal.{Refusal}
+use Rattle.printed_lines.specs.declared.refusal.Refusal.TheVariants as refusal
+use Rattle.auth_cli.specs.Answer.{Answer, refused, refusal_status, says}
 use Rattle.auth_cli.specs.Ending.{Outside, EndsAnswered, EndsAs, EndsInWriteFault, IsToldAs, MayWrite, StoresSome, WritesPart, lines_of}
 use Rattle.auth_cli.specs.Halting.{Found, Finds, HaltCause, ending_status, line_of, status_of}
 use Rattle.auth_cli.specs.Telling.{Tells}
 use Rattle.auth_cli.specs.declared.report.Ending.{Ending}
 use Rattle.auth_cli.specs.declared.report.Ending.TheVariants as ending
-use Rattle.auth_cli.specs.declared.report.Halt.TheVariants.{Usage, ProgramRefused, InputRefused, Rejected, ReadFault, NoMemory}
+use Rattle.auth_cli.specs.declared.report.Halt.TheVariants.{Usage, Refused, ReadFault, NoMemory}
 use Rattle.auth_cli.specs.declared.status.Status.{Status}
+use Rattle.auth_cli.specs.declared.status.Status.TheVariants as status
 
 -- nothing was handed to `store`
 adds_none : (old new : Option Stores) → new ≡ old → AddsStores old new []
@@ -61,14 +65,29 @@ module _ (answer : Contents → Option Answer) (old new : Outside) where
   report_ends ending.Trap line finds written same reads stores writes = answered _ line finds written same reads stores writes
   report_ends ending.OutOfFuel line finds written same reads stores writes = answered _ line finds written same reads stores writes
 
+  -- a refusal was told
+  refusal_ends : (what : Refusal) → ForSome old.contents (λ files. answer files ≡ Some (refused what))
+      → new.written ≡ append_known old.written (refusal_line what) → new.stores ≡ old.stores
+      → new.read_faults ≡ old.read_faults → new.store_faults ≡ old.store_faults → new.write_faults ≡ old.write_faults → EndsAs answer old new (refusal_status what)
+  refusal_ends (refusal.Program kind line column) finds written same reads stores writes = answered _ _ finds written same reads stores writes
+  refusal_ends (refusal.Input fault) finds written same reads stores writes = answered _ _ finds written same reads stores writes
+  refusal_ends (refusal.Proof cause) finds written same reads stores writes = answered _ _ finds written same reads stores writes
+
+  -- the want of memory was told
+  memory_ends : new.stores ≡ old.stores → new.store_faults ≡ old.store_faults → new.written ≡ append_known old.written (codes "no memory\n") → new.write_faults ≡ old.write_faults → EndsAs answer old new status.NoMemory
+  memory_ends same stores written writes = record {
+    written = λ files known. (0, written);
+    stored = λ files known. stores_none (answer files) old.stores new.stores same;
+    stores = stores;
+    writes = writes;
+  }
+
   -- all of the line was written
   whole : (found : Found) → FindsTold found → HaltCause old.read_faults new.read_faults found → new.stores ≡ old.stores → new.store_faults ≡ old.store_faults
       → new.written ≡ append_known old.written (line_of found) → new.write_faults ≡ old.write_faults → EndsAs answer old new (status_of found)
   whole (Ok report) finds cause same stores written writes = report_ends report.ending report.line.items finds written same cause stores writes
   whole (Err Usage) finds cause same stores written writes = answered _ _ finds written same cause stores writes
-  whole (Err ProgramRefused) finds cause same stores written writes = answered _ _ finds written same cause stores writes
-  whole (Err InputRefused) finds cause same stores written writes = answered _ _ finds written same cause stores writes
-  whole (Err Rejected) finds cause same stores written writes = answered _ _ finds written same cause stores writes
+  whole (Err (Refused what)) finds cause same stores written writes = refusal_ends what finds written same cause stores writes
   whole (Err ReadFault) finds cause same stores written writes = record {
     rose = cause;
     written = written;
@@ -76,20 +95,13 @@ module _ (answer : Contents → Option Answer) (old new : Outside) where
     stores = stores;
     writes = writes;
   }
-  whole (Err NoMemory) finds cause same stores written writes = record {
-    written = λ files known. (0, written);
-    stored = λ files known. stores_none (answer files) old.stores new.stores same;
-    stores = stores;
-    writes = writes;
-  }
+  whole (Err NoMemory) finds cause same stores written writes = memory_ends same stores written writes
 
   -- the text that was begun
   may_write : (found : Found) (files : Contents) → Finds (answer files) found → MayWrite (answer files) (line_of found)
   may_write (Ok report) files finds = inl (line_is (answer files) _ _ finds)
   may_write (Err Usage) files finds = inl (line_is (answer files) _ _ finds)
-  may_write (Err ProgramRefused) files finds = inl (line_is (answer files) _ _ finds)
-  may_write (Err InputRefused) files finds = inl (line_is (answer files) _ _ finds)
-  may_write (Err Rejected) files finds = inl (line_is (answer files) _ _ finds)
+  may_write (Err (Refused what)) files finds = inl (line_is (answer files) _ _ finds)
   may_write (Err ReadFault) files finds = inr (inl refl)
   may_write (Err NoMemory) files finds = inr (inr (0, refl))
 
@@ -101,8 +113,18 @@ module _ (answer : Contents → Option Answer) (old new : Outside) where
     stored = λ files known. stores_none (answer files) old.stores new.stores same;
   }
 
+  -- a front of the line of the want of memory was written
+  memory_part : new.stores ≡ old.stores → WritesPart old.written new.written (codes "no memory\n") → Rose old.write_faults new.write_faults → EndsInWriteFault answer old new
+  memory_part same written rose = record {
+    rose = inl rose;
+    part = λ files known. (codes "no memory\n", inr (inr (0, refl)), written);
+    stored = λ files known. stores_none (answer files) old.stores new.stores same;
+  }
+
   -- a command that stores nothing, by what its work found and how that was told
   pub ends_as : (found : Found) (ended : Status) → FindsTold found → HaltCause old.read_faults new.read_faults found → new.stores ≡ old.stores → new.store_faults ≡ old.store_faults
       → Tells found ended old.written new.written old.write_faults new.write_faults → EndsAs answer old new ended
-  ends_as found ended finds cause same stores (inl told) = rw told.0 (whole found finds cause same stores told.1 told.2)
-  ends_as found ended finds cause same stores (inr told) = rw told.0 (part found finds same told.1 told.2)
+  ends_as found ended finds cause same stores (inl (inl told)) = rw told.0 (whole found finds cause same stores told.1 told.2)
+  ends_as found ended finds cause same stores (inl (inr told)) = rw told.0 (part found finds same told.1 told.2)
+  ends_as found ended finds cause same stores (inr (inl told)) = rw told.0 (memory_ends same stores told.1 told.2)
+  ends_as found ended finds cause same stores (inr (inr told)) = rw told.0 (memory_part same told.1 told.2)

@@ -2,25 +2,28 @@
 use Rattle.std.proofs.Common.{◌≡◌, ℕ, Bool, true, false, List, [], ◌∷◌, length, codes, cond, Option, Some, None, refl, ap, ◌∙◌, subst}
 use Rattle.std.specs.Prelude.{nat_le}
 use Rattle.std.specs.List.{list_any}
+use Rattle.std.specs.Option.{option_and_then}
+use Rattle.sha2.specs.Sha256.{sha256}
 use Rattle.lam_outside.specs.Told.{Contents}
-use Rattle.core_terms.specs.Terms.{Program}
+use Rattle.core_terms.specs.Types.{Ty}
+use Rattle.core_terms.specs.Values.{Value}
+use Rattle.core_terms.specs.Reading.{Read, Good, BadAt}
+use Rattle.core_terms.specs.Terms.{Kind, Query, Inner, Init, Update, Program, function_at}
+use Rattle.core_terms.specs.Roles.{role_named}
+use Rattle.auth_syntax.specs.Literals.{Literal, Spelled, literal}
+use Rattle.printed_lines.specs.declared.refusal.Argument.{Argument}
+use Rattle.printed_lines.specs.declared.refusal.Argument.TheVariants as named
+use Rattle.printed_lines.specs.declared.refusal.InputFault.{InputFault}
+use Rattle.printed_lines.specs.declared.refusal.InputFault.TheVariants.{RoleKind, TooLong}
 use Rattle.ideal_meaning.specs.Ideal.{Outcome}
 use Rattle.ideal_meaning.specs.Checked.{Verdict, BadState, BadArgument, Rejected, Accepted}
-use Rattle.auth_cli.specs.Answer.{Answer, Call, answer, call_verdict, command_answer, input_refused, is_state, judged_answer, verdict_answer, with_file, with_input, with_program}
-use Rattle.auth_cli.specs.Arguments.{query_named, fuel_of, argument_spelling}
-use Rattle.auth_cli.specs.Elaboration.{program_of_text}
-use Rattle.auth_cli.specs.Verdicts.{argument_type}
+use Rattle.verifier_mode.specs.Verdicts.{argument_type}
+use Rattle.auth_cli.specs.Answer.{Answer, Call, DigestedProgram, answer, argument_literal, call_answer, command_answer, input_refused, judged_answer, max_file, max_program, state_read, verdict_answer, with_argument, with_file, with_literal, with_number, with_program, with_query, with_query_at, with_state_read}
+use Rattle.auth_cli.specs.Arguments.{is_query, query_at, query_named, fuel_of}
+use Rattle.auth_cli.specs.SoundPrograms.{IsOutcome}
+use Rattle.auth_cli.specs.TextPrograms.{TextProgram, IsProgram, program_of_text}
 use Rattle.auth_cli.specs.Words.{is_refused}
 use Rattle.auth_cli.specs.declared.words.Command.TheVariants.{Verify}
-use Rattle.auth_cli.specs.declared.status.Status.{Status}
-use Rattle.auth_cli.specs.declared.status.Status.TheVariants as status
-
--- a status of an outcome
-abbrev pub IsOutcome : Status → Type 0
-IsOutcome status.Done = Unit {0}
-IsOutcome status.Trap = Unit {0}
-IsOutcome status.OutOfFuel = Unit {0}
-IsOutcome other = ⊥
 
 -- the answer tells an outcome
 abbrev pub HasOutcome : Option Answer → Type 0
@@ -34,32 +37,58 @@ Leads answer behind = HasOutcome answer → answer ≡ behind
 leads_on : (a b c : Option Answer) → Leads a b → Leads b c → Leads a c
 leads_on a b c first next has = let same = first has in same ∙ next (subst HasOutcome same has)
 
-test_leads : (test : Bool) (behind : Option Answer) → Leads (cond test behind (Some input_refused)) behind
-test_leads true behind has = refl
-test_leads false behind has = absurd has
+test_leads : (test : Bool) (fault : InputFault) (behind : Option Answer) → Leads (cond test behind (Some (input_refused fault))) behind
+test_leads true fault behind has = refl
+test_leads false fault behind has = absurd has
 
-file_leads : (most : ℕ) (file : Option (List ℕ)) (bytes : List ℕ) (go : List ℕ → Option Answer) → file ≡ Some bytes → Leads (with_file most file go) (go bytes)
-file_leads most file bytes go held has =
-    let same : with_file most file go ≡ with_file most (Some bytes) go = ap (λ f. with_file most f go) held in
-    same ∙ test_leads (nat_le (length bytes) most) (go bytes) (subst HasOutcome same has)
+file_leads : (most : ℕ) (word : Argument) (file : Option (List ℕ)) (bytes : List ℕ) (go : List ℕ → Option Answer) → file ≡ Some bytes → Leads (with_file most word file go) (go bytes)
+file_leads most word file bytes go held has =
+    let same : with_file most word file go ≡ with_file most word (Some bytes) go = ap (λ f. with_file most word f go) held in
+    same ∙ test_leads (nat_le (length bytes) most) (TooLong word) (go bytes) (subst HasOutcome same has)
 
-program_leads : (found : Option Program) (P : Program) (go : Program → Option Answer) → found ≡ Some P → Leads (with_program found go) (go P)
-program_leads found P go is has = ap (λ p. with_program p go) is
+program_leads : (digest : List ℕ) (found : TextProgram) (P : Program) (go : DigestedProgram → Option Answer) → found ≡ IsProgram P → Leads (with_program digest found go) (go (record { program = P; digest = digest }))
+program_leads digest found P go is has = ap (λ p. with_program digest p go) is
 
-input_leads : {A : Type 0} (input : Option A) (a : A) (go : A → Option Answer) → input ≡ Some a → Leads (with_input input go) (go a)
-input_leads input a go is has = ap (λ i. with_input i go) is
+-- a query that is found by its name is gone on with
+query_leads : (P : Program) (name : List ℕ) (f : ℕ) (go : ℕ → Option Answer) → query_named P name ≡ Some f → Leads (with_query P name go) (go f)
+query_leads P name f go is has = by (role_named P name) is has
+  where
+    of_kind : (kind : Kind) (i : ℕ) (fault : InputFault) → cond (is_query kind) (Some i) None ≡ Some f → Leads (cond (is_query kind) (go i) (Some (input_refused fault))) (go f)
+    of_kind Query i fault e has = ap go (cc)
+    of_kind Inner i fault e has = absurd has
+    of_kind Init i fault e has = absurd has
+    of_kind Update i fault e has = absurd has
+
+    by : (found : Option ℕ) → option_and_then (query_at P) found ≡ Some f → Leads (with_query_at P found go) (go f)
+    by None e has = absurd has
+    by (Some i) e has = of_kind (function_at P i).kind i RoleKind e has
+
+number_leads : (word : Argument) (found : Option ℕ) (n : ℕ) (go : ℕ → Option Answer) → found ≡ Some n → Leads (with_number word found go) (go n)
+number_leads word found n go is has = ap (λ i. with_number word i go) is
+
+read_leads : (found : Read Value) (bytes : List ℕ) (go : List ℕ → Option Answer) → Leads (with_state_read found bytes go) (go bytes)
+read_leads (Good v rest place) bytes go has = refl
+read_leads (BadAt offset) bytes go has = absurd has
+
+literal_leads : (found : Literal) (a : List ℕ) (go : List ℕ → Option Answer) → found ≡ Spelled a → Leads (with_literal found go) (go a)
+literal_leads found a go is has = ap (λ l. with_literal l go) is
+
+argument_leads : (P : Program) (f : ℕ) (text a : List ℕ) (go : List ℕ → Option Answer) → literal P (argument_type P f) text ≡ Spelled a → Leads (with_argument P f text go) (go a)
+unfolding argument_literal
+argument_leads P f text a go is has = literal_leads (literal P (argument_type P f) text) a go is has
 
 module _ (program role state argument fuel proof : List ℕ) (files : Contents) (text s a bytes : List ℕ) (P : Program) (f k : ℕ) where
   -- the call that the arguments mean
   abbrev pub meant_call : Call
   meant_call = record { program = P; role = f; fuel = k; state = s; argument = a }
 
-  judged_leads : files program ≡ Some text → program_of_text text ≡ Some P → query_named P role ≡ Some f → fuel_of fuel ≡ Some k → files state ≡ Some s
-      → argument_spelling (argument_type P f) argument ≡ Some a → files proof ≡ Some bytes
-      → Leads (judged_answer program role state argument fuel proof files) (Some (verdict_answer (call_verdict meant_call bytes)))
+  judged_leads : files program ≡ Some text → program_of_text text ≡ IsProgram P → query_named P role ≡ Some f → fuel_of fuel ≡ Some k → files state ≡ Some s
+      → literal P (argument_type P f) argument ≡ Spelled a → files proof ≡ Some bytes
+      → Leads (judged_answer program role state argument fuel proof files) (Some (call_answer meant_call bytes))
   judged_leads text_is program_is role_is fuel_is state_is argument_is proof_is =
-      leads_on _ _ _ (file_leads _ _ text _ text_is) (leads_on _ _ _ (program_leads _ P _ program_is) (leads_on _ _ _ (input_leads _ f _ role_is) (leads_on _ _ _ (input_leads _ k _ fuel_is)
-      (leads_on _ _ _ (file_leads _ _ s _ state_is) (leads_on _ _ _ (test_leads (is_state P s) _) (leads_on _ _ _ (input_leads _ a _ argument_is) (file_leads _ _ bytes _ proof_is)))))))
+      leads_on _ _ _ (file_leads max_program named.Program _ text _ text_is) (leads_on _ _ _ (program_leads (sha256 text) _ P _ program_is) (leads_on _ _ _ (query_leads P role f _ role_is)
+      (leads_on _ _ _ (number_leads named.Fuel _ k _ fuel_is) (leads_on _ _ _ (file_leads max_file named.State _ s _ state_is) (leads_on _ _ _ (read_leads (state_read P s) s _)
+      (leads_on _ _ _ (argument_leads P f argument a _ argument_is) (file_leads max_file named.Proof _ bytes _ proof_is)))))))
 
   command_leads : (refused : Bool) → Leads (command_answer (cond refused None (Some Verify)) (program ∷ role ∷ state ∷ argument ∷ fuel ∷ proof ∷ []) files) (judged_answer program role state argument fuel proof files)
   command_leads true has = absurd has
@@ -67,9 +96,9 @@ module _ (program role state argument fuel proof : List ℕ) (files : Contents) 
 
   -- the answer of words that call `verify` on these files and arguments is that of the verdict
   pub line_leads : (line : List (List ℕ)) (name : List ℕ) → line ≡ name ∷ codes "verify" ∷ program ∷ role ∷ state ∷ argument ∷ fuel ∷ proof ∷ []
-      → files program ≡ Some text → program_of_text text ≡ Some P → query_named P role ≡ Some f → fuel_of fuel ≡ Some k → files state ≡ Some s
-      → argument_spelling (argument_type P f) argument ≡ Some a → files proof ≡ Some bytes
-      → Leads (answer line files) (Some (verdict_answer (call_verdict meant_call bytes)))
+      → files program ≡ Some text → program_of_text text ≡ IsProgram P → query_named P role ≡ Some f → fuel_of fuel ≡ Some k → files state ≡ Some s
+      → literal P (argument_type P f) argument ≡ Spelled a → files proof ≡ Some bytes
+      → Leads (answer line files) (Some (call_answer meant_call bytes))
   unfolding answer
   line_leads line name words text_is program_is role_is fuel_is state_is argument_is proof_is has =
       let same = ap (λ l. answer l files) words in
@@ -77,8 +106,8 @@ module _ (program role state argument fuel proof : List ℕ) (files : Contents) 
       (judged_leads text_is program_is role_is fuel_is state_is argument_is proof_is) (subst HasOutcome same has)
 
 -- a verdict that tells an outcome is an accepted one
-pub accepted : (v : Verdict) → HasOutcome (Some (verdict_answer v)) → (o : Outcome) × (v ≡ Accepted o)
-accepted (BadState offset) has = absurd has
-accepted (BadArgument offset) has = absurd has
-accepted (Rejected cause) has = absurd has
-accepted (Accepted o) has = (o, refl)
+pub accepted : (t : Ty) (v : Verdict) → HasOutcome (Some (verdict_answer t v)) → (o : Outcome) × (v ≡ Accepted o)
+accepted t (BadState offset) has = absurd has
+accepted t (BadArgument offset) has = absurd has
+accepted t (Rejected cause) has = absurd has
+accepted t (Accepted o) has = (o, refl)

@@ -1,21 +1,31 @@
 -- What a run answers: its status, the lines that it writes and the files that it stores.
-use Rattle.std.specs.Prelude.{ℕ, Bool, true, false, List, [], ◌∷◌, ◌++◌, length, drop, nat_le, codes, Option, Some, None, if◌then◌else◌}
-use Rattle.hex.specs.Hex.{encode_lower}
+use Rattle.std.specs.Prelude.{ℕ, List, [], ◌∷◌, length, drop, nat_le, codes, Option, Some, None, if◌then◌else◌}
 use Rattle.sha2.specs.Sha256.{sha256}
 use Rattle.lam_outside.specs.Told.{Contents, Stores}
-use Rattle.core_terms.specs.Values.{Value, UnitV, DigestV}
+use Rattle.core_terms.specs.Types.{Ty}
+use Rattle.core_terms.specs.Values.{Value}
 use Rattle.core_terms.specs.Reading.{Read, Good, BadAt}
-use Rattle.core_terms.specs.Terms.{Program}
+use Rattle.core_terms.specs.Terms.{Program, function_at}
+use Rattle.core_terms.specs.Roles.{role_named}
 use Rattle.core_terms.specs.Projection.{read_at}
-use Rattle.ideal_meaning.specs.Run as run
+use Rattle.auth_syntax.specs.Literals.{Literal, Spelled, FirstFault, literal}
+use Rattle.auth_syntax.specs.declared.fault.LiteralKind.TheVariants.{Mismatch}
 use Rattle.ideal_meaning.specs.Ideal as ideal
 use Rattle.ideal_meaning.specs.Checked as checked
-use Rattle.auth_cli.specs.Arguments.{query_named, fuel_of, argument_spelling}
-use Rattle.auth_cli.specs.Elaboration.{program_of_text}
-use Rattle.auth_cli.specs.Verdicts.{argument_type}
+use Rattle.printed_lines.specs.Lines.{done_line, ok_line, out_line, refusal_line}
+use Rattle.printed_lines.specs.declared.refusal.Argument.{Argument}
+use Rattle.printed_lines.specs.declared.refusal.Argument.TheVariants as named
+use Rattle.printed_lines.specs.declared.refusal.InputFault.{InputFault}
+use Rattle.printed_lines.specs.declared.refusal.InputFault.TheVariants.{TooLong, RoleUnknown, RoleKind, Number, State, Literal as BadLiteral}
+use Rattle.printed_lines.specs.declared.refusal.Refusal.{Refusal}
+use Rattle.printed_lines.specs.declared.refusal.Refusal.TheVariants as refusal
+use Rattle.verifier_mode.specs.Verdicts.{argument_type}
+use Rattle.auth_cli.specs.Arguments.{is_query, fuel_of}
+use Rattle.auth_cli.specs.TextPrograms.{TextProgram, IsProgram, IsRefused, program_of_text}
+use Rattle.auth_cli.specs.VerdictLines.{rejected_line, trap_line}
 use Rattle.auth_cli.specs.Words.{command_of}
 use Rattle.auth_cli.specs.declared.words.Command.{Command}
-use Rattle.auth_cli.specs.declared.words.Command.TheVariants.{Verify}
+use Rattle.auth_cli.specs.declared.words.Command.TheVariants.{Check, Verify}
 use Rattle.auth_cli.specs.declared.status.Status.{Status}
 use Rattle.auth_cli.specs.declared.status.Status.TheVariants.{Done, Usage, Trap, OutOfFuel, Rejected, ProgramRefused, InputRefused}
 
@@ -33,37 +43,32 @@ says status line = record { status = status; lines = line ∷ []; stored = [] }
 abbrev pub usage_answer : Answer
 usage_answer = says Usage (codes "usage: lamauth COMMAND ARGUMENTS\n")
 
--- what is answered to a text that is no program
-abbrev pub program_refused : Answer
-program_refused = says ProgramRefused (codes "program refused\n")
+-- what is answered to what is refused: a text that is no program, an input, or a proof
+abbrev pub refusal_status : Refusal → Status
+refusal_status (refusal.Program kind line column) = ProgramRefused
+refusal_status (refusal.Input fault) = InputRefused
+refusal_status (refusal.Proof cause) = Rejected
 
--- what is answered to a file that is too long, and to a role, a number, a state or an argument that is refused
-abbrev pub input_refused : Answer
-input_refused = says InputRefused (codes "input refused\n")
+abbrev pub refused : Refusal → Answer
+refused what = says (refusal_status what) (refusal_line what)
 
--- the text of a shallow value: the unit value, or a digest in 64 hexadecimal digits. The language has no other values yet.
-abbrev pub value_text : Value → List ℕ
-value_text UnitV = codes "()"
-value_text (DigestV digest) = codes "#" ++ encode_lower digest
-value_text v = []
+abbrev pub input_refused : InputFault → Answer
+input_refused fault = refused (refusal.Input fault)
 
-abbrev pub trap_name : run.Trap → List ℕ
-trap_name run.Overflow = codes "overflow"
-trap_name run.DivZero = codes "divzero"
-trap_name run.TooBig = codes "toobig"
-trap_name run.TooDeep = codes "toodeep"
+-- what is answered for an outcome, whose value has type t
+abbrev pub outcome_answer : Ty → ideal.Outcome → Answer
+outcome_answer t (ideal.Done v) = says Done (done_line t v)
+outcome_answer t (ideal.Trapped trap) = says Trap (trap_line trap)
+outcome_answer t ideal.Out = says OutOfFuel out_line
 
--- what is answered for an outcome, and for a verdict
-abbrev pub outcome_answer : ideal.Outcome → Answer
-outcome_answer (ideal.Done v) = says Done (codes "done " ++ value_text v ++ codes "\n")
-outcome_answer (ideal.Trapped trap) = says Trap (codes "trap " ++ trap_name trap ++ codes "\n")
-outcome_answer ideal.Out = says OutOfFuel (codes "out of fuel\n")
-
-abbrev pub verdict_answer : checked.Verdict → Answer
-verdict_answer (checked.BadState offset) = input_refused
-verdict_answer (checked.BadArgument offset) = input_refused
-verdict_answer (checked.Rejected cause) = says Rejected (codes "rejected\n")
-verdict_answer (checked.Accepted o) = outcome_answer o
+-- What is answered for a verdict on a call whose state was read, and whose argument is the spelling of a literal's value. So no
+-- verdict is on the state; and one on the argument would say that a literal's value isn't read back from its spelling: it is
+-- answered all the same, as no literal of its type.
+abbrev pub verdict_answer : Ty → checked.Verdict → Answer
+verdict_answer t (checked.BadState offset) = input_refused (State offset)
+verdict_answer t (checked.BadArgument offset) = input_refused (BadLiteral Mismatch offset)
+verdict_answer t (checked.Rejected cause) = says Rejected (rejected_line cause)
+verdict_answer t (checked.Accepted o) = outcome_answer t o
 
 -- the longest text of a program, and the longest of all other files
 abbrev pub max_program : ℕ
@@ -72,37 +77,73 @@ max_program = 262144
 abbrev pub max_file : ℕ
 max_file = 67108864
 
--- Goes on with a file's bytes. There is no answer where the file isn't there: that is a fault of the outside.
-abbrev pub with_file : ℕ → Option (List ℕ) → (List ℕ → Option Answer) → Option Answer
-with_file most None go = None
-with_file most (Some bytes) go = if nat_le (length bytes) most then go bytes else Some input_refused
+-- Goes on with the bytes of the file that an argument names. There is no answer where the file isn't there: that is a fault of
+-- the outside.
+abbrev pub with_file : ℕ → Argument → Option (List ℕ) → (List ℕ → Option Answer) → Option Answer
+with_file most word None go = None
+with_file most word (Some bytes) go = if nat_le (length bytes) most then go bytes else Some (input_refused (TooLong word))
 
--- goes on with the program of a text
-abbrev pub with_program : Option Program → (Program → Option Answer) → Option Answer
-with_program None go = Some program_refused
-with_program (Some P) go = go P
+-- a program with the digest of its text
+pub record DigestedProgram : Type 0 where
+  pub program : Program
+  pub digest : List ℕ
 
--- goes on with an input that is well-formed
-abbrev pub with_input : {A : Type 0} → Option A → (A → Option Answer) → Option Answer
-with_input None go = Some input_refused
-with_input (Some a) go = go a
+-- goes on with the program that a text with this digest is
+abbrev pub with_program : List ℕ → TextProgram → (DigestedProgram → Option Answer) → Option Answer
+with_program digest (IsProgram P) go = go (record { program = P; digest = digest })
+with_program digest (IsRefused kind line column) go = Some (refused (refusal.Program kind line column))
 
--- bytes were read as a value
-abbrev pub is_read : Read Value → Bool
-is_read (Good v rest place) = true
-is_read (BadAt place) = false
+-- goes on with the program of a text, and with that in a file
+abbrev pub with_text : List ℕ → (DigestedProgram → Option Answer) → Option Answer
+with_text text go = with_program (sha256 text) (program_of_text text) go
 
--- the bytes are a spelling at the type of the program's state
-unfoldable pub is_state : Program → List ℕ → Bool
-is_state P bytes = is_read (read_at P P.state bytes)
+abbrev pub with_program_file : Option (List ℕ) → (DigestedProgram → Option Answer) → Option Answer
+with_program_file file go = with_file max_program named.Program file (λ text. with_text text go)
 
--- goes on with the program in a file
-abbrev pub with_program_file : Option (List ℕ) → (Program → Option Answer) → Option Answer
-with_program_file file go = with_file max_program file (λ text. with_program (program_of_text text) go)
+-- goes on with the role of this number, where it is a query
+abbrev pub with_query_at : Program → Option ℕ → (ℕ → Option Answer) → Option Answer
+with_query_at P None go = Some (input_refused RoleUnknown)
+with_query_at P (Some f) go = if is_query (function_at P f).kind then go f else Some (input_refused RoleKind)
 
--- goes on with the spelling of a state in a file
+abbrev pub with_query : Program → List ℕ → (ℕ → Option Answer) → Option Answer
+with_query P name go = with_query_at P (role_named P name) go
+
+-- goes on with the number that an argument tells
+abbrev pub with_number : Argument → Option ℕ → (ℕ → Option Answer) → Option Answer
+with_number word None go = Some (input_refused (Number word))
+with_number word (Some n) go = go n
+
+abbrev pub with_fuel : List ℕ → (ℕ → Option Answer) → Option Answer
+with_fuel text go = with_number named.Fuel (fuel_of text) go
+
+-- goes on with bytes that were read as a state
+abbrev pub with_state_read : Read Value → List ℕ → (List ℕ → Option Answer) → Option Answer
+with_state_read (Good v rest place) bytes go = go bytes
+with_state_read (BadAt offset) bytes go = Some (input_refused (State offset))
+
+-- bytes read at the type of the state
+unfoldable pub state_read : Program → List ℕ → Read Value
+state_read P bytes = read_at P P.state bytes
+
+-- goes on with the spelling of a state, and with that in a file
+abbrev pub with_state : Program → List ℕ → (List ℕ → Option Answer) → Option Answer
+with_state P bytes go = with_state_read (state_read P bytes) bytes go
+
 abbrev pub with_state_file : Program → Option (List ℕ) → (List ℕ → Option Answer) → Option Answer
-with_state_file P file go = with_file max_file file (λ state. if is_state P state then go state else Some input_refused)
+with_state_file P file go = with_file max_file named.State file (λ bytes. with_state P bytes go)
+
+-- goes on with the spelling of a literal's value
+abbrev pub with_literal : Literal → (List ℕ → Option Answer) → Option Answer
+with_literal (Spelled bytes) go = go bytes
+with_literal (FirstFault kind offset) go = Some (input_refused (BadLiteral kind offset))
+
+-- a text as a literal of the type of a query's argument
+unfoldable pub argument_literal : Program → ℕ → List ℕ → Literal
+argument_literal P f text = literal P (argument_type P f) text
+
+-- goes on with the spelling of the argument of a query
+abbrev pub with_argument : Program → ℕ → List ℕ → (List ℕ → Option Answer) → Option Answer
+with_argument P f text go = with_literal (argument_literal P f text) go
 
 -- a call of a query, with the spellings of its state and argument
 pub record Call : Type 0 where
@@ -115,32 +156,44 @@ pub record Call : Type 0 where
 -- goes on with the call that these words name: the program, the role, the fuel, the state and the argument, in this order
 abbrev pub with_call : (program role state argument fuel : List ℕ) → Contents → (Call → Option Answer) → Option Answer
 with_call program role state argument fuel files go =
-    with_program_file (files program) (λ P.
-    with_input (query_named P role) (λ f.
-    with_input (fuel_of fuel) (λ k.
-    with_state_file P (files state) (λ s.
-    with_input (argument_spelling (argument_type P f) argument) (λ a.
-    go (record { program = P; role = f; fuel = k; state = s; argument = a }))))))
+    with_program_file (files program) (λ p.
+    with_query p.program role (λ f.
+    with_fuel fuel (λ k.
+    with_state_file p.program (files state) (λ s.
+    with_argument p.program f argument (λ a.
+    go (record { program = p.program; role = f; fuel = k; state = s; argument = a }))))))
 
 -- the verdict on a proof of a call
 unfoldable pub call_verdict : Call → List ℕ → checked.Verdict
 call_verdict call proof =
     checked.verdict sha256 call.program (argument_type call.program call.role) call.role call.state call.argument call.fuel proof
 
+-- what is answered for it
+abbrev pub call_answer : Call → List ℕ → Answer
+call_answer call proof = verdict_answer (function_at call.program call.role).result (call_verdict call proof)
+
 -- the verdict on a proof file, which is opened when all else is well-formed
 abbrev pub judged_answer : (program role state argument fuel proof : List ℕ) → Contents → Option Answer
 judged_answer program role state argument fuel proof files =
     with_call program role state argument fuel files (λ call.
-    with_file max_file (files proof) (λ bytes. Some (verdict_answer (call_verdict call bytes))))
+    with_file max_file named.Proof (files proof) (λ bytes. Some (call_answer call bytes)))
 
--- `verify P ROLE STATE ARG FUEL PROOF`, by its arguments
+-- `check P`: the digest of the program's text
+abbrev pub checked_answer : List ℕ → Contents → Option Answer
+checked_answer program files = with_program_file (files program) (λ p. Some (says Done (ok_line p.digest)))
+
+-- of each command, by its arguments: `check P` and `verify P ROLE STATE ARG FUEL PROOF`
+abbrev pub check_answer : List (List ℕ) → Contents → Option Answer
+check_answer (program ∷ []) files = checked_answer program files
+check_answer words files = Some usage_answer
+
 abbrev pub verify_answer : List (List ℕ) → Contents → Option Answer
 verify_answer (program ∷ role ∷ state ∷ argument ∷ fuel ∷ proof ∷ []) files = judged_answer program role state argument fuel proof files
 verify_answer words files = Some usage_answer
 
--- of a command, by the words behind it
 abbrev pub command_answer : Option Command → List (List ℕ) → Contents → Option Answer
 command_answer None arguments files = Some usage_answer
+command_answer (Some Check) arguments files = check_answer arguments files
 command_answer (Some Verify) arguments files = verify_answer arguments files
 
 -- by the words of the command line, the program's name first, and the contents of the files

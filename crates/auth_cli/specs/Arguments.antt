@@ -1,13 +1,10 @@
--- The arguments of a command that are no names of files: a role, a number and a literal.
-use Rattle.std.specs.Prelude.{ℕ, List, [], length, nat_le, Bool, true, false, ◌&&◌, Option, Some, None, if◌then◌else◌}
+-- The arguments of a command that are no names of files: a role and a number.
+use Rattle.std.specs.Prelude.{ℕ, List, length, nat_le, Bool, true, false, ◌&&◌, Option, Some, None, if◌then◌else◌}
 use Rattle.std.specs.Option.{option_and_then}
 use Rattle.std.specs.Str.{all_ascii_digits}
 use Rattle.std.specs.Str.Parse.{digits_value}
-use Rattle.core_terms.specs.Types.{Ty, UnitTy}
 use Rattle.core_terms.specs.Terms.{Kind, Query, Program, function_at}
 use Rattle.core_terms.specs.Roles.{role_named}
-use Rattle.auth_syntax.specs.Syntax.{LiteralSyntax, UnitLiteralSyntax}
-use Rattle.auth_syntax.specs.Parsing.{literal}
 
 -- the kind is that of a query
 abbrev pub is_query : Kind → Bool
@@ -33,12 +30,3 @@ is_number text = nat_le 1 (length text) && (nat_le (length text) 20 && all_ascii
 -- the amount of fuel that a text tells: a number that is at most the greatest
 abbrev pub fuel_of : List ℕ → Option ℕ
 fuel_of text = if is_number text && nat_le (digits_value 10 text) most_fuel then Some (digits_value 10 text) else None
-
--- the spelling of a literal's value at a type; none where the literal is of another type
-abbrev pub literal_spelling : Ty → LiteralSyntax → Option (List ℕ)
-literal_spelling UnitTy UnitLiteralSyntax = Some []
-literal_spelling t UnitLiteralSyntax = None
-
--- the spelling of the value that an argument of this type is a literal of
-abbrev pub argument_spelling : Ty → List ℕ → Option (List ℕ)
-argument_spelling t text = option_and_then (literal_spelling t) (literal text)

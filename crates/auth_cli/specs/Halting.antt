@@ -1,11 +1,21 @@
 -- What a command's work found, before it is told.
 use Rattle.std.specs.Prelude.{◌≡◌, ℕ, List, codes, Option, Some, Result, Ok, Err, ⊤}
 use Rattle.lam_outside.specs.Causes.{Rose}
-use Rattle.auth_cli.specs.Answer.{Answer, says}
+use Rattle.auth_syntax.specs.declared.fault.LiteralFault.{LiteralFault}
+use Rattle.auth_syntax.specs.declared.fault.LiteralFault.TheVariants as literal_fault
+use Rattle.auth_syntax.specs.declared.fault.LiteralKind.TheVariants.{Mismatch}
+use Rattle.printed_lines.specs.Lines.{refusal_line}
+use Rattle.printed_lines.specs.declared.refusal.InputFault.TheVariants as input_fault
+use Rattle.printed_lines.specs.declared.refusal.Refusal.TheVariants as refusal
+use Rattle.verifier_mode.specs.declared.judge.Verdict.{Verdict}
+use Rattle.verifier_mode.specs.declared.judge.Verdict.TheVariants as verdict
+use Rattle.auth_cli.specs.Answer.{Answer, says, refusal_status}
+use Rattle.auth_cli.specs.declared.programs.ProgramFault.{ProgramFault}
+use Rattle.auth_cli.specs.declared.programs.ProgramFault.TheVariants as program_fault
 use Rattle.auth_cli.specs.declared.report.Ending.{Ending}
 use Rattle.auth_cli.specs.declared.report.Ending.TheVariants as ending
 use Rattle.auth_cli.specs.declared.report.Halt.{Halt}
-use Rattle.auth_cli.specs.declared.report.Halt.TheVariants.{Usage, ProgramRefused, InputRefused, Rejected, ReadFault, NoMemory}
+use Rattle.auth_cli.specs.declared.report.Halt.TheVariants.{Usage, Refused, ReadFault, NoMemory}
 use Rattle.auth_cli.specs.declared.report.Report.{Report}
 use Rattle.auth_cli.specs.declared.status.Status.{Status}
 use Rattle.auth_cli.specs.declared.status.Status.TheVariants as status
@@ -22,17 +32,13 @@ ending_status ending.OutOfFuel = status.OutOfFuel
 
 abbrev pub halt_status : Halt → Status
 halt_status Usage = status.Usage
-halt_status ProgramRefused = status.ProgramRefused
-halt_status InputRefused = status.InputRefused
-halt_status Rejected = status.Rejected
+halt_status (Refused what) = refusal_status what
 halt_status ReadFault = status.ReadFault
 halt_status NoMemory = status.NoMemory
 
 abbrev pub halt_line : Halt → List ℕ
 halt_line Usage = codes "usage: lamauth COMMAND ARGUMENTS\n"
-halt_line ProgramRefused = codes "program refused\n"
-halt_line InputRefused = codes "input refused\n"
-halt_line Rejected = codes "rejected\n"
+halt_line (Refused what) = refusal_line what
 halt_line ReadFault = codes "read fault\n"
 halt_line NoMemory = codes "no memory\n"
 
@@ -44,6 +50,21 @@ status_of (Err halt) = halt_status halt
 abbrev pub line_of : Found → List ℕ
 line_of (Ok report) = report.line.items
 line_of (Err halt) = halt_line halt
+
+-- the halts that faults of a program, of a literal and of a call are
+abbrev pub of_program_fault : ProgramFault → Halt
+of_program_fault (program_fault.At kind line column) = Refused (refusal.Program kind line column)
+of_program_fault program_fault.NoMemory = NoMemory
+
+abbrev pub of_literal_fault : LiteralFault → Halt
+of_literal_fault (literal_fault.At kind offset) = Refused (refusal.Input (input_fault.Literal kind offset))
+of_literal_fault literal_fault.NoMemory = NoMemory
+
+abbrev pub of_verdict : Verdict → Halt
+of_verdict (verdict.Rejected cause) = Refused (refusal.Proof cause)
+of_verdict (verdict.BadState offset) = Refused (refusal.Input (input_fault.State offset))
+of_verdict (verdict.BadArgument offset) = Refused (refusal.Input (input_fault.Literal Mismatch offset))
+of_verdict verdict.NoMemory = NoMemory
 
 -- what halted the work is what the answer says, unless a file could not be read or memory was wanting
 abbrev pub HaltsAs : Option Answer → Halt → Type 0
@@ -65,6 +86,11 @@ FindsInHand answer found = Finds (Some answer) found
 abbrev pub GoesOn : {A T : Type 0} → ((A → Option Answer) → Option Answer) → (T → A) → Result T Halt → Type 0
 GoesOn {A = A} step value (Ok t) = (go : A → Option Answer) → step go ≡ go (value t)
 GoesOn {A = A} step value (Err halt) = (go : A → Option Answer) → HaltsAs (step go) halt
+
+-- the same of a step on what is in hand
+abbrev pub GoesOnInHand : {A T : Type 0} → ((A → Option Answer) → Option Answer) → (T → A) → Result T Halt → Type 0
+GoesOnInHand step value (Err ReadFault) = ⊥
+GoesOnInHand step value found = GoesOn step value found
 
 -- the count of reads rose at `ReadFault` and nowhere else
 abbrev pub HaltCause : {T : Type 0} → ℕ → ℕ → Result T Halt → Type 0

@@ -1,9 +1,3 @@
-pub mod Elaboration
-pub mod Checking
-pub mod Verdicts
-pub mod Pieces
-pub mod Shallow
-pub mod Standing
 pub mod Answer
 pub mod Arguments
 pub mod Calls
@@ -12,6 +6,9 @@ pub mod Ending
 pub mod Halting
 pub mod ReadPrograms
 pub mod Reporting
+pub mod SoundPrograms
 pub mod Telling
+pub mod TextPrograms
 pub mod TrueLines
+pub mod VerdictLines
 pub mod Words

@@ -1,27 +1,33 @@
 -- What reading a program says of the program of its text. Where memory ran out nothing is said.
-use Rattle.std.specs.Prelude.{◌≡◌, Option, Some, None, Result, Ok, Err, ⊤}
+use Rattle.std.specs.Prelude.{◌≡◌, Result, Ok, Err, ⊤}
 use Rattle.core_terms.specs.Programs.{meaning}
-use Rattle.core_terms.specs.Terms as tree
 use Rattle.core_terms.specs.declared.program.Program.{Program}
 use Rattle.auth_syntax.specs.declared.fault.SyntaxFault.{SyntaxFault}
 use Rattle.auth_syntax.specs.declared.fault.SyntaxFault.TheVariants as syntax_fault
-use Rattle.auth_cli.specs.declared.check.TypeFault.{TypeFault}
-use Rattle.auth_cli.specs.declared.check.TypeFault.TheVariants as type_fault
-use Rattle.auth_cli.specs.declared.check.ProgramFault.{ProgramFault}
-use Rattle.auth_cli.specs.declared.check.ProgramFault.TheVariants.{Refused, NoMemory}
+use Rattle.auth_types.specs.declared.fault.TypeFault.{TypeFault}
+use Rattle.auth_types.specs.declared.fault.TypeFault.TheVariants as type_fault
+use Rattle.printed_lines.specs.declared.refusal.ProgramKind.TheVariants.{Syntax, Typing}
+use Rattle.auth_cli.specs.Answer.{DigestedProgram}
+use Rattle.auth_cli.specs.TextPrograms.{TextProgram, IsProgram, IsRefused}
+use Rattle.auth_cli.specs.declared.programs.ProgramFault.{ProgramFault}
+use Rattle.auth_cli.specs.declared.programs.ProgramFault.TheVariants.{At, NoMemory}
 
--- Ok gives the program of the text; a refusal says that the text is none of a program
-abbrev pub ReadsProgram : Option tree.Program → Result Program ProgramFault → Type 0
-ReadsProgram found (Ok p) = found ≡ Some (meaning p)
-ReadsProgram found (Err Refused) = found ≡ None
+-- Ok gives the program of the text, a refusal its first fault
+abbrev pub ReadsProgram : TextProgram → Result Program ProgramFault → Type 0
+ReadsProgram found (Ok p) = found ≡ IsProgram (meaning p)
+ReadsProgram found (Err (At kind line column)) = found ≡ IsRefused kind line column
 ReadsProgram found (Err NoMemory) = ⊤
 
--- why a text gives no program, where it gives no tree
+-- why a text is no program, where it has no tree
 abbrev pub of_syntax_fault : SyntaxFault → ProgramFault
-of_syntax_fault syntax_fault.Refused = Refused
+of_syntax_fault (syntax_fault.At kind line column) = At (Syntax kind) line column
 of_syntax_fault syntax_fault.NoMemory = NoMemory
 
--- why a text gives no program, where its tree gives none
+-- why a text is no program, where its tree gives none
 abbrev pub of_type_fault : TypeFault → ProgramFault
-of_type_fault type_fault.Refused = Refused
+of_type_fault (type_fault.At kind line column) = At (Typing kind) line column
 of_type_fault type_fault.NoMemory = NoMemory
+
+-- a program with the digest that it holds
+abbrev pub digested : Program → DigestedProgram
+digested p = record { program = meaning p; digest = p.text_digest.0 }

@@ -8,13 +8,14 @@ use Rattle.core_terms.specs.Values.{Value, IsIdeal}
 use Rattle.core_terms.specs.Spelling.{spelling}
 use Rattle.core_terms.specs.Terms.{Program, function_at}
 use Rattle.core_terms.specs.Projection.{projection}
+use Rattle.auth_syntax.specs.Literals.{Spelled, literal}
 use Rattle.ideal_meaning.specs.Ideal.{Outcome}
 use Rattle.ideal_meaning.specs.Frames.{offered, offered_pieces, header}
 use Rattle.ideal_meaning.specs.Headline.{TrueOrSplit, call_of}
+use Rattle.verifier_mode.specs.Verdicts.{argument_type}
 use Rattle.auth_cli.specs.Answer.{outcome_answer}
-use Rattle.auth_cli.specs.Arguments.{argument_spelling, fuel_of, query_named}
-use Rattle.auth_cli.specs.Elaboration.{program_of_text}
-use Rattle.auth_cli.specs.Verdicts.{argument_type}
+use Rattle.auth_cli.specs.Arguments.{fuel_of, query_named}
+use Rattle.auth_cli.specs.TextPrograms.{IsProgram, program_of_text}
 
 -- The words call `verify` on files and arguments that mean these: a query of a program with so much fuel, on an ideal state
 -- and an ideal argument. The state's file and the argument have no more than the spellings of their projections; the proof's
@@ -30,13 +31,13 @@ pub record CallsVerify (line : List (List ℕ)) (files : Contents) (P : Program)
   pub words : line ≡ name ∷ codes "verify" ∷ program_name ∷ role_name ∷ state_name ∷ argument_text ∷ fuel_text ∷ proof_name ∷ []
   pub text : List ℕ
   pub program_file : files program_name ≡ Some text
-  pub program : program_of_text text ≡ Some P
+  pub program : program_of_text text ≡ IsProgram P
   pub role : query_named P role_name ≡ Some f
   pub fuel : fuel_of fuel_text ≡ Some k
   pub ideal_state : IsIdeal P.types P.state state
   pub state_file : files state_name ≡ Some (spelling (projection sha256 P P.state state))
   pub ideal_argument : IsIdeal P.types (argument_type P f) argument
-  pub argument_is : argument_spelling (argument_type P f) argument_text ≡ Some (spelling (projection sha256 P (argument_type P f) argument))
+  pub argument_is : literal P (argument_type P f) argument_text ≡ Spelled (spelling (projection sha256 P (argument_type P f) argument))
   pub proof_file : files proof_name ≡ Some proof
 
 -- the statuses of an outcome
@@ -49,6 +50,6 @@ TellsOutcome number = (number ≡ 0) ⊎ ((number ≡ 3) ⊎ (number ≡ 4))
 abbrev pub IsTrueLine : List (List ℕ) → Contents → Option (List ℕ) → Option (List ℕ) → ℕ → Type 0
 IsTrueLine line files old new number =
     (P : Program) (f k : ℕ) (state argument : Value) (proof : List ℕ) → CallsVerify line files P f k state argument proof → TellsOutcome number
-    → (o : Outcome) × (new ≡ append_known old (concat (outcome_answer o).lines))
+    → (o : Outcome) × (new ≡ append_known old (concat (outcome_answer (function_at P f).result o).lines))
     × ((n : ℕ) × (header P.format proof ≡ Some n)
     × TrueOrSplit sha256 P f (function_at P f).result (call_of state argument) k (offered_pieces (offered P.format.limit (drop 6 proof) n [])) o)

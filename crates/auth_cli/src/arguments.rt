@@ -1,35 +1,45 @@
 // Arguments that are no names of files: a role, a number and a literal.
-ghost use Rattle.std.specs.Prelude.{◌≡◌, ◌<◌, ◌≤◌, ◌^◌, length, IfSome, option_map};
+ghost use Rattle.std.specs.Prelude.{◌≡◌, ◌<◌, ◌≤◌, ◌^◌, length, IfOk};
 ghost use Rattle.std.specs.Str.{all_ascii_digits};
-ghost use Rattle.core_terms.specs.Programs.{meaning, types_of};
+ghost use Rattle.core_terms.specs.Programs.{meaning};
 ghost use Rattle.core_terms.specs.Terms.{function_at};
 ghost use Rattle.core_terms.specs.Terms as tree;
-ghost use Rattle.core_terms.specs.TypeTables.{type_at};
-ghost use Rattle.auth_cli.specs.Arguments.{argument_spelling, fuel_of, is_number, query_named};
-ghost use Rattle.auth_cli.specs.Verdicts.{argument_type};
+ghost use Rattle.auth_cli.specs.Answer.{with_argument, with_fuel, with_query};
+ghost use Rattle.auth_cli.specs.Arguments.{fuel_of, is_number};
+ghost use Rattle.auth_cli.specs.Halting.{GoesOnInHand};
 
-use auth_syntax::literal::{LiteralTree, parse_literal};
-use core_terms::{FunctionId, Kind, Program, Spelling, TyForm, TyId};
+use crate::Halt;
+use auth_syntax::literal::parse_literal;
+use core_terms::{FunctionId, Kind, Program, Spelling};
+use printed_lines::refusal::{Argument, InputFault};
 use std::alloc::Global;
 
-/// The role of this name, where it is a query.
-pub fn query_named(program: &Program, name: &str) -> Option<FunctionId>
-    ensures named { option_map (λ id. id.0) result ≡ query_named (meaning program.now) name.now }
-    ensures there { IfSome result (λ id. id.0 < length (meaning program.now).functions) }
-    ensures query { IfSome result (λ id. (function_at (meaning program.now) id.0).kind ≡ tree.Query) }
+/// The role of this name, which has to be a query.
+pub fn query_named(program: &Program, name: &str) -> Result<FunctionId, Halt>
+    ensures goes { GoesOnInHand (with_query (meaning program.now) name.now) (λ id. id.0) result }
+    ensures there { IfOk result (λ id. id.0 < length (meaning program.now).functions) }
+    ensures query { IfOk result (λ id. (function_at (meaning program.now) id.0).kind ≡ tree.Query) }
 {
-    let role = program.role(name)?;
+    let role = program.role(name).ok_or(InputFault::RoleUnknown)?;
     match program.function(role).kind {
-        Kind::Query => Some(role),
-        Kind::Init => None,
+        Kind::Query => Ok(role),
+        Kind::Init => Err(InputFault::RoleKind.into()),
     }
+}
+
+/// The amount of fuel that a text tells.
+pub fn fuel_named(text: &str) -> Result<u64, Halt>
+    ensures goes { GoesOnInHand (with_fuel text.now) (λ k. k) result }
+    ensures fits { IfOk result (λ k. k ≤ 10 ^ 12) }
+{
+    Ok(read_fuel(text).ok_or(InputFault::Number(Argument::Fuel))?)
 }
 
 /// The greatest amount of fuel.
 const MOST_FUEL: u64 = 1_000_000_000_000;
 
 /// The amount of fuel that a text of 1 to 20 decimal digits tells, where it is at most 10^12.
-pub fn read_fuel(text: &str) -> Option<u64>
+fn read_fuel(text: &str) -> Option<u64>
     ensures { result ≡ fuel_of text.now }
 {
     if !is_number(text) {
@@ -55,31 +65,17 @@ fn has_digits_alone(text: &str) -> bool
     text.bytes().all(|byte| byte.is_ascii_digit())
 }
 
-/// The spelling of the value that a text is a literal of, at the type of a query's argument. There is none where it is no
-/// literal, or one of another type.
+/// The spelling of the value that a text is a literal of, at the type of a query's argument.
 pub fn read_argument(
     alloc: Global,
     program: &Program,
     query: FunctionId,
     text: &str,
-) -> Option<Spelling>
+) -> Result<Spelling, Halt>
     requires there { query.0 < length (meaning program.now).functions }
     requires query { (function_at (meaning program.now) query.0).kind ≡ tree.Query }
-    ensures { result ≡ argument_spelling (argument_type (meaning program.now) query.0) text.now }
+    ensures { GoesOnInHand (with_argument (meaning program.now) query.0 text.now) (λ spelling. spelling) result }
 {
     let parameters = &program.function(query).parameters;
-    spelling_at(alloc, program, parameters[1], text)
-}
-
-/// The same at any type.
-fn spelling_at(alloc: Global, program: &Program, ty: TyId, text: &str) -> Option<Spelling>
-    ensures { result ≡ argument_spelling (type_at (types_of program.now) ty) text.now }
-{
-    let Ok(LiteralTree::UnitLiteral) = parse_literal(text.as_bytes()) else {
-        return None;
-    };
-    match program.form(ty) {
-        TyForm::UnitForm => Some(Spelling::new(Vec::new(alloc))),
-        TyForm::AuthForm(_) => None,
-    }
+    Ok(parse_literal(alloc, program, parameters[1], text)?)
 }

@@ -2,18 +2,20 @@
 ghost use Rattle.std.specs.Prelude.{◌≡◌, IfOk};
 ghost use Rattle.std.specs.Option.{ForSome};
 ghost use Rattle.core_terms.specs.Programs.{meaning};
-ghost use Rattle.auth_cli.specs.Answer.{is_state, with_call, with_program_file, with_state_file};
+ghost use Rattle.auth_cli.specs.Answer.{with_call, with_state, with_state_file};
 ghost use Rattle.auth_cli.specs.Calls.{IsQueryCall, call_of};
-ghost use Rattle.auth_cli.specs.Halting.{GoesOn, HaltCause};
+ghost use Rattle.auth_cli.specs.Halting.{GoesOn, GoesOnInHand, HaltCause};
+ghost use Rattle.auth_cli.specs.SoundPrograms.{HoldsSound};
 
 use crate::Halt;
-use crate::arguments::{query_named, read_argument, read_fuel};
-use crate::check::{ProgramFault, read_program};
-use crate::reading::is_spelling;
+use crate::arguments::{fuel_named, query_named, read_argument};
+use crate::programs::read_program_file;
 use crate::report::load;
 use core_terms::{FunctionId, Program, Spelling};
 use lam_outside::Files;
+use printed_lines::refusal::{Argument, InputFault};
 use std::alloc::Global;
+use verifier_mode::reading::Shallow;
 
 /// The words that name a call: those of the program and of the state are names of files.
 #[derive(Clone, Copy)]
@@ -36,10 +38,7 @@ pub struct Call {
     pub argument: Spelling,
 }
 
-/// The longest text of a program.
-const MAX_PROGRAM: usize = 262_144;
-
-/// The longest of all other files.
+/// The most bytes of a file that is no text of a program.
 pub const MAX_FILE: usize = 67_108_864;
 
 /// The call that the words name. What is refused first in this order halts it: the program, the role, the fuel, the
@@ -51,6 +50,7 @@ pub fn read_call<F: Files>(
 ) -> Result<Call, Halt>
     ensures goes { let words = words.now in ForSome (F.contents files.old) (λ told.
         GoesOn (with_call words.program.now words.role.now words.state.now words.argument.now words.fuel.now told) call_of result) }
+    ensures sound { let words = words.now in ForSome (F.contents files.old) (λ told. IfOk result (λ _. HoldsSound (told words.program.now))) }
     ensures valid { IfOk result (λ call. IsQueryCall (call_of call)) }
     ensures cause { HaltCause (F.faults files.old) (F.faults files.new) result }
     ensures contents { F.contents files.new ≡ F.contents files.old }
@@ -58,10 +58,10 @@ pub fn read_call<F: Files>(
     ensures store_faults { F.store_faults files.new ≡ F.store_faults files.old }
 {
     let program = read_program_file(alloc, files, words.program)?;
-    let role = query_named(&program, words.role).ok_or(Halt::InputRefused)?;
-    let fuel = read_fuel(words.fuel).ok_or(Halt::InputRefused)?;
+    let role = query_named(&program, words.role)?;
+    let fuel = fuel_named(words.fuel)?;
     let state = read_state_file(alloc, files, &program, words.state)?;
-    let argument = read_argument(alloc, &program, role, words.argument).ok_or(Halt::InputRefused)?;
+    let argument = read_argument(alloc, &program, role, words.argument)?;
     Ok(Call {
         program,
         role,
@@ -69,22 +69,6 @@ pub fn read_call<F: Files>(
         state,
         argument,
     })
-}
-
-/// The program in a file.
-fn read_program_file<F: Files>(alloc: Global, files: &mut F, name: &str) -> Result<Program, Halt>
-    ensures goes { ForSome (F.contents files.old) (λ told. GoesOn (with_program_file (told name.now)) meaning result) }
-    ensures cause { HaltCause (F.faults files.old) (F.faults files.new) result }
-    ensures contents { F.contents files.new ≡ F.contents files.old }
-    ensures stores { F.stores files.new ≡ F.stores files.old }
-    ensures store_faults { F.store_faults files.new ≡ F.store_faults files.old }
-{
-    let text = load(alloc, files, name, MAX_PROGRAM)?;
-    match read_program(alloc, &text) {
-        Ok(program) => Ok(program),
-        Err(ProgramFault::Refused) => Err(Halt::ProgramRefused),
-        Err(ProgramFault::NoMemory) => Err(Halt::NoMemory),
-    }
 }
 
 /// The bytes of a file that are a spelling of a state.
@@ -101,18 +85,18 @@ fn read_state_file<F: Files>(
     ensures stores { F.stores files.new ≡ F.stores files.old }
     ensures store_faults { F.store_faults files.new ≡ F.store_faults files.old }
 {
-    let state = load(alloc, files, name, MAX_FILE)?;
-    if is_state(program, &state) {
-        Ok(state)
-    } else {
-        Err(Halt::InputRefused)
-    }
+    let state = load(alloc, files, Argument::State, name, MAX_FILE)?;
+    judge_state(program, &state)?;
+    Ok(state)
 }
 
-/// Whether the bytes are a spelling at the type of the program's state.
-#[tactic(auto, unfolding(crate::specs::Answer::is_state))]
-fn is_state(program: &Program, bytes: &[u8]) -> bool
-    ensures { result ≡ is_state (meaning program.now) bytes.now }
+/// Judges whether the bytes are a spelling at the type of the program's state.
+#[tactic(auto, unfolding(crate::specs::Answer::state_read))]
+fn judge_state(program: &Program, bytes: &[u8]) -> Result<(), Halt>
+    ensures { GoesOnInHand (with_state (meaning program.now) bytes.now) (λ _. bytes.now) result }
 {
-    is_spelling(program, program.state_type(), bytes)
+    match Shallow::read(program, program.state_type(), bytes) {
+        Ok(_) => Ok(()),
+        Err(offset) => Err(InputFault::State(offset).into()),
+    }
 }

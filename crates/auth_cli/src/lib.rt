@@ -3,17 +3,15 @@
 
 mod arguments;
 mod calls;
-pub mod check;
-mod checked;
-mod frames;
-pub mod reading;
+mod check_program;
+mod programs;
 mod report;
 mod status;
 mod top;
-pub mod verify;
 mod verify_query;
 mod words;
 
+pub use check_program::check_command;
 pub use report::{Ending, Halt, Report, tell};
 pub use status::Status;
 pub use top::run;

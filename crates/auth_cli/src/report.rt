@@ -1,16 +1,22 @@
 // What a command's work found, and how it is told.
-ghost use Rattle.std.specs.Prelude.{◌≡◌, ◌≤◌, ℕ, length, IfOk, take, OnOk, OnErr, Err};
+ghost use Rattle.std.specs.Prelude.{◌≡◌, ◌≤◌, ℕ, length, Some, IfOk, take, OnOk, OnErr};
 ghost use Rattle.std.specs.Option.{ForSome};
 ghost use Rattle.std.specs.Io.KnownBytes.{append_known};
 ghost use Rattle.lam_outside.specs.Causes.{HasCause};
-ghost use Rattle.auth_cli.specs.declared.report.Halt.TheVariants.{NoMemory};
-ghost use Rattle.auth_cli.specs.Answer.{with_file};
-ghost use Rattle.auth_cli.specs.Halting.{GoesOn, HaltCause, ending_status, halt_status, halt_line};
+ghost use Rattle.printed_lines.specs.declared.refusal.Refusal.TheVariants.{Input};
+ghost use Rattle.auth_cli.specs.declared.report.Halt.TheVariants.{NoMemory, Refused};
+ghost use Rattle.auth_cli.specs.Answer.{refusal_status, with_file};
+ghost use Rattle.auth_cli.specs.Halting.{GoesOn, HaltCause, ending_status, of_literal_fault, of_program_fault, of_verdict};
 ghost use Rattle.auth_cli.specs.Telling.{Tells, TellsText};
 
 use crate::Status;
+use crate::programs::ProgramFault;
+use auth_syntax::fault::{LiteralFault, LiteralKind};
 use lam_outside::{Failed, Files, Load, Sink, load_all};
+use printed_lines::lines::refusal_line;
+use printed_lines::refusal::{Argument, InputFault, Refusal};
 use std::alloc::{AllocError, Global};
+use verifier_mode::Verdict;
 
 /// How a command ends whose work was done.
 #[derive(Clone, Copy, Debug, PartialEq, Eq)]
@@ -27,17 +33,13 @@ pub struct Report {
     pub line: Vec<u8>,
 }
 
-/// What halts a command's work.
+/// What ends a command's work early.
 #[derive(Clone, Copy, Debug, PartialEq, Eq)]
 pub enum Halt {
     /// The words call no command.
     Usage,
-    /// The text is no program.
-    ProgramRefused,
-    /// A file is too long, or a role, number, state or argument is refused.
-    InputRefused,
-    /// The proof is rejected.
-    Rejected,
+    /// The program, an input or the proof is refused.
+    Refused(Refusal),
     /// A file could not be read.
     ReadFault,
     /// Memory was wanting.
@@ -49,6 +51,56 @@ impl From<AllocError> for Halt {
 
     fn from(_: AllocError) -> Self {
         Halt::NoMemory
+    }
+}
+
+impl From<InputFault> for Halt {
+    ghost from_gives = { λ fault halt. halt ≡ Refused (Input fault) };
+
+    fn from(fault: InputFault) -> Self {
+        Halt::Refused(Refusal::Input(fault))
+    }
+}
+
+impl From<ProgramFault> for Halt {
+    ghost from_gives = { λ fault halt. halt ≡ of_program_fault fault };
+
+    fn from(fault: ProgramFault) -> Self {
+        match fault {
+            ProgramFault::At(kind, line, column) => {
+                Halt::Refused(Refusal::Program(kind, line, column))
+            }
+            ProgramFault::NoMemory => Halt::NoMemory,
+        }
+    }
+}
+
+impl From<LiteralFault> for Halt {
+    ghost from_gives = { λ fault halt. halt ≡ of_literal_fault fault };
+
+    fn from(fault: LiteralFault) -> Self {
+        match fault {
+            LiteralFault::At(kind, offset) => {
+                Halt::Refused(Refusal::Input(InputFault::Literal(kind, offset)))
+            }
+            LiteralFault::NoMemory => Halt::NoMemory,
+        }
+    }
+}
+
+impl From<Verdict> for Halt {
+    ghost from_gives = { λ verdict halt. halt ≡ of_verdict verdict };
+
+    fn from(verdict: Verdict) -> Self {
+        match verdict {
+            Verdict::Rejected(cause) => Halt::Refused(Refusal::Proof(cause)),
+            Verdict::BadState(offset) => Halt::Refused(Refusal::Input(InputFault::State(offset))),
+            Verdict::BadArgument(offset) => Halt::Refused(Refusal::Input(InputFault::Literal(
+                LiteralKind::Mismatch,
+                offset as usize,
+            ))),
+            Verdict::NoMemory => Halt::NoMemory,
+        }
     }
 }
 
@@ -65,39 +117,16 @@ impl Ending {
     }
 }
 
-impl Halt {
-    /// The status of a run that is halted by it.
-    fn status(self) -> Status
-        ensures { result ≡ halt_status self }
-    {
-        match self {
-            Halt::Usage => Status::Usage,
-            Halt::ProgramRefused => Status::ProgramRefused,
-            Halt::InputRefused => Status::InputRefused,
-            Halt::Rejected => Status::Rejected,
-            Halt::ReadFault => Status::ReadFault,
-            Halt::NoMemory => Status::NoMemory,
-        }
-    }
-
-    /// The line that tells it.
-    fn line(self) -> &'static str
-        ensures { result.now ≡ halt_line self }
-    {
-        match self {
-            Halt::Usage => "usage: lamauth COMMAND ARGUMENTS\n",
-            Halt::ProgramRefused => "program refused\n",
-            Halt::InputRefused => "input refused\n",
-            Halt::Rejected => "rejected\n",
-            Halt::ReadFault => "read fault\n",
-            Halt::NoMemory => "no memory\n",
-        }
-    }
-}
-
-/// The bytes of a file that an argument names, at most `max` of them.
-pub fn load<F: Files>(alloc: Global, files: &mut F, name: &str, max: usize) -> Result<Vec<u8>, Halt>
-    ensures goes { ForSome (F.contents files.old) (λ told. GoesOn (with_file max (told name.now)) (λ bytes. bytes.items) result) }
+/// The bytes of the file of this name, which an argument gives, at most `max` of them.
+pub fn load<F: Files>(
+    alloc: Global,
+    files: &mut F,
+    argument: Argument,
+    name: &str,
+    max: usize,
+) -> Result<Vec<u8>, Halt>
+    ensures goes { ForSome (F.contents files.old) (λ told. GoesOn (with_file max argument (told name.now)) (λ bytes. bytes.items) result) }
+    ensures holds { ForSome (F.contents files.old) (λ told. IfOk result (λ bytes. told name.now ≡ Some bytes.items)) }
     ensures fits { IfOk result (λ bytes. length bytes.items ≤ max) }
     ensures cause { HaltCause (F.faults files.old) (F.faults files.new) result }
     ensures contents { F.contents files.new ≡ F.contents files.old }
@@ -106,21 +135,48 @@ pub fn load<F: Files>(alloc: Global, files: &mut F, name: &str, max: usize) -> R
 {
     match load_all(alloc, files, name, max) {
         Ok(bytes) => Ok(bytes),
-        Err(Load::TooLong) => Err(Halt::InputRefused),
+        Err(Load::TooLong) => Err(Halt::Refused(Refusal::Input(InputFault::TooLong(argument)))),
         Err(Load::ReadFault) => Err(Halt::ReadFault),
         Err(Load::NoMemory) => Err(Halt::NoMemory),
     }
 }
 
+/// The line of the want of memory.
+const NO_MEMORY: &[u8] = b"no memory\n";
+
 /// Writes the line that was found, or the one for what halted the work.
 ///
-/// `WriteFault` exactly where the sink failed.
-pub fn tell<O: Sink>(out: &mut O, found: Result<Report, Halt>) -> Status
+/// `WriteFault` exactly where the sink failed. Where there is no memory for the line of a refusal, that is told in its place.
+pub fn tell<O: Sink>(alloc: Global, out: &mut O, found: Result<Report, Halt>) -> Status
     ensures { Tells found result (O.written out.old) (O.written out.new) (O.faults out.old) (O.faults out.new) }
 {
     match found {
         Ok(report) => tell_text(out, report.ending.status(), &report.line),
-        Err(halt) => tell_text(out, halt.status(), halt.line().as_bytes()),
+        Err(Halt::Refused(refusal)) => tell_refusal(alloc, out, &refusal),
+        Err(Halt::Usage) => tell_text(out, Status::Usage, b"usage: lamauth COMMAND ARGUMENTS\n"),
+        Err(Halt::ReadFault) => tell_text(out, Status::ReadFault, b"read fault\n"),
+        Err(Halt::NoMemory) => tell_text(out, Status::NoMemory, NO_MEMORY),
+    }
+}
+
+/// Writes the line of a refusal, which is made first.
+fn tell_refusal<O: Sink>(alloc: Global, out: &mut O, refusal: &Refusal) -> Status
+    ensures { Tells (Err (Refused refusal.now)) result (O.written out.old) (O.written out.new) (O.faults out.old) (O.faults out.new) }
+{
+    match refusal_line(alloc, refusal) {
+        Ok(line) => tell_text(out, status_of(refusal), &line),
+        Err(AllocError) => tell_text(out, Status::NoMemory, NO_MEMORY),
+    }
+}
+
+/// The status of a run that refuses this.
+fn status_of(refusal: &Refusal) -> Status
+    ensures { result ≡ refusal_status refusal.now }
+{
+    match refusal {
+        Refusal::Program(_, _, _) => Status::ProgramRefused,
+        Refusal::Input(_) => Status::InputRefused,
+        Refusal::Proof(_) => Status::Rejected,
     }
 }
 

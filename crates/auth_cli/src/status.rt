@@ -4,7 +4,7 @@ ghost use Rattle.std.specs.Prelude.{◌≡◌};
 /// How a run ends.
 #[derive(Clone, Copy, Debug, PartialEq, Eq)]
 pub enum Status {
-    /// The outcome has a value, or the command has no outcome and was carried out.
+    /// The outcome has a value, or the program is accepted.
     Done,
     /// The words call no command.
     Usage,

@@ -1,36 +1,58 @@
 // All that the program does.
-ghost use Rattle.std.specs.Prelude.{◌≡◌, ◌≢◌, ◌⊎◌, ◌↔◌, ◌<◌, ◌-◌, ◌^◌, ℕ, List, codes};
+ghost use Rattle.std.specs.Prelude.{◌≡◌, ◌≢◌, ◌⊎◌, ◌↔◌, ◌<◌, ◌-◌, ◌^◌, ℕ, List, drop, codes};
 ghost use Rattle.std.specs.Option.{ForSome};
 ghost use Rattle.std.specs.Io.KnownBytes.{append_known};
 ghost use Rattle.lam_outside.specs.Causes.{Rose};
 ghost use Rattle.auth_cli.specs.Answer.{answer};
 ghost use Rattle.auth_cli.specs.Codes.{code};
 ghost use Rattle.auth_cli.specs.Ending.{outside, EndsAs, IsToldByCode, MayWrite, NoneRose, StoresSome, WritesPart, no_memory_text};
+ghost use Rattle.auth_cli.specs.SoundPrograms.{ReadSound};
 ghost use Rattle.auth_cli.specs.TrueLines.{IsTrueLine};
 ghost use Rattle.auth_cli.specs.Words.{texts};
 ghost use Rattle.auth_cli.specs.declared.status.Status.{Status};
 
 use crate::report::tell;
-use crate::{Command, Halt, Status, verify_command};
+use crate::{Command, Halt, Status, check_command, verify_command};
 use lam_outside::{Files, Sink};
 use std::alloc::Global;
 
 /// Runs the words of a command line, the program's name first, and answers the exit status.
 ///
-/// Each line ends with a line feed and goes to the sink:
+/// Each line ends with a line feed and goes to the sink. Numbers are decimal, digests 64 lower-case hexadecimal digits, places in
+/// the program's text a line and a column, from 1 and by bytes, other places an offset:
 ///
 /// | status | line | comes |
 /// |---|---|---|
+/// | 0 | `ok DIGEST` | `check`: the text is a program, and has this SHA-256 digest |
 /// | 0 | `done VALUE` | the outcome has this value |
 /// | 2 | `usage: lamauth COMMAND ARGUMENTS` | the words call no command |
 /// | 3 | `trap NAME` | the outcome is this trap: `overflow`, `divzero`, `toobig`, `toodeep` |
 /// | 4 | `out of fuel` | the outcome is the want of fuel |
-/// | 5 | `rejected` | the proof is rejected |
-/// | 6 | `program refused` | the text is no program |
-/// | 7 | `input refused` | a file is too long, or the role, the fuel, the state or the argument is refused |
+/// | 5 | `rejected CAUSE` | the proof is rejected, for the cause below |
+/// | 6 | `program refused: KIND LINE COLUMN` | the text is no program: its first fault |
+/// | 7 | `input refused: too long ARGUMENT` | the file that `P`, `STATE` or `PROOF` names is too long |
+/// | 7 | `input refused: role unknown` | the program has no role of this name |
+/// | 7 | `input refused: role kind` | the role is no query |
+/// | 7 | `input refused: number FUEL` | the fuel isn't of 1 to 20 digits, or above 10^12 |
+/// | 7 | `input refused: state OFFSET` | the state's bytes are no spelling: the first fault |
+/// | 7 | `input refused: argument KIND OFFSET` | the argument is no literal of its type: the first fault |
 /// | 8 | `read fault` | a file could not be read |
 /// | 9 | a part of a line | the sink failed |
 /// | 10 | `no memory` | memory was wanting |
+///
+/// The causes of a rejection; a piece goes by its place, the number in which it is asked for, from 0:
+///
+/// | cause | comes |
+/// |---|---|
+/// | `header` | the proof doesn't begin as it must |
+/// | `short PLACE` | no byte is left where a piece is asked for |
+/// | `bad-kind PLACE BYTE` | no frame begins with this byte |
+/// | `cut PLACE` | the frame isn't whole |
+/// | `piece-long PLACE LENGTH` | the piece is longer than a spelling may be |
+/// | `bad-use PLACE NUMBER HELD` | the frame names a kept piece, and fewer are kept |
+/// | `wrong-piece PLACE WANT FOUND` | the digest held, and that of the piece |
+/// | `bad-piece PLACE OFFSET` | the digests agree, and the piece is no spelling |
+/// | `leftover BYTES` | the run ended, and so many bytes are left, or 65536 where there are more |
 ///
 /// The program's text has at most 262,144 bytes, each other file at most 67,108,864. What is refused first in this order
 /// ends the run: the words, the program, the role, the fuel, the state, the argument, the proof.
@@ -77,11 +99,13 @@ pub fn run<F: Files, O: Sink>(alloc: Global, words: &[&str], files: &mut F, out:
 /// Judges the words, and carries out the command that they call.
 #[tactic(auto, unfolding(crate::specs::Answer::answer))]
 fn ended<F: Files, O: Sink>(alloc: Global, words: &[&str], files: &mut F, out: &mut O) -> Status
-    ensures { let seen = outside F.contents F.stores F.faults F.store_faults O.written O.faults in
+    ensures ends { let seen = outside F.contents F.stores F.faults F.store_faults O.written O.faults in
         EndsAs (answer (texts words.now)) (seen files.old out.old) (seen files.new out.new) result }
+    ensures sound { ForSome (F.contents files.old) (λ told. ReadSound (drop 2 (texts words.now)) told result) }
 {
     match Command::of_words(words) {
+        Some(Command::Check) => check_command(alloc, &words[2..], files, out),
         Some(Command::Verify) => verify_command(alloc, &words[2..], files, out),
-        None => tell(out, Err(Halt::Usage)),
+        None => tell(alloc, out, Err(Halt::Usage)),
     }
 }

@@ -1,25 +1,27 @@
 // The command `verify`.
-ghost use Rattle.std.specs.Prelude.{◌≡◌, ◌++◌, codes, length, IfOk};
+ghost use Rattle.std.specs.Prelude.{◌≡◌, length, IfOk};
 ghost use Rattle.std.specs.Option.{ForSome};
-ghost use Rattle.hex.specs.Hex.{encode_lower};
 ghost use Rattle.core_terms.specs.Programs.{meaning, types_of};
 ghost use Rattle.core_terms.specs.TypeTables.{type_at};
-ghost use Rattle.auth_cli.specs.Answer.{call_verdict, judged_answer, trap_name, verdict_answer, verify_answer};
+ghost use Rattle.verifier_mode.specs.Verdicts.{Answers};
+ghost use Rattle.auth_cli.specs.Answer.{call_answer, call_verdict, judged_answer, verify_answer};
 ghost use Rattle.auth_cli.specs.Calls.{IsQueryCall, call_of};
 ghost use Rattle.auth_cli.specs.Ending.{EndsAs, outside};
-ghost use Rattle.auth_cli.specs.Halting.{Finds, FindsInHand, HaltCause, ending_status};
-ghost use Rattle.auth_cli.specs.Reporting.{Reports, spelled_text};
-ghost use Rattle.auth_cli.specs.Verdicts.{Answers, trap_of};
+ghost use Rattle.auth_cli.specs.Halting.{Finds, FindsInHand, HaltCause};
+ghost use Rattle.auth_cli.specs.Reporting.{Reports};
+ghost use Rattle.auth_cli.specs.SoundPrograms.{HoldsSound, ReadSound};
 ghost use Rattle.auth_cli.specs.Words.{texts};
 
 use crate::calls::{Call, CallWords, MAX_FILE, read_call};
 use crate::report::{load, tell};
-use crate::verify::{Verdict, verify};
 use crate::{Ending, Halt, Report, Status};
-use core_terms::{Outcome, Program, Spelling, Trap, TyForm, TyId};
+use core_terms::{Outcome, Program, Spelling, TyId};
 use digest_layer::Sha;
 use lam_outside::{Files, Sink};
+use printed_lines::lines::{done_line, out_line, trap_line};
+use printed_lines::refusal::Argument;
 use std::alloc::{AllocError, Global};
+use verifier_mode::{Verdict, verify};
 
 /// Verifies a proof of a query, and tells the outcome.
 ///
@@ -32,8 +34,9 @@ pub fn verify_command<F: Files, O: Sink>(
     out: &mut O,
 ) -> Status
     requires { length words.now ≡ 6 }
-    ensures { let seen = outside F.contents F.stores F.faults F.store_faults O.written O.faults in
+    ensures ends { let seen = outside F.contents F.stores F.faults F.store_faults O.written O.faults in
         EndsAs (verify_answer (texts words.now)) (seen files.old out.old) (seen files.new out.new) result }
+    ensures sound { ForSome (F.contents files.old) (λ told. ReadSound (texts words.now) told result) }
 {
     let [program, role, state, argument, fuel, proof] = *words else {
         unreachable!()
@@ -46,7 +49,7 @@ pub fn verify_command<F: Files, O: Sink>(
         fuel,
     };
     let found = find_verdict(alloc, &call, proof, files);
-    tell(out, found)
+    tell(alloc, out, found)
 }
 
 /// What is found of a call and a proof: the proof file is opened when all else is well-formed.
@@ -58,29 +61,24 @@ fn find_verdict<F: Files>(
 ) -> Result<Report, Halt>
     ensures finds { let words = words.now in ForSome (F.contents files.old) (λ told.
         Finds (judged_answer words.program.now words.role.now words.state.now words.argument.now words.fuel.now proof.now told) result) }
+    ensures sound { let words = words.now in ForSome (F.contents files.old) (λ told. IfOk result (λ _. HoldsSound (told words.program.now))) }
     ensures cause { HaltCause (F.faults files.old) (F.faults files.new) result }
     ensures stores { F.stores files.new ≡ F.stores files.old }
     ensures store_faults { F.store_faults files.new ≡ F.store_faults files.old }
 {
     let call = read_call(alloc, words, files)?;
-    let proof = load(alloc, files, proof, MAX_FILE)?;
+    let proof = load(alloc, files, Argument::Proof, proof, MAX_FILE)?;
     judge(alloc, &call, &proof)
 }
 
 /// Judges a proof of a call.
 fn judge(alloc: Global, call: &Call, proof: &[u8]) -> Result<Report, Halt>
     requires { IsQueryCall (call_of call.now) }
-    ensures { FindsInHand (verdict_answer (call_verdict (call_of call.now) proof.now)) result }
+    ensures { FindsInHand (call_answer (call_of call.now) proof.now) result }
 {
-    match verdict_of(alloc, call, proof) {
-        Ok(outcome) => {
-            let ty = call.program.function(call.role).result;
-            Ok(report_of(alloc, &call.program, ty, outcome)?)
-        }
-        Err(Verdict::BadState | Verdict::BadArgument) => Err(Halt::InputRefused),
-        Err(Verdict::Rejected) => Err(Halt::Rejected),
-        Err(Verdict::NoMemory) => Err(Halt::NoMemory),
-    }
+    let outcome = verdict_of(alloc, call, proof)?;
+    let ty = call.program.function(call.role).result;
+    Ok(report_of(alloc, &call.program, ty, outcome)?)
 }
 
 /// The verifier's answer on a proof of a call.
@@ -110,49 +108,18 @@ fn report_of(
     ensures { IfOk result (Reports (meaning program.now) (type_at (types_of program.now) ty) outcome) }
 {
     let (ending, line) = match outcome {
-        Outcome::Done(value) => (Ending::Done, done_line(alloc, program, ty, &value)?),
+        Outcome::Done(value) => (
+            Ending::Done,
+            done_line(alloc, program, ty, value.as_bytes())?,
+        ),
         Outcome::Trapped(trap) => (
             Ending::Trap,
             Vec::from_slice(alloc, trap_line(trap).as_bytes())?,
         ),
-        Outcome::Out => (Ending::OutOfFuel, Vec::from_slice(alloc, b"out of fuel\n")?),
+        Outcome::Out => (
+            Ending::OutOfFuel,
+            Vec::from_slice(alloc, out_line().as_bytes())?,
+        ),
     };
     Ok(Report { ending, line })
-}
-
-/// The line of a value of this type, from its spelling.
-fn done_line(
-    alloc: Global,
-    program: &Program,
-    ty: TyId,
-    value: &Spelling,
-) -> Result<Vec<u8>, AllocError>
-    ensures { IfOk result (λ line. line.items ≡ codes "done " ++ spelled_text (type_at (types_of program.now) ty) value.now ++ codes "\n") }
-{
-    match program.form(ty) {
-        TyForm::UnitForm => Vec::from_slice(alloc, b"done ()\n"),
-        TyForm::AuthForm(_) => digest_line(alloc, value.as_bytes()),
-    }
-}
-
-/// The line of an authenticated value.
-fn digest_line(alloc: Global, digest: &[u8]) -> Result<Vec<u8>, AllocError>
-    ensures { IfOk result (λ line. line.items ≡ codes "done " ++ (codes "#" ++ encode_lower digest.now) ++ codes "\n") }
-{
-    let mut line = Vec::from_slice(alloc, b"done #")?;
-    line.extend_from_slice(hex::encode(alloc, digest)?.as_bytes())?;
-    line.push(b'\n')?;
-    Ok(line)
-}
-
-/// The line of a trap.
-fn trap_line(trap: Trap) -> &'static str
-    ensures { result.now ≡ codes "trap " ++ trap_name (trap_of trap) ++ codes "\n" }
-{
-    match trap {
-        Trap::Overflow => "trap overflow\n",
-        Trap::DivZero => "trap divzero\n",
-        Trap::TooBig => "trap toobig\n",
-        Trap::TooDeep => "trap toodeep\n",
-    }
 }

@@ -6,6 +6,9 @@ ghost use Rattle.auth_cli.specs.Words.{is_refused, texts, command_named, command
 /// A command.
 #[derive(Clone, Copy, Debug, PartialEq, Eq)]
 pub enum Command {
+    /// `check P`
+    Check,
+    /// `verify P ROLE STATE ARG FUEL PROOF`
     Verify,
 }
 
@@ -34,6 +37,7 @@ impl Command {
         ensures { result ≡ command_named name.now }
     {
         match name {
+            "check" => Some(Command::Check),
             "verify" => Some(Command::Verify),
             _ => None,
         }
@@ -44,6 +48,7 @@ impl Command {
         ensures { result ≡ argument_count self }
     {
         match self {
+            Command::Check => 1,
             Command::Verify => 6,
         }
     }

@@ -16,7 +16,7 @@ fn main(rt: HostRuntime) -> ExitCode {
     };
     match status {
         Ok(status) => ExitCode::from(status),
-        Err(halt) => ExitCode::from(tell(&mut HostSink::new(&rt), Err(halt)).code()),
+        Err(halt) => ExitCode::from(tell(rt.alloc(), &mut HostSink::new(&rt), Err(halt)).code()),
     }
 }
 

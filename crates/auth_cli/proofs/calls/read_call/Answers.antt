@@ -1,9 +1,9 @@
-use Rattle.std.proofs.Common.{◌≡◌, Some, option_map, ap, sym, ◌∙◌, arith}
+use Rattle.std.proofs.Common.{◌∙◌}
 use Rattle.std.proofs.lemmas.Result.{err_from_is_err_and}
-use Rattle.core_terms.specs.Programs.{meaning}
-use Rattle.auth_cli.specs.Calls.{call_of}
 use Rattle.auth_cli.specs.Answer.{with_call}
-use Rattle.auth_cli.proofs.Steps.{halted, call_halts_first, call_halts, call_goes}
+use Rattle.auth_cli.specs.Calls.{call_of}
+use Rattle.auth_cli.specs.ReadPrograms.{digested}
+use Rattle.auth_cli.proofs.Steps.{halted, call_halts_first, call_halts}
 use Rattle.auth_cli.proofs.calls.read_call.Goals as goal
 
 pub returns-in_err-program-clause-goes : goal.returns-in_err-program-clause-goes
@@ -16,27 +16,12 @@ returns-in_err-program-clause-goes g c = λ told known.
 pub returns-in_err-state-clause-goes : goal.returns-in_err-state-clause-goes
 returns-in_err-state-clause-goes g c = λ told known.
     let words = c.args.words.now in
-    let role : c.query_named.result ≡ Some c.in_ok-role.role = grind arith in
-    let fuel : c.read_fuel.result ≡ Some c.in_ok-fuel.fuel = grind arith in
     let err = err_from_is_err_and c.from_residual-in_err-state.result c.from_residual-in_err-state.ensures.1 in
     halted (with_call words.program.now words.role.now words.state.now words.argument.now words.fuel.now told) call_of c.from_residual-in_err-state.result _ (cc)
     (call_halts words.program.now words.role.now words.state.now words.argument.now words.fuel.now told
-    (meaning c.in_ok-program.program) c.in_ok-role.role.0 c.in_ok-fuel.fuel _
-    (c.in_ok-program.ensures.goes told known)
-    (sym c.query_named.ensures.named ∙ ap (option_map (λ id. id.0)) role)
-    (sym c.read_fuel.ensures ∙ fuel)
+    (digested c.in_ok-program.program) c.in_ok-role.role.0 c.in_ok-fuel.fuel _
+    (c.in_ok-program.ensures.goes told known) c.in_ok-role.ensures.goes c.in_ok-fuel.ensures.goes
     (c.in_err-state.ensures.goes told (c.in_ok-program.ensures.contents ∙ known)))
 
-pub returns-clause-goes : goal.returns-clause-goes
-returns-clause-goes g c = λ told known.
-    let words = c.args.words.now in
-    let role : c.query_named.result ≡ Some c.in_ok-role.role = grind arith in
-    let fuel : c.read_fuel.result ≡ Some c.in_ok-fuel.fuel = grind arith in
-    let argument : c.read_argument.result ≡ Some c.in_ok-argument.argument = grind arith in
-    call_goes words.program.now words.role.now words.state.now words.argument.now words.fuel.now told
-    (meaning c.in_ok-program.program) c.in_ok-role.role.0 c.in_ok-fuel.fuel c.in_ok-state.state.items c.in_ok-argument.argument
-    (c.in_ok-program.ensures.goes told known)
-    (sym c.query_named.ensures.named ∙ ap (option_map (λ id. id.0)) role)
-    (sym c.read_fuel.ensures ∙ fuel)
-    (c.in_ok-state.ensures.goes told (c.in_ok-program.ensures.contents ∙ known))
-    (sym c.read_argument.ensures ∙ argument)
+pub returns-clause-sound : goal.returns-clause-sound
+returns-clause-sound g c = λ told known. c.in_ok-program.ensures.sound told known

@@ -1,7 +1,24 @@
-use Rattle.auth_cli.proofs.CommandLine.{verify_called}
+use Rattle.std.proofs.Common.{◌≡◌, Some, subst, arith}
+use Rattle.auth_cli.specs.SoundPrograms.{ReadSound}
+use Rattle.auth_cli.specs.Words.{command_of, texts}
+use Rattle.auth_cli.specs.declared.words.Command.TheVariants.{Check, Verify}
+use Rattle.auth_cli.proofs.CommandLine.{command_called, texts_behind}
 use Rattle.auth_cli.proofs.top.ended.Goals as goal
 
-pub returns-in-Some-Verify : goal.returns-in-Some-Verify
-returns-in-Some-Verify g c =
-    let called = verify_called c.args.words.now c.in-Some-Verify.field-0 c.in-Some-Verify.ensures in
-    rw called c.verify_command.ensures
+pub returns-in-Some-Check-clause-ends : goal.returns-in-Some-Check-clause-ends
+returns-in-Some-Check-clause-ends g c =
+    let called : Some Check ≡ command_of (texts c.args.words.now) = grind arith in
+    rw (command_called c.args.words.now Check called) c.check_command.ensures.ends
+
+pub returns-in-Some-Check-clause-sound : goal.returns-in-Some-Check-clause-sound
+returns-in-Some-Check-clause-sound g c = λ told known.
+    subst (λ line. ReadSound line told c.check_command.result) (texts_behind c.args.words.now) (c.check_command.ensures.sound told known)
+
+pub returns-in-Some-Verify-clause-ends : goal.returns-in-Some-Verify-clause-ends
+returns-in-Some-Verify-clause-ends g c =
+    let called : Some Verify ≡ command_of (texts c.args.words.now) = grind arith in
+    rw (command_called c.args.words.now Verify called) c.verify_command.ensures.ends
+
+pub returns-in-Some-Verify-clause-sound : goal.returns-in-Some-Verify-clause-sound
+returns-in-Some-Verify-clause-sound g c = λ told known.
+    subst (λ line. ReadSound line told c.verify_command.result) (texts_behind c.args.words.now) (c.verify_command.ensures.sound told known)

@@ -1,20 +1,25 @@
 use Rattle.std.proofs.Common.{Some, ◌∙◌}
 use Rattle.std.proofs.lemmas.Result.{err_from_is_err_and}
-use Rattle.auth_cli.specs.Answer.{call_verdict, max_file, verdict_answer, with_file}
+use Rattle.printed_lines.specs.declared.refusal.Argument.TheVariants.{Proof}
+use Rattle.auth_cli.specs.Answer.{call_answer, max_file, with_file}
 use Rattle.auth_cli.specs.Calls.{call_of}
 use Rattle.auth_cli.proofs.Steps.{finds_halt, halts_behind}
+use Rattle.auth_cli.proofs.Told.{if_ok}
 use Rattle.auth_cli.proofs.verify_query.find_verdict.Goals as goal
 
 pub returns-in_err-call-clause-finds : goal.returns-in_err-call-clause-finds
 returns-in_err-call-clause-finds g c = λ told known.
     let err = err_from_is_err_and c.from_residual.result c.from_residual.ensures.1 in
     finds_halt _ c.from_residual.result _ (cc)
-    (c.in_err-call.ensures.goes told known (λ call. with_file max_file (told c.args.proof.now) (λ bytes. Some (verdict_answer (call_verdict call bytes)))))
+    (c.in_err-call.ensures.goes told known (λ call. with_file max_file Proof (told c.args.proof.now) (λ bytes. Some (call_answer call bytes))))
 
 pub returns-in_err-proof-clause-finds : goal.returns-in_err-proof-clause-finds
 returns-in_err-proof-clause-finds g c = λ told known.
     let err = err_from_is_err_and c.from_residual-in_err-proof.result c.from_residual-in_err-proof.ensures.1 in
     finds_halt _ c.from_residual-in_err-proof.result _ (cc)
     (halts_behind _ _ _
-    (c.in_ok-call.ensures.goes told known (λ call. with_file max_file (told c.args.proof.now) (λ bytes. Some (verdict_answer (call_verdict call bytes)))))
-    (c.in_err-proof.ensures.goes told (c.in_ok-call.ensures.contents ∙ known) (λ bytes. Some (verdict_answer (call_verdict (call_of c.in_ok-call.call) bytes)))))
+    (c.in_ok-call.ensures.goes told known (λ call. with_file max_file Proof (told c.args.proof.now) (λ bytes. Some (call_answer call bytes))))
+    (c.in_err-proof.ensures.goes told (c.in_ok-call.ensures.contents ∙ known) (λ bytes. Some (call_answer (call_of c.in_ok-call.call) bytes))))
+
+pub returns-clause-sound : goal.returns-clause-sound
+returns-clause-sound g c = λ told known. if_ok c.judge.result (c.in_ok-call.ensures.sound told known)

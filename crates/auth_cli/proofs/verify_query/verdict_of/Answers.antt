@@ -2,8 +2,8 @@ use Rattle.std.proofs.Common.{subst}
 use Rattle.sha2.specs.Sha256.{sha256}
 use Rattle.core_terms.specs.Programs.{meaning}
 use Rattle.ideal_meaning.specs.Checked.{verdict}
+use Rattle.verifier_mode.specs.Verdicts.{Answers, argument_type}
 use Rattle.auth_cli.specs.Answer.{call_verdict}
-use Rattle.auth_cli.specs.Verdicts.{Answers, argument_type}
 use Rattle.auth_cli.proofs.verify_query.verdict_of.Goals as goal
 
 pub returns : goal.returns

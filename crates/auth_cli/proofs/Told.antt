@@ -1,0 +1,30 @@
+-- A run that is told an outcome has found it.
+use Rattle.std.proofs.Common.{ℕ, List, Option, Ok, Err, IfOk, subst, inl, inr}
+use Rattle.printed_lines.specs.declared.refusal.Refusal.TheVariants as refusal
+use Rattle.auth_cli.specs.Halting.{Found, status_of}
+use Rattle.auth_cli.specs.SoundPrograms.{IsOutcome}
+use Rattle.auth_cli.specs.Telling.{Tells}
+use Rattle.auth_cli.specs.declared.report.Halt.TheVariants.{Usage, Refused, ReadFault, NoMemory}
+use Rattle.auth_cli.specs.declared.status.Status.{Status}
+
+-- what holds anyway holds of a report
+pub if_ok : {A : Type 0} (found : Found) → A → IfOk found (λ _. A)
+if_ok (Ok report) holds = holds
+if_ok (Err halt) holds = tt
+
+-- what ends in an outcome is a report
+report_of_outcome : {A : Type 0} (found : Found) → IsOutcome (status_of found) → IfOk found (λ _. A) → A
+report_of_outcome (Ok report) outcome holds = holds
+report_of_outcome (Err Usage) outcome holds = absurd outcome
+report_of_outcome (Err (Refused (refusal.Program kind line column))) outcome holds = absurd outcome
+report_of_outcome (Err (Refused (refusal.Input fault))) outcome holds = absurd outcome
+report_of_outcome (Err (Refused (refusal.Proof cause))) outcome holds = absurd outcome
+report_of_outcome (Err ReadFault) outcome holds = absurd outcome
+report_of_outcome (Err NoMemory) outcome holds = absurd outcome
+
+-- what holds of every report holds where an outcome was told
+pub told_outcome : {A : Type 0} (found : Found) (ended : Status) (old new : Option (List ℕ)) (before now : ℕ) → Tells found ended old new before now → IfOk found (λ _. A) → IsOutcome ended → A
+told_outcome found ended old new before now (inl (inl told)) holds outcome = report_of_outcome found (subst IsOutcome told.0 outcome) holds
+told_outcome found ended old new before now (inl (inr told)) holds outcome = absurd (subst IsOutcome told.0 outcome)
+told_outcome found ended old new before now (inr (inl told)) holds outcome = absurd (subst IsOutcome told.0 outcome)
+told_outcome found ended old new before now (inr (inr told)) holds outcome = absurd (subst IsOutcome told.0 outcome)

@@ -1,0 +1,27 @@
+-- A text as a program.
+use Rattle.std.specs.Prelude.{ℕ, List}
+use Rattle.core_terms.specs.Terms.{Program}
+use Rattle.auth_syntax.specs.Vocabulary.{fragment}
+use Rattle.auth_syntax.specs.Parsing.{Parsed, parsed}
+use Rattle.auth_syntax.specs.Parsing as parsing
+use Rattle.auth_types.specs.CheckedPrograms.{Checked, checked}
+use Rattle.auth_types.specs.CheckedPrograms as checking
+use Rattle.printed_lines.specs.declared.refusal.ProgramKind.{ProgramKind}
+use Rattle.printed_lines.specs.declared.refusal.ProgramKind.TheVariants.{Syntax, Typing}
+
+-- what a text is: a program, or none, with the first fault and its line and column, from 1 and by bytes
+pub data TextProgram : Type 0 where
+  IsProgram : (P : Program) → TextProgram
+  IsRefused : (kind : ProgramKind) (line column : ℕ) → TextProgram
+
+abbrev pub of_checked : Checked → TextProgram
+of_checked (checking.IsProgram P) = IsProgram P
+of_checked (checking.FirstFault kind line column) = IsRefused (Typing kind) line column
+
+abbrev pub of_parsed : Parsed → TextProgram
+of_parsed (parsing.Tree program) = of_checked (checked program)
+of_parsed (parsing.FirstFault kind line column) = IsRefused (Syntax kind) line column
+
+-- A text as a program of the fragment. A fault of its syntax comes before all faults of its typing.
+unfoldable pub program_of_text : List ℕ → TextProgram
+program_of_text text = of_parsed (parsed fragment text)

@@ -1,0 +1,98 @@
+// Programs, from their texts and from files.
+ghost use Rattle.std.specs.Prelude.{◌≡◌, ◌≤◌, length, IfOk};
+ghost use Rattle.std.specs.Option.{ForSome};
+ghost use Rattle.sha2.specs.Sha256.{sha256};
+ghost use Rattle.auth_cli.specs.Answer.{with_program_file};
+ghost use Rattle.auth_cli.specs.Halting.{GoesOn, HaltCause};
+ghost use Rattle.auth_cli.specs.ReadPrograms.{ReadsProgram, digested};
+ghost use Rattle.auth_cli.specs.SoundPrograms.{HoldsSound};
+ghost use Rattle.auth_cli.specs.TextPrograms.{program_of_text};
+
+use crate::Halt;
+use crate::report::load;
+use auth_syntax::fault::SyntaxFault;
+use auth_syntax::parser::parse;
+use auth_types::check::check;
+use auth_types::fault::TypeFault;
+use core_terms::{Hash32, Program};
+use digest_layer::Sha;
+use lam_outside::Files;
+use printed_lines::refusal::{Argument, ProgramKind};
+use std::alloc::Global;
+
+/// Why a text gives no program.
+#[derive(Clone, Copy, Debug, PartialEq, Eq)]
+pub enum ProgramFault {
+    /// The first fault: its kind, its line and its column, from 1 and by bytes.
+    At(ProgramKind, usize, usize),
+    /// Memory was wanting.
+    NoMemory,
+}
+
+impl From<SyntaxFault> for ProgramFault {
+    ghost use Rattle.std.specs.Prelude.{◌≡◌};
+    ghost use Rattle.auth_cli.specs.ReadPrograms.{of_syntax_fault};
+
+    ghost from_gives = { λ given fault. fault ≡ of_syntax_fault given };
+
+    fn from(fault: SyntaxFault) -> ProgramFault {
+        match fault {
+            SyntaxFault::At(kind, line, column) => {
+                ProgramFault::At(ProgramKind::Syntax(kind), line, column)
+            }
+            SyntaxFault::NoMemory => ProgramFault::NoMemory,
+        }
+    }
+}
+
+impl From<TypeFault> for ProgramFault {
+    ghost use Rattle.std.specs.Prelude.{◌≡◌};
+    ghost use Rattle.auth_cli.specs.ReadPrograms.{of_type_fault};
+
+    ghost from_gives = { λ given fault. fault ≡ of_type_fault given };
+
+    fn from(fault: TypeFault) -> ProgramFault {
+        match fault {
+            TypeFault::At(kind, line, column) => {
+                ProgramFault::At(ProgramKind::Typing(kind), line, column)
+            }
+            TypeFault::NoMemory => ProgramFault::NoMemory,
+        }
+    }
+}
+
+/// The longest text of a program, in bytes.
+const MAX_PROGRAM: usize = 262_144;
+
+/// The program of a text of at most 262,144 bytes, with the SHA-256 digest of the text.
+///
+/// # Errors
+///
+/// `At` with the first fault of the syntax, or of the typing where the syntax has none; `NoMemory` where there is no memory for
+/// the tokens, the tree or the program.
+#[tactic(auto, unfolding(crate::specs::TextPrograms::program_of_text))]
+pub fn read_program(alloc: Global, text: &[u8]) -> Result<Program, ProgramFault>
+    requires { length text.now ≤ 262144 }
+    ensures answer { ReadsProgram (program_of_text text.now) result }
+    ensures digest { IfOk result (λ p. p.text_digest.0 ≡ sha256 text.now) }
+{
+    let ast = parse(alloc, text)?;
+    Ok(check(alloc, ast, Sha::of(text))?)
+}
+
+/// The program in a file.
+pub fn read_program_file<F: Files>(
+    alloc: Global,
+    files: &mut F,
+    name: &str,
+) -> Result<Program, Halt>
+    ensures goes { ForSome (F.contents files.old) (λ told. GoesOn (with_program_file (told name.now)) digested result) }
+    ensures sound { ForSome (F.contents files.old) (λ told. IfOk result (λ _. HoldsSound (told name.now))) }
+    ensures cause { HaltCause (F.faults files.old) (F.faults files.new) result }
+    ensures contents { F.contents files.new ≡ F.contents files.old }
+    ensures stores { F.stores files.new ≡ F.stores files.old }
+    ensures store_faults { F.store_faults files.new ≡ F.store_faults files.old }
+{
+    let text = load(alloc, files, Argument::Program, name, MAX_PROGRAM)?;
+    Ok(read_program(alloc, &text)?)
+}
