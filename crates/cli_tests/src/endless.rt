@@ -74,6 +74,6 @@ fn an_endless_file_is_too_long(rt: HostRuntime) -> Result<(), Fail> {
     let mut out = sink(alloc, 100, &[])?;
     let words = ["lamauth", "verify", "p", "open", "s", "()", "1", "q"];
     assert_eq!(rt; run(alloc, &words, &mut files, &mut out), 7);
-    assert_eq!(rt; out.bytes(), b"input refused\n".as_slice());
+    assert_eq!(rt; out.bytes(), b"input refused: too long P\n".as_slice());
     Ok(())
 }

@@ -4,8 +4,14 @@
 #[cfg(test)]
 mod endless;
 #[cfg(test)]
-mod refusals;
+mod inputs;
+#[cfg(test)]
+mod programs;
 #[cfg(test)]
 mod stage;
 #[cfg(test)]
+mod values;
+#[cfg(test)]
 mod verdicts;
+#[cfg(test)]
+mod words;

@@ -10,6 +10,9 @@ use std::alloc::{AllocError, Global};
 pub const OPEN: &[u8] =
     b"state auth unit; init make(x: unit): auth unit = auth(x); query open(s: auth unit, x: unit): unit = unauth(s);";
 
+/// A program whose state is an int, and which adds to it.
+pub const MORE: &[u8] = b"state int; query more(s: int, x: int): int = add(s, x);";
+
 /// The SHA-256 digest of no bytes: the spelling of the state of `()`.
 pub const STATE: [u8; 32] = [
     0xe3, 0xb0, 0xc4, 0x42, 0x98, 0xfc, 0x1c, 0x14, 0x9a, 0xfb, 0xf4, 0xc8, 0x99, 0x6f, 0xb9, 0x24,
@@ -104,4 +107,9 @@ pub fn verdict(alloc: Global, stage: &Stage, fuel: &str) -> Result<Told, AllocEr
     requires { 0 < stage.now.most_read }
 {
     run_words(alloc, stage, &["verify", "p", "open", "s", "()", fuel, "q"])
+}
+
+/// Runs `check` of a program.
+pub fn check(alloc: Global, program: &[u8]) -> Result<Told, AllocError> {
+    run_words(alloc, &staged(program, &[], &[]), &["check", "p"])
 }

@@ -1,0 +1,230 @@
+// Values: read from a state or an argument, computed, digested and printed.
+use crate::stage::{MORE, run_words, staged, verdict};
+use std::test::Fail;
+
+const HEADER: &[u8] = b"LAP1\0\0";
+
+/// States at their types, and how they are printed.
+const STATES: [(&str, &[u8], &str); 17] = [
+    ("unit", b"", "done ()\n"),
+    ("bool", b"\0", "done false\n"),
+    ("bool", b"\x01", "done true\n"),
+    ("int", b"\0\0\0\0\0\0\0\0", "done 0\n"),
+    ("int", b"\0\0\0\0\0\0\0\x07", "done 7\n"),
+    ("int", b"\xff\xff\xff\xff\xff\xff\xff\xff", "done -1\n"),
+    (
+        "int",
+        b"\x7f\xff\xff\xff\xff\xff\xff\xff",
+        "done 9223372036854775807\n",
+    ),
+    ("int", b"\x80\0\0\0\0\0\0\0", "done -9223372036854775808\n"),
+    ("int", b"\xff\xff\xff\xff\xff\xff\xff\xf6", "done -10\n"),
+    ("text", b"\0\0\0\0", "done \"\"\n"),
+    ("text", b"\0\0\0\x03abc", "done \"abc\"\n"),
+    (
+        "text",
+        b"\0\0\0\x04\"\\\x0a\x09",
+        "done \"\\\"\\\\\\n\\t\"\n",
+    ),
+    (
+        "text",
+        b"\0\0\0\x06\0\x01\x0b\x0d\x1f\x7f",
+        "done \"\\x00\\x01\\x0b\\x0d\\x1f\\x7f\"\n",
+    ),
+    (
+        "text",
+        b"\0\0\0\x0b\xc3\xa9 \xe2\x82\xac \xf0\x9d\x84\x9e",
+        "done \"é € 𝄞\"\n",
+    ),
+    ("text", b"\0\0\0\x08# ' -> |", "done \"# ' -> |\"\n"),
+    (
+        "auth int",
+        b"\xe3\xb0\xc4B\x98\xfc\x1c\x14\x9a\xfb\xf4\xc8\x99o\xb9$'\xaeA\xe4d\x9b\x93L\xa4\x95\x99\x1bxR\xb8U",
+        "done #e3b0c44298fc1c149afbf4c8996fb92427ae41e4649b934ca495991b7852b855\n",
+    ),
+    (
+        "auth text",
+        b"\0\x01\x02\x03\x04\x05\x06\x07\x08\x09\x0a\x0b\x0c\x0d\x0e\x0f\x10\x11\x12\x13\x14\x15\x16\x17\x18\x19\x1a\x1b\x1c\x1d\x1e\x1f",
+        "done #000102030405060708090a0b0c0d0e0f101112131415161718191a1b1c1d1e1f\n",
+    ),
+];
+
+#[test]
+fn states_are_printed(rt: HostRuntime) -> Result<(), Fail> {
+    let alloc = rt.alloc();
+    for (ty, state, line) in STATES {
+        let text = format!(in alloc; "state {ty}; query open(s: {ty}, x: unit): {ty} = s;")?;
+        let told = verdict(alloc, &staged(text.as_bytes(), state, HEADER), "1")?;
+        assert!(rt; told.is(0, line), "{ty} {line}");
+    }
+    Ok(())
+}
+
+/// Literals at their types, and how their values are printed.
+const LITERALS: [(&str, &str, &str); 10] = [
+    ("unit", " ( ) ", "done ()\n"),
+    ("bool", "true", "done true\n"),
+    ("bool", " false # no", "done false\n"),
+    ("int", " -0", "done 0\n"),
+    ("int", "007", "done 7\n"),
+    ("int", " -007", "done -7\n"),
+    (
+        "int",
+        " -9223372036854775808",
+        "done -9223372036854775808\n",
+    ),
+    (
+        "int",
+        "000009223372036854775807",
+        "done 9223372036854775807\n",
+    ),
+    (
+        "text",
+        "\"\\x7f\\x41\\x0A\\n\\t\\\"\\\\ é\"",
+        "done \"\\x7fA\\n\\n\\t\\\"\\\\ é\"\n",
+    ),
+    ("text", "\t\"# no comment\"\r\n", "done \"# no comment\"\n"),
+];
+
+#[test]
+fn arguments_are_printed(rt: HostRuntime) -> Result<(), Fail> {
+    let alloc = rt.alloc();
+    for (ty, literal, line) in LITERALS {
+        let text = format!(in alloc; "state unit; query q(s: unit, x: {ty}): {ty} = x;")?;
+        let words = ["verify", "p", "q", "s", literal, "1", "q"];
+        let told = run_words(alloc, &staged(text.as_bytes(), b"", HEADER), &words)?;
+        assert!(rt; told.is(0, line), "{ty} {literal}");
+    }
+    Ok(())
+}
+
+// The digests are those that `sha256sum` prints of the spellings.
+#[test]
+fn values_are_digested_by_their_spelling(rt: HostRuntime) -> Result<(), Fail> {
+    let alloc = rt.alloc();
+    let values: [(&str, &str, &str); 3] = [
+        (
+            "int",
+            "5",
+            "done #5dee4dd60ff8d0ba9900fe91e90e0dcf65f0570d42c431f727d0300dd70dc431\n",
+        ),
+        (
+            "bool",
+            "true",
+            "done #4bf5122f344554c53bde2ebb8cd2b7e3d1600ad631c385a5d7cce23c7785459a\n",
+        ),
+        (
+            "text",
+            "\"a\u{e9}\"",
+            "done #6fbb40b16b18dcf954951d0e5e96b071c8999b096cc3835cc6d6ee3466dc0a4b\n",
+        ),
+    ];
+    for (ty, literal, line) in values {
+        let text = format!(in alloc;
+            "state unit; query q(s: unit, x: {ty}): auth {ty} = auth(x);"
+        )?;
+        let words = ["verify", "p", "q", "s", literal, "1", "q"];
+        let told = run_words(alloc, &staged(text.as_bytes(), b"", HEADER), &words)?;
+        assert!(rt; told.is(0, line), "{ty} {literal}");
+    }
+    Ok(())
+}
+
+// An opened piece is read at its type.
+#[test]
+fn pieces_are_read_at_their_type(rt: HostRuntime) -> Result<(), Fail> {
+    let alloc = rt.alloc();
+    let pieces: [(&str, &[u8], u8, &str); 4] = [
+        (
+            "int",
+            b"LAP1\0\0\0\0\0\0\x08\0\0\0\0\0\0\0\x05",
+            0,
+            "done 5\n",
+        ),
+        (
+            "bool",
+            b"LAP1\0\0\0\0\0\0\x08\0\0\0\0\0\0\0\x05",
+            5,
+            "rejected bad-piece 0 1\n",
+        ),
+        (
+            "text",
+            b"LAP1\0\0\0\0\0\0\x08\0\0\0\0\0\0\0\x05",
+            5,
+            "rejected bad-piece 0 4\n",
+        ),
+        (
+            "unit",
+            b"LAP1\0\0\0\0\0\0\x08\0\0\0\0\0\0\0\x05",
+            5,
+            "rejected bad-piece 0 0\n",
+        ),
+    ];
+    // the digest of the 8 bytes of 5
+    let state = [
+        0x5d, 0xee, 0x4d, 0xd6, 0x0f, 0xf8, 0xd0, 0xba, 0x99, 0x00, 0xfe, 0x91, 0xe9, 0x0e, 0x0d,
+        0xcf, 0x65, 0xf0, 0x57, 0x0d, 0x42, 0xc4, 0x31, 0xf7, 0x27, 0xd0, 0x30, 0x0d, 0xd7, 0x0d,
+        0xc4, 0x31,
+    ];
+    for (ty, proof, status, line) in pieces {
+        let text = format!(in alloc;
+            "state auth {ty}; query open(s: auth {ty}, x: unit): {ty} = unauth(s);"
+        )?;
+        let told = verdict(alloc, &staged(text.as_bytes(), &state, proof), "1")?;
+        assert!(rt; told.is(status, line), "{ty} {line}");
+    }
+    Ok(())
+}
+
+#[test]
+fn sums_are_exact_or_trap(rt: HostRuntime) -> Result<(), Fail> {
+    let sums: [([u8; 8], &str, u8, &str); 6] = [
+        ([0, 0, 0, 0, 0, 0, 0, 5], "3", 0, "done 8\n"),
+        (
+            [0, 0, 0, 0, 0, 0, 0, 1],
+            "9223372036854775807",
+            3,
+            "trap overflow\n",
+        ),
+        ([0xff; 8], "1", 0, "done 0\n"),
+        ([0xff; 8], " -9223372036854775808", 3, "trap overflow\n"),
+        (
+            [0x80, 0, 0, 0, 0, 0, 0, 0],
+            "9223372036854775807",
+            0,
+            "done -1\n",
+        ),
+        (
+            [0x7f, 0xff, 0xff, 0xff, 0xff, 0xff, 0xff, 0xff],
+            "0",
+            0,
+            "done 9223372036854775807\n",
+        ),
+    ];
+    for (state, argument, status, line) in sums {
+        let words = ["verify", "p", "more", "s", argument, "1", "q"];
+        let told = run_words(rt.alloc(), &staged(MORE, &state, HEADER), &words)?;
+        assert!(rt; told.is(status, line), "{line}");
+    }
+    Ok(())
+}
+
+// A trap ends the run like an outcome: bytes left behind it are refused, and the first trap or rejection from the left ends it.
+#[test]
+fn a_trap_is_judged_like_a_value(rt: HostRuntime) -> Result<(), Fail> {
+    let text =
+        b"state auth int; query open(s: auth int, x: unit): int = add(add(9223372036854775807, 1), unauth(s)); query late(s: auth int, x: unit): int = add(unauth(s), add(9223372036854775807, 1));";
+    let state = [0; 32];
+    let cases: [(&str, &[u8], u8, &str); 4] = [
+        ("open", HEADER, 3, "trap overflow\n"),
+        ("open", b"LAP1\0\0\0", 5, "rejected leftover 1\n"),
+        ("late", HEADER, 5, "rejected short 0\n"),
+        ("late", b"LAP1\0\0\x02", 5, "rejected bad-kind 0 2\n"),
+    ];
+    for (role, proof, status, line) in cases {
+        let words = ["verify", "p", role, "s", "()", "1", "q"];
+        let told = run_words(rt.alloc(), &staged(text, &state, proof), &words)?;
+        assert!(rt; told.is(status, line), "{role} {line}");
+    }
+    Ok(())
+}
