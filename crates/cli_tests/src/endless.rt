@@ -1,8 +1,8 @@
 // A source without an end.
 ghost use Rattle.std.specs.Prelude.{◌≡◌, ℕ, None, refl};
 
-use crate::stage::sink;
 use auth_cli::run;
+use cli_stage::stage::sink;
 use lam_outside::{Failed, Files, Load, Source, load_all};
 use std::test::Fail;
 

@@ -1,5 +1,5 @@
 // The inputs that `verify` refuses, and in which order.
-use crate::stage::{MORE, OPEN, PROOF, STATE, run_words, staged, verdict};
+use cli_stage::stage::{MORE, OPEN, PROOF, STATE, run_words, staged, verdict};
 use std::test::Fail;
 
 #[test]
@@ -89,7 +89,7 @@ fn long_states_are_refused(rt: HostRuntime) -> Result<(), Fail> {
 }
 
 /// Literals that are refused at a type, each with its line: the kind, and the offset of the first fault.
-const LITERALS: [(&str, &str, &str); 44] = [
+const LITERALS: [(&str, &str, &str); 43] = [
     ("unit", "(", "input refused: argument Mismatch 1\n"),
     ("unit", ")", "input refused: argument Mismatch 0\n"),
     ("unit", " ", "input refused: argument Mismatch 1\n"),
@@ -114,7 +114,6 @@ const LITERALS: [(&str, &str, &str); 44] = [
     ("bool", "true false", "input refused: argument Mismatch 5\n"),
     ("bool", "(true)", "input refused: argument Mismatch 0\n"),
     ("bool", "\u{e9}", "input refused: argument Char 0\n"),
-    ("int", "", "input refused: argument Mismatch 0\n"),
     ("int", "true", "input refused: argument Mismatch 0\n"),
     ("int", "1 2", "input refused: argument Mismatch 2\n"),
     ("int", "1x", "input refused: argument Mismatch 1\n"),
@@ -171,13 +170,7 @@ fn literals_are_refused_at_their_first_fault(rt: HostRuntime) -> Result<(), Fail
         let text = format!(in alloc; "state unit; query q(s: unit, x: {ty}): {ty} = x;")?;
         let words = ["verify", "p", "q", "s", literal, "1", "q"];
         let told = run_words(alloc, &staged(text.as_bytes(), b"", b"LAP1\0\0"), &words)?;
-        // a word that is empty calls no command
-        let (status, line) = if literal.is_empty() {
-            (2, "usage: lamauth COMMAND ARGUMENTS\n")
-        } else {
-            (7, line)
-        };
-        assert!(rt; told.is(status, line), "{ty} {literal}");
+        assert!(rt; told.is(7, line), "{ty} {literal}");
     }
     Ok(())
 }

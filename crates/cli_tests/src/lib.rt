@@ -1,17 +1,9 @@
-//! Tests of the top call over files and a sink in memory.
+//! Tests of the top call: the words of a command line, the inputs that it refuses, and a file without an end.
 #![tactic(auto)]
 
 #[cfg(test)]
 mod endless;
 #[cfg(test)]
 mod inputs;
-#[cfg(test)]
-mod programs;
-#[cfg(test)]
-mod stage;
-#[cfg(test)]
-mod values;
-#[cfg(test)]
-mod verdicts;
 #[cfg(test)]
 mod words;

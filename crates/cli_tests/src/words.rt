@@ -1,5 +1,5 @@
 // The words of a command line that call no command.
-use crate::stage::{OPEN, PROOF, STATE, run_words, staged};
+use cli_stage::stage::{OPEN, PROOF, STATE, run_words, staged};
 use std::test::Fail;
 
 const USAGE: &str = "usage: lamauth COMMAND ARGUMENTS\n";

@@ -1,5 +1,5 @@
 // Values: read from a state or an argument, computed, digested and printed.
-use crate::stage::{MORE, run_words, staged, verdict};
+use cli_stage::stage::{MORE, run_words, staged, verdict};
 use std::test::Fail;
 
 const HEADER: &[u8] = b"LAP1\0\0";

@@ -1,6 +1,6 @@
 // What `verify` says of proofs, and what it does where the outside fails.
-use crate::stage::{OPEN, PROOF, STATE, Stage, files, run_words, sink, staged, verdict};
 use auth_cli::run;
+use cli_stage::stage::{OPEN, PROOF, STATE, Stage, files, run_words, sink, staged, verdict};
 use std::test::Fail;
 
 const WORDS: [&str; 8] = ["lamauth", "verify", "p", "open", "s", "()", "1", "q"];

@@ -1,5 +1,5 @@
 // What `check` says of the texts of programs.
-use crate::stage::{OPEN, PROOF, STATE, check, staged, verdict};
+use cli_stage::stage::{OPEN, PROOF, STATE, check, staged, verdict};
 use std::alloc::{AllocError, Global};
 use std::test::Fail;
 

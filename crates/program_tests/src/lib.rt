@@ -1,0 +1,5 @@
+//! Tests of the top call: what it says of the texts of programs.
+#![tactic(auto)]
+
+#[cfg(test)]
+mod programs;
