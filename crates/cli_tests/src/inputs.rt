@@ -1,5 +1,6 @@
 // The inputs that `verify` refuses, and in which order.
 use cli_stage::stage::{MORE, OPEN, PROOF, STATE, run_words, staged, verdict};
+use std::alloc::{AllocError, Global};
 use std::test::Fail;
 
 #[test]
@@ -88,89 +89,120 @@ fn long_states_are_refused(rt: HostRuntime) -> Result<(), Fail> {
     Ok(())
 }
 
-/// Literals that are refused at a type, each with its line: the kind, and the offset of the first fault.
-const LITERALS: [(&str, &str, &str); 43] = [
-    ("unit", "(", "input refused: argument Mismatch 1\n"),
-    ("unit", ")", "input refused: argument Mismatch 0\n"),
-    ("unit", " ", "input refused: argument Mismatch 1\n"),
-    ("unit", "()()", "input refused: argument Mismatch 2\n"),
+/// Texts that are no literals of the type `unit`, each with the line of its first fault.
+const UNITS: [(&str, &str); 14] = [
+    ("(", "input refused: argument Mismatch 1\n"),
+    (")", "input refused: argument Mismatch 0\n"),
+    (" ", "input refused: argument Mismatch 1\n"),
+    ("()()", "input refused: argument Mismatch 2\n"),
+    ("() # and\n ()", "input refused: argument Mismatch 10\n"),
+    ("unit", "input refused: argument Mismatch 0\n"),
+    ("x", "input refused: argument Mismatch 0\n"),
+    ("1", "input refused: argument Mismatch 0\n"),
+    ("((),())", "input refused: argument Mismatch 1\n"),
+    ("#", "input refused: argument Mismatch 1\n"),
+    ("(#)", "input refused: argument Mismatch 3\n"),
+    ("(@", "input refused: argument Char 1\n"),
+    ("() @", "input refused: argument Char 3\n"),
+    (") @", "input refused: argument Mismatch 0\n"),
+];
+
+/// Texts that are no literals of the type `bool`, each with the line of its first fault.
+const BOOLS: [(&str, &str); 6] = [
+    ("1", "input refused: argument Mismatch 0\n"),
+    ("True", "input refused: argument Mismatch 0\n"),
+    ("truer", "input refused: argument Mismatch 0\n"),
+    ("true false", "input refused: argument Mismatch 5\n"),
+    ("(true)", "input refused: argument Mismatch 0\n"),
+    ("\u{e9}", "input refused: argument Char 0\n"),
+];
+
+/// Texts that are no literals of the type `int`, each with the line of its first fault.
+const INTS: [(&str, &str); 10] = [
+    ("true", "input refused: argument Mismatch 0\n"),
+    ("1 2", "input refused: argument Mismatch 2\n"),
+    ("1x", "input refused: argument Mismatch 1\n"),
+    (" - 1", "input refused: argument Char 1\n"),
+    (" --1", "input refused: argument Char 1\n"),
+    ("+1", "input refused: argument Char 0\n"),
+    ("1_000", "input refused: argument Char 1\n"),
     (
-        "unit",
-        "() # and\n ()",
-        "input refused: argument Mismatch 10\n",
-    ),
-    ("unit", "unit", "input refused: argument Mismatch 0\n"),
-    ("unit", "x", "input refused: argument Mismatch 0\n"),
-    ("unit", "1", "input refused: argument Mismatch 0\n"),
-    ("unit", "((),())", "input refused: argument Mismatch 1\n"),
-    ("unit", "#", "input refused: argument Mismatch 1\n"),
-    ("unit", "(#)", "input refused: argument Mismatch 3\n"),
-    ("unit", "(@", "input refused: argument Char 1\n"),
-    ("unit", "() @", "input refused: argument Char 3\n"),
-    ("unit", ") @", "input refused: argument Mismatch 0\n"),
-    ("bool", "1", "input refused: argument Mismatch 0\n"),
-    ("bool", "True", "input refused: argument Mismatch 0\n"),
-    ("bool", "truer", "input refused: argument Mismatch 0\n"),
-    ("bool", "true false", "input refused: argument Mismatch 5\n"),
-    ("bool", "(true)", "input refused: argument Mismatch 0\n"),
-    ("bool", "\u{e9}", "input refused: argument Char 0\n"),
-    ("int", "true", "input refused: argument Mismatch 0\n"),
-    ("int", "1 2", "input refused: argument Mismatch 2\n"),
-    ("int", "1x", "input refused: argument Mismatch 1\n"),
-    ("int", " - 1", "input refused: argument Char 1\n"),
-    ("int", " --1", "input refused: argument Char 1\n"),
-    ("int", "+1", "input refused: argument Char 0\n"),
-    ("int", "1_000", "input refused: argument Char 1\n"),
-    (
-        "int",
         "9223372036854775808",
         "input refused: argument NumberRange 0\n",
     ),
     (
-        "int",
         "  -9223372036854775809",
         "input refused: argument NumberRange 2\n",
     ),
     (
-        "int",
         "1 9223372036854775808",
         "input refused: argument NumberRange 2\n",
     ),
-    ("text", "abc", "input refused: argument Mismatch 0\n"),
-    ("text", "\"abc", "input refused: argument Unclosed 0\n"),
-    ("text", "\"abc\" \"", "input refused: argument Unclosed 6\n"),
-    ("text", "\"a\\\"", "input refused: argument Unclosed 0\n"),
-    ("text", "\"a\\", "input refused: argument BadEscape 2\n"),
+];
+
+/// Texts that are no literals of the type `text`, each with the line of its first fault.
+const TEXTS: [(&str, &str); 13] = [
+    ("abc", "input refused: argument Mismatch 0\n"),
+    ("\"abc", "input refused: argument Unclosed 0\n"),
+    ("\"abc\" \"", "input refused: argument Unclosed 6\n"),
+    ("\"a\\\"", "input refused: argument Unclosed 0\n"),
+    ("\"a\\", "input refused: argument BadEscape 2\n"),
+    ("\"\u{e9}\\u\"", "input refused: argument BadEscape 3\n"),
+    ("\"\\x80\"", "input refused: argument BadEscape 1\n"),
+    ("\"a\tb\"", "input refused: argument Char 2\n"),
+    ("\"a\u{7f}b\"", "input refused: argument Char 2\n"),
+    ("\"a\" b", "input refused: argument Mismatch 4\n"),
     (
-        "text",
-        "\"\u{e9}\\u\"",
-        "input refused: argument BadEscape 3\n",
-    ),
-    ("text", "\"\\x80\"", "input refused: argument BadEscape 1\n"),
-    ("text", "\"a\tb\"", "input refused: argument Char 2\n"),
-    ("text", "\"a\u{7f}b\"", "input refused: argument Char 2\n"),
-    ("text", "\"a\" b", "input refused: argument Mismatch 4\n"),
-    (
-        "text",
         "a2345678901234567890123456789012345678901234567890123456789012345",
         "input refused: argument NameLong 0\n",
     ),
     (
-        "text",
         "\"a\" A2345678901234567890123456789012345678901234567890123456789012345",
         "input refused: argument NameLong 4\n",
     ),
-    ("text", "\"a\\\\x80\"\\", "input refused: argument Char 8\n"),
+    ("\"a\\\\x80\"\\", "input refused: argument Char 8\n"),
 ];
 
+/// Whether a text is refused as a literal of a type, with this line.
+fn is_refused(alloc: Global, ty: &str, literal: &str, line: &str) -> Result<bool, AllocError> {
+    let text = format!(in alloc; "state unit; query q(s: unit, x: {ty}): {ty} = x;")?;
+    let words = ["verify", "p", "q", "s", literal, "1", "q"];
+    let told = run_words(alloc, &staged(text.as_bytes(), b"", b"LAP1\0\0"), &words)?;
+    Ok(told.is(7, line))
+}
+
 #[test]
-fn literals_are_refused_at_their_first_fault(rt: HostRuntime) -> Result<(), Fail> {
-    for (ty, literal, line) in LITERALS {
-        let alloc = rt.alloc();
-        let text = format!(in alloc; "state unit; query q(s: unit, x: {ty}): {ty} = x;")?;
-        let words = ["verify", "p", "q", "s", literal, "1", "q"];
-        let told = run_words(alloc, &staged(text.as_bytes(), b"", b"LAP1\0\0"), &words)?;
-        assert!(rt; told.is(7, line), "{ty} {literal}");
+fn literals_of_unit_are_refused_at_their_first_fault(rt: HostRuntime) -> Result<(), Fail> {
+    for (literal, line) in UNITS {
+        let refused = is_refused(rt.alloc(), "unit", literal, line)?;
+        assert!(rt; refused, "{literal}");
+    }
+    Ok(())
+}
+
+#[test]
+fn literals_of_bool_are_refused_at_their_first_fault(rt: HostRuntime) -> Result<(), Fail> {
+    for (literal, line) in BOOLS {
+        let refused = is_refused(rt.alloc(), "bool", literal, line)?;
+        assert!(rt; refused, "{literal}");
+    }
+    Ok(())
+}
+
+#[test]
+fn literals_of_int_are_refused_at_their_first_fault(rt: HostRuntime) -> Result<(), Fail> {
+    for (literal, line) in INTS {
+        let refused = is_refused(rt.alloc(), "int", literal, line)?;
+        assert!(rt; refused, "{literal}");
+    }
+    Ok(())
+}
+
+#[test]
+fn literals_of_text_are_refused_at_their_first_fault(rt: HostRuntime) -> Result<(), Fail> {
+    for (literal, line) in TEXTS {
+        let refused = is_refused(rt.alloc(), "text", literal, line)?;
+        assert!(rt; refused, "{literal}");
     }
     Ok(())
 }
