@@ -1,0 +1,5 @@
+pub mod HandLocals
+pub mod Added
+pub mod Bodies
+pub mod Lending
+pub mod Within

@@ -1,0 +1,3 @@
+pub mod PlainValues
+pub mod Telling
+pub mod Limits
