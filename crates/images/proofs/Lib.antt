@@ -1,0 +1,12 @@
+mod Rows
+mod Nesting
+mod TypeParts
+mod TextRecords
+mod Limits
+mod Loaded
+mod Standing
+mod Headed
+mod LoadedImages
+mod Saved
+mod Restored
+mod IdealRoots

@@ -1,0 +1,9 @@
+pub mod Records
+pub mod Parts
+pub mod Images
+pub mod SavedImages
+pub mod PlainTypes
+pub mod KeptValues
+pub mod ReadRecords
+pub mod Loads
+pub mod Saves
