@@ -1,11 +1,14 @@
 -- The words of a command line.
-use Rattle.std.proofs.Common.{◌≡◌, ℕ, List, [], ◌∷◌, length, get_or, Bool, ◌||◌, map, take, drop, ◌-◌, Some, Bor, refl, ap, sym, ◌∙◌, arith}
+use Rattle.std.proofs.Common.{◌≡◌, ℕ, List, [], ◌∷◌, length, get_or, Bool, ◌||◌, map, take, drop, ◌-◌, Some, Result, Bor, refl, ap, sym, ◌∙◌, subst, arith}
 use Rattle.std.specs.List.{list_any}
 use Rattle.std.proofs.lemmas.List.{take_rest}
 use Rattle.lam_outside.specs.Told.{Contents}
-use Rattle.auth_cli.specs.Answer.{answer, check_answer, checked_answer, command_answer, judged_answer, verify_answer}
+use Rattle.auth_cli.specs.Answer.{answer, check_answer, checked_answer, command_answer, init_answer, initial_answer, judged_answer, shallow_answer, spelled_answer, verify_answer}
 use Rattle.auth_cli.specs.SoundPrograms.{HoldsSound, IsOutcome, ReadSound}
+use Rattle.auth_cli.specs.Storing.{FindsOutput}
 use Rattle.auth_cli.specs.Words.{command_of, texts}
+use Rattle.auth_cli.specs.declared.report.Halt.{Halt}
+use Rattle.auth_cli.specs.declared.report.Output.{Output}
 use Rattle.auth_cli.specs.declared.words.Command.{Command}
 use Rattle.auth_cli.specs.declared.status.Status.{Status}
 
@@ -31,6 +34,38 @@ pub check_words : (words : List (Bor (List ℕ))) (none : Bor (List ℕ)) (files
 check_words [] none files one = absurd (omega arith)
 check_words (a ∷ []) none files one = refl
 check_words (a ∷ b ∷ rest) none files one = absurd (omega arith)
+
+-- the three arguments of `shallow`
+shallow_words : (words : List (Bor (List ℕ))) (none : Bor (List ℕ)) (files : Contents) → length words ≡ 3 → shallow_answer (texts words) files
+    ≡ spelled_answer (get_or words 0 none).now (get_or words 1 none).now (get_or words 2 none).now files
+shallow_words [] none files three = absurd (omega arith)
+shallow_words (a ∷ []) none files three = absurd (omega arith)
+shallow_words (a ∷ b ∷ []) none files three = absurd (omega arith)
+shallow_words (a ∷ b ∷ c ∷ []) none files three = refl
+shallow_words (a ∷ b ∷ c ∷ d ∷ rest) none files three = absurd (omega arith)
+
+pub shallow_found : (words : List (Bor (List ℕ))) (none : Bor (List ℕ)) (files : Contents) (result : Result Output Halt) → length words ≡ 3
+    → ((name : List ℕ) → FindsOutput name (spelled_answer (get_or words 0 none).now (get_or words 1 none).now name files) result)
+    → FindsOutput (get_or words 2 none).now (shallow_answer (texts words) files) result
+shallow_found words none files result three finds =
+    subst (λ answer. FindsOutput (get_or words 2 none).now answer result) (sym (shallow_words words none files three)) (finds (get_or words 2 none).now)
+
+-- the five arguments of `init`
+init_words : (words : List (Bor (List ℕ))) (none : Bor (List ℕ)) (files : Contents) → length words ≡ 5 → init_answer (texts words) files
+    ≡ initial_answer (get_or words 0 none).now (get_or words 1 none).now (get_or words 2 none).now (get_or words 3 none).now (get_or words 4 none).now files
+init_words [] none files five = absurd (omega arith)
+init_words (a ∷ []) none files five = absurd (omega arith)
+init_words (a ∷ b ∷ []) none files five = absurd (omega arith)
+init_words (a ∷ b ∷ c ∷ []) none files five = absurd (omega arith)
+init_words (a ∷ b ∷ c ∷ d ∷ []) none files five = absurd (omega arith)
+init_words (a ∷ b ∷ c ∷ d ∷ e ∷ []) none files five = refl
+init_words (a ∷ b ∷ c ∷ d ∷ e ∷ f ∷ rest) none files five = absurd (omega arith)
+
+pub init_found : (words : List (Bor (List ℕ))) (none : Bor (List ℕ)) (files : Contents) (result : Result Output Halt) → length words ≡ 5
+    → ((name : List ℕ) → FindsOutput name (initial_answer (get_or words 0 none).now (get_or words 1 none).now (get_or words 2 none).now (get_or words 3 none).now name files) result)
+    → FindsOutput (get_or words 4 none).now (init_answer (texts words) files) result
+init_found words none files result five finds =
+    subst (λ answer. FindsOutput (get_or words 4 none).now answer result) (sym (init_words words none files five)) (finds (get_or words 4 none).now)
 
 -- the first of some arguments
 pub first_word : (words : List (Bor (List ℕ))) (none : Bor (List ℕ)) (files : Contents) (status : Status) → (IsOutcome status → HoldsSound (files (get_or words 0 none).now)) → ReadSound (texts words) files status

@@ -30,7 +30,7 @@ stores_none : (answer : Option Answer) (old new : Option Stores) → new ≡ old
 stores_none None old new same = adds_none old new same
 stores_none (Some a) old new same = inl (adds_none old new same)
 
-one_line : (line : List ℕ) → concat (line ∷ []) ≡ line
+pub one_line : (line : List ℕ) → concat (line ∷ []) ≡ line
 one_line line = append-nil line
 
 -- an answer of one line was told
@@ -85,7 +85,7 @@ module _ (answer : Contents → Option Answer) (old new : Outside) where
   -- all of the line was written
   whole : (found : Found) → FindsTold found → HaltCause old.read_faults new.read_faults found → new.stores ≡ old.stores → new.store_faults ≡ old.store_faults
       → new.written ≡ append_known old.written (line_of found) → new.write_faults ≡ old.write_faults → EndsAs answer old new (status_of found)
-  whole (Ok report) finds cause same stores written writes = report_ends report.ending report.line.items finds written same cause stores writes
+  whole (Ok report) finds cause same stores written writes = report_ends report.ending report.text.items finds written same cause stores writes
   whole (Err Usage) finds cause same stores written writes = answered _ _ finds written same cause stores writes
   whole (Err (Refused what)) finds cause same stores written writes = refusal_ends what finds written same cause stores writes
   whole (Err ReadFault) finds cause same stores written writes = record {

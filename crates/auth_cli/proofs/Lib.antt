@@ -1,10 +1,15 @@
 pub mod CommandLine
 pub mod Ends
+pub mod EndsStored
+pub mod InitRoles
 pub mod Known
 pub mod Leading
+pub mod MadeStates
 pub mod Numbers
+pub mod PlainArguments
 pub mod Queries
 pub mod SoundQueries
+pub mod StateOutputs
 pub mod Steps
 pub mod Told
 pub mod TrueLine

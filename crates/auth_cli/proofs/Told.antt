@@ -1,16 +1,24 @@
 -- A run that is told an outcome has found it.
-use Rattle.std.proofs.Common.{ℕ, List, Option, Ok, Err, IfOk, subst, inl, inr}
+use Rattle.std.proofs.Common.{ℕ, List, Option, Result, Ok, Err, IfOk, subst, inl, inr}
+use Rattle.lam_outside.specs.Told.{Stores}
 use Rattle.printed_lines.specs.declared.refusal.Refusal.TheVariants as refusal
 use Rattle.auth_cli.specs.Halting.{Found, status_of}
 use Rattle.auth_cli.specs.SoundPrograms.{IsOutcome}
+use Rattle.auth_cli.specs.Storing.{StoresAndTells}
 use Rattle.auth_cli.specs.Telling.{Tells}
 use Rattle.auth_cli.specs.declared.report.Halt.TheVariants.{Usage, Refused, ReadFault, NoMemory}
+use Rattle.auth_cli.specs.declared.report.Halt.{Halt}
+use Rattle.auth_cli.specs.declared.report.Output.{Output}
 use Rattle.auth_cli.specs.declared.status.Status.{Status}
 
 -- what holds anyway holds of a report
 pub if_ok : {A : Type 0} (found : Found) → A → IfOk found (λ _. A)
 if_ok (Ok report) holds = holds
 if_ok (Err halt) holds = tt
+
+pub if_found : {A : Type 0} (found : Result Output Halt) → A → IfOk found (λ _. A)
+if_found (Ok output) holds = holds
+if_found (Err halt) holds = tt
 
 -- what ends in an outcome is a report
 report_of_outcome : {A : Type 0} (found : Found) → IsOutcome (status_of found) → IfOk found (λ _. A) → A
@@ -28,3 +36,12 @@ told_outcome found ended old new before now (inl (inl told)) holds outcome = rep
 told_outcome found ended old new before now (inl (inr told)) holds outcome = absurd (subst IsOutcome told.0 outcome)
 told_outcome found ended old new before now (inr (inl told)) holds outcome = absurd (subst IsOutcome told.0 outcome)
 told_outcome found ended old new before now (inr (inr told)) holds outcome = absurd (subst IsOutcome told.0 outcome)
+
+-- the same where a file may have been stored before
+pub stored_outcome : {A : Type 0} (name : List ℕ) (found : Result Output Halt) (ended : Status) (stores stores' : Option Stores) (store_faults store_faults' : ℕ) (old new : Option (List ℕ)) (before now : ℕ)
+    → StoresAndTells name found ended stores stores' store_faults store_faults' old new before now → IfOk found (λ _. A) → IsOutcome ended → A
+stored_outcome {A = A} name (Err halt) ended stores stores' store_faults store_faults' old new before now told holds outcome =
+    told_outcome {A = A} (Err halt) ended old new before now told.2 tt outcome
+stored_outcome name (Ok output) ended stores stores' store_faults store_faults' old new before now (listed, inl failed) holds outcome = absurd (subst IsOutcome failed.0 outcome)
+stored_outcome name (Ok output) ended stores stores' store_faults store_faults' old new before now (listed, inr told) holds outcome =
+    told_outcome (Ok output.report) ended old new before now told.1 holds outcome

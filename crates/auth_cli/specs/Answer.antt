@@ -3,29 +3,34 @@ use Rattle.std.specs.Prelude.{ℕ, List, [], ◌∷◌, length, drop, nat_le, co
 use Rattle.sha2.specs.Sha256.{sha256}
 use Rattle.lam_outside.specs.Told.{Contents, Stores}
 use Rattle.core_terms.specs.Types.{Ty}
-use Rattle.core_terms.specs.Values.{Value}
+use Rattle.core_terms.specs.Values.{Value, NoV, AndV}
 use Rattle.core_terms.specs.Reading.{Read, Good, BadAt}
 use Rattle.core_terms.specs.Terms.{Program, function_at}
 use Rattle.core_terms.specs.Roles.{role_named}
-use Rattle.core_terms.specs.Projection.{read_at}
+use Rattle.core_terms.specs.Spelling.{spelling}
+use Rattle.core_terms.specs.Projection.{projection, read_at}
 use Rattle.auth_syntax.specs.Literals.{Literal, Spelled, FirstFault, literal}
 use Rattle.auth_syntax.specs.declared.fault.LiteralKind.TheVariants.{Mismatch}
 use Rattle.ideal_meaning.specs.Ideal as ideal
 use Rattle.ideal_meaning.specs.Checked as checked
-use Rattle.printed_lines.specs.Lines.{done_line, ok_line, out_line, refusal_line}
+use Rattle.images.specs.Images as images
+use Rattle.images.specs.SavedImages.{saved_image}
+use Rattle.printed_lines.specs.Lines.{done_line, ok_line, out_line, refusal_line, state_line}
 use Rattle.printed_lines.specs.declared.refusal.Argument.{Argument}
 use Rattle.printed_lines.specs.declared.refusal.Argument.TheVariants as named
+use Rattle.printed_lines.specs.declared.refusal.ImageKind.{ImageKind}
+use Rattle.printed_lines.specs.declared.refusal.ImageKind.TheVariants as kind
 use Rattle.printed_lines.specs.declared.refusal.InputFault.{InputFault}
-use Rattle.printed_lines.specs.declared.refusal.InputFault.TheVariants.{TooLong, RoleUnknown, RoleKind, Number, State, Literal as BadLiteral}
+use Rattle.printed_lines.specs.declared.refusal.InputFault.TheVariants.{TooLong, RoleUnknown, RoleKind, Number, State, Literal as BadLiteral, Image as BadImage}
 use Rattle.printed_lines.specs.declared.refusal.Refusal.{Refusal}
 use Rattle.printed_lines.specs.declared.refusal.Refusal.TheVariants as refusal
 use Rattle.verifier_mode.specs.Verdicts.{argument_type}
-use Rattle.auth_cli.specs.Arguments.{is_query, fuel_of}
+use Rattle.auth_cli.specs.Arguments.{is_init, is_query, fuel_of, init_type}
 use Rattle.auth_cli.specs.TextPrograms.{TextProgram, IsProgram, IsRefused, program_of_text}
 use Rattle.auth_cli.specs.VerdictLines.{rejected_line, trap_line}
 use Rattle.auth_cli.specs.Words.{command_of}
 use Rattle.auth_cli.specs.declared.words.Command.{Command}
-use Rattle.auth_cli.specs.declared.words.Command.TheVariants.{Check, Verify}
+use Rattle.auth_cli.specs.declared.words.Command.TheVariants.{Check, Verify, Shallow, Init}
 use Rattle.auth_cli.specs.declared.status.Status.{Status}
 use Rattle.auth_cli.specs.declared.status.Status.TheVariants.{Done, Usage, Trap, OutOfFuel, Rejected, ProgramRefused, InputRefused}
 
@@ -145,6 +150,50 @@ argument_literal P f text = literal P (argument_type P f) text
 abbrev pub with_argument : Program → ℕ → List ℕ → (List ℕ → Option Answer) → Option Answer
 with_argument P f text go = with_literal (argument_literal P f text) go
 
+-- why the bytes of an image are refused
+abbrev pub image_kind : images.ImageFault → ImageKind
+image_kind images.Magic = kind.Magic
+image_kind images.OtherProgram = kind.OtherProgram
+image_kind images.RootType = kind.RootType
+image_kind (images.Cut bytes) = kind.Cut bytes
+image_kind (images.Leftover bytes) = kind.Leftover bytes
+image_kind (images.BadRecord number) = kind.BadRecord number
+image_kind (images.TooBig number) = kind.TooBig number
+image_kind (images.TooDeep number) = kind.TooDeep number
+
+-- goes on with the ideal state that an image keeps
+abbrev pub with_root : images.Image → (Value → Option Answer) → Option Answer
+with_root (images.Root v) go = go v
+with_root (images.Refused fault) go = Some (input_refused (BadImage (image_kind fault)))
+
+-- bytes as an image of a program
+unfoldable pub image_read : DigestedProgram → List ℕ → images.Image
+image_read p bytes = images.image_of p.program p.digest bytes
+
+-- goes on with the ideal state in an image, and with that in a file
+abbrev pub with_image : DigestedProgram → List ℕ → (Value → Option Answer) → Option Answer
+with_image p bytes go = with_root (image_read p bytes) go
+
+abbrev pub with_image_file : DigestedProgram → Option (List ℕ) → (Value → Option Answer) → Option Answer
+with_image_file p file go = with_file max_file named.Image file (λ bytes. with_image p bytes go)
+
+-- a text as a literal of a type, and bytes read at a type
+unfoldable pub literal_at : Program → Ty → List ℕ → Literal
+literal_at P t text = literal P t text
+
+unfoldable pub value_read : Program → Ty → List ℕ → Read Value
+value_read P t bytes = read_at P t bytes
+
+-- Goes on with the value that is read back from its spelling. A literal's value always is: a fault, of which there is none, would be
+-- answered as no literal of the type.
+abbrev pub with_value_read : Read Value → (Value → Option Answer) → Option Answer
+with_value_read (Good v rest place) go = go v
+with_value_read (BadAt offset) go = Some (input_refused (BadLiteral Mismatch offset))
+
+-- goes on with the value that a text is a literal of, at a type without `auth`: such a value is an ideal one
+abbrev pub with_value : Program → Ty → List ℕ → (Value → Option Answer) → Option Answer
+with_value P t text go = with_literal (literal_at P t text) (λ bytes. with_value_read (value_read P t bytes) go)
+
 -- a call of a query, with the spellings of its state and argument
 pub record Call : Type 0 where
   pub program : Program
@@ -182,7 +231,65 @@ judged_answer program role state argument fuel proof files =
 abbrev pub checked_answer : List ℕ → Contents → Option Answer
 checked_answer program files = with_program_file (files program) (λ p. Some (says Done (ok_line p.digest)))
 
--- of each command, by its arguments: `check P` and `verify P ROLE STATE ARG FUEL PROOF`
+-- the projection of an ideal state: a digest stands for what is authenticated
+unfoldable pub state_projection : Program → Value → Value
+state_projection P v = projection sha256 P P.state v
+
+-- what is answered for an ideal state whose projection is told: its value, and its spelling stored under a name
+abbrev pub state_answer : Program → Value → List ℕ → Answer
+state_answer P v name =
+    let projected = state_projection P v in
+    record { status = Done; lines = state_line P.state projected ∷ []; stored = (name, spelling projected) ∷ [] }
+
+-- `shallow P IMG OUT`: the projection of the state that an image keeps
+abbrev pub spelled_answer : (program image out : List ℕ) → Contents → Option Answer
+spelled_answer program image out files =
+    with_program_file (files program) (λ p. with_image_file p (files image) (λ v. Some (state_answer p.program v out)))
+
+-- goes on with the role of this number, where it is an init
+abbrev pub with_init_at : Program → Option ℕ → (ℕ → Option Answer) → Option Answer
+with_init_at P None go = Some (input_refused RoleUnknown)
+with_init_at P (Some f) go = if is_init (function_at P f).kind then go f else Some (input_refused RoleKind)
+
+abbrev pub with_init : Program → List ℕ → (ℕ → Option Answer) → Option Answer
+with_init P name go = with_init_at P (role_named P name) go
+
+-- how an init ends, which is called with an argument and so much fuel
+unfoldable pub init_outcome : Program → (f k : ℕ) → Value → ideal.Outcome
+init_outcome P f k argument = ideal.outcome (ideal.ideal P f (AndV argument NoV) k)
+
+-- the image of a state
+unfoldable pub state_image : DigestedProgram → Value → List ℕ
+state_image p v = saved_image p.program p.digest v
+
+-- what is answered for a state that was made: its projection, with its image stored under a name
+abbrev pub made_answer : DigestedProgram → Value → List ℕ → Answer
+made_answer p v name =
+    let image = state_image p v in
+    if nat_le (length image) max_file
+    then record { status = Done; lines = done_line p.program.state (state_projection p.program v) ∷ []; stored = (name, image) ∷ [] }
+    else input_refused (TooLong named.Out)
+
+-- the same for the outcome of an init
+abbrev pub init_answer_of : DigestedProgram → ideal.Outcome → List ℕ → Answer
+init_answer_of p (ideal.Done v) name = made_answer p v name
+init_answer_of p (ideal.Trapped trap) name = says Trap (trap_line trap)
+init_answer_of p ideal.Out name = says OutOfFuel out_line
+
+-- what an init of a program gives
+abbrev pub made_by : DigestedProgram → (role argument fuel out : List ℕ) → Option Answer
+made_by p role argument fuel out =
+    with_init p.program role (λ f.
+    with_fuel fuel (λ k.
+    with_value p.program (init_type p.program f) argument (λ a.
+    Some (init_answer_of p (init_outcome p.program f k a) out))))
+
+-- `init P ROLE ARG FUEL OUT`: the state that an init makes
+abbrev pub initial_answer : (program role argument fuel out : List ℕ) → Contents → Option Answer
+initial_answer program role argument fuel out files = with_program_file (files program) (λ p. made_by p role argument fuel out)
+
+-- of each command, by its arguments: `check P`, `verify P ROLE STATE ARG FUEL PROOF`, `shallow P IMG OUT` and
+-- `init P ROLE ARG FUEL OUT`
 abbrev pub check_answer : List (List ℕ) → Contents → Option Answer
 check_answer (program ∷ []) files = checked_answer program files
 check_answer words files = Some usage_answer
@@ -191,10 +298,20 @@ abbrev pub verify_answer : List (List ℕ) → Contents → Option Answer
 verify_answer (program ∷ role ∷ state ∷ argument ∷ fuel ∷ proof ∷ []) files = judged_answer program role state argument fuel proof files
 verify_answer words files = Some usage_answer
 
+abbrev pub shallow_answer : List (List ℕ) → Contents → Option Answer
+shallow_answer (program ∷ image ∷ out ∷ []) files = spelled_answer program image out files
+shallow_answer words files = Some usage_answer
+
+abbrev pub init_answer : List (List ℕ) → Contents → Option Answer
+init_answer (program ∷ role ∷ argument ∷ fuel ∷ out ∷ []) files = initial_answer program role argument fuel out files
+init_answer words files = Some usage_answer
+
 abbrev pub command_answer : Option Command → List (List ℕ) → Contents → Option Answer
 command_answer None arguments files = Some usage_answer
 command_answer (Some Check) arguments files = check_answer arguments files
 command_answer (Some Verify) arguments files = verify_answer arguments files
+command_answer (Some Shallow) arguments files = shallow_answer arguments files
+command_answer (Some Init) arguments files = init_answer arguments files
 
 -- by the words of the command line, the program's name first, and the contents of the files
 unfoldable pub answer : List (List ℕ) → Contents → Option Answer

@@ -1,15 +1,25 @@
 -- The arguments of a command that are no names of files: a role and a number.
-use Rattle.std.specs.Prelude.{ℕ, List, length, nat_le, Bool, true, false, ◌&&◌, Option, Some, None, if◌then◌else◌}
+use Rattle.std.specs.Prelude.{ℕ, List, length, nat_le, Bool, true, false, ◌&&◌, Option, Some, None, slice_index_or, if◌then◌else◌}
 use Rattle.std.specs.Option.{option_and_then}
 use Rattle.std.specs.Str.{all_ascii_digits}
 use Rattle.std.specs.Str.Parse.{digits_value}
-use Rattle.core_terms.specs.Terms.{Kind, Query, Program, function_at}
+use Rattle.core_terms.specs.Types.{Ty, UnitTy}
+use Rattle.core_terms.specs.Terms.{Kind, Init, Query, Program, function_at}
 use Rattle.core_terms.specs.Roles.{role_named}
 
 -- the kind is that of a query
 abbrev pub is_query : Kind → Bool
 is_query Query = true
 is_query kind = false
+
+-- the kind is that of an init
+abbrev pub is_init : Kind → Bool
+is_init Init = true
+is_init kind = false
+
+-- the type of what the caller of an init passes
+abbrev pub init_type : Program → ℕ → Ty
+init_type P f = slice_index_or (function_at P f).parameters 0 UnitTy
 
 -- the number, where its function is a query
 abbrev pub query_at : Program → ℕ → Option ℕ

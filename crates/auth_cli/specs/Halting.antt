@@ -4,7 +4,13 @@ use Rattle.lam_outside.specs.Causes.{Rose}
 use Rattle.auth_syntax.specs.declared.fault.LiteralFault.{LiteralFault}
 use Rattle.auth_syntax.specs.declared.fault.LiteralFault.TheVariants as literal_fault
 use Rattle.auth_syntax.specs.declared.fault.LiteralKind.TheVariants.{Mismatch}
+use Rattle.images.specs.declared.fault.ImageFault.{ImageFault}
+use Rattle.images.specs.declared.fault.ImageFault.TheVariants as image_fault
+use Rattle.images.specs.declared.fault.SaveFault.{SaveFault}
+use Rattle.images.specs.declared.fault.SaveFault.TheVariants as save_fault
 use Rattle.printed_lines.specs.Lines.{refusal_line}
+use Rattle.printed_lines.specs.declared.refusal.Argument.TheVariants as argument
+use Rattle.printed_lines.specs.declared.refusal.ImageKind.TheVariants as kind
 use Rattle.printed_lines.specs.declared.refusal.InputFault.TheVariants as input_fault
 use Rattle.printed_lines.specs.declared.refusal.Refusal.TheVariants as refusal
 use Rattle.verifier_mode.specs.declared.judge.Verdict.{Verdict}
@@ -48,10 +54,10 @@ status_of (Ok report) = ending_status report.ending
 status_of (Err halt) = halt_status halt
 
 abbrev pub line_of : Found → List ℕ
-line_of (Ok report) = report.line.items
+line_of (Ok report) = report.text.items
 line_of (Err halt) = halt_line halt
 
--- the halts that faults of a program, of a literal and of a call are
+-- the halts that faults of a program, of a literal, of an image and of a call are
 abbrev pub of_program_fault : ProgramFault → Halt
 of_program_fault (program_fault.At kind line column) = Refused (refusal.Program kind line column)
 of_program_fault program_fault.NoMemory = NoMemory
@@ -59,6 +65,21 @@ of_program_fault program_fault.NoMemory = NoMemory
 abbrev pub of_literal_fault : LiteralFault → Halt
 of_literal_fault (literal_fault.At kind offset) = Refused (refusal.Input (input_fault.Literal kind offset))
 of_literal_fault literal_fault.NoMemory = NoMemory
+
+abbrev pub of_image_fault : ImageFault → Halt
+of_image_fault image_fault.Magic = Refused (refusal.Input (input_fault.Image kind.Magic))
+of_image_fault (image_fault.Cut bytes) = Refused (refusal.Input (input_fault.Image (kind.Cut bytes)))
+of_image_fault image_fault.OtherProgram = Refused (refusal.Input (input_fault.Image kind.OtherProgram))
+of_image_fault (image_fault.BadRecord number) = Refused (refusal.Input (input_fault.Image (kind.BadRecord number)))
+of_image_fault (image_fault.TooBig number) = Refused (refusal.Input (input_fault.Image (kind.TooBig number)))
+of_image_fault (image_fault.TooDeep number) = Refused (refusal.Input (input_fault.Image (kind.TooDeep number)))
+of_image_fault image_fault.RootType = Refused (refusal.Input (input_fault.Image kind.RootType))
+of_image_fault (image_fault.Leftover bytes) = Refused (refusal.Input (input_fault.Image (kind.Leftover bytes)))
+of_image_fault image_fault.NoMemory = NoMemory
+
+abbrev pub of_save_fault : SaveFault → Halt
+of_save_fault save_fault.TooLong = Refused (refusal.Input (input_fault.TooLong argument.Out))
+of_save_fault save_fault.NoMemory = NoMemory
 
 abbrev pub of_verdict : Verdict → Halt
 of_verdict (verdict.Rejected cause) = Refused (refusal.Proof cause)
@@ -74,7 +95,7 @@ HaltsAs answer halt = answer ≡ Some (says (halt_status halt) (halt_line halt))
 
 -- what the work found is what the answer says, with the same exceptions
 abbrev pub Finds : Option Answer → Found → Type 0
-Finds answer (Ok report) = answer ≡ Some (says (ending_status report.ending) report.line.items)
+Finds answer (Ok report) = answer ≡ Some (says (ending_status report.ending) report.text.items)
 Finds answer (Err halt) = HaltsAs answer halt
 
 -- the same of work on what is in hand, where no file can fail

@@ -4,9 +4,11 @@ pub mod Calls
 pub mod Codes
 pub mod Ending
 pub mod Halting
+pub mod PlainArguments
 pub mod ReadPrograms
 pub mod Reporting
 pub mod SoundPrograms
+pub mod Storing
 pub mod Telling
 pub mod TextPrograms
 pub mod TrueLines

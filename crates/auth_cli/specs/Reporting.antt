@@ -12,4 +12,4 @@ use Rattle.auth_cli.specs.declared.report.Report.{Report}
 
 -- it is what is answered for the outcome that is told here, of type t
 abbrev pub Reports : Program → Ty → Outcome Spelling → Report → Type 0
-Reports P t told report = (o : ideal.Outcome) → IsSpelled P t o told → outcome_answer t o ≡ says (ending_status report.ending) report.line.items
+Reports P t told report = (o : ideal.Outcome) → IsSpelled P t o told → outcome_answer t o ≡ says (ending_status report.ending) report.text.items

@@ -3,7 +3,7 @@ use Rattle.std.specs.Prelude.{ℕ, List, [], ◌∷◌, length, map, Bool, true,
 use Rattle.std.specs.Borrow.{Bor}
 use Rattle.std.specs.List.{list_any}
 use Rattle.auth_cli.specs.declared.words.Command.{Command}
-use Rattle.auth_cli.specs.declared.words.Command.TheVariants.{Check, Verify}
+use Rattle.auth_cli.specs.declared.words.Command.TheVariants.{Check, Verify, Shallow, Init}
 
 -- the words' bytes
 abbrev pub texts : List (Bor (List ℕ)) → List (List ℕ)
@@ -19,12 +19,16 @@ abbrev pub command_named : List ℕ → Option Command
 command_named name =
     if bytes_eq name (codes "check") then Some Check else
     if bytes_eq name (codes "verify") then Some Verify else
+    if bytes_eq name (codes "shallow") then Some Shallow else
+    if bytes_eq name (codes "init") then Some Init else
     None
 
 -- how many arguments a command has
 abbrev pub argument_count : Command → ℕ
 argument_count Check = 1
 argument_count Verify = 6
+argument_count Shallow = 3
+argument_count Init = 5
 
 -- a command with so many arguments
 abbrev pub with_count : Option Command → ℕ → Option Command

@@ -42,9 +42,9 @@ fn find_digest<F: Files>(alloc: Global, program: &str, files: &mut F) -> Result<
     ensures store_faults { F.store_faults files.new ≡ F.store_faults files.old }
 {
     let program = read_program_file(alloc, files, program)?;
-    let line = ok_line(alloc, program.text_digest())?;
+    let text = ok_line(alloc, program.text_digest())?;
     Ok(Report {
         ending: Ending::Done,
-        line,
+        text,
     })
 }

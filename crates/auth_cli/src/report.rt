@@ -6,15 +6,16 @@ ghost use Rattle.lam_outside.specs.Causes.{HasCause};
 ghost use Rattle.printed_lines.specs.declared.refusal.Refusal.TheVariants.{Input};
 ghost use Rattle.auth_cli.specs.declared.report.Halt.TheVariants.{NoMemory, Refused};
 ghost use Rattle.auth_cli.specs.Answer.{refusal_status, with_file};
-ghost use Rattle.auth_cli.specs.Halting.{GoesOn, HaltCause, ending_status, of_literal_fault, of_program_fault, of_verdict};
+ghost use Rattle.auth_cli.specs.Halting.{GoesOn, HaltCause, ending_status, of_image_fault, of_literal_fault, of_program_fault, of_save_fault, of_verdict};
 ghost use Rattle.auth_cli.specs.Telling.{Tells, TellsText};
 
 use crate::Status;
 use crate::programs::ProgramFault;
 use auth_syntax::fault::{LiteralFault, LiteralKind};
+use images::{ImageFault, SaveFault};
 use lam_outside::{Failed, Files, Load, Sink, load_all};
 use printed_lines::lines::refusal_line;
-use printed_lines::refusal::{Argument, InputFault, Refusal};
+use printed_lines::refusal::{Argument, ImageKind, InputFault, Refusal};
 use std::alloc::{AllocError, Global};
 use verifier_mode::Verdict;
 
@@ -26,11 +27,19 @@ pub enum Ending {
     OutOfFuel,
 }
 
-/// What a command tells whose work was done: how it ends, and the line that says so.
+/// What a command tells whose work was done: how it ends, and the lines that say so.
 #[derive(Drop)]
 pub struct Report {
     pub ending: Ending,
-    pub line: Vec<u8>,
+    pub text: Vec<u8>,
+}
+
+/// What a command gives that may store a file, whose work was done.
+#[derive(Drop)]
+pub struct Output {
+    pub report: Report,
+    /// The bytes of the file that is stored, where one is.
+    pub file: Option<Vec<u8>>,
 }
 
 /// What ends a command's work early.
@@ -84,6 +93,38 @@ impl From<LiteralFault> for Halt {
                 Halt::Refused(Refusal::Input(InputFault::Literal(kind, offset)))
             }
             LiteralFault::NoMemory => Halt::NoMemory,
+        }
+    }
+}
+
+impl From<ImageFault> for Halt {
+    ghost from_gives = { λ fault halt. halt ≡ of_image_fault fault };
+
+    fn from(fault: ImageFault) -> Self {
+        let kind = match fault {
+            ImageFault::Magic => ImageKind::Magic,
+            ImageFault::Cut(bytes) => ImageKind::Cut(bytes),
+            ImageFault::OtherProgram => ImageKind::OtherProgram,
+            ImageFault::BadRecord(number) => ImageKind::BadRecord(number),
+            ImageFault::TooBig(number) => ImageKind::TooBig(number),
+            ImageFault::TooDeep(number) => ImageKind::TooDeep(number),
+            ImageFault::RootType => ImageKind::RootType,
+            ImageFault::Leftover(bytes) => ImageKind::Leftover(bytes),
+            ImageFault::NoMemory => return Halt::NoMemory,
+        };
+        Halt::Refused(Refusal::Input(InputFault::Image(kind)))
+    }
+}
+
+impl From<SaveFault> for Halt {
+    ghost from_gives = { λ fault halt. halt ≡ of_save_fault fault };
+
+    fn from(fault: SaveFault) -> Self {
+        match fault {
+            SaveFault::TooLong => {
+                Halt::Refused(Refusal::Input(InputFault::TooLong(Argument::Out)))
+            }
+            SaveFault::NoMemory => Halt::NoMemory,
         }
     }
 }
@@ -151,7 +192,7 @@ pub fn tell<O: Sink>(alloc: Global, out: &mut O, found: Result<Report, Halt>) ->
     ensures { Tells found result (O.written out.old) (O.written out.new) (O.faults out.old) (O.faults out.new) }
 {
     match found {
-        Ok(report) => tell_text(out, report.ending.status(), &report.line),
+        Ok(report) => tell_text(out, report.ending.status(), &report.text),
         Err(Halt::Refused(refusal)) => tell_refusal(alloc, out, &refusal),
         Err(Halt::Usage) => tell_text(out, Status::Usage, b"usage: lamauth COMMAND ARGUMENTS\n"),
         Err(Halt::ReadFault) => tell_text(out, Status::ReadFault, b"read fault\n"),

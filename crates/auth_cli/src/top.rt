@@ -12,7 +12,7 @@ ghost use Rattle.auth_cli.specs.Words.{texts};
 ghost use Rattle.auth_cli.specs.declared.status.Status.{Status};
 
 use crate::report::tell;
-use crate::{Command, Halt, Status, check_command, verify_command};
+use crate::{Command, Halt, Status, check_command, init_command, shallow_command, verify_command};
 use lam_outside::{Files, Sink};
 use std::alloc::Global;
 
@@ -24,20 +24,29 @@ use std::alloc::Global;
 /// | status | line | comes |
 /// |---|---|---|
 /// | 0 | `ok DIGEST` | `check`: the text is a program, and has this SHA-256 digest |
-/// | 0 | `done VALUE` | the outcome has this value |
+/// | 0 | `state VALUE` | `shallow`: the projection of the state has this value, and its spelling is stored |
+/// | 0 | `done VALUE` | the outcome has this value; at `init` it is the projection of the state, whose image is stored |
 /// | 2 | `usage: lamauth COMMAND ARGUMENTS` | the words call no command |
 /// | 3 | `trap NAME` | the outcome is this trap: `overflow`, `divzero`, `toobig`, `toodeep` |
 /// | 4 | `out of fuel` | the outcome is the want of fuel |
 /// | 5 | `rejected CAUSE` | the proof is rejected, for the cause below |
 /// | 6 | `program refused: KIND LINE COLUMN` | the text is no program: its first fault |
-/// | 7 | `input refused: too long ARGUMENT` | the file that `P`, `STATE` or `PROOF` names is too long |
+/// | 7 | `input refused: too long ARGUMENT` | the file that `P`, `STATE`, `PROOF` or `IMG` names is too long, or the image for `OUT` would be |
 /// | 7 | `input refused: role unknown` | the program has no role of this name |
-/// | 7 | `input refused: role kind` | the role is no query |
+/// | 7 | `input refused: role kind` | the role is not of the kind that the command calls: an init for `init`, else a query |
 /// | 7 | `input refused: number FUEL` | the fuel isn't of 1 to 20 digits, or above 10^12 |
 /// | 7 | `input refused: state OFFSET` | the state's bytes are no spelling: the first fault |
+/// | 7 | `input refused: image magic` | the image doesn't begin as one |
+/// | 7 | `input refused: image program` | the image is one of another program |
+/// | 7 | `input refused: image cut BYTES` | the image ends too early: how many bytes it has |
+/// | 7 | `input refused: image record NUMBER` | the record is not allowed; records are numbered from 0 |
+/// | 7 | `input refused: image too big NUMBER` | the spelling of the record's value would be too long |
+/// | 7 | `input refused: image too deep NUMBER` | the record's value is too deep |
+/// | 7 | `input refused: image root` | the last record hasn't the type of the state, or there is none |
+/// | 7 | `input refused: image leftover BYTES` | so many bytes stand behind the last record |
 /// | 7 | `input refused: argument KIND OFFSET` | the argument is no literal of its type: the first fault |
 /// | 8 | `read fault` | a file could not be read |
-/// | 9 | a part of a line | the sink failed |
+/// | 9 | a part of a line | the sink failed, or a file could not be stored |
 /// | 10 | `no memory` | memory was wanting |
 ///
 /// The causes of a rejection; a piece goes by its place, the number in which it is asked for, from 0:
@@ -55,7 +64,8 @@ use std::alloc::Global;
 /// | `leftover BYTES` | the run ended, and so many bytes are left, or 65536 where there are more |
 ///
 /// The program's text has at most 262,144 bytes, each other file at most 67,108,864. What is refused first in this order
-/// ends the run: the words, the program, the role, the fuel, the state, the argument, the proof.
+/// ends the run: the words, the program, the role, the fuel, the state or the image, the argument, the proof. A file is stored
+/// before any line is written.
 pub fn run<F: Files, O: Sink>(alloc: Global, words: &[&str], files: &mut F, out: &mut O) -> u8
     requires reads_below { F.faults files.old < 2 ^ 64 - 1 }
     requires stores_below { F.store_faults files.old < 2 ^ 64 - 1 }
@@ -106,6 +116,8 @@ fn ended<F: Files, O: Sink>(alloc: Global, words: &[&str], files: &mut F, out: &
     match Command::of_words(words) {
         Some(Command::Check) => check_command(alloc, &words[2..], files, out),
         Some(Command::Verify) => verify_command(alloc, &words[2..], files, out),
+        Some(Command::Init) => init_command(alloc, &words[2..], files, out),
+        Some(Command::Shallow) => shallow_command(alloc, &words[2..], files, out),
         None => tell(alloc, out, Err(Halt::Usage)),
     }
 }

@@ -107,7 +107,7 @@ fn report_of(
 ) -> Result<Report, AllocError>
     ensures { IfOk result (Reports (meaning program.now) (type_at (types_of program.now) ty) outcome) }
 {
-    let (ending, line) = match outcome {
+    let (ending, text) = match outcome {
         Outcome::Done(value) => (
             Ending::Done,
             done_line(alloc, program, ty, value.as_bytes())?,
@@ -121,5 +121,5 @@ fn report_of(
             Vec::from_slice(alloc, out_line().as_bytes())?,
         ),
     };
-    Ok(Report { ending, line })
+    Ok(Report { ending, text })
 }

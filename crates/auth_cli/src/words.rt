@@ -10,6 +10,10 @@ pub enum Command {
     Check,
     /// `verify P ROLE STATE ARG FUEL PROOF`
     Verify,
+    /// `shallow P IMG OUT`
+    Shallow,
+    /// `init P ROLE ARG FUEL OUT`
+    Init,
 }
 
 impl Command {
@@ -39,6 +43,8 @@ impl Command {
         match name {
             "check" => Some(Command::Check),
             "verify" => Some(Command::Verify),
+            "shallow" => Some(Command::Shallow),
+            "init" => Some(Command::Init),
             _ => None,
         }
     }
@@ -50,6 +56,8 @@ impl Command {
         match self {
             Command::Check => 1,
             Command::Verify => 6,
+            Command::Shallow => 3,
+            Command::Init => 5,
         }
     }
 }

@@ -22,8 +22,10 @@ use Rattle.printed_lines.specs.declared.refusal.ProgramKind.{ProgramKind}
 use Rattle.printed_lines.specs.declared.refusal.ProgramKind.TheVariants.{Syntax, Typing}
 use Rattle.printed_lines.specs.declared.refusal.Argument.{Argument}
 use Rattle.printed_lines.specs.declared.refusal.Argument.TheVariants as argument
+use Rattle.printed_lines.specs.declared.refusal.ImageKind.{ImageKind}
+use Rattle.printed_lines.specs.declared.refusal.ImageKind.TheVariants as image
 use Rattle.printed_lines.specs.declared.refusal.InputFault.{InputFault}
-use Rattle.printed_lines.specs.declared.refusal.InputFault.TheVariants.{TooLong, RoleUnknown, RoleKind, Number, State, Literal}
+use Rattle.printed_lines.specs.declared.refusal.InputFault.TheVariants.{TooLong, RoleUnknown, RoleKind, Number, State, Literal, Image}
 use Rattle.printed_lines.specs.declared.refusal.Refusal.{Refusal}
 use Rattle.printed_lines.specs.declared.refusal.Refusal.TheVariants as refusal
 
@@ -91,6 +93,20 @@ argument_name argument.Program = codes "P"
 argument_name argument.State = codes "STATE"
 argument_name argument.Fuel = codes "FUEL"
 argument_name argument.Proof = codes "PROOF"
+argument_name argument.Image = codes "IMG"
+argument_name argument.Number = codes "N"
+argument_name argument.Out = codes "OUT"
+
+-- why bytes are no image
+abbrev pub image_text : ImageKind → List ℕ
+image_text image.Magic = codes "image magic"
+image_text image.OtherProgram = codes "image program"
+image_text (image.Cut bytes) = codes "image cut" ++ also bytes
+image_text (image.BadRecord number) = codes "image record" ++ also number
+image_text image.RootType = codes "image root"
+image_text (image.TooBig number) = codes "image too big" ++ also number
+image_text (image.TooDeep number) = codes "image too deep" ++ also number
+image_text (image.Leftover bytes) = codes "image leftover" ++ also bytes
 
 -- why an input is refused
 abbrev pub input_text : InputFault → List ℕ
@@ -100,6 +116,7 @@ input_text RoleKind = codes "role kind"
 input_text (Number argument) = codes "number" ++ word (argument_name argument)
 input_text (State offset) = codes "state" ++ also offset
 input_text (Literal kind offset) = codes "argument" ++ (word (literal_name kind) ++ also offset)
+input_text (Image kind) = image_text kind
 
 -- that a frame names a kept piece which isn't there
 abbrev pub bad_use_text : ℕ → ℕ → ℕ → List ℕ
@@ -153,3 +170,12 @@ out_line = codes "out of fuel\n"
 -- the line of `check`, with the digest of the program's text
 abbrev pub ok_line : List ℕ → List ℕ
 ok_line digest = line_of (codes "ok ") (encode_lower digest)
+
+-- the line of a state
+abbrev pub state_line : Ty → Value → List ℕ
+state_line t v = line_of (codes "state ") (value_text t v)
+
+-- the line of a proof: how many pieces it has of its own, how many it names again, and how many bytes it has
+abbrev pub proof_line : (fresh again bytes : ℕ) → List ℕ
+proof_line fresh again bytes =
+    line_of (codes "proof ") (codes "new" ++ (also fresh ++ (codes " used" ++ (also again ++ (codes " bytes" ++ also bytes)))))

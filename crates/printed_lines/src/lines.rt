@@ -9,7 +9,7 @@ ghost use Rattle.core_terms.specs.Values.{IsShallow, Value};
 ghost use Rattle.printed_lines.specs.Lines as def;
 
 use crate::names::{argument_name, literal_name, program_name};
-use crate::refusal::{InputFault, ProgramKind, Refusal};
+use crate::refusal::{ImageKind, InputFault, ProgramKind, Refusal};
 use auth_syntax::printing::print_value;
 use core_terms::{Cause, Digest, Program, Trap, TyId};
 use std::alloc::{AllocError, Global};
@@ -65,6 +65,23 @@ fn input_text(alloc: Global, fault: InputFault) -> Result<String, AllocError>
             let kind = literal_name(kind);
             format!(in alloc; "argument {kind} {offset}")
         }
+        InputFault::Image(kind) => image_text(alloc, kind),
+    }
+}
+
+/// Why bytes are no image.
+fn image_text(alloc: Global, kind: ImageKind) -> Result<String, AllocError>
+    ensures { IfOk result (λ text. string_bytes text ≡ def.image_text kind) }
+{
+    match kind {
+        ImageKind::Magic => format!(in alloc; "image magic"),
+        ImageKind::OtherProgram => format!(in alloc; "image program"),
+        ImageKind::Cut(bytes) => format!(in alloc; "image cut {bytes}"),
+        ImageKind::BadRecord(number) => format!(in alloc; "image record {number}"),
+        ImageKind::RootType => format!(in alloc; "image root"),
+        ImageKind::TooBig(number) => format!(in alloc; "image too big {number}"),
+        ImageKind::TooDeep(number) => format!(in alloc; "image too deep {number}"),
+        ImageKind::Leftover(bytes) => format!(in alloc; "image leftover {bytes}"),
     }
 }
 
@@ -130,6 +147,33 @@ pub fn done_line(
 {
     let value = print_value(alloc, program, ty, bytes)?;
     between(alloc, b"done ", &value)
+}
+
+/// The line of a state with a value of a type of the program, which these bytes spell.
+pub fn state_line(
+    alloc: Global,
+    program: &Program,
+    ty: TyId,
+    bytes: &[u8],
+) -> Result<Vec<u8>, AllocError>
+    ensures { IfOk result (λ line. (v : Value) → IsShallow (meaning program.now).types (type_at (types_of program.now) ty) v → bytes.now ≡ spelling v
+        → line.items ≡ def.state_line (type_at (types_of program.now) ty) v) }
+{
+    let value = print_value(alloc, program, ty, bytes)?;
+    between(alloc, b"state ", &value)
+}
+
+/// The line of a proof: how many pieces it has of its own, how many it names again, and how many bytes it has.
+pub fn proof_line(
+    alloc: Global,
+    fresh: u64,
+    again: u64,
+    bytes: usize,
+) -> Result<Vec<u8>, AllocError>
+    ensures { IfOk result (λ line. line.items ≡ def.proof_line fresh again bytes) }
+{
+    let text = format!(in alloc; "new {fresh} used {again} bytes {bytes}")?;
+    between(alloc, b"proof ", text.as_bytes())
 }
 
 /// A line that ends with these bytes.

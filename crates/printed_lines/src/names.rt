@@ -91,5 +91,8 @@ pub(crate) fn argument_name(argument: Argument) -> &'static str
         Argument::State => "STATE",
         Argument::Fuel => "FUEL",
         Argument::Proof => "PROOF",
+        Argument::Image => "IMG",
+        Argument::Number => "N",
+        Argument::Out => "OUT",
     }
 }

@@ -24,6 +24,33 @@ pub enum Argument {
     Fuel,
     /// `PROOF`, the file of a proof.
     Proof,
+    /// `IMG`, the file of an image.
+    Image,
+    /// `N`, the number of pieces that are kept.
+    Number,
+    /// `OUT`, the file that is stored.
+    Out,
+}
+
+/// Why bytes are no image of a program: the first fault. Records are numbered from 0.
+#[derive(Clone, Copy, Debug, PartialEq, Eq)]
+pub enum ImageKind {
+    /// They don't begin as an image.
+    Magic,
+    /// The image is one of another program.
+    OtherProgram,
+    /// They end inside the header or a record: how many they are.
+    Cut(usize),
+    /// The record with this number is not allowed.
+    BadRecord(u32),
+    /// There is no record, or the last one hasn't the type of the state.
+    RootType,
+    /// The spelling of what the record with this number stands for would pass its limit.
+    TooBig(u32),
+    /// What the record with this number stands for is deeper than a value may be.
+    TooDeep(u32),
+    /// So many bytes stand behind the last record.
+    Leftover(usize),
 }
 
 /// Why an input is refused.
@@ -41,6 +68,8 @@ pub enum InputFault {
     State(u32),
     /// The argument is no literal of its type: the first fault with its offset.
     Literal(LiteralKind, usize),
+    /// The image's bytes are none of the program.
+    Image(ImageKind),
 }
 
 /// What a command refuses, once its words are in order.

@@ -1,7 +1,7 @@
 use Rattle.std.proofs.Common.{◌≡◌, Some, subst, arith}
 use Rattle.auth_cli.specs.SoundPrograms.{ReadSound}
 use Rattle.auth_cli.specs.Words.{command_of, texts}
-use Rattle.auth_cli.specs.declared.words.Command.TheVariants.{Check, Verify}
+use Rattle.auth_cli.specs.declared.words.Command.TheVariants.{Check, Verify, Shallow, Init}
 use Rattle.auth_cli.proofs.CommandLine.{command_called, texts_behind}
 use Rattle.auth_cli.proofs.top.ended.Goals as goal
 
@@ -22,3 +22,21 @@ returns-in-Some-Verify-clause-ends g c =
 pub returns-in-Some-Verify-clause-sound : goal.returns-in-Some-Verify-clause-sound
 returns-in-Some-Verify-clause-sound g c = λ told known.
     subst (λ line. ReadSound line told c.verify_command.result) (texts_behind c.args.words.now) (c.verify_command.ensures.sound told known)
+
+pub returns-in-Some-Shallow-clause-ends : goal.returns-in-Some-Shallow-clause-ends
+returns-in-Some-Shallow-clause-ends g c =
+    let called : Some Shallow ≡ command_of (texts c.args.words.now) = grind arith in
+    rw (command_called c.args.words.now Shallow called) c.shallow_command.ensures.ends
+
+pub returns-in-Some-Shallow-clause-sound : goal.returns-in-Some-Shallow-clause-sound
+returns-in-Some-Shallow-clause-sound g c = λ told known.
+    subst (λ line. ReadSound line told c.shallow_command.result) (texts_behind c.args.words.now) (c.shallow_command.ensures.sound told known)
+
+pub returns-in-Some-Init-clause-ends : goal.returns-in-Some-Init-clause-ends
+returns-in-Some-Init-clause-ends g c =
+    let called : Some Init ≡ command_of (texts c.args.words.now) = grind arith in
+    rw (command_called c.args.words.now Init called) c.init_command.ensures.ends
+
+pub returns-in-Some-Init-clause-sound : goal.returns-in-Some-Init-clause-sound
+returns-in-Some-Init-clause-sound g c = λ told known.
+    subst (λ line. ReadSound line told c.init_command.result) (texts_behind c.args.words.now) (c.init_command.ensures.sound told known)

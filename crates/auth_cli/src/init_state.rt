@@ -1,0 +1,148 @@
+// The command `init`.
+ghost use Rattle.std.specs.Prelude.{◌≡◌, ◌<◌, ℕ, List, None, Some, length, IfOk};
+ghost use Rattle.std.specs.Option.{ForSome};
+ghost use Rattle.core_terms.specs.Programs.{meaning};
+ghost use Rattle.core_terms.specs.Terms.{function_at};
+ghost use Rattle.core_terms.specs.Terms as tree;
+ghost use Rattle.core_terms.specs.Values.{IsIdeal};
+ghost use Rattle.plain_meaning.specs.PlainValues.{plain_of};
+ghost use Rattle.plain_meaning.specs.Telling.{IsPlainOf, plain_outcome_of};
+ghost use Rattle.auth_cli.specs.Answer.{init_answer, init_answer_of, init_outcome, initial_answer, made_answer, made_by};
+ghost use Rattle.auth_cli.specs.Arguments.{init_type};
+ghost use Rattle.auth_cli.specs.Ending.{EndsAs, outside};
+ghost use Rattle.auth_cli.specs.Halting.{HaltCause};
+ghost use Rattle.auth_cli.specs.ReadPrograms.{digested};
+ghost use Rattle.auth_cli.specs.SoundPrograms.{HoldsSound, ReadSound};
+ghost use Rattle.auth_cli.specs.Storing.{FindsOutput, FindsOutputInHand};
+ghost use Rattle.auth_cli.specs.Words.{texts};
+
+use crate::arguments::{fuel_named, init_named, read_init_argument};
+use crate::programs::read_program_file;
+use crate::storing::store_and_tell;
+use crate::{Ending, Halt, Output, Report, Status};
+use core_terms::{FunctionId, Outcome, Program};
+use digest_layer::Sha;
+use images::save_image;
+use lam_outside::{Files, Sink};
+use plain_meaning::{Plain, plain_run};
+use printed_lines::lines::{done_line, out_line, trap_line};
+use prover_mode::project;
+use std::alloc::{AllocError, Global};
+
+/// Makes a state, stores its image, and tells its projection; or tells the trap or the want of fuel.
+///
+/// The words are the command's arguments: the names of the program's file and of the role, the argument as a literal, the fuel in
+/// decimal, and the name of the file that is stored.
+pub fn init_command<F: Files, O: Sink>(
+    alloc: Global,
+    words: &[&str],
+    files: &mut F,
+    out: &mut O,
+) -> Status
+    requires { length words.now ≡ 5 }
+    ensures ends { let seen = outside F.contents F.stores F.faults F.store_faults O.written O.faults in
+        EndsAs (init_answer (texts words.now)) (seen files.old out.old) (seen files.new out.new) result }
+    ensures sound { ForSome (F.contents files.old) (λ told. ReadSound (texts words.now) told result) }
+{
+    let [program, role, argument, fuel, name] = *words else {
+        unreachable!()
+    };
+    let found = find_initial(alloc, program, role, argument, fuel, files);
+    store_and_tell(alloc, name, files, out, found)
+}
+
+/// What is found of a program and an init: the state that it makes.
+fn find_initial<F: Files>(
+    alloc: Global,
+    program: &str,
+    role: &str,
+    argument: &str,
+    fuel: &str,
+    files: &mut F,
+) -> Result<Output, Halt>
+    ensures finds { (name : List ℕ) → ForSome (F.contents files.old) (λ told. FindsOutput name (initial_answer program.now role.now argument.now fuel.now name told) result) }
+    ensures sound { ForSome (F.contents files.old) (λ told. IfOk result (λ _. HoldsSound (told program.now))) }
+    ensures cause { HaltCause (F.faults files.old) (F.faults files.new) result }
+    ensures stores { F.stores files.new ≡ F.stores files.old }
+    ensures store_faults { F.store_faults files.new ≡ F.store_faults files.old }
+{
+    let program = read_program_file(alloc, files, program)?;
+    make_state(alloc, &program, role, argument, fuel)
+}
+
+/// What an init of a program gives.
+fn make_state(
+    alloc: Global,
+    program: &Program,
+    role: &str,
+    argument: &str,
+    fuel: &str,
+) -> Result<Output, Halt>
+    ensures { (name : List ℕ) → FindsOutputInHand name (made_by (digested program.now) role.now argument.now fuel.now name) result }
+{
+    let role = init_named(program, role)?;
+    let fuel = fuel_named(fuel)?;
+    let argument = read_init_argument(alloc, program, role, argument)?;
+    let outcome = run_init(alloc, program, role, argument, fuel)?;
+    init_output(alloc, program, outcome)
+}
+
+/// How an init ends.
+#[tactic(auto, unfolding(crate::specs::Answer::init_outcome))]
+fn run_init(
+    alloc: Global,
+    program: &Program,
+    init: FunctionId,
+    argument: Plain,
+    fuel: u64,
+) -> Result<Outcome<Plain>, AllocError>
+    requires there { init.0 < length (meaning program.now).functions }
+    requires init { (function_at (meaning program.now) init.0).kind ≡ tree.Init }
+    requires ideal { IsIdeal (meaning program.now).types (init_type (meaning program.now) init.0) (plain_of argument) }
+    ensures outcome { IfOk result (λ o. plain_outcome_of o ≡ init_outcome (meaning program.now) init.0 fuel (plain_of argument)) }
+    ensures ideal { IfOk result (λ o. IsPlainOf (meaning program.now) (meaning program.now).state o) }
+{
+    let mut arguments = Vec::new(alloc);
+    arguments.push(argument)?;
+    plain_run(alloc, program, init, arguments, fuel)
+}
+
+/// What the outcome of an init gives.
+fn init_output(alloc: Global, program: &Program, outcome: Outcome<Plain>) -> Result<Output, Halt>
+    requires { IsPlainOf (meaning program.now) (meaning program.now).state outcome }
+    ensures { (name : List ℕ) → FindsOutputInHand name (Some (init_answer_of (digested program.now) (plain_outcome_of outcome) name)) result }
+{
+    match outcome {
+        Outcome::Done(state) => made_output(alloc, program, &state),
+        Outcome::Trapped(trap) => Ok(line_alone(alloc, Ending::Trap, trap_line(trap))?),
+        Outcome::Out => Ok(line_alone(alloc, Ending::OutOfFuel, out_line())?),
+    }
+}
+
+/// A line, and no file.
+fn line_alone(alloc: Global, ending: Ending, line: &str) -> Result<Output, AllocError>
+    ensures ending { IfOk result (λ output. output.report.ending ≡ ending) }
+    ensures line { IfOk result (λ output. output.report.text.items ≡ line.now) }
+    ensures none { IfOk result (λ output. output.file ≡ None) }
+{
+    let text = Vec::from_slice(alloc, line.as_bytes())?;
+    let report = Report { ending, text };
+    Ok(Output { report, file: None })
+}
+
+/// The image of a state, and the line of its projection.
+fn made_output(alloc: Global, program: &Program, state: &Plain) -> Result<Output, Halt>
+    requires { IsIdeal (meaning program.now).types (meaning program.now).state (plain_of state.now) }
+    ensures { (name : List ℕ) → FindsOutputInHand name (Some (made_answer (digested program.now) (plain_of state.now) name)) result }
+{
+    let image = save_image(alloc, program, state)?;
+    let ty = program.state_type();
+    let spelled = project::<Sha>(alloc, program, ty, state.lent())?;
+    let text = done_line(alloc, program, ty, spelled.as_bytes())?;
+    let report = Report {
+        ending: Ending::Done,
+        text,
+    };
+    let file = Some(image);
+    Ok(Output { report, file })
+}

@@ -1,0 +1,81 @@
+// The command `shallow`.
+ghost use Rattle.std.specs.Prelude.{◌≡◌, ℕ, List, length, IfOk};
+ghost use Rattle.std.specs.Option.{ForSome};
+ghost use Rattle.core_terms.specs.Programs.{meaning};
+ghost use Rattle.core_terms.specs.Values.{IsIdeal};
+ghost use Rattle.plain_meaning.specs.PlainValues.{plain_of};
+ghost use Rattle.auth_cli.specs.Answer.{shallow_answer, spelled_answer, state_answer};
+ghost use Rattle.auth_cli.specs.Ending.{EndsAs, outside};
+ghost use Rattle.auth_cli.specs.Halting.{HaltCause};
+ghost use Rattle.auth_cli.specs.SoundPrograms.{HoldsSound, ReadSound};
+ghost use Rattle.auth_cli.specs.Storing.{FindsOutput, IsOutput};
+ghost use Rattle.auth_cli.specs.Words.{texts};
+
+use crate::programs::read_program_file;
+use crate::states::read_image_file;
+use crate::storing::store_and_tell;
+use crate::{Ending, Halt, Output, Report, Status};
+use core_terms::Program;
+use digest_layer::Sha;
+use lam_outside::{Files, Sink};
+use plain_meaning::Plain;
+use printed_lines::lines::state_line;
+use prover_mode::project;
+use std::alloc::{AllocError, Global};
+
+/// Stores the spelling of the projection of a state, and tells its value.
+///
+/// The words are the command's arguments: the names of the program's file, of the file with the state's image and of the
+/// file that is stored.
+pub fn shallow_command<F: Files, O: Sink>(
+    alloc: Global,
+    words: &[&str],
+    files: &mut F,
+    out: &mut O,
+) -> Status
+    requires { length words.now ≡ 3 }
+    ensures ends { let seen = outside F.contents F.stores F.faults F.store_faults O.written O.faults in
+        EndsAs (shallow_answer (texts words.now)) (seen files.old out.old) (seen files.new out.new) result }
+    ensures sound { ForSome (F.contents files.old) (λ told. ReadSound (texts words.now) told result) }
+{
+    let [program, image, name] = *words else {
+        unreachable!()
+    };
+    let found = find_state(alloc, program, image, files);
+    store_and_tell(alloc, name, files, out, found)
+}
+
+/// What is found of an image: the projection of its state.
+fn find_state<F: Files>(
+    alloc: Global,
+    program: &str,
+    image: &str,
+    files: &mut F,
+) -> Result<Output, Halt>
+    ensures finds { (name : List ℕ) → ForSome (F.contents files.old) (λ told. FindsOutput name (spelled_answer program.now image.now name told) result) }
+    ensures sound { ForSome (F.contents files.old) (λ told. IfOk result (λ _. HoldsSound (told program.now))) }
+    ensures cause { HaltCause (F.faults files.old) (F.faults files.new) result }
+    ensures stores { F.stores files.new ≡ F.stores files.old }
+    ensures store_faults { F.store_faults files.new ≡ F.store_faults files.old }
+{
+    let program = read_program_file(alloc, files, program)?;
+    let state = read_image_file(alloc, files, &program, image)?;
+    Ok(spell_state(alloc, &program, &state)?)
+}
+
+/// The projection of a state, spelled and told.
+#[tactic(auto, unfolding(crate::specs::Answer::state_projection))]
+fn spell_state(alloc: Global, program: &Program, state: &Plain) -> Result<Output, AllocError>
+    requires { IsIdeal (meaning program.now).types (meaning program.now).state (plain_of state.now) }
+    ensures { IfOk result (λ output. (name : List ℕ) → IsOutput (state_answer (meaning program.now) (plain_of state.now) name) name output) }
+{
+    let ty = program.state_type();
+    let spelled = project::<Sha>(alloc, program, ty, state.lent())?;
+    let text = state_line(alloc, program, ty, spelled.as_bytes())?;
+    let report = Report {
+        ending: Ending::Done,
+        text,
+    };
+    let file = Some(spelled.into_bytes());
+    Ok(Output { report, file })
+}
