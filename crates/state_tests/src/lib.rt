@@ -1,0 +1,5 @@
+//! Tests of the top call: the states that it makes, and their images.
+#![tactic(auto)]
+
+#[cfg(test)]
+mod states;
