@@ -12,4 +12,9 @@ pub mod Plain
 pub mod TypePushing
 pub mod Shapes
 pub mod LawProofs
+pub mod CodePrograms
 pub mod Reach
+pub mod LanguageTypeTables
+pub mod LanguageTypePushing
+pub mod LanguageRoles
+pub mod AuthLevels

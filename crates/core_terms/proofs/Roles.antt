@@ -25,7 +25,7 @@ lt_suc a b = by (nat_lt a b) refl
         by_other true f = sym (lt-ltb a b (omega (arith, ltb-true (1 + a) (suc b) f))) ∙ e
 
 -- the first place behind an element that fails the test is one more
-one_later : {A : Type 0} (p : A → Bool) (xs : List A) → cond (nat_lt (1 + position_or_len p xs) (suc (length xs))) (Some (1 + position_or_len p xs)) None ≡ option_map suc (position p xs)
+pub one_later : {A : Type 0} (p : A → Bool) (xs : List A) → cond (nat_lt (1 + position_or_len p xs) (suc (length xs))) (Some (1 + position_or_len p xs)) None ≡ option_map suc (position p xs)
 one_later p xs = ap (λ t. cond t (Some (1 + position_or_len p xs)) None) (lt_suc (position_or_len p xs) (length xs)) ∙ by (nat_lt (position_or_len p xs) (length xs)) (position_or_len p xs)
   where
     by : (t : Bool) (n : ℕ) → cond t (Some (1 + n)) None ≡ option_map suc (cond t (Some n) None)

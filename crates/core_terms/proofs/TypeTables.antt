@@ -40,7 +40,7 @@ more_parts before forms TextForm h = refl
 more_parts before forms (AuthForm part) h = ap AuthTy (types_behind-front before forms part.0 (ltb-true part.0 (length before) h))
 
 -- past the end there is `unit`
-past_end : (types : List Ty) (i : ℕ) → slice_index_or types (length types + i) UnitTy ≡ UnitTy
+pub past_end : (types : List Ty) (i : ℕ) → slice_index_or types (length types + i) UnitTy ≡ UnitTy
 past_end types i = sym (unwrap_or-slice_get types (length types + i) UnitTy) ∙ ap (λ o. unwrap_or o UnitTy) (slice_get_past types (length types + i) (grind (arith, common_steps)))
 
 -- the form with a number means the type with that number

@@ -12,3 +12,7 @@ pub mod Texts
 pub mod ProgramTrees
 pub mod Programs
 pub mod Laws
+pub mod LanguageTypes
+pub mod LanguageTrees
+pub mod LanguagePrograms
+pub mod AuthMarks

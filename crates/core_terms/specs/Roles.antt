@@ -1,7 +1,7 @@
 -- The roles of a program: the functions that can be entered from outside.
-use Rattle.std.specs.Prelude.{◌≡◌, ℕ, suc, Bool, true, false, ◌&&◌, ◌||◌, List, [], ◌∷◌, length, Option, Some, None, option_map, slice_get, unwrap_or, bytes_eq, if◌then◌else◌}
-use Rattle.core_terms.specs.Types.{Ty, PairTy, NamedTy, AuthTy, Table}
-use Rattle.core_terms.specs.Terms.{Kind, Inner, Init, Query, Update, Function, Program}
+use Rattle.std.specs.Prelude.{◌≡◌, ℕ, suc, Bool, true, false, ◌&&◌, ◌||◌, List, [], ◌∷◌, length, Option, Some, None, option_map, slice_get, slice_index_or, unwrap_or, bytes_eq, if◌then◌else◌}
+use Rattle.core_terms.specs.Types.{Ty, UnitTy, PairTy, NamedTy, AuthTy, Table}
+use Rattle.core_terms.specs.Terms.{Kind, Inner, Init, Query, Update, Function, Program, function_at}
 
 -- some element passes the test
 abbrev pub some_passes : {A : Type 0} → (A → Bool) → List A → Bool
@@ -66,3 +66,10 @@ role_among (g ∷ gs) name = if is_entered g.kind && bytes_eq g.name name then S
 
 abbrev pub role_named : Program → List ℕ → Option ℕ
 role_named P name = role_among P.functions name
+
+-- the type of what the caller of an init passes, its only parameter; and of what that of a query passes, its second one
+abbrev pub init_type : Program → ℕ → Ty
+init_type P f = slice_index_or (function_at P f).parameters 0 UnitTy
+
+abbrev pub argument_type : Program → ℕ → Ty
+argument_type P f = slice_index_or (function_at P f).parameters 1 UnitTy

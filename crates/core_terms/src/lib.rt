@@ -1,14 +1,17 @@
 //! Types, terms and programs of lambda-auth, digests, and the outcomes of a run.
 //!
 //! `specs/` has what they mean: values, spellings and projections, expressions, typing and roles, for the whole language.
-//! The types of this crate hold the programs of a fragment of the language: the types `unit`, `bool`, `int`, `text` and `auth`,
-//! the expressions `()`, `true` and `false`, ints, texts, names, `add`, `auth` and `unauth`, and the roles `init` and `query`.
+//! `language` has the types, terms and programs of the whole language.
+//! The other types hold the programs of a fragment of it: the types `unit`, `bool`, `int`, `text` and `auth`, the expressions
+//! `()`, `true` and `false`, ints, texts, names, `add`, `auth` and `unauth`, and the roles `init` and `query`.
 #![tactic(auto)]
 
 pub mod cause;
 pub mod digest;
+pub mod language;
 pub mod laws;
 pub mod outcome;
+pub mod piece;
 pub mod program;
 pub mod spelling;
 pub mod term;
@@ -17,6 +20,7 @@ pub mod types;
 pub use cause::Cause;
 pub use digest::{Digest, Hash32};
 pub use outcome::{Outcome, Trap};
+pub use piece::Piece;
 pub use program::{FunctionId, Program};
 pub use spelling::Spelling;
 pub use term::{Function, Kind, LocalId, Name, Term, Text};

@@ -1,0 +1,31 @@
+-- What a program of the whole language means, and its names.
+use Rattle.std.specs.Prelude.{ℕ, List, [], map, slice_get, option_map, unwrap_or}
+use Rattle.core_terms.specs.Types.{Ty}
+use Rattle.core_terms.specs.Terms as tree
+use Rattle.core_terms.specs.LanguageTypes.{types_of_forms}
+use Rattle.core_terms.specs.LanguageTrees.{program_of}
+use Rattle.core_terms.specs.declared.language.term.Constructor.{Constructor}
+use Rattle.core_terms.specs.declared.language.term.NamedType.{NamedType}
+use Rattle.core_terms.specs.declared.language.types.TyTable.{TyTable}
+use Rattle.core_terms.specs.declared.language.program.Program.{Program}
+
+-- the types of a table, by number
+abbrev pub types_in : TyTable → List Ty
+types_in table = types_of_forms table.forms.keys
+
+-- the types of a program, by number
+abbrev pub types_of : Program → List Ty
+types_of p = types_in p.types
+
+-- the program of the definitions
+abbrev pub meaning : Program → tree.Program
+meaning p = program_of p.types.forms.keys p.named.items p.state p.functions.items
+
+-- the names of the named types, by number
+abbrev pub type_names : List NamedType → List (List ℕ)
+type_names named = map (λ (declared : NamedType). declared.name) named
+
+-- the names of the constructors of each named type, by number and by tag
+abbrev pub constructor_names : List NamedType → ℕ → List (List ℕ)
+constructor_names named number =
+    unwrap_or (option_map (λ (declared : NamedType). map (λ (constructor : Constructor). constructor.name) declared.constructors.items) (slice_get named number)) []

@@ -1,0 +1,117 @@
+-- The program of the definitions that a table of types, named types and functions of the whole language stand for.
+use Rattle.std.specs.Prelude.{Bool, List, [], ◌∷◌, map, Vec}
+use Rattle.core_terms.specs.Types.{Ty, Table}
+use Rattle.core_terms.specs.Formats.{Format, first_format}
+use Rattle.core_terms.specs.Terms.{Expression, UnitE, BoolE, IntE, TextE, LocalE, PairE, FstE, SndE, NotE, LenE, AuthE, UnauthE, ConE, ArithE, CompareE, TextCompareE, CatE, LetE, IfE, MatchE, CallE, Expressions, NoE, AndE, Arms, NoArm, AndArm}
+use Rattle.core_terms.specs.Terms as tree
+use Rattle.core_terms.specs.Roles.{is_entered}
+use Rattle.core_terms.specs.Texts.{bytes_of}
+use Rattle.core_terms.specs.TypeTables.{type_at}
+use Rattle.core_terms.specs.LanguageTypes.{types_of_forms}
+use Rattle.core_terms.specs.declared.types.TyId.{TyId}
+use Rattle.core_terms.specs.declared.language.types.TyForm.{TyForm}
+use Rattle.core_terms.specs.declared.language.term.Arith.{Arith}
+use Rattle.core_terms.specs.declared.language.term.Arith.TheVariants.{Add, Sub, Mul, Div, Rem}
+use Rattle.core_terms.specs.declared.language.term.Compare.{Compare}
+use Rattle.core_terms.specs.declared.language.term.Compare.TheVariants.{Eq as CompareEq, Lt as CompareLt, Le as CompareLe}
+use Rattle.core_terms.specs.declared.language.term.TextCompare.{TextCompare}
+use Rattle.core_terms.specs.declared.language.term.TextCompare.TheVariants.{Eq as TextEq, Lt as TextLt}
+use Rattle.core_terms.specs.declared.language.term.Term.{Term}
+use Rattle.core_terms.specs.declared.language.term.Term.TheOpen.{Term-F}
+use Rattle.core_terms.specs.declared.language.term.Term.TheFolds.{fold-Term}
+use Rattle.core_terms.specs.declared.language.term.Kind.{Kind}
+use Rattle.core_terms.specs.declared.language.term.Kind.TheVariants.{Inner, Init, Query, Update}
+use Rattle.core_terms.specs.declared.language.term.Constructor.{Constructor}
+use Rattle.core_terms.specs.declared.language.term.NamedType.{NamedType}
+use Rattle.core_terms.specs.declared.language.term.Function.{Function}
+
+-- the operations
+abbrev pub arith_of : Arith → tree.Arith
+arith_of Add = tree.Add
+arith_of Sub = tree.Sub
+arith_of Mul = tree.Mul
+arith_of Div = tree.Div
+arith_of Rem = tree.Rem
+
+abbrev pub compare_of : Compare → tree.Compare
+compare_of CompareEq = tree.Eq
+compare_of CompareLt = tree.Lt
+compare_of CompareLe = tree.Le
+
+abbrev pub text_compare_of : TextCompare → tree.TextCompare
+text_compare_of TextEq = tree.TEq
+text_compare_of TextLt = tree.TLt
+
+-- expressions in a row, and arms in a row, from a list of them
+abbrev pub in_a_row : List Expression → Expressions
+in_a_row [] = NoE
+in_a_row (x ∷ xs) = AndE x (in_a_row xs)
+
+abbrev pub arms_in_a_row : List Expression → Arms
+arms_in_a_row [] = NoArm
+arms_in_a_row (body ∷ bodies) = AndArm body (arms_in_a_row bodies)
+
+-- the expression of a term over these types, where its parts stand for these expressions already
+abbrev pub expression_from_parts : List Ty → Term-F Expression → Expression
+expression_from_parts types Term-F.UnitLiteral = UnitE
+expression_from_parts types (Term-F.BoolLiteral b) = BoolE b
+expression_from_parts types (Term-F.IntLiteral z) = IntE z
+expression_from_parts types (Term-F.TextLiteral text) = TextE (bytes_of text)
+expression_from_parts types (Term-F.Local i) = LocalE i.0
+expression_from_parts types (Term-F.Pair a b x y) = PairE (type_at types a) (type_at types b) x.value y.value
+expression_from_parts types (Term-F.Fst a b x) = FstE (type_at types a) (type_at types b) x.value
+expression_from_parts types (Term-F.Snd a b x) = SndE (type_at types a) (type_at types b) x.value
+expression_from_parts types (Term-F.Not x) = NotE x.value
+expression_from_parts types (Term-F.Len x) = LenE x.value
+expression_from_parts types (Term-F.Auth t x) = AuthE (type_at types t) x.value
+expression_from_parts types (Term-F.Unauth t x) = UnauthE (type_at types t) x.value
+expression_from_parts types (Term-F.Constructor named tag fields) = ConE named.0 tag.0 (in_a_row fields.items)
+expression_from_parts types (Term-F.Arith op x y) = ArithE (arith_of op) x.value y.value
+expression_from_parts types (Term-F.Compare op x y) = CompareE (compare_of op) x.value y.value
+expression_from_parts types (Term-F.TextCompare op x y) = TextCompareE (text_compare_of op) x.value y.value
+expression_from_parts types (Term-F.Cat x y) = CatE x.value y.value
+expression_from_parts types (Term-F.Let a bound body) = LetE (type_at types a) bound.value body.value
+expression_from_parts types (Term-F.If test first other) = IfE test.value first.value other.value
+expression_from_parts types (Term-F.Match named subject arms) = MatchE named.0 subject.value (arms_in_a_row arms.items)
+expression_from_parts types (Term-F.Call f arguments) = CallE f.0 (in_a_row arguments.items)
+
+-- a term as an expression, over the types of its program by number
+abbrev pub expression_of : List Ty → Term → Expression
+expression_of types = fold-Term Expression (expression_from_parts types)
+
+-- the types with these numbers
+abbrev pub types_at : List Ty → List TyId → List Ty
+types_at types ids = map (type_at types) ids
+
+-- the named types by number, and of each the field types of its constructors by tag
+abbrev pub table_of : List Ty → List NamedType → Table
+table_of types named = map (λ (declared : NamedType). map (λ (constructor : Constructor). types_at types constructor.fields.items) declared.constructors.items) named
+
+abbrev pub kind_of : Kind → tree.Kind
+kind_of Inner = tree.Inner
+kind_of Init = tree.Init
+kind_of Query = tree.Query
+kind_of Update = tree.Update
+
+abbrev pub function_of : List Ty → Function → tree.Function
+function_of types f = record {
+  name = f.name;
+  kind = kind_of f.kind;
+  parameters = types_at types f.parameters.items;
+  result = type_at types f.result;
+  body = expression_of types f.body;
+}
+
+-- the function is a role
+abbrev pub is_role : Function → Bool
+is_role f = is_entered (kind_of f.kind)
+
+-- The format of every program: the first one, with up to 1,024 pieces kept.
+abbrev pub program_format : Format
+program_format = first_format 1024
+
+-- the program
+abbrev pub program_of : List TyForm → List NamedType → TyId → List Function → tree.Program
+program_of forms named state functions =
+    let types = types_of_forms forms in
+    record { format = program_format; types = table_of types named; state = type_at types state; functions = map (function_of types) functions }

@@ -1,0 +1,11 @@
+//! Programs of the whole language: types by number, terms, functions, and the program that holds them.
+
+mod marks;
+pub mod program;
+pub mod term;
+pub mod types;
+
+pub use marks::auth_marks;
+pub use program::Program;
+pub use term::{Arith, Compare, Constructor, Function, Kind, NamedType, Term, TextCompare};
+pub use types::{NamedId, Tag, TyForm, TyTable};

@@ -1,0 +1,110 @@
+// Types by number, in a table in which equal types have one number.
+ghost use Rattle.std.specs.Prelude.{◌≡◌, true, ◌<◌, ◌≤◌, ◌++◌, ◌⊎◌, ◌∷◌, [], length, Some, slice_get, IfOk, IsTrue, OnErr, ◌↔◌, slice_index_or};
+ghost use Rattle.core_terms.specs.TypeTables.{HasOneNumber, type_at};
+ghost use Rattle.core_terms.specs.LanguageTypes.{IsWithForm, is_in_order, stands_behind, type_of_form, types_of_forms};
+
+use crate::TyId;
+use indexmap::IndexSet;
+use std::alloc::{AllocError, Global};
+
+/// The number of a named type, in the order of declarations.
+#[derive(Clone, Copy, Debug, PartialEq, Eq, Hash)]
+pub struct NamedId(pub usize);
+
+/// The number of a constructor in its type, in the order of declaration.
+#[derive(Clone, Copy, Debug, PartialEq, Eq, Hash)]
+pub struct Tag(pub u8);
+
+/// The form of a type, with the numbers of its parts. A named type is one by its name alone.
+#[derive(Clone, Copy, Debug, PartialEq, Eq, Hash)]
+pub enum TyForm {
+    UnitForm,
+    BoolForm,
+    IntForm,
+    TextForm,
+    AuthForm(TyId),
+    PairForm(TyId, TyId),
+    NamedForm(NamedId),
+}
+
+/// The types of a program. Parts stand before what they are parts of, and no two are equal, so types are compared by number,
+/// and a type costs one entry however long it is when it is written.
+#[derive(Drop)]
+pub struct TyTable {
+    forms: IndexSet<TyForm>,
+    ghost in_order: { is_in_order 0 forms.keys ≡ true },
+    ghost one_number: { HasOneNumber (types_of_forms forms.keys) },
+}
+
+impl TyTable {
+    ghost use Rattle.core_terms.specs.LanguagePrograms.{types_in};
+
+    /// An empty table.
+    pub fn new(alloc: Global) -> Self
+        ensures { types_in result ≡ [] }
+    {
+        TyTable {
+            forms: IndexSet::new(alloc),
+        }
+    }
+
+    /// The number of the type of this form, whose parts are in the table. A type that isn't there yet is added behind all
+    /// others, so each earlier number stands for the type that it stood for. Where memory is wanting nothing is changed.
+    pub fn intern(&mut self, form: TyForm) -> Result<TyId, AllocError>
+        requires parts { stands_behind (length (types_in self.old)) form ≡ true }
+        ensures number { IfOk result (λ id. slice_get (types_in self.new) id.0 ≡ Some (type_of_form (types_in self.old) form)) }
+        ensures types { (types_in self.new ≡ types_in self.old) ⊎ (types_in self.new ≡ types_in self.old ++ type_of_form (types_in self.old) form ∷ []) }
+        ensures within { IfOk result (λ id. id.0 < length (types_in self.new)) }
+        ensures grows { length (types_in self.old) ≤ length (types_in self.new) }
+        ensures err { OnErr result (types_in self.new ≡ types_in self.old) }
+    {
+        let number = add(&mut self.forms, form)?;
+        Ok(TyId(number))
+    }
+
+    /// The number of types.
+    pub fn len(&self) -> usize
+        ensures { result ≡ length (types_in self.now) }
+    {
+        self.forms.len()
+    }
+
+    /// Whether two types of the table are equal. Equal types have one number.
+    pub fn is_same(&self, a: TyId, b: TyId) -> bool
+        requires first { a.0 < length (types_in self.now) }
+        requires second { b.0 < length (types_in self.now) }
+        ensures { IsTrue result ↔ (type_at (types_in self.now) a ≡ type_at (types_in self.now) b) }
+    {
+        a == b
+    }
+
+    /// The form of a type. Its parts stand before the type.
+    pub fn form(&self, ty: TyId) -> TyForm
+        ensures form { type_of_form (types_in self.now) result ≡ type_at (types_in self.now) ty }
+        ensures parts { stands_behind ty.0 result ≡ true }
+    {
+        form_at(&self.forms, ty)
+    }
+}
+
+/// The number of a form, which is added at the end where it isn't there yet.
+fn add(forms: &mut IndexSet<TyForm>, form: TyForm) -> Result<usize, AllocError>
+    ensures number { IfOk result (λ number. slice_get forms.new.keys number ≡ Some form) }
+    ensures either { IsWithForm forms.old.keys form forms.new.keys }
+    ensures err { OnErr result (forms.new.keys ≡ forms.old.keys) }
+{
+    match forms.insert_full(form) {
+        Ok((number, _)) => Ok(number),
+        Err(_) => Err(AllocError),
+    }
+}
+
+/// The form with a number, among these.
+fn form_at(forms: &IndexSet<TyForm>, ty: TyId) -> TyForm
+    ensures { result ≡ slice_index_or forms.now.keys ty.0 TyForm.UnitForm }
+{
+    match forms.get_index(ty.0) {
+        Some(form) => *form,
+        None => TyForm::UnitForm,
+    }
+}
