@@ -2,6 +2,7 @@ pub mod Run
 pub mod Ideal
 pub mod Frames
 pub mod Checked
+pub mod Told
 pub mod Headline
 pub mod Agreement
 pub mod Table

@@ -9,24 +9,17 @@ use Rattle.core_terms.specs.ProgramTrees.{expression_of}
 use Rattle.core_terms.specs.TypeTables.{type_at}
 use Rattle.core_terms.specs.declared.outcome.Outcome.{Outcome}
 use Rattle.core_terms.specs.declared.outcome.Outcome.TheVariants as told
-use Rattle.core_terms.specs.declared.outcome.Trap as code_trap
-use Rattle.core_terms.specs.declared.outcome.Trap.TheVariants as trap
 use Rattle.core_terms.specs.declared.program.Program.{Program}
 use Rattle.core_terms.specs.declared.term.Term.{Term}
-use Rattle.ideal_meaning.specs.Run.{Run, Gives, Ends, Traps, IsOut, Trap, Overflow, DivZero, TooBig, TooDeep}
+use Rattle.ideal_meaning.specs.Run.{Run, Gives, Ends, Traps, IsOut}
 use Rattle.ideal_meaning.specs.Ideal as ideal
+use Rattle.ideal_meaning.specs.Told.{trap_told}
 use Rattle.plain_meaning.specs.PlainValues.{value_of, plain_of, IsInHand, AreInHand}
 use Rattle.plain_meaning.specs.declared.values.InHand.{InHand}
 use Rattle.plain_meaning.specs.declared.values.Plain.{Plain}
 use Rattle.plain_meaning.specs.declared.running.Opened.{Opened}
 use Rattle.plain_meaning.specs.declared.running.Stop.{Stop}
 use Rattle.plain_meaning.specs.declared.running.Stop.TheVariants.{Trapped, NoMemory}
-
-abbrev pub trap_of : code_trap.Trap → Trap
-trap_of trap.Overflow = Overflow
-trap_of trap.DivZero = DivZero
-trap_of trap.TooBig = TooBig
-trap_of trap.TooDeep = TooDeep
 
 -- what was opened, at the types of a program
 abbrev pub opened_of : Program → Opened → ideal.Opened
@@ -46,25 +39,25 @@ IsTypedWith p term locals env t = AreInHand (meaning p) env locals × HasType (m
 -- The result tells the run, which ends with fuel k and has opened these values; where memory was wanting it tells nothing.
 abbrev pub RunsAs : ℕ → List ideal.Opened → Result InHand Stop → Run ⊥ (List ideal.Opened) Value → Type 0
 RunsAs k seen (Ok v) run = run ≡ Gives (value_of v) k seen
-RunsAs k seen (Err (Trapped trap)) run = run ≡ Ends (Traps (trap_of trap)) k seen
+RunsAs k seen (Err (Trapped trap)) run = run ≡ Ends (Traps (trap_told trap)) k seen
 RunsAs k seen (Err NoMemory) run = ⊤
 
 -- The outcome tells how the run of a call ends, with whatever fuel, which has opened these values.
 abbrev pub CallEndsAs : List ideal.Opened → Run ⊥ (List ideal.Opened) Value → Outcome InHand → Type 0
 CallEndsAs seen run (told.Done v) = (k : ℕ) × (run ≡ Gives (value_of v) k seen)
-CallEndsAs seen run (told.Trapped trap) = (k : ℕ) × (run ≡ Ends (Traps (trap_of trap)) k seen)
+CallEndsAs seen run (told.Trapped trap) = (k : ℕ) × (run ≡ Ends (Traps (trap_told trap)) k seen)
 CallEndsAs seen run told.Out = (k : ℕ) × (run ≡ Ends IsOut k seen)
 
 -- an outcome with a value in hand, as one of the definitions
 abbrev pub outcome_of : Outcome InHand → ideal.Outcome
 outcome_of (told.Done v) = ideal.Done (value_of v)
-outcome_of (told.Trapped trap) = ideal.Trapped (trap_of trap)
+outcome_of (told.Trapped trap) = ideal.Trapped (trap_told trap)
 outcome_of told.Out = ideal.Out
 
 -- the same with an owned value
 abbrev pub plain_outcome_of : Outcome Plain → ideal.Outcome
 plain_outcome_of (told.Done v) = ideal.Done (plain_of v)
-plain_outcome_of (told.Trapped trap) = ideal.Trapped (trap_of trap)
+plain_outcome_of (told.Trapped trap) = ideal.Trapped (trap_told trap)
 plain_outcome_of told.Out = ideal.Out
 
 -- the value of the outcome, if it has one, is a value in hand of this type

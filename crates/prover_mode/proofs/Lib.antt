@@ -1,5 +1,5 @@
 pub mod Layers
 pub mod NewFrames
-pub mod Queries
+pub mod QueryCalls
 pub mod Accepted
 pub mod Outcomes

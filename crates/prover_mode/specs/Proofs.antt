@@ -1,28 +1,25 @@
 -- What a prover gives: an outcome with its value spelled, and the bytes of a proof file.
-use Rattle.std.specs.Prelude.{◌≡◌, ℕ, List, ◌++◌, slice_index_or}
+use Rattle.std.specs.Prelude.{◌≡◌, ℕ, List, ◌++◌}
 use Rattle.std.specs.Int.{w16, to_be_bytes}
-use Rattle.core_terms.specs.Types.{Ty, UnitTy}
+use Rattle.core_terms.specs.Types.{Ty}
 use Rattle.core_terms.specs.Formats.{Format, Hash}
 use Rattle.core_terms.specs.Values.{Value, IsIdeal}
 use Rattle.core_terms.specs.Spelling.{spelling}
 use Rattle.core_terms.specs.Projection.{projection}
 use Rattle.core_terms.specs.Terms.{Program, function_at}
+use Rattle.core_terms.specs.Roles.{argument_type}
 use Rattle.core_terms.specs.declared.outcome.Outcome as code
 use Rattle.core_terms.specs.declared.outcome.Outcome.TheVariants as told
 use Rattle.core_terms.specs.declared.spelling.Spelling.{Spelling}
 use Rattle.ideal_meaning.specs.Ideal.{Outcome, Done, Trapped, Out, ideal, outcome, outcome_projection}
 use Rattle.ideal_meaning.specs.Checked.{Accepted, verdict}
 use Rattle.ideal_meaning.specs.Headline.{call_of}
-use Rattle.plain_meaning.specs.Telling.{trap_of}
-
--- the type of what the caller of a query passes: that of its second parameter
-abbrev pub argument_type : Program → ℕ → Ty
-argument_type P f = slice_index_or (function_at P f).parameters 1 UnitTy
+use Rattle.ideal_meaning.specs.Told.{trap_told}
 
 -- the outcome of the code is this one, with the spelling of its value
 abbrev pub IsSpelled : Outcome → code.Outcome Spelling → Type 0
 IsSpelled (Done v) (told.Done bytes) = bytes ≡ spelling v
-IsSpelled (Trapped trap) (told.Trapped trap') = trap_of trap' ≡ trap
+IsSpelled (Trapped trap) (told.Trapped trap') = trap_told trap' ≡ trap
 IsSpelled Out told.Out = Unit {0}
 IsSpelled o other = ⊥
 

@@ -11,7 +11,8 @@ ghost use Rattle.ideal_meaning.specs.Headline.{call_of};
 ghost use Rattle.ideal_meaning.specs.Ideal.{bytes_of, honest_bytes, honest_pieces, ideal, outcome, outcome_projection};
 ghost use Rattle.plain_meaning.specs.PlainValues.{plain_of};
 ghost use Rattle.plain_meaning.specs.Telling.{AreOpened, HasShape, opened_in, outcome_of};
-ghost use Rattle.prover_mode.specs.Proofs.{IsAccepted, IsOutcomeOf, IsSpelled, argument_type, file_of};
+ghost use Rattle.core_terms.specs.Roles.{argument_type};
+ghost use Rattle.prover_mode.specs.Proofs.{IsAccepted, IsOutcomeOf, IsSpelled, file_of};
 
 use crate::projection::project;
 use core_terms::{FunctionId, Hash32, Outcome, Program, Spelling, TyId};

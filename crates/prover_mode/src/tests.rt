@@ -4,7 +4,7 @@ ghost use Rattle.core_terms.specs.Programs.{meaning};
 ghost use Rattle.core_terms.specs.Terms.{function_at};
 ghost use Rattle.core_terms.specs.Terms as tree;
 ghost use Rattle.core_terms.specs.Types.{AuthTy, IntTy};
-ghost use Rattle.prover_mode.specs.Proofs.{argument_type};
+ghost use Rattle.core_terms.specs.Roles.{argument_type};
 
 use crate::{Proved, project, proof_file, prove};
 use core_terms::{

@@ -11,7 +11,7 @@ use Rattle.core_terms.specs.declared.term.Function.{Function}
 use Rattle.ideal_meaning.specs.Run.{Run, Ends, Traps, run, call}
 use Rattle.ideal_meaning.specs.Checked.{Cause, Taking, checked, checked_mode}
 use Rattle.core_terms.specs.declared.outcome.Trap.{Trap}
-use Rattle.verifier_mode.specs.Causes.{trap_of}
+use Rattle.ideal_meaning.specs.Told.{trap_told}
 use Rattle.verifier_mode.specs.Standing.{RunsAs}
 use Rattle.verifier_mode.specs.declared.checked.Stop.{Stop}
 use Rattle.verifier_mode.specs.declared.checked.Stop.TheVariants.{Trapped}
@@ -26,5 +26,5 @@ called hash p f fn args (suc k) w left e =
     (k, ap (λ (g : tree.Function). run (meaning p) (checked_mode hash (meaning p)) (call (meaning p) (checked_mode hash (meaning p)) k) g.body args k w) (sym e))
 
 -- a run that traps is told as a trap
-pub trapped : (k : ℕ) (w : Taking) (stop : Stop) (trap : Trap) (run : Run Cause Taking Value) → stop ≡ Trapped trap → RunsAs k w (Err stop) run → run ≡ Ends (Traps (trap_of trap)) k w
+pub trapped : (k : ℕ) (w : Taking) (stop : Stop) (trap : Trap) (run : Run Cause Taking Value) → stop ≡ Trapped trap → RunsAs k w (Err stop) run → run ≡ Ends (Traps (trap_told trap)) k w
 trapped k w stop trap run e h = subst (λ stop. RunsAs k w (Err stop) run) e h

@@ -9,7 +9,8 @@ use Rattle.core_terms.proofs.ReadOnly.{read_spells}
 use Rattle.verifier_mode.specs.Shallow.{IsInHand, value_of}
 use Rattle.verifier_mode.specs.declared.reading.Shallow.{Shallow}
 
-are_bytes : (bytes : List ℕ) → ((i : ℕ) → get_or bytes i 0 < 256) → AreBytes bytes
+-- items that are below 256 are bytes
+pub are_bytes : (bytes : List ℕ) → ((i : ℕ) → get_or bytes i 0 < 256) → AreBytes bytes
 are_bytes [] h = tt
 are_bytes (b ∷ bytes) h = (h 0, are_bytes bytes (λ i. h (suc i)))
 

@@ -16,10 +16,11 @@ use Rattle.ideal_meaning.specs.Run.{Run}
 use Rattle.ideal_meaning.specs.Ideal as ideal
 use Rattle.ideal_meaning.specs.Frames.{header}
 use Rattle.ideal_meaning.specs.Checked.{with_state, with_argument, with_header, Cause, Taking, Verdict, Accepted, BadState, BadArgument, checked, judged, verdict}
-use Rattle.verifier_mode.specs.Causes.{trap_of}
+use Rattle.ideal_meaning.specs.Told.{trap_told}
 use Rattle.verifier_mode.specs.Shallow.{IsReadAs, value_of, values_of}
 use Rattle.verifier_mode.specs.Standing.{CallEndsAs, HasShape, IsSpelledAs, standing}
-use Rattle.verifier_mode.specs.Verdicts.{IsSpelled, argument_type}
+use Rattle.core_terms.specs.Roles.{argument_type}
+use Rattle.verifier_mode.specs.Verdicts.{IsSpelled}
 use Rattle.core_terms.specs.Values.{Value}
 use Rattle.verifier_mode.specs.declared.reading.Shallow.{Shallow}
 
@@ -63,7 +64,7 @@ answered_at : (p : Program) (t : Ty) (o : Outcome Shallow) (with_spelling : Outc
     → CallEndsAs (standing p [] place) (Ok o) run → HasShape p t o → IsSpelledAs o with_spelling
     → (outcome : ideal.Outcome) × (judged run ≡ Accepted outcome) × IsSpelled (meaning p) t outcome with_spelling
 answered_at p t (told.Done s) (told.Done bytes) place run ends in_hand e = (ideal.Done (value_of s), ap judged ends.1, (value_of s, refl, in_hand.0, sym e))
-answered_at p t (told.Trapped trap) (told.Trapped trap') place run ends in_hand e = (_, ap judged ends.1, ap (λ trap. ideal.Trapped (trap_of trap)) e)
+answered_at p t (told.Trapped trap) (told.Trapped trap') place run ends in_hand e = (_, ap judged ends.1, ap (λ trap. ideal.Trapped (trap_told trap)) e)
 answered_at p t told.Out told.Out place run ends in_hand e = (ideal.Out, ap judged ends.1, refl)
 answered_at p t (told.Done s) (told.Trapped trap) place run ends in_hand e = absurd e
 answered_at p t (told.Done s) told.Out place run ends in_hand e = absurd e

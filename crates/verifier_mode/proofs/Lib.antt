@@ -4,6 +4,6 @@ pub mod InHand
 pub mod Locals
 pub mod Sums
 pub mod Called
-pub mod RoleOf
+pub mod QueryCalls
 pub mod Judging
 pub mod SaysTrue

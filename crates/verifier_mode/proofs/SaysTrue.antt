@@ -11,9 +11,10 @@ use Rattle.core_terms.specs.declared.program.Program.{Program}
 use Rattle.core_terms.specs.declared.spelling.Spelling.{Spelling}
 use Rattle.ideal_meaning.specs.Checked.{verdict}
 use Rattle.ideal_meaning.proofs.Headline.{headline}
-use Rattle.verifier_mode.specs.Verdicts.{Answers, SaysTrue, argument_type}
+use Rattle.core_terms.specs.Roles.{argument_type}
+use Rattle.verifier_mode.specs.Verdicts.{Answers, SaysTrue}
 use Rattle.verifier_mode.specs.declared.judge.Verdict.{Verdict}
-use Rattle.verifier_mode.proofs.RoleOf.{is_typed, is_format, query_role}
+use Rattle.core_terms.proofs.CodePrograms.{is_typed, is_format, query_role}
 
 pub says_true : (hash : Hash) → IsHash hash → (p : Program) (f : ℕ) → f < length (meaning p).functions → (function_at (meaning p) f).kind ≡ tree.Query
     → (state argument : List ℕ) (k : ℕ) (proof : List ℕ) (result : Result (Outcome Spelling) Verdict)

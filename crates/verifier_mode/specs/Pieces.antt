@@ -3,7 +3,7 @@ use Rattle.std.specs.Prelude.{◌≡◌, ℕ, List, []}
 use Rattle.ideal_meaning.specs.Frames.{End, Offer, NoMore, offered}
 use Rattle.ideal_meaning.specs.Checked.{cause_of}
 use Rattle.core_terms.specs.declared.cause.Cause.{Cause}
-use Rattle.verifier_mode.specs.Causes.{cause_told}
+use Rattle.ideal_meaning.specs.Told.{cause_told}
 
 -- what these bytes, behind the header, offer
 abbrev pub offer : ℕ → List ℕ → Offer

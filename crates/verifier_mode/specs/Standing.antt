@@ -13,7 +13,7 @@ use Rattle.core_terms.specs.declared.spelling.Spelling.{Spelling}
 use Rattle.core_terms.specs.declared.term.Term.{Term}
 use Rattle.ideal_meaning.specs.Run.{Run, Gives, Ends, Traps, IsOut, Rejects}
 use Rattle.ideal_meaning.specs.Checked.{Cause, Taking}
-use Rattle.verifier_mode.specs.Causes.{cause_told, trap_of}
+use Rattle.ideal_meaning.specs.Told.{cause_told, trap_told}
 use Rattle.verifier_mode.specs.Pieces.{offer}
 use Rattle.verifier_mode.specs.Shallow.{value_of, IsInHand, AreInHand}
 use Rattle.verifier_mode.specs.declared.reading.Shallow.{Shallow}
@@ -37,14 +37,14 @@ IsRejected cause k run = (w : Taking) × (run ≡ Ends (Rejects cause) k w)
 -- The result tells the run, which ends with fuel k in this state; where memory was wanting it tells nothing.
 abbrev pub RunsAs : ℕ → Taking → Result Shallow Stop → Run Cause Taking Value → Type 0
 RunsAs k w (Ok v) run = run ≡ Gives (value_of v) k w
-RunsAs k w (Err (Trapped trap)) run = run ≡ Ends (Traps (trap_of trap)) k w
+RunsAs k w (Err (Trapped trap)) run = run ≡ Ends (Traps (trap_told trap)) k w
 RunsAs k w (Err (Refused (Rejected cause))) run = IsRejected (cause_told cause) k run
 RunsAs k w (Err (Refused NoMemory)) run = ⊤
 
 -- The result tells how the run of a call ends, with whatever fuel, in this state; where memory was wanting it tells nothing.
 abbrev pub CallEndsAs : Taking → Result (Outcome Shallow) Refusal → Run Cause Taking Value → Type 0
 CallEndsAs w (Ok (told.Done v)) run = (k : ℕ) × (run ≡ Gives (value_of v) k w)
-CallEndsAs w (Ok (told.Trapped trap)) run = (k : ℕ) × (run ≡ Ends (Traps (trap_of trap)) k w)
+CallEndsAs w (Ok (told.Trapped trap)) run = (k : ℕ) × (run ≡ Ends (Traps (trap_told trap)) k w)
 CallEndsAs w (Ok told.Out) run = (k : ℕ) × (run ≡ Ends IsOut k w)
 CallEndsAs w (Err (Rejected cause)) run = (k : ℕ) × IsRejected (cause_told cause) k run
 CallEndsAs w (Err NoMemory) run = ⊤

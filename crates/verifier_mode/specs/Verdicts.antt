@@ -1,10 +1,11 @@
 -- How the answer of `verify` tells a verdict, and what it says of the ideal run.
-use Rattle.std.specs.Prelude.{◌≡◌, ℕ, List, [], drop, Some, Result, Ok, Err, slice_index_or, ⊤}
-use Rattle.core_terms.specs.Types.{Ty, UnitTy}
+use Rattle.std.specs.Prelude.{◌≡◌, ℕ, List, [], drop, Some, Result, Ok, Err, ⊤}
+use Rattle.core_terms.specs.Types.{Ty}
 use Rattle.core_terms.specs.Formats.{Hash}
 use Rattle.core_terms.specs.Values.{Value, IsIdeal, IsShallow}
 use Rattle.core_terms.specs.Spelling.{spelling}
 use Rattle.core_terms.specs.Terms.{Program, function_at}
+use Rattle.core_terms.specs.Roles.{argument_type}
 use Rattle.core_terms.specs.Projection.{projection}
 use Rattle.core_terms.specs.declared.outcome.Outcome.{Outcome}
 use Rattle.core_terms.specs.declared.outcome.Outcome.TheVariants as told
@@ -13,15 +14,11 @@ use Rattle.ideal_meaning.specs.Ideal as ideal
 use Rattle.ideal_meaning.specs.Frames.{offered, offered_pieces, header}
 use Rattle.ideal_meaning.specs.Checked as checked
 use Rattle.ideal_meaning.specs.Headline.{TrueOrSplit, call_of}
-use Rattle.verifier_mode.specs.Causes.{cause_told, trap_of}
+use Rattle.ideal_meaning.specs.Told.{cause_told, trap_told}
 use Rattle.verifier_mode.specs.declared.checked.Refusal.{Refusal}
 use Rattle.verifier_mode.specs.declared.checked.Refusal.TheVariants as refusals
 use Rattle.verifier_mode.specs.declared.judge.Verdict.{Verdict}
 use Rattle.verifier_mode.specs.declared.judge.Verdict.TheVariants.{Rejected, BadState, BadArgument, NoMemory}
-
--- the type of what the caller of a query passes: that of its second parameter
-abbrev pub argument_type : Program → ℕ → Ty
-argument_type P f = slice_index_or (function_at P f).parameters 1 UnitTy
 
 -- the verdict that a refused run comes to
 abbrev pub verdict_of : Refusal → Verdict
@@ -31,7 +28,7 @@ verdict_of refusals.NoMemory = NoMemory
 -- The outcome of the definitions that an outcome with a spelling tells: its value is a shallow one of type t, with this spelling.
 abbrev pub IsSpelled : Program → Ty → ideal.Outcome → Outcome Spelling → Type 0
 IsSpelled P t o (told.Done bytes) = (v : Value) × (o ≡ ideal.Done v) × IsShallow P.types t v × (spelling v ≡ bytes)
-IsSpelled P t o (told.Trapped trap) = o ≡ ideal.Trapped (trap_of trap)
+IsSpelled P t o (told.Trapped trap) = o ≡ ideal.Trapped (trap_told trap)
 IsSpelled P t o told.Out = o ≡ ideal.Out
 
 -- The call of function f answers the verdict, with its cause or its offset, or finds no memory.

@@ -1,5 +1,6 @@
 use Rattle.std.proofs.Common.{◌∙◌}
-use Rattle.plain_meaning.proofs.Bodies.{body_is_typed, called, trapped}
+use Rattle.core_terms.proofs.CodePrograms.{body_is_typed}
+use Rattle.plain_meaning.proofs.Bodies.{called, trapped}
 use Rattle.plain_meaning.proofs.calls.call.Goals as goal
 
 pub run-requires : goal.run-requires

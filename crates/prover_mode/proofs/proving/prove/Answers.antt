@@ -14,7 +14,7 @@ use Rattle.prover_mode.specs.Proofs.{IsAccepted, IsOutcomeOf}
 use Rattle.prover_mode.specs.declared.proving.Proved.{Proved}
 use Rattle.prover_mode.proofs.Accepted.{accepted}
 use Rattle.prover_mode.proofs.Outcomes.{has_value, if_ok}
-use Rattle.prover_mode.proofs.Queries.{takes}
+use Rattle.prover_mode.proofs.QueryCalls.{takes}
 use Rattle.prover_mode.proofs.proving.prove.Goals as goal
 
 pub ideal_run-requires-clause-typed : goal.ideal_run-requires-clause-typed

@@ -1,5 +1,5 @@
 use Rattle.std.proofs.Common.{◌∙◌}
-use Rattle.verifier_mode.proofs.RoleOf.{body_is_typed}
+use Rattle.core_terms.proofs.CodePrograms.{body_is_typed}
 use Rattle.verifier_mode.proofs.Called.{called, trapped}
 use Rattle.verifier_mode.proofs.judge.call.Goals as goal
 

@@ -2,9 +2,11 @@
 use Rattle.std.proofs.Common.{Ok, Err, sym, subst}
 use Rattle.core_terms.specs.Formats.{IsHash}
 use Rattle.core_terms.specs.Programs.{meaning}
-use Rattle.verifier_mode.specs.Verdicts.{Answers, argument_type}
+use Rattle.core_terms.specs.Roles.{argument_type}
+use Rattle.verifier_mode.specs.Verdicts.{Answers}
 use Rattle.verifier_mode.proofs.Judging.{bad_state, bad_argument, good_call, read_there}
-use Rattle.verifier_mode.proofs.RoleOf.{two_parameters, second_type, takes}
+use Rattle.core_terms.proofs.CodePrograms.{two_parameters, second_type}
+use Rattle.verifier_mode.proofs.QueryCalls.{takes}
 use Rattle.verifier_mode.proofs.SaysTrue.{says_true}
 use Rattle.verifier_mode.proofs.judge.verify.Goals as goal
 

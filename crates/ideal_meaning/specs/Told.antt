@@ -1,4 +1,4 @@
--- The causes of a rejection and the traps that the verifier tells, as those of the definitions.
+-- The causes of a rejection and the traps that the code tells, as those of the definitions.
 use Rattle.core_terms.specs.declared.cause.Cause as code
 use Rattle.core_terms.specs.declared.cause.Cause.TheVariants as cause
 use Rattle.core_terms.specs.declared.outcome.Trap as code_trap
@@ -18,8 +18,8 @@ cause_told (cause.WrongPiece place want found) = WrongPiece place want.0 found.0
 cause_told (cause.BadPiece place offset) = BadPiece place offset
 cause_told (cause.Leftover bytes) = Leftover bytes
 
-abbrev pub trap_of : code_trap.Trap → Trap
-trap_of trap.Overflow = Overflow
-trap_of trap.DivZero = DivZero
-trap_of trap.TooBig = TooBig
-trap_of trap.TooDeep = TooDeep
+abbrev pub trap_told : code_trap.Trap → Trap
+trap_told trap.Overflow = Overflow
+trap_told trap.DivZero = DivZero
+trap_told trap.TooBig = TooBig
+trap_told trap.TooDeep = TooDeep
