@@ -1,4 +1,4 @@
-//! SHA-256 as the hash of lambda-auth, and the texts of digests.
+//! SHA-256 as the hash of lambda-auth, a digest for tests, and the texts of digests.
 #![tactic(auto)]
 
 ghost use Rattle.std.specs.Prelude.{◌≡◌, ◌↔◌, length, IfSome, IsSome};
@@ -26,6 +26,24 @@ impl Hash32 for Sha {
     }
 }
 
+/// A digest for tests: 31 zero bytes, then the XOR of all bytes.
+pub struct Toy;
+
+impl Hash32 for Toy {
+    ghost use Rattle.std.specs.Prelude.{refl};
+    ghost use Rattle.digest_layer.specs.ToyDigests.{toy_digest};
+
+    ghost hash = { toy_digest };
+
+    ghost digest_length = { λ bytes. refl };
+
+    fn of(bytes: &[u8]) -> Digest {
+        let mut digest = [0; 32];
+        digest[31] = bytes.iter().fold(0, |folded, byte| folded ^ byte);
+        Digest(digest)
+    }
+}
+
 /// The text of a digest: two lower-case hexadecimal digits for each byte, the high one first.
 pub fn hex_text(digest: &Digest) -> [u8; 64]
     ensures { result ≡ encode_lower digest.now.0 }
@@ -47,7 +65,7 @@ pub fn read_hex(text: &str) -> Option<Digest>
 
 #[cfg(test)]
 mod tests {
-    use super::{Sha, hex_text, read_hex};
+    use super::{Sha, Toy, hex_text, read_hex};
     use core_terms::Hash32;
     use std::test::Fail;
 
@@ -74,6 +92,17 @@ mod tests {
             text_of(&[1]),
             *b"4bf5122f344554c53bde2ebb8cd2b7e3d1600ad631c385a5d7cce23c7785459a"
         );
+        Ok(())
+    }
+
+    #[test]
+    fn the_toy_digest_ends_in_the_xor_of_all_bytes(rt: HostRuntime) -> Result<(), Fail> {
+        for (bytes, last) in [(b"\x03\x02", 1), (b"\x01\x00", 1), (b"\xff\x0f", 0xf0)] {
+            let mut wanted = [0; 32];
+            wanted[31] = last;
+            assert_eq!(rt; Toy::of(bytes).0, wanted);
+        }
+        assert_eq!(rt; Toy::of(b"").0, [0; 32]);
         Ok(())
     }
 
