@@ -1,0 +1,96 @@
+-- The headline with its pair: what is accepted is true, or the audit shows the split.
+use Rattle.std.specs.declared.alloc.AllocError.{AllocError}
+use Rattle.std.proofs.Common.{◌≡◌, ◌⊎◌, inl, inr, ℕ, ◌<◌, List, [], drop, length, Option, Some, None, Result, Ok, Err, refl, sym, ap, ◌∙◌, subst}
+use Rattle.core_terms.specs.Types.{Ty}
+use Rattle.core_terms.specs.Formats.{Hash, IsHash}
+use Rattle.core_terms.specs.Projection.{digest_at}
+use Rattle.core_terms.specs.Roles.{argument_type, role_result}
+use Rattle.core_terms.specs.Programs.{meaning}
+use Rattle.core_terms.specs.Terms.{Query, Program, function_at}
+use Rattle.core_terms.specs.declared.program.Program as code
+use Rattle.core_terms.specs.Values.{Value, IsIdeal}
+use Rattle.ideal_meaning.specs.Checked.{Verdict, Accepted, Rejected}
+use Rattle.ideal_meaning.specs.Frames.{header, offered, offered_pieces}
+use Rattle.ideal_meaning.specs.Headline.{TrueOrSplit, call_of}
+use Rattle.ideal_meaning.specs.Ideal.{Outcome, honest_pieces}
+use Rattle.ideal_meaning.proofs.Headline.{headline}
+use Rattle.ideal_meaning.specs.Told.{cause_told}
+use Rattle.verifier_mode.specs.Verdicts.{IsSpelled}
+use Rattle.core_terms.proofs.CodePrograms.{is_format, is_typed, query_role}
+use Rattle.collision_audit.specs.AuditAnswers.{AuditsTruly, TellsAudit, split_told}
+use Rattle.collision_audit.specs.AuditLaws.{AgreementIsTrue, AuditShowsCollision, IsTrueOutcome}
+use Rattle.collision_audit.specs.Audits.{Collides, Judges, audit_of, unless_split, verdict_on}
+use Rattle.collision_audit.specs.Splits.{Split, IsSplit, offered_behind, offered_in, split_of}
+use Rattle.collision_audit.specs.declared.auditing.Audited.{Audited}
+use Rattle.collision_audit.specs.declared.auditing.Audited.TheVariants as audited
+use Rattle.collision_audit.proofs.FirstSplits.{split_is_found, no_split_is_found, splits_somewhere}
+
+-- what a good header offers
+pub behind_good : (hash : Hash) (P : Program) (f : ℕ) (t : Ty) (state argument : Value) (k : ℕ) (bytes : List ℕ) (o : Outcome) (n : ℕ) → header P.format bytes ≡ Some n
+    → TrueOrSplit hash P f t (call_of state argument) k (offered_pieces (offered P.format.limit (drop 6 bytes) n [])) o
+    → TrueOrSplit hash P f t (call_of state argument) k (offered_in P.format bytes) o
+behind_good hash P f t state argument k bytes o n good h =
+    subst (λ (header : Option ℕ). TrueOrSplit hash P f t (call_of state argument) k (offered_behind P.format header bytes) o) (sym good) h
+
+pub audit_shows_collision : AuditShowsCollision
+audit_shows_collision hash is_hash P format typed f kind t answer role reads state argument state_ideal argument_ideal k bytes o accepted = by (behind_good hash P f (role_result kind P.state answer) state argument k bytes o head.0 head.1 head.2)
+  where
+    head : (n : ℕ) × (header P.format bytes ≡ Some n) × TrueOrSplit hash P f (role_result kind P.state answer) (call_of state argument) k (offered_pieces (offered P.format.limit (drop 6 bytes) n [])) o
+    head = headline hash is_hash P format typed f kind t answer role reads state argument state_ideal argument_ideal k bytes o accepted
+
+    by : TrueOrSplit hash P f (role_result kind P.state answer) (call_of state argument) k (offered_in P.format bytes) o
+        → IsTrueOutcome hash P f (role_result kind P.state answer) state argument k bytes o
+        ⊎ ((s : Split) × (audit_of hash P t f state argument k bytes ≡ Collides s)
+        × IsSplit (digest_at hash P) (offered_in P.format bytes) (honest_pieces hash P f (call_of state argument) k) s)
+    by (inl h) = inl h
+    by (inr h) =
+        let there = splits_somewhere (digest_at hash P) h.0 (offered_in P.format bytes) (honest_pieces hash P f (call_of state argument) k) h.1 in
+        inr (there.0, ap (λ split. unless_split split (verdict_on hash P t f state argument k bytes)) there.1, (split_is_found (digest_at hash P) (offered_in P.format bytes) (honest_pieces hash P f (call_of state argument) k) there.0).0 there.1)
+
+-- an audit that comes to a verdict found no split
+pub judges : (found : Option Split) (v v' : Verdict) → unless_split found v ≡ Judges v' → (found ≡ None) × (v ≡ v')
+judges None v v' e = (refl, cc)
+judges (Some s) v v' e = absurd (cc (e))
+
+pub agreement_is_true : AgreementIsTrue
+agreement_is_true hash is_hash P format typed f kind t answer role reads state argument state_ideal argument_ideal k bytes o agreed = by (audit_shows_collision hash is_hash P format typed f kind t answer role reads state argument state_ideal argument_ideal k bytes o none.1)
+  where
+    none : (split_of hash P f state argument k bytes ≡ None) × (verdict_on hash P t f state argument k bytes ≡ Accepted o)
+    none = judges (split_of hash P f state argument k bytes) (verdict_on hash P t f state argument k bytes) (Accepted o) agreed
+
+    by : IsTrueOutcome hash P f (role_result kind P.state answer) state argument k bytes o
+        ⊎ ((s : Split) × (audit_of hash P t f state argument k bytes ≡ Collides s)
+        × IsSplit (digest_at hash P) (offered_in P.format bytes) (honest_pieces hash P f (call_of state argument) k) s)
+        → IsTrueOutcome hash P f (role_result kind P.state answer) state argument k bytes o
+    by (inl h) = h
+    by (inr h) = let e = sym h.1 ∙ agreed in absurd (cc (e))
+
+-- an audit that shows a split found it
+pub collides : (found : Option Split) (v : Verdict) (s : Split) → unless_split found v ≡ Collides s → found ≡ Some s
+collides None v s e = absurd (cc (e))
+collides (Some s') v s e = cc
+
+-- the answer of an audit says what is true
+pub audits_truly : (hash : Hash) → IsHash hash → (p : code.Program) (f : ℕ) → f < length (meaning p).functions → (function_at (meaning p) f).kind ≡ Query
+    → (state argument : Value) → IsIdeal (meaning p).types (meaning p).state state → IsIdeal (meaning p).types (argument_type (meaning p) f) argument
+    → (k : ℕ) (proof : List ℕ) (result : Result Audited AllocError)
+    → TellsAudit (meaning p) f (audit_of hash (meaning p) (argument_type (meaning p) f) f state argument k proof) result
+    → AuditsTruly hash (meaning p) f state argument k proof result
+audits_truly hash is_hash p f there query state argument state_ideal argument_ideal k proof (Ok (audited.Agrees told)) (o, agreed, spelled) =
+    let P = meaning p in
+    let t = argument_type P f in
+    let true_outcome = agreement_is_true hash is_hash P (is_format p) (is_typed p) f Query t (function_at P f).result (query_role p f there query) tt state argument state_ideal argument_ideal k proof o agreed in
+    let none = judges (split_of hash P f state argument k proof) (verdict_on hash P t f state argument k proof) (Accepted o) agreed in (
+      subst (λ (o : Outcome). IsSpelled P (function_at P f).result o told) true_outcome.1 spelled,
+      true_outcome.0,
+      (no_split_is_found (digest_at hash P) (offered_in P.format proof) (honest_pieces hash P f (call_of state argument) k)).0 none.0,
+    )
+audits_truly hash is_hash p f there query state argument state_ideal argument_ideal k proof (Ok (audited.Collision c)) told =
+    let P = meaning p in
+    let split = collides (split_of hash P f state argument k proof) (verdict_on hash P (argument_type P f) f state argument k proof) (split_told c) told in
+    (split_is_found (digest_at hash P) (offered_in P.format proof) (honest_pieces hash P f (call_of state argument) k) (split_told c)).0 split
+audits_truly hash is_hash p f there query state argument state_ideal argument_ideal k proof (Ok (audited.Rejected cause)) told =
+    let P = meaning p in
+    let none = judges (split_of hash P f state argument k proof) (verdict_on hash P (argument_type P f) f state argument k proof) (Rejected (cause_told cause)) told in
+    (no_split_is_found (digest_at hash P) (offered_in P.format proof) (honest_pieces hash P f (call_of state argument) k)).0 none.0
+audits_truly hash is_hash p f there query state argument state_ideal argument_ideal k proof (Err e) told = tt

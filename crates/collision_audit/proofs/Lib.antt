@@ -1,0 +1,9 @@
+pub mod FirstSplits
+pub mod Comparing
+pub mod OnProof
+pub mod CallsInHand
+pub mod AuditHeadline
+pub mod ToldAudits
+pub mod WholeFrames
+pub mod FrontOffers
+pub mod FrontAudits
