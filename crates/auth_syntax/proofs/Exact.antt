@@ -26,7 +26,7 @@ read_declarations_at words limit (suc most) tokens =
 
 module _ (words : Vocabulary) where
   -- at the limit of the language they are read so
-  read_constructors-is : (most : ℕ) → read_constructors words most ≡ read_separated read_bar (read_row (constructor_row words nesting_limit) nesting_limit) most
+  pub read_constructors-is : (most : ℕ) → read_constructors words most ≡ read_separated read_bar (read_row (constructor_row words nesting_limit) nesting_limit) most
   read_constructors-is zero = refl
   read_constructors-is (suc most) =
       ap (λ (more : Tokens → Reading (List ConstructorDeclaration)). λ (tokens : Tokens).
@@ -43,7 +43,7 @@ module _ (words : Vocabulary) where
       then_read (read (count tokens) tokens) (λ constructors tokens. Found (TypeDeclaration at name constructors) tokens))))
       (fun_ext read_constructors-is)
 
-  read_declaration-is : (tokens : Tokens) → read_declaration words tokens ≡ read_declaration_at words nesting_limit nesting_limit tokens
+  pub read_declaration-is : (tokens : Tokens) → read_declaration words tokens ≡ read_declaration_at words nesting_limit nesting_limit tokens
   read_declaration-is (Next at (KeywordToken TypeWord) rest) = ap (allowed (words NamedTypes) at) (read_type_declaration-is at rest)
   read_declaration-is tokens = refl
 

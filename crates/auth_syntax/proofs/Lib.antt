@@ -1,12 +1,17 @@
 pub mod PrintedTexts
+pub mod LineLemmas
+pub mod TreeTokens
 mod PrintedRows
+mod PrintedProgramRows
 mod TokenRows
+mod LiteralRows
 pub mod TextLemmas
 pub mod NumberLemmas
 pub mod PlaceLemmas
 pub mod TokenLemmas
 pub mod LevelSteps
-pub mod FewerTokens
+pub mod MadeOfTokens
+pub mod ArmsOneByOne
 pub mod Loops
 pub mod Faults
 mod GrammarRows
@@ -21,7 +26,15 @@ pub mod Declarations
 pub mod Exact
 mod PrintedTokens
 mod PrintedReadBack
+mod BeginAnywhere
+mod TokensOfTexts
+mod PrintedLines
+mod MovedTrees
+mod FormsWithoutPlaces
+mod PrintedProgramsRead
 pub mod LiteralReadings
+pub mod TokenValues
+pub mod LiteralsReadBack
 pub mod Counted
 pub mod Fronts
 pub mod FrontRows

@@ -17,7 +17,7 @@ use Rattle.auth_syntax.specs.Parsing as syntax
 use Rattle.auth_syntax.specs.Parsing.{Reading, Found}
 use Rattle.auth_syntax.specs.Outcomes.{Reads}
 use Rattle.auth_syntax.specs.Remaining.{read_end}
-use Rattle.auth_syntax.specs.Literals.{LiteralReading, Means, literal_of, no_constructors, Literal, FirstFault, at_end, whole_literal, spelled_within, literal}
+use Rattle.auth_syntax.specs.Literals.{LiteralReading, Means, literal_of, no_constructors, Literal, FirstFault, at_end, whole_literal, value_within, literal}
 use Rattle.auth_syntax.specs.LiteralAnswers.{ReadsLiteral}
 use Rattle.auth_syntax.specs.LiteralValues.{literal_kind, told_of_literal, type_of_value, value_of, ReadsPart, ReadsWhole}
 
@@ -44,10 +44,10 @@ begun P t tokens = literal_of P.types no_constructors depth_limit t tokens
 module _ (P : Program) (t : Ty) (text : List ℕ) (read : Tokens) (same : read ≡ tokens text) where
   -- a literal, and the end of the text
   pub whole-read : (value : LiteralValue) (rest after : Tokens) → begun P t read ≡ Means (value_of value) rest → read_end rest ≡ Found tt after
-      → literal P t text ≡ spelled_within P.format.limit P.types t (value_of value)
+      → literal P t text ≡ value_within P.format.limit P.types t (value_of value)
   whole-read value rest after h e =
       ap (λ ts. whole_literal P.format.limit P.types t (begun P t ts)) (sym same) ∙ (ap (whole_literal P.format.limit P.types t) h
-      ∙ end_found rest after e (spelled_within P.format.limit P.types t (value_of value)))
+      ∙ end_found rest after e (value_within P.format.limit P.types t (value_of value)))
 
   -- a fault in the literal, and one behind it
   pub begun-fault : (fault : Fault) (rest : Tokens) → ReadsPart value_of (begun P t read) (Err fault) rest → ReadsWhole P t text (Err fault)
@@ -59,7 +59,7 @@ module _ (P : Program) (t : Ty) (text : List ℕ) (read : Tokens) (same : read �
       → Reads (λ (u : Unit {0}). u) (read_end rest) (Err fault) after → ReadsWhole P t text (Err fault)
   end-fault value rest after (At kind at) h e =
       ap (λ ts. whole_literal P.format.limit P.types t (begun P t ts)) (sym same) ∙ (ap (whole_literal P.format.limit P.types t) h
-      ∙ end_not_found rest kind at e (spelled_within P.format.limit P.types t (value_of value)))
+      ∙ end_not_found rest kind at e (value_within P.format.limit P.types t (value_of value)))
   end-fault value rest after NoMemory h e = tt
 
 -- a fault, told by its offset
@@ -70,9 +70,9 @@ told-fault P t text NoMemory h = tt
 
 -- the value, spelled
 pub whole-spelled : (P : Program) (t : Ty) (text : List ℕ) (value : LiteralValue) (limit : ℕ) (result : Result Spelling LiteralFault)
-    → literal P t text ≡ spelled_within P.format.limit P.types t (value_of value) → t ≡ type_of_value value → limit ≡ P.format.limit
-    → ReadsLiteral (spelled_within limit P.types (type_of_value value) (value_of value)) result → ReadsLiteral (literal P t text) result
+    → literal P t text ≡ value_within P.format.limit P.types t (value_of value) → t ≡ type_of_value value → limit ≡ P.format.limit
+    → ReadsLiteral (value_within limit P.types (type_of_value value) (value_of value)) result → ReadsLiteral (literal P t text) result
 whole-spelled P t text value limit result h shape same spelled =
     subst (λ (found : Literal). ReadsLiteral found result)
-    (ap (λ n. spelled_within n P.types (type_of_value value) (value_of value)) same
-    ∙ sym (h ∙ ap (λ t. spelled_within P.format.limit P.types t (value_of value)) shape)) spelled
+    (ap (λ n. value_within n P.types (type_of_value value) (value_of value)) same
+    ∙ sym (h ∙ ap (λ t. value_within P.format.limit P.types t (value_of value)) shape)) spelled

@@ -1,12 +1,21 @@
 -- Lists and declarations one by one, as the code reads them.
-use Rattle.std.proofs.Common.{◌≡◌, ℕ, zero, suc, Bool, true, false, ◌<◌, ◌≤◌, List, [], ◌∷◌, ◌++◌, refl, ap, subst, ◌∙◌, arith, append_assoc}
+use Rattle.std.proofs.Common.{◌≡◌, ℕ, zero, suc, Bool, true, false, ◌<◌, ◌≤◌, List, [], ◌∷◌, ◌++◌, map, Err, refl, ap, sym, ◌∙◌, arith, append_assoc}
+use Rattle.std.proofs.lemmas.List.{map-append}
 use Rattle.auth_syntax.specs.declared.place.Place.{Place}
 use Rattle.auth_syntax.specs.declared.fault.SyntaxKind.{SyntaxKind}
 use Rattle.auth_syntax.specs.Tokens.{Token, Tokens, Next, End, Faulty, count}
-use Rattle.auth_syntax.specs.Syntax.{ParameterSyntax, DeclarationSyntax}
-use Rattle.auth_syntax.specs.Vocabulary.{fragment}
-use Rattle.auth_syntax.specs.Parsing.{Reading, Found, FaultAt, then_read, read_parameter, read_separator, read_others, read_list, read_declaration, read_declarations}
-use Rattle.auth_syntax.proofs.FewerTokens.{LeavesFewer, read_separator-tokens, read_parameter-tokens, read_declaration-tokens}
+use Rattle.auth_syntax.specs.declared.fault.Fault.{Fault}
+use Rattle.auth_syntax.specs.Syntax.{ConstructorDeclaration, DeclarationSyntax}
+use Rattle.auth_syntax.specs.Vocabulary.{Vocabulary}
+use Rattle.auth_syntax.specs.Parsing.{Reading, Found, FaultAt, then_read, read_separator, read_bar, read_arm_separator, read_others, read_list, read_expression, read_arms, read_constructor_declaration, read_constructors, read_declaration, read_declarations}
+use Rattle.auth_syntax.specs.Trees.{arms_in_a_row}
+use Rattle.auth_syntax.specs.Arms.{read_arm}
+use Rattle.auth_syntax.specs.Outcomes.{Reads}
+use Rattle.auth_syntax.proofs.Faults.{Reads-err}
+use Rattle.auth_syntax.proofs.Lists.{read_separated, read_list-is}
+use Rattle.auth_syntax.proofs.Exact.{read_constructors-is}
+use Rattle.auth_syntax.proofs.ArmsOneByOne.{arms_are_read}
+use Rattle.auth_syntax.proofs.MadeOfTokens.{IsMadeOfTokens, separator_is_token, bar_is_token, arm_separator_is_token, constructor_is_tokens, arm_is_tokens, declaration_is_tokens}
 
 -- these before those that are read
 abbrev pub followed : {A : Type 0} → List A → Reading (List A) → Reading (List A)
@@ -21,124 +30,160 @@ joined : {A : Type 0} (before : List A) (one : A) (reading : Reading (List A))
 joined before one (Found others rest) = rw append_assoc
 joined before one (FaultAt kind at) = refl
 
--- the parameters that begin some tokens
-abbrev pub parameters_at : ℕ → Tokens → Reading (List ParameterSyntax)
-parameters_at most tokens = read_list (read_parameter fragment) most tokens
-
--- The parameters that begin these tokens are those read so far, and the parameters of what is left.
-pub record IsReadSoFar (whole : Tokens) (so_far : List ParameterSyntax) (rest : Tokens) : Type 0 where
+-- How a list is read one by one: the things that begin these tokens are those read so far, and the things of what is left.
+pub record IsReadSoFar {A : Type 0} (reads : Tokens → Reading Bool) (one : Tokens → Reading A) (whole : Tokens) (so_far : List A) (rest : Tokens) : Type 0 where
   pub most : ℕ
-  pub reading : parameters_at (count whole) whole ≡ followed so_far (parameters_at most rest)
+  pub reading : read_separated reads one (count whole) whole ≡ followed so_far (read_separated reads one most rest)
   pub enough : count rest ≤ most
 
-pub read_so_far-start : (whole : Tokens) → IsReadSoFar whole [] whole
-read_so_far-start whole = record { most = count whole; reading = followed-nil (parameters_at (count whole) whole); enough = omega arith }
+pub read_so_far-start : {A : Type 0} (reads : Tokens → Reading Bool) (one : Tokens → Reading A) (whole : Tokens) → IsReadSoFar reads one whole [] whole
+read_so_far-start reads one whole =
+    record { most = count whole; reading = followed-nil (read_separated reads one (count whole) whole); enough = omega arith }
 
--- a parameter, and behind it its separator, are made of tokens
-pub parameter_is_tokens : (rest after : Tokens) (parameter : ParameterSyntax) → read_parameter fragment rest ≡ Found parameter after → count after < count rest
-parameter_is_tokens rest after parameter h = subst (LeavesFewer (count rest)) h (read_parameter-tokens (count rest) rest (omega arith))
+-- a list, where it is seen so
+abbrev pub seen : {A B : Type 0} → (List A → B) → Reading (List A) → Reading B
+seen see reading = then_read reading (λ things rest. Found (see things) rest)
 
-separator_is_token : (after behind : Tokens) (follows : Bool) → read_separator after ≡ Found follows behind → count behind < count after
-separator_is_token after behind follows h = subst (LeavesFewer (count after)) h (read_separator-tokens (count after) after (omega arith))
+seen-id : {A : Type 0} (reading : Reading (List A)) → reading ≡ seen (λ things. things) reading
+seen-id (Found things rest) = refl
+seen-id (FaultAt kind at) = refl
 
-pub separated_is_shorter : (rest after behind : Tokens) (parameter : ParameterSyntax) (follows : Bool) → read_parameter fragment rest ≡ Found parameter after
-    → read_separator after ≡ Found follows behind → count behind < count rest
-separated_is_shorter rest after behind parameter follows h h' =
-    omega (arith, parameter_is_tokens rest after parameter h, separator_is_token after behind follows h')
+-- What reads the whole list reads one thing after another, with the sign that tells whether another one follows.
+pub record IsReadByOne {A B : Type 0} (reads : Tokens → Reading Bool) (one : Tokens → Reading A) (see : List A → B) (all : Tokens → Reading B) : Type 0 where
+  pub sign_is_token : IsMadeOfTokens reads
+  pub one_is_tokens : IsMadeOfTokens one
+  pub all_is : (whole : Tokens) → all whole ≡ seen see (read_separated reads one (count whole) whole)
 
--- what is read behind a parameter, where this is read as the separator
-abbrev behind_parameter : ℕ → ParameterSyntax → Reading Bool → Reading (List ParameterSyntax)
-behind_parameter most parameter separator = then_read (read_others separator (parameters_at most)) (λ others ts. Found (parameter ∷ others) ts)
+module _ {A B : Type 0} (reads : Tokens → Reading Bool) (one : Tokens → Reading A) (see : List A → B) (all : Tokens → Reading B)
+    (by_one : IsReadByOne reads one see all) (whole : Tokens) (so_far : List A) (rest : Tokens) (h : IsReadSoFar reads one whole so_far rest) where
+  -- what is read behind a thing, where this is read as the sign
+  abbrev behind : ℕ → A → Reading Bool → Reading (List A)
+  behind most thing sign = then_read (read_others sign (read_separated reads one most)) (λ others ts. Found (thing ∷ others) ts)
 
--- what is read at the parameters left, where this is read as the first of them
-abbrev from_parameter : ℕ → Reading ParameterSyntax → Reading (List ParameterSyntax)
-from_parameter most reading = then_read reading (λ parameter ts. behind_parameter most parameter (read_separator ts))
+  -- what is read at the things left, where this is read as the first of them
+  abbrev from : ℕ → Reading A → Reading (List A)
+  from most reading = then_read reading (λ thing ts. behind most thing (reads ts))
 
--- what is read at the parameters left, where there is one more parameter
-one_more : (most : ℕ) (rest after : Tokens) (parameter : ParameterSyntax) → read_parameter fragment rest ≡ Found parameter after → count rest ≤ most
-    → (less : ℕ) × (count after ≤ less) × (parameters_at most rest ≡ behind_parameter less parameter (read_separator after))
-one_more zero rest after parameter h enough = let fewer = parameter_is_tokens rest after parameter h in absurd (omega arith)
-one_more (suc most) rest after parameter h enough =
-    let fewer = parameter_is_tokens rest after parameter h in (most, omega arith, ap (from_parameter most) h)
+  -- what is read at the things left, where there is one more
+  one_more : (most : ℕ) (after : Tokens) (thing : A) → one rest ≡ Found thing after → count rest ≤ most
+      → (less : ℕ) × (count after ≤ less) × (read_separated reads one most rest ≡ behind less thing (reads after))
+  one_more zero after thing found enough = let fewer = by_one.one_is_tokens.fewer rest after thing found in absurd (omega arith)
+  one_more (suc most) after thing found enough =
+      let fewer = by_one.one_is_tokens.fewer rest after thing found in (most, omega arith, ap (from most) found)
 
--- a parameter and a comma
-pub read_so_far-comma : (whole : Tokens) (so_far : List ParameterSyntax) (rest after behind : Tokens) (parameter : ParameterSyntax)
-    → IsReadSoFar whole so_far rest → read_parameter fragment rest ≡ Found parameter after → read_separator after ≡ Found true behind
-    → IsReadSoFar whole (so_far ++ parameter ∷ []) behind
-read_so_far-comma whole so_far rest after behind parameter h found comma =
-    let more = one_more h.most rest after parameter found h.enough in
-    record {
-      most = more.0;
-      reading = h.reading ∙ (ap (followed so_far) (more.2 ∙ ap (behind_parameter more.0 parameter) comma)
-          ∙ joined so_far parameter (parameters_at more.0 behind));
-      enough = omega (arith, more.1, separator_is_token after behind true comma);
-    }
+  -- fewer tokens are left behind a thing and its sign
+  pub one_is_shorter : (after behind_sign : Tokens) (thing : A) (follows : Bool) → one rest ≡ Found thing after → reads after ≡ Found follows behind_sign
+      → count behind_sign < count rest
+  one_is_shorter after behind_sign thing follows found sign =
+      omega (arith, by_one.one_is_tokens.fewer rest after thing found, by_one.sign_is_token.fewer after behind_sign follows sign)
 
--- a parameter and the parenthesis
-pub read_so_far-end : (whole : Tokens) (so_far : List ParameterSyntax) (rest after behind : Tokens) (parameter : ParameterSyntax)
-    → IsReadSoFar whole so_far rest → read_parameter fragment rest ≡ Found parameter after → read_separator after ≡ Found false behind
-    → parameters_at (count whole) whole ≡ Found (so_far ++ parameter ∷ []) behind
-read_so_far-end whole so_far rest after behind parameter h found closed =
-    let more = one_more h.most rest after parameter found h.enough in
-    h.reading ∙ ap (followed so_far) (more.2 ∙ ap (behind_parameter more.0 parameter) closed)
+  -- a thing and the sign that another one follows
+  pub read_so_far-more : (after behind_sign : Tokens) (thing : A) → one rest ≡ Found thing after → reads after ≡ Found true behind_sign
+      → IsReadSoFar reads one whole (so_far ++ thing ∷ []) behind_sign
+  read_so_far-more after behind_sign thing found sign =
+      let more = one_more h.most after thing found h.enough in
+      record {
+        most = more.0;
+        reading = h.reading ∙ (ap (followed so_far) (more.2 ∙ ap (behind more.0 thing) sign)
+            ∙ joined so_far thing (read_separated reads one more.0 behind_sign));
+        enough = omega (arith, more.1, by_one.sign_is_token.fewer after behind_sign true sign);
+      }
 
--- a fault stays what it is, whatever is read
-abbrev as_list : Reading ParameterSyntax → Reading (List ParameterSyntax)
-as_list reading = then_read reading (λ parameter ts. Found [] ts)
+  -- a thing and the sign that ends the list
+  pub read_so_far-end : (after behind_sign : Tokens) (thing : A) → one rest ≡ Found thing after → reads after ≡ Found false behind_sign
+      → all whole ≡ Found (see (so_far ++ thing ∷ [])) behind_sign
+  read_so_far-end after behind_sign thing found sign =
+      let more = one_more h.most after thing found h.enough in
+      by_one.all_is whole ∙ ap (seen see) (h.reading ∙ ap (followed so_far) (more.2 ∙ ap (behind more.0 thing) sign))
 
-no_more : (most : ℕ) (rest : Tokens) (kind : SyntaxKind) (at : Place) → count rest ≤ most → read_parameter fragment rest ≡ FaultAt kind at
-    → parameters_at most rest ≡ FaultAt kind at
-no_more zero (Next next token rest) kind at enough h = absurd (omega arith)
-no_more zero (End end) kind at enough h = ap as_list h
-no_more zero (Faulty next lexical) kind at enough h = ap as_list h
-no_more (suc most) rest kind at enough h = ap (from_parameter most) h
+  -- a fault stays what it is, whatever is read
+  same_fault : (other : SyntaxKind) (there : Place) (kind : SyntaxKind) (at : Place) (reading : Reading A) → reading ≡ FaultAt other there
+      → reading ≡ FaultAt kind at → ◌≡◌ {A = Reading (List A)} (FaultAt other there) (FaultAt kind at)
+  same_fault other there kind at reading is is' = ap (λ reading. then_read reading (λ thing ts. Found [] ts)) (sym is ∙ is')
 
--- no parameter
-pub read_so_far-none : (whole : Tokens) (so_far : List ParameterSyntax) (rest : Tokens) → IsReadSoFar whole so_far rest
-    → (kind : SyntaxKind) (at : Place) → read_parameter fragment rest ≡ FaultAt kind at → parameters_at (count whole) whole ≡ FaultAt kind at
-read_so_far-none whole so_far rest h kind at none = h.reading ∙ ap (followed so_far) (no_more h.most rest kind at h.enough none)
+  no_more : (most : ℕ) (rest : Tokens) (kind : SyntaxKind) (at : Place) → count rest ≤ most → one rest ≡ FaultAt kind at
+      → read_separated reads one most rest ≡ FaultAt kind at
+  no_more zero (Next next token rest) kind at enough none = absurd (omega arith)
+  no_more zero (End end) kind at enough none = same_fault _ _ kind at _ (by_one.one_is_tokens.at_end end) none
+  no_more zero (Faulty next lexical) kind at enough none = same_fault _ _ kind at _ (by_one.one_is_tokens.at_fault next lexical) none
+  no_more (suc most) rest kind at enough none = ap (from most) none
 
--- neither stands behind a parameter
-pub read_so_far-other : (whole : Tokens) (so_far : List ParameterSyntax) (rest after : Tokens) (parameter : ParameterSyntax)
-    → IsReadSoFar whole so_far rest → read_parameter fragment rest ≡ Found parameter after
-    → (kind : SyntaxKind) (at : Place) → read_separator after ≡ FaultAt kind at → parameters_at (count whole) whole ≡ FaultAt kind at
-read_so_far-other whole so_far rest after parameter h found kind at other =
-    let more = one_more h.most rest after parameter found h.enough in
-    h.reading ∙ ap (followed so_far) (more.2 ∙ ap (behind_parameter more.0 parameter) other)
+  -- no thing
+  pub read_so_far-none : {C D : Type 0} (view : C → A) (view_all : D → B) (left left' : Tokens) (fault : Fault) → Reads view (one rest) (Err fault) left
+      → Reads view_all (all whole) (Err fault) left'
+  read_so_far-none view view_all left left' fault =
+      Reads-err view view_all (one rest) (all whole) left left' fault
+      (λ kind at none. by_one.all_is whole ∙ ap (seen see) (h.reading ∙ ap (followed so_far) (no_more h.most rest kind at h.enough none)))
+
+  -- no sign stands behind a thing
+  pub read_so_far-other : {D : Type 0} (view_all : D → B) (after : Tokens) (thing : A) → one rest ≡ Found thing after → (left left' : Tokens) (fault : Fault)
+      → Reads (λ follows. follows) (reads after) (Err fault) left → Reads view_all (all whole) (Err fault) left'
+  read_so_far-other view_all after thing found left left' fault =
+      let more = one_more h.most after thing found h.enough in
+      Reads-err (λ follows. follows) view_all (reads after) (all whole) left left' fault
+      (λ kind at other. by_one.all_is whole ∙ ap (seen see) (h.reading ∙ ap (followed so_far) (more.2 ∙ ap (behind more.0 thing) other)))
+
+-- the lists of the grammar: with commas, with bars, and arms
+pub listed_by_one : {A : Type 0} (one : Tokens → Reading A) → IsMadeOfTokens one
+    → IsReadByOne read_separator one (λ things. things) (λ tokens. read_list one (count tokens) tokens)
+listed_by_one {A} one is_tokens = record {
+  sign_is_token = separator_is_token;
+  one_is_tokens = is_tokens;
+  all_is = λ whole.
+      ap (λ (read : Tokens → Reading (List A)). read whole) (read_list-is one (count whole))
+      ∙ seen-id (read_separated read_separator one (count whole) whole);
+}
+
+module _ (words : Vocabulary) where
+  pub constructors_by_one : IsReadByOne read_bar (read_constructor_declaration words) (λ things. things) (λ tokens. read_constructors words (count tokens) tokens)
+  constructors_by_one = record {
+    sign_is_token = bar_is_token;
+    one_is_tokens = constructor_is_tokens words;
+    all_is = λ whole.
+        ap (λ (read : Tokens → Reading (List ConstructorDeclaration)). read whole) (read_constructors-is words (count whole))
+        ∙ seen-id (read_separated read_bar (read_constructor_declaration words) (count whole) whole);
+  }
+
+  pub arms_by_one : (levels : ℕ)
+      → IsReadByOne read_arm_separator (read_arm (read_expression words levels)) arms_in_a_row (λ tokens. read_arms (read_expression words levels) (count tokens) tokens)
+  arms_by_one levels = record {
+    sign_is_token = arm_separator_is_token;
+    one_is_tokens = arm_is_tokens words levels;
+    all_is = λ whole. arms_are_read (read_expression words levels) (count whole) whole;
+  }
+
+-- what is pushed stands behind the others
+pub pushed : {A B : Type 0} (view : A → B) (before after : List A) (thing : A) → after ≡ before ++ thing ∷ [] → map view after ≡ map view before ++ view thing ∷ []
+pushed view before after thing e = ap (map view) e ∙ map-append view before (thing ∷ [])
 
 -- The declarations that these tokens are are those read so far, and the declarations of what is left.
-pub record AreDeclaredSoFar (whole : Tokens) (so_far : List DeclarationSyntax) (rest : Tokens) : Type 0 where
+pub record AreDeclaredSoFar (words : Vocabulary) (whole : Tokens) (so_far : List DeclarationSyntax) (rest : Tokens) : Type 0 where
   pub most : ℕ
-  pub reading : read_declarations fragment (count whole) whole ≡ followed so_far (read_declarations fragment most rest)
+  pub reading : read_declarations words (count whole) whole ≡ followed so_far (read_declarations words most rest)
   pub enough : count rest ≤ most
 
-pub declared_so_far-start : (whole : Tokens) → AreDeclaredSoFar whole [] whole
-declared_so_far-start whole =
-    record { most = count whole; reading = followed-nil (read_declarations fragment (count whole) whole); enough = omega arith }
+module _ (words : Vocabulary) (whole : Tokens) where
+  pub declared_so_far-start : AreDeclaredSoFar words whole [] whole
+  declared_so_far-start =
+      record { most = count whole; reading = followed-nil (read_declarations words (count whole) whole); enough = omega arith }
 
--- a declaration is made of tokens
-pub declaration_is_tokens : (rest after : Tokens) (declaration : DeclarationSyntax) → read_declaration fragment rest ≡ Found declaration after
-    → count after < count rest
-declaration_is_tokens rest after declaration h =
-    subst (LeavesFewer (count rest)) h (read_declaration-tokens (count rest) rest (omega arith))
+  -- what is read at the declarations left, where this is read as the first of them
+  abbrev from_declaration : ℕ → Reading DeclarationSyntax → Reading (List DeclarationSyntax)
+  from_declaration most reading =
+      then_read reading (λ declaration ts. then_read (read_declarations words most ts) (λ others ts. Found (declaration ∷ others) ts))
 
--- what is read at the declarations left, where this is read as the first of them
-abbrev from_declaration : ℕ → Reading DeclarationSyntax → Reading (List DeclarationSyntax)
-from_declaration most reading =
-    then_read reading (λ declaration ts. then_read (read_declarations fragment most ts) (λ others ts. Found (declaration ∷ others) ts))
-
--- one more declaration
-pub declared_so_far-more : (whole : Tokens) (so_far : List DeclarationSyntax) (at : Place) (token : Token) (rest after : Tokens) (declaration : DeclarationSyntax)
-    → AreDeclaredSoFar whole so_far (Next at token rest) → read_declaration fragment (Next at token rest) ≡ Found declaration after
-    → AreDeclaredSoFar whole (so_far ++ declaration ∷ []) after
-declared_so_far-more whole so_far at token rest after declaration h found = more h.most h.reading h.enough where
-  more : (most : ℕ) → read_declarations fragment (count whole) whole ≡ followed so_far (read_declarations fragment most (Next at token rest))
-      → count (Next at token rest) ≤ most → AreDeclaredSoFar whole (so_far ++ declaration ∷ []) after
-  more zero reading enough = absurd (omega arith)
-  more (suc most) reading enough =
-      let fewer = declaration_is_tokens (Next at token rest) after declaration found in
-      record {
-        most = most;
-        reading = reading ∙ (ap (followed so_far) (ap (from_declaration most) found) ∙ joined so_far declaration (read_declarations fragment most after));
-        enough = omega arith;
-      }
+  -- one more declaration
+  pub declared_so_far-more : (so_far : List DeclarationSyntax) (at : Place) (token : Token) (rest after : Tokens) (declaration : DeclarationSyntax)
+      → AreDeclaredSoFar words whole so_far (Next at token rest) → read_declaration words (Next at token rest) ≡ Found declaration after
+      → AreDeclaredSoFar words whole (so_far ++ declaration ∷ []) after
+  declared_so_far-more so_far at token rest after declaration h found = more h.most h.reading h.enough where
+    more : (most : ℕ) → read_declarations words (count whole) whole ≡ followed so_far (read_declarations words most (Next at token rest))
+        → count (Next at token rest) ≤ most → AreDeclaredSoFar words whole (so_far ++ declaration ∷ []) after
+    more zero reading enough = absurd (omega arith)
+    more (suc most) reading enough =
+        let fewer = declaration_is_tokens words (Next at token rest) after declaration found in
+        record {
+          most = most;
+          reading = reading ∙ (ap (followed so_far) (ap (from_declaration most) found) ∙ joined so_far declaration (read_declarations words most after));
+          enough = omega arith;
+        }

@@ -7,9 +7,12 @@ all_escaped_append : (xs ys : List ℕ) → all_escaped (xs ++ ys) ≡ all_escap
 all_escaped_append [] ys = refl
 all_escaped_append (x ∷ xs) ys = ap (λ zs. escaped x ++ zs) (all_escaped_append xs ys) ∙ sym (append_assoc (escaped x) (all_escaped xs) (all_escaped ys))
 
--- with the next byte
-pub all_escaped_more : (bytes : List ℕ) (i : ℕ) → i < length bytes → all_escaped (take (i + 1) bytes) ≡ all_escaped (take i bytes) ++ escaped (get_or bytes i 0)
-all_escaped_more bytes i h =
-    ap all_escaped (take_more bytes i 0 h)
+-- behind some bytes, with the next byte of a text
+pub all_escaped_more : (before bytes : List ℕ) (i : ℕ) → i < length bytes
+    → before ++ all_escaped (take (i + 1) bytes) ≡ before ++ all_escaped (take i bytes) ++ escaped (get_or bytes i 0)
+all_escaped_more before bytes i h =
+    ap (λ zs. before ++ zs)
+    (ap all_escaped (take_more bytes i 0 h)
     ∙ all_escaped_append (take i bytes) (get_or bytes i 0 ∷ [])
-    ∙ ap (λ zs. all_escaped (take i bytes) ++ zs) (append-nil (escaped (get_or bytes i 0)))
+    ∙ ap (λ zs. all_escaped (take i bytes) ++ zs) (append-nil (escaped (get_or bytes i 0))))
+    ∙ sym (append_assoc before (all_escaped (take i bytes)) (escaped (get_or bytes i 0)))

@@ -1,44 +1,71 @@
--- The tokens of printed values.
-use Rattle.std.proofs.Common.{◌++◌, ◌/◌, ◌%◌, ◌*◌, Bool, Option, Some, None, unwrap_or, slice_index, nat_le, codes, IsUtf8, sym, subst, append_assoc, length-append, le-leb, lt-ltb, ltb-true, eqb-true, ◌≡◌, ℕ, zero, suc, ◌+◌, ◌-◌, ◌<◌, ◌≤◌, ◌^◌, ◌==◌, true, false, List, [], ◌∷◌, length, take, pos, negsuc, nat_lt, if◌then◌else◌, refl, ap, ◌∙◌, arith}
+-- Tokens as they are printed, at the head of a text.
+use Rattle.std.proofs.Common.{◌++◌, ◌/◌, ◌%◌, ◌*◌, Bool, Option, Some, None, unwrap_or, slice_index, nat_le, codes, IsUtf8, sym, subst, append_assoc, length-append, ◌&&◌, le-leb, lt-ltb, ltb-true, eqb-true, ◌≡◌, ℕ, zero, suc, ◌+◌, ◌<◌, ◌≤◌, ◌^◌, ◌==◌, true, false, List, [], ◌∷◌, length, take, pos, negsuc, nat_lt, if◌then◌else◌, refl, ap, ap₂, ◌∙◌, arith}
 use Rattle.std.specs.Char.{is_ascii_digit, is_ascii_lowercase, is_ascii_uppercase, digit_value}
-use Rattle.std.specs.List.{prefix_len}
+use Rattle.std.specs.List.{prefix_len, list_all}
 use Rattle.std.specs.Str.Parse.{AllDigits, IsNumeral, digits_value}
 use Rattle.std.proofs.lemmas.Bool.{agree_below_at}
 use Rattle.std.proofs.lemmas.Str.{is_utf8-from_IsUtf8}
-use Rattle.std.proofs.lemmas.List.{take_all}
+use Rattle.std.proofs.lemmas.List.{append-nil}
+use Rattle.std.proofs.Math.Seq.{take-append_seam, drop-append_seam}
 use Rattle.std.proofs.lemmas.Str.Parse.{digit_from_value}
 use Rattle.auth_syntax.specs.declared.place.Place.{Place}
 use Rattle.auth_syntax.specs.declared.fault.LexicalFault.TheVariants.{NumberRange, TextLong, Utf8}
-use Rattle.auth_syntax.specs.Places.{start, behind_byte}
+use Rattle.auth_syntax.specs.Places.{start, behind}
 use Rattle.hex.specs.Hex.{encode_lower, encode_with, lower_digits}
 use Rattle.auth_syntax.specs.PrintedValues.{all_escaped, escaped, quoted_text}
-use Rattle.auth_syntax.specs.Tokens.{Closed, TextToken, hex_digit, is_control, put, quoted_behind, text_limit, text_piece, Token, IntToken, Next, End, Taken, Wrong, digits_of, first_piece, from_piece, int_piece, is_blank, minus_piece, negative, tokens, tokens_behind}
+use Rattle.auth_syntax.specs.Tokens.{Closed, TextToken, hex_digit, is_control, put, quoted_behind, text_limit, text_piece, Token, IntToken, Next, End, Taken, Wrong, digits_of, first_piece, int_piece, is_blank, minus_piece, negative, is_name_byte, tokens, tokens_from}
+use Rattle.auth_syntax.specs.PieceViews.{head_piece}
+use Rattle.auth_syntax.proofs.TokenLemmas.{tokens-taken}
+use Rattle.auth_syntax.proofs.NumberLemmas.{both_true}
 
--- bytes that all belong to the piece before
-passed : (bytes : List ℕ) (n : ℕ) (at : Place) → length bytes ≤ n → (end : Place) × (tokens_behind n at bytes ≡ End end)
-passed [] n at h = (at, refl)
-passed (b ∷ bytes) zero at h = absurd (omega arith)
-passed (b ∷ bytes) (suc n) at h = passed bytes n (behind_byte at b) (omega arith)
+-- no byte that goes on with a name stands first
+abbrev pub IsParted : List ℕ → Type 0
+IsParted [] = Unit {0}
+IsParted (b ∷ rest) = is_name_byte b ≡ false
+
+-- these bytes are a token at the head of a text
+abbrev pub IsHeadToken : List ℕ → Token → List ℕ → Type 0
+IsHeadToken bytes token rest = head_piece (bytes ++ rest) ≡ Some (Taken token (length bytes))
+
+-- a text that begins with a token has this token first
+pub token_read : (bytes : List ℕ) (token : Token) (rest : List ℕ) (at : Place) → IsHeadToken bytes token rest
+    → tokens_from at (bytes ++ rest) ≡ Next at token (tokens_from (behind at bytes) rest)
+token_read bytes token rest at e =
+    tokens-taken (bytes ++ rest) at token (length bytes) (sym e)
+    ∙ ap₂ (λ before others. Next at token (tokens_from (behind at before) others)) (take-append_seam bytes rest) (drop-append_seam bytes rest)
 
 -- a text is one token
 abbrev pub IsOneToken : List ℕ → Token → Type 0
 IsOneToken text token = (end : Place) × (tokens text ≡ Next start token (End end))
 
-whole_token : (b : ℕ) (rest : List ℕ) (token : Token) → first_piece b rest ≡ Taken token (length (b ∷ rest)) → IsOneToken (b ∷ rest) token
-whole_token b rest token e =
-    let past = passed rest (length (b ∷ rest) - 1) (behind_byte start b) (omega arith) in
-    (past.0, ap (λ piece. from_piece piece start (b ∷ rest) (λ size. tokens_behind (size - 1) (behind_byte start b) rest)) e ∙ ap (λ ts. Next start token ts) past.1)
+pub one_token : (text : List ℕ) (token : Token) → IsHeadToken text token [] → IsOneToken text token
+one_token text token e = (behind start text, ap tokens (sym (append-nil text)) ∙ token_read text token [] start e)
+
+-- a run of bytes that pass a test ends where others stand
+run_is : (p : ℕ → Bool) (bytes rest : List ℕ) → list_all p bytes ≡ true → ((b : ℕ) → is_name_byte b ≡ false → p b ≡ false) → IsParted rest
+    → prefix_len p (bytes ++ rest) ≡ length bytes
+run_is p [] [] h stops parted = refl
+run_is p [] (b ∷ rest) h stops parted = ap (λ t. if t then 1 + prefix_len p rest else zero) (stops b parted)
+run_is p (b ∷ bytes) rest h stops parted =
+    ap (λ t. if t then 1 + prefix_len p (bytes ++ rest) else zero) (both_true (p b) (list_all p bytes) h).0
+    ∙ (let more = run_is p bytes rest (both_true (p b) (list_all p bytes) h).1 stops parted in omega arith)
+
+pub run_taken : (p : ℕ → Bool) (bytes rest : List ℕ) → list_all p bytes ≡ true → ((b : ℕ) → is_name_byte b ≡ false → p b ≡ false) → IsParted rest
+    → take (prefix_len p (bytes ++ rest)) (bytes ++ rest) ≡ bytes
+run_taken p bytes rest h stops parted = ap (λ n. take n (bytes ++ rest)) (run_is p bytes rest h stops parted) ∙ take-append_seam bytes rest
 
 is_digit : (c : ℕ) → digit_value c < 10 → is_ascii_digit c ≡ true
 is_digit c h = grind (arith, digit_from_value)
 
--- digits alone are all in the run of digits
-all_in_run : (ds : List ℕ) → AllDigits 10 ds → prefix_len is_ascii_digit ds ≡ length ds
-all_in_run [] h = refl
-all_in_run (d ∷ ds) h = ap (λ b. if b then 1 + prefix_len is_ascii_digit ds else zero) (is_digit d h.0) ∙ (let more = all_in_run ds h.1 in omega arith)
+all_digits : (ds : List ℕ) → AllDigits 10 ds → list_all is_ascii_digit ds ≡ true
+all_digits [] h = refl
+all_digits (d ∷ ds) h = ap (λ t. t && list_all is_ascii_digit ds) (is_digit d h.0) ∙ all_digits ds h.1
 
-run_of_digits : (ds : List ℕ) → AllDigits 10 ds → digits_of ds ≡ ds
-run_of_digits ds h = ap (λ n. take n ds) (all_in_run ds h) ∙ take_all (length ds) ds (omega arith)
+stops_digits : (b : ℕ) → is_name_byte b ≡ false → is_ascii_digit b ≡ false
+stops_digits b h = grind (arith)
+
+run_of_digits : (ds rest : List ℕ) → AllDigits 10 ds → IsParted rest → digits_of (ds ++ rest) ≡ ds
+run_of_digits ds rest h parted = run_taken is_ascii_digit ds rest (all_digits ds h) stops_digits parted
 
 -- a digit is nothing that is asked for before it
 no_blank : (b : ℕ) → is_ascii_digit b ≡ true → is_blank b ≡ false
@@ -59,28 +86,30 @@ no_arrow b h = grind (arith)
 first_digit : (b : ℕ) (rest : List ℕ) → is_ascii_digit b ≡ true → first_piece b rest ≡ int_piece false (digits_of (b ∷ rest)) (length (digits_of (b ∷ rest)))
 first_digit b rest h = rw (no_blank b h, no_comment b h, no_small b h, no_capital b h, h) refl
 
--- the digits of a number are one token
-pub whole_int : (ds : List ℕ) (n : ℕ) → IsNumeral 10 ds → digits_value 10 ds ≡ n → nat_lt n (2 ^ 63) ≡ true → IsOneToken ds (IntToken (pos n))
-whole_int [] n h value fits = absurd (omega (arith, h.0))
-whole_int (b ∷ rest) n h value fits =
-    whole_token b rest (IntToken (pos n))
-    (first_digit b rest (is_digit b h.1.0)
-    ∙ ap (λ ds. int_piece false ds (length ds)) (run_of_digits (b ∷ rest) h.1)
-    ∙ ap (λ n. if nat_lt n (2 ^ 63) then Taken (IntToken (pos n)) (length (b ∷ rest)) else Wrong NumberRange 0) value
-    ∙ ap (λ test. if test then Taken (IntToken (pos n)) (length (b ∷ rest)) else Wrong NumberRange 0) fits)
+-- the digits of a number are a token
+pub int_at_head : (ds : List ℕ) (n : ℕ) (rest : List ℕ) → IsNumeral 10 ds → digits_value 10 ds ≡ n → nat_lt n (2 ^ 63) ≡ true → IsParted rest
+    → IsHeadToken ds (IntToken (pos n)) rest
+int_at_head [] n rest h value fits parted = absurd (omega (arith, h.0))
+int_at_head (b ∷ ds) n rest h value fits parted =
+    ap (λ piece. Some piece)
+    (first_digit b (ds ++ rest) (is_digit b h.1.0)
+    ∙ ap (λ digits. int_piece false digits (length digits)) (run_of_digits (b ∷ ds) rest h.1 parted)
+    ∙ ap (λ n. if nat_lt n (2 ^ 63) then Taken (IntToken (pos n)) (length (b ∷ ds)) else Wrong NumberRange 0) value
+    ∙ ap (λ test. if test then Taken (IntToken (pos n)) (length (b ∷ ds)) else Wrong NumberRange 0) fits)
 
 -- and so they are behind a minus
-behind_minus : (ds : List ℕ) → IsNumeral 10 ds → minus_piece ds ≡ int_piece true (digits_of ds) (length (digits_of ds) + 1)
-behind_minus [] h = absurd (omega (arith, h.0))
-behind_minus (d ∷ ds) h = let digit = is_digit d h.1.0 in rw (no_arrow d digit, digit) refl
+behind_minus : (ds rest : List ℕ) → IsNumeral 10 ds → minus_piece (ds ++ rest) ≡ int_piece true (digits_of (ds ++ rest)) (length (digits_of (ds ++ rest)) + 1)
+behind_minus [] rest h = absurd (omega (arith, h.0))
+behind_minus (d ∷ ds) rest h = let digit = is_digit d h.1.0 in rw (no_arrow d digit, digit) refl
 
-pub whole_negative : (ds : List ℕ) (n : ℕ) → IsNumeral 10 ds → digits_value 10 ds ≡ suc n → nat_lt n (2 ^ 63) ≡ true → IsOneToken (45 ∷ ds) (IntToken (negsuc n))
-whole_negative ds n h value fits =
+pub negative_at_head : (ds : List ℕ) (n : ℕ) (rest : List ℕ) → IsNumeral 10 ds → digits_value 10 ds ≡ suc n → nat_lt n (2 ^ 63) ≡ true → IsParted rest
+    → IsHeadToken (45 ∷ ds) (IntToken (negsuc n)) rest
+negative_at_head ds n rest h value fits parted =
     let small : suc n ≤ 2 ^ 63 = omega (arith, ltb-true n (2 ^ 63) fits) in
     let size : length ds + 1 ≡ suc (length ds) = omega arith in
-    whole_token 45 ds (IntToken (negsuc n))
-    (behind_minus ds h
-    ∙ ap (λ ds. int_piece true ds (length ds + 1)) (run_of_digits ds h.1)
+    ap (λ piece. Some piece)
+    (behind_minus ds rest h
+    ∙ ap (λ digits. int_piece true digits (length digits + 1)) (run_of_digits ds rest h.1 parted)
     ∙ ap (λ n. if nat_le n (2 ^ 63) then Taken (IntToken (negative n)) (length ds + 1) else Wrong NumberRange 0) value
     ∙ ap (λ test. if test then Taken (IntToken (negsuc n)) (length ds + 1) else Wrong NumberRange 0) (le-leb (suc n) (2 ^ 63) small)
     ∙ ap (Taken (IntToken (negsuc n))) size)
@@ -127,21 +156,22 @@ by_tests b false false false false false eq es en et ec = plain_back b eq es ec 
 read_escaped : (b : ℕ) → IsReadBack b
 read_escaped b = by_tests b (b == 34) (b == 92) (b == 10) (b == 9) (is_control b) refl refl refl refl refl
 
-read_all : (bytes : List ℕ) (offset : ℕ) → quoted_behind zero offset (all_escaped bytes ++ codes "\"") ≡ Closed bytes (offset + length (all_escaped bytes) + 1)
-read_all [] offset = ap (Closed []) (omega arith)
-read_all (b ∷ bytes) offset =
+read_all : (bytes : List ℕ) (offset : ℕ) (rest : List ℕ) → quoted_behind zero offset (all_escaped bytes ++ 34 ∷ rest) ≡ Closed bytes (offset + length (all_escaped bytes) + 1)
+read_all [] offset rest = ap (Closed []) (omega arith)
+read_all (b ∷ bytes) offset rest =
     let size : offset + length (escaped b) + length (all_escaped bytes) + 1 ≡ offset + length (escaped b ++ all_escaped bytes) + 1 = omega (arith, length-append (escaped b) (all_escaped bytes)) in
-    ap (quoted_behind zero offset) (append_assoc (escaped b) (all_escaped bytes) (codes "\""))
-    ∙ read_escaped b offset (all_escaped bytes ++ codes "\"")
-    ∙ ap (put b) (read_all bytes (offset + length (escaped b)))
+    ap (quoted_behind zero offset) (append_assoc (escaped b) (all_escaped bytes) (34 ∷ rest))
+    ∙ read_escaped b offset (all_escaped bytes ++ 34 ∷ rest)
+    ∙ ap (put b) (read_all bytes (offset + length (escaped b)) rest)
     ∙ ap (Closed (b ∷ bytes)) size
 
--- a text in quotes is one token
-pub whole_text : (bytes : List ℕ) → IsUtf8 bytes → length bytes ≤ text_limit → IsOneToken (quoted_text bytes) (TextToken bytes)
-whole_text bytes utf8 short =
+-- a text in quotes is a token, whatever stands behind it
+pub text_at_head : (bytes rest : List ℕ) → IsUtf8 bytes → length bytes ≤ text_limit → IsHeadToken (quoted_text bytes) (TextToken bytes) rest
+text_at_head bytes rest utf8 short =
     let size : 1 + length (all_escaped bytes) + 1 ≡ suc (length (all_escaped bytes ++ codes "\"")) = omega (arith, length-append (all_escaped bytes) (codes "\"")) in
-    whole_token 34 (all_escaped bytes ++ codes "\"") (TextToken bytes)
-    (ap text_piece (read_all bytes 1)
+    ap (λ piece. Some piece)
+    (ap (λ others. text_piece (quoted_behind zero 1 others)) (append_assoc (all_escaped bytes) (codes "\"") rest)
+    ∙ ap text_piece (read_all bytes 1 rest)
     ∙ ap (λ test. if test then (if nat_le (length bytes) text_limit then Taken (TextToken bytes) (1 + length (all_escaped bytes) + 1) else Wrong TextLong 0) else Wrong Utf8 0) (is_utf8-from_IsUtf8 bytes utf8)
     ∙ ap (λ test. if test then Taken (TextToken bytes) (1 + length (all_escaped bytes) + 1) else Wrong TextLong 0) (le-leb (length bytes) text_limit short)
     ∙ ap (Taken (TextToken bytes)) size)

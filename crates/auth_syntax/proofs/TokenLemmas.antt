@@ -36,10 +36,10 @@ either_part n true x y first other = first refl
 either_part n false x y first other = other refl
 
 -- what the tests of bytes say of one another
-small_is_name_byte : (b : ℕ) → is_ascii_lowercase b ≡ true → is_name_byte b ≡ true
+pub small_is_name_byte : (b : ℕ) → is_ascii_lowercase b ≡ true → is_name_byte b ≡ true
 small_is_name_byte b h = grind (arith, nat_tests)
 
-capital_is_name_byte : (b : ℕ) → is_ascii_uppercase b ≡ true → is_name_byte b ≡ true
+pub capital_is_name_byte : (b : ℕ) → is_ascii_uppercase b ≡ true → is_name_byte b ≡ true
 capital_is_name_byte b h = grind (arith, nat_tests)
 
 hash_is_in_line : (b : ℕ) → (b == 35) ≡ true → is_in_line b ≡ true

@@ -5,6 +5,8 @@ pub mod Vocabulary
 pub mod Grammar
 pub mod Parsing
 pub mod Trees
+pub mod Arms
+pub mod LanguageViews
 pub mod TokenViews
 pub mod PieceViews
 pub mod Outcomes
@@ -13,6 +15,11 @@ pub mod Literals
 pub mod LiteralAnswers
 pub mod LiteralValues
 pub mod PrintedValues
+pub mod PrintedPrograms
+pub mod LineViews
+pub mod WithoutPlaces
 pub mod Laws
 pub mod PrintedLaws
+pub mod PrintedProgramLaws
+pub mod LiteralLaws
 pub mod FirstFaults

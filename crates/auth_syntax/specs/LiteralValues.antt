@@ -5,7 +5,7 @@ use Rattle.core_terms.specs.Values.{Value, UnitV, BoolV, IntV, TextV}
 use Rattle.core_terms.specs.Terms.{Program}
 use Rattle.core_terms.specs.Texts.{bytes_of}
 use Rattle.auth_syntax.specs.Tokens.{Tokens}
-use Rattle.auth_syntax.specs.Literals.{LiteralReading, Means, FaultAt, FirstFault, spelled_within, literal}
+use Rattle.auth_syntax.specs.Literals.{LiteralReading, Means, FaultAt, FirstFault, value_within, literal}
 use Rattle.auth_syntax.specs.declared.fault.SyntaxKind.{SyntaxKind}
 use Rattle.auth_syntax.specs.declared.fault.SyntaxKind.TheVariants as syntax
 use Rattle.auth_syntax.specs.declared.fault.Fault.{Fault}
@@ -46,8 +46,8 @@ ReadsPart view reading (Ok value) rest = reading ≡ Means (view value) rest
 ReadsPart view reading (Err (At kind at)) rest = reading ≡ FaultAt (literal_kind kind) at.offset
 ReadsPart view reading (Err NoMemory) rest = ⊤
 
--- Ok gives the value of the whole text, whose spelling is still to be made; a refusal gives the first fault
+-- Ok gives the value of the whole text, whose spelling may still be too long; a refusal gives the first fault
 abbrev pub ReadsWhole : Program → Ty → List ℕ → Result LiteralValue Fault → Type 0
-ReadsWhole P t text (Ok value) = literal P t text ≡ spelled_within P.format.limit P.types t (value_of value)
+ReadsWhole P t text (Ok value) = literal P t text ≡ value_within P.format.limit P.types t (value_of value)
 ReadsWhole P t text (Err (At kind at)) = literal P t text ≡ FirstFault (literal_kind kind) at.offset
 ReadsWhole P t text (Err NoMemory) = ⊤

@@ -3,7 +3,6 @@ use Rattle.std.specs.Prelude.{ℕ, zero, suc, true, false, List, [], ◌∷◌, 
 use Rattle.core_terms.specs.Types.{Ty, UnitTy, BoolTy, IntTy, TextTy, PairTy, NamedTy, AuthTy, Table, fields_at}
 use Rattle.core_terms.specs.Formats.{depth_limit}
 use Rattle.core_terms.specs.Values.{Value, UnitV, BoolV, IntV, TextV, PairV, ConV, Values, NoV, AndV, size}
-use Rattle.core_terms.specs.Spelling.{spelling}
 use Rattle.core_terms.specs.Terms.{Program}
 use Rattle.auth_syntax.specs.Tokens.{KeywordToken, MarkToken, UpperToken, IntToken, TextToken, Tokens, Next, End, Faulty, tokens}
 use Rattle.auth_syntax.specs.Parsing.{is_mark}
@@ -118,9 +117,9 @@ module _ (types : Table) (names : ConstructorNames) where
   literal_of (suc levels) (NamedTy number) tokens = constructor_literal (literal_of levels) number tokens
   literal_of (suc levels) (AuthTy t) tokens = mismatch tokens
 
--- what a text gives as a literal: the spelling of its value, or its first fault with its offset
+-- what a text gives as a literal: its value, or its first fault with its offset
 pub data Literal : Type 0 where
-  Spelled : (bytes : List ℕ) → Literal
+  IsValue : (v : Value) → Literal
   FirstFault : (kind : LiteralKind) (offset : ℕ) → Literal
 
 -- the end of the text stands there; else there is a token behind the whole
@@ -130,12 +129,12 @@ at_end (End at) literal = literal
 at_end (Faulty at kind) literal = FirstFault (Lexical kind) at.offset
 
 module _ (limit : ℕ) (types : Table) where
-  -- the spelling of a value, which has at most so many bytes
-  abbrev pub spelled_within : Ty → Value → Literal
-  spelled_within t v = if nat_le (size types t v) limit then Spelled (spelling v) else FirstFault TooBig 0
+  -- a value whose spelling has at most so many bytes
+  abbrev pub value_within : Ty → Value → Literal
+  value_within t v = if nat_le (size types t v) limit then IsValue v else FirstFault TooBig 0
 
   abbrev pub whole_literal : Ty → LiteralReading Value → Literal
-  whole_literal t (Means v rest) = at_end rest (spelled_within t v)
+  whole_literal t (Means v rest) = at_end rest (value_within t v)
   whole_literal t (FaultAt kind offset) = FirstFault kind offset
 
 -- a text as a literal of a type of a program, whose constructors have these names

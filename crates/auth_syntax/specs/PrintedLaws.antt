@@ -2,10 +2,9 @@
 use Rattle.std.specs.Prelude.{◌≡◌}
 use Rattle.core_terms.specs.Types.{Ty, UnitTy, BoolTy, IntTy, TextTy}
 use Rattle.core_terms.specs.Values.{Value, IsShallow}
-use Rattle.core_terms.specs.Spelling.{spelling}
 use Rattle.core_terms.specs.Terms.{Program}
 use Rattle.core_terms.specs.Projection.{Fits}
-use Rattle.auth_syntax.specs.Literals.{literal, Spelled}
+use Rattle.auth_syntax.specs.Literals.{literal, IsValue}
 use Rattle.auth_syntax.specs.PrintedValues.{value_text}
 
 -- a type without parts
@@ -20,4 +19,4 @@ HasNoParts t = ⊥
 -- first format.
 abbrev pub PrintedIsReadBack : Type 0
 PrintedIsReadBack = (P : Program) → P.format.limit ≡ 65536 → (t : Ty) (v : Value) → HasNoParts t → IsShallow P.types t v → Fits P t v
-    → literal P t (value_text t v) ≡ Spelled (spelling v)
+    → literal P t (value_text t v) ≡ IsValue v

@@ -1,8 +1,9 @@
 -- The tokens that a parser has still to read.
-use Rattle.std.specs.Prelude.{◌≡◌, Result, Ok, Err, ⊤}
-use Rattle.auth_syntax.specs.Tokens.{Tokens, Next, End, Faulty}
+use Rattle.std.specs.Prelude.{◌≡◌, Bool, true, false, Result, Ok, Err, ⊤, if◌then◌else◌}
+use Rattle.auth_syntax.specs.declared.token.Mark.{Mark}
+use Rattle.auth_syntax.specs.Tokens.{MarkToken, Tokens, Next, End, Faulty}
 use Rattle.auth_syntax.specs.TokenViews.{token_view, tokens_left}
-use Rattle.auth_syntax.specs.Parsing.{Reading, Found, FaultAt}
+use Rattle.auth_syntax.specs.Parsing.{Reading, Found, FaultAt, is_mark}
 use Rattle.auth_syntax.specs.declared.fault.Fault.{Fault}
 use Rattle.auth_syntax.specs.declared.fault.Fault.TheVariants.{At, NoMemory}
 use Rattle.auth_syntax.specs.declared.fault.SyntaxKind.TheVariants.{Lexical, Expected, TooNested}
@@ -25,3 +26,8 @@ abbrev pub read_end : Tokens → Reading (Unit {0})
 read_end (Next at token rest) = FaultAt Expected at
 read_end (End at) = Found tt (End at)
 read_end (Faulty at kind) = FaultAt (Lexical kind) at
+
+-- whether this mark stands at the head; where it does, it is taken
+abbrev pub read_if_mark : Mark → Tokens → Reading Bool
+read_if_mark wanted (Next at (MarkToken found) rest) = if is_mark wanted found then Found true rest else Found false (Next at (MarkToken found) rest)
+read_if_mark wanted tokens = Found false tokens

@@ -3,7 +3,7 @@
 mod numbers;
 mod pieces;
 mod texts;
-mod words;
+pub(crate) mod words;
 
 ghost use Rattle.std.specs.Prelude.{◌≡◌, ◌≤◌, IfOk, length, take, drop};
 ghost use Rattle.auth_syntax.specs.Places.{behind, HasRoom};
@@ -23,8 +23,8 @@ pub(crate) enum Lexeme<'a> {
     Fault(Place, LexicalFault),
 }
 
-/// A text that is read token by token: what is left of it, and the place of that.
-#[derive(Drop)]
+/// A text that is read token by token: what is left of it, and the place of that. A copy reads ahead.
+#[derive(Clone, Copy)]
 pub(crate) struct Lexer<'a> {
     rest: &'a [u8],
     at: Place,

@@ -8,7 +8,7 @@ ghost use Rattle.core_terms.specs.Programs.{meaning, types_of};
 ghost use Rattle.core_terms.specs.Spelling.{spelling};
 ghost use Rattle.core_terms.specs.TypeTables.{type_at};
 ghost use Rattle.core_terms.specs.Values.{size};
-ghost use Rattle.auth_syntax.specs.Literals.{behind_mark, unit_literal, bool_literal, int_literal, text_literal, mismatch, literal_of, no_constructors, spelled_within, literal};
+ghost use Rattle.auth_syntax.specs.Literals.{behind_mark, unit_literal, bool_literal, int_literal, text_literal, mismatch, literal_of, no_constructors, value_within, literal};
 ghost use Rattle.auth_syntax.specs.LiteralAnswers.{ReadsLiteral};
 ghost use Rattle.auth_syntax.specs.LiteralValues.{value_of, type_of_value, ReadsPart, ReadsWhole};
 ghost use Rattle.auth_syntax.specs.Remaining.{remaining};
@@ -167,7 +167,7 @@ fn no_value(parser: &mut Parser<'_>) -> Result<LiteralValue, Fault>
 /// The spelling of a value, of at most so many bytes.
 fn spelled(alloc: Global, value: &LiteralValue, limit: usize) -> Result<Spelling, LiteralFault>
     requires { limit < 2 ^ 32 }
-    ensures { ReadsLiteral (spelled_within limit [] (type_of_value value.now) (value_of value.now)) result }
+    ensures { ReadsLiteral (value_within limit [] (type_of_value value.now) (value_of value.now)) result }
 {
     if value.size() > limit {
         return Err(LiteralFault::At(LiteralKind::TooBig, 0));

@@ -52,27 +52,43 @@ fn print_bool(alloc: Global, bytes: &[u8]) -> Result<Vec<u8>, AllocError>
 fn print_int(alloc: Global, bytes: &[u8]) -> Result<Vec<u8>, AllocError>
     ensures { IfOk result (λ text. (z : ℤ) → int_fits z ≡ true → bytes.now ≡ spelling (IntV z) → text.items ≡ signed_decimal z) }
 {
-    let Some((number, _)) = bytes.split_first_chunk::<8>() else {
-        return Ok(Vec::new(alloc));
-    };
+    let mut text = Vec::new(alloc);
+    if let Some((number, _)) = bytes.split_first_chunk::<8>() {
+        push_int(&mut text, i64::from_be_bytes(*number))?;
+    }
+    Ok(text)
+}
+
+/// Adds an int.
+pub(crate) fn push_int(text: &mut Vec<u8>, number: i64) -> Result<(), AllocError>
+    ensures { OnOk result (text.new.items ≡ text.old.items ++ signed_decimal number) }
+{
     let mut buffer = itoa::Buffer::new();
-    Vec::from_slice(alloc, buffer.format(i64::from_be_bytes(*number)).as_bytes())
+    text.extend_from_slice(buffer.format(number).as_bytes())
 }
 
 /// The text, in quotes, that stands behind the 4 bytes of its length; nothing where there are fewer.
-#[tactic(auto, using(crate::proofs::PrintedTexts::all_escaped_more))]
 fn print_text(alloc: Global, bytes: &[u8]) -> Result<Vec<u8>, AllocError>
     ensures { IfOk result (λ text. (content : List ℕ) → bytes.now ≡ spelling (TextV content) → text.items ≡ quoted_text content) }
 {
-    let Some((_, content)) = bytes.split_first_chunk::<4>() else {
-        return Ok(Vec::new(alloc));
-    };
-    let mut text = Vec::from_slice(alloc, b"\"")?;
+    let mut text = Vec::new(alloc);
+    if let Some((_, content)) = bytes.split_first_chunk::<4>() {
+        push_quoted(&mut text, content)?;
+    }
+    Ok(text)
+}
+
+/// Adds a text in quotes.
+#[tactic(auto, using(crate::proofs::PrintedTexts::all_escaped_more))]
+pub(crate) fn push_quoted(text: &mut Vec<u8>, content: &[u8]) -> Result<(), AllocError>
+    ensures { OnOk result (text.new.items ≡ text.old.items ++ quoted_text content.now) }
+{
+    text.push(b'"')?;
     for byte in content {
-        push_escaped(&mut text, *byte)?;
+        push_escaped(text, *byte)?;
     }
     text.push(b'"')?;
-    Ok(text)
+    Ok(())
 }
 
 /// Adds a byte of a text as it stands between quotes.

@@ -4,7 +4,8 @@ ghost use Rattle.core_terms.specs.TypeTables.{stands_behind};
 
 use crate::fault::{LexicalFault, LiteralFault, LiteralKind, SyntaxFault, SyntaxKind};
 use crate::literal::parse_literal;
-use crate::parser::parse;
+use crate::parser::{parse, parse_fragment};
+use crate::print::print;
 use crate::tree::{Declaration, ExpTree, FunctionKind};
 use core_terms::{Digest, Program, TyForm, TyId, TyTable};
 use std::alloc::{AllocError, Global};
@@ -31,9 +32,24 @@ fn a_program_is_parsed(rt: HostRuntime) -> Result<(), Fail> {
 }
 
 #[test]
+fn a_program_is_printed(rt: HostRuntime) -> Result<(), Fail> {
+    let ast = parse(
+        rt.alloc(),
+        b"state\tauth int ;init f(x:int):auth int=auth(add (x,-01));",
+    )?;
+    assert_eq!(rt;
+        print(rt.alloc(), &ast)?.as_slice(),
+        b"state auth int;\ninit f(x: int): auth int = auth(add(x, -1));\n".as_slice()
+    );
+    Ok(())
+}
+
+#[test]
 fn the_first_fault_is_told(rt: HostRuntime) {
     let refused = parse(rt.alloc(), b"state unit;\nquery f(let: unit): unit = ();");
     assert!(rt; matches!(refused, Err(SyntaxFault::At(SyntaxKind::Expected, 2, 9))));
+    let beyond = parse_fragment(rt.alloc(), b"state unit;\n type t = A;");
+    assert!(rt; matches!(beyond, Err(SyntaxFault::At(SyntaxKind::Expected, 2, 2))));
 }
 
 /// A program without functions, that has this type, and the type's number.

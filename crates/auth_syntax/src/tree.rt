@@ -21,19 +21,39 @@ pub struct PlacedName {
 /// What a program declares; the place is that of the declaration's keyword.
 #[derive(Drop)]
 pub enum Declaration {
+    /// A named type.
+    Type(Place, TypeDeclaration),
     /// The type of the state.
     State(Place, TypeTree),
-    /// A function that is entered from outside.
+    /// A function.
     Function(Place, Function),
+}
+
+/// A named type. A parsed one has at least one constructor.
+#[derive(Drop)]
+pub struct TypeDeclaration {
+    pub name: PlacedName,
+    pub constructors: Vec<ConstructorDeclaration>,
+}
+
+/// A constructor of a named type, with the types of its fields.
+#[derive(Drop)]
+pub struct ConstructorDeclaration {
+    pub name: PlacedName,
+    pub fields: Vec<TypeTree>,
 }
 
 /// What a function is for.
 #[derive(Clone, Copy, Debug, PartialEq, Eq)]
 pub enum FunctionKind {
+    /// It is called by the program alone.
+    Inner,
     /// It makes a first state.
     Init,
     /// It asks about a state.
     Query,
+    /// It changes a state.
+    Update,
 }
 
 /// A function. A parsed one has at least one parameter.
@@ -64,24 +84,43 @@ pub enum TypeTree {
     IntType(Place),
     /// `text`
     TextType(Place),
+    /// The name of a declared type.
+    NamedType(Place, Name),
     /// `auth` and a type
     AuthType(Place, Box<TypeTree>),
+    /// Two types between parentheses.
+    PairType(Place, Box<TypeTree>, Box<TypeTree>),
 }
 
 /// An operation on one operand.
 #[derive(Clone, Copy, Debug, PartialEq, Eq)]
 pub enum UnaryOperator {
+    Fst,
+    Snd,
     Auth,
     Unauth,
+    Len,
+    Not,
 }
 
 /// An operation on two operands.
 #[derive(Clone, Copy, Debug, PartialEq, Eq)]
 pub enum BinaryOperator {
     Add,
+    Sub,
+    Mul,
+    Div,
+    Rem,
+    Eq,
+    Lt,
+    Le,
+    Teq,
+    Tlt,
+    Cat,
 }
 
 /// An expression, as it is written.
+#[cycle(tree)]
 #[derive(Drop)]
 pub enum ExpTree {
     /// `()`
@@ -91,8 +130,43 @@ pub enum ExpTree {
     IntLiteral(Place, i64),
     /// A text, by the bytes that it stands for.
     TextLiteral(Place, Text),
-    /// The name of a parameter.
+    /// The name of a parameter, or of what a `let` or an arm binds.
     Local(Place, Name),
+    /// Two expressions between parentheses.
+    Pair(Place, Box<ExpTree>, Box<ExpTree>),
     Unary(Place, UnaryOperator, Box<ExpTree>),
     Binary(Place, BinaryOperator, Box<ExpTree>, Box<ExpTree>),
+    /// The name of a function, and its arguments. A parsed call has at least one.
+    Call(Place, Name, Vec<ExpTree>),
+    /// The name of a constructor, and its fields. One without fields is written without parentheses.
+    Constructor(Place, Name, Vec<ExpTree>),
+    /// `let name = bound in body`
+    Let {
+        at: Place,
+        name: PlacedName,
+        bound: Box<ExpTree>,
+        body: Box<ExpTree>,
+    },
+    /// `if test then first else other`
+    If {
+        at: Place,
+        test: Box<ExpTree>,
+        first: Box<ExpTree>,
+        other: Box<ExpTree>,
+    },
+    /// `match subject with arms end`; a parsed one has at least one arm.
+    Match {
+        at: Place,
+        subject: Box<ExpTree>,
+        arms: Vec<Arm>,
+    },
+}
+
+/// An arm of a `match`: a constructor, the names of its fields, and the body.
+#[cycle(tree)]
+#[derive(Drop)]
+pub struct Arm {
+    pub constructor: PlacedName,
+    pub fields: Vec<PlacedName>,
+    pub body: ExpTree,
 }

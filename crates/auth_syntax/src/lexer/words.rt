@@ -61,7 +61,8 @@ const KEYWORDS: [Keyword; 37] = [
     Keyword::Not,
 ];
 
-fn keyword_text(keyword: Keyword) -> &'static [u8]
+/// The text of a keyword.
+pub(crate) fn keyword_text(keyword: Keyword) -> &'static [u8]
     ensures { result.now ≡ keyword_text keyword }
 {
     match keyword {

@@ -1,0 +1,217 @@
+// Declarations, and the program that they are.
+
+ghost use Rattle.std.specs.Prelude.{◌≡◌, true, false, IfOk, MatchResult};
+ghost use Rattle.auth_syntax.specs.declared.fault.Fault.TheVariants.{At};
+ghost use Rattle.auth_syntax.specs.declared.fault.SyntaxKind.TheVariants.{Expected};
+ghost use Rattle.auth_syntax.specs.Tokens.{KeywordToken, Next, End, count};
+ghost use Rattle.auth_syntax.specs.Parsing.{read_bar, read_constructor_declaration, read_constructors, read_declaration, read_declarations, read_function, read_function_declaration, read_list, read_parameter, read_state, read_type_declaration};
+ghost use Rattle.auth_syntax.specs.LanguageViews.{form_of, words_of};
+ghost use Rattle.auth_syntax.specs.Remaining.{remaining};
+ghost use Rattle.auth_syntax.specs.TokenViews.{token_view};
+ghost use Rattle.auth_syntax.specs.Trees.{constructor_of, constructors_of, declaration_of, declarations_of, function_of, kind_of, parameter_of, parameters_of, type_declaration_of};
+ghost use Rattle.auth_syntax.specs.Outcomes.{Reads};
+
+use crate::fault::{Fault, SyntaxKind};
+use crate::language::{Form, Language};
+use crate::lexer::Lexeme;
+use crate::parser::expressions::whole_expression;
+use crate::parser::types::{field_types, whole_type};
+use crate::parser::{Parser, Placed};
+use crate::place::Place;
+use crate::token::{Keyword, Mark, Token};
+use crate::tree::{
+    Ast, ConstructorDeclaration, Declaration, Function, FunctionKind, Parameter, TypeDeclaration,
+};
+
+/// All declarations up to the end of the text.
+pub(crate) fn program(parser: &mut Parser<'_>, language: Language) -> Result<Ast, Fault>
+    ensures declarations { Reads (λ ast. declarations_of ast.declarations) (read_declarations (words_of language) (count (remaining parser.old)) (remaining parser.old)) result (remaining parser.new) }
+    ensures end { IfOk result (λ ast. remaining parser.new ≡ End ast.end) }
+{
+    let mut declarations = Vec::new(parser.alloc);
+    'each: loop {
+        match parser.lexer.next(parser.alloc)? {
+            Lexeme::Token(at, token) => {
+                declarations.push(declaration(parser, language, at, token)?)?;
+            }
+            Lexeme::End(end) => return Ok(Ast { declarations, end }),
+            Lexeme::Fault(at, kind) => return Err(Fault::At(SyntaxKind::Lexical(kind), at)),
+        }
+    }
+}
+
+/// The declaration that a token begins.
+fn declaration(
+    parser: &mut Parser<'_>,
+    language: Language,
+    at: Place,
+    token: Token<'_>,
+) -> Result<Declaration, Fault>
+    ensures { Reads declaration_of (read_declaration (words_of language) (Next at (token_view token.entry) (remaining parser.old))) result (remaining parser.new) }
+{
+    match token {
+        Token::Keyword(keyword) => declared_by(parser, language, at, keyword),
+        _ => Err(Fault::At(SyntaxKind::Expected, at)),
+    }
+}
+
+/// The declaration that a keyword begins.
+fn declared_by(
+    parser: &mut Parser<'_>,
+    language: Language,
+    at: Place,
+    keyword: Keyword,
+) -> Result<Declaration, Fault>
+    ensures { Reads declaration_of (read_declaration (words_of language) (Next at (KeywordToken keyword) (remaining parser.old))) result (remaining parser.new) }
+{
+    match keyword {
+        Keyword::Type => {
+            allow(language, Form::NamedTypes, at)?;
+            type_declaration(parser, language, at)
+        }
+        Keyword::State => state(parser, language, at),
+        Keyword::Fun => {
+            allow(language, Form::InnerFunctions, at)?;
+            function(parser, language, at, FunctionKind::Inner)
+        }
+        Keyword::Init => function(parser, language, at, FunctionKind::Init),
+        Keyword::Query => function(parser, language, at, FunctionKind::Query),
+        Keyword::Update => {
+            allow(language, Form::Updates, at)?;
+            function(parser, language, at, FunctionKind::Update)
+        }
+        _ => Err(Fault::At(SyntaxKind::Expected, at)),
+    }
+}
+
+/// Refuses a token that begins a form, where the language lacks it.
+fn allow(language: Language, form: Form, at: Place) -> Result<(), Fault>
+    ensures { MatchResult result (λ _. words_of language (form_of form) ≡ true) (λ fault. (fault ≡ At Expected at) × (words_of language (form_of form) ≡ false)) }
+{
+    if language.has(form) {
+        Ok(())
+    } else {
+        Err(Fault::At(SyntaxKind::Expected, at))
+    }
+}
+
+/// The type of the state, behind its keyword.
+fn state(parser: &mut Parser<'_>, language: Language, at: Place) -> Result<Declaration, Fault>
+    ensures { Reads declaration_of (read_state (words_of language) at (remaining parser.old)) result (remaining parser.new) }
+{
+    let of_type = whole_type(parser, language)?;
+    parser.mark(Mark::Semicolon)?;
+    Ok(Declaration::State(at, of_type))
+}
+
+/// A named type, behind its keyword.
+fn type_declaration(
+    parser: &mut Parser<'_>,
+    language: Language,
+    at: Place,
+) -> Result<Declaration, Fault>
+    ensures { Reads declaration_of (read_type_declaration (words_of language) at (remaining parser.old)) result (remaining parser.new) }
+{
+    let name = parser.lower()?;
+    parser.mark(Mark::EqualsSign)?;
+    let constructors = constructor_list(parser, language)?;
+    Ok(Declaration::Type(at, TypeDeclaration { name, constructors }))
+}
+
+/// At least one constructor, and the semicolon that ends them.
+fn constructor_list(
+    parser: &mut Parser<'_>,
+    language: Language,
+) -> Result<Vec<ConstructorDeclaration>, Fault>
+    ensures { Reads constructors_of (read_constructors (words_of language) (count (remaining parser.old)) (remaining parser.old)) result (remaining parser.new) }
+{
+    let mut constructors = Vec::new(parser.alloc);
+    'each: loop {
+        constructors.push(constructor(parser, language)?)?;
+        if !bar(parser)? {
+            return Ok(constructors);
+        }
+    }
+}
+
+/// A constructor, with the types of its fields.
+fn constructor(parser: &mut Parser<'_>, language: Language) -> Result<ConstructorDeclaration, Fault>
+    ensures { Reads constructor_of (read_constructor_declaration (words_of language) (remaining parser.old)) result (remaining parser.new) }
+{
+    let name = parser.upper()?;
+    let fields = field_types(parser, language)?;
+    Ok(ConstructorDeclaration { name, fields })
+}
+
+/// Whether another constructor follows: behind a bar it does, behind the semicolon that ends the type it does not.
+fn bar(parser: &mut Parser<'_>) -> Result<bool, Fault>
+    ensures { Reads (λ follows. follows) (read_bar (remaining parser.old)) result (remaining parser.new) }
+{
+    let Placed { at, token } = parser.token()?;
+    match token {
+        Token::Mark(Mark::Bar) => Ok(true),
+        Token::Mark(Mark::Semicolon) => Ok(false),
+        _ => Err(Fault::At(SyntaxKind::Expected, at)),
+    }
+}
+
+/// A function, behind the keyword of its kind.
+fn function(
+    parser: &mut Parser<'_>,
+    language: Language,
+    at: Place,
+    kind: FunctionKind,
+) -> Result<Declaration, Fault>
+    ensures { Reads declaration_of (read_function_declaration (words_of language) at (kind_of kind) (remaining parser.old)) result (remaining parser.new) }
+{
+    let function = function_of_kind(parser, language, kind)?;
+    Ok(Declaration::Function(at, function))
+}
+
+/// A function of this kind, from its name on.
+fn function_of_kind(
+    parser: &mut Parser<'_>,
+    language: Language,
+    kind: FunctionKind,
+) -> Result<Function, Fault>
+    ensures { Reads function_of (read_function (words_of language) (kind_of kind) (remaining parser.old)) result (remaining parser.new) }
+{
+    let name = parser.lower()?;
+    parser.mark(Mark::LeftParenthesis)?;
+    let parameters = parameter_list(parser, language)?;
+    parser.mark(Mark::Colon)?;
+    let result_type = whole_type(parser, language)?;
+    parser.mark(Mark::EqualsSign)?;
+    let body = whole_expression(parser, language)?;
+    parser.mark(Mark::Semicolon)?;
+    Ok(Function {
+        kind,
+        name,
+        parameters,
+        result_type,
+        body,
+    })
+}
+
+/// At least one parameter, and the parenthesis that ends them.
+fn parameter_list(parser: &mut Parser<'_>, language: Language) -> Result<Vec<Parameter>, Fault>
+    ensures { Reads parameters_of (read_list (read_parameter (words_of language)) (count (remaining parser.old)) (remaining parser.old)) result (remaining parser.new) }
+{
+    let mut parameters = Vec::new(parser.alloc);
+    'each: loop {
+        parameters.push(parameter(parser, language)?)?;
+        if !parser.separator()? {
+            return Ok(parameters);
+        }
+    }
+}
+
+/// A parameter, with its type.
+fn parameter(parser: &mut Parser<'_>, language: Language) -> Result<Parameter, Fault>
+    ensures { Reads parameter_of (read_parameter (words_of language) (remaining parser.old)) result (remaining parser.new) }
+{
+    let name = parser.lower()?;
+    parser.mark(Mark::Colon)?;
+    let of_type = whole_type(parser, language)?;
+    Ok(Parameter { name, of_type })
+}
