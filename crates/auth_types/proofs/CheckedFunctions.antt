@@ -16,14 +16,15 @@ use Rattle.auth_syntax.specs.Trees as written
 use Rattle.auth_syntax.specs.declared.place.Place.{Place}
 use Rattle.auth_syntax.specs.declared.tree.Parameter.{Parameter}
 use Rattle.auth_syntax.specs.declared.tree.Function.{Function as FunctionTree}
-use Rattle.auth_syntax.specs.declared.tree.TypeTree.{TypeTree}
 use Rattle.auth_syntax.specs.declared.tree.Declaration.{Declaration}
-use Rattle.auth_syntax.specs.declared.tree.Declaration.TheVariants.{State, Function as FunctionVariant}
+use Rattle.auth_syntax.specs.declared.tree.Declaration.TheVariants.{«Type» as TypeVariant, State, Function as FunctionVariant}
+use Rattle.auth_syntax.specs.Grammar.{AreDeclarations, IsFunction, nesting_limit}
+use Rattle.auth_syntax.specs.Vocabulary.{fragment}
 use Rattle.auth_types.specs.Checking.{Checking, Sound, FaultAt, then_checked, unless_fault}
 use Rattle.auth_types.specs.WrittenTypes.{type_meant}
 use Rattle.auth_types.specs.RoleRules.{kind_meant}
 use Rattle.auth_types.specs.Bodies.{Typed, checked_function, checked_functions, elaborated, wanted}
-use Rattle.auth_types.specs.OverTypes.{AreNumbers, FindsOver, Grows, Shows, all_ints_fit, ints_fit, fragment_scope, functions_of, functions_written, locals_of, typed_of, types_written}
+use Rattle.auth_types.specs.OverTypes.{AreNumbers, FindsOver, Grows, Shows, all_literals_fit, literals_fit, fragment_scope, functions_of, functions_written, locals_of, typed_of, types_written}
 use Rattle.auth_types.specs.declared.fault.TypeKind.TheVariants.{WrongType}
 use Rattle.auth_types.specs.declared.fault.Fault.{Fault}
 use Rattle.auth_types.specs.declared.fault.Fault.TheVariants.{At, NoMemory}
@@ -117,9 +118,11 @@ stands_first types all left same more = ap found_in (sym same) ∙ by (found_in 
     by (Sound fs) = refl
     by (FaultAt kind at) = refl
 
--- a state is passed over
-pub stands_state : (types : List Ty) (all left next : List Declaration) (functions : List Function) (d : Declaration) (at : Place) (t : TypeTree) → Stands types all left functions → left ≡ d ∷ next → d ≡ State at t → Stands types all next functions
-stands_state types all left next functions d at t so_far one is more = so_far more ∙ ap (λ l. behind (map (function_of (types ++ more)) functions) (found_in l)) (one ∙ ap (λ d. d ∷ next) is)
+-- a declaration that is no function
+passed : (d : Declaration) (next : List Declaration) → ((at : Place) (f : FunctionTree) → d ≡ FunctionVariant at f → ⊥) → functions_written (d ∷ next) ≡ functions_written next
+passed (TypeVariant at t) next other = refl
+passed (State at t) next other = refl
+passed (FunctionVariant at f) next other = absurd (other at f refl)
 
 -- one function more
 pub stands_function : (a b : List Ty) (all left next : List Declaration) (functions new : List Function) (d : Declaration) (at : Place) (f : FunctionTree) (g : Function)
@@ -148,20 +151,39 @@ stands_last types all (d ∷ left) functions so_far none more = absurd (omega (a
 
 -- what the loop over the declarations keeps
 abbrev pub Kept : List Ty → List Ty → List Declaration → List Declaration → List Function → Type 0
-Kept first types all left functions = Grows first types × Stands types all left functions × (all_ints_fit all ≡ all_ints_fit left)
+Kept first types all left functions =
+    Grows first types × Stands types all left functions
+    × (all_literals_fit (functions_written all) ≡ all_literals_fit (functions_written left))
+    × AreDeclarations fragment nesting_limit (map written.declaration_of left)
 
-pub kept_state : (first a types : List Ty) (all left next : List Declaration) (functions new : List Function) (d : Declaration) (at : Place) (t : TypeTree) → Kept first a all left functions → left ≡ d ∷ next → d ≡ State at t
+-- the next declaration is a function of the fragment
+pub is_function : (left next : List Declaration) (d : Declaration) (at : Place) (f : FunctionTree) → left ≡ d ∷ next → d ≡ FunctionVariant at f → AreDeclarations fragment nesting_limit (map written.declaration_of left)
+    → IsFunction fragment nesting_limit (written.function_of f)
+is_function left next d at f one is known = (subst (λ (left : List Declaration). AreDeclarations fragment nesting_limit (map written.declaration_of left)) (one ∙ ap (λ d. d ∷ next) is) known).0
+
+-- what is declared behind the next declaration
+are_next : (left next : List Declaration) (d : Declaration) → left ≡ d ∷ next → AreDeclarations fragment nesting_limit (map written.declaration_of left) → AreDeclarations fragment nesting_limit (map written.declaration_of next)
+are_next left next d one known = (subst (λ (left : List Declaration). AreDeclarations fragment nesting_limit (map written.declaration_of left)) one known).1
+
+-- what is passed over changes nothing
+pub kept_passed : (first a types : List Ty) (all left next : List Declaration) (functions new : List Function) (d : Declaration) → Kept first a all left functions → left ≡ d ∷ next → ((at : Place) (f : FunctionTree) → d ≡ FunctionVariant at f → ⊥)
     → types ≡ a → new ≡ functions → Kept first types all next new
-kept_state first a types all left next functions new d at t (grows, stands, ints) one is same unchanged =
+kept_passed first a types all left next functions new d (grows, stands, literals, known) one other same unchanged =
+    let here : functions_written left ≡ functions_written next = ap functions_written one ∙ passed d next other in
     subst (λ types. Kept first types all next new) (sym same)
-    (subst (λ new. Kept first a all next new) (sym unchanged)
-    (grows, stands_state a all left next functions d at t stands one is, ints ∙ ap all_ints_fit (one ∙ ap (λ d. d ∷ next) is)))
+    (subst (λ new. Kept first a all next new) (sym unchanged) (
+      grows,
+      λ more. stands more ∙ ap (λ fs. behind (map (function_of (a ++ more)) functions) (checked_functions [] fragment_scope fs)) here,
+      literals ∙ ap all_literals_fit here,
+      are_next left next d one known,
+    ))
 
 pub kept_function : (first a b types : List Ty) (all left next : List Declaration) (functions new : List Function) (d : Declaration) (at : Place) (f : FunctionTree) (g : Function) → Kept first a all left functions → left ≡ d ∷ next → d ≡ FunctionVariant at f
-    → Grows a b → Shows b function_of (checked_function [] fragment_scope (written.function_of f)) g → ints_fit f.body ≡ true → types ≡ b → new ≡ functions ++ g ∷ [] → Kept first types all next new
-kept_function first a b types all left next functions new d at f g (grows, stands, ints) one is more here fits same pushed =
+    → Grows a b → Shows b function_of (checked_function [] fragment_scope (written.function_of f)) g → literals_fit (written.expression_of f.body) ≡ true → types ≡ b → new ≡ functions ++ g ∷ [] → Kept first types all next new
+kept_function first a b types all left next functions new d at f g (grows, stands, literals, known) one is more here fits same pushed =
     subst (λ types. Kept first types all next new) (sym same) (
       grows_on first a b grows more,
       stands_function a b all left next functions new d at f g stands one is more here pushed,
-      ints ∙ ap all_ints_fit (one ∙ ap (λ d. d ∷ next) is) ∙ ap (λ b. b && all_ints_fit next) fits,
+      literals ∙ ap (λ l. all_literals_fit (functions_written l)) (one ∙ ap (λ d. d ∷ next) is) ∙ ap (λ b. b && all_literals_fit (functions_written next)) fits,
+      are_next left next d one known,
     )

@@ -6,6 +6,7 @@ use Rattle.indexmap.specs.IndexSet.{insert_key}
 use Rattle.std.proofs.lemmas.List.{length-reverse, reverse-append, map-append, length-map}
 use Rattle.std.proofs.lemmas.List.Sorted.{IsPermutation-reverse, list_any-IsPermutation}
 use Rattle.std.proofs.lemmas.Cmp.{nat_list_eq_equiv}
+use Rattle.std.proofs.lemmas.Slice.Eq.{bytes_eq-Decides}
 use Rattle.auth_syntax.specs.Syntax.{NameSyntax}
 use Rattle.auth_types.specs.Checking.{Checking, FaultAt, is_among, new_name}
 use Rattle.auth_types.specs.DeclaredNames.{names_met}
@@ -95,3 +96,32 @@ module _ {A : Type 0} (keys : List (Bor (List ℕ))) (key : Bor (List ℕ)) (mos
   name_stands new few =
       let more : count ≡ length keys + 1 = one_more new in
       may_stand (names_met keys) most thing name rest (among ∙ ap not new) (ap (λ n. nat_lt n most) (length-met keys) ∙ lt-ltb (length keys) most (omega arith))
+
+-- the same of any name: whether it is new to the set
+pub new_to : (keys : List (Bor (List ℕ))) (key : Bor (List ℕ)) (name : List ℕ) → key.now ≡ name → (added : Bool)
+    → added ≡ not (list_any (λ k. bytes_eq key.now k.now) keys) → is_among name (names_met keys) ≡ not added
+new_to keys key name is added tells =
+    ap (λ n. is_among n (names_met keys)) (sym is) ∙ among_met key.now keys ∙ sym (not_not (list_any (λ k. bytes_eq key.now k.now) keys)) ∙ ap not (sym tells)
+
+-- a name as the set finds it
+pub among_key : (keys : List (Bor (List ℕ))) (key : Bor (List ℕ)) (name : List ℕ) → key.now ≡ name → is_among name (names_met keys) ≡ list_any (λ k. bytes_eq key.now k.now) keys
+among_key keys key name is = ap (λ n. is_among n (names_met keys)) (sym is) ∙ among_met key.now keys
+
+-- the names of a set with a key more, which may have stood there before
+or_comm : (a b : Bool) → a || b ≡ b || a
+or_comm true true = refl
+or_comm true false = refl
+or_comm false true = refl
+or_comm false false = refl
+
+pub among_more : (keys : List (Bor (List ℕ))) (key : Bor (List ℕ)) (x : List ℕ) → key.now ≡ x → (name : List ℕ)
+    → is_among name (names_met (insert_key (λ x y. pointwise nat_eq x.now y.now) keys key)) ≡ is_among name (names_met keys) || bytes_eq x name
+among_more keys key x is name = by (list_any (λ k. bytes_eq key.now k.now) keys) refl (bytes_eq x name) refl
+  where
+    by : (b : Bool) → list_any (λ k. bytes_eq key.now k.now) keys ≡ b → (same : Bool) → bytes_eq x name ≡ same
+        → is_among name (names_met (if b then keys else keys ++ key ∷ [])) ≡ is_among name (names_met keys) || same
+    by true found true same =
+        let is_name : x ≡ name = (bytes_eq-Decides x name).0 same in
+        among_key keys key name (is ∙ is_name) ∙ found ∙ ap (λ b. b || true) (sym (among_key keys key name (is ∙ is_name) ∙ found))
+    by true found false same = or_comm false (is_among name (names_met keys))
+    by false new b same = ap (is_among name) (met_more keys key) ∙ ap (λ n. bytes_eq n name || is_among name (names_met keys)) is ∙ ap (λ b. b || is_among name (names_met keys)) same ∙ or_comm b (is_among name (names_met keys))

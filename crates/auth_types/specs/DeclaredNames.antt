@@ -1,5 +1,5 @@
 -- What the first pass of the code has met so far, in the words of the definition.
-use Rattle.std.specs.Prelude.{ℕ, List, [], map, reverse}
+use Rattle.std.specs.Prelude.{ℕ, List, map, reverse}
 use Rattle.std.specs.Borrow.{Bor}
 use Rattle.auth_types.specs.Declarations as spec
 use Rattle.auth_types.specs.declared.declarations.Declared.{Declared}
@@ -9,4 +9,9 @@ abbrev pub names_met : List (Bor (List ℕ)) → List (List ℕ)
 names_met keys = reverse (map (λ k. k.now) keys)
 
 abbrev pub declared_of : Declared → spec.Declared
-declared_of declared = record { types = []; constructors = []; functions = names_met declared.functions.keys; state = declared.has_state }
+declared_of declared = record {
+  types = names_met declared.types.keys;
+  constructors = names_met declared.constructors.keys;
+  functions = names_met declared.functions.keys;
+  state = declared.has_state;
+}

@@ -7,3 +7,4 @@ pub mod CheckedPrograms
 pub mod Outcomes
 pub mod DeclaredNames
 pub mod OverTypes
+pub mod CheckedLaws

@@ -1,5 +1,6 @@
 -- What answers of the checker that hold numbers of types say: over the types of a table, and over any with more behind them.
-use Rattle.std.specs.Prelude.{◌≡◌, Bool, true, ◌&&◌, List, [], ◌∷◌, ◌++◌, map, slice_get, Some, Vec, Result, Ok, Err, ⊤}
+use Rattle.std.specs.Prelude.{◌≡◌, Bool, true, ◌&&◌, List, [], ◌∷◌, ◌++◌, length, map, nat_le, slice_get, Some, Vec, Result, Ok, Err, ⊤}
+use Rattle.std.specs.Str.{is_utf8}
 use Rattle.std.specs.Global.{Global}
 use Rattle.core_terms.specs.Types.{Ty}
 use Rattle.core_terms.specs.Terms as tree
@@ -8,14 +9,11 @@ use Rattle.core_terms.specs.TypeTables.{type_at}
 use Rattle.core_terms.specs.ProgramTrees.{expression_of, function_of}
 use Rattle.core_terms.specs.declared.types.TyId.{TyId}
 use Rattle.core_terms.specs.declared.term.Function.{Function}
-use Rattle.auth_syntax.specs.Syntax.{FunctionSyntax, TypeSyntax}
+use Rattle.auth_syntax.specs.Syntax.{TypeSyntax, ExpSyntax, IntSyntax, TextSyntax, PairSyntax, UnarySyntax, BinarySyntax, CallSyntax, ConstructorSyntax, LetSyntax, IfSyntax, MatchSyntax, ExpsSyntax, NoExp, AndExp, ArmsSyntax, NoArmSyntax, AndArmSyntax, FunctionSyntax}
 use Rattle.auth_syntax.specs.Trees as written
 use Rattle.auth_syntax.specs.declared.place.Place.{Place}
-use Rattle.auth_syntax.specs.declared.tree.ExpTree.{ExpTree}
-use Rattle.auth_syntax.specs.declared.tree.ExpTree.TheVariants.{IntLiteral, Unary', Binary'}
 use Rattle.auth_syntax.specs.declared.tree.Parameter.{Parameter}
 use Rattle.auth_syntax.specs.declared.tree.Declaration.{Declaration}
-use Rattle.auth_syntax.specs.declared.tree.Declaration.TheVariants.{State, Function as FunctionVariant}
 use Rattle.auth_types.specs.Checking.{Checking, Sound, FaultAt}
 use Rattle.auth_types.specs.WrittenTypes.{type_meant, functions_in}
 use Rattle.auth_types.specs.Bodies.{Local, Scope, Typed, parameter_locals}
@@ -65,17 +63,33 @@ fragment_scope = record { functions = []; constructors = []; table = [] }
 abbrev pub functions_written : List Declaration → List FunctionSyntax
 functions_written declarations = functions_in (map written.declaration_of declarations)
 
--- each int literal has 64 bits
-abbrev pub ints_fit : ExpTree → Bool
-ints_fit (IntLiteral at z) = int_fits z
-ints_fit (Unary' at operation p operand) = ints_fit operand
-ints_fit (Binary' at operation p first q second) = ints_fit first && ints_fit second
-ints_fit expression = true
+abbrev mutual
+  -- each int literal has 64 bits, and each text literal is UTF-8 of at most 65,532 bytes
+  pub literals_fit : ExpSyntax → Bool
+  literals_fit (IntSyntax at z) = int_fits z
+  literals_fit (TextSyntax at bytes) = is_utf8 bytes && nat_le (length bytes) 65532
+  literals_fit (PairSyntax at first second) = literals_fit first && literals_fit second
+  literals_fit (UnarySyntax at operation operand) = literals_fit operand
+  literals_fit (BinarySyntax at operation first second) = literals_fit first && literals_fit second
+  literals_fit (CallSyntax at name operands) = row_literals_fit operands
+  literals_fit (ConstructorSyntax at name operands) = row_literals_fit operands
+  literals_fit (LetSyntax at name bound body) = literals_fit bound && literals_fit body
+  literals_fit (IfSyntax at test first other) = literals_fit test && (literals_fit first && literals_fit other)
+  literals_fit (MatchSyntax at subject arms) = literals_fit subject && arm_literals_fit arms
+  literals_fit expression = true
 
-abbrev pub all_ints_fit : List Declaration → Bool
-all_ints_fit [] = true
-all_ints_fit (State at of_type ∷ rest) = all_ints_fit rest
-all_ints_fit (FunctionVariant at function ∷ rest) = ints_fit function.body && all_ints_fit rest
+  pub row_literals_fit : ExpsSyntax → Bool
+  row_literals_fit NoExp = true
+  row_literals_fit (AndExp e rest) = literals_fit e && row_literals_fit rest
+
+  pub arm_literals_fit : ArmsSyntax → Bool
+  arm_literals_fit NoArmSyntax = true
+  arm_literals_fit (AndArmSyntax constructor fields body rest) = literals_fit body && arm_literals_fit rest
+
+-- the same of the bodies of functions
+abbrev pub all_literals_fit : List FunctionSyntax → Bool
+all_literals_fit [] = true
+all_literals_fit (function ∷ rest) = literals_fit function.body && all_literals_fit rest
 
 -- the type of the first state that is declared, in a text that ends at this place
 abbrev pub state_in : Place → List TypeSyntax → Checking Ty

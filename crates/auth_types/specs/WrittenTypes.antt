@@ -47,11 +47,14 @@ module _ (names : List (List ℕ)) where
   known_signature function =
       then_checked (known_types (map (λ p. p.of_type) function.parameters)) (λ _. known_type function.result_type)
 
+  abbrev pub known_declaration : DeclarationSyntax → Checking (Unit {0})
+  known_declaration (TypeDeclaration at name constructors) = known_constructors constructors
+  known_declaration (StateDeclaration at of_type) = known_type of_type
+  known_declaration (FunctionDeclaration at function) = known_signature function
+
   abbrev pub known_declarations : List DeclarationSyntax → Checking (Unit {0})
   known_declarations [] = Sound tt
-  known_declarations (TypeDeclaration at name constructors ∷ rest) = then_checked (known_constructors constructors) (λ _. known_declarations rest)
-  known_declarations (StateDeclaration at of_type ∷ rest) = then_checked (known_type of_type) (λ _. known_declarations rest)
-  known_declarations (FunctionDeclaration at function ∷ rest) = then_checked (known_signature function) (λ _. known_declarations rest)
+  known_declarations (declaration ∷ rest) = then_checked (known_declaration declaration) (λ _. known_declarations rest)
 
   -- the field types of the constructors of each type
   abbrev pub table_of : List DeclarationSyntax → Table

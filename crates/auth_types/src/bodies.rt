@@ -6,12 +6,14 @@ ghost use Rattle.core_terms.specs.ProgramTrees.{expression_of, function_of, kind
 ghost use Rattle.core_terms.specs.TypeTables.{stands_behind, type_of_form};
 ghost use Rattle.core_terms.specs.Types.{Ty, IntTy};
 ghost use Rattle.core_terms.specs.Terms.{Expression};
+ghost use Rattle.auth_syntax.specs.Grammar.{AreDeclarations, AreParameters, HasForms, HasKind, HasTypeForms, IsFunction, nesting_limit};
 ghost use Rattle.auth_syntax.specs.Syntax as syntax;
 ghost use Rattle.auth_syntax.specs.Trees as written;
+ghost use Rattle.auth_syntax.specs.Vocabulary.{Binary, Unary, fragment};
 ghost use Rattle.auth_types.specs.Bodies as specified;
 ghost use Rattle.auth_types.specs.Bodies.{binary_expression, checked_function, checked_functions, elaborated, last_named, operand_type, result_type, typed, unary, wanted};
 ghost use Rattle.auth_types.specs.Checking.{Checking, then_checked};
-ghost use Rattle.auth_types.specs.OverTypes.{AreNumbers, FindsOver, Grows, Shows, all_ints_fit, fragment_scope, functions_of, functions_written, ints_fit, locals_of, typed_of, types_written};
+ghost use Rattle.auth_types.specs.OverTypes.{AreNumbers, FindsOver, Grows, Shows, all_literals_fit, fragment_scope, functions_of, functions_written, literals_fit, locals_of, typed_of, types_written};
 ghost use Rattle.auth_types.specs.RoleRules.{kind_meant};
 ghost use Rattle.auth_types.specs.WrittenTypes.{type_meant};
 
@@ -40,13 +42,20 @@ fn place(tree: &ExpTree) -> Place
         | ExpTree::IntLiteral(at, _)
         | ExpTree::TextLiteral(at, _)
         | ExpTree::Local(at, _)
+        | ExpTree::Pair(at, _, _)
         | ExpTree::Unary(at, _, _)
-        | ExpTree::Binary(at, _, _, _) => *at,
+        | ExpTree::Binary(at, _, _, _)
+        | ExpTree::Call(at, _, _)
+        | ExpTree::Constructor(at, _, _)
+        | ExpTree::Let { at, .. }
+        | ExpTree::If { at, .. }
+        | ExpTree::Match { at, .. } => *at,
     }
 }
 
-/// The number of a written type.
+/// The number of a written type of the fragment.
 pub(crate) fn number(types: &mut TyTable, tree: &TypeTree) -> Result<TyId, AllocError>
+    requires { HasTypeForms fragment (written.type_of tree.now) }
     ensures grows { Grows (types_in types.old) (types_in types.new) }
     ensures found { IfOk result (λ id. slice_get (types_in types.new) id.0 ≡ Some (type_meant [] (written.type_of tree.now))) }
 {
@@ -59,6 +68,7 @@ pub(crate) fn number(types: &mut TyTable, tree: &TypeTree) -> Result<TyId, Alloc
             let part = number(types, inner)?;
             types.intern(TyForm::AuthForm(part))
         }
+        TypeTree::NamedType(..) | TypeTree::PairType(..) => unreachable!(),
     }
 }
 
@@ -68,6 +78,7 @@ fn numbers(
     types: &mut TyTable,
     parameters: &[Parameter],
 ) -> Result<Vec<TyId>, AllocError>
+    requires { AreParameters fragment nesting_limit (map written.parameter_of parameters.now) }
     ensures grows { Grows (types_in types.old) (types_in types.new) }
     ensures found { IfOk result (λ ids. AreNumbers (types_in types.new) ids.items (types_written parameters.now)) }
 {
@@ -138,7 +149,8 @@ fn unary_term(
     at: Place,
     operand: Typed,
 ) -> Result<Typed, Fault>
-    requires { operand.ty.0 < length (types_in types.old) }
+    requires known { fragment (Unary (written.unary_of operator)) ≡ true }
+    requires inside { operand.ty.0 < length (types_in types.old) }
     ensures grows { Grows (types_in types.old) (types_in types.new) }
     ensures found { (found : Checking specified.Typed) → Shows (types_in types.old) typed_of found operand → FindsOver (types_in types.new) typed_of (unary (written.unary_of operator) at found) result }
     ensures inside { IfOk result (λ typed. typed.ty.0 < length (types_in types.new)) }
@@ -146,6 +158,7 @@ fn unary_term(
     match operator {
         UnaryOperator::Auth => Ok(authenticated(alloc, types, operand)?),
         UnaryOperator::Unauth => opened(alloc, types, at, operand),
+        _ => unreachable!(),
     }
 }
 
@@ -167,11 +180,13 @@ fn operand(
     at: Place,
     operand: Typed,
 ) -> Result<Term, Fault>
-    requires { operand.ty.0 < length (types_in types.now) }
+    requires known { fragment (Binary (written.binary_of operator)) ≡ true }
+    requires inside { operand.ty.0 < length (types_in types.now) }
     ensures { (found : Checking specified.Typed) → Shows (types_in types.now) typed_of found operand → FindsOver (types_in types.now) expression_of (wanted at (operand_type (written.binary_of operator)) found) result }
 {
     match operator {
         BinaryOperator::Add => int(types, at, operand),
+        _ => unreachable!(),
     }
 }
 
@@ -183,6 +198,7 @@ fn combined(
     first: Term,
     second: Term,
 ) -> Result<Typed, AllocError>
+    requires { fragment (Binary (written.binary_of operator)) ≡ true }
     ensures grows { Grows (types_in types.old) (types_in types.new) }
     ensures found { IfOk result (λ whole. (x y : Checking Expression) → Shows (types_in types.old) expression_of x first → Shows (types_in types.old) expression_of y second → Shows (types_in types.new) typed_of (then_checked x (λ x. then_checked y (λ y. typed (binary_expression (written.binary_of operator) x y) (result_type (written.binary_of operator))))) whole) }
     ensures inside { IfOk result (λ whole. whole.ty.0 < length (types_in types.new)) }
@@ -192,6 +208,7 @@ fn combined(
             let sum = Term::Add(Box::new(alloc, first)?, Box::new(alloc, second)?);
             plain(types, sum, TyForm::IntForm)
         }
+        _ => unreachable!(),
     }
 }
 
@@ -204,7 +221,8 @@ fn binary_term(
     at: Place,
     second: Typed,
 ) -> Result<Typed, Fault>
-    requires { second.ty.0 < length (types_in types.old) }
+    requires known { fragment (Binary (written.binary_of operator)) ≡ true }
+    requires inside { second.ty.0 < length (types_in types.old) }
     ensures grows { Grows (types_in types.old) (types_in types.new) }
     ensures found { (x : Checking Expression) (y : Checking specified.Typed) → Shows (types_in types.old) expression_of x first → Shows (types_in types.old) typed_of y second → FindsOver (types_in types.new) typed_of (then_checked x (λ x. then_checked (wanted at (operand_type (written.binary_of operator)) y) (λ y. typed (binary_expression (written.binary_of operator) x y) (result_type (written.binary_of operator))))) result }
     ensures inside { IfOk result (λ whole. whole.ty.0 < length (types_in types.new)) }
@@ -213,7 +231,7 @@ fn binary_term(
     Ok(combined(alloc, types, operator, first, second)?)
 }
 
-/// The term of an expression with its type. The locals are the parameters, whose types have these numbers.
+/// The term of an expression of the fragment, with its type. The locals are the parameters, whose types have these numbers.
 fn term(
     alloc: Global,
     types: &mut TyTable,
@@ -221,11 +239,12 @@ fn term(
     ids: &[TyId],
     tree: ExpTree,
 ) -> Result<Typed, Fault>
-    requires { AreNumbers (types_in types.old) ids.now (types_written parameters.now) }
+    requires known { HasForms fragment (written.expression_of tree) }
+    requires numbers { AreNumbers (types_in types.old) ids.now (types_written parameters.now) }
     ensures grows { Grows (types_in types.old) (types_in types.new) }
     ensures found { FindsOver (types_in types.new) typed_of (elaborated fragment_scope (locals_of parameters.now) (written.expression_of tree)) result }
     ensures inside { IfOk result (λ typed. typed.ty.0 < length (types_in types.new)) }
-    ensures ints { IfOk result (λ _. ints_fit tree ≡ true) }
+    ensures literals { IfOk result (λ _. literals_fit (written.expression_of tree) ≡ true) }
 {
     match tree {
         ExpTree::UnitLiteral(_) => Ok(plain(types, Term::UnitLiteral, TyForm::UnitForm)?),
@@ -264,28 +283,32 @@ fn term(
             let second = term(alloc, types, parameters, ids, Box::into_inner(second))?;
             binary_term(alloc, types, operator, first, at, second)
         }
+        _ => unreachable!(),
     }
 }
 
-/// The kind of a function.
+/// The kind of a function of the fragment.
 fn kind(kind: FunctionKind) -> Kind
+    requires { HasKind fragment (written.kind_of kind) }
     ensures { kind_of result ≡ kind_meant (written.kind_of kind) }
 {
     match kind {
         FunctionKind::Init => Kind::Init,
         FunctionKind::Query => Kind::Query,
+        FunctionKind::Inner | FunctionKind::Update => unreachable!(),
     }
 }
 
-/// A function with its types and its body.
+/// A function of the fragment, with its types and its body.
 fn typed_function(
     alloc: Global,
     types: &mut TyTable,
     function: tree::Function,
 ) -> Result<Function, Fault>
+    requires { IsFunction fragment nesting_limit (written.function_of function) }
     ensures grows { Grows (types_in types.old) (types_in types.new) }
     ensures found { FindsOver (types_in types.new) function_of (checked_function [] fragment_scope (written.function_of function)) result }
-    ensures ints { IfOk result (λ _. ints_fit function.body ≡ true) }
+    ensures literals { IfOk result (λ _. literals_fit (written.expression_of function.body) ≡ true) }
 {
     let tree::Function {
         kind: role,
@@ -310,23 +333,21 @@ fn typed_function(
     })
 }
 
-/// The functions that are declared, in their order.
+/// The functions that are declared by declarations of the fragment, in their order.
 pub(crate) fn fourth_pass(
     alloc: Global,
     types: &mut TyTable,
     declarations: Vec<Declaration>,
 ) -> Result<Vec<Function>, Fault>
+    requires { AreDeclarations fragment nesting_limit (map written.declaration_of declarations.items) }
     ensures grows { Grows (types_in types.old) (types_in types.new) }
     ensures found { FindsOver (types_in types.new) functions_of (checked_functions [] fragment_scope (functions_written declarations.items)) result }
-    ensures ints { IfOk result (λ _. all_ints_fit declarations.items ≡ true) }
+    ensures literals { IfOk result (λ _. all_literals_fit (functions_written declarations.items) ≡ true) }
 {
     let mut functions = Vec::new(alloc);
     for declaration in declarations {
-        match declaration {
-            Declaration::State(..) => {}
-            Declaration::Function(_, function) => functions.push(typed_function(
-                alloc, types, function,
-            )?)?,
+        if let Declaration::Function(_, function) = declaration {
+            functions.push(typed_function(alloc, types, function)?)?;
         }
     }
     Ok(functions)

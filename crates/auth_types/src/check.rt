@@ -2,7 +2,9 @@
 
 ghost use Rattle.std.specs.Prelude.{◌≡◌, [], IfOk, map};
 ghost use Rattle.core_terms.specs.Programs.{meaning};
+ghost use Rattle.auth_syntax.specs.Grammar.{AreDeclarations, HasTypeForms, nesting_limit};
 ghost use Rattle.auth_syntax.specs.Trees as written;
+ghost use Rattle.auth_syntax.specs.Vocabulary.{fragment};
 ghost use Rattle.auth_types.specs.CheckedPrograms as specified;
 ghost use Rattle.auth_types.specs.CheckedPrograms.{checked};
 ghost use Rattle.auth_types.specs.Outcomes.{Checks, Finds};
@@ -13,6 +15,7 @@ use crate::bodies::{fourth_pass, number};
 use crate::declarations::first_pass;
 use crate::fault::{Fault, TypeFault, TypeKind};
 use crate::roles::third_pass;
+use crate::written_types::second_pass;
 use auth_syntax::place::Place;
 use auth_syntax::tree::{Ast, Declaration, TypeTree};
 use core_terms::{Digest, Program, TyTable};
@@ -20,7 +23,9 @@ use std::alloc::Global;
 
 /// The written type of the first state. A text without one breaks a rule at its end, which the first pass tells before.
 fn declared_state(declarations: &[Declaration], end: Place) -> Result<&TypeTree, Fault>
-    ensures { Finds (λ tree. type_meant [] (written.type_of tree.now)) (state_in end (states_in (map written.declaration_of declarations.now))) result }
+    requires { AreDeclarations fragment nesting_limit (map written.declaration_of declarations.now) }
+    ensures found { Finds (λ tree. type_meant [] (written.type_of tree.now)) (state_in end (states_in (map written.declaration_of declarations.now))) result }
+    ensures known { IfOk result (λ tree. HasTypeForms fragment (written.type_of tree.now)) }
 {
     for declaration in declarations {
         if let Declaration::State(_, tree) = declaration {
@@ -30,13 +35,15 @@ fn declared_state(declarations: &[Declaration], end: Place) -> Result<&TypeTree,
     Err(Fault::At(TypeKind::NoState, end))
 }
 
-/// One pass after another. All names of types are known, since no named types are declared: the second pass finds no fault.
+/// One pass after another.
 fn all_passes(alloc: Global, ast: Ast, digest: Digest) -> Result<Program, Fault>
+    requires { AreDeclarations fragment nesting_limit (written.declarations_of ast.declarations) }
     ensures answer { Finds meaning (specified.all_passes (written.program_of ast)) result }
     ensures digest { IfOk result (λ p. p.text_digest ≡ digest) }
 {
     let Ast { declarations, end } = ast;
     first_pass(alloc, &declarations, end)?;
+    second_pass(alloc, &declarations)?;
     let tree = declared_state(&declarations, end)?;
     third_pass(&declarations, tree)?;
     let mut types = TyTable::new(alloc);
@@ -45,13 +52,14 @@ fn all_passes(alloc: Global, ast: Ast, digest: Digest) -> Result<Program, Fault>
     Ok(Program::new(types, state, functions, digest))
 }
 
-/// The program of a tree, whose text has this digest. The tree is consumed, and its names are moved into the program.
+/// The program of a tree of the fragment, whose text has this digest. The tree is consumed, and its names are moved into the program.
 ///
 /// # Errors
 ///
 /// `At` with the first fault, by place, of the first pass that has one, and `NoMemory` where there is no memory for the program.
 #[tactic(auto, unfolding(crate::specs::CheckedPrograms::checked))]
 pub fn check(alloc: Global, ast: Ast, digest: Digest) -> Result<Program, TypeFault>
+    requires { AreDeclarations fragment nesting_limit (written.declarations_of ast.declarations) }
     ensures answer { Checks (checked (written.program_of ast)) result }
     ensures digest { IfOk result (λ p. p.text_digest ≡ digest) }
 {

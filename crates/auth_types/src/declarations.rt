@@ -7,13 +7,23 @@ ghost use Rattle.auth_types.specs.Checking.{Sound, new_name};
 ghost use Rattle.auth_types.specs.Declarations as spec;
 ghost use Rattle.auth_types.specs.DeclaredNames.{declared_of, names_met};
 ghost use Rattle.auth_types.specs.Outcomes.{Finds};
-ghost use Rattle.auth_types.specs.declared.fault.Limited.TheVariants.{Functions};
+ghost use Rattle.auth_types.specs.declared.fault.Limited.TheVariants.{Functions, Types};
 
 use crate::fault::{Fault, Limited, TypeKind};
+use crate::written_types::first_token;
 use auth_syntax::place::Place;
-use auth_syntax::tree::{Declaration, Function, Parameter, PlacedName};
+use auth_syntax::tree::{ConstructorDeclaration, Declaration, Parameter, PlacedName, TypeTree};
 use indexmap::IndexSet;
 use std::alloc::Global;
+
+// How many named types a program has at most.
+const MOST_TYPES: usize = 256;
+
+// How many constructors a type has at most.
+const MOST_CONSTRUCTORS: usize = 255;
+
+// How many fields a constructor has at most.
+const MOST_FIELDS: usize = 8;
 
 // How many functions a program has at most.
 const MOST_FUNCTIONS: usize = 1024;
@@ -24,6 +34,8 @@ const MOST_PARAMETERS: usize = 8;
 /// What was declared so far.
 #[derive(Drop)]
 struct Declared<'a> {
+    types: IndexSet<&'a [u8]>,
+    constructors: IndexSet<&'a [u8]>,
     functions: IndexSet<&'a [u8]>,
     has_state: bool,
 }
@@ -32,9 +44,10 @@ struct Declared<'a> {
 ///
 /// # Errors
 ///
-/// `At` with the first fault: `Twice` at the name of a function or of a parameter of one function that stood before, or at a second
-/// `state`; `Limit` at the name of a 1,025th function or of a 9th parameter that stands nowhere before; behind all, `NoState` at the
-/// end. `NoMemory` where there is no memory for the names.
+/// `At` with the first fault: `Twice` at the name of a type, a constructor or a function, or of a parameter of one function, that stood
+/// before among those of its kind, or at a second `state`; `Limit` at the name of a 257th type, a 256th constructor of a type, a 1,025th
+/// function or a 9th parameter that stands nowhere before, or at the first token of a 9th field; behind all, `NoState` at the end.
+/// `NoMemory` where there is no memory for the names.
 pub(crate) fn first_pass(
     alloc: Global,
     declarations: &[Declaration],
@@ -43,6 +56,8 @@ pub(crate) fn first_pass(
     ensures { Finds (λ _. tt) (spec.first_pass (record { declarations = map written.declaration_of declarations.now; end = end })) result }
 {
     let mut declared = Declared {
+        types: IndexSet::new(alloc),
+        constructors: IndexSet::new(alloc),
         functions: IndexSet::new(alloc),
         has_state: false,
     };
@@ -61,6 +76,10 @@ fn declare<'a>(declared: &mut Declared<'a>, declaration: &'a Declaration) -> Res
     ensures { Finds (λ _. declared_of declared.new) (spec.checked_declaration (declared_of declared.old) (written.declaration_of declaration.now)) result }
 {
     match declaration {
+        Declaration::Type(_, named) => {
+            name_type(&mut declared.types, &named.name)?;
+            add_constructors(&mut declared.constructors, &named.constructors)
+        }
         Declaration::State(at, _) if declared.has_state => Err(Fault::At(TypeKind::Twice, *at)),
         Declaration::State(_, _) => {
             declared.has_state = true;
@@ -73,15 +92,76 @@ fn declare<'a>(declared: &mut Declared<'a>, declaration: &'a Declaration) -> Res
     }
 }
 
-/// Adds the name of a function to those before it, or finds that it may not stand there.
-fn name_function<'a>(names: &mut IndexSet<&'a [u8]>, name: &'a PlacedName) -> Result<(), Fault>
-    ensures { Finds (λ _. names_met names.new.keys) (new_name (names_met names.old.keys) spec.most_functions Functions (written.name_of name.now) (Sound (name.now.name ∷ names_met names.old.keys))) result }
+/// Adds a name to those of its kind before it, of which there may be so many, or finds that it may not stand there.
+fn add_name<'a>(
+    names: &mut IndexSet<&'a [u8]>,
+    most: usize,
+    thing: Limited,
+    name: &'a PlacedName,
+) -> Result<(), Fault>
+    ensures { Finds (λ _. names_met names.new.keys) (new_name (names_met names.old.keys) most thing (written.name_of name.now) (Sound (name.now.name ∷ names_met names.old.keys))) result }
 {
     if !names.insert(name.name.as_bytes())? {
         return Err(Fault::At(TypeKind::Twice, name.at));
     }
-    if names.len() > MOST_FUNCTIONS {
-        return Err(Fault::At(TypeKind::Limit(Limited::Functions), name.at));
+    if names.len() > most {
+        return Err(Fault::At(TypeKind::Limit(thing), name.at));
+    }
+    Ok(())
+}
+
+/// Adds the name of a type.
+fn name_type<'a>(names: &mut IndexSet<&'a [u8]>, name: &'a PlacedName) -> Result<(), Fault>
+    ensures { Finds (λ _. names_met names.new.keys) (new_name (names_met names.old.keys) spec.most_types Types (written.name_of name.now) (Sound (name.now.name ∷ names_met names.old.keys))) result }
+{
+    add_name(names, MOST_TYPES, Limited::Types, name)
+}
+
+/// Adds the name of a function.
+fn name_function<'a>(names: &mut IndexSet<&'a [u8]>, name: &'a PlacedName) -> Result<(), Fault>
+    ensures { Finds (λ _. names_met names.new.keys) (new_name (names_met names.old.keys) spec.most_functions Functions (written.name_of name.now) (Sound (name.now.name ∷ names_met names.old.keys))) result }
+{
+    add_name(names, MOST_FUNCTIONS, Limited::Functions, name)
+}
+
+/// Adds the constructors of a type to those of the program before them, or finds their first fault.
+fn add_constructors<'a>(
+    names: &mut IndexSet<&'a [u8]>,
+    constructors: &'a [ConstructorDeclaration],
+) -> Result<(), Fault>
+    ensures { Finds (λ _. names_met names.new.keys) (spec.checked_constructors 0 (names_met names.old.keys) (map written.constructor_of constructors.now)) result }
+{
+    for (before, constructor) in constructors.iter().enumerate() {
+        add_constructor(names, before, constructor)?;
+    }
+    Ok(())
+}
+
+/// Adds a constructor, behind so many others of its type, or finds its first fault.
+fn add_constructor<'a>(
+    names: &mut IndexSet<&'a [u8]>,
+    before: usize,
+    constructor: &'a ConstructorDeclaration,
+) -> Result<(), Fault>
+    ensures { Finds (λ _. names_met names.new.keys) (spec.checked_constructor before (names_met names.old.keys) (written.constructor_of constructor.now) (Sound (constructor.now.name.name ∷ names_met names.old.keys))) result }
+{
+    if !names.insert(constructor.name.name.as_bytes())? {
+        return Err(Fault::At(TypeKind::Twice, constructor.name.at));
+    }
+    if before >= MOST_CONSTRUCTORS {
+        return Err(Fault::At(TypeKind::Limit(Limited::Constructors), constructor.name.at));
+    }
+    check_fields(&constructor.fields)
+}
+
+/// The first fault of the fields of a constructor: one is too many.
+fn check_fields(fields: &[TypeTree]) -> Result<(), Fault>
+    ensures { Finds (λ _. tt) (spec.checked_fields 0 (map written.type_of fields.now)) result }
+{
+    for (before, field) in fields.iter().enumerate() {
+        if before >= MOST_FIELDS {
+            return Err(Fault::At(TypeKind::Limit(Limited::Fields), first_token(field)));
+        }
     }
     Ok(())
 }

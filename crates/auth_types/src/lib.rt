@@ -8,4 +8,6 @@ mod bodies;
 pub mod check;
 mod declarations;
 pub mod fault;
+pub mod laws;
 mod roles;
+mod written_types;

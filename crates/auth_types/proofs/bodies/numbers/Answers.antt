@@ -1,5 +1,9 @@
 use Rattle.auth_types.proofs.TypeNumbers.{numbers_taken, grows_on}
+use Rattle.auth_types.proofs.FragmentForms.{parameter_at}
 use Rattle.auth_types.proofs.bodies.numbers.Goals as goal
+
+pub number-requires : goal.number-requires
+number-requires c = parameter_at c.args.parameters.now c.loop-parameter.parameter-index c.parameter-item.result c.requires c.loop-parameter-test.true c.parameter-item.is
 
 pub loop-parameter-preserved : goal.loop-parameter-preserved
 loop-parameter-preserved c = record {

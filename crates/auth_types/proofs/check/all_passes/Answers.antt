@@ -7,47 +7,53 @@ use Rattle.auth_types.specs.Checking.{Sound}
 use Rattle.auth_types.specs.Declarations as declared
 use Rattle.auth_types.specs.OverTypes.{functions_written, state_in}
 use Rattle.auth_types.specs.RoleRules.{checked_roles}
-use Rattle.auth_types.specs.WrittenTypes.{states_in, type_meant}
-use Rattle.auth_types.proofs.CheckedTrees.{Refuses, fourth_fault, passes_end, passes_on, program_shaped, program_typed, state_fault, third_fault}
+use Rattle.auth_types.specs.WrittenTypes.{known_declarations, states_in, type_meant, type_names}
+use Rattle.auth_types.proofs.CheckedTrees.{Refuses, fourth_fault, passes_end, passes_on, program_shaped, program_typed, second_fault, state_fault, third_fault}
 use Rattle.auth_types.proofs.check.all_passes.Goals as goal
+
+pub returns-in_err-second_pass-clause-answer : goal.returns-in_err-second_pass-clause-answer
+returns-in_err-second_pass-clause-answer c =
+    let p = err_from_is_err_and c.from_residual-in_err-second_pass.result c.from_residual-in_err-second_pass.ensures.1 in
+    second_fault c.args.ast c.in_err-second_pass.field-0.0 _ (rw c.deref.ensures.value at c.in_ok-first_pass.ensures) (p.1 ∙ ap Err p.2)
+    (subst (λ (ds : List Declaration). Refuses (known_declarations (type_names (map declaration_of ds)) (map declaration_of ds)) c.in_err-second_pass.field-0.0) c.deref-2.ensures.value c.in_err-second_pass.ensures)
 
 pub returns-in_err-tree-clause-answer : goal.returns-in_err-tree-clause-answer
 returns-in_err-tree-clause-answer c =
     let p = err_from_is_err_and c.from_residual-in_err-tree.result c.from_residual-in_err-tree.ensures.1 in
-    state_fault c.args.ast c.in_err-tree.field-0.0 _ (rw c.deref.ensures.value at c.in_ok-first_pass.ensures) (p.1 ∙ ap Err p.2)
-    (subst (λ (ds : List Declaration). Refuses (state_in c.args.ast.end (states_in (map declaration_of ds))) c.in_err-tree.field-0.0) c.deref-2.ensures.value c.in_err-tree.ensures)
+    state_fault c.args.ast c.in_err-tree.field-0.0 _ c.requires (rw c.deref.ensures.value at c.in_ok-first_pass.ensures) (p.1 ∙ ap Err p.2)
+    (subst (λ (ds : List Declaration). Refuses (state_in c.args.ast.end (states_in (map declaration_of ds))) c.in_err-tree.field-0.0) c.deref-3.ensures.value c.in_err-tree.ensures.found)
 
 pub returns-in_err-third_pass-clause-answer : goal.returns-in_err-third_pass-clause-answer
 returns-in_err-third_pass-clause-answer c =
     let p = err_from_is_err_and c.from_residual-in_err-third_pass.result c.from_residual-in_err-third_pass.ensures.1 in
     let state : Ty = type_meant [] (type_of c.in_ok-tree.tree.now) in
-    third_fault c.args.ast state c.in_err-third_pass.field-0.0 _ (rw c.deref.ensures.value at c.in_ok-first_pass.ensures) (rw c.deref-2.ensures.value at c.in_ok-tree.ensures) (p.1 ∙ ap Err p.2)
-    (subst (λ (ds : List Declaration). Refuses (checked_roles [] [] state (functions_written ds)) c.in_err-third_pass.field-0.0) c.deref-3.ensures.value c.in_err-third_pass.ensures)
+    third_fault c.args.ast state c.in_err-third_pass.field-0.0 _ c.requires (rw c.deref.ensures.value at c.in_ok-first_pass.ensures) (rw c.deref-3.ensures.value at c.in_ok-tree.ensures.found) (p.1 ∙ ap Err p.2)
+    (subst (λ (ds : List Declaration). Refuses (checked_roles [] [] state (functions_written ds)) c.in_err-third_pass.field-0.0) c.deref-4.ensures.value c.in_err-third_pass.ensures)
 
 pub returns-in_err-functions-clause-answer : goal.returns-in_err-functions-clause-answer
 returns-in_err-functions-clause-answer c =
     let p = err_from_is_err_and c.from_residual-in_err-functions.result c.from_residual-in_err-functions.ensures.1 in
     let state : Ty = type_meant [] (type_of c.in_ok-tree.tree.now) in
-    fourth_fault c.args.ast state c.in_err-functions.field-0.0 _ (rw c.deref.ensures.value at c.in_ok-first_pass.ensures) (rw c.deref-2.ensures.value at c.in_ok-tree.ensures) (rw c.deref-3.ensures.value at c.in_ok-third_pass.ensures) (p.1 ∙ ap Err p.2)
+    fourth_fault c.args.ast state c.in_err-functions.field-0.0 _ c.requires (rw c.deref.ensures.value at c.in_ok-first_pass.ensures) (rw c.deref-3.ensures.value at c.in_ok-tree.ensures.found) (rw c.deref-4.ensures.value at c.in_ok-third_pass.ensures) (p.1 ∙ ap Err p.2)
     c.in_err-functions.ensures.found
 
 pub new-requires-clause-typed : goal.new-requires-clause-typed
 new-requires-clause-typed c =
     program_typed c.fourth_pass.new.types.forms.items _ c.in_ok-state.state c.in_ok-functions.functions (type_meant [] (type_of c.in_ok-tree.tree.now)) c.args.ast.declarations.items
-    c.fourth_pass.ensures.grows c.in_ok-state.ensures.found c.in_ok-functions.ensures.found c.in_ok-functions.ensures.ints
+    c.fourth_pass.ensures.grows c.in_ok-state.ensures.found c.in_ok-functions.ensures.found c.requires c.in_ok-functions.ensures.literals
 
 pub new-requires-clause-shaped : goal.new-requires-clause-shaped
 new-requires-clause-shaped c =
     program_shaped c.fourth_pass.new.types.forms.items _ c.in_ok-state.state c.in_ok-functions.functions (type_meant [] (type_of c.in_ok-tree.tree.now)) c.args.ast.declarations.items
-    c.fourth_pass.ensures.grows c.in_ok-state.ensures.found c.in_ok-functions.ensures.found c.in_ok-functions.ensures.ints (rw c.deref-3.ensures.value at c.in_ok-third_pass.ensures)
+    c.fourth_pass.ensures.grows c.in_ok-state.ensures.found c.in_ok-functions.ensures.found c.requires c.in_ok-functions.ensures.literals (rw c.deref-4.ensures.value at c.in_ok-third_pass.ensures)
 
 pub returns-clause-answer : goal.returns-clause-answer
 returns-clause-answer c =
     let state : Ty = type_meant [] (type_of c.in_ok-tree.tree.now) in
     let first : declared.first_pass (program_of c.args.ast) ≡ Sound tt = rw c.deref.ensures.value at c.in_ok-first_pass.ensures in
-    let is : state_in c.args.ast.end (states_in (map declaration_of c.args.ast.declarations.items)) ≡ Sound state = rw c.deref-2.ensures.value at c.in_ok-tree.ensures in
-    let roles : checked_roles [] [] state (functions_written c.args.ast.declarations.items) ≡ Sound tt = rw c.deref-3.ensures.value at c.in_ok-third_pass.ensures in
+    let is : state_in c.args.ast.end (states_in (map declaration_of c.args.ast.declarations.items)) ≡ Sound state = rw c.deref-3.ensures.value at c.in_ok-tree.ensures.found in
+    let roles : checked_roles [] [] state (functions_written c.args.ast.declarations.items) ≡ Sound tt = rw c.deref-4.ensures.value at c.in_ok-third_pass.ensures in
     rw c.new.ensures.meaning
-    (passes_on c.args.ast state first is
+    (passes_on c.args.ast state c.requires first is
     ∙ passes_end c.fourth_pass.new.types.forms.items _ c.in_ok-state.state c.in_ok-functions.functions state c.args.ast.declarations.items
     c.fourth_pass.ensures.grows c.in_ok-state.ensures.found c.in_ok-functions.ensures.found roles)

@@ -1,0 +1,5 @@
+use Rattle.auth_types.proofs.SoundPrograms.{checked_is_within_limits}
+use Rattle.auth_types.proofs.laws.checked_is_within_limits.Goals as goal
+
+pub returns : goal.returns
+returns c = checked_is_within_limits

@@ -1,0 +1,34 @@
+//! The laws of the definitions in `specs/`: each is a function without parameters, whose contract is the law.
+ghost use Rattle.auth_types.specs.CheckedLaws.{CheckedIsTyped, CheckedIsWithinLimits, CheckedNamesDiffer, CheckedNamesItsTypes, ElaboratedHasType, ParsedIsTyped, ScopeIsOfProgram};
+
+/// An expression that passes has the type that it says, where the locals have theirs; and the bodies of a program that passes are
+/// checked with the functions, constructors and types that it has.
+pub fn elaborated_has_type()
+    ensures has_type { ElaboratedHasType }
+    ensures scope { ScopeIsOfProgram }
+{}
+
+/// A program that passes is well-typed, and its roles have their shapes.
+pub fn checked_is_typed()
+    ensures { CheckedIsTyped }
+{}
+
+/// What the checker gives of a text that has a tree is well-typed, and its roles have their shapes.
+pub fn parsed_is_typed()
+    ensures { ParsedIsTyped }
+{}
+
+/// A program that passes names only types that it declares.
+pub fn checked_names_its_types()
+    ensures { CheckedNamesItsTypes }
+{}
+
+/// A program that passes is within the limits.
+pub fn checked_is_within_limits()
+    ensures { CheckedIsWithinLimits }
+{}
+
+/// No two functions of a program that passes have one name.
+pub fn checked_names_differ()
+    ensures { CheckedNamesDiffer }
+{}
