@@ -1,12 +1,11 @@
 -- The texts of the lines that are printed. Numbers are decimal, digests 64 lower-case hexadecimal digits.
-use Rattle.std.specs.Prelude.{ℕ, List, ◌++◌, codes, decimal}
+use Rattle.std.specs.Prelude.{ℕ, List, [], ◌∷◌, ◌++◌, codes, decimal}
 use Rattle.hex.specs.Hex.{encode_lower}
 use Rattle.core_terms.specs.Types.{Ty}
 use Rattle.core_terms.specs.Values.{Value}
-use Rattle.core_terms.specs.declared.cause.Cause.{Cause}
-use Rattle.core_terms.specs.declared.cause.Cause.TheVariants as cause
-use Rattle.core_terms.specs.declared.outcome.Trap.{Trap}
-use Rattle.core_terms.specs.declared.outcome.Trap.TheVariants as trap
+use Rattle.ideal_meaning.specs.Checked.{Cause, Short, Cut, BadKind, PieceLong, BadUse, WrongPiece, BadPiece, Header, Leftover}
+use Rattle.ideal_meaning.specs.Run.{Trap, Overflow, DivZero, TooBig, TooDeep}
+use Rattle.ideal_meaning.specs.Told.{cause_told}
 use Rattle.auth_syntax.specs.PrintedValues.{value_text}
 use Rattle.auth_syntax.specs.declared.fault.LexicalFault.{LexicalFault}
 use Rattle.auth_syntax.specs.declared.fault.LexicalFault.TheVariants as lexical
@@ -126,21 +125,25 @@ bad_use_text place k held = codes "bad-use" ++ (also place ++ (also k ++ also he
 abbrev pub wrong_piece_text : ℕ → List ℕ → List ℕ → List ℕ
 wrong_piece_text place want found = codes "wrong-piece" ++ (also place ++ (word want ++ word found))
 
--- why a proof is rejected
+-- why a proof is rejected: the cause and its numbers, a piece's place first
 abbrev pub cause_text : Cause → List ℕ
-cause_text cause.Header = codes "header"
-cause_text (cause.Short place) = codes "short" ++ also place
-cause_text (cause.BadKind place byte) = codes "bad-kind" ++ also place ++ also byte
-cause_text (cause.Cut place) = codes "cut" ++ also place
-cause_text (cause.PieceLong place len) = codes "piece-long" ++ also place ++ also len
-cause_text (cause.BadUse place k held) = bad_use_text place k held
-cause_text (cause.WrongPiece place want found) = wrong_piece_text place (encode_lower want.0) (encode_lower found.0)
-cause_text (cause.BadPiece place offset) = codes "bad-piece" ++ also place ++ also offset
-cause_text (cause.Leftover bytes) = codes "leftover" ++ also bytes
+cause_text Header = codes "header"
+cause_text (Short place) = codes "short" ++ also place
+cause_text (BadKind place byte) = codes "bad-kind" ++ also place ++ also byte
+cause_text (Cut place) = codes "cut" ++ also place
+cause_text (PieceLong place len) = codes "piece-long" ++ also place ++ also len
+cause_text (BadUse place k held) = bad_use_text place k held
+cause_text (WrongPiece place want found) = wrong_piece_text place (encode_lower want) (encode_lower found)
+cause_text (BadPiece place offset) = codes "bad-piece" ++ also place ++ also offset
+cause_text (Leftover bytes) = codes "leftover" ++ also bytes
 
 -- a line of two parts
 abbrev pub line_of : List ℕ → List ℕ → List ℕ
 line_of front text = front ++ text ++ codes "\n"
+
+-- the line of a rejection
+abbrev pub rejected_line : Cause → List ℕ
+rejected_line cause = line_of (codes "rejected ") (cause_text cause)
 
 -- the line of a refusal
 abbrev pub program_line : ProgramKind → ℕ → ℕ → List ℕ
@@ -149,17 +152,17 @@ program_line kind line column = line_of (codes "program refused: ") (program_nam
 abbrev pub refusal_line : Refusal → List ℕ
 refusal_line (refusal.Program kind line column) = program_line kind line column
 refusal_line (refusal.Input fault) = line_of (codes "input refused: ") (input_text fault)
-refusal_line (refusal.Proof cause) = line_of (codes "rejected ") (cause_text cause)
+refusal_line (refusal.Proof cause) = rejected_line (cause_told cause)
 
 -- the lines of outcomes
 abbrev pub done_line : Ty → Value → List ℕ
 done_line t v = line_of (codes "done ") (value_text t v)
 
 abbrev pub trap_name : Trap → List ℕ
-trap_name trap.Overflow = codes "overflow"
-trap_name trap.DivZero = codes "divzero"
-trap_name trap.TooBig = codes "toobig"
-trap_name trap.TooDeep = codes "toodeep"
+trap_name Overflow = codes "overflow"
+trap_name DivZero = codes "divzero"
+trap_name TooBig = codes "toobig"
+trap_name TooDeep = codes "toodeep"
 
 abbrev pub trap_line : Trap → List ℕ
 trap_line trap = codes "trap " ++ trap_name trap ++ codes "\n"
@@ -179,3 +182,16 @@ state_line t v = line_of (codes "state ") (value_text t v)
 abbrev pub proof_line : (fresh again bytes : ℕ) → List ℕ
 proof_line fresh again bytes =
     line_of (codes "proof ") (codes "new" ++ (also fresh ++ (codes " used" ++ (also again ++ (codes " bytes" ++ also bytes)))))
+
+-- the hexadecimal digits of a piece, or a dash where it has no bytes
+abbrev pub piece_text : List ℕ → List ℕ
+piece_text [] = codes "-"
+piece_text (b ∷ bytes) = encode_lower (b ∷ bytes)
+
+-- the line of a collision: the number of the piece, what the proof offers and what an honest prover writes
+abbrev pub collision_line : (place : ℕ) (offered honest : List ℕ) → List ℕ
+collision_line place offered honest = line_of (codes "collision") (also place ++ (word (piece_text offered) ++ word (piece_text honest)))
+
+-- the line of an audit that agrees on an outcome, behind which the outcome's line stands
+abbrev pub agrees_line : List ℕ → List ℕ
+agrees_line line = codes "agrees " ++ line

@@ -1,11 +1,12 @@
 // The lines of outcomes and refusals.
 
-ghost use Rattle.std.specs.Prelude.{◌≡◌, IfOk, string_bytes};
+ghost use Rattle.std.specs.Prelude.{◌≡◌, ◌++◌, IfOk, string_bytes};
 ghost use Rattle.hex.specs.Hex.{encode_lower};
 ghost use Rattle.core_terms.specs.Programs.{meaning, types_of};
 ghost use Rattle.core_terms.specs.Spelling.{spelling};
 ghost use Rattle.core_terms.specs.TypeTables.{type_at};
 ghost use Rattle.core_terms.specs.Values.{IsShallow, Value};
+ghost use Rattle.ideal_meaning.specs.Told.{cause_told, trap_told};
 ghost use Rattle.printed_lines.specs.Lines as def;
 
 use crate::names::{argument_name, literal_name, program_name};
@@ -87,7 +88,7 @@ fn image_text(alloc: Global, kind: ImageKind) -> Result<String, AllocError>
 
 /// Why a proof is rejected.
 fn cause_text(alloc: Global, cause: Cause) -> Result<String, AllocError>
-    ensures { IfOk result (λ text. string_bytes text ≡ def.cause_text cause) }
+    ensures { IfOk result (λ text. string_bytes text ≡ def.cause_text (cause_told cause)) }
 {
     match cause {
         Cause::Header => format!(in alloc; "header"),
@@ -176,6 +177,48 @@ pub fn proof_line(
     between(alloc, b"proof ", text.as_bytes())
 }
 
+/// The line of a collision: the number of the piece, what the proof offers and what an honest prover writes, each in lower-case
+/// hexadecimal digits, or a dash where it has no bytes.
+pub fn collision_line(
+    alloc: Global,
+    place: u64,
+    offered: &[u8],
+    honest: &[u8],
+) -> Result<Vec<u8>, AllocError>
+    ensures { IfOk result (λ line. line.items ≡ def.collision_line place offered.now honest.now) }
+{
+    let offered = piece_text(alloc, offered)?;
+    let honest = piece_text(alloc, honest)?;
+    let text = pieces_text(alloc, place, &offered, &honest)?;
+    between(alloc, b"collision", text.as_bytes())
+}
+
+/// The hexadecimal digits of a piece, or a dash where it has no bytes.
+fn piece_text(alloc: Global, bytes: &[u8]) -> Result<String, AllocError>
+    ensures { IfOk result (λ text. string_bytes text ≡ def.piece_text bytes.now) }
+{
+    if bytes.is_empty() {
+        return format!(in alloc; "-");
+    }
+    hex::encode(alloc, bytes)
+}
+
+/// A place and two pieces as texts, each behind a blank.
+fn pieces_text(alloc: Global, place: u64, offered: &str, honest: &str) -> Result<String, AllocError>
+    ensures { IfOk result (λ text. string_bytes text ≡ def.also place ++ (def.word offered.now ++ def.word honest.now)) }
+{
+    format!(in alloc; " {place} {offered} {honest}")
+}
+
+/// The line of an audit that agrees on an outcome, whose own line is this one.
+pub fn agrees_line(alloc: Global, line: &[u8]) -> Result<Vec<u8>, AllocError>
+    ensures { IfOk result (λ agreed. agreed.items ≡ def.agrees_line line.now) }
+{
+    let mut agreed = Vec::from_slice(alloc, b"agrees ")?;
+    agreed.extend_from_slice(line)?;
+    Ok(agreed)
+}
+
 /// A line that ends with these bytes.
 fn between(alloc: Global, front: &[u8], text: &[u8]) -> Result<Vec<u8>, AllocError>
     ensures { IfOk result (λ line. line.items ≡ def.line_of front.now text.now) }
@@ -188,7 +231,7 @@ fn between(alloc: Global, front: &[u8], text: &[u8]) -> Result<Vec<u8>, AllocErr
 
 /// The line of a trap.
 pub fn trap_line(trap: Trap) -> &'static str
-    ensures { result.now ≡ def.trap_line trap }
+    ensures { result.now ≡ def.trap_line (trap_told trap) }
 {
     match trap {
         Trap::Overflow => "trap overflow\n",
