@@ -3,7 +3,8 @@ use Rattle.std.proofs.Common.{◌≡◌, ℕ, List, [], ◌∷◌, length, get_o
 use Rattle.std.specs.List.{list_any}
 use Rattle.std.proofs.lemmas.List.{take_rest}
 use Rattle.lam_outside.specs.Told.{Contents}
-use Rattle.auth_cli.specs.Answer.{answer, check_answer, checked_answer, command_answer, init_answer, initial_answer, judged_answer, shallow_answer, spelled_answer, verify_answer}
+use Rattle.auth_cli.specs.Answer.{answer, audit_answer, audited_answer, check_answer, checked_answer, command_answer, init_answer, initial_answer, judged_answer, prove_answer, proved_answer, shallow_answer, spelled_answer, verify_answer}
+use Rattle.auth_cli.specs.Halting.{Finds, Found}
 use Rattle.auth_cli.specs.SoundPrograms.{HoldsSound, IsOutcome, ReadSound}
 use Rattle.auth_cli.specs.Storing.{FindsOutput}
 use Rattle.auth_cli.specs.Words.{command_of, texts}
@@ -66,6 +67,42 @@ pub init_found : (words : List (Bor (List ℕ))) (none : Bor (List ℕ)) (files 
     → FindsOutput (get_or words 4 none).now (init_answer (texts words) files) result
 init_found words none files result five finds =
     subst (λ answer. FindsOutput (get_or words 4 none).now answer result) (sym (init_words words none files five)) (finds (get_or words 4 none).now)
+
+-- the seven arguments of `prove`
+pub prove_words : (words : List (Bor (List ℕ))) (none : Bor (List ℕ)) → length words ≡ 7 → texts words
+    ≡ (get_or words 0 none).now ∷ (get_or words 1 none).now ∷ (get_or words 2 none).now ∷ (get_or words 3 none).now ∷ (get_or words 4 none).now ∷ (get_or words 5 none).now ∷ (get_or words 6 none).now ∷ []
+prove_words [] none seven = absurd (omega arith)
+prove_words (a ∷ []) none seven = absurd (omega arith)
+prove_words (a ∷ b ∷ []) none seven = absurd (omega arith)
+prove_words (a ∷ b ∷ c ∷ []) none seven = absurd (omega arith)
+prove_words (a ∷ b ∷ c ∷ d ∷ []) none seven = absurd (omega arith)
+prove_words (a ∷ b ∷ c ∷ d ∷ e ∷ []) none seven = absurd (omega arith)
+prove_words (a ∷ b ∷ c ∷ d ∷ e ∷ f ∷ []) none seven = absurd (omega arith)
+prove_words (a ∷ b ∷ c ∷ d ∷ e ∷ f ∷ g ∷ []) none seven = refl
+prove_words (a ∷ b ∷ c ∷ d ∷ e ∷ f ∷ g ∷ h ∷ rest) none seven = absurd (omega arith)
+
+pub prove_found : (words : List (Bor (List ℕ))) (none : Bor (List ℕ)) (files : Contents) (result : Result Output Halt) → length words ≡ 7
+    → ((name : List ℕ) → FindsOutput name (proved_answer (get_or words 0 none).now (get_or words 1 none).now (get_or words 2 none).now (get_or words 3 none).now (get_or words 4 none).now (get_or words 5 none).now name files) result)
+    → FindsOutput (get_or words 6 none).now (prove_answer (texts words) files) result
+prove_found words none files result seven finds =
+    subst (λ arguments. FindsOutput (get_or words 6 none).now (prove_answer arguments files) result) (sym (prove_words words none seven)) (finds (get_or words 6 none).now)
+
+-- the six arguments of `audit`
+pub audit_words : (words : List (Bor (List ℕ))) (none : Bor (List ℕ)) → length words ≡ 6 → texts words
+    ≡ (get_or words 0 none).now ∷ (get_or words 1 none).now ∷ (get_or words 2 none).now ∷ (get_or words 3 none).now ∷ (get_or words 4 none).now ∷ (get_or words 5 none).now ∷ []
+audit_words [] none six = absurd (omega arith)
+audit_words (a ∷ []) none six = absurd (omega arith)
+audit_words (a ∷ b ∷ []) none six = absurd (omega arith)
+audit_words (a ∷ b ∷ c ∷ []) none six = absurd (omega arith)
+audit_words (a ∷ b ∷ c ∷ d ∷ []) none six = absurd (omega arith)
+audit_words (a ∷ b ∷ c ∷ d ∷ e ∷ []) none six = absurd (omega arith)
+audit_words (a ∷ b ∷ c ∷ d ∷ e ∷ f ∷ []) none six = refl
+audit_words (a ∷ b ∷ c ∷ d ∷ e ∷ f ∷ g ∷ rest) none six = absurd (omega arith)
+
+pub audit_found : (words : List (Bor (List ℕ))) (none : Bor (List ℕ)) (files : Contents) (found : Found) → length words ≡ 6
+    → Finds (audited_answer (get_or words 0 none).now (get_or words 1 none).now (get_or words 2 none).now (get_or words 3 none).now (get_or words 4 none).now (get_or words 5 none).now files) found
+    → Finds (audit_answer (texts words) files) found
+audit_found words none files found six finds = subst (λ arguments. Finds (audit_answer arguments files) found) (sym (audit_words words none six)) finds
 
 -- the first of some arguments
 pub first_word : (words : List (Bor (List ℕ))) (none : Bor (List ℕ)) (files : Contents) (status : Status) → (IsOutcome status → HoldsSound (files (get_or words 0 none).now)) → ReadSound (texts words) files status

@@ -57,13 +57,14 @@ module _ (answer : Contents → Option Answer) (old new : Outside) where
     writes = writes;
   }
 
-  -- an outcome was told
+  -- a report was told
   report_ends : (e : Ending) (line : List ℕ) → ForSome old.contents (λ files. answer files ≡ Some (says (ending_status e) line))
       → new.written ≡ append_known old.written line → new.stores ≡ old.stores
       → new.read_faults ≡ old.read_faults → new.store_faults ≡ old.store_faults → new.write_faults ≡ old.write_faults → EndsAs answer old new (ending_status e)
   report_ends ending.Done line finds written same reads stores writes = answered _ line finds written same reads stores writes
   report_ends ending.Trap line finds written same reads stores writes = answered _ line finds written same reads stores writes
   report_ends ending.OutOfFuel line finds written same reads stores writes = answered _ line finds written same reads stores writes
+  report_ends ending.Collision line finds written same reads stores writes = answered _ line finds written same reads stores writes
 
   -- a refusal was told
   refusal_ends : (what : Refusal) → ForSome old.contents (λ files. answer files ≡ Some (refused what))

@@ -56,6 +56,7 @@ module _ (answer : Contents → Option Answer) (old new : Outside) (name : List 
     output_ends ending.Done is written reads store_faults writes = answered ending.Done is written reads store_faults writes
     output_ends ending.Trap is written reads store_faults writes = answered ending.Trap is written reads store_faults writes
     output_ends ending.OutOfFuel is written reads store_faults writes = answered ending.OutOfFuel is written reads store_faults writes
+    output_ends ending.Collision is written reads store_faults writes = answered ending.Collision is written reads store_faults writes
 
     -- a front of them was written
     part : WritesPart old.written new.written text → Rose old.write_faults new.write_faults ⊎ Rose old.store_faults new.store_faults → EndsInWriteFault answer old new

@@ -13,10 +13,10 @@ use Rattle.core_terms.specs.declared.program.Program.{Program}
 use Rattle.core_terms.specs.declared.term.Function.{Function}
 use Rattle.core_terms.specs.declared.types.TyId.{TyId}
 use Rattle.core_terms.proofs.LawProofs.{shape_test_is_exact}
-use Rattle.verifier_mode.proofs.RoleOf.{there}
+use Rattle.core_terms.proofs.CodePrograms.{there}
 use Rattle.plain_meaning.specs.PlainValues.{plain_of, plains_of}
 use Rattle.plain_meaning.specs.declared.values.Plain.{Plain}
-use Rattle.auth_cli.specs.Arguments.{init_type}
+use Rattle.core_terms.specs.Roles.{init_type}
 
 -- the shape of an init
 pub record InitShape (P : tree.Program) (f : ℕ) : Type 0 where

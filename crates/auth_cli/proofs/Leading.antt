@@ -8,17 +8,19 @@ use Rattle.lam_outside.specs.Told.{Contents}
 use Rattle.core_terms.specs.Types.{Ty}
 use Rattle.core_terms.specs.Values.{Value}
 use Rattle.core_terms.specs.Reading.{Read, Good, BadAt}
+use Rattle.core_terms.specs.Spelling.{spelling}
 use Rattle.core_terms.specs.Terms.{Kind, Query, Inner, Init, Update, Program, function_at}
 use Rattle.core_terms.specs.Roles.{role_named}
-use Rattle.auth_syntax.specs.Literals.{Literal, Spelled, literal}
+use Rattle.auth_syntax.specs.Literals.{Literal, IsValue, literal}
 use Rattle.printed_lines.specs.declared.refusal.Argument.{Argument}
 use Rattle.printed_lines.specs.declared.refusal.Argument.TheVariants as named
 use Rattle.printed_lines.specs.declared.refusal.InputFault.{InputFault}
 use Rattle.printed_lines.specs.declared.refusal.InputFault.TheVariants.{RoleKind, TooLong}
 use Rattle.ideal_meaning.specs.Ideal.{Outcome}
 use Rattle.ideal_meaning.specs.Checked.{Verdict, BadState, BadArgument, Rejected, Accepted}
-use Rattle.verifier_mode.specs.Verdicts.{argument_type}
-use Rattle.auth_cli.specs.Answer.{Answer, Call, DigestedProgram, answer, argument_literal, call_answer, command_answer, input_refused, judged_answer, max_file, max_program, state_read, verdict_answer, with_argument, with_file, with_literal, with_number, with_program, with_query, with_query_at, with_state_read}
+use Rattle.core_terms.specs.Roles.{argument_type}
+use Rattle.auth_cli.specs.Answer.{Answer, Call, answer, call_answer, command_answer, input_refused, judged_answer, literal_at, max_file, max_program, state_read, verdict_answer, with_argument, with_file, with_literal, with_number, with_program, with_query, with_query_at, with_state_read}
+use Rattle.auth_cli.specs.FueledQueries.{DigestedProgram}
 use Rattle.auth_cli.specs.Arguments.{is_query, query_at, query_named, fuel_of}
 use Rattle.auth_cli.specs.SoundPrograms.{IsOutcome}
 use Rattle.auth_cli.specs.TextPrograms.{TextProgram, IsProgram, program_of_text}
@@ -70,25 +72,29 @@ read_leads : (found : Read Value) (bytes : List ℕ) (go : List ℕ → Option A
 read_leads (Good v rest place) bytes go has = refl
 read_leads (BadAt offset) bytes go has = absurd has
 
-literal_leads : (found : Literal) (a : List ℕ) (go : List ℕ → Option Answer) → found ≡ Spelled a → Leads (with_literal found go) (go a)
+literal_leads : (found : Literal) (a : Value) (go : Value → Option Answer) → found ≡ IsValue a → Leads (with_literal found go) (go a)
 literal_leads found a go is has = ap (λ l. with_literal l go) is
 
-argument_leads : (P : Program) (f : ℕ) (text a : List ℕ) (go : List ℕ → Option Answer) → literal P (argument_type P f) text ≡ Spelled a → Leads (with_argument P f text go) (go a)
-unfolding argument_literal
-argument_leads P f text a go is has = literal_leads (literal P (argument_type P f) text) a go is has
+argument_leads : (P : Program) (f : ℕ) (text : List ℕ) (a : Value) (go : List ℕ → Option Answer) → literal P (argument_type P f) text ≡ IsValue a → Leads (with_argument P f text go) (go (spelling a))
+unfolding literal_at
+argument_leads P f text a go is has = literal_leads (literal P (argument_type P f) text) a (λ v. go (spelling v)) is has
 
-module _ (program role state argument fuel proof : List ℕ) (files : Contents) (text s a bytes : List ℕ) (P : Program) (f k : ℕ) where
+module _ (program role state argument fuel proof : List ℕ) (files : Contents) (text s bytes : List ℕ) (a : Value) (P : Program) (f k : ℕ) where
   -- the call that the arguments mean
   abbrev pub meant_call : Call
-  meant_call = record { program = P; role = f; fuel = k; state = s; argument = a }
+  meant_call = record { program = P; role = f; fuel = k; state = s; argument = spelling a }
+
+  -- what is gone on with behind the argument
+  abbrev judged_with : List ℕ → Option Answer
+  judged_with a = with_file max_file named.Proof (files proof) (λ bytes. Some (call_answer (record { program = P; role = f; fuel = k; state = s; argument = a }) bytes))
 
   judged_leads : files program ≡ Some text → program_of_text text ≡ IsProgram P → query_named P role ≡ Some f → fuel_of fuel ≡ Some k → files state ≡ Some s
-      → literal P (argument_type P f) argument ≡ Spelled a → files proof ≡ Some bytes
+      → literal P (argument_type P f) argument ≡ IsValue a → files proof ≡ Some bytes
       → Leads (judged_answer program role state argument fuel proof files) (Some (call_answer meant_call bytes))
   judged_leads text_is program_is role_is fuel_is state_is argument_is proof_is =
       leads_on _ _ _ (file_leads max_program named.Program _ text _ text_is) (leads_on _ _ _ (program_leads (sha256 text) _ P _ program_is) (leads_on _ _ _ (query_leads P role f _ role_is)
       (leads_on _ _ _ (number_leads named.Fuel _ k _ fuel_is) (leads_on _ _ _ (file_leads max_file named.State _ s _ state_is) (leads_on _ _ _ (read_leads (state_read P s) s _)
-      (leads_on _ _ _ (argument_leads P f argument a _ argument_is) (file_leads max_file named.Proof _ bytes _ proof_is)))))))
+      (leads_on _ _ _ (argument_leads P f argument a judged_with argument_is) (file_leads max_file named.Proof _ bytes _ proof_is)))))))
 
   command_leads : (refused : Bool) → Leads (command_answer (cond refused None (Some Verify)) (program ∷ role ∷ state ∷ argument ∷ fuel ∷ proof ∷ []) files) (judged_answer program role state argument fuel proof files)
   command_leads true has = absurd has
@@ -97,7 +103,7 @@ module _ (program role state argument fuel proof : List ℕ) (files : Contents) 
   -- the answer of words that call `verify` on these files and arguments is that of the verdict
   pub line_leads : (line : List (List ℕ)) (name : List ℕ) → line ≡ name ∷ codes "verify" ∷ program ∷ role ∷ state ∷ argument ∷ fuel ∷ proof ∷ []
       → files program ≡ Some text → program_of_text text ≡ IsProgram P → query_named P role ≡ Some f → fuel_of fuel ≡ Some k → files state ≡ Some s
-      → literal P (argument_type P f) argument ≡ Spelled a → files proof ≡ Some bytes
+      → literal P (argument_type P f) argument ≡ IsValue a → files proof ≡ Some bytes
       → Leads (answer line files) (Some (call_answer meant_call bytes))
   unfolding answer
   line_leads line name words text_is program_is role_is fuel_is state_is argument_is proof_is has =

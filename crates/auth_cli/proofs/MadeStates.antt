@@ -13,7 +13,8 @@ use Rattle.images.specs.Saves.{IsSaved}
 use Rattle.images.specs.declared.fault.SaveFault.{SaveFault}
 use Rattle.images.specs.declared.fault.SaveFault.TheVariants as save_fault
 use Rattle.printed_lines.specs.Lines.{done_line}
-use Rattle.auth_cli.specs.Answer.{Answer, DigestedProgram, made_answer, max_file, state_image, state_projection}
+use Rattle.auth_cli.specs.Answer.{Answer, made_answer, max_file, state_image, state_projection}
+use Rattle.auth_cli.specs.FueledQueries.{DigestedProgram}
 use Rattle.auth_cli.specs.Halting.{of_save_fault}
 use Rattle.auth_cli.specs.Storing.{FindsOutputInHand}
 use Rattle.auth_cli.specs.declared.report.Ending.TheVariants.{Done}

@@ -7,7 +7,7 @@ use Rattle.std.specs.Str.{all_ascii_digits}
 use Rattle.std.specs.Str.Parse.{ParsesUnsigned, digits_value}
 use Rattle.std.proofs.lemmas.Grind.{common_steps}
 use Rattle.std.proofs.lemmas.Str.Parse.{IsNumeralModel, numerals_by_value, tells_all_ascii_digits, parse_digits}
-use Rattle.auth_cli.specs.Arguments.{fuel_of, is_number, most_fuel}
+use Rattle.auth_cli.specs.Arguments.{is_number, number_within}
 
 own : IsNumeralModel (λ ds. all_ascii_digits ds ≡ true) (digits_value 10)
 own = numerals_by_value _ tells_all_ascii_digits
@@ -26,21 +26,22 @@ parts false b c e = absurd (cc)
 some_digits : (n : ℕ) → nat_le 1 n ≡ true → 0 < n
 some_digits n e = grind (arith, common_steps)
 
-too_great : (n : ℕ) → most_fuel < n → nat_le n most_fuel ≡ false
-too_great n great = grind (arith, common_steps)
+module _ (most : ℕ) (fits : most < 2 ^ 64) where
+  too_great : (n : ℕ) → most < n → nat_le n most ≡ false
+  too_great n great = grind (arith, common_steps)
 
-unread_great : (text : List ℕ) → (0 < length text) → ((0 < length text) × (digits_value 10 text < 2 ^ 64) → ⊥) → most_fuel < digits_value 10 text
-unread_great text some none = by (nat_le (digits_value 10 text) most_fuel) refl
-  where
-    by : (t : Bool) → nat_le (digits_value 10 text) most_fuel ≡ t → most_fuel < digits_value 10 text
-    by true e = let small : digits_value 10 text < 2 ^ 64 = grind (arith, common_steps) in absurd (none (some, small))
-    by false e = grind (arith, common_steps)
+  unread_great : (text : List ℕ) → (0 < length text) → ((0 < length text) × (digits_value 10 text < 2 ^ 64) → ⊥) → most < digits_value 10 text
+  unread_great text some none = by (nat_le (digits_value 10 text) most) refl
+    where
+      by : (t : Bool) → nat_le (digits_value 10 text) most ≡ t → most < digits_value 10 text
+      by true e = let small : digits_value 10 text < 2 ^ 64 = grind (arith, common_steps) in absurd (none (some, small))
+      by false e = grind (arith, common_steps)
 
--- a number that was not read is too great
-pub fuel_unread : {E : Type 0} (text : List ℕ) (r : Result ℕ E) (e : E) → ParsesUnsigned 64 10 text r → r ≡ Err e → is_number text ≡ true → fuel_of text ≡ None
-fuel_unread {E = E} text (Ok n) e h is form = absurd (cc)
-fuel_unread {E = E} text (Err e') e h is form =
-    let digits = parts (nat_le 1 (length text)) (nat_le (length text) 20) (all_ascii_digits text) form in
-    let some = some_digits (length text) digits.0 in
-    let none = parse_digits own {E = E} 64 text (Err e') h digits.2 in
-    rw (form, too_great (digits_value 10 text) (unread_great text some none)) refl
+  -- a number that was not read is too great
+  pub number_unread : {E : Type 0} (text : List ℕ) (r : Result ℕ E) (e : E) → ParsesUnsigned 64 10 text r → r ≡ Err e → is_number text ≡ true → number_within most text ≡ None
+  number_unread {E = E} text (Ok n) e h is form = absurd (cc)
+  number_unread {E = E} text (Err e') e h is form =
+      let digits = parts (nat_le 1 (length text)) (nat_le (length text) 20) (all_ascii_digits text) form in
+      let some = some_digits (length text) digits.0 in
+      let none = parse_digits own {E = E} 64 text (Err e') h digits.2 in
+      rw (form, too_great (digits_value 10 text) (unread_great text some none)) refl

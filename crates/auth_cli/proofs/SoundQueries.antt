@@ -18,9 +18,9 @@ use Rattle.core_terms.proofs.LawProofs.{typing_test_is_exact, shape_test_is_exac
 use Rattle.auth_cli.specs.Answer.{call_verdict}
 use Rattle.auth_cli.specs.Arguments.{is_query, query_at, query_named}
 use Rattle.auth_cli.specs.SoundPrograms.{IsSound}
-use Rattle.auth_cli.proofs.Queries.{role_within}
-use Rattle.verifier_mode.specs.Verdicts.{argument_type}
-use Rattle.verifier_mode.proofs.RoleOf.{own_role, there}
+use Rattle.auth_cli.proofs.RolesByName.{role_within}
+use Rattle.core_terms.specs.Roles.{argument_type}
+use Rattle.core_terms.proofs.CodePrograms.{own_role, there}
 
 is_well_typed : (P : Program) → IsSound P → IsTyped P
 is_well_typed P sound = (typing_test_is_exact P).0 sound.typed

@@ -1,11 +1,11 @@
 -- The steps of a command's work, put together.
 use Rattle.std.proofs.Common.{◌≡◌, ℕ, List, [], Option, Some, Result, Ok, Err, IsErrAnd, sym, ap, ◌∙◌, subst}
-use Rattle.lam_outside.specs.Told.{Contents}
 use Rattle.core_terms.specs.Types.{Ty}
 use Rattle.core_terms.specs.Values.{Value}
+use Rattle.core_terms.specs.Spelling.{spelling}
 use Rattle.core_terms.specs.Terms as tree
-use Rattle.auth_syntax.specs.Literals.{Spelled, literal}
-use Rattle.auth_syntax.specs.LiteralAnswers.{ReadsLiteral}
+use Rattle.auth_syntax.specs.Literals.{literal}
+use Rattle.auth_syntax.specs.LiteralAnswers.{ReadsLiteral, SpellsLiteral}
 use Rattle.auth_syntax.specs.declared.fault.LiteralFault.{LiteralFault}
 use Rattle.auth_syntax.specs.declared.fault.LiteralFault.TheVariants as literal_fault
 use Rattle.images.specs.Images.{Root, image_of}
@@ -13,10 +13,10 @@ use Rattle.images.specs.Images as images
 use Rattle.images.specs.Loads.{Tells}
 use Rattle.images.specs.declared.fault.ImageFault.{ImageFault}
 use Rattle.images.specs.declared.fault.ImageFault.TheVariants as image_fault
-use Rattle.verifier_mode.specs.Verdicts.{argument_type}
-use Rattle.auth_cli.specs.Answer.{Answer, Call, DigestedProgram, argument_literal, image_read, literal_at, with_argument, with_call, with_fuel, with_image, with_literal, with_program_file, with_query, with_root, with_state_file}
-use Rattle.auth_cli.specs.Halting.{Finds, Found, GoesOn, GoesOnInHand, HaltCause, HaltsAs, of_image_fault, of_literal_fault}
-use Rattle.auth_cli.specs.Storing.{FindsOutput, FindsOutputInHand, IsOutput}
+use Rattle.auth_cli.specs.Answer.{Answer, image_read, literal_at, with_image, with_literal, with_root, with_value}
+use Rattle.auth_cli.specs.FueledQueries.{DigestedProgram}
+use Rattle.auth_cli.specs.Halting.{Finds, FindsInHand, Found, GoesOn, GoesOnInHand, HaltCause, HaltsAs, of_image_fault, of_literal_fault}
+use Rattle.auth_cli.specs.Storing.{FindsOutput, FindsOutputInHand}
 use Rattle.auth_cli.specs.declared.report.Halt.{Halt}
 use Rattle.auth_cli.specs.declared.report.Halt.TheVariants.{Usage, Refused, ReadFault, NoMemory}
 use Rattle.auth_cli.specs.declared.report.Output.{Output}
@@ -36,54 +36,46 @@ halts_first first next value result halt is halts = halted (λ go. first (λ a. 
 pub halts_behind : (answer behind : Option Answer) (halt : Halt) → answer ≡ behind → HaltsAs behind halt → HaltsAs answer halt
 halts_behind answer behind halt same halts = subst (λ a. HaltsAs a halt) (sym same) halts
 
--- a call is halted at its program
-pub call_halts_first : (program role state argument fuel : List ℕ) (files : Contents) (halt : Halt) → ((go : DigestedProgram → Option Answer) → HaltsAs (with_program_file (files program) go) halt)
-    → (go : Call → Option Answer) → HaltsAs (with_call program role state argument fuel files go) halt
-call_halts_first program role state argument fuel files halt halts go = halts _
-
-module _ (program role state argument fuel : List ℕ) (files : Contents) (p : DigestedProgram) (f k : ℕ) where
-  -- what the answer comes to before the state
-  to_state : ((go : DigestedProgram → Option Answer) → with_program_file (files program) go ≡ go p) → ((go : ℕ → Option Answer) → with_query p.program role go ≡ go f)
-      → ((go : ℕ → Option Answer) → with_fuel fuel go ≡ go k)
-      → (go : Call → Option Answer) → with_call program role state argument fuel files go
-      ≡ with_state_file p.program (files state) (λ s. with_argument p.program f argument (λ a. go (record { program = p.program; role = f; fuel = k; state = s; argument = a })))
-  to_state program_goes role_goes fuel_goes go = program_goes _ ∙ (role_goes _ ∙ fuel_goes _)
-
-  -- a call is halted at its state
-  pub call_halts : (halt : Halt) → ((go : DigestedProgram → Option Answer) → with_program_file (files program) go ≡ go p) → ((go : ℕ → Option Answer) → with_query p.program role go ≡ go f)
-      → ((go : ℕ → Option Answer) → with_fuel fuel go ≡ go k) → ((go : List ℕ → Option Answer) → HaltsAs (with_state_file p.program (files state) go) halt)
-      → (go : Call → Option Answer) → HaltsAs (with_call program role state argument fuel files go) halt
-  call_halts halt program_goes role_goes fuel_goes halts go = halts_behind _ _ halt (to_state program_goes role_goes fuel_goes go) (halts _)
+-- what halts a step on what is in hand
+pub hand_halts : {A T : Type 0} (step : (A → Option Answer) → Option Answer) (value : T → A) (halt : Halt) → GoesOnInHand step value (Err halt) → (go : A → Option Answer) → HaltsAs (step go) halt
+hand_halts step value Usage goes = goes
+hand_halts step value (Refused what) goes = goes
+hand_halts step value ReadFault goes = absurd goes
+hand_halts step value NoMemory goes = goes
 
 -- what halted the work is found
 pub finds_halt : (answer : Option Answer) (result : Found) (halt : Halt) → result ≡ Err halt → HaltsAs answer halt → Finds answer result
 finds_halt answer (Ok report) halt is halts = absurd (cc)
 finds_halt answer (Err other) halt is halts = let same : halt ≡ other = cc in subst (HaltsAs answer) same halts
 
--- a text that is no literal of the argument's type is refused
-pub literal_refused : {T : Type 0} (P : tree.Program) (f : ℕ) (text : List ℕ) (t : Ty) (value : T → List ℕ) (fault : LiteralFault) (result : Result T Halt)
-    → t ≡ argument_type P f → IsErrAnd result (λ halt. halt ≡ of_literal_fault fault) → ReadsLiteral (literal P t text) (Err fault) → GoesOnInHand (with_argument P f text) value result
-unfolding argument_literal
-literal_refused P f text t value fault (Ok spelling) of_type halt is = absurd halt
-literal_refused P f text t value (literal_fault.At kind offset) (Err h) of_type halt is =
-    subst (λ h. GoesOnInHand (with_argument P f text) value (Err h)) (sym halt)
-    (λ go. ap (λ t. with_literal (literal P t text) go) (sym of_type) ∙ ap (λ found. with_literal found go) is)
-literal_refused P f text t value literal_fault.NoMemory (Err h) of_type halt is = subst (λ h. GoesOnInHand (with_argument P f text) value (Err h)) (sym halt) (λ go. tt)
+-- what is found of work on what is in hand is found
+pub report_found : (answer : Answer) (result : Found) → FindsInHand answer result → Finds (Some answer) result
+report_found answer (Ok report) finds = finds
+report_found answer (Err Usage) finds = finds
+report_found answer (Err (Refused what)) finds = finds
+report_found answer (Err ReadFault) finds = absurd finds
+report_found answer (Err NoMemory) finds = finds
 
--- a text that is one is gone on with
-pub literal_goes : (P : tree.Program) (f : ℕ) (text : List ℕ) (t : Ty) (spelling : List ℕ) → t ≡ argument_type P f → literal P t text ≡ Spelled spelling
-    → (go : List ℕ → Option Answer) → with_argument P f text go ≡ go spelling
-unfolding argument_literal
-literal_goes P f text t spelling of_type is go = ap (λ t. with_literal (literal P t text) go) (sym of_type) ∙ ap (λ found. with_literal found go) is
+-- a text that is no literal of a type is refused, whatever of its value would be gone on with
+pub literal_refused : {A T : Type 0} (P : tree.Program) (t : Ty) (text : List ℕ) (part : Value → A) (value : T → A) (fault : LiteralFault) (result : Result T Halt)
+    → IsErrAnd result (λ halt. halt ≡ of_literal_fault fault) → ReadsLiteral (literal P t text) (Err fault) → GoesOnInHand (λ go. with_value P t text (λ v. go (part v))) value result
+unfolding literal_at
+literal_refused P t text part value fault (Ok spelling) halt is = absurd halt
+literal_refused P t text part value (literal_fault.At kind offset) (Err h) halt is =
+    subst (λ h. GoesOnInHand (λ go. with_value P t text (λ v. go (part v))) value (Err h)) (sym halt) (λ go. ap (λ found. with_literal found (λ v. go (part v))) is)
+literal_refused P t text part value literal_fault.NoMemory (Err h) halt is =
+    subst (λ h. GoesOnInHand (λ go. with_value P t text (λ v. go (part v))) value (Err h)) (sym halt) (λ go. tt)
+
+-- the spelling of what is one is gone on with
+pub literal_goes : (P : tree.Program) (t : Ty) (text bytes : List ℕ) → SpellsLiteral (literal P t text) bytes
+    → (go : List ℕ → Option Answer) → with_value P t text (λ v. go (spelling v)) ≡ go bytes
+unfolding literal_at
+literal_goes P t text bytes is go = ap (λ found. with_literal found (λ v. go (spelling v))) is.1 ∙ ap go is.2
 
 -- what halted the work of a command that may store a file is found
 pub output_halt : (name : List ℕ) (answer : Option Answer) (result : Result Output Halt) (halt : Halt) → result ≡ Err halt → HaltsAs answer halt → FindsOutput name answer result
 output_halt name answer (Ok output) halt is halts = absurd (cc)
 output_halt name answer (Err other) halt is halts = let same : halt ≡ other = cc in subst (HaltsAs answer) same halts
-
--- so is an output that the answer comes to
-pub output_found : (name : List ℕ) (answer : Option Answer) (a : Answer) (result : Result Output Halt) (output : Output) → result ≡ Ok output → answer ≡ Some a → IsOutput a name output → FindsOutput name answer result
-output_found name answer a result output is same found = subst (FindsOutput name answer) (sym is) (a, same, found)
 
 -- bytes that are no image are refused
 pub image_refused : {T : Type 0} (p : DigestedProgram) (bytes : List ℕ) (value : T → Value) (fault : ImageFault) (result : Result T Halt)
@@ -107,20 +99,6 @@ image_refused p bytes value fault (Err h) halt is = subst (λ h. GoesOnInHand (w
 pub image_goes : (p : DigestedProgram) (bytes : List ℕ) (v : Value) → image_of p.program p.digest bytes ≡ Root v → (go : Value → Option Answer) → with_image p bytes go ≡ go v
 unfolding image_read
 image_goes p bytes v is go = ap (λ i. with_root i go) is
-
--- the same of a literal of a type
-pub literal_at_refused : {T : Type 0} (P : tree.Program) (t : Ty) (text : List ℕ) (value : T → List ℕ) (fault : LiteralFault) (result : Result T Halt)
-    → IsErrAnd result (λ halt. halt ≡ of_literal_fault fault) → ReadsLiteral (literal P t text) (Err fault) → GoesOnInHand (with_literal (literal_at P t text)) value result
-unfolding literal_at
-literal_at_refused P t text value fault (Ok spelling) halt is = absurd halt
-literal_at_refused P t text value (literal_fault.At kind offset) (Err h) halt is =
-    subst (λ h. GoesOnInHand (with_literal (literal P t text)) value (Err h)) (sym halt) (λ go. ap (λ found. with_literal found go) is)
-literal_at_refused P t text value literal_fault.NoMemory (Err h) halt is = subst (λ h. GoesOnInHand (with_literal (literal P t text)) value (Err h)) (sym halt) (λ go. tt)
-
-pub literal_at_goes : (P : tree.Program) (t : Ty) (text spelling : List ℕ) → literal P t text ≡ Spelled spelling
-    → (go : List ℕ → Option Answer) → with_literal (literal_at P t text) go ≡ go spelling
-unfolding literal_at
-literal_at_goes P t text spelling is go = ap (λ found. with_literal found go) is
 
 -- what halted work on what is in hand is found
 pub hand_halt : {A T : Type 0} (name : List ℕ) (step : (A → Option Answer) → Option Answer) (value : T → A) (go : A → Option Answer) (result : Result Output Halt) (halt : Halt)

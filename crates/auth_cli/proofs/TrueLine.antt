@@ -16,10 +16,10 @@ use Rattle.auth_cli.specs.Answer.{Answer, answer, call_verdict, outcome_answer, 
 use Rattle.auth_cli.specs.Codes.{code}
 use Rattle.auth_cli.specs.Ending.{Outside, EndsAs, IsToldAs}
 use Rattle.auth_cli.specs.TrueLines.{IsTrueLine, TellsOutcome}
-use Rattle.verifier_mode.specs.Verdicts.{argument_type}
+use Rattle.core_terms.specs.Roles.{argument_type}
 use Rattle.auth_cli.specs.SoundPrograms.{IsOutcome, ReadSound}
 use Rattle.auth_cli.specs.declared.status.Status.{Status}
-use Rattle.auth_cli.specs.declared.status.Status.TheVariants.{Done, Usage, Trap, OutOfFuel, Rejected, ProgramRefused, InputRefused, ReadFault, WriteFault, NoMemory}
+use Rattle.auth_cli.specs.declared.status.Status.TheVariants.{Done, Usage, Trap, OutOfFuel, Rejected, ProgramRefused, InputRefused, ReadFault, WriteFault, NoMemory, Collision}
 use Rattle.auth_cli.proofs.Leading.{HasOutcome, line_leads, accepted}
 use Rattle.auth_cli.proofs.SoundQueries.{sound_headline}
 
@@ -40,12 +40,12 @@ told_true : (line : List (List ℕ)) (files : Contents) (old new : Outside) (sta
     → IsTrueLine line files old.written new.written (code status)
 told_true line files old new status outcome reads told P f k state argument proof calls number =
     let s = spelling (projection sha256 P P.state state) in
-    let a = spelling (projection sha256 P (argument_type P f) argument) in
+    let a = projection sha256 P (argument_type P f) argument in
     let t = (function_at P f).result in
     let sound = subst (λ l. ReadSound (drop 2 l) files status) calls.words reads outcome calls.text P calls.program_file calls.program in
-    let leads = line_leads calls.program_name calls.role_name calls.state_name calls.argument_text calls.fuel_text calls.proof_name files calls.text s a proof P f k line calls.name calls.words
+    let leads = line_leads calls.program_name calls.role_name calls.state_name calls.argument_text calls.fuel_text calls.proof_name files calls.text s proof a P f k line calls.name calls.words
     calls.program_file calls.program calls.role calls.fuel calls.state_file calls.argument_is calls.proof_file (told_has (answer line files) old new status outcome told) in
-    let o = verdict_told (answer line files) t (call_verdict (record { program = P; role = f; fuel = k; state = s; argument = a }) proof) old new status leads outcome told in
+    let o = verdict_told (answer line files) t (call_verdict (record { program = P; role = f; fuel = k; state = s; argument = spelling a }) proof) old new status leads outcome told in
     (o.0, o.2, sound_headline P f k state argument proof o.0 sound calls.role_name calls.role calls.ideal_state calls.ideal_argument o.1)
 
 none : {A : Type 0} (n : ℕ) → (n ≡ 0 → ⊥) → (n ≡ 3 → ⊥) → (n ≡ 4 → ⊥) → TellsOutcome n → A
@@ -66,3 +66,4 @@ true_line line old new InputRefused ends reads files known = λ P f k state argu
 true_line line old new ReadFault ends reads files known = λ P f k state argument proof calls number. none 8 (λ e. omega arith) (λ e. omega arith) (λ e. omega arith) number
 true_line line old new WriteFault ends reads files known = λ P f k state argument proof calls number. none 9 (λ e. omega arith) (λ e. omega arith) (λ e. omega arith) number
 true_line line old new NoMemory ends reads files known = λ P f k state argument proof calls number. none 10 (λ e. omega arith) (λ e. omega arith) (λ e. omega arith) number
+true_line line old new Collision ends reads files known = λ P f k state argument proof calls number. none 11 (λ e. omega arith) (λ e. omega arith) (λ e. omega arith) number

@@ -1,5 +1,5 @@
 -- What a run answers: its status, the lines that it writes and the files that it stores.
-use Rattle.std.specs.Prelude.{ℕ, List, [], ◌∷◌, length, drop, nat_le, codes, Option, Some, None, if◌then◌else◌}
+use Rattle.std.specs.Prelude.{ℕ, List, [], ◌∷◌, ◌++◌, length, drop, map, nat_le, codes, Option, Some, None, if◌then◌else◌}
 use Rattle.sha2.specs.Sha256.{sha256}
 use Rattle.lam_outside.specs.Told.{Contents, Stores}
 use Rattle.core_terms.specs.Types.{Ty}
@@ -9,13 +9,13 @@ use Rattle.core_terms.specs.Terms.{Program, function_at}
 use Rattle.core_terms.specs.Roles.{role_named}
 use Rattle.core_terms.specs.Spelling.{spelling}
 use Rattle.core_terms.specs.Projection.{projection, read_at}
-use Rattle.auth_syntax.specs.Literals.{Literal, Spelled, FirstFault, literal}
+use Rattle.auth_syntax.specs.Literals.{Literal, IsValue, FirstFault, literal}
 use Rattle.auth_syntax.specs.declared.fault.LiteralKind.TheVariants.{Mismatch}
 use Rattle.ideal_meaning.specs.Ideal as ideal
 use Rattle.ideal_meaning.specs.Checked as checked
 use Rattle.images.specs.Images as images
 use Rattle.images.specs.SavedImages.{saved_image}
-use Rattle.printed_lines.specs.Lines.{done_line, ok_line, out_line, refusal_line, state_line}
+use Rattle.printed_lines.specs.Lines.{agrees_line, collision_line, done_line, ok_line, out_line, refusal_line, rejected_line, state_line, trap_line}
 use Rattle.printed_lines.specs.declared.refusal.Argument.{Argument}
 use Rattle.printed_lines.specs.declared.refusal.Argument.TheVariants as named
 use Rattle.printed_lines.specs.declared.refusal.ImageKind.{ImageKind}
@@ -24,15 +24,18 @@ use Rattle.printed_lines.specs.declared.refusal.InputFault.{InputFault}
 use Rattle.printed_lines.specs.declared.refusal.InputFault.TheVariants.{TooLong, RoleUnknown, RoleKind, Number, State, Literal as BadLiteral, Image as BadImage}
 use Rattle.printed_lines.specs.declared.refusal.Refusal.{Refusal}
 use Rattle.printed_lines.specs.declared.refusal.Refusal.TheVariants as refusal
-use Rattle.verifier_mode.specs.Verdicts.{argument_type}
-use Rattle.auth_cli.specs.Arguments.{is_init, is_query, fuel_of, init_type}
+use Rattle.core_terms.specs.Roles.{argument_type, init_type}
+use Rattle.collision_audit.specs.Audits.{Collides, Judges}
+use Rattle.collision_audit.specs.Audits as audits
+use Rattle.auth_cli.specs.Arguments.{is_init, is_query, fuel_of, number_within}
+use Rattle.auth_cli.specs.FueledQueries.{DigestedProgram, FueledQuery}
+use Rattle.auth_cli.specs.IdealCalls.{IdealCall, call_audit, call_proof, call_proof_line, projected_outcome, result_type}
 use Rattle.auth_cli.specs.TextPrograms.{TextProgram, IsProgram, IsRefused, program_of_text}
-use Rattle.auth_cli.specs.VerdictLines.{rejected_line, trap_line}
 use Rattle.auth_cli.specs.Words.{command_of}
 use Rattle.auth_cli.specs.declared.words.Command.{Command}
-use Rattle.auth_cli.specs.declared.words.Command.TheVariants.{Check, Verify, Shallow, Init}
+use Rattle.auth_cli.specs.declared.words.Command.TheVariants.{Check, Verify, Shallow, Init, Prove, Audit}
 use Rattle.auth_cli.specs.declared.status.Status.{Status}
-use Rattle.auth_cli.specs.declared.status.Status.TheVariants.{Done, Usage, Trap, OutOfFuel, Rejected, ProgramRefused, InputRefused}
+use Rattle.auth_cli.specs.declared.status.Status.TheVariants.{Done, Usage, Trap, OutOfFuel, Rejected, ProgramRefused, InputRefused, Collision}
 
 -- what a run answers
 pub record Answer : Type 0 where
@@ -66,9 +69,8 @@ outcome_answer t (ideal.Done v) = says Done (done_line t v)
 outcome_answer t (ideal.Trapped trap) = says Trap (trap_line trap)
 outcome_answer t ideal.Out = says OutOfFuel out_line
 
--- What is answered for a verdict on a call whose state was read, and whose argument is the spelling of a literal's value. So no
--- verdict is on the state; and one on the argument would say that a literal's value isn't read back from its spelling: it is
--- answered all the same, as no literal of its type.
+-- What is answered for a verdict. Of a call whose state was read, and whose argument is the spelling of a literal's value, it is one on
+-- the proof: `VerdictLaws.antt` says that the other two don't come.
 abbrev pub verdict_answer : Ty → checked.Verdict → Answer
 verdict_answer t (checked.BadState offset) = input_refused (State offset)
 verdict_answer t (checked.BadArgument offset) = input_refused (BadLiteral Mismatch offset)
@@ -87,11 +89,6 @@ max_file = 67108864
 abbrev pub with_file : ℕ → Argument → Option (List ℕ) → (List ℕ → Option Answer) → Option Answer
 with_file most word None go = None
 with_file most word (Some bytes) go = if nat_le (length bytes) most then go bytes else Some (input_refused (TooLong word))
-
--- a program with the digest of its text
-pub record DigestedProgram : Type 0 where
-  pub program : Program
-  pub digest : List ℕ
 
 -- goes on with the program that a text with this digest is
 abbrev pub with_program : List ℕ → TextProgram → (DigestedProgram → Option Answer) → Option Answer
@@ -137,18 +134,23 @@ with_state P bytes go = with_state_read (state_read P bytes) bytes go
 abbrev pub with_state_file : Program → Option (List ℕ) → (List ℕ → Option Answer) → Option Answer
 with_state_file P file go = with_file max_file named.State file (λ bytes. with_state P bytes go)
 
--- goes on with the spelling of a literal's value
-abbrev pub with_literal : Literal → (List ℕ → Option Answer) → Option Answer
-with_literal (Spelled bytes) go = go bytes
+-- goes on with the value of a literal
+abbrev pub with_literal : Literal → (Value → Option Answer) → Option Answer
+with_literal (IsValue v) go = go v
 with_literal (FirstFault kind offset) go = Some (input_refused (BadLiteral kind offset))
 
--- a text as a literal of the type of a query's argument
-unfoldable pub argument_literal : Program → ℕ → List ℕ → Literal
-argument_literal P f text = literal P (argument_type P f) text
+-- a text as a literal of a type
+unfoldable pub literal_at : Program → Ty → List ℕ → Literal
+literal_at P t text = literal P t text
+
+-- Goes on with the value that a text is a literal of. It is an ideal value and a shallow one, since no literal has anything authenticated
+-- in its value.
+abbrev pub with_value : Program → Ty → List ℕ → (Value → Option Answer) → Option Answer
+with_value P t text go = with_literal (literal_at P t text) go
 
 -- goes on with the spelling of the argument of a query
 abbrev pub with_argument : Program → ℕ → List ℕ → (List ℕ → Option Answer) → Option Answer
-with_argument P f text go = with_literal (argument_literal P f text) go
+with_argument P f text go = with_value P (argument_type P f) text (λ v. go (spelling v))
 
 -- why the bytes of an image are refused
 abbrev pub image_kind : images.ImageFault → ImageKind
@@ -177,22 +179,13 @@ with_image p bytes go = with_root (image_read p bytes) go
 abbrev pub with_image_file : DigestedProgram → Option (List ℕ) → (Value → Option Answer) → Option Answer
 with_image_file p file go = with_file max_file named.Image file (λ bytes. with_image p bytes go)
 
--- a text as a literal of a type, and bytes read at a type
-unfoldable pub literal_at : Program → Ty → List ℕ → Literal
-literal_at P t text = literal P t text
-
-unfoldable pub value_read : Program → Ty → List ℕ → Read Value
-value_read P t bytes = read_at P t bytes
-
--- Goes on with the value that is read back from its spelling. A literal's value always is: a fault, of which there is none, would be
--- answered as no literal of the type.
-abbrev pub with_value_read : Read Value → (Value → Option Answer) → Option Answer
-with_value_read (Good v rest place) go = go v
-with_value_read (BadAt offset) go = Some (input_refused (BadLiteral Mismatch offset))
-
--- goes on with the value that a text is a literal of, at a type without `auth`: such a value is an ideal one
-abbrev pub with_value : Program → Ty → List ℕ → (Value → Option Answer) → Option Answer
-with_value P t text go = with_literal (literal_at P t text) (λ bytes. with_value_read (value_read P t bytes) go)
+-- goes on with the query that these words name: the program, the role and the fuel, in this order
+abbrev pub with_fueled_query : (program role fuel : List ℕ) → Contents → (FueledQuery → Option Answer) → Option Answer
+with_fueled_query program role fuel files go =
+    with_program_file (files program) (λ p.
+    with_query p.program role (λ f.
+    with_fuel fuel (λ k.
+    go (record { program = p; role = f; fuel = k }))))
 
 -- a call of a query, with the spellings of its state and argument
 pub record Call : Type 0 where
@@ -202,15 +195,13 @@ pub record Call : Type 0 where
   pub state : List ℕ
   pub argument : List ℕ
 
--- goes on with the call that these words name: the program, the role, the fuel, the state and the argument, in this order
+-- goes on with the call that these words name: the query, the state and the argument, in this order
 abbrev pub with_call : (program role state argument fuel : List ℕ) → Contents → (Call → Option Answer) → Option Answer
 with_call program role state argument fuel files go =
-    with_program_file (files program) (λ p.
-    with_query p.program role (λ f.
-    with_fuel fuel (λ k.
-    with_state_file p.program (files state) (λ s.
-    with_argument p.program f argument (λ a.
-    go (record { program = p.program; role = f; fuel = k; state = s; argument = a }))))))
+    with_fueled_query program role fuel files (λ q.
+    with_state_file q.program.program (files state) (λ s.
+    with_argument q.program.program q.role argument (λ a.
+    go (record { program = q.program.program; role = q.role; fuel = q.fuel; state = s; argument = a }))))
 
 -- the verdict on a proof of a call
 unfoldable pub call_verdict : Call → List ℕ → checked.Verdict
@@ -288,8 +279,58 @@ made_by p role argument fuel out =
 abbrev pub initial_answer : (program role argument fuel out : List ℕ) → Contents → Option Answer
 initial_answer program role argument fuel out files = with_program_file (files program) (λ p. made_by p role argument fuel out)
 
--- of each command, by its arguments: `check P`, `verify P ROLE STATE ARG FUEL PROOF`, `shallow P IMG OUT` and
--- `init P ROLE ARG FUEL OUT`
+-- goes on with the number of pieces that a proof asks to be kept
+abbrev pub with_kept : Program → List ℕ → (ℕ → Option Answer) → Option Answer
+with_kept P text go = with_number named.Number (number_within P.format.most_kept text) go
+
+-- goes on with the call of a query on the ideal state in an image, and then on the argument
+abbrev pub with_ideal_call : FueledQuery → (image argument : List ℕ) → Contents → (IdealCall → Option Answer) → Option Answer
+with_ideal_call q image argument files go =
+    with_image_file q.program (files image) (λ s.
+    with_value q.program.program (argument_type q.program.program q.role) argument (λ a.
+    go (record { query = q; state = s; argument = a })))
+
+-- What is answered for a call and the number of pieces that are kept: the line of its outcome and that of its proof, with the proof
+-- stored under a name, however the call ends.
+abbrev pub proof_answer : IdealCall → ℕ → List ℕ → Answer
+proof_answer call n name =
+    let told = outcome_answer (result_type call) (projected_outcome call) in
+    record { status = told.status; lines = told.lines ++ call_proof_line call n ∷ []; stored = (name, call_proof call n) ∷ [] }
+
+-- `prove P ROLE IMG ARG FUEL N OUT`: the proof of a call. The numbers are judged before the image is read.
+abbrev pub proved_answer : (program role image argument fuel kept out : List ℕ) → Contents → Option Answer
+proved_answer program role image argument fuel kept out files =
+    with_fueled_query program role fuel files (λ q.
+    with_kept q.program.program kept (λ n.
+    with_ideal_call q image argument files (λ call. Some (proof_answer call n out))))
+
+-- the same answer of an audit that agrees on it
+abbrev pub agreeing : Answer → Answer
+agreeing a = record a { lines = map agrees_line a.lines }
+
+-- What is answered for the verdict that an audit comes to: agreement on its outcome, or its rejection. It is one on the proof, since the
+-- state and the argument are ideal values within the limits.
+abbrev pub agreed_answer : Ty → checked.Verdict → Answer
+agreed_answer t (checked.Accepted o) = agreeing (outcome_answer t o)
+agreed_answer t v = verdict_answer t v
+
+-- what is answered for what an audit comes to, of a call whose result has type t
+abbrev pub audit_told : Ty → audits.Audit → Answer
+audit_told t (Collides split) = says Collision (collision_line split.place split.offered split.honest)
+audit_told t (Judges v) = agreed_answer t v
+
+abbrev pub call_audit_answer : IdealCall → List ℕ → Answer
+call_audit_answer call proof = audit_told (result_type call) (call_audit call proof)
+
+-- `audit P ROLE IMG ARG FUEL PROOF`: the audit of a proof file, which is opened when all else is well-formed
+abbrev pub audited_answer : (program role image argument fuel proof : List ℕ) → Contents → Option Answer
+audited_answer program role image argument fuel proof files =
+    with_fueled_query program role fuel files (λ q.
+    with_ideal_call q image argument files (λ call.
+    with_file max_file named.Proof (files proof) (λ bytes. Some (call_audit_answer call bytes))))
+
+-- of each command, by its arguments: `check P`, `verify P ROLE STATE ARG FUEL PROOF`, `shallow P IMG OUT`,
+-- `init P ROLE ARG FUEL OUT`, `prove P ROLE IMG ARG FUEL N OUT` and `audit P ROLE IMG ARG FUEL PROOF`
 abbrev pub check_answer : List (List ℕ) → Contents → Option Answer
 check_answer (program ∷ []) files = checked_answer program files
 check_answer words files = Some usage_answer
@@ -306,12 +347,22 @@ abbrev pub init_answer : List (List ℕ) → Contents → Option Answer
 init_answer (program ∷ role ∷ argument ∷ fuel ∷ out ∷ []) files = initial_answer program role argument fuel out files
 init_answer words files = Some usage_answer
 
+abbrev pub prove_answer : List (List ℕ) → Contents → Option Answer
+prove_answer (program ∷ role ∷ image ∷ argument ∷ fuel ∷ kept ∷ out ∷ []) files = proved_answer program role image argument fuel kept out files
+prove_answer words files = Some usage_answer
+
+abbrev pub audit_answer : List (List ℕ) → Contents → Option Answer
+audit_answer (program ∷ role ∷ image ∷ argument ∷ fuel ∷ proof ∷ []) files = audited_answer program role image argument fuel proof files
+audit_answer words files = Some usage_answer
+
 abbrev pub command_answer : Option Command → List (List ℕ) → Contents → Option Answer
 command_answer None arguments files = Some usage_answer
 command_answer (Some Check) arguments files = check_answer arguments files
 command_answer (Some Verify) arguments files = verify_answer arguments files
 command_answer (Some Shallow) arguments files = shallow_answer arguments files
 command_answer (Some Init) arguments files = init_answer arguments files
+command_answer (Some Prove) arguments files = prove_answer arguments files
+command_answer (Some Audit) arguments files = audit_answer arguments files
 
 -- by the words of the command line, the program's name first, and the contents of the files
 unfoldable pub answer : List (List ℕ) → Contents → Option Answer

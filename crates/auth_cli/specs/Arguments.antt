@@ -1,9 +1,8 @@
--- The arguments of a command that are no names of files: a role and a number.
-use Rattle.std.specs.Prelude.{ℕ, List, length, nat_le, Bool, true, false, ◌&&◌, Option, Some, None, slice_index_or, if◌then◌else◌}
+-- The arguments of a command that are no names of files: a role and numbers.
+use Rattle.std.specs.Prelude.{ℕ, List, length, nat_le, Bool, true, false, ◌&&◌, Option, Some, None, if◌then◌else◌}
 use Rattle.std.specs.Option.{option_and_then}
 use Rattle.std.specs.Str.{all_ascii_digits}
 use Rattle.std.specs.Str.Parse.{digits_value}
-use Rattle.core_terms.specs.Types.{Ty, UnitTy}
 use Rattle.core_terms.specs.Terms.{Kind, Init, Query, Program, function_at}
 use Rattle.core_terms.specs.Roles.{role_named}
 
@@ -16,10 +15,6 @@ is_query kind = false
 abbrev pub is_init : Kind → Bool
 is_init Init = true
 is_init kind = false
-
--- the type of what the caller of an init passes
-abbrev pub init_type : Program → ℕ → Ty
-init_type P f = slice_index_or (function_at P f).parameters 0 UnitTy
 
 -- the number, where its function is a query
 abbrev pub query_at : Program → ℕ → Option ℕ
@@ -37,6 +32,10 @@ most_fuel = 1000000000000
 abbrev pub is_number : List ℕ → Bool
 is_number text = nat_le 1 (length text) && (nat_le (length text) 20 && all_ascii_digits text)
 
--- the amount of fuel that a text tells: a number that is at most the greatest
+-- the number that a text tells, where it is at most the greatest
+abbrev pub number_within : ℕ → List ℕ → Option ℕ
+number_within most text = if is_number text && nat_le (digits_value 10 text) most then Some (digits_value 10 text) else None
+
+-- the amount of fuel that a text tells
 abbrev pub fuel_of : List ℕ → Option ℕ
-fuel_of text = if is_number text && nat_le (digits_value 10 text) most_fuel then Some (digits_value 10 text) else None
+fuel_of text = number_within most_fuel text

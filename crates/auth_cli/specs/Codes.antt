@@ -1,7 +1,7 @@
 -- The numbers of the statuses.
 use Rattle.std.specs.Prelude.{ℕ}
 use Rattle.auth_cli.specs.declared.status.Status.{Status}
-use Rattle.auth_cli.specs.declared.status.Status.TheVariants.{Done, Usage, Trap, OutOfFuel, Rejected, ProgramRefused, InputRefused, ReadFault, WriteFault, NoMemory}
+use Rattle.auth_cli.specs.declared.status.Status.TheVariants.{Done, Usage, Trap, OutOfFuel, Rejected, ProgramRefused, InputRefused, ReadFault, WriteFault, NoMemory, Collision}
 
 abbrev pub code : Status → ℕ
 code Done = 0
@@ -14,3 +14,4 @@ code InputRefused = 7
 code ReadFault = 8
 code WriteFault = 9
 code NoMemory = 10
+code Collision = 11

@@ -35,6 +35,7 @@ abbrev pub ending_status : Ending → Status
 ending_status ending.Done = status.Done
 ending_status ending.Trap = status.Trap
 ending_status ending.OutOfFuel = status.OutOfFuel
+ending_status ending.Collision = status.Collision
 
 abbrev pub halt_status : Halt → Status
 halt_status Usage = status.Usage

@@ -3,8 +3,13 @@ pub mod Arguments
 pub mod Calls
 pub mod Codes
 pub mod Ending
+pub mod FueledQueries
 pub mod Halting
+pub mod IdealCalls
+pub mod NamedCalls
 pub mod PlainArguments
+pub mod ProvedCalls
+pub mod AuditedCalls
 pub mod ReadPrograms
 pub mod Reporting
 pub mod SoundPrograms
@@ -12,5 +17,5 @@ pub mod Storing
 pub mod Telling
 pub mod TextPrograms
 pub mod TrueLines
-pub mod VerdictLines
 pub mod Words
+pub mod VerdictLaws

@@ -7,7 +7,7 @@ use Rattle.auth_syntax.specs.declared.fault.SyntaxFault.TheVariants as syntax_fa
 use Rattle.auth_types.specs.declared.fault.TypeFault.{TypeFault}
 use Rattle.auth_types.specs.declared.fault.TypeFault.TheVariants as type_fault
 use Rattle.printed_lines.specs.declared.refusal.ProgramKind.TheVariants.{Syntax, Typing}
-use Rattle.auth_cli.specs.Answer.{DigestedProgram}
+use Rattle.auth_cli.specs.FueledQueries.{DigestedProgram}
 use Rattle.auth_cli.specs.TextPrograms.{TextProgram, IsProgram, IsRefused}
 use Rattle.auth_cli.specs.declared.programs.ProgramFault.{ProgramFault}
 use Rattle.auth_cli.specs.declared.programs.ProgramFault.TheVariants.{At, NoMemory}

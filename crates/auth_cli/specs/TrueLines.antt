@@ -8,17 +8,17 @@ use Rattle.core_terms.specs.Values.{Value, IsIdeal}
 use Rattle.core_terms.specs.Spelling.{spelling}
 use Rattle.core_terms.specs.Terms.{Program, function_at}
 use Rattle.core_terms.specs.Projection.{projection}
-use Rattle.auth_syntax.specs.Literals.{Spelled, literal}
+use Rattle.auth_syntax.specs.Literals.{IsValue, literal}
 use Rattle.ideal_meaning.specs.Ideal.{Outcome}
 use Rattle.ideal_meaning.specs.Frames.{offered, offered_pieces, header}
 use Rattle.ideal_meaning.specs.Headline.{TrueOrSplit, call_of}
-use Rattle.verifier_mode.specs.Verdicts.{argument_type}
+use Rattle.core_terms.specs.Roles.{argument_type}
 use Rattle.auth_cli.specs.Answer.{outcome_answer}
 use Rattle.auth_cli.specs.Arguments.{fuel_of, query_named}
 use Rattle.auth_cli.specs.TextPrograms.{IsProgram, program_of_text}
 
 -- The words call `verify` on files and arguments that mean these: a query of a program with so much fuel, on an ideal state
--- and an ideal argument. The state's file and the argument have no more than the spellings of their projections; the proof's
+-- and an ideal argument. The state's file has the spelling of its projection, and the argument is a literal of its own; the proof's
 -- file has any bytes.
 pub record CallsVerify (line : List (List ℕ)) (files : Contents) (P : Program) (f k : ℕ) (state argument : Value) (proof : List ℕ) : Type 0 where
   pub name : List ℕ
@@ -37,7 +37,7 @@ pub record CallsVerify (line : List (List ℕ)) (files : Contents) (P : Program)
   pub ideal_state : IsIdeal P.types P.state state
   pub state_file : files state_name ≡ Some (spelling (projection sha256 P P.state state))
   pub ideal_argument : IsIdeal P.types (argument_type P f) argument
-  pub argument_is : literal P (argument_type P f) argument_text ≡ Spelled (spelling (projection sha256 P (argument_type P f) argument))
+  pub argument_is : literal P (argument_type P f) argument_text ≡ IsValue (projection sha256 P (argument_type P f) argument)
   pub proof_file : files proof_name ≡ Some proof
 
 -- the statuses of an outcome

@@ -3,7 +3,7 @@ use Rattle.std.specs.Prelude.{ℕ, List, [], ◌∷◌, length, map, Bool, true,
 use Rattle.std.specs.Borrow.{Bor}
 use Rattle.std.specs.List.{list_any}
 use Rattle.auth_cli.specs.declared.words.Command.{Command}
-use Rattle.auth_cli.specs.declared.words.Command.TheVariants.{Check, Verify, Shallow, Init}
+use Rattle.auth_cli.specs.declared.words.Command.TheVariants.{Check, Verify, Shallow, Init, Prove, Audit}
 
 -- the words' bytes
 abbrev pub texts : List (Bor (List ℕ)) → List (List ℕ)
@@ -21,6 +21,8 @@ command_named name =
     if bytes_eq name (codes "verify") then Some Verify else
     if bytes_eq name (codes "shallow") then Some Shallow else
     if bytes_eq name (codes "init") then Some Init else
+    if bytes_eq name (codes "prove") then Some Prove else
+    if bytes_eq name (codes "audit") then Some Audit else
     None
 
 -- how many arguments a command has
@@ -29,6 +31,8 @@ argument_count Check = 1
 argument_count Verify = 6
 argument_count Shallow = 3
 argument_count Init = 5
+argument_count Prove = 7
+argument_count Audit = 6
 
 -- a command with so many arguments
 abbrev pub with_count : Option Command → ℕ → Option Command

@@ -8,10 +8,10 @@ ghost use Rattle.auth_cli.specs.Halting.{GoesOn, GoesOnInHand, HaltCause};
 ghost use Rattle.auth_cli.specs.SoundPrograms.{HoldsSound};
 
 use crate::Halt;
-use crate::arguments::{fuel_named, query_named, read_argument};
-use crate::programs::read_program_file;
+use crate::arguments::read_argument;
+use crate::queries::{FueledQuery, read_query};
 use crate::report::load;
-use core_terms::{FunctionId, Program, Spelling};
+use core_terms::{Program, Spelling};
 use lam_outside::Files;
 use printed_lines::refusal::{Argument, InputFault};
 use std::alloc::Global;
@@ -30,9 +30,7 @@ pub struct CallWords<'a> {
 /// A call of a query.
 #[derive(Drop)]
 pub struct Call {
-    pub program: Program,
-    pub role: FunctionId,
-    pub fuel: u64,
+    pub query: FueledQuery,
     /// A spelling at the type of the program's state.
     pub state: Vec<u8>,
     pub argument: Spelling,
@@ -41,8 +39,7 @@ pub struct Call {
 /// The most bytes of a file that is no text of a program.
 pub const MAX_FILE: usize = 67_108_864;
 
-/// The call that the words name. What is refused first in this order halts it: the program, the role, the fuel, the
-/// state, the argument.
+/// The call that the words name. What is refused first in this order halts it: the query, the state, the argument.
 pub fn read_call<F: Files>(
     alloc: Global,
     words: &CallWords<'_>,
@@ -57,15 +54,11 @@ pub fn read_call<F: Files>(
     ensures stores { F.stores files.new ≡ F.stores files.old }
     ensures store_faults { F.store_faults files.new ≡ F.store_faults files.old }
 {
-    let program = read_program_file(alloc, files, words.program)?;
-    let role = query_named(&program, words.role)?;
-    let fuel = fuel_named(words.fuel)?;
-    let state = read_state_file(alloc, files, &program, words.state)?;
-    let argument = read_argument(alloc, &program, role, words.argument)?;
+    let query = read_query(alloc, files, words.program, words.role, words.fuel)?;
+    let state = read_state_file(alloc, files, &query.program, words.state)?;
+    let argument = read_argument(alloc, &query.program, query.role, words.argument)?;
     Ok(Call {
-        program,
-        role,
-        fuel,
+        query,
         state,
         argument,
     })

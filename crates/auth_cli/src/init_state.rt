@@ -8,7 +8,7 @@ ghost use Rattle.core_terms.specs.Values.{IsIdeal};
 ghost use Rattle.plain_meaning.specs.PlainValues.{plain_of};
 ghost use Rattle.plain_meaning.specs.Telling.{IsPlainOf, plain_outcome_of};
 ghost use Rattle.auth_cli.specs.Answer.{init_answer, init_answer_of, init_outcome, initial_answer, made_answer, made_by};
-ghost use Rattle.auth_cli.specs.Arguments.{init_type};
+ghost use Rattle.core_terms.specs.Roles.{init_type};
 ghost use Rattle.auth_cli.specs.Ending.{EndsAs, outside};
 ghost use Rattle.auth_cli.specs.Halting.{HaltCause};
 ghost use Rattle.auth_cli.specs.ReadPrograms.{digested};

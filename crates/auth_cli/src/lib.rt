@@ -2,10 +2,16 @@
 #![tactic(auto)]
 
 mod arguments;
+mod audit_proof;
 mod calls;
 mod check_program;
+mod ideal_calls;
 mod init_state;
+pub mod laws;
+mod outcomes;
 mod programs;
+mod prove_query;
+mod queries;
 mod report;
 mod shallow_state;
 mod states;
@@ -16,8 +22,10 @@ mod values;
 mod verify_query;
 mod words;
 
+pub use audit_proof::audit_command;
 pub use check_program::check_command;
 pub use init_state::init_command;
+pub use prove_query::prove_command;
 pub use report::{Ending, Halt, Output, Report, tell};
 pub use shallow_state::shallow_command;
 pub use status::Status;

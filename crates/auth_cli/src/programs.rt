@@ -4,6 +4,7 @@ ghost use Rattle.std.specs.Option.{ForSome};
 ghost use Rattle.sha2.specs.Sha256.{sha256};
 ghost use Rattle.auth_cli.specs.Answer.{with_program_file};
 ghost use Rattle.auth_cli.specs.Halting.{GoesOn, HaltCause};
+ghost use Rattle.auth_cli.specs.NamedCalls.{KeepsProgram};
 ghost use Rattle.auth_cli.specs.ReadPrograms.{ReadsProgram, digested};
 ghost use Rattle.auth_cli.specs.SoundPrograms.{HoldsSound};
 ghost use Rattle.auth_cli.specs.TextPrograms.{program_of_text};
@@ -11,7 +12,7 @@ ghost use Rattle.auth_cli.specs.TextPrograms.{program_of_text};
 use crate::Halt;
 use crate::report::load;
 use auth_syntax::fault::SyntaxFault;
-use auth_syntax::parser::parse;
+use auth_syntax::parser::parse_fragment;
 use auth_types::check::check;
 use auth_types::fault::TypeFault;
 use core_terms::{Hash32, Program};
@@ -76,7 +77,7 @@ pub fn read_program(alloc: Global, text: &[u8]) -> Result<Program, ProgramFault>
     ensures answer { ReadsProgram (program_of_text text.now) result }
     ensures digest { IfOk result (λ p. p.text_digest.0 ≡ sha256 text.now) }
 {
-    let ast = parse(alloc, text)?;
+    let ast = parse_fragment(alloc, text)?;
     Ok(check(alloc, ast, Sha::of(text))?)
 }
 
@@ -87,6 +88,7 @@ pub fn read_program_file<F: Files>(
     name: &str,
 ) -> Result<Program, Halt>
     ensures goes { ForSome (F.contents files.old) (λ told. GoesOn (with_program_file (told name.now)) digested result) }
+    ensures kept { ForSome (F.contents files.old) (λ told. IfOk result (λ program. KeepsProgram (told name.now) (digested program))) }
     ensures sound { ForSome (F.contents files.old) (λ told. IfOk result (λ _. HoldsSound (told name.now))) }
     ensures cause { HaltCause (F.faults files.old) (F.faults files.new) result }
     ensures contents { F.contents files.new ≡ F.contents files.old }

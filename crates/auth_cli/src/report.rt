@@ -25,6 +25,7 @@ pub enum Ending {
     Done,
     Trap,
     OutOfFuel,
+    Collision,
 }
 
 /// What a command tells whose work was done: how it ends, and the lines that say so.
@@ -154,6 +155,7 @@ impl Ending {
             Ending::Done => Status::Done,
             Ending::Trap => Status::Trap,
             Ending::OutOfFuel => Status::OutOfFuel,
+            Ending::Collision => Status::Collision,
         }
     }
 }

@@ -4,8 +4,10 @@ ghost use Rattle.std.specs.Option.{ForSome};
 ghost use Rattle.core_terms.specs.Programs.{meaning};
 ghost use Rattle.core_terms.specs.Values.{IsIdeal};
 ghost use Rattle.plain_meaning.specs.PlainValues.{plain_of};
-ghost use Rattle.auth_cli.specs.Answer.{with_image, with_image_file};
+ghost use Rattle.images.specs.Images.{Root};
+ghost use Rattle.auth_cli.specs.Answer.{image_read, with_image, with_image_file};
 ghost use Rattle.auth_cli.specs.Halting.{GoesOn, GoesOnInHand, HaltCause};
+ghost use Rattle.auth_cli.specs.NamedCalls.{KeepsState};
 ghost use Rattle.auth_cli.specs.ReadPrograms.{digested};
 
 use crate::Halt;
@@ -26,6 +28,7 @@ pub fn read_image_file<F: Files>(
     name: &str,
 ) -> Result<Plain, Halt>
     ensures goes { ForSome (F.contents files.old) (λ told. GoesOn (with_image_file (digested program.now) (told name.now)) plain_of result) }
+    ensures kept { ForSome (F.contents files.old) (λ told. IfOk result (λ state. KeepsState (told name.now) (digested program.now) (plain_of state))) }
     ensures ideal { IfOk result (λ state. IsIdeal (meaning program.now).types (meaning program.now).state (plain_of state)) }
     ensures cause { HaltCause (F.faults files.old) (F.faults files.new) result }
     ensures contents { F.contents files.new ≡ F.contents files.old }
@@ -39,6 +42,7 @@ pub fn read_image_file<F: Files>(
 /// The ideal state in an image of the program.
 fn read_image(alloc: Global, program: &Program, bytes: &[u8]) -> Result<Plain, Halt>
     ensures goes { GoesOnInHand (with_image (digested program.now) bytes.now) plain_of result }
+    ensures root { IfOk result (λ state. image_read (digested program.now) bytes.now ≡ Root (plain_of state)) }
     ensures ideal { IfOk result (λ state. IsIdeal (meaning program.now).types (meaning program.now).state (plain_of state)) }
 {
     Ok(load_image(alloc, program, bytes)?)

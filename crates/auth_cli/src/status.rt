@@ -24,6 +24,8 @@ pub enum Status {
     WriteFault,
     /// Memory was wanting.
     NoMemory,
+    /// The proof shows a collision of the hash.
+    Collision,
 }
 
 impl Status {
@@ -44,6 +46,7 @@ impl Status {
             Status::ReadFault => 8,
             Status::WriteFault => 9,
             Status::NoMemory => 10,
+            Status::Collision => 11,
         }
     }
 }

@@ -1,18 +1,24 @@
 // All that the program does.
-ghost use Rattle.std.specs.Prelude.{◌≡◌, ◌≢◌, ◌⊎◌, ◌↔◌, ◌<◌, ◌-◌, ◌^◌, ℕ, List, drop, codes};
+ghost use Rattle.std.specs.Prelude.{◌≡◌, ◌≢◌, ◌⊎◌, ◌↔◌, ◌<◌, ◌-◌, ◌^◌, ℕ, List, drop, codes, Some};
 ghost use Rattle.std.specs.Option.{ForSome};
 ghost use Rattle.std.specs.Io.KnownBytes.{append_known};
 ghost use Rattle.lam_outside.specs.Causes.{Rose};
 ghost use Rattle.auth_cli.specs.Answer.{answer};
+ghost use Rattle.auth_cli.specs.AuditedCalls.{AuditedBy, IsAudited, TellsAnAudit};
 ghost use Rattle.auth_cli.specs.Codes.{code};
 ghost use Rattle.auth_cli.specs.Ending.{outside, EndsAs, IsToldByCode, MayWrite, NoneRose, StoresSome, WritesPart, no_memory_text};
+ghost use Rattle.auth_cli.specs.ProvedCalls.{IsProved, ProvedBy};
 ghost use Rattle.auth_cli.specs.SoundPrograms.{ReadSound};
-ghost use Rattle.auth_cli.specs.TrueLines.{IsTrueLine};
-ghost use Rattle.auth_cli.specs.Words.{texts};
+ghost use Rattle.auth_cli.specs.TrueLines.{IsTrueLine, TellsOutcome};
+ghost use Rattle.auth_cli.specs.Words.{command_of, texts};
+ghost use Rattle.auth_cli.specs.declared.words.Command.TheVariants.{Audit, Prove};
 ghost use Rattle.auth_cli.specs.declared.status.Status.{Status};
 
 use crate::report::tell;
-use crate::{Command, Halt, Status, check_command, init_command, shallow_command, verify_command};
+use crate::{
+    Command, Halt, Status, audit_command, check_command, init_command, prove_command,
+    shallow_command, verify_command,
+};
 use lam_outside::{Files, Sink};
 use std::alloc::Global;
 
@@ -26,15 +32,18 @@ use std::alloc::Global;
 /// | 0 | `ok DIGEST` | `check`: the text is a program, and has this SHA-256 digest |
 /// | 0 | `state VALUE` | `shallow`: the projection of the state has this value, and its spelling is stored |
 /// | 0 | `done VALUE` | the outcome has this value; at `init` it is the projection of the state, whose image is stored |
+/// | 0, 3, 4 | `proof new A used U bytes B` | `prove`, behind the outcome's line: the proof has A pieces of its own, names U again, and the file that is stored has B bytes |
 /// | 2 | `usage: lamauth COMMAND ARGUMENTS` | the words call no command |
 /// | 3 | `trap NAME` | the outcome is this trap: `overflow`, `divzero`, `toobig`, `toodeep` |
 /// | 4 | `out of fuel` | the outcome is the want of fuel |
-/// | 5 | `rejected CAUSE` | the proof is rejected, for the cause below |
+/// | 0, 3, 4 | `agrees ` and such a line | `audit`: the proof is accepted with this outcome, which is the projection of the ideal one |
+/// | 5 | `rejected CAUSE` | the proof is rejected, for the cause below; in `audit` it shows no collision |
 /// | 6 | `program refused: KIND LINE COLUMN` | the text is no program: its first fault |
 /// | 7 | `input refused: too long ARGUMENT` | the file that `P`, `STATE`, `PROOF` or `IMG` names is too long, or the image for `OUT` would be |
 /// | 7 | `input refused: role unknown` | the program has no role of this name |
 /// | 7 | `input refused: role kind` | the role is not of the kind that the command calls: an init for `init`, else a query |
 /// | 7 | `input refused: number FUEL` | the fuel isn't of 1 to 20 digits, or above 10^12 |
+/// | 7 | `input refused: number N` | the number of pieces that are kept isn't of 1 to 20 digits, or above 0 |
 /// | 7 | `input refused: state OFFSET` | the state's bytes are no spelling: the first fault |
 /// | 7 | `input refused: image magic` | the image doesn't begin as one |
 /// | 7 | `input refused: image program` | the image is one of another program |
@@ -48,6 +57,7 @@ use std::alloc::Global;
 /// | 8 | `read fault` | a file could not be read |
 /// | 9 | a part of a line | the sink failed, or a file could not be stored |
 /// | 10 | `no memory` | memory was wanting |
+/// | 11 | `collision PLACE OFFERED HONEST` | `audit`: the first offered piece that differs from the honest one has its digest: the place, and both pieces in lower-case hexadecimal digits, one without bytes as `-` |
 ///
 /// The causes of a rejection; a piece goes by its place, the number in which it is asked for, from 0:
 ///
@@ -64,8 +74,8 @@ use std::alloc::Global;
 /// | `leftover BYTES` | the run ended, and so many bytes are left, or 65536 where there are more |
 ///
 /// The program's text has at most 262,144 bytes, each other file at most 67,108,864. What is refused first in this order
-/// ends the run: the words, the program, the role, the fuel, the state or the image, the argument, the proof. A file is stored
-/// before any line is written.
+/// ends the run: the words, the program, the role, the fuel, the number of pieces that are kept, the state or the image, the
+/// argument, the proof. A file is stored before any line is written.
 pub fn run<F: Files, O: Sink>(alloc: Global, words: &[&str], files: &mut F, out: &mut O) -> u8
     requires reads_below { F.faults files.old < 2 ^ 64 - 1 }
     requires stores_below { F.store_faults files.old < 2 ^ 64 - 1 }
@@ -84,6 +94,18 @@ pub fn run<F: Files, O: Sink>(alloc: Global, words: &[&str], files: &mut F, out:
     // What a told outcome says of the ideal run, whoever made the proof.
     ensures headline { ForSome (F.contents files.old) (λ told.
         IsTrueLine (texts words.now) told (O.written out.old) (O.written out.new) result) }
+
+    // What `prove` stores is accepted: `verify` answers it, from the projected state alone, with the very status and line of the run.
+    ensures companion { let seen = outside F.contents F.stores F.faults F.store_faults O.written O.faults in
+        command_of (texts words.now) ≡ Some Prove → TellsOutcome result → ForSome (F.contents files.old) (λ told.
+        (status : Status) × (result ≡ code status) × IsProved (drop 2 (texts words.now)) told (seen files.old out.old) (seen files.new out.new) status) }
+
+    // What `audit` tells is so: 11, which no other command answers, exactly where the offered pieces split from the honest ones, with
+    // the place and both pieces.
+    ensures audited { let seen = outside F.contents F.stores F.faults F.store_faults O.written O.faults in
+        command_of (texts words.now) ≡ Some Audit → TellsAnAudit result → ForSome (F.contents files.old) (λ told.
+        (status : Status) × (result ≡ code status) × IsAudited (drop 2 (texts words.now)) told (seen files.old out.old) (seen files.new out.new) status) }
+    ensures collision { result ≡ 11 → ForSome (F.contents files.old) (λ _. command_of (texts words.now) ≡ Some Audit) }
 
     // 8 exactly where the read count rose, 9 and 10 aside, and then `read fault` alone was written.
     ensures read_fault { result ≡ 8 → Rose (F.faults files.old) (F.faults files.new) }
@@ -112,12 +134,18 @@ fn ended<F: Files, O: Sink>(alloc: Global, words: &[&str], files: &mut F, out: &
     ensures ends { let seen = outside F.contents F.stores F.faults F.store_faults O.written O.faults in
         EndsAs (answer (texts words.now)) (seen files.old out.old) (seen files.new out.new) result }
     ensures sound { ForSome (F.contents files.old) (λ told. ReadSound (drop 2 (texts words.now)) told result) }
+    ensures proved { let seen = outside F.contents F.stores F.faults F.store_faults O.written O.faults in
+        ForSome (F.contents files.old) (λ told. ProvedBy (command_of (texts words.now)) (drop 2 (texts words.now)) told (seen files.old out.old) (seen files.new out.new) result) }
+    ensures audited { let seen = outside F.contents F.stores F.faults F.store_faults O.written O.faults in
+        ForSome (F.contents files.old) (λ told. AuditedBy (command_of (texts words.now)) (drop 2 (texts words.now)) told (seen files.old out.old) (seen files.new out.new) result) }
 {
     match Command::of_words(words) {
         Some(Command::Check) => check_command(alloc, &words[2..], files, out),
         Some(Command::Verify) => verify_command(alloc, &words[2..], files, out),
         Some(Command::Init) => init_command(alloc, &words[2..], files, out),
         Some(Command::Shallow) => shallow_command(alloc, &words[2..], files, out),
+        Some(Command::Prove) => prove_command(alloc, &words[2..], files, out),
+        Some(Command::Audit) => audit_command(alloc, &words[2..], files, out),
         None => tell(alloc, out, Err(Halt::Usage)),
     }
 }

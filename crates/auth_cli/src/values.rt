@@ -5,17 +5,16 @@ ghost use Rattle.core_terms.specs.Roles.{IsPlain};
 ghost use Rattle.core_terms.specs.TypeTables.{type_at};
 ghost use Rattle.core_terms.specs.Values.{IsIdeal};
 ghost use Rattle.plain_meaning.specs.PlainValues.{plain_of};
+ghost use Rattle.auth_syntax.specs.Literals.{IsValue};
 ghost use Rattle.verifier_mode.specs.Shallow.{IsInHand, value_of};
-ghost use Rattle.auth_cli.specs.Answer.{literal_at, value_read, with_literal, with_value, with_value_read};
+ghost use Rattle.auth_cli.specs.Answer.{literal_at, with_value};
 ghost use Rattle.auth_cli.specs.Halting.{GoesOnInHand};
-ghost use Rattle.auth_cli.specs.PlainArguments.{IsPlainValue};
+ghost use Rattle.auth_cli.specs.PlainArguments.{IsPlainValue, IsSpelling, SpellsAlone};
 
 use crate::Halt;
-use auth_syntax::fault::LiteralKind;
 use auth_syntax::literal::parse_literal;
-use core_terms::{Program, Spelling, Text, TyId};
+use core_terms::{Program, Text, TyId};
 use plain_meaning::Plain;
-use printed_lines::refusal::InputFault;
 use std::alloc::{AllocError, Global};
 use verifier_mode::reading::Shallow;
 
@@ -23,30 +22,24 @@ use verifier_mode::reading::Shallow;
 pub fn read_value(alloc: Global, program: &Program, ty: TyId, text: &str) -> Result<Plain, Halt>
     requires { IsPlain (meaning program.now).types (type_at (types_of program.now) ty) }
     ensures goes { GoesOnInHand (with_value (meaning program.now) (type_at (types_of program.now) ty) text.now) plain_of result }
+    ensures value { IfOk result (λ value. literal_at (meaning program.now) (type_at (types_of program.now) ty) text.now ≡ IsValue (plain_of value)) }
     ensures ideal { IfOk result (λ value. IsIdeal (meaning program.now).types (type_at (types_of program.now) ty) (plain_of value)) }
 {
-    let spelling = read_literal(alloc, program, ty, text)?;
-    let value = read_back(program, ty, spelling.as_bytes())?;
+    let spelling = parse_literal(alloc, program, ty, text)?;
+    let value = read_back(program, ty, spelling.as_bytes());
     Ok(owned(alloc, value)?)
 }
 
-/// The spelling of the value that a text is a literal of.
-fn read_literal(alloc: Global, program: &Program, ty: TyId, text: &str) -> Result<Spelling, Halt>
-    ensures { GoesOnInHand (with_literal (literal_at (meaning program.now) (type_at (types_of program.now) ty) text.now)) (λ spelling. spelling) result }
+/// The value that the bytes spell, which are the spelling of one.
+fn read_back<'a>(program: &Program, ty: TyId, bytes: &'a [u8]) -> Shallow<'a>
+    requires { IsSpelling (meaning program.now) (type_at (types_of program.now) ty) bytes.now }
+    ensures value { SpellsAlone (meaning program.now) (type_at (types_of program.now) ty) bytes.now (value_of result) }
+    ensures in_hand { IsInHand (meaning program.now) (type_at (types_of program.now) ty) result }
 {
-    Ok(parse_literal(alloc, program, ty, text)?)
-}
-
-/// The value that some bytes spell.
-#[tactic(auto, unfolding(crate::specs::Answer::value_read))]
-fn read_back<'a>(program: &Program, ty: TyId, bytes: &'a [u8]) -> Result<Shallow<'a>, Halt>
-    ensures goes { GoesOnInHand (with_value_read (value_read (meaning program.now) (type_at (types_of program.now) ty) bytes.now)) value_of result }
-    ensures in_hand { IfOk result (IsInHand (meaning program.now) (type_at (types_of program.now) ty)) }
-{
-    match Shallow::read(program, ty, bytes) {
-        Ok(value) => Ok(value),
-        Err(offset) => { Err(InputFault::Literal(LiteralKind::Mismatch, offset as usize).into()) }
-    }
+    let Ok(value) = Shallow::read(program, ty, bytes) else {
+        unreachable!()
+    };
+    value
 }
 
 /// A value in which nothing is authenticated, in memory of its own.

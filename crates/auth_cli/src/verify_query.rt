@@ -1,26 +1,23 @@
 // The command `verify`.
 ghost use Rattle.std.specs.Prelude.{◌≡◌, length, IfOk};
 ghost use Rattle.std.specs.Option.{ForSome};
-ghost use Rattle.core_terms.specs.Programs.{meaning, types_of};
-ghost use Rattle.core_terms.specs.TypeTables.{type_at};
 ghost use Rattle.verifier_mode.specs.Verdicts.{Answers};
 ghost use Rattle.auth_cli.specs.Answer.{call_answer, call_verdict, judged_answer, verify_answer};
 ghost use Rattle.auth_cli.specs.Calls.{IsQueryCall, call_of};
 ghost use Rattle.auth_cli.specs.Ending.{EndsAs, outside};
 ghost use Rattle.auth_cli.specs.Halting.{Finds, FindsInHand, HaltCause};
-ghost use Rattle.auth_cli.specs.Reporting.{Reports};
 ghost use Rattle.auth_cli.specs.SoundPrograms.{HoldsSound, ReadSound};
 ghost use Rattle.auth_cli.specs.Words.{texts};
 
 use crate::calls::{Call, CallWords, MAX_FILE, read_call};
+use crate::outcomes::report_of;
 use crate::report::{load, tell};
-use crate::{Ending, Halt, Report, Status};
-use core_terms::{Outcome, Program, Spelling, TyId};
+use crate::{Halt, Report, Status};
+use core_terms::{Outcome, Spelling};
 use digest_layer::Sha;
 use lam_outside::{Files, Sink};
-use printed_lines::lines::{done_line, out_line, trap_line};
 use printed_lines::refusal::Argument;
-use std::alloc::{AllocError, Global};
+use std::alloc::Global;
 use verifier_mode::{Verdict, verify};
 
 /// Verifies a proof of a query, and tells the outcome.
@@ -77,8 +74,8 @@ fn judge(alloc: Global, call: &Call, proof: &[u8]) -> Result<Report, Halt>
     ensures { FindsInHand (call_answer (call_of call.now) proof.now) result }
 {
     let outcome = verdict_of(alloc, call, proof)?;
-    let ty = call.program.function(call.role).result;
-    Ok(report_of(alloc, &call.program, ty, outcome)?)
+    let ty = call.query.program.function(call.query.role).result;
+    Ok(report_of(alloc, &call.query.program, ty, outcome)?)
 }
 
 /// The verifier's answer on a proof of a call.
@@ -89,37 +86,11 @@ fn verdict_of(alloc: Global, call: &Call, proof: &[u8]) -> Result<Outcome<Spelli
 {
     verify::<Sha>(
         alloc,
-        &call.program,
-        call.role,
+        &call.query.program,
+        call.query.role,
         &call.state,
         call.argument.as_bytes(),
-        call.fuel,
+        call.query.fuel,
         proof,
     )
-}
-
-/// The report of an outcome whose value, where it has one, is of this type.
-fn report_of(
-    alloc: Global,
-    program: &Program,
-    ty: TyId,
-    outcome: Outcome<Spelling>,
-) -> Result<Report, AllocError>
-    ensures { IfOk result (Reports (meaning program.now) (type_at (types_of program.now) ty) outcome) }
-{
-    let (ending, text) = match outcome {
-        Outcome::Done(value) => (
-            Ending::Done,
-            done_line(alloc, program, ty, value.as_bytes())?,
-        ),
-        Outcome::Trapped(trap) => (
-            Ending::Trap,
-            Vec::from_slice(alloc, trap_line(trap).as_bytes())?,
-        ),
-        Outcome::Out => (
-            Ending::OutOfFuel,
-            Vec::from_slice(alloc, out_line().as_bytes())?,
-        ),
-    };
-    Ok(Report { ending, text })
 }

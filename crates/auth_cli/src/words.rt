@@ -14,6 +14,10 @@ pub enum Command {
     Shallow,
     /// `init P ROLE ARG FUEL OUT`
     Init,
+    /// `prove P ROLE IMG ARG FUEL N OUT`
+    Prove,
+    /// `audit P ROLE IMG ARG FUEL PROOF`
+    Audit,
 }
 
 impl Command {
@@ -45,6 +49,8 @@ impl Command {
             "verify" => Some(Command::Verify),
             "shallow" => Some(Command::Shallow),
             "init" => Some(Command::Init),
+            "prove" => Some(Command::Prove),
+            "audit" => Some(Command::Audit),
             _ => None,
         }
     }
@@ -58,6 +64,8 @@ impl Command {
             Command::Verify => 6,
             Command::Shallow => 3,
             Command::Init => 5,
+            Command::Prove => 7,
+            Command::Audit => 6,
         }
     }
 }

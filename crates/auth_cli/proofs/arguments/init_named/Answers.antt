@@ -1,6 +1,6 @@
 use Rattle.std.proofs.Common.{sym, ap, ◌∙◌, option_map}
 use Rattle.core_terms.specs.Programs.{meaning}
-use Rattle.auth_cli.proofs.Queries.{role_within}
+use Rattle.auth_cli.proofs.RolesByName.{role_within}
 use Rattle.auth_cli.proofs.arguments.init_named.Goals as goal
 
 pub function-requires : goal.function-requires

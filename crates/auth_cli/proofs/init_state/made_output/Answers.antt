@@ -5,7 +5,7 @@ use Rattle.core_terms.specs.Spelling.{spelling}
 use Rattle.core_terms.specs.Projection.{projection}
 use Rattle.core_terms.specs.TypeTables.{type_at}
 use Rattle.plain_meaning.specs.PlainValues.{plain_of}
-use Rattle.verifier_mode.proofs.RoleOf.{is_format}
+use Rattle.core_terms.proofs.CodePrograms.{is_format}
 use Rattle.auth_cli.specs.ReadPrograms.{digested}
 use Rattle.auth_cli.proofs.MadeStates.{made_refused, made_told}
 use Rattle.auth_cli.proofs.init_state.made_output.Goals as goal

@@ -4,8 +4,9 @@ use Rattle.core_terms.specs.Programs.{meaning}
 use Rattle.core_terms.specs.Values.{Value}
 use Rattle.core_terms.specs.declared.program.FunctionId.{FunctionId}
 use Rattle.plain_meaning.specs.PlainValues.{plain_of}
-use Rattle.auth_cli.specs.Answer.{Answer, DigestedProgram, init_answer_of, init_outcome, with_fuel, with_init, with_value}
-use Rattle.auth_cli.specs.Arguments.{init_type}
+use Rattle.auth_cli.specs.Answer.{Answer, init_answer_of, init_outcome, with_fuel, with_init, with_value}
+use Rattle.auth_cli.specs.FueledQueries.{DigestedProgram}
+use Rattle.core_terms.specs.Roles.{init_type}
 use Rattle.auth_cli.specs.ReadPrograms.{digested}
 use Rattle.auth_cli.specs.Storing.{FindsOutputInHand}
 use Rattle.auth_cli.proofs.Steps.{hand_halt}

@@ -5,7 +5,7 @@ use Rattle.core_terms.specs.Spelling.{spelling}
 use Rattle.core_terms.specs.Projection.{projection}
 use Rattle.core_terms.specs.TypeTables.{type_at}
 use Rattle.plain_meaning.specs.PlainValues.{plain_of}
-use Rattle.verifier_mode.proofs.RoleOf.{is_format}
+use Rattle.core_terms.proofs.CodePrograms.{is_format}
 use Rattle.auth_cli.proofs.StateOutputs.{state_output}
 use Rattle.auth_cli.proofs.shallow_state.spell_state.Goals as goal
 

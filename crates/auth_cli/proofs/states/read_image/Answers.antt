@@ -1,4 +1,5 @@
 use Rattle.plain_meaning.specs.PlainValues.{plain_of}
+use Rattle.auth_cli.specs.Answer.{image_read}
 use Rattle.auth_cli.specs.ReadPrograms.{digested}
 use Rattle.auth_cli.proofs.Steps.{image_goes, image_refused}
 use Rattle.auth_cli.proofs.states.read_image.Goals as goal
@@ -9,3 +10,7 @@ returns-in_err-load_image-clause-goes c =
 
 pub returns-clause-goes : goal.returns-clause-goes
 returns-clause-goes c = image_goes (digested c.args.program.now) c.args.bytes.now _ c.in_ok-load_image.ensures.value
+
+pub returns-clause-root : goal.returns-clause-root
+unfolding image_read
+returns-clause-root c = c.in_ok-load_image.ensures.value

@@ -1,9 +1,10 @@
-use Rattle.std.proofs.Common.{Some, ◌∙◌}
+use Rattle.std.proofs.Common.{Some, ◌∙◌, sym, subst}
 use Rattle.std.proofs.lemmas.Result.{err_from_is_err_and}
 use Rattle.printed_lines.specs.declared.refusal.Argument.TheVariants.{Proof}
 use Rattle.auth_cli.specs.Answer.{call_answer, max_file, with_file}
 use Rattle.auth_cli.specs.Calls.{call_of}
-use Rattle.auth_cli.proofs.Steps.{finds_halt, halts_behind}
+use Rattle.auth_cli.specs.Halting.{Finds}
+use Rattle.auth_cli.proofs.Steps.{finds_halt, halts_behind, report_found}
 use Rattle.auth_cli.proofs.Told.{if_ok}
 use Rattle.auth_cli.proofs.verify_query.find_verdict.Goals as goal
 
@@ -20,6 +21,15 @@ returns-in_err-proof-clause-finds g c = λ told known.
     (halts_behind _ _ _
     (c.in_ok-call.ensures.goes told known (λ call. with_file max_file Proof (told c.args.proof.now) (λ bytes. Some (call_answer call bytes))))
     (c.in_err-proof.ensures.goes told (c.in_ok-call.ensures.contents ∙ known) (λ bytes. Some (call_answer (call_of c.in_ok-call.call) bytes))))
+
+pub returns-clause-finds : goal.returns-clause-finds
+returns-clause-finds g c = λ told known.
+    let call = call_of c.in_ok-call.call in
+    let answer =
+    c.in_ok-call.ensures.goes told known (λ call. with_file max_file Proof (told c.args.proof.now) (λ bytes. Some (call_answer call bytes)))
+    ∙ c.in_ok-proof.ensures.goes told (c.in_ok-call.ensures.contents ∙ known) (λ bytes. Some (call_answer call bytes)) in
+    let found = subst (λ bytes. Finds (Some (call_answer call bytes)) c.judge.result) c.deref.ensures.value (report_found (call_answer call c.deref.result.now) c.judge.result c.judge.ensures) in
+    subst (λ answer. Finds answer c.judge.result) (sym answer) found
 
 pub returns-clause-sound : goal.returns-clause-sound
 returns-clause-sound g c = λ told known. if_ok c.judge.result (c.in_ok-call.ensures.sound told known)
