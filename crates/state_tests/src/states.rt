@@ -1,6 +1,8 @@
 // What `init` and `shallow` store and tell.
 use auth_cli::run;
 use cli_stage::stage::{OPEN, STATE, files, run_words, sink, staged};
+use printed_lines::lines::refusal_line;
+use printed_lines::refusal::{ImageKind, InputFault, Refusal};
 use std::test::Fail;
 
 /// The image of the state of `()`: a unit, and what is authenticated of it.
@@ -125,5 +127,34 @@ fn an_init_is_refused_or_out_of_fuel(rt: HostRuntime) -> Result<(), Fail> {
         let told = run_words(rt.alloc(), &staged(OPEN, b"", b""), &words)?;
         assert!(rt; told.is(status, line), "{line}");
     }
+    Ok(())
+}
+
+/// A program whose state is a text.
+const TEXT: &[u8] = b"state text; init make(x: text): text = x;";
+
+/// The image of a text of 65,533 bytes, up to its first byte: its spelling has one byte more than the limit.
+const LONG_TEXT: &[u8] =
+    b"LAI1\x00\x9e\xa4\x47\x13\x3f\xdc\x42\xe1\xff\x8c\xe3\x79\x18\xc9\x07\xe5\x0b\x98\xf7\xce\x9b\x61\x22\xf9\xfb\xc1\x36\x4a\x4c\x52\x43\x00\x00\x00\x01\x03\x00\x00\xff\xfd";
+
+#[test]
+fn a_text_with_a_spelling_beyond_the_limit_is_too_big(rt: HostRuntime) -> Result<(), Fail> {
+    let alloc = rt.alloc();
+    let mut image = Vec::from_slice(alloc, LONG_TEXT)?;
+    for _ in 0..65_533 {
+        image.push(b'a')?;
+    }
+    let words = ["shallow", "p", "q", "o"];
+    let told = run_words(alloc, &staged(TEXT, b"", &image), &words)?;
+    assert!(rt; told.is(7, "input refused: image too big 0\n"));
+    Ok(())
+}
+
+// No value of a state of the fragment is nested as deep, so the line stands alone.
+#[test]
+fn a_value_that_is_too_deep_has_its_line(rt: HostRuntime) -> Result<(), Fail> {
+    let fault = InputFault::Image(ImageKind::TooDeep(7));
+    let line = refusal_line(rt.alloc(), &Refusal::Input(fault))?;
+    assert!(rt; line.as_slice() == b"input refused: image too deep 7\n".as_slice());
     Ok(())
 }
