@@ -1,5 +1,5 @@
 -- The levels on which an `auth` is found in types.
-use Rattle.std.proofs.Common.{◌≡◌, ℕ, zero, suc, ◌+◌, ◌-◌, ◌<◌, Bool, true, false, ◌||◌, List, [], ◌∷◌, ◌++◌, map, length, slice_get, slice_index_or, unwrap_or, refl, sym, ap, ap₂, ◌∙◌, subst, arith, nat_lt, ltb-true, ◌≤◌, replicate}
+use Rattle.std.proofs.Common.{◌≡◌, ℕ, zero, suc, ◌+◌, ◌-◌, ◌<◌, Bool, true, false, ◌||◌, List, [], ◌∷◌, ◌++◌, map, length, slice_get, slice_index_or, unwrap_or, refl, sym, ap, ap₂, ◌∙◌, arith, nat_lt, ltb-true, ◌≤◌, replicate}
 use Rattle.std.specs.Cmp.Lexicographic.{pointwise}
 use Rattle.std.proofs.lemmas.Bool.{ltb-false}
 use Rattle.std.proofs.lemmas.List.{get_or_past, length-map, get_or-replicate, length-replicate}
@@ -10,7 +10,7 @@ use Rattle.std.proofs.Math.ListN.{get_or-append}
 use Rattle.std.proofs.Math.Seq.{get_or-append_seam}
 use Rattle.std.specs.List.{list_any}
 use Rattle.core_terms.specs.Types.{Ty, UnitTy, BoolTy, IntTy, TextTy, PairTy, NamedTy, AuthTy, Table}
-use Rattle.core_terms.specs.Roles.{some_passes, has_auth_within, has_auth}
+use Rattle.core_terms.specs.Roles.{some_passes, has_auth_within}
 use Rattle.core_terms.specs.TypeTables.{type_at}
 use Rattle.core_terms.specs.LanguageTypes.{type_of_form, stands_behind}
 use Rattle.core_terms.specs.LanguageTrees.{table_of, types_at}

@@ -1,18 +1,19 @@
 -- A table of types of the whole language with one form more.
-use Rattle.std.proofs.Common.{◌≡◌, ◌≢◌, ◌⊎◌, inl, inr, ℕ, zero, suc, ◌+◌, ◌<◌, ◌≤◌, Bool, true, false, nat_lt, List, [], ◌∷◌, ◌++◌, length, slice_index_or, Some, slice_get, refl, sym, ap, ◌∙◌, subst, arith, length-append, zero-add, ltb-true, lt-ltb, eq-eqb, if◌then◌else◌}
+use Rattle.std.proofs.Common.{◌≡◌, ◌≢◌, ◌⊎◌, inl, inr, ℕ, zero, suc, ◌+◌, ◌<◌, ◌≤◌, Bool, true, false, nat_lt, List, [], ◌∷◌, ◌++◌, length, slice_index_or, Option, Some, None, IfSome, IsNone, is_some, slice_get, refl, sym, ap, ◌∙◌, subst, arith, length-append, zero-add, ltb-true, lt-ltb, eq-eqb, nat_eq, if◌then◌else◌}
 use Rattle.std.proofs.Math.ListN.{get_or-append}
 use Rattle.std.proofs.Math.Seq.{get_or-append_seam}
-use Rattle.std.proofs.lemmas.Bool.{ltb-false}
+use Rattle.std.proofs.lemmas.Bool.{ltb-false, eqb-true}
 use Rattle.std.proofs.lemmas.List.{get_or_past}
 use Rattle.std.proofs.lemmas.Option.{slice_get-get_or, slice_get_within, get_or_from_slice_get}
 use Rattle.std.proofs.lemmas.Grind.{common_steps}
-use Rattle.std.specs.List.{list_any}
+use Rattle.std.specs.List.{list_any, position}
+use Rattle.std.proofs.lemmas.List.Quantifiers.{position-Some}
 use Rattle.std.proofs.lemmas.List.Folds.{list_any_at}
 use Rattle.indexmap.specs.IndexSet.{insert_key}
 use Rattle.core_terms.specs.contracts.language.types.TyFormPartialEq.TheImpl.{eq-value}
 use Rattle.core_terms.specs.Types.{Ty, UnitTy}
 use Rattle.core_terms.specs.TypeTables.{HasOneNumber}
-use Rattle.core_terms.specs.LanguageTypes.{type_of_form, types_behind, types_of_forms, IsWithForm, stands_behind, is_in_order}
+use Rattle.core_terms.specs.LanguageTypes.{type_of_form, types_behind, types_of_forms, HasNoNumber, IsWithForm, stands_behind, is_in_order}
 use Rattle.core_terms.specs.declared.language.types.TyForm.{TyForm}
 use Rattle.core_terms.specs.declared.language.types.TyForm.TheVariants.{UnitForm, BoolForm, IntForm, TextForm, AuthForm, PairForm, NamedForm}
 use Rattle.core_terms.proofs.LanguageTypeTables.{length-types_behind, form_means, more_parts}
@@ -98,6 +99,16 @@ type_pushed forms form =
     ∙ slice_get-get_or (types ++ t ∷ []) (length types) UnitTy inside
     ∙ ap Some (get_or-append_seam types t [] UnitTy)
 
+-- a form that isn't there is that of no type which is
+pub no_type : (forms : List TyForm) (form : TyForm) → is_in_order 0 forms ≡ true → HasOneNumber (types_of_forms forms) → ((i : ℕ) → slice_get forms i ≢ Some form)
+    → HasNoNumber (types_of_forms forms) form
+no_type forms form h one new s i at =
+    let types = types_of_forms forms in
+    let inside : i < length types = slice_get_within types i (type_of_form types form) at in
+    let there : slice_get forms i ≡ Some (slice_index_or forms i UnitForm) = slice_get-get_or forms i UnitForm (rw (← length-types forms) inside) in
+    let behind : stands_behind (length types) (slice_index_or forms i UnitForm) ≡ true = stands_later (0 + i) (length types) (slice_index_or forms i UnitForm) (omega (arith, inside)) (stands_at 0 forms i (slice_index_or forms i UnitForm) h there) in
+    new i (there ∙ ap Some (one_form types one (slice_index_or forms i UnitForm) form behind s (form_means forms i h ∙ get_or_from_slice_get types i (type_of_form types form) UnitTy at)))
+
 -- a form that isn't there brings a new type
 pub one_number_push : (forms : List TyForm) (form : TyForm) → is_in_order 0 forms ≡ true → HasOneNumber (types_of_forms forms) → stands_behind (length (types_of_forms forms)) form ≡ true
     → ((i : ℕ) → slice_get forms i ≢ Some form) → HasOneNumber (types_of_forms (forms ++ form ∷ []))
@@ -110,10 +121,7 @@ one_number_push forms form h one s new = subst HasOneNumber (sym (types_push for
     t = type_of_form (types_of_forms forms) form
 
     differs : (i : ℕ) → i < length (types_of_forms forms) → slice_index_or (types_of_forms forms) i UnitTy ≢ type_of_form (types_of_forms forms) form
-    differs i inside e =
-        let there : slice_get forms i ≡ Some (slice_index_or forms i UnitForm) = slice_get-get_or forms i UnitForm (rw (← length-types forms) inside) in
-        let behind : stands_behind (length (types_of_forms forms)) (slice_index_or forms i UnitForm) ≡ true = stands_later (0 + i) (length (types_of_forms forms)) (slice_index_or forms i UnitForm) (omega (arith, inside)) (stands_at 0 forms i (slice_index_or forms i UnitForm) h there) in
-        new i (there ∙ ap Some (one_form (types_of_forms forms) one (slice_index_or forms i UnitForm) form behind s (form_means forms i h ∙ e)))
+    differs i inside e = no_type forms form h one new s i (slice_get-get_or (types_of_forms forms) i UnitTy inside ∙ ap Some e)
 
     front : (i : ℕ) → i < length (types_of_forms forms) → slice_index_or (types_of_forms forms ++ type_of_form (types_of_forms forms) form ∷ []) i UnitTy ≡ slice_index_or (types_of_forms forms) i UnitTy
     front i inside = get_or-append (types_of_forms forms) (type_of_form (types_of_forms forms) form ∷ []) UnitTy i inside
@@ -152,7 +160,7 @@ parts_before forms i h = by (nat_lt i (length forms)) refl
     by false e = subst (λ f. stands_behind i f ≡ true) (sym (get_or_past forms i UnitForm (ltb-false i (length forms) e))) refl
 
 -- a form that is equal to none of these is none of them
-absent : (eq : TyForm → TyForm → Bool) → ((f : TyForm) → eq f f ≡ true) → (forms : List TyForm) (form : TyForm) → list_any (eq form) forms ≡ false → (i : ℕ) → slice_get forms i ≢ Some form
+pub absent : (eq : TyForm → TyForm → Bool) → ((f : TyForm) → eq f f ≡ true) → (forms : List TyForm) (form : TyForm) → list_any (eq form) forms ≡ false → (i : ℕ) → slice_get forms i ≢ Some form
 absent eq own forms form none i at =
     let found : list_any (eq form) forms ≡ true = list_any_at (eq form) forms i UnitForm (slice_get_within forms i form at) (subst (λ f. eq form f ≡ true) (sym (get_or_from_slice_get forms i form UnitForm at)) (own form)) in
     absurd (cc)
@@ -193,3 +201,31 @@ grows_either old new form (inr e) =
     let more : length (types_of_forms new) ≡ length (types_of_forms old ++ type_of_form (types_of_forms old) form ∷ []) = ap length (ap types_of_forms e.0 ∙ types_push old form) in
     let one : length (types_of_forms old ++ type_of_form (types_of_forms old) form ∷ []) ≡ length (types_of_forms old) + 1 = length-append (types_of_forms old) (type_of_form (types_of_forms old) form ∷ []) in
     omega (arith, more, one)
+
+-- it says yes of no other
+same_form : (f g : TyForm) → eq-value.it f g ≡ true → f ≡ g
+same_form UnitForm UnitForm e = refl
+same_form BoolForm BoolForm e = refl
+same_form IntForm IntForm e = refl
+same_form TextForm TextForm e = refl
+same_form (AuthForm p) (AuthForm q) e = ap (λ n. AuthForm (record { 0 = n })) (eqb-true p.0 q.0 e)
+same_form (PairForm p p') (PairForm q q') e =
+    ap (λ n. PairForm (record { 0 = n }) p') (eqb-true p.0 q.0 (first_of _ _ e))
+    ∙ ap (λ n. PairForm q (record { 0 = n })) (eqb-true p'.0 q'.0 (second_of (nat_eq p.0 q.0) _ e))
+same_form (NamedForm p) (NamedForm q) e = ap (λ n. NamedForm (record { 0 = n })) (eqb-true p.0 q.0 e)
+same_form f g e = absurd (cc)
+
+-- the form at the first place where the test says yes
+placed_form : (forms : List TyForm) (form : TyForm) (place : ℕ) → position (eq-value.it form) forms ≡ Some place → slice_get forms place ≡ Some form
+placed_form forms form place e =
+    let there = position-Some (eq-value.it form) forms place UnitForm e in
+    slice_get-get_or forms place UnitForm there.0 ∙ ap Some (sym (same_form form (slice_index_or forms place UnitForm) there.1))
+
+pub form_placed : (forms : List TyForm) (form : TyForm) (found : Option ℕ) → found ≡ position (eq-value.it form) forms → IfSome found (λ place. slice_get forms place ≡ Some form)
+form_placed forms form None e = tt
+form_placed forms form (Some place) e = placed_form forms form place (sym e)
+
+pub form_missing : (forms : List TyForm) (form : TyForm) (found : Option ℕ) → is_some found ≡ list_any (eq-value.it form) forms → IsNone found
+    → (i : ℕ) → slice_get forms i ≢ Some form
+form_missing forms form None e none = absent eq-value.it own_form forms form (sym e)
+form_missing forms form (Some place) e none = absurd (cc)

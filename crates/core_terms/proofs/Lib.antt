@@ -18,3 +18,5 @@ pub mod LanguageTypeTables
 pub mod LanguageTypePushing
 pub mod LanguageRoles
 pub mod AuthLevels
+pub mod RoleShapes
+pub mod LanguageConstructors

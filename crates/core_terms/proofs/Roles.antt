@@ -32,6 +32,21 @@ one_later p xs = ap (λ t. cond t (Some (1 + position_or_len p xs)) None) (lt_su
     by true n = ap Some (omega arith)
     by false n = refl
 
+-- the first place is 0 where the first element passes the test, else one more than among the others
+pub first_place : {A : Type 0} (p : A → Bool) (x : A) (xs : List A) → position p (x ∷ xs) ≡ (if p x then Some 0 else option_map suc (position p xs))
+first_place p x xs = by (p x)
+  where
+    by : (b : Bool) → cond (nat_lt (cond (not b) (1 + position_or_len p xs) 0) (suc (length xs))) (Some (cond (not b) (1 + position_or_len p xs) 0)) None
+        ≡ (if b then Some 0 else option_map suc (position p xs))
+    by true = ap (λ t. cond t (Some 0) None) (lt-ltb 0 (suc (length xs)) (omega arith))
+    by false = one_later p xs
+
+-- the first place where what the elements give passes the test
+pub place_of_map : {A B : Type 0} (f : A → B) (p : B → Bool) (xs : List A) → position (λ x. p (f x)) xs ≡ position p (map f xs)
+place_of_map f p [] = refl
+place_of_map f p (x ∷ xs) =
+    first_place (λ x. p (f x)) x xs ∙ ap (λ place. if p (f x) then Some 0 else option_map suc place) (place_of_map f p xs) ∙ sym (first_place p (f x) (map f xs))
+
 pub role_position : (types : List Ty) (functions : List Function) (name : List ℕ)
     → position (λ f. bytes_eq f.name name) functions ≡ role_among (map (function_of types) functions) name
 role_position types [] name = refl

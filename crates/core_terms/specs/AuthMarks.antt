@@ -6,7 +6,7 @@ use Rattle.core_terms.specs.Roles.{has_auth, has_auth_within}
 use Rattle.core_terms.specs.LanguageTrees.{table_of}
 use Rattle.core_terms.specs.declared.types.TyId.{TyId}
 use Rattle.core_terms.specs.declared.language.types.TyForm.{TyForm}
-use Rattle.core_terms.specs.declared.language.types.TyForm.TheVariants.{UnitForm, BoolForm, IntForm, TextForm, AuthForm, PairForm, NamedForm}
+use Rattle.core_terms.specs.declared.language.types.TyForm.TheVariants.{AuthForm, PairForm, NamedForm}
 use Rattle.core_terms.specs.declared.language.term.Constructor.{Constructor}
 use Rattle.core_terms.specs.declared.language.term.NamedType.{NamedType}
 

@@ -1,11 +1,12 @@
 -- The program of the definitions that a table of types, named types and functions of the whole language stand for.
-use Rattle.std.specs.Prelude.{Bool, List, [], ◌∷◌, map, Vec}
+use Rattle.std.specs.Prelude.{ℕ, Bool, ◌&&◌, List, [], ◌∷◌, length, map, nat_lt}
+use Rattle.std.specs.List.{list_all}
 use Rattle.core_terms.specs.Types.{Ty, Table}
-use Rattle.core_terms.specs.Formats.{Format, first_format}
 use Rattle.core_terms.specs.Terms.{Expression, UnitE, BoolE, IntE, TextE, LocalE, PairE, FstE, SndE, NotE, LenE, AuthE, UnauthE, ConE, ArithE, CompareE, TextCompareE, CatE, LetE, IfE, MatchE, CallE, Expressions, NoE, AndE, Arms, NoArm, AndArm}
 use Rattle.core_terms.specs.Terms as tree
 use Rattle.core_terms.specs.Roles.{is_entered}
 use Rattle.core_terms.specs.Texts.{bytes_of}
+use Rattle.core_terms.specs.ProgramTrees.{program_format}
 use Rattle.core_terms.specs.TypeTables.{type_at}
 use Rattle.core_terms.specs.LanguageTypes.{types_of_forms}
 use Rattle.core_terms.specs.declared.types.TyId.{TyId}
@@ -106,9 +107,22 @@ function_of types f = record {
 abbrev pub is_role : Function → Bool
 is_role f = is_entered (kind_of f.kind)
 
--- The format of every program: the first one, with up to 1,024 pieces kept.
-abbrev pub program_format : Format
-program_format = first_format 1024
+-- the types with these numbers are among so many
+abbrev pub are_below : ℕ → List TyId → Bool
+are_below count ids = list_all (λ (id : TyId). nat_lt id.0 count) ids
+
+-- so are the types of a named type's fields, and those of a function's parameters and result
+abbrev pub has_fields_below : ℕ → NamedType → Bool
+has_fields_below count declared = list_all (λ (constructor : Constructor). are_below count constructor.fields.items) declared.constructors.items
+
+abbrev pub has_types_below : ℕ → Function → Bool
+has_types_below count f = are_below count f.parameters.items && nat_lt f.result.0 count
+
+-- the types of a program's state, fields, parameters and results are in its table
+abbrev pub is_within : List TyForm → List NamedType → TyId → List Function → Bool
+is_within forms named state functions =
+    let count = length (types_of_forms forms) in
+    nat_lt state.0 count && (list_all (has_fields_below count) named && list_all (has_types_below count) functions)
 
 -- the program
 abbrev pub program_of : List TyForm → List NamedType → TyId → List Function → tree.Program

@@ -1,5 +1,5 @@
 -- The types that the forms of a table of the whole language stand for.
-use Rattle.std.specs.Prelude.{◌≡◌, ◌≢◌, ◌⊎◌, ℕ, ◌+◌, Bool, true, ◌&&◌, List, [], ◌∷◌, ◌++◌, nat_lt, Some, slice_get}
+use Rattle.std.specs.Prelude.{◌≡◌, ◌≢◌, ◌⊎◌, ℕ, ◌+◌, Bool, true, ◌&&◌, List, [], ◌∷◌, ◌++◌, length, nat_lt, Some, slice_get}
 use Rattle.core_terms.specs.Types.{Ty, UnitTy, BoolTy, IntTy, TextTy, AuthTy, PairTy, NamedTy}
 use Rattle.core_terms.specs.TypeTables.{type_at}
 use Rattle.core_terms.specs.declared.language.types.TyForm.{TyForm}
@@ -38,3 +38,7 @@ is_in_order n (form ∷ forms) = stands_behind n form && is_in_order (n + 1) for
 -- the new forms are the old ones, or the old ones and this form behind them, where it is none of them
 abbrev pub IsWithForm : (old : List TyForm) (form : TyForm) (new : List TyForm) → Type 0
 IsWithForm old form new = (new ≡ old) ⊎ ((new ≡ old ++ form ∷ []) × ((i : ℕ) → slice_get old i ≢ Some form))
+
+-- no number stands for the type of this form, where the parts of the form are among the types
+abbrev pub HasNoNumber : List Ty → TyForm → Type 0
+HasNoNumber types form = stands_behind (length types) form ≡ true → (i : ℕ) → slice_get types i ≢ Some (type_of_form types form)

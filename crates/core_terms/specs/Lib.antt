@@ -16,3 +16,4 @@ pub mod LanguageTypes
 pub mod LanguageTrees
 pub mod LanguagePrograms
 pub mod AuthMarks
+pub mod RoleViews

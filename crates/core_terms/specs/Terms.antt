@@ -47,6 +47,7 @@ mutual
 -- how a function may be entered: by calls of the program alone, or also from outside, as a role
 pub data Kind : Type 0 where
   Inner Init Query Update : Kind
+  deriving IsSet as kinds_set
 
 pub record Function : Type 0 where
   pub name : List ℕ

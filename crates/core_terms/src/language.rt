@@ -2,10 +2,12 @@
 
 mod marks;
 pub mod program;
+pub mod roles;
 pub mod term;
 pub mod types;
 
 pub use marks::auth_marks;
 pub use program::Program;
+pub use roles::{Role, RoleId, RoleKind};
 pub use term::{Arith, Compare, Constructor, Function, Kind, NamedType, Term, TextCompare};
 pub use types::{NamedId, Tag, TyForm, TyTable};

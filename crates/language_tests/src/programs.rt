@@ -1,6 +1,9 @@
 // Types with and without `auth`, and what a program tells of itself.
-ghost use Rattle.std.specs.Prelude.{◌<◌, length};
+ghost use Rattle.std.specs.Prelude.{◌≡◌, ◌<◌, ℕ, true, List, length, IfOk};
+ghost use Rattle.std.specs.List.{list_all};
 ghost use Rattle.core_terms.specs.LanguagePrograms.{types_in};
+ghost use Rattle.core_terms.specs.LanguageTrees.{are_below, has_fields_below, table_of};
+ghost use Rattle.core_terms.specs.Types.{Ty, has_tags};
 
 use core_terms::language::{Constructor, NamedId, NamedType, Program, TyForm, TyTable};
 use core_terms::{Digest, Name, TyId};
@@ -15,7 +18,10 @@ fn name(alloc: Global, text: &str) -> Result<Name, AllocError> {
 }
 
 /// A named type with one constructor, of these fields.
-fn one_constructor(alloc: Global, of: &str, fields: Vec<TyId>) -> Result<NamedType, AllocError> {
+fn one_constructor(alloc: Global, of: &str, fields: Vec<TyId>) -> Result<NamedType, AllocError>
+    ensures within { IfOk result (λ declared. (count : ℕ) → are_below count fields.items ≡ true → has_fields_below count declared ≡ true) }
+    ensures one { IfOk result (λ declared. length declared.constructors.items ≡ 1) }
+{
     let constructor = Constructor {
         name: name(alloc, "Only")?,
         fields,
@@ -32,8 +38,30 @@ fn of_types(
     types: TyTable,
     named: Vec<NamedType>,
     state: TyId,
-) -> Result<Program, AllocError> {
+) -> Result<Program, AllocError>
+    requires state { state.0 < length (types_in types) }
+    requires named { list_all (has_fields_below (length (types_in types))) named.items ≡ true }
+    requires tags { has_tags (table_of (types_in types) named.items) ≡ true }
+{
     Program::new(types, named, state, Vec::new(alloc), Digest([7; 32]), alloc)
+}
+
+/// Named types of which the first has the second in a field, the second an authenticated value, and the third itself.
+fn three_types(
+    alloc: Global,
+    int: TyId,
+    held: TyId,
+    holder: TyId,
+    plain: TyId,
+) -> Result<Vec<NamedType>, AllocError>
+    ensures within { IfOk result (λ named. (count : ℕ) → int.0 < count → held.0 < count → holder.0 < count → plain.0 < count → list_all (has_fields_below count) named.items ≡ true) }
+    ensures tags { IfOk result (λ named. (types : List Ty) → has_tags (table_of types named.items) ≡ true) }
+{
+    let mut named = Vec::new(alloc);
+    named.push(one_constructor(alloc, "outer", vec![in alloc; int, holder]?)?)?;
+    named.push(one_constructor(alloc, "inner", vec![in alloc; held]?)?)?;
+    named.push(one_constructor(alloc, "plain", vec![in alloc; int, plain]?)?)?;
+    Ok(named)
 }
 
 #[test]
@@ -44,10 +72,7 @@ fn an_auth_is_found_through_named_types(rt: HostRuntime) -> Result<(), Fail> {
     let held = types.intern(TyForm::AuthForm(int))?;
     let holder = types.intern(TyForm::NamedForm(NamedId(1)))?;
     let plain = types.intern(TyForm::NamedForm(NamedId(2)))?;
-    let mut named = Vec::new(alloc);
-    named.push(one_constructor(alloc, "outer", vec![in alloc; int, holder]?)?)?;
-    named.push(one_constructor(alloc, "inner", vec![in alloc; held]?)?)?;
-    named.push(one_constructor(alloc, "plain", vec![in alloc; int, plain]?)?)?;
+    let named = three_types(alloc, int, held, holder, plain)?;
     let outer = types.intern(TyForm::NamedForm(NamedId(0)))?;
     let program = of_types(alloc, types, named, outer)?;
     assert!(rt; program.has_auth(outer));
@@ -65,6 +90,7 @@ fn an_auth_is_found_through_named_types(rt: HostRuntime) -> Result<(), Fail> {
 /// Adds pairs of a type with itself, each of the one before, so many times.
 fn nested_pairs(types: &mut TyTable, inner: TyId, levels: usize) -> Result<TyId, AllocError>
     requires { inner.0 < length (types_in types.old) }
+    ensures { IfOk result (λ ty. ty.0 < length (types_in types.new)) }
 {
     let mut ty = inner;
     for _level in 0..levels {
@@ -74,7 +100,9 @@ fn nested_pairs(types: &mut TyTable, inner: TyId, levels: usize) -> Result<TyId,
 }
 
 /// A program whose only named type has no fields.
-fn of_one_name(alloc: Global, types: TyTable, state: TyId) -> Result<Program, AllocError> {
+fn of_one_name(alloc: Global, types: TyTable, state: TyId) -> Result<Program, AllocError>
+    requires { state.0 < length (types_in types) }
+{
     let mut named = Vec::new(alloc);
     named.push(one_constructor(alloc, "item", Vec::new(alloc))?)?;
     of_types(alloc, types, named, state)

@@ -1,21 +1,28 @@
 // Programs, well-typed by their type.
-ghost use Rattle.std.specs.Prelude.{◌≡◌, ◌<◌, ◌&&◌, true, length, map, option_map, bytes_eq, IfOk};
-ghost use Rattle.std.specs.List.{position};
+ghost use Rattle.std.specs.Prelude.{◌≡◌, ◌<◌, true, length, map, Some, slice_get, option_map, bytes_eq, IfOk, IfSome, IsNone};
+ghost use Rattle.std.specs.List.{All, list_all, position};
+ghost use Rattle.std.proofs.Props.{props};
 ghost use Rattle.core_terms.specs.AuthMarks.{AreAuthMarks};
-ghost use Rattle.core_terms.specs.LanguageTrees.{function_of, is_role, program_of};
-ghost use Rattle.core_terms.specs.LanguageTypes.{type_of_form, types_of_forms};
-ghost use Rattle.core_terms.specs.Roles.{has_auth, role_named};
-ghost use Rattle.core_terms.specs.Terms.{function_at};
+ghost use Rattle.core_terms.specs.LanguageTrees.{function_of, has_fields_below, has_types_below, is_within, program_of, types_at};
+ghost use Rattle.core_terms.specs.LanguageTypes.{HasNoNumber, stands_behind, type_of_form, types_of_forms};
+ghost use Rattle.core_terms.specs.RoleViews.{has_role_below, role_of};
+ghost use Rattle.core_terms.specs.Roles.{HasRoleShape, has_auth, role_function, role_named, program_roles, roles_set};
+ghost use Rattle.core_terms.specs.Terms.{function_at, kinds_set};
 ghost use Rattle.core_terms.specs.TypeTables.{type_at};
+ghost use Rattle.core_terms.specs.Types.{fields_at, has_tags, types_set};
 ghost use Rattle.core_terms.specs.Typing.{is_shaped, is_typed};
 
 use crate::language::marks::{auth_marks, is_marked};
-use crate::language::{Function, Kind, NamedType, TyForm, TyTable};
+use crate::language::roles::{place_of, roles_of};
+use crate::language::{
+    Constructor, Function, NamedId, NamedType, Role, RoleId, Tag, TyForm, TyTable,
+};
 use crate::program::FunctionId;
 use crate::{Digest, TyId};
 use std::alloc::{AllocError, Global};
 
-/// A program: its types, the type of its state and its functions. It is well-typed, and its roles have their shapes.
+/// A program: its types, the type of its state and its functions. It is well-typed, its roles have their shapes, and the types of
+/// its state, fields, parameters and results are in its table. No named type has more than 255 constructors.
 #[derive(Drop)]
 pub struct Program {
     types: TyTable,
@@ -23,17 +30,23 @@ pub struct Program {
     state: TyId,
     functions: Vec<Function>,
     text_digest: Digest,
+    roles: Vec<Role>,
     auths: Vec<bool>,
+    ghost found: { map (role_of (types_of_forms types.forms.keys)) roles.items ≡ program_roles (program_of types.forms.keys named.items state functions.items) } by { Prim.hlevel (props, types_set, kinds_set, roles_set) },
     ghost marked: { AreAuthMarks (types_of_forms types.forms.keys) named.items auths.items },
     ghost typed: { is_typed (program_of types.forms.keys named.items state functions.items) ≡ true },
     ghost shaped: { is_shaped (program_of types.forms.keys named.items state functions.items) ≡ true },
+    ghost within: { is_within types.forms.keys named.items state functions.items ≡ true },
+    ghost tags: { has_tags (program_of types.forms.keys named.items state functions.items).types ≡ true },
+    ghost roles_within: { list_all (has_role_below (length (types_of_forms types.forms.keys))) roles.items ≡ true },
 }
 
 impl Program {
-    ghost use Rattle.core_terms.specs.LanguagePrograms.{meaning, types_of};
+    ghost use Rattle.core_terms.specs.LanguagePrograms.{constructor_names, meaning, types_of};
 
-    /// A program of these parts, whose text has this digest. Which types have an `auth` is found here, once: each pass over the
-    /// table and the named types opens named types once more, and there are at most as many passes as named types.
+    /// A program of these parts, whose text has this digest. Its roles, and which types have an `auth`, are found here, once. For
+    /// the latter each pass over the table and the named types opens named types once more, and there are at most as many passes
+    /// as named types.
     pub fn new(
         types: TyTable,
         named: Vec<NamedType>,
@@ -44,10 +57,13 @@ impl Program {
     ) -> Result<Self, AllocError>
         requires typed { is_typed (program_of types.forms.keys named.items state functions.items) ≡ true }
         requires shaped { is_shaped (program_of types.forms.keys named.items state functions.items) ≡ true }
+        requires within { is_within types.forms.keys named.items state functions.items ≡ true }
+        requires tags { has_tags (program_of types.forms.keys named.items state functions.items).types ≡ true }
         ensures meaning { IfOk result (λ program. meaning program ≡ program_of types.forms.keys named.items state functions.items) }
         ensures named { IfOk result (λ program. program.named.items ≡ named.items) }
         ensures digest { IfOk result (λ program. program.text_digest ≡ text_digest) }
     {
+        let roles = roles_of(&functions, alloc)?;
         let auths = auth_marks(&types, &named, alloc)?;
         Ok(Program {
             types,
@@ -55,6 +71,7 @@ impl Program {
             state,
             functions,
             text_digest,
+            roles,
             auths,
         })
     }
@@ -66,23 +83,46 @@ impl Program {
         &self.text_digest
     }
 
-    /// The form of a type.
+    /// The form of a type. Its parts stand before the type.
     pub fn form(&self, ty: TyId) -> TyForm
-        ensures { type_of_form (types_of self.now) result ≡ type_at (types_of self.now) ty }
+        ensures form { type_of_form (types_of self.now) result ≡ type_at (types_of self.now) ty }
+        ensures parts { stands_behind ty.0 result ≡ true }
     {
         self.types.form(ty)
     }
 
+    /// The type of this form; none where it isn't one of the program's, as long as the form's parts are.
+    pub fn type_of(&self, form: TyForm) -> Option<TyId>
+        ensures found { IfSome result (λ id. slice_get (types_of self.now) id.0 ≡ Some (type_of_form (types_of self.now) form)) }
+        ensures within { IfSome result (λ id. id.0 < length (types_of self.now)) }
+        ensures none { IsNone result → HasNoNumber (types_of self.now) form }
+    {
+        self.types.number_of(form)
+    }
+
     /// The named types, in the order of declarations.
     pub fn named_types(&self) -> &[NamedType]
-        ensures { result.now ≡ self.now.named.items }
+        ensures named { result.now ≡ self.now.named.items }
+        ensures within { list_all (has_fields_below (length (types_of self.now))) result.now ≡ true }
+        ensures tags { has_tags (meaning self.now).types ≡ true }
     {
         &self.named
     }
 
+    /// The constructor of this name among those of a named type, with the types of its fields; none exactly where it has no such one.
+    pub fn constructor(&self, named: NamedId, name: &[u8]) -> Option<(Tag, &[TyId])>
+        ensures tag { option_map (λ found. found.0.0) result ≡ position (λ other. bytes_eq other name.now) (constructor_names self.now.named.items named.0) }
+        ensures fields { IfSome result (λ found. fields_at (meaning self.now).types named.0 found.0.0 ≡ Some (types_at (types_of self.now) found.1.now)) }
+    {
+        let declared = self.named.get(named.0)?;
+        let place = place_of_constructor(&declared.constructors, name)?;
+        Some((Tag(place as u8), &declared.constructors[place].fields))
+    }
+
     /// The type of the state.
     pub fn state_type(&self) -> TyId
-        ensures { type_at (types_of self.now) result ≡ (meaning self.now).state }
+        ensures state { type_at (types_of self.now) result ≡ (meaning self.now).state }
+        ensures within { result.0 < length (types_of self.now) }
     {
         self.state
     }
@@ -96,7 +136,8 @@ impl Program {
 
     /// The functions, in the order of declarations.
     pub fn functions(&self) -> &[Function]
-        ensures { map (function_of (types_of self.now)) result.now ≡ (meaning self.now).functions }
+        ensures functions { map (function_of (types_of self.now)) result.now ≡ (meaning self.now).functions }
+        ensures within { list_all (has_types_below (length (types_of self.now))) result.now ≡ true }
     {
         &self.functions
     }
@@ -104,35 +145,45 @@ impl Program {
     /// The function with a number.
     pub fn function(&self, id: FunctionId) -> &Function
         requires { id.0 < length (meaning self.now).functions }
-        ensures { function_of (types_of self.now) result.now ≡ function_at (meaning self.now) id.0 }
+        ensures function { function_of (types_of self.now) result.now ≡ function_at (meaning self.now) id.0 }
+        ensures within { has_types_below (length (types_of self.now)) result.now ≡ true }
     {
         &self.functions[id.0]
     }
 
-    /// The role of this name, by the number of its function; none exactly where no role has it.
-    pub fn role(&self, name: &str) -> Option<FunctionId>
-        ensures { option_map (λ id. id.0) result ≡ role_named (meaning self.now) name.now }
+    /// The roles, in the order of declarations. Each has the shape that its kind asks for.
+    pub fn roles(&self) -> &[Role]
+        ensures roles { map (role_of (types_of self.now)) result.now ≡ program_roles (meaning self.now) }
+        ensures within { list_all (has_role_below (length (types_of self.now))) result.now ≡ true }
+        ensures shapes { All (HasRoleShape (meaning self.now)) (program_roles (meaning self.now)) }
     {
-        match role_among(&self.functions, name) {
-            Some(number) => Some(FunctionId(number)),
+        &self.roles
+    }
+
+    /// The role of this name; none exactly where no role has it.
+    pub fn role(&self, name: &str) -> Option<RoleId>
+        ensures { option_map (λ id. role_function (meaning self.now) id.0) result ≡ option_map Some (role_named (meaning self.now) name.now) }
+    {
+        match place_of(&self.roles, name) {
+            Some(place) => Some(RoleId(place)),
             None => None,
         }
     }
-}
 
-impl Function {
-    /// Whether the function is a role, and so can be entered from outside.
-    pub fn is_role(&self) -> bool
-        ensures { result ≡ is_role self.now }
+    /// The greatest number of bytes of a spelling, and so of a piece of a proof.
+    pub fn spelling_limit(&self) -> usize
+        ensures { result ≡ (meaning self.now).format.limit }
     {
-        self.kind != Kind::Inner
+        65_536
     }
 }
 
-/// The place of the first role of this name.
-fn role_among(functions: &[Function], name: &str) -> Option<usize>
-    ensures { result ≡ position (λ f. is_role f && bytes_eq f.name name.now) functions.now }
+/// The place of the first of the constructors that has this name.
+fn place_of_constructor(constructors: &[Constructor], name: &[u8]) -> Option<usize>
+    ensures place { result ≡ position (λ constructor. bytes_eq constructor.name name.now) constructors.now }
+    ensures within { IfSome result (λ place. place < length constructors.now) }
 {
-    functions.iter().position(|function| function.is_role()
-        && function.name.as_bytes() == name.as_bytes())
+    constructors
+        .iter()
+        .position(|constructor| constructor.name.as_bytes() == name)
 }

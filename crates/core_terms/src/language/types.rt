@@ -1,7 +1,7 @@
 // Types by number, in a table in which equal types have one number.
-ghost use Rattle.std.specs.Prelude.{◌≡◌, true, ◌<◌, ◌≤◌, ◌++◌, ◌⊎◌, ◌∷◌, [], length, Some, slice_get, IfOk, IsTrue, OnErr, ◌↔◌, slice_index_or};
+ghost use Rattle.std.specs.Prelude.{◌≡◌, ◌≢◌, true, ◌<◌, ◌≤◌, ◌++◌, ◌⊎◌, ◌∷◌, [], ℕ, length, Some, slice_get, IfOk, IfSome, IsNone, IsTrue, OnErr, ◌↔◌, slice_index_or};
 ghost use Rattle.core_terms.specs.TypeTables.{HasOneNumber, type_at};
-ghost use Rattle.core_terms.specs.LanguageTypes.{IsWithForm, is_in_order, stands_behind, type_of_form, types_of_forms};
+ghost use Rattle.core_terms.specs.LanguageTypes.{HasNoNumber, IsWithForm, is_in_order, stands_behind, type_of_form, types_of_forms};
 
 use crate::TyId;
 use indexmap::IndexSet;
@@ -69,6 +69,18 @@ impl TyTable {
         self.forms.len()
     }
 
+    /// The number of the type of this form; none where the type isn't in the table, as long as the form's parts are.
+    pub fn number_of(&self, form: TyForm) -> Option<TyId>
+        ensures found { IfSome result (λ id. slice_get (types_in self.now) id.0 ≡ Some (type_of_form (types_in self.now) form)) }
+        ensures within { IfSome result (λ id. id.0 < length (types_in self.now)) }
+        ensures none { IsNone result → HasNoNumber (types_in self.now) form }
+    {
+        match place_of(&self.forms, form) {
+            Some(number) => Some(TyId(number)),
+            None => None,
+        }
+    }
+
     /// Whether two types of the table are equal. Equal types have one number.
     pub fn is_same(&self, a: TyId, b: TyId) -> bool
         requires first { a.0 < length (types_in self.now) }
@@ -97,6 +109,14 @@ fn add(forms: &mut IndexSet<TyForm>, form: TyForm) -> Result<usize, AllocError>
         Ok((number, _)) => Ok(number),
         Err(_) => Err(AllocError),
     }
+}
+
+/// The place of a form among these.
+fn place_of(forms: &IndexSet<TyForm>, form: TyForm) -> Option<usize>
+    ensures found { IfSome result (λ place. slice_get forms.now.keys place ≡ Some form) }
+    ensures none { IsNone result → (i : ℕ) → slice_get forms.now.keys i ≢ Some form }
+{
+    forms.get_index_of(&form)
 }
 
 /// The form with a number, among these.

@@ -1,4 +1,3 @@
-use Rattle.std.proofs.Common.{◌≡◌, length}
 use Rattle.core_terms.specs.AuthMarks.{AreOpenedMarks}
 use Rattle.core_terms.specs.LanguagePrograms.{types_in}
 use Rattle.core_terms.specs.LanguageTrees.{table_of}

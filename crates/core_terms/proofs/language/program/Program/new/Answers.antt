@@ -1,0 +1,11 @@
+use Rattle.std.proofs.Common.{refl}
+use Rattle.core_terms.specs.LanguageTrees.{program_of}
+use Rattle.core_terms.specs.LanguageTypes.{types_of_forms}
+use Rattle.core_terms.proofs.RoleShapes.{arguments_there}
+use Rattle.core_terms.proofs.language.program.Program.new.Goals as goal
+
+pub roles_of-requires : goal.roles_of-requires
+roles_of-requires c =
+    let forms = c.args.types.forms.keys in
+    let functions = c.args.functions.items in
+    rw c.deref.ensures.value (arguments_there (program_of forms c.args.named.items c.args.state functions) (types_of_forms forms) functions refl c.requires.shaped)
