@@ -1,0 +1,53 @@
+-- The nodes that the code holds and reads.
+use Rattle.std.proofs.Common.{◌≡◌, ℕ, zero, suc, ◌+◌, ◌<◌, max, true, List, [], ◌∷◌, length, drop, Some, slice_get, slice_index_or, nat_lt, sym, ◌∙◌, ap, subst, arith, ltb-true, drop-cons, add-one}
+use Rattle.std.proofs.lemmas.List.{length-map}
+use Rattle.std.specs.List.{list_all}
+use Rattle.std.specs.Option.{option_map, option_map_or}
+use Rattle.std.proofs.lemmas.Option.{slice_get-map, slice_get-get_or}
+use Rattle.value_store.specs.Nodes as meant
+use Rattle.value_store.specs.Nodes.{depth_at, form_at, greatest_depth, size_at, total_size}
+use Rattle.value_store.specs.CodeNodes.{form_of, node_of, nodes_of, numbers_of}
+use Rattle.value_store.specs.declared.node.Node.{Node}
+use Rattle.value_store.specs.declared.node.Ref.{Ref}
+use Rattle.value_store.proofs.SoundNodes.{conjuncts}
+
+module _ (items : List Node) (r : ℕ) (node : Node) (there : r < length (nodes_of items)) (is : node ≡ slice_index_or items r node) where
+  -- a node that was read
+  pub node_read : slice_get (nodes_of items) r ≡ Some (node_of node)
+  node_read =
+      slice_get-map node_of items r
+      ∙ ap (option_map node_of) (slice_get-get_or items r node (subst (λ n. r < n) (length-map items node_of) there) ∙ ap Some (sym is))
+
+  pub form_read : form_at (nodes_of items) r ≡ Some (form_of node.form)
+  form_read = ap (option_map (λ (n : meant.Node). n.form)) node_read
+
+  pub size_read : size_at (nodes_of items) r ≡ node.size
+  size_read = ap (λ o. option_map_or (λ (n : meant.Node). n.size) o 0) node_read
+
+  pub depth_read : depth_at (nodes_of items) r ≡ node.depth
+  depth_read = ap (λ o. option_map_or (λ (n : meant.Node). n.depth) o 0) node_read
+
+-- a number among some that are all below n
+pub number_below : (refs : List Ref) (n i : ℕ) (d : Ref) → list_all (λ r. nat_lt r n) (numbers_of refs) ≡ true → i < length refs → (slice_index_or refs i d).0 < n
+number_below [] n i d h below = absurd (omega arith)
+number_below (r ∷ refs) n zero d h below = ltb-true r.0 n (conjuncts (nat_lt r.0 n) (list_all (λ r. nat_lt r n) (numbers_of refs)) h).0
+number_below (r ∷ refs) n (suc i) d h below = number_below refs n i d (conjuncts (nat_lt r.0 n) (list_all (λ r. nat_lt r n) (numbers_of refs)) h).1 (omega arith)
+
+module _ (nodes : List meant.Node) (refs : List Ref) (i : ℕ) (d : Ref) (below : i < length refs) where
+  -- the rest of some numbers, from its first one
+  rest_is : numbers_of (drop i refs) ≡ (slice_index_or refs i d).0 ∷ numbers_of (drop (i + 1) refs)
+  rest_is = ap numbers_of (drop-cons refs i d below) ∙ ap (λ n. (slice_index_or refs i d).0 ∷ numbers_of (drop n refs)) (sym (add-one i))
+
+  -- a sum so far
+  pub total_further : (total size whole : ℕ) → size ≡ size_at nodes (slice_index_or refs i d).0
+      → total + total_size nodes (numbers_of (drop i refs)) ≡ whole → (total + size) + total_size nodes (numbers_of (drop (i + 1) refs)) ≡ whole
+  total_further total size whole is so_far =
+      let rest : total_size nodes (numbers_of (drop i refs)) ≡ size_at nodes (slice_index_or refs i d).0 + total_size nodes (numbers_of (drop (i + 1) refs)) = ap (total_size nodes) rest_is in
+      omega (arith, is, so_far, rest)
+
+  -- a greatest one so far
+  pub greatest_further : (greatest depth whole : ℕ) → depth ≡ depth_at nodes (slice_index_or refs i d).0
+      → max greatest (greatest_depth nodes (numbers_of (drop i refs))) ≡ whole → max (max greatest depth) (greatest_depth nodes (numbers_of (drop (i + 1) refs))) ≡ whole
+  greatest_further greatest depth whole is so_far =
+      let rest : greatest_depth nodes (numbers_of (drop i refs)) ≡ max (depth_at nodes (slice_index_or refs i d).0) (greatest_depth nodes (numbers_of (drop (i + 1) refs))) = ap (greatest_depth nodes) rest_is in
+      omega (arith, is, so_far, rest)

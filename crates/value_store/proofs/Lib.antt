@@ -1,0 +1,12 @@
+pub mod NodeLists
+pub mod SoundNodes
+pub mod Moved
+pub mod OneValue
+pub mod TypedNodes
+pub mod KeptSizes
+pub mod StandingNodes
+pub mod ProverNodes
+pub mod PutNodes
+pub mod CodeLists
+pub mod CodeStores
+pub mod MarkedNodes
