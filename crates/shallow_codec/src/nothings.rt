@@ -1,0 +1,55 @@
+// Values that are spelled by nothing.
+ghost use Rattle.std.specs.Prelude.{◌≡◌, ◌<◌, ℕ, None, List, length, IfOk};
+ghost use Rattle.core_terms.specs.Types.{Ty, Table};
+ghost use Rattle.core_terms.specs.TypeTables.{type_at};
+ghost use Rattle.core_terms.specs.Values.{Value};
+ghost use Rattle.shallow_codec.specs.PutNodes.{IsThere};
+ghost use Rattle.value_store.specs.Stores.{nodes_in};
+
+use core_terms::TyId;
+use std::alloc::{AllocError, Global};
+use std::collections::HashMap;
+use value_store::{Ref, Store};
+
+/// The values that are spelled by nothing and were put so far, by the numbers of their types. A type has at most one such value, so each
+/// is put once, however often it is a part.
+#[derive(Drop)]
+pub(crate) struct Nothings {
+    refs: HashMap<usize, Ref>,
+}
+
+impl Nothings {
+    ghost use Rattle.shallow_codec.specs.KnownNothings.{AreKnown, known};
+
+    /// None so far.
+    pub fn new(alloc: Global) -> Self
+        ensures { (n : ℕ) → known result n ≡ None }
+    {
+        Nothings {
+            refs: HashMap::new(alloc),
+        }
+    }
+
+    /// That of a type, where it was put.
+    pub fn get(&self, ty: TyId) -> Option<Ref>
+        ensures { result ≡ known self.now ty.0 }
+    {
+        self.refs.get(&ty.0).copied()
+    }
+
+    /// Keeps a value of a type if it is spelled by nothing.
+    pub fn note(&mut self, store: &Store, ty: TyId, value: Ref) -> Result<(), AllocError>
+        requires { value.0 < length (nodes_in store.now) }
+        ensures { IfOk result
+            (λ _. (types : Table) (tys : List Ty) (v : Value) → AreKnown types tys (nodes_in store.now) self.old
+            → IsThere types (nodes_in store.now) value.0 (type_at tys ty) v → AreKnown types tys (nodes_in store.now) self.new) }
+    {
+        if store.shallow_size(value) > 0 {
+            return Ok(());
+        }
+        match self.refs.insert(ty.0, value) {
+            Ok(_) => Ok(()),
+            Err(_) => Err(AllocError),
+        }
+    }
+}

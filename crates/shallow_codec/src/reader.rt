@@ -1,0 +1,196 @@
+// Reading the values that bytes spell into a store.
+ghost use Rattle.std.specs.Prelude.{◌≡◌, ◌+◌, ◌≤◌, ◌<◌, suc, length, IfOk};
+ghost use Rattle.core_terms.specs.Formats.{depth_limit};
+ghost use Rattle.core_terms.specs.LanguagePrograms.{types_of};
+ghost use Rattle.core_terms.specs.Reading as meant;
+ghost use Rattle.core_terms.specs.Types.{NamedTy, PairTy};
+ghost use Rattle.shallow_codec.specs.KnownNothings.{AreKnown};
+ghost use Rattle.shallow_codec.specs.ProgramTypes.{table, ty_of, tys_of};
+ghost use Rattle.shallow_codec.specs.PutValues.{AreRead, IsRead};
+ghost use Rattle.value_store.specs.Nodes.{size_limit};
+ghost use Rattle.value_store.specs.Standing.{Grows};
+ghost use Rattle.value_store.specs.Stores.{nodes_in};
+
+use crate::UnspellFault;
+use crate::cursor::Cursor;
+use crate::fields::field_types;
+use crate::leaves::{known_nothing, put_bool, put_digest, put_int, put_text, put_unit};
+use crate::nothings::Nothings;
+use core_terms::TyId;
+use core_terms::language::{NamedId, Program, Tag, TyForm};
+use std::alloc::Global;
+use value_store::{Ref, Store};
+
+/// A value that was read and put into a store, and the place behind it.
+#[derive(Clone, Copy)]
+pub(crate) struct Front<'a> {
+    pub value: Ref,
+    pub behind: Cursor<'a>,
+}
+
+/// Values that were read one after another and put into a store, and the place behind them.
+#[derive(Drop)]
+pub(crate) struct Fronts<'a> {
+    pub values: Vec<Ref>,
+    pub behind: Cursor<'a>,
+}
+
+/// Reads values of a program's types. `levels` is the greatest number of levels that what is read may have; parts have one less. After
+/// an error nodes may stand behind the others.
+#[derive(Clone, Copy)]
+pub(crate) struct Reader<'p> {
+    pub program: &'p Program,
+    pub alloc: Global,
+}
+
+impl Reader<'_> {
+    /// The value of a type.
+    #[cycle(values)]
+    pub fn value<'a>(
+        &self,
+        store: &mut Store,
+        nothings: &mut Nothings,
+        ty: TyId,
+        levels: u32,
+        at: Cursor<'a>,
+    ) -> Result<Front<'a>, UnspellFault>
+        requires short { at.offset + length at.rest.now ≤ size_limit }
+        requires levels { levels ≤ depth_limit }
+        requires known { AreKnown (table self.now.program.now) (types_of self.now.program.now) (nodes_in store.old) nothings.old }
+        ensures read { IsRead (table self.now.program.now) (nodes_in store.new) levels (ty_of self.now.program.now ty) at.entry
+            (meant.read_value (table self.now.program.now) levels (ty_of self.now.program.now ty) at.entry.rest.now at.entry.offset) result }
+        ensures known { IfOk result (λ _. AreKnown (table self.now.program.now) (types_of self.now.program.now) (nodes_in store.new) nothings.new) }
+        ensures grows { Grows (nodes_in store.old) (nodes_in store.new) }
+    {
+        if levels == 0 {
+            return Err(at.bad());
+        }
+        match self.program.form(ty) {
+            TyForm::UnitForm => put_unit(store, at),
+            TyForm::BoolForm => put_bool(store, at),
+            TyForm::IntForm => put_int(store, at),
+            TyForm::TextForm => put_text(store, at),
+            TyForm::AuthForm(_) => put_digest(store, at),
+            TyForm::PairForm(first, second) => {
+                self.pair(store, nothings, ty, (first, second), levels - 1, at)
+            }
+            TyForm::NamedForm(named) => { self.constructor(store, nothings, named, levels - 1, at) }
+        }
+    }
+
+    /// The pair of a type, whose parts have these types and at most so many levels. One that is spelled by nothing is read once for its
+    /// type.
+    #[cycle(values)]
+    fn pair<'a>(
+        &self,
+        store: &mut Store,
+        nothings: &mut Nothings,
+        ty: TyId,
+        parts: (TyId, TyId),
+        levels: u32,
+        at: Cursor<'a>,
+    ) -> Result<Front<'a>, UnspellFault>
+        requires short { at.offset + length at.rest.now ≤ size_limit }
+        requires levels { levels < depth_limit }
+        requires ty { ty_of self.now.program.now ty ≡ PairTy (ty_of self.now.program.now parts.0) (ty_of self.now.program.now parts.1) }
+        requires known { AreKnown (table self.now.program.now) (types_of self.now.program.now) (nodes_in store.old) nothings.old }
+        ensures read { IsRead (table self.now.program.now) (nodes_in store.new) (suc levels) (ty_of self.now.program.now ty) at.entry
+            (meant.read_value (table self.now.program.now) (suc levels) (ty_of self.now.program.now ty) at.entry.rest.now at.entry.offset) result }
+        ensures known { IfOk result (λ _. AreKnown (table self.now.program.now) (types_of self.now.program.now) (nodes_in store.new) nothings.new) }
+        ensures grows { Grows (nodes_in store.old) (nodes_in store.new) }
+    {
+        if let Some(value) = nothings.get(ty) {
+            return known_nothing(store, value, levels + 1, at);
+        }
+        let front = self.parts(store, nothings, parts, levels, at)?;
+        nothings.note(store, ty, front.value)?;
+        Ok(front)
+    }
+
+    /// A pair, by its parts: the first and then the second.
+    #[cycle(values)]
+    fn parts<'a>(
+        &self,
+        store: &mut Store,
+        nothings: &mut Nothings,
+        parts: (TyId, TyId),
+        levels: u32,
+        at: Cursor<'a>,
+    ) -> Result<Front<'a>, UnspellFault>
+        requires short { at.offset + length at.rest.now ≤ size_limit }
+        requires levels { levels < depth_limit }
+        requires known { AreKnown (table self.now.program.now) (types_of self.now.program.now) (nodes_in store.old) nothings.old }
+        ensures read { IsRead (table self.now.program.now) (nodes_in store.new) (suc levels) (PairTy (ty_of self.now.program.now parts.0) (ty_of self.now.program.now parts.1)) at.entry
+            (meant.read_value (table self.now.program.now) (suc levels) (PairTy (ty_of self.now.program.now parts.0) (ty_of self.now.program.now parts.1)) at.entry.rest.now at.entry.offset) result }
+        ensures known { IfOk result (λ _. AreKnown (table self.now.program.now) (types_of self.now.program.now) (nodes_in store.new) nothings.new) }
+        ensures grows { Grows (nodes_in store.old) (nodes_in store.new) }
+    {
+        let first = self.value(store, nothings, parts.0, levels, at)?;
+        let second = self.value(store, nothings, parts.1, levels, first.behind)?;
+        let value = store.put_pair(first.value, second.value)?;
+        Ok(Front {
+            value,
+            behind: second.behind,
+        })
+    }
+
+    /// A value of a named type: its tag, and then the fields of its constructor, which have at most so many levels.
+    #[cycle(values)]
+    fn constructor<'a>(
+        &self,
+        store: &mut Store,
+        nothings: &mut Nothings,
+        named: NamedId,
+        levels: u32,
+        at: Cursor<'a>,
+    ) -> Result<Front<'a>, UnspellFault>
+        requires short { at.offset + length at.rest.now ≤ size_limit }
+        requires levels { levels < depth_limit }
+        requires known { AreKnown (table self.now.program.now) (types_of self.now.program.now) (nodes_in store.old) nothings.old }
+        ensures read { IsRead (table self.now.program.now) (nodes_in store.new) (suc levels) (NamedTy named.0) at.entry
+            (meant.read_value (table self.now.program.now) (suc levels) (NamedTy named.0) at.entry.rest.now at.entry.offset) result }
+        ensures known { IfOk result (λ _. AreKnown (table self.now.program.now) (types_of self.now.program.now) (nodes_in store.new) nothings.new) }
+        ensures grows { Grows (nodes_in store.old) (nodes_in store.new) }
+    {
+        let Some((tag, behind)) = at.read_tag() else {
+            return Err(at.bad());
+        };
+        let Some(types) = field_types(self.program, named, tag) else {
+            return Err(at.bad());
+        };
+        let fields = self.fields(store, nothings, types, levels, behind)?;
+        let value = store.put_constructor(named, Tag(tag), &fields.values)?;
+        Ok(Front {
+            value,
+            behind: fields.behind,
+        })
+    }
+
+    /// Values of these types, one after another.
+    #[cycle(values)]
+    fn fields<'a>(
+        &self,
+        store: &mut Store,
+        nothings: &mut Nothings,
+        types: &[TyId],
+        levels: u32,
+        at: Cursor<'a>,
+    ) -> Result<Fronts<'a>, UnspellFault>
+        requires short { at.offset + length at.rest.now ≤ size_limit }
+        requires levels { levels < depth_limit }
+        requires known { AreKnown (table self.now.program.now) (types_of self.now.program.now) (nodes_in store.old) nothings.old }
+        ensures read { AreRead (table self.now.program.now) (nodes_in store.new) levels (tys_of self.now.program.now types.now) at.entry
+            (meant.read_each (meant.read_value (table self.now.program.now) levels) (tys_of self.now.program.now types.now) at.entry.rest.now at.entry.offset) result }
+        ensures known { IfOk result (λ _. AreKnown (table self.now.program.now) (types_of self.now.program.now) (nodes_in store.new) nothings.new) }
+        ensures grows { Grows (nodes_in store.old) (nodes_in store.new) }
+    {
+        let mut values = Vec::new(self.alloc);
+        let mut behind = at;
+        for ty in types {
+            let front = self.value(store, nothings, *ty, levels, behind)?;
+            values.push(front.value)?;
+            behind = front.behind;
+        }
+        Ok(Fronts { values, behind })
+    }
+}

@@ -1,0 +1,76 @@
+// Reading a spelling into a store.
+ghost use Rattle.std.specs.Prelude.{◌≡◌, IfOk, OnErr};
+ghost use Rattle.core_terms.specs.LanguagePrograms.{meaning};
+ghost use Rattle.core_terms.specs.Projection.{read_at};
+ghost use Rattle.shallow_codec.specs.ProgramTypes.{table, ty_of};
+ghost use Rattle.shallow_codec.specs.Unspelled.{IsUnspelled, StandsForSpelled};
+ghost use Rattle.value_store.specs.Standing.{Grows, Keeps};
+ghost use Rattle.value_store.specs.Stores.{nodes_in};
+
+use crate::UnspellFault;
+use crate::cursor::Cursor;
+use crate::nothings::Nothings;
+use crate::reader::Reader;
+use core_terms::TyId;
+use core_terms::language::Program;
+use std::alloc::Global;
+use value_store::{Ref, Store};
+
+/// The greatest number of levels of a value: `depth_limit` of the formats.
+const DEPTH_LIMIT: u32 = 512;
+
+/// Puts the value that the bytes spell at a type into the store. Each digest becomes a verifier's node, and a value that is spelled by
+/// nothing is put once for each type, however often it is a part. After an error the store is as it was.
+///
+/// # Errors
+///
+/// `Bad` where the bytes spell nothing at the type, with the offset of the first fault. `NoMemory` where there is no memory for the
+/// nodes.
+pub fn unspell(
+    alloc: Global,
+    program: &Program,
+    store: &mut Store,
+    bytes: &[u8],
+    ty: TyId,
+) -> Result<Ref, UnspellFault>
+    ensures value { IsUnspelled (table program.now) (nodes_in store.new) (ty_of program.now ty) (read_at (meaning program.now) (ty_of program.now ty) bytes.now) result }
+    ensures spelled { IfOk result (StandsForSpelled (table program.now) (nodes_in store.new) (ty_of program.now ty) bytes.now) }
+    ensures grows { Grows (nodes_in store.old) (nodes_in store.new) }
+    ensures keeps { Keeps (nodes_in store.old) (nodes_in store.new) }
+    ensures refused { OnErr result (nodes_in store.new ≡ nodes_in store.old) }
+{
+    let mark = store.mark();
+    let result = read_whole(alloc, program, store, bytes, ty);
+    if result.is_err() {
+        store.cut_to(mark);
+    }
+    result
+}
+
+/// Puts the value that the bytes spell as a whole. After an error nodes may stand behind the others.
+fn read_whole(
+    alloc: Global,
+    program: &Program,
+    store: &mut Store,
+    bytes: &[u8],
+    ty: TyId,
+) -> Result<Ref, UnspellFault>
+    ensures value { IsUnspelled (table program.now) (nodes_in store.new) (ty_of program.now ty) (read_at (meaning program.now) (ty_of program.now ty) bytes.now) result }
+    ensures grows { Grows (nodes_in store.old) (nodes_in store.new) }
+{
+    let limit = program.spelling_limit();
+    if bytes.len() > limit {
+        return Err(UnspellFault::Bad(limit as u32));
+    }
+    let reader = Reader { program, alloc };
+    let start = Cursor {
+        offset: 0,
+        rest: bytes,
+    };
+    let mut nothings = Nothings::new(alloc);
+    let front = reader.value(store, &mut nothings, ty, DEPTH_LIMIT, start)?;
+    if !front.behind.rest.is_empty() {
+        return Err(front.behind.bad());
+    }
+    Ok(front.value)
+}
