@@ -32,6 +32,10 @@ mod PrintedLines
 mod MovedTrees
 mod FormsWithoutPlaces
 mod PrintedProgramsRead
+pub mod PairDepths
+pub mod PrintedFronts
+mod PrintedValuesRead
+pub mod LiteralSpellings
 pub mod LiteralReadings
 pub mod TokenValues
 pub mod LiteralsReadBack

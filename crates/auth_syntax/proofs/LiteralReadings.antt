@@ -1,25 +1,29 @@
 -- The text of a literal as a whole: the literal, the end of the text behind it, and the spelling.
-use Rattle.std.proofs.Common.{◌≡◌, ◌∙◌, ℕ, List, refl, ap, sym, subst, Result, Err}
+use Rattle.std.proofs.Common.{◌≡◌, ◌∙◌, ℕ, true, false, List, [], length, nat_le, refl, ap, ap₂, sym, Result, Ok, Err, Vec, Global, cond}
 use Rattle.core_terms.specs.declared.spelling.Spelling.{Spelling}
 use Rattle.core_terms.specs.Types.{Ty}
-use Rattle.core_terms.specs.Values.{Value}
+use Rattle.core_terms.specs.Values.{Value, size}
+use Rattle.core_terms.specs.Spelling.{spelling}
 use Rattle.core_terms.specs.Terms.{Program}
 use Rattle.core_terms.specs.Formats.{depth_limit}
+use Rattle.core_terms.proofs.Spelled.{length_spelling}
 use Rattle.auth_syntax.specs.declared.place.Place.{Place}
 use Rattle.auth_syntax.specs.declared.fault.SyntaxKind.{SyntaxKind}
 use Rattle.auth_syntax.specs.declared.fault.Fault.{Fault}
 use Rattle.auth_syntax.specs.declared.fault.Fault.TheVariants.{At, NoMemory}
 use Rattle.auth_syntax.specs.declared.fault.LiteralFault.{LiteralFault}
-use Rattle.auth_syntax.specs.declared.fault.LiteralKind.TheVariants.{Mismatch}
-use Rattle.auth_syntax.specs.declared.literal.LiteralValue.{LiteralValue}
+use Rattle.auth_syntax.specs.declared.fault.LiteralFault.TheVariants as told
+use Rattle.auth_syntax.specs.declared.fault.LiteralKind.TheVariants.{Mismatch, TooBig}
 use Rattle.auth_syntax.specs.Tokens.{Tokens, Next, End, Faulty, tokens}
 use Rattle.auth_syntax.specs.Parsing as syntax
 use Rattle.auth_syntax.specs.Parsing.{Reading, Found}
 use Rattle.auth_syntax.specs.Outcomes.{Reads}
 use Rattle.auth_syntax.specs.Remaining.{read_end}
-use Rattle.auth_syntax.specs.Literals.{LiteralReading, Means, literal_of, no_constructors, Literal, FirstFault, at_end, whole_literal, value_within, literal}
+use Rattle.auth_syntax.specs.Literals.{ConstructorNames, LiteralReading, Means, literal_of, Literal, IsValue, FirstFault, at_end, whole_literal, value_within, literal_in}
 use Rattle.auth_syntax.specs.LiteralAnswers.{ReadsLiteral}
-use Rattle.auth_syntax.specs.LiteralValues.{literal_kind, told_of_literal, type_of_value, value_of, ReadsPart, ReadsWhole}
+use Rattle.auth_syntax.specs.LiteralSteps.{IsWithinLimit, ReadsPart, ReadsWhole, literal_kind, spelled, told_of_literal}
+use Rattle.auth_syntax.proofs.LiteralSpellings.{spelled_found, spelled_fault}
+use Rattle.auth_syntax.proofs.LiteralsReadBack.{literal_is_shallow}
 
 -- the end of the text behind a literal, and what else may stand there
 end_found : (rest after : Tokens) → read_end rest ≡ Found tt after → (found : Literal) → at_end rest found ≡ found
@@ -37,42 +41,50 @@ end_not_found (End end) kind at e found = absurd (cc)
 end_not_found (Next next token rest) kind at e found = ap as_fault e
 end_not_found (Faulty next lexical) kind at e found = ap as_fault e
 
--- the literal that these tokens begin with
-abbrev begun : Program → Ty → Tokens → LiteralReading Value
-begun P t tokens = literal_of P.types no_constructors depth_limit t tokens
+module _ (P : Program) (names : ConstructorNames) (t : Ty) (text : List ℕ) (read : Tokens) (same : read ≡ tokens text) where
+  -- the literal that these tokens begin with
+  abbrev pub begun : LiteralReading Value
+  begun = literal_of P.types names depth_limit t read
 
-module _ (P : Program) (t : Ty) (text : List ℕ) (read : Tokens) (same : read ≡ tokens text) where
+  as_a_whole : (reading : LiteralReading Value) → begun ≡ reading → literal_in P names t text ≡ whole_literal P.format.limit P.types t reading
+  as_a_whole reading e =
+      ap (λ ts. whole_literal P.format.limit P.types t (literal_of P.types names depth_limit t ts)) (sym same) ∙ ap (whole_literal P.format.limit P.types t) e
+
   -- a literal, and the end of the text
-  pub whole-read : (value : LiteralValue) (rest after : Tokens) → begun P t read ≡ Means (value_of value) rest → read_end rest ≡ Found tt after
-      → literal P t text ≡ value_within P.format.limit P.types t (value_of value)
-  whole-read value rest after h e =
-      ap (λ ts. whole_literal P.format.limit P.types t (begun P t ts)) (sym same) ∙ (ap (whole_literal P.format.limit P.types t) h
-      ∙ end_found rest after e (value_within P.format.limit P.types t (value_of value)))
+  pub whole-read : (bytes : Vec ℕ Global) (rest after : Tokens) → spelled spelling [] begun ≡ Means bytes.items rest → read_end rest ≡ Found tt after
+      → ReadsWhole P names t text (Ok bytes)
+  whole-read bytes rest after h e =
+      let f = spelled_found [] bytes.items begun rest h in
+      let v = f.0 in
+      let shallow = literal_is_shallow P.types names t text v rest (ap (literal_of P.types names depth_limit t) (sym same) ∙ f.1) in
+      (v, as_a_whole (Means v rest) f.1 ∙ end_found rest after e (value_within P.format.limit P.types t v), f.2, sym (length_spelling P.types t v shallow) ∙ ap length f.2)
 
   -- a fault in the literal, and one behind it
-  pub begun-fault : (fault : Fault) (rest : Tokens) → ReadsPart value_of (begun P t read) (Err fault) rest → ReadsWhole P t text (Err fault)
-  begun-fault (At kind at) rest h =
-      ap (λ ts. whole_literal P.format.limit P.types t (begun P t ts)) (sym same) ∙ ap (whole_literal P.format.limit P.types t) h
-  begun-fault NoMemory rest h = tt
+  pub begun-fault : (before bytes : List ℕ) (fault : Fault) (rest : Tokens) → ReadsPart (λ (_ : Unit {0}). bytes) (spelled spelling before begun) (Err fault) rest
+      → ReadsWhole P names t text (Err fault)
+  begun-fault before bytes (At kind at) rest h = as_a_whole _ (spelled_fault before begun (literal_kind kind) at.offset h)
+  begun-fault before bytes NoMemory rest h = tt
 
-  pub end-fault : (value : LiteralValue) (rest after : Tokens) (fault : Fault) → begun P t read ≡ Means (value_of value) rest
-      → Reads (λ (u : Unit {0}). u) (read_end rest) (Err fault) after → ReadsWhole P t text (Err fault)
-  end-fault value rest after (At kind at) h e =
-      ap (λ ts. whole_literal P.format.limit P.types t (begun P t ts)) (sym same) ∙ (ap (whole_literal P.format.limit P.types t) h
-      ∙ end_not_found rest kind at e (value_within P.format.limit P.types t (value_of value)))
-  end-fault value rest after NoMemory h e = tt
+  pub end-fault : (before bytes : List ℕ) (rest after : Tokens) (fault : Fault) → spelled spelling before begun ≡ Means bytes rest
+      → Reads (λ (u : Unit {0}). u) (read_end rest) (Err fault) after → ReadsWhole P names t text (Err fault)
+  end-fault before bytes rest after (At kind at) h e =
+      let f = spelled_found before bytes begun rest h in
+      as_a_whole (Means f.0 rest) f.1 ∙ end_not_found rest kind at e (value_within P.format.limit P.types t f.0)
+  end-fault before bytes rest after NoMemory h e = tt
 
 -- a fault, told by its offset
-pub told-fault : (P : Program) (t : Ty) (text : List ℕ) (fault : Fault) → ReadsWhole P t text (Err fault)
-    → ReadsLiteral (literal P t text) (Err (told_of_literal fault))
-told-fault P t text (At kind at) h = h
-told-fault P t text NoMemory h = tt
+pub told-fault : (P : Program) (names : ConstructorNames) (t : Ty) (text : List ℕ) (fault : Fault) → ReadsWhole P names t text (Err fault)
+    → ReadsLiteral (literal_in P names t text) (Err (told_of_literal fault))
+told-fault P names t text (At kind at) h = h
+told-fault P names t text NoMemory h = tt
 
--- the value, spelled
-pub whole-spelled : (P : Program) (t : Ty) (text : List ℕ) (value : LiteralValue) (limit : ℕ) (result : Result Spelling LiteralFault)
-    → literal P t text ≡ value_within P.format.limit P.types t (value_of value) → t ≡ type_of_value value → limit ≡ P.format.limit
-    → ReadsLiteral (value_within limit P.types (type_of_value value) (value_of value)) result → ReadsLiteral (literal P t text) result
-whole-spelled P t text value limit result h shape same spelled =
-    subst (λ (found : Literal). ReadsLiteral found result)
-    (ap (λ n. value_within n P.types (type_of_value value) (value_of value)) same
-    ∙ sym (h ∙ ap (λ t. value_within P.format.limit P.types t (value_of value)) shape)) spelled
+-- the spelling, where it isn't too long
+pub whole-spelled : (P : Program) (names : ConstructorNames) (t : Ty) (text : List ℕ) (bytes : Vec ℕ Global) (limit : ℕ) (result : Result Spelling LiteralFault)
+    → ReadsWhole P names t text (Ok bytes) → limit ≡ P.format.limit → IsWithinLimit limit bytes.items result → ReadsLiteral (literal_in P names t text) result
+whole-spelled P names t text bytes limit (Ok s) h same within =
+    let fits : nat_le (size P.types t h.0) P.format.limit ≡ true = ap₂ nat_le h.3 (sym same) ∙ within.0 in
+    (h.0, h.1 ∙ ap (λ test. cond test (IsValue h.0) (FirstFault TooBig 0)) fits, h.2 ∙ sym within.1)
+whole-spelled P names t text bytes limit (Err (told.At kind offset)) h same within =
+    let passes : nat_le (size P.types t h.0) P.format.limit ≡ false = ap₂ nat_le h.3 (sym same) ∙ within.0 in
+    h.1 ∙ ap (λ test. cond test (IsValue h.0) (FirstFault TooBig 0)) passes ∙ ap₂ FirstFault (sym within.1) (sym within.2)
+whole-spelled P names t text bytes limit (Err told.NoMemory) h same within = absurd within

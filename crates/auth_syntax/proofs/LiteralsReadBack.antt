@@ -160,6 +160,13 @@ module _ (types : Table) where
       constructor_literal_gives levels (literal_of types names levels) (literal_gives names levels) names number tokens h
   literal_gives names (suc levels) (AuthTy t) tokens h = mismatch_gives (IsOf (suc levels) (AuthTy t)) tokens
 
+-- the value that the tokens of a text begin with is a shallow one of the type
+pub literal_is_shallow : (types : Table) (names : ConstructorNames) (t : Ty) (text : List ℕ) (v : Value) (rest : Tokens)
+    → literal_of types names depth_limit t (tokens text) ≡ Means v rest → IsShallow types t v
+literal_is_shallow types names t text v rest e =
+    let given : Gives (IsOf types depth_limit t) (Means v rest) = subst (Gives (IsOf types depth_limit t)) e (literal_gives types names depth_limit t (tokens text) (tokens_values 0 start text)) in
+    given.0.shallow
+
 -- what is read, where it is within the limit
 record Found (limit : ℕ) (types : Table) (t : Ty) (v : Value) : Type 0 where
   of_type : IsOf types depth_limit t v

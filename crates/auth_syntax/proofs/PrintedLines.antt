@@ -55,7 +55,7 @@ lower_at_head (b ∷ bytes) rest h none parted =
     ∙ ap (λ keyword. Some (lower_piece keyword (b ∷ bytes))) none
     ∙ ap (λ piece. Some piece) (name_fits (LowerToken (b ∷ bytes)) (b ∷ bytes) (le-leb (length (b ∷ bytes)) name_limit h.2))
 
-upper_at_head : (name rest : List ℕ) → IsName is_ascii_uppercase name → IsParted rest → IsHeadToken name (UpperToken name) rest
+pub upper_at_head : (name rest : List ℕ) → IsName is_ascii_uppercase name → IsParted rest → IsHeadToken name (UpperToken name) rest
 upper_at_head [] rest h parted = absurd h
 upper_at_head (b ∷ bytes) rest h parted =
     ap (λ piece. Some piece)
@@ -80,11 +80,11 @@ keyword_at_head (b ∷ bytes) keyword rest h parted =
     word_at_head b bytes rest h.0 h.1 parted ∙ ap (λ keyword. Some (lower_piece keyword (b ∷ bytes))) h.2
 
 -- a mark, whatever stands behind it
-mark_at_head : (mark : Mark) (rest : List ℕ) → IsHeadToken (mark_text mark) (MarkToken mark) rest
+pub mark_at_head : (mark : Mark) (rest : List ℕ) → IsHeadToken (mark_text mark) (MarkToken mark) rest
 mark_at_head LeftParenthesis rest = refl
 mark_at_head mark rest = refl
 
-token_at_head : (token : Token) (rest : List ℕ) → IsToken token → (is_opening token ≡ false → IsParted rest) → IsHeadToken (token_text token) token rest
+pub token_at_head : (token : Token) (rest : List ℕ) → IsToken token → (is_opening token ≡ false → IsParted rest) → IsHeadToken (token_text token) token rest
 token_at_head (KeywordToken keyword) rest h parted = keyword_at_head (keyword_text keyword) keyword rest (keyword_is keyword) (parted refl)
 token_at_head (MarkToken mark) rest h parted = mark_at_head mark rest
 token_at_head (LowerToken name) rest h parted = lower_at_head name rest h.0 h.1 (parted refl)

@@ -15,7 +15,7 @@ use Rattle.auth_syntax.specs.declared.fault.LiteralKind.TheVariants.{TooBig}
 use Rattle.auth_syntax.proofs.PrintedTokens.{IsParted, IsHeadToken, one_token, int_at_head, negative_at_head, text_at_head}
 
 -- a value within the limit is one that is read
-is_within : (limit : ℕ) (types : Table) (t : Ty) (v : Value) → size types t v ≤ limit → value_within limit types t v ≡ IsValue v
+pub is_within : (limit : ℕ) (types : Table) (t : Ty) (v : Value) → size types t v ≤ limit → value_within limit types t v ≡ IsValue v
 is_within limit types t v h = ap (λ test. if test then IsValue v else FirstFault TooBig 0) (le-leb (size types t v) limit h)
 
 pub int_token : (z : ℤ) (rest : List ℕ) → int_fits z ≡ true → IsParted rest → IsHeadToken (signed_decimal z) (IntToken z) rest

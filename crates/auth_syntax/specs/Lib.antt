@@ -13,7 +13,7 @@ pub mod Outcomes
 pub mod Remaining
 pub mod Literals
 pub mod LiteralAnswers
-pub mod LiteralValues
+pub mod LiteralSteps
 pub mod PrintedValues
 pub mod PrintedPrograms
 pub mod LineViews
@@ -23,3 +23,5 @@ pub mod PrintedLaws
 pub mod PrintedProgramLaws
 pub mod LiteralLaws
 pub mod FirstFaults
+pub mod PrintedParts
+pub mod PrintedValueLaws

@@ -3,7 +3,7 @@ use Rattle.std.specs.Prelude.{ℕ, Bool, true, false, ◌==◌, List, [], ◌∷
 use Rattle.std.specs.Fmt.{signed_decimal}
 use Rattle.hex.specs.Hex.{encode_lower}
 use Rattle.core_terms.specs.Types.{Ty, UnitTy, BoolTy, IntTy, TextTy, PairTy, NamedTy, AuthTy, Table, fields_at}
-use Rattle.core_terms.specs.Values.{Value, UnitV, BoolV, IntV, TextV, PairV, ConV, DigestV, Values, AndV}
+use Rattle.core_terms.specs.Values.{Value, UnitV, BoolV, IntV, TextV, PairV, ConV, DigestV, Values, NoV, AndV}
 use Rattle.auth_syntax.specs.Tokens.{is_control}
 use Rattle.auth_syntax.specs.Literals.{ConstructorNames, no_constructors}
 
@@ -29,10 +29,10 @@ abbrev pub bool_text : Bool → List ℕ
 bool_text true = codes "true"
 bool_text false = codes "false"
 
--- with a name in front, where there is anything in the parentheses
-abbrev pub with_fields : List ℕ → List ℕ → List ℕ
-with_fields name [] = name
-with_fields name (first ∷ rest) = name ++ codes "(" ++ (first ∷ rest) ++ codes ")"
+-- a constructor's name, and the text of its fields in parentheses, where it has any
+abbrev pub with_fields : List ℕ → Values → List ℕ → List ℕ
+with_fields name NoV text = name
+with_fields name (AndV v vs) text = name ++ codes "(" ++ text ++ codes ")"
 
 module _ (types : Table) (names : ConstructorNames) where
   abbrev mutual
@@ -44,7 +44,7 @@ module _ (types : Table) (names : ConstructorNames) where
     printed TextTy (TextV bytes) = quoted_text bytes
     printed (PairTy a b) (PairV x y) = codes "(" ++ printed a x ++ codes ", " ++ printed b y ++ codes ")"
     printed (NamedTy number) (ConV tag vs) =
-        with_fields (unwrap_or (slice_get (names number) tag) []) (printed_fields (unwrap_or (fields_at types number tag) []) vs)
+        with_fields (unwrap_or (slice_get (names number) tag) []) vs (printed_fields (unwrap_or (fields_at types number tag) []) vs)
     printed (AuthTy t) (DigestV digest) = codes "#" ++ encode_lower digest
     printed t v = []
 

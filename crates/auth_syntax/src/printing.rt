@@ -1,6 +1,9 @@
 // Values as they are printed.
 
-ghost use Rattle.std.specs.Prelude.{◌≡◌, ◌++◌, ◌∷◌, [], true, ℤ, ℕ, Bool, List, codes, IfOk, OnOk};
+pub mod language;
+mod leaves;
+
+ghost use Rattle.std.specs.Prelude.{◌≡◌, ◌++◌, ◌∷◌, [], true, ℤ, ℕ, Bool, List, codes, length, IfOk, OnOk};
 ghost use Rattle.std.specs.Fmt.{signed_decimal};
 ghost use Rattle.hex.specs.Hex.{encode_lower};
 ghost use Rattle.core_terms.specs.Programs.{meaning, types_of};
@@ -10,6 +13,7 @@ ghost use Rattle.core_terms.specs.Values.{BoolV, IntV, IsShallow, TextV, Value, 
 ghost use Rattle.auth_syntax.specs.PrintedLaws.{PrintedIsReadBack};
 ghost use Rattle.auth_syntax.specs.PrintedValues.{bool_text, escaped, quoted_text, value_text};
 
+use crate::printing::leaves::{push_spelled_bool, push_spelled_digest, push_spelled_int};
 use core_terms::{Program, TyForm, TyId};
 use std::alloc::{AllocError, Global};
 
@@ -41,11 +45,9 @@ pub fn print_value(
 fn print_bool(alloc: Global, bytes: &[u8]) -> Result<Vec<u8>, AllocError>
     ensures { IfOk result (λ text. (b : Bool) → bytes.now ≡ spelling (BoolV b) → text.items ≡ bool_text b) }
 {
-    match bytes {
-        [0] => Vec::from_slice(alloc, b"false"),
-        [1] => Vec::from_slice(alloc, b"true"),
-        _ => Ok(Vec::new(alloc)),
-    }
+    let mut text = Vec::new(alloc);
+    push_spelled_bool(&mut text, bytes)?;
+    Ok(text)
 }
 
 /// The text of the int that 8 bytes spell; nothing where there are fewer.
@@ -53,9 +55,7 @@ fn print_int(alloc: Global, bytes: &[u8]) -> Result<Vec<u8>, AllocError>
     ensures { IfOk result (λ text. (z : ℤ) → int_fits z ≡ true → bytes.now ≡ spelling (IntV z) → text.items ≡ signed_decimal z) }
 {
     let mut text = Vec::new(alloc);
-    if let Some((number, _)) = bytes.split_first_chunk::<8>() {
-        push_int(&mut text, i64::from_be_bytes(*number))?;
-    }
+    push_spelled_int(&mut text, bytes)?;
     Ok(text)
 }
 
@@ -118,13 +118,12 @@ fn push_hexadecimal(text: &mut Vec<u8>, byte: u8) -> Result<(), AllocError>
     text.extend_from_slice(&escape)
 }
 
-/// The text of a digest: `#` and two hexadecimal digits for each byte.
+/// The text of a digest: `#` and two hexadecimal digits for each of its 32 bytes; nothing where there are fewer.
 fn print_digest(alloc: Global, digest: &[u8]) -> Result<Vec<u8>, AllocError>
-    ensures { IfOk result (λ text. text.items ≡ codes "#" ++ encode_lower digest.now) }
+    ensures { length digest.now ≡ 32 → IfOk result (λ text. text.items ≡ codes "#" ++ encode_lower digest.now) }
 {
-    let digits = hex::encode(alloc, digest)?;
-    let mut text = Vec::from_slice(alloc, b"#")?;
-    text.extend_from_slice(digits.as_bytes())?;
+    let mut text = Vec::new(alloc);
+    push_spelled_digest(&mut text, digest)?;
     Ok(text)
 }
 

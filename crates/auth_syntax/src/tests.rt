@@ -3,7 +3,7 @@ ghost use Rattle.std.specs.Prelude.{◌≡◌, true};
 ghost use Rattle.core_terms.specs.TypeTables.{stands_behind};
 
 use crate::fault::{LexicalFault, LiteralFault, LiteralKind, SyntaxFault, SyntaxKind};
-use crate::literal::parse_literal;
+use crate::literal::parse_fragment_literal;
 use crate::parser::{parse, parse_fragment};
 use crate::print::print;
 use crate::tree::{Declaration, ExpTree, FunctionKind};
@@ -68,8 +68,10 @@ fn program_with(alloc: Global, form: TyForm) -> Result<(Program, TyId), AllocErr
 fn spells(alloc: Global, form: TyForm, text: &str, wanted: &[u8]) -> Result<bool, LiteralFault>
     requires { stands_behind 0 form ≡ true }
 {
-    let (program, ty) = program_with(alloc, form)?;
-    let spelling = parse_literal(alloc, &program, ty, text)?;
+    let Ok((program, ty)) = program_with(alloc, form) else {
+        return Err(LiteralFault::NoMemory);
+    };
+    let spelling = parse_fragment_literal(alloc, &program, ty, text)?;
     Ok(spelling.as_bytes() == wanted)
 }
 
@@ -104,7 +106,7 @@ fn literals_are_refused(rt: HostRuntime) -> Result<(), Fail> {
     let unit = types.intern(TyForm::UnitForm)?;
     let auth = types.intern(TyForm::AuthForm(unit))?;
     let program = Program::new(types, auth, Vec::new(alloc), Digest([0; 32]));
-    let refused = parse_literal(alloc, &program, auth, " ()");
+    let refused = parse_fragment_literal(alloc, &program, auth, " ()");
     assert!(rt; matches!(refused, Err(LiteralFault::At(LiteralKind::Mismatch, 1))));
     Ok(())
 }
