@@ -7,7 +7,7 @@ use Rattle.std.proofs.lemmas.List.Elements.{All-cons, All-nil}
 use Rattle.std.proofs.lemmas.Str.{IsUtf8-from_is_utf8}
 use Rattle.core_terms.proofs.TypingSound.{first_of, second_of}
 use Rattle.auth_syntax.specs.Syntax.{ExpSyntax, UnitSyntax, BoolSyntax, IntSyntax, TextSyntax, LocalSyntax, PairSyntax, UnarySyntax, BinarySyntax, CallSyntax, ConstructorSyntax, LetSyntax, IfSyntax, MatchSyntax, ExpsSyntax, NoExp, AndExp, ArmsSyntax, NoArmSyntax, AndArmSyntax, FunctionSyntax}
-use Rattle.auth_types.specs.OverTypes.{all_literals_fit, arm_literals_fit, literals_fit, row_literals_fit}
+use Rattle.auth_types.specs.FragmentBodies.{all_literals_fit, arm_literals_fit, literals_fit, row_literals_fit}
 use Rattle.auth_types.specs.CheckedLaws.{ArmsHaveGoodLiterals, HasGoodLiterals, HaveGoodLiterals}
 
 mutual

@@ -9,6 +9,7 @@ use Rattle.std.proofs.lemmas.Cmp.{nat_list_eq_equiv}
 use Rattle.std.proofs.lemmas.Slice.Eq.{bytes_eq-Decides}
 use Rattle.auth_syntax.specs.Syntax.{NameSyntax}
 use Rattle.auth_types.specs.Checking.{Checking, FaultAt, is_among, new_name}
+use Rattle.auth_types.specs.ScopeNames.{names_in}
 use Rattle.auth_types.specs.DeclaredNames.{names_met}
 use Rattle.auth_types.specs.declared.fault.TypeKind.TheVariants.{Twice, Limit}
 use Rattle.auth_types.specs.declared.fault.Limited.{Limited}
@@ -125,3 +126,7 @@ among_more keys key x is name = by (list_any (λ k. bytes_eq key.now k.now) keys
         among_key keys key name (is ∙ is_name) ∙ found ∙ ap (λ b. b || true) (sym (among_key keys key name (is ∙ is_name) ∙ found))
     by true found false same = or_comm false (is_among name (names_met keys))
     by false new b same = ap (is_among name) (met_more keys key) ∙ ap (λ n. bytes_eq n name || is_among name (names_met keys)) is ∙ ap (λ b. b || is_among name (names_met keys)) same ∙ or_comm b (is_among name (names_met keys))
+
+-- a name among the names of a set, in their order
+pub among_in : (keys : List (Bor (List ℕ))) (key : Bor (List ℕ)) (name : List ℕ) → key.now ≡ name → is_among name (names_in keys) ≡ list_any (λ k. bytes_eq key.now k.now) keys
+among_in keys key name is = ap (λ n. is_among n (names_in keys)) (sym is) ∙ among_keys key.now keys

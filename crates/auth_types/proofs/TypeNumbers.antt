@@ -6,16 +6,13 @@ use Rattle.std.proofs.lemmas.List.{append-nil, map-append, take_more}
 use Rattle.core_terms.specs.Types.{Ty, UnitTy}
 use Rattle.core_terms.specs.TypeTables.{type_at}
 use Rattle.core_terms.specs.declared.types.TyId.{TyId}
-use Rattle.auth_syntax.specs.Trees as written
-use Rattle.auth_syntax.specs.declared.tree.Parameter.{Parameter}
 use Rattle.auth_types.specs.Checking.{Checking, Sound}
-use Rattle.auth_types.specs.WrittenTypes.{type_meant}
-use Rattle.auth_types.specs.OverTypes.{AreNumbers, Grows, Shows, types_written}
+use Rattle.auth_types.specs.OverTypes.{AreNumbers, Grows, Shows}
 
 pub type_stays : (types : List Ty) (i : ℕ) (t : Ty) → slice_get types i ≡ Some t → (more : List Ty) → slice_index_or (types ++ more) i UnitTy ≡ t
 type_stays types i t h more = get_or-append types more UnitTy i (slice_get_within types i t h) ∙ get_or_from_slice_get types i t UnitTy h
 
-number_stays : (types more : List Ty) (i : ℕ) (t : Ty) → slice_get types i ≡ Some t → slice_get (types ++ more) i ≡ Some t
+pub number_stays : (types more : List Ty) (i : ℕ) (t : Ty) → slice_get types i ≡ Some t → slice_get (types ++ more) i ≡ Some t
 number_stays types more i t h =
     let inside : i < length types = slice_get_within types i t h in
     let more_inside : i < length (types ++ more) = rw length-append (omega (arith, inside)) in
@@ -80,7 +77,7 @@ pub shows_now : {A B : Type 0} (types : List Ty) (view : List Ty → A → B) (f
 shows_now types view found value h = h [] ∙ ap (λ l. Sound (view l value)) (append-nil types)
 
 -- one number more, of one type more
-numbers_push : (types : List Ty) (ids : List TyId) (ts : List Ty) (id : TyId) (t : Ty) → AreNumbers types ids ts → slice_get types id.0 ≡ Some t → AreNumbers types (ids ++ id ∷ []) (ts ++ t ∷ [])
+pub numbers_push : (types : List Ty) (ids : List TyId) (ts : List Ty) (id : TyId) (t : Ty) → AreNumbers types ids ts → slice_get types id.0 ≡ Some t → AreNumbers types (ids ++ id ∷ []) (ts ++ t ∷ [])
 numbers_push types [] [] id t h e = cc
 numbers_push types [] (u ∷ ts) id t h e = absurd (cc)
 numbers_push types (i ∷ ids) [] id t h e = absurd (cc)
@@ -89,13 +86,3 @@ numbers_push types (i ∷ ids) (u ∷ ts) id t h e =
     let others : AreNumbers types ids ts = cc in
     let pushed = numbers_push types ids ts id t others e in
     cc
-
--- the numbers of the first parameters' types, and of one more
-pub numbers_taken : (a b : List Ty) (parameters : List Parameter) (i : ℕ) (ids : List TyId) (id : TyId) (p : Parameter) → Grows a b → i < length parameters → p ≡ slice_index_or parameters i p
-    → AreNumbers a ids (types_written (take i parameters)) → slice_get b id.0 ≡ Some (type_meant [] (written.type_of p.of_type))
-    → AreNumbers b (ids ++ id ∷ []) (types_written (take (i + 1) parameters))
-numbers_taken a b parameters i ids id p grows inside e h found =
-    let taken = take_more parameters i p inside ∙ ap (λ q. take i parameters ++ q ∷ []) (sym e) in
-    let types = ap types_written taken ∙ map-append (λ (q : Parameter). type_meant [] (written.type_of q.of_type)) (take i parameters) (p ∷ []) in
-    subst (λ ts. AreNumbers b (ids ++ id ∷ []) ts) (sym types)
-    (numbers_push b ids (types_written (take i parameters)) id (type_meant [] (written.type_of p.of_type)) (numbers_grow a b ids (types_written (take i parameters)) grows h) found)

@@ -5,6 +5,13 @@ pub mod RoleRules
 pub mod Bodies
 pub mod CheckedPrograms
 pub mod Outcomes
+pub mod ScopeNames
 pub mod DeclaredNames
 pub mod OverTypes
+pub mod FragmentBodies
+pub mod Scopes
+pub mod Numbering
+pub mod RoleHeads
 pub mod CheckedLaws
+pub mod Locals
+pub mod Elaborators

@@ -1,7 +1,9 @@
 -- What an answer of the checker says of what a definition finds. Where memory ran out nothing is said.
 use Rattle.std.specs.Prelude.{◌≡◌, Result, Ok, Err, ⊤}
-use Rattle.core_terms.specs.Programs.{meaning}
-use Rattle.core_terms.specs.declared.program.Program.{Program}
+use Rattle.core_terms.specs.LanguagePrograms.{meaning}
+use Rattle.core_terms.specs.Programs as fragment
+use Rattle.core_terms.specs.declared.language.program.Program.{Program}
+use Rattle.core_terms.specs.declared.program.Program.{Program as FragmentProgram}
 use Rattle.auth_types.specs.Checking.{Checking, Sound, FaultAt}
 use Rattle.auth_types.specs.CheckedPrograms.{Checked, IsProgram, FirstFault}
 use Rattle.auth_types.specs.declared.fault.Fault.{Fault}
@@ -25,3 +27,9 @@ abbrev pub Checks : Checked → Result Program TypeFault → Type 0
 Checks found (Ok p) = found ≡ IsProgram (meaning p)
 Checks found (Err (told.At kind line column)) = found ≡ FirstFault kind line column
 Checks found (Err told.NoMemory) = ⊤
+
+-- the same of the programs of the fragment
+abbrev pub ChecksFragment : Checked → Result FragmentProgram TypeFault → Type 0
+ChecksFragment found (Ok p) = found ≡ IsProgram (fragment.meaning p)
+ChecksFragment found (Err (told.At kind line column)) = found ≡ FirstFault kind line column
+ChecksFragment found (Err told.NoMemory) = ⊤

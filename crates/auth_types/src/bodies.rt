@@ -1,34 +1,45 @@
-// The fourth pass: the terms of the bodies, with their types by number.
+// The fourth pass: the bodies of functions, with their types by number.
+//
+// An elaborator goes over an expression once, from the left, and compares a part's type as soon as it has the part.
 
-ghost use Rattle.std.specs.Prelude.{◌≡◌, ◌<◌, ◌++◌, [], List, Some, true, length, map, slice_get, IfOk, IfSome};
-ghost use Rattle.core_terms.specs.Programs.{types_in};
-ghost use Rattle.core_terms.specs.ProgramTrees.{expression_of, function_of, kind_of};
-ghost use Rattle.core_terms.specs.TypeTables.{stands_behind, type_of_form};
-ghost use Rattle.core_terms.specs.Types.{Ty, IntTy};
-ghost use Rattle.core_terms.specs.Terms.{Expression};
-ghost use Rattle.auth_syntax.specs.Grammar.{AreDeclarations, AreParameters, HasForms, HasKind, HasTypeForms, IsFunction, nesting_limit};
+mod binders;
+mod calls;
+mod elaborator;
+mod functions;
+mod operations;
+
+ghost use Rattle.std.specs.Prelude.{◌≡◌, ◌<◌, length, map, All, IfOk, IfSome, OnOk};
+ghost use Rattle.core_terms.specs.LanguageTrees.{expression_of, types_at};
+ghost use Rattle.core_terms.specs.TypeTables.{type_at};
+ghost use Rattle.auth_syntax.specs.Parsing.{in_a_row};
+ghost use Rattle.auth_syntax.specs.Places.{start};
 ghost use Rattle.auth_syntax.specs.Syntax as syntax;
 ghost use Rattle.auth_syntax.specs.Trees as written;
-ghost use Rattle.auth_syntax.specs.Vocabulary.{Binary, Unary, fragment};
 ghost use Rattle.auth_types.specs.Bodies as specified;
-ghost use Rattle.auth_types.specs.Bodies.{binary_expression, checked_function, checked_functions, elaborated, last_named, operand_type, result_type, typed, unary, wanted};
-ghost use Rattle.auth_types.specs.Checking.{Checking, then_checked};
-ghost use Rattle.auth_types.specs.OverTypes.{AreNumbers, FindsOver, Grows, Shows, all_literals_fit, fragment_scope, functions_of, functions_written, literals_fit, locals_of, typed_of, types_written};
-ghost use Rattle.auth_types.specs.RoleRules.{kind_meant};
-ghost use Rattle.auth_types.specs.WrittenTypes.{type_meant};
+ghost use Rattle.auth_types.specs.CheckedLaws.{ArmsHaveGoodLiterals, HasGoodLiterals, HaveGoodLiterals};
+ghost use Rattle.auth_types.specs.Elaborators.{Keeps, arm_found, arms_found, arms_of, fields_of, found_at, found_in, row_found, row_of, typed_of, types_of, want_of};
+ghost use Rattle.auth_types.specs.OverTypes.{FindsOver};
+ghost use Rattle.auth_types.specs.Scopes.{AreWithin, IsConstructorWithin};
 
+use crate::bodies::elaborator::Elaborator;
 use crate::fault::{Fault, TypeKind};
 use auth_syntax::place::Place;
-use auth_syntax::tree::{
-    self, BinaryOperator, Declaration, ExpTree, FunctionKind, Parameter, TypeTree, UnaryOperator,
-};
-use core_terms::{Function, Kind, LocalId, Name, Term, TyForm, TyId, TyTable};
-use std::alloc::{AllocError, Global};
+use auth_syntax::tree::{Arm, BinaryOperator, ExpTree, PlacedName};
+use core_terms::language::{Constructor, Term, TyForm};
+use core_terms::{Name, TyId};
+pub(crate) use functions::{Bodies, fourth_pass};
 
 /// A term with the number of its type.
 #[derive(Drop)]
 struct Typed {
     term: Term,
+    ty: TyId,
+}
+
+/// The bodies of the arms of a match, with the number of their type.
+#[derive(Drop)]
+struct TypedArms {
+    bodies: Vec<Term>,
     ty: TyId,
 }
 
@@ -53,302 +64,289 @@ fn place(tree: &ExpTree) -> Place
     }
 }
 
-/// The number of a written type of the fragment.
-pub(crate) fn number(types: &mut TyTable, tree: &TypeTree) -> Result<TyId, AllocError>
-    requires { HasTypeForms fragment (written.type_of tree.now) }
-    ensures grows { Grows (types_in types.old) (types_in types.new) }
-    ensures found { IfOk result (λ id. slice_get (types_in types.new) id.0 ≡ Some (type_meant [] (written.type_of tree.now))) }
-{
-    match tree {
-        TypeTree::UnitType(_) => types.intern(TyForm::UnitForm),
-        TypeTree::BoolType(_) => types.intern(TyForm::BoolForm),
-        TypeTree::IntType(_) => types.intern(TyForm::IntForm),
-        TypeTree::TextType(_) => types.intern(TyForm::TextForm),
-        TypeTree::AuthType(_, inner) => {
-            let part = number(types, inner)?;
-            types.intern(TyForm::AuthForm(part))
-        }
-        TypeTree::NamedType(..) | TypeTree::PairType(..) => unreachable!(),
-    }
-}
-
-/// The numbers of the parameters' types.
-fn numbers(
-    alloc: Global,
-    types: &mut TyTable,
-    parameters: &[Parameter],
-) -> Result<Vec<TyId>, AllocError>
-    requires { AreParameters fragment nesting_limit (map written.parameter_of parameters.now) }
-    ensures grows { Grows (types_in types.old) (types_in types.new) }
-    ensures found { IfOk result (λ ids. AreNumbers (types_in types.new) ids.items (types_written parameters.now)) }
-{
-    let mut ids = Vec::new(alloc);
-    for parameter in parameters {
-        ids.push(number(types, &parameter.of_type)?)?;
-    }
-    Ok(ids)
-}
-
-/// The number of the last parameter of a name.
-fn local(parameters: &[Parameter], name: &Name) -> Option<usize>
-    ensures found { result ≡ last_named 0 (locals_of parameters.now) name.now }
-    ensures inside { IfSome result (λ number. number < length parameters.now) }
-{
-    let mut found = None;
-    for (number, parameter) in parameters.iter().enumerate() {
-        if parameter.name.name.as_bytes() == name.as_bytes() {
-            found = Some(number);
+impl<'s, 'a> Elaborator<'s, 'a> {
+    /// The term of an expression, with its type.
+    #[cycle(bodies)]
+    fn term(&mut self, tree: &'a ExpTree) -> Result<Typed, Fault>
+        ensures keeps { OnOk result (Keeps self.old self.new) }
+        ensures found { FindsOver (types_of self.new) typed_of (found_in self.old tree.now) result }
+        ensures inside { IfOk result (λ typed. typed.ty.0 < length (types_of self.new)) }
+        ensures literals { OnOk result (HasGoodLiterals (written.expression_of tree.now)) }
+    {
+        match tree {
+            ExpTree::UnitLiteral(_) => Ok(self.plain(Term::UnitLiteral, TyForm::UnitForm)?),
+            ExpTree::BoolLiteral(_, value) => {
+                Ok(self.plain(Term::BoolLiteral(*value), TyForm::BoolForm)?)
+            }
+            ExpTree::IntLiteral(_, value) => {
+                Ok(self.plain(Term::IntLiteral(*value), TyForm::IntForm)?)
+            }
+            ExpTree::TextLiteral(_, text) => Ok(self.text(text)?),
+            ExpTree::Local(at, name) => self.local(*at, name),
+            ExpTree::Pair(_, first, second) => self.pair(first, second),
+            ExpTree::Unary(_, operator, operand) => {
+                let at = place(operand);
+                let operand = self.term(operand)?;
+                self.unary(*operator, at, operand)
+            }
+            ExpTree::Binary(_, operator, first, second) => self.binary(*operator, first, second),
+            ExpTree::Call(at, name, operands) => self.call(*at, name, operands),
+            ExpTree::Constructor(at, name, operands) => self.constructor(*at, name, operands),
+            ExpTree::Let {
+                name,
+                bound,
+                body,
+                ..
+            } => self.let_in(name, bound, body),
+            ExpTree::If {
+                test,
+                first,
+                other,
+                ..
+            } => self.condition(test, first, other),
+            ExpTree::Match { at, subject, arms } => self.match_with(*at, subject, arms),
         }
     }
-    found
-}
 
-/// A term whose type has this form, and no parts.
-fn plain(types: &mut TyTable, term: Term, form: TyForm) -> Result<Typed, AllocError>
-    requires { stands_behind 0 form ≡ true }
-    ensures grows { Grows (types_in types.old) (types_in types.new) }
-    ensures found { IfOk result (λ typed. (more : List Ty) → typed_of (types_in types.new ++ more) typed ≡ record { expression = expression_of (types_in types.new ++ more) term; of_type = type_of_form [] form }) }
-    ensures inside { IfOk result (λ typed. typed.ty.0 < length (types_in types.new)) }
-{
-    let ty = types.intern(form)?;
-    Ok(Typed { term, ty })
-}
+    /// The term of an expression, which has this type.
+    #[cycle(bodies)]
+    fn part(&mut self, tree: &'a ExpTree, ty: TyId) -> Result<Term, Fault>
+        requires { ty.0 < length (types_of self.old) }
+        ensures keeps { OnOk result (Keeps self.old self.new) }
+        ensures found { FindsOver (types_of self.new) expression_of (specified.wanted (syntax.place_of (written.expression_of tree.now)) (type_at (types_of self.old) ty) (found_in self.old tree.now)) result }
+        ensures literals { OnOk result (HasGoodLiterals (written.expression_of tree.now)) }
+    {
+        let part = self.term(tree)?;
+        self.wanted(place(tree), ty, part)
+    }
 
-/// `auth` of a term.
-fn authenticated(alloc: Global, types: &mut TyTable, operand: Typed) -> Result<Typed, AllocError>
-    requires { operand.ty.0 < length (types_in types.old) }
-    ensures grows { Grows (types_in types.old) (types_in types.new) }
-    ensures found { IfOk result (λ typed. (at : Place) (found : Checking specified.Typed) → Shows (types_in types.old) typed_of found operand → Shows (types_in types.new) typed_of (unary syntax.AuthOperation at found) typed) }
-    ensures inside { IfOk result (λ typed. typed.ty.0 < length (types_in types.new)) }
-{
-    let ty = types.intern(TyForm::AuthForm(operand.ty))?;
-    let term = Term::Auth(operand.ty, Box::new(alloc, operand.term)?);
-    Ok(Typed { term, ty })
-}
+    /// Two expressions between parentheses.
+    #[cycle(bodies)]
+    fn pair(&mut self, first: &'a ExpTree, second: &'a ExpTree) -> Result<Typed, Fault>
+        ensures keeps { OnOk result (Keeps self.old self.new) }
+        ensures found { FindsOver (types_of self.new) typed_of (specified.pair (found_in self.old first.now) (found_in self.old second.now)) result }
+        ensures inside { IfOk result (λ typed. typed.ty.0 < length (types_of self.new)) }
+        ensures literals { OnOk result (HasGoodLiterals (written.expression_of first.now) × HasGoodLiterals (written.expression_of second.now)) }
+    {
+        let first = self.term(first)?;
+        let second = self.term(second)?;
+        Ok(self.paired(first, second)?)
+    }
 
-/// `unauth` of a term at this place, which has a type of authenticated values.
-fn opened(alloc: Global, types: &TyTable, at: Place, operand: Typed) -> Result<Typed, Fault>
-    requires { operand.ty.0 < length (types_in types.now) }
-    ensures found { (found : Checking specified.Typed) → Shows (types_in types.now) typed_of found operand → FindsOver (types_in types.now) typed_of (unary syntax.UnauthOperation at found) result }
-    ensures inside { IfOk result (λ typed. typed.ty.0 < length (types_in types.now)) }
-{
-    match types.form(operand.ty) {
-        TyForm::AuthForm(ty) => {
-            let term = Term::Unauth(ty, Box::new(alloc, operand.term)?);
-            Ok(Typed { term, ty })
+    /// An operation on two operands.
+    #[cycle(bodies)]
+    fn binary(
+        &mut self,
+        operator: BinaryOperator,
+        first: &'a ExpTree,
+        second: &'a ExpTree,
+    ) -> Result<Typed, Fault>
+        ensures keeps { OnOk result (Keeps self.old self.new) }
+        ensures found { FindsOver (types_of self.new) typed_of (specified.binary (written.binary_of operator) (syntax.place_of (written.expression_of first.now)) (found_in self.old first.now) (syntax.place_of (written.expression_of second.now)) (found_in self.old second.now)) result }
+        ensures inside { IfOk result (λ typed. typed.ty.0 < length (types_of self.new)) }
+        ensures literals { OnOk result (HasGoodLiterals (written.expression_of first.now) × HasGoodLiterals (written.expression_of second.now)) }
+    {
+        let ty = self.operand_type(operator)?;
+        let first = self.part(first, ty)?;
+        let second = self.part(second, ty)?;
+        self.combined(operator, first, second)
+    }
+
+    /// A call of the function of a name at this place.
+    #[cycle(bodies)]
+    fn call(&mut self, at: Place, name: &Name, operands: &'a [ExpTree]) -> Result<Typed, Fault>
+        ensures keeps { OnOk result (Keeps self.old self.new) }
+        ensures found { FindsOver (types_of self.new) typed_of (found_at self.old (syntax.CallSyntax at name.now (in_a_row (map written.expression_of operands.now)))) result }
+        ensures inside { IfOk result (λ typed. typed.ty.0 < length (types_of self.new)) }
+        ensures literals { OnOk result (HaveGoodLiterals (in_a_row (map written.expression_of operands.now))) }
+    {
+        let function = self.callee(at, name, operands.len())?;
+        let head = self.scope.head(function);
+        let arguments = self.operands(operands, &head.parameters)?;
+        Ok(Typed {
+            term: Term::Call(function, arguments),
+            ty: head.result,
+        })
+    }
+
+    /// The constructor of a name at this place, with its fields.
+    #[cycle(bodies)]
+    fn constructor(
+        &mut self,
+        at: Place,
+        name: &Name,
+        operands: &'a [ExpTree],
+    ) -> Result<Typed, Fault>
+        ensures keeps { OnOk result (Keeps self.old self.new) }
+        ensures found { FindsOver (types_of self.new) typed_of (found_at self.old (syntax.ConstructorSyntax at name.now (in_a_row (map written.expression_of operands.now)))) result }
+        ensures inside { IfOk result (λ typed. typed.ty.0 < length (types_of self.new)) }
+        ensures literals { OnOk result (HaveGoodLiterals (in_a_row (map written.expression_of operands.now))) }
+    {
+        let id = self.maker(at, name, operands.len())?;
+        let types = self.scope.fields(id);
+        let fields = self.operands(operands, types)?;
+        let ty = self.intern(TyForm::NamedForm(id.named))?;
+        Ok(Typed {
+            term: Term::Constructor(id.named, id.tag, fields),
+            ty,
+        })
+    }
+
+    /// Expressions in a row, of these types.
+    #[cycle(bodies)]
+    fn operands(&mut self, operands: &'a [ExpTree], types: &[TyId]) -> Result<Vec<Term>, Fault>
+        requires count { length operands.now ≡ length types.now }
+        requires within { AreWithin (length (types_of self.old)) types.now }
+        ensures keeps { OnOk result (Keeps self.old self.new) }
+        ensures found { FindsOver (types_of self.new) row_of (row_found self.old (in_a_row (map written.expression_of operands.now)) (types_at (types_of self.old) types.now)) result }
+        ensures literals { OnOk result (HaveGoodLiterals (in_a_row (map written.expression_of operands.now))) }
+    {
+        let mut terms = Vec::new(self.alloc);
+        for (index, operand) in operands.iter().enumerate() {
+            terms.push(self.part(operand, types[index])?)?;
         }
-        _ => Err(Fault::At(TypeKind::NotAuth, at)),
+        Ok(terms)
     }
-}
 
-/// An operation on a term at this place.
-fn unary_term(
-    alloc: Global,
-    types: &mut TyTable,
-    operator: UnaryOperator,
-    at: Place,
-    operand: Typed,
-) -> Result<Typed, Fault>
-    requires known { fragment (Unary (written.unary_of operator)) ≡ true }
-    requires inside { operand.ty.0 < length (types_in types.old) }
-    ensures grows { Grows (types_in types.old) (types_in types.new) }
-    ensures found { (found : Checking specified.Typed) → Shows (types_in types.old) typed_of found operand → FindsOver (types_in types.new) typed_of (unary (written.unary_of operator) at found) result }
-    ensures inside { IfOk result (λ typed. typed.ty.0 < length (types_in types.new)) }
-{
-    match operator {
-        UnaryOperator::Auth => Ok(authenticated(alloc, types, operand)?),
-        UnaryOperator::Unauth => opened(alloc, types, at, operand),
-        _ => unreachable!(),
+    /// An expression that binds a name.
+    #[cycle(bodies)]
+    fn let_in(
+        &mut self,
+        name: &'a PlacedName,
+        bound: &'a ExpTree,
+        body: &'a ExpTree,
+    ) -> Result<Typed, Fault>
+        ensures keeps { OnOk result (Keeps self.old self.new) }
+        ensures found { FindsOver (types_of self.new) typed_of (found_at self.old (syntax.LetSyntax start (written.name_of name.now) (written.expression_of bound.now) (written.expression_of body.now))) result }
+        ensures inside { IfOk result (λ typed. typed.ty.0 < length (types_of self.new)) }
+        ensures literals { OnOk result (HasGoodLiterals (written.expression_of bound.now) × HasGoodLiterals (written.expression_of body.now)) }
+    {
+        let outer = self.depth();
+        let bound = self.term(bound)?;
+        self.bind(name, bound.ty)?;
+        let body = self.term(body)?;
+        self.close(outer);
+        Ok(Typed {
+            term: Term::Let {
+                bound_type: bound.ty,
+                bound: Box::new(self.alloc, bound.term)?,
+                body: Box::new(self.alloc, body.term)?,
+            },
+            ty: body.ty,
+        })
     }
-}
 
-/// The term at this place, which is an int.
-fn int(types: &TyTable, at: Place, operand: Typed) -> Result<Term, Fault>
-    requires { operand.ty.0 < length (types_in types.now) }
-    ensures { (found : Checking specified.Typed) → Shows (types_in types.now) typed_of found operand → FindsOver (types_in types.now) expression_of (wanted at IntTy found) result }
-{
-    match types.form(operand.ty) {
-        TyForm::IntForm => Ok(operand.term),
-        _ => Err(Fault::At(TypeKind::WrongType, at)),
+    /// A condition.
+    #[cycle(bodies)]
+    fn condition(
+        &mut self,
+        test: &'a ExpTree,
+        first: &'a ExpTree,
+        other: &'a ExpTree,
+    ) -> Result<Typed, Fault>
+        ensures keeps { OnOk result (Keeps self.old self.new) }
+        ensures found { FindsOver (types_of self.new) typed_of (found_at self.old (syntax.IfSyntax start (written.expression_of test.now) (written.expression_of first.now) (written.expression_of other.now))) result }
+        ensures inside { IfOk result (λ typed. typed.ty.0 < length (types_of self.new)) }
+        ensures literals { OnOk result (HasGoodLiterals (written.expression_of test.now) × HasGoodLiterals (written.expression_of first.now) × HasGoodLiterals (written.expression_of other.now)) }
+    {
+        let truth = self.intern(TyForm::BoolForm)?;
+        let test = self.part(test, truth)?;
+        let first = self.term(first)?;
+        let other = self.part(other, first.ty)?;
+        Ok(Typed {
+            term: Term::If {
+                test: Box::new(self.alloc, test)?,
+                first: Box::new(self.alloc, first.term)?,
+                other: Box::new(self.alloc, other)?,
+            },
+            ty: first.ty,
+        })
     }
-}
 
-/// The term at this place, of the type that the operation wants.
-fn operand(
-    types: &TyTable,
-    operator: BinaryOperator,
-    at: Place,
-    operand: Typed,
-) -> Result<Term, Fault>
-    requires known { fragment (Binary (written.binary_of operator)) ≡ true }
-    requires inside { operand.ty.0 < length (types_in types.now) }
-    ensures { (found : Checking specified.Typed) → Shows (types_in types.now) typed_of found operand → FindsOver (types_in types.now) expression_of (wanted at (operand_type (written.binary_of operator)) found) result }
-{
-    match operator {
-        BinaryOperator::Add => int(types, at, operand),
-        _ => unreachable!(),
+    /// A match at this place, with its arms.
+    #[cycle(bodies)]
+    fn match_with(
+        &mut self,
+        at: Place,
+        subject: &'a ExpTree,
+        arms: &'a [Arm],
+    ) -> Result<Typed, Fault>
+        ensures keeps { OnOk result (Keeps self.old self.new) }
+        ensures found { FindsOver (types_of self.new) typed_of (found_at self.old (syntax.MatchSyntax at (written.expression_of subject.now) (written.arms_in_a_row (map written.arm_of arms.now)))) result }
+        ensures inside { IfOk result (λ typed. typed.ty.0 < length (types_of self.new)) }
+        ensures literals { OnOk result (HasGoodLiterals (written.expression_of subject.now) × ArmsHaveGoodLiterals (written.arms_in_a_row (map written.arm_of arms.now))) }
+    {
+        let place = place(subject);
+        let subject = self.term(subject)?;
+        let named = self.taken_apart(at, place, subject.ty, arms)?;
+        let constructors = self.scope.constructors(named);
+        let arms = self.arms(arms, constructors)?;
+        Ok(Typed {
+            term: Term::Match {
+                named,
+                subject: Box::new(self.alloc, subject.term)?,
+                arms: arms.bodies,
+            },
+            ty: arms.ty,
+        })
     }
-}
 
-/// An operation on two terms of the types that it wants.
-fn combined(
-    alloc: Global,
-    types: &mut TyTable,
-    operator: BinaryOperator,
-    first: Term,
-    second: Term,
-) -> Result<Typed, AllocError>
-    requires { fragment (Binary (written.binary_of operator)) ≡ true }
-    ensures grows { Grows (types_in types.old) (types_in types.new) }
-    ensures found { IfOk result (λ whole. (x y : Checking Expression) → Shows (types_in types.old) expression_of x first → Shows (types_in types.old) expression_of y second → Shows (types_in types.new) typed_of (then_checked x (λ x. then_checked y (λ y. typed (binary_expression (written.binary_of operator) x y) (result_type (written.binary_of operator))))) whole) }
-    ensures inside { IfOk result (λ whole. whole.ty.0 < length (types_in types.new)) }
-{
-    match operator {
-        BinaryOperator::Add => {
-            let sum = Term::Add(Box::new(alloc, first)?, Box::new(alloc, second)?);
-            plain(types, sum, TyForm::IntForm)
+    /// The arms of a match, which are of these constructors. Behind the first the type of its body is wanted.
+    #[cycle(bodies)]
+    fn arms(&mut self, arms: &'a [Arm], constructors: &[Constructor]) -> Result<TypedArms, Fault>
+        requires count { length arms.now ≡ length constructors.now }
+        requires within { All (IsConstructorWithin (length (types_of self.old))) constructors.now }
+        ensures keeps { OnOk result (Keeps self.old self.new) }
+        ensures found { FindsOver (types_of self.new) arms_of (arms_found self.old (written.arms_in_a_row (map written.arm_of arms.now)) (fields_of (types_of self.old) constructors.now)) result }
+        ensures inside { IfOk result (λ typed. typed.ty.0 < length (types_of self.new)) }
+        ensures literals { OnOk result (ArmsHaveGoodLiterals (written.arms_in_a_row (map written.arm_of arms.now))) }
+    {
+        let mut bodies = Vec::new(self.alloc);
+        let mut wanted = None;
+        for (index, arm) in arms.iter().enumerate() {
+            let body = self.arm(arm, wanted, &constructors[index].fields)?;
+            wanted = Some(body.ty);
+            bodies.push(body.term)?;
         }
-        _ => unreachable!(),
+        let ty = self.wanted_or_unit(wanted)?;
+        Ok(TypedArms { bodies, ty })
     }
-}
 
-/// An operation on a term of the type that it wants and a second one at this place.
-fn binary_term(
-    alloc: Global,
-    types: &mut TyTable,
-    operator: BinaryOperator,
-    first: Term,
-    at: Place,
-    second: Typed,
-) -> Result<Typed, Fault>
-    requires known { fragment (Binary (written.binary_of operator)) ≡ true }
-    requires inside { second.ty.0 < length (types_in types.old) }
-    ensures grows { Grows (types_in types.old) (types_in types.new) }
-    ensures found { (x : Checking Expression) (y : Checking specified.Typed) → Shows (types_in types.old) expression_of x first → Shows (types_in types.old) typed_of y second → FindsOver (types_in types.new) typed_of (then_checked x (λ x. then_checked (wanted at (operand_type (written.binary_of operator)) y) (λ y. typed (binary_expression (written.binary_of operator) x y) (result_type (written.binary_of operator))))) result }
-    ensures inside { IfOk result (λ whole. whole.ty.0 < length (types_in types.new)) }
-{
-    let second = operand(types, operator, at, second)?;
-    Ok(combined(alloc, types, operator, first, second)?)
-}
-
-/// The term of an expression of the fragment, with its type. The locals are the parameters, whose types have these numbers.
-fn term(
-    alloc: Global,
-    types: &mut TyTable,
-    parameters: &[Parameter],
-    ids: &[TyId],
-    tree: ExpTree,
-) -> Result<Typed, Fault>
-    requires known { HasForms fragment (written.expression_of tree) }
-    requires numbers { AreNumbers (types_in types.old) ids.now (types_written parameters.now) }
-    ensures grows { Grows (types_in types.old) (types_in types.new) }
-    ensures found { FindsOver (types_in types.new) typed_of (elaborated fragment_scope (locals_of parameters.now) (written.expression_of tree)) result }
-    ensures inside { IfOk result (λ typed. typed.ty.0 < length (types_in types.new)) }
-    ensures literals { IfOk result (λ _. literals_fit (written.expression_of tree) ≡ true) }
-{
-    match tree {
-        ExpTree::UnitLiteral(_) => Ok(plain(types, Term::UnitLiteral, TyForm::UnitForm)?),
-        ExpTree::BoolLiteral(_, value) => Ok(plain(
-            types,
-            Term::BoolLiteral(value),
-            TyForm::BoolForm,
-        )?),
-        ExpTree::IntLiteral(_, value) => Ok(plain(
-            types,
-            Term::IntLiteral(value),
-            TyForm::IntForm,
-        )?),
-        ExpTree::TextLiteral(_, text) => Ok(plain(
-            types,
-            Term::TextLiteral(text),
-            TyForm::TextForm,
-        )?),
-        ExpTree::Local(at, name) => match local(parameters, &name) {
-            Some(number) => Ok(Typed {
-                term: Term::Local(LocalId(number)),
-                ty: ids[number],
-            }),
-            None => Err(Fault::At(TypeKind::UnknownName, at)),
-        },
-        ExpTree::Unary(_, operator, inner) => {
-            let at = place(&inner);
-            let inner = term(alloc, types, parameters, ids, Box::into_inner(inner))?;
-            unary_term(alloc, types, operator, at, inner)
+    /// An arm of a match, whose pattern has fields of these types.
+    #[cycle(bodies)]
+    fn arm(&mut self, arm: &'a Arm, wanted: Option<TyId>, fields: &[TyId]) -> Result<Typed, Fault>
+        requires wanted { IfSome wanted (λ ty. ty.0 < length (types_of self.old)) }
+        requires within { AreWithin (length (types_of self.old)) fields.now }
+        ensures keeps { OnOk result (Keeps self.old self.new) }
+        ensures found { FindsOver (types_of self.new) typed_of (arm_found self.old (want_of (types_of self.old) wanted) (types_at (types_of self.old) fields.now) (written.arm_of arm.now)) result }
+        ensures inside { IfOk result (λ typed. typed.ty.0 < length (types_of self.new)) }
+        ensures literals { OnOk result (HasGoodLiterals (written.arm_of arm.now).body) }
+    {
+        if arm.fields.len() != fields.len() {
+            return Err(Fault::At(TypeKind::WrongCount, arm.constructor.at));
         }
-        ExpTree::Binary(_, operator, first, second) => {
-            let at = place(&first);
-            let first = term(alloc, types, parameters, ids, Box::into_inner(first))?;
-            let first = operand(types, operator, at, first)?;
-            let at = place(&second);
-            let second = term(alloc, types, parameters, ids, Box::into_inner(second))?;
-            binary_term(alloc, types, operator, first, at, second)
-        }
-        _ => unreachable!(),
+        let outer = self.depth();
+        self.bind_each(&arm.fields, fields)?;
+        let body = self.body(&arm.body, wanted)?;
+        self.close(outer);
+        Ok(body)
     }
-}
 
-/// The kind of a function of the fragment.
-fn kind(kind: FunctionKind) -> Kind
-    requires { HasKind fragment (written.kind_of kind) }
-    ensures { kind_of result ≡ kind_meant (written.kind_of kind) }
-{
-    match kind {
-        FunctionKind::Init => Kind::Init,
-        FunctionKind::Query => Kind::Query,
-        FunctionKind::Inner | FunctionKind::Update => unreachable!(),
-    }
-}
-
-/// A function of the fragment, with its types and its body.
-fn typed_function(
-    alloc: Global,
-    types: &mut TyTable,
-    function: tree::Function,
-) -> Result<Function, Fault>
-    requires { IsFunction fragment nesting_limit (written.function_of function) }
-    ensures grows { Grows (types_in types.old) (types_in types.new) }
-    ensures found { FindsOver (types_in types.new) function_of (checked_function [] fragment_scope (written.function_of function)) result }
-    ensures literals { IfOk result (λ _. literals_fit (written.expression_of function.body) ≡ true) }
-{
-    let tree::Function {
-        kind: role,
-        name,
-        parameters,
-        result_type,
-        body,
-    } = function;
-    let ids = numbers(alloc, types, &parameters)?;
-    let at = place(&body);
-    let body = term(alloc, types, &parameters, &ids, body)?;
-    let result = number(types, &result_type)?;
-    if !types.is_same(body.ty, result) {
-        return Err(Fault::At(TypeKind::WrongType, at));
-    }
-    Ok(Function {
-        name: name.name,
-        kind: kind(role),
-        parameters: ids,
-        result,
-        body: body.term,
-    })
-}
-
-/// The functions that are declared by declarations of the fragment, in their order.
-pub(crate) fn fourth_pass(
-    alloc: Global,
-    types: &mut TyTable,
-    declarations: Vec<Declaration>,
-) -> Result<Vec<Function>, Fault>
-    requires { AreDeclarations fragment nesting_limit (map written.declaration_of declarations.items) }
-    ensures grows { Grows (types_in types.old) (types_in types.new) }
-    ensures found { FindsOver (types_in types.new) functions_of (checked_functions [] fragment_scope (functions_written declarations.items)) result }
-    ensures literals { IfOk result (λ _. all_literals_fit (functions_written declarations.items) ≡ true) }
-{
-    let mut functions = Vec::new(alloc);
-    for declaration in declarations {
-        if let Declaration::Function(_, function) = declaration {
-            functions.push(typed_function(alloc, types, function)?)?;
+    /// The body of an arm, whose type may be wanted.
+    #[cycle(bodies)]
+    fn body(&mut self, tree: &'a ExpTree, wanted: Option<TyId>) -> Result<Typed, Fault>
+        requires { IfSome wanted (λ ty. ty.0 < length (types_of self.old)) }
+        ensures keeps { OnOk result (Keeps self.old self.new) }
+        ensures found { FindsOver (types_of self.new) typed_of (specified.wanted_arm (want_of (types_of self.old) wanted) (syntax.place_of (written.expression_of tree.now)) (found_in self.old tree.now)) result }
+        ensures inside { IfOk result (λ typed. typed.ty.0 < length (types_of self.new)) }
+        ensures literals { OnOk result (HasGoodLiterals (written.expression_of tree.now)) }
+    {
+        match wanted {
+            Some(ty) => {
+                let term = self.part(tree, ty)?;
+                Ok(Typed { term, ty })
+            }
+            None => self.term(tree),
         }
     }
-    Ok(functions)
 }

@@ -1,5 +1,5 @@
 // The first pass: the names that are declared, and how many.
-ghost use Rattle.std.specs.Prelude.{◌≡◌, [], ◌∷◌, map};
+ghost use Rattle.std.specs.Prelude.{◌≡◌, [], ◌∷◌, map, IfOk};
 ghost use Rattle.std.specs.List.{list_any};
 ghost use Rattle.std.specs.Str.{bytes_eq};
 ghost use Rattle.auth_syntax.specs.Trees as written;
@@ -31,16 +31,16 @@ const MOST_FUNCTIONS: usize = 1024;
 // How many parameters a function has at most.
 const MOST_PARAMETERS: usize = 8;
 
-/// What was declared so far.
+/// The names of what was declared so far, in the order of declaration, and whether the state was.
 #[derive(Drop)]
-struct Declared<'a> {
-    types: IndexSet<&'a [u8]>,
-    constructors: IndexSet<&'a [u8]>,
-    functions: IndexSet<&'a [u8]>,
-    has_state: bool,
+pub(crate) struct Declared<'a> {
+    pub types: IndexSet<&'a [u8]>,
+    pub constructors: IndexSet<&'a [u8]>,
+    pub functions: IndexSet<&'a [u8]>,
+    pub has_state: bool,
 }
 
-/// The first pass over the declarations of a text that ends at `end`.
+/// The first pass over the declarations of a text that ends at `end`: what they declare.
 ///
 /// # Errors
 ///
@@ -48,12 +48,13 @@ struct Declared<'a> {
 /// before among those of its kind, or at a second `state`; `Limit` at the name of a 257th type, a 256th constructor of a type, a 1,025th
 /// function or a 9th parameter that stands nowhere before, or at the first token of a 9th field; behind all, `NoState` at the end.
 /// `NoMemory` where there is no memory for the names.
-pub(crate) fn first_pass(
+pub(crate) fn first_pass<'a>(
     alloc: Global,
-    declarations: &[Declaration],
+    declarations: &'a [Declaration],
     end: Place,
-) -> Result<(), Fault>
-    ensures { Finds (λ _. tt) (spec.first_pass (record { declarations = map written.declaration_of declarations.now; end = end })) result }
+) -> Result<Declared<'a>, Fault>
+    ensures found { Finds (λ _. tt) (spec.first_pass (record { declarations = map written.declaration_of declarations.now; end = end })) result }
+    ensures declared { IfOk result (λ declared. spec.checked_declarations spec.nothing_declared (map written.declaration_of declarations.now) ≡ Sound (declared_of declared)) }
 {
     let mut declared = Declared {
         types: IndexSet::new(alloc),
@@ -65,7 +66,7 @@ pub(crate) fn first_pass(
         declare(&mut declared, declaration)?;
     }
     if declared.has_state {
-        Ok(())
+        Ok(declared)
     } else {
         Err(Fault::At(TypeKind::NoState, end))
     }

@@ -1,10 +1,9 @@
 // The second pass: written types, whose names are all declared.
-ghost use Rattle.std.specs.Prelude.{◌≡◌, ℕ, List, [], map, IfOk};
+ghost use Rattle.std.specs.Prelude.{◌≡◌, map};
 ghost use Rattle.auth_syntax.specs.Syntax as syntax;
 ghost use Rattle.auth_syntax.specs.Trees as written;
-ghost use Rattle.auth_types.specs.Checking.{is_among};
-ghost use Rattle.auth_types.specs.DeclaredNames.{names_met};
 ghost use Rattle.auth_types.specs.Outcomes.{Finds};
+ghost use Rattle.auth_types.specs.ScopeNames.{names_in};
 ghost use Rattle.auth_types.specs.WrittenTypes as spec;
 
 use crate::fault::{Fault, TypeKind};
@@ -12,7 +11,6 @@ use auth_syntax::place::Place;
 use auth_syntax::tree::{ConstructorDeclaration, Declaration, Function, Parameter, TypeTree};
 use core_terms::Name;
 use indexmap::IndexSet;
-use std::alloc::{AllocFailed, Global};
 
 /// The place of a type.
 pub(crate) fn first_token(tree: &TypeTree) -> Place
@@ -29,38 +27,17 @@ pub(crate) fn first_token(tree: &TypeTree) -> Place
     }
 }
 
-/// The second pass.
+/// The second pass, over declarations whose types have these names.
 ///
 /// # Errors
 ///
 /// `At` with `UnknownName` and the place of the first name in a type, of a field, a parameter, a result or the state, that no type has.
-/// `NoMemory` where there is no memory for the names.
-pub(crate) fn second_pass(alloc: Global, declarations: &[Declaration]) -> Result<(), Fault>
-    ensures { Finds (λ _. tt) (spec.known_declarations (spec.type_names (map written.declaration_of declarations.now)) (map written.declaration_of declarations.now)) result }
-{
-    let names = declared_types(alloc, declarations)?;
-    known_declarations(&names, declarations)
-}
-
-/// The names of the types that are declared.
-fn declared_types(
-    alloc: Global,
+/// There is no other.
+pub(crate) fn second_pass(
+    names: &IndexSet<&[u8]>,
     declarations: &[Declaration],
-) -> Result<IndexSet<&[u8]>, AllocFailed<&[u8]>>
-    ensures { IfOk result (λ names. (name : List ℕ) → is_among name (names_met names.keys) ≡ is_among name (spec.type_names (map written.declaration_of declarations.now))) }
-{
-    let mut names = IndexSet::new(alloc);
-    for declaration in declarations {
-        if let Declaration::Type(_, named) = declaration {
-            names.insert(named.name.name.as_bytes())?;
-        }
-    }
-    Ok(names)
-}
-
-/// The first name that is none of these, in all declarations.
-fn known_declarations(names: &IndexSet<&[u8]>, declarations: &[Declaration]) -> Result<(), Fault>
-    ensures { Finds (λ _. tt) (spec.known_declarations (names_met names.now.keys) (map written.declaration_of declarations.now)) result }
+) -> Result<(), Fault>
+    ensures { Finds (λ _. tt) (spec.known_declarations (names_in names.now.keys) (map written.declaration_of declarations.now)) result }
 {
     for declaration in declarations {
         known_declaration(names, declaration)?;
@@ -70,7 +47,7 @@ fn known_declarations(names: &IndexSet<&[u8]>, declarations: &[Declaration]) -> 
 
 /// The same in one declaration.
 fn known_declaration(names: &IndexSet<&[u8]>, declaration: &Declaration) -> Result<(), Fault>
-    ensures { Finds (λ _. tt) (spec.known_declaration (names_met names.now.keys) (written.declaration_of declaration.now)) result }
+    ensures { Finds (λ _. tt) (spec.known_declaration (names_in names.now.keys) (written.declaration_of declaration.now)) result }
 {
     match declaration {
         Declaration::Type(_, named) => known_constructors(names, &named.constructors),
@@ -81,7 +58,7 @@ fn known_declaration(names: &IndexSet<&[u8]>, declaration: &Declaration) -> Resu
 
 /// The same in the types of a function's parameters, and then in that of its result.
 fn known_signature(names: &IndexSet<&[u8]>, function: &Function) -> Result<(), Fault>
-    ensures { Finds (λ _. tt) (spec.known_signature (names_met names.now.keys) (written.function_of function.now)) result }
+    ensures { Finds (λ _. tt) (spec.known_signature (names_in names.now.keys) (written.function_of function.now)) result }
 {
     known_parameters(names, &function.parameters)?;
     known_type(names, &function.result_type)
@@ -92,7 +69,7 @@ fn known_constructors(
     names: &IndexSet<&[u8]>,
     constructors: &[ConstructorDeclaration],
 ) -> Result<(), Fault>
-    ensures { Finds (λ _. tt) (spec.known_constructors (names_met names.now.keys) (map written.constructor_of constructors.now)) result }
+    ensures { Finds (λ _. tt) (spec.known_constructors (names_in names.now.keys) (map written.constructor_of constructors.now)) result }
 {
     for constructor in constructors {
         known_types(names, &constructor.fields)?;
@@ -102,7 +79,7 @@ fn known_constructors(
 
 /// The same in the types of parameters.
 fn known_parameters(names: &IndexSet<&[u8]>, parameters: &[Parameter]) -> Result<(), Fault>
-    ensures { Finds (λ _. tt) (spec.known_types (names_met names.now.keys) (map (λ p. p.of_type) (map written.parameter_of parameters.now))) result }
+    ensures { Finds (λ _. tt) (spec.known_types (names_in names.now.keys) (map (λ p. p.of_type) (map written.parameter_of parameters.now))) result }
 {
     for parameter in parameters {
         known_type(names, &parameter.of_type)?;
@@ -112,7 +89,7 @@ fn known_parameters(names: &IndexSet<&[u8]>, parameters: &[Parameter]) -> Result
 
 /// The same in types.
 fn known_types(names: &IndexSet<&[u8]>, types: &[TypeTree]) -> Result<(), Fault>
-    ensures { Finds (λ _. tt) (spec.known_types (names_met names.now.keys) (map written.type_of types.now)) result }
+    ensures { Finds (λ _. tt) (spec.known_types (names_in names.now.keys) (map written.type_of types.now)) result }
 {
     for tree in types {
         known_type(names, tree)?;
@@ -122,7 +99,7 @@ fn known_types(names: &IndexSet<&[u8]>, types: &[TypeTree]) -> Result<(), Fault>
 
 /// The same in a type.
 fn known_type(names: &IndexSet<&[u8]>, tree: &TypeTree) -> Result<(), Fault>
-    ensures { Finds (λ _. tt) (spec.known_type (names_met names.now.keys) (written.type_of tree.now)) result }
+    ensures { Finds (λ _. tt) (spec.known_type (names_in names.now.keys) (written.type_of tree.now)) result }
 {
     match tree {
         TypeTree::UnitType(_)
@@ -140,7 +117,7 @@ fn known_type(names: &IndexSet<&[u8]>, tree: &TypeTree) -> Result<(), Fault>
 
 /// Whether a name at this place is one of these.
 fn known_name(names: &IndexSet<&[u8]>, at: Place, name: &Name) -> Result<(), Fault>
-    ensures { Finds (λ _. tt) (spec.known_type (names_met names.now.keys) (syntax.NamedTypeSyntax at name.now)) result }
+    ensures { Finds (λ _. tt) (spec.known_type (names_in names.now.keys) (syntax.NamedTypeSyntax at name.now)) result }
 {
     if names.contains(name.as_bytes()) {
         Ok(())

@@ -1,12 +1,12 @@
-use Rattle.std.proofs.Common.{subst}
-use Rattle.auth_syntax.specs.Grammar.{IsDeclaration, nesting_limit}
-use Rattle.auth_syntax.specs.Trees.{declaration_of}
-use Rattle.auth_syntax.specs.Vocabulary.{fragment}
-use Rattle.auth_syntax.specs.declared.tree.Declaration.{Declaration}
-use Rattle.auth_types.proofs.FragmentForms.{declaration_at}
+use Rattle.std.proofs.Common.{◌∙◌, Err, ap}
+use Rattle.std.proofs.lemmas.Result.{err_from_is_err_and}
+use Rattle.auth_types.proofs.RolesOfHeads.{role_passed, role_refused}
 use Rattle.auth_types.proofs.roles.third_pass.Goals as goal
 
-pub check_role-requires-clause-function : goal.check_role-requires-clause-function
-check_role-requires-clause-function c =
-    subst (λ (d : Declaration). IsDeclaration fragment nesting_limit (declaration_of d)) c.in-Function.is
-    (declaration_at c.args.declarations.now c.loop-declaration.declaration-index c.declaration-item.result c.requires.declarations c.loop-declaration-test.true c.declaration-item.is)
+pub returns-in_err-check_role : goal.returns-in_err-check_role
+returns-in_err-check_role c =
+    let p = err_from_is_err_and c.from_residual-in_err-check_role.result c.from_residual-in_err-check_role.ensures.1 in
+    role_refused _ _ _ c.args.scope.now c.loop-head.head-index c.head-item.result (rw c.deref-head-items.ensures.value at c.loop-head-test.true) (rw c.deref-head-items.ensures.value at c.head-item.is) c.loop-head.invariant c.in_err-check_role.field-0.0 _ (p.1 ∙ ap Err p.2) c.in_err-check_role.ensures
+
+pub loop-head-preserved : goal.loop-head-preserved
+loop-head-preserved c = role_passed _ _ _ c.args.scope.now c.loop-head.head-index c.head-item.result (rw c.deref-head-items.ensures.value at c.loop-head-test.true) (rw c.deref-head-items.ensures.value at c.head-item.is) c.loop-head.invariant c.in_ok-check_role.ensures

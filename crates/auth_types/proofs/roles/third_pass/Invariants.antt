@@ -1,10 +1,8 @@
-use Rattle.std.proofs.Common.{◌≡◌, [], map, drop}
-use Rattle.auth_syntax.specs.Trees.{declaration_of, type_of}
-use Rattle.auth_types.specs.RoleRules.{checked_roles}
-use Rattle.auth_types.specs.WrittenTypes.{functions_in, type_meant}
+use Rattle.core_terms.specs.LanguagePrograms.{types_in}
+use Rattle.core_terms.specs.LanguageTrees.{table_of}
+use Rattle.core_terms.specs.TypeTables.{type_at}
+use Rattle.auth_types.proofs.RolesOfHeads.{StandsAt}
 use Rattle.auth_types.proofs.roles.third_pass.Given as goal
 
-abbrev pub invariant-loop-declaration : goal.invariant-loop-declaration
-invariant-loop-declaration l =
-    checked_roles [] [] (type_meant [] (type_of l.state)) (functions_in (map declaration_of l.declarations))
-    ≡ checked_roles [] [] (type_meant [] (type_of l.state)) (functions_in (map declaration_of (drop l.declaration-index l.declarations)))
+abbrev pub invariant-loop-head : goal.invariant-loop-head
+invariant-loop-head l = StandsAt (types_in l.types) (table_of (types_in l.types) l.scope.named.items) (type_at (types_in l.types) l.state) l.scope l.head-index

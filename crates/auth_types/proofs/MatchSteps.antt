@@ -1,0 +1,74 @@
+-- Lemmas of a match: its subject, the named type of that, and its arms.
+use Rattle.std.proofs.Common.{◌≡◌, ◌<◌, List, [], ◌++◌, length, None, Result, Ok, Err, slice_get, unwrap_or, sym, ap, ◌∙◌, subst}
+use Rattle.std.specs.declared.alloc.Global.{Global}
+use Rattle.std.specs.declared.boxed.Box.{Box}
+use Rattle.core_terms.specs.Types.{Ty}
+use Rattle.core_terms.specs.Terms.{Expression, MatchE}
+use Rattle.core_terms.specs.TypeTables.{type_at}
+use Rattle.core_terms.specs.LanguageTrees.{expression_of}
+use Rattle.core_terms.specs.declared.language.types.NamedId.{NamedId}
+use Rattle.core_terms.specs.declared.language.term.Term.{Term}
+use Rattle.core_terms.specs.declared.language.term.Term as term
+use Rattle.auth_syntax.specs.Syntax.{ArmsSyntax, ExpSyntax, MatchSyntax, place_of}
+use Rattle.auth_syntax.specs.declared.place.Place.{Place}
+use Rattle.auth_types.specs.Checking.{Checking, then_checked}
+use Rattle.auth_types.specs.Bodies.{Local, Scope, Typed, TypedArms, arm_names, elaborated, elaborated_arms, matched, typed}
+use Rattle.auth_types.specs.Elaborators.{Matches, arms_of, typed_of}
+use Rattle.auth_types.specs.OverTypes.{FindsOver, Grows, Shows}
+use Rattle.auth_types.specs.declared.fault.Fault.{Fault}
+use Rattle.auth_types.specs.declared.fault.Fault.TheVariants.{At, NoMemory}
+use Rattle.auth_types.specs.declared.bodies.Typed.{Typed as TypedTerm}
+use Rattle.auth_types.specs.declared.bodies.TypedArms.{TypedArms as TypedBodies}
+use Rattle.auth_types.proofs.FindingSteps.{grown}
+use Rattle.auth_types.proofs.ScopeStays.{type_stays_at}
+use Rattle.auth_types.proofs.TermViews.{expression-Match}
+use Rattle.auth_types.proofs.TypeNumbers.{shows_grow, shows_now}
+
+module _ (scope : Scope) (locals : List Local) (at place : Place) (subject : ExpSyntax) (arms : ArmsSyntax) (here : place ≡ place_of subject) (old : List Ty) (value : TypedTerm)
+    (shown : Shows old typed_of (elaborated scope locals subject) value) where
+  -- what is found behind the subject
+  abbrev behind_subject : Place → Typed → Checking Typed
+  behind_subject place e = matched scope at place e.expression e.of_type (arm_names arms) (elaborated_arms scope locals arms None)
+
+  match_now : elaborated scope locals (MatchSyntax at subject arms) ≡ behind_subject place (typed_of old value)
+  match_now =
+      ap (λ found. then_checked found (behind_subject (place_of subject))) (shows_now old typed_of (elaborated scope locals subject) value shown)
+      ∙ ap (λ p. behind_subject p (typed_of old value)) (sym here)
+
+  -- the subject is of no named type, or the arms are not those of its type
+  pub match_refused : (new : List Ty) (fault : Fault) (r : Result TypedTerm Fault) → r ≡ Err fault → Matches scope at place (type_at old value.ty) (arm_names arms) (Err fault)
+      → FindsOver new typed_of (elaborated scope locals (MatchSyntax at subject arms)) r
+  match_refused new fault r is h = subst (λ (r : Result TypedTerm Fault). FindsOver new typed_of (elaborated scope locals (MatchSyntax at subject arms)) r) (sym is) (by fault h)
+    where
+      by : (fault : Fault) → Matches scope at place (type_at old value.ty) (arm_names arms) (Err fault) → FindsOver new typed_of (elaborated scope locals (MatchSyntax at subject arms)) (Err fault)
+      by (At kind place) h = match_now ∙ h (expression_of old value.term) (elaborated_arms scope locals arms None)
+      by NoMemory h = tt
+
+  module _ (named : NamedId) (tss : List (List Ty)) (matches : Matches scope at place (type_at old value.ty) (arm_names arms) (Ok named)) (types : tss ≡ unwrap_or (slice_get scope.table named.0) []) where
+    abbrev behind_arms : Expression → TypedArms → Checking Typed
+    behind_arms e typed_arms = typed (MatchE named.0 e typed_arms.arms) typed_arms.of_type
+
+    -- an arm is refused
+    pub match_arms_refused : (middle new : List Ty) (fault : Fault) (r : Result TypedTerm Fault) → r ≡ Err fault → FindsOver middle arms_of (elaborated_arms scope locals arms None tss) (Err fault)
+        → FindsOver new typed_of (elaborated scope locals (MatchSyntax at subject arms)) r
+    match_arms_refused middle new fault r is h = subst (λ (r : Result TypedTerm Fault). FindsOver new typed_of (elaborated scope locals (MatchSyntax at subject arms)) r) (sym is) (by fault h)
+      where
+        by : (fault : Fault) → FindsOver middle arms_of (elaborated_arms scope locals arms None tss) (Err fault) → FindsOver new typed_of (elaborated scope locals (MatchSyntax at subject arms)) (Err fault)
+        by (At kind place) h =
+            match_now ∙ matches (expression_of old value.term) (elaborated_arms scope locals arms None)
+            ∙ ap (λ tss. then_checked (elaborated_arms scope locals arms None tss) (behind_arms (expression_of old value.term))) (sym types)
+            ∙ ap (λ found. then_checked found (behind_arms (expression_of old value.term))) h
+        by NoMemory h = tt
+
+    pub match_found : (new : List Ty) (bodies : TypedBodies) (x : Box Term Global) → Grows old new → value.ty.0 < length old → x.value ≡ value.term → Shows new arms_of (elaborated_arms scope locals arms None tss) bodies
+        → Shows new typed_of (elaborated scope locals (MatchSyntax at subject arms)) (record { term = term.Match named x bodies.bodies; ty = bodies.ty })
+    match_found new bodies x grows inside same arms_shown = λ more.
+        let later = shows_grow old new typed_of (elaborated scope locals subject) value grows shown more in
+        let e = expression_of (new ++ more) value.term in
+        let form = expression-Match (new ++ more) named x bodies.bodies in
+        ap (λ found. then_checked found (behind_subject (place_of subject))) later
+        ∙ ap (λ p. behind_subject p (typed_of (new ++ more) value)) (sym here)
+        ∙ ap (λ t. matched scope at place e t (arm_names arms) (elaborated_arms scope locals arms None)) (type_stays_at old (new ++ more) (grown old new grows more) value.ty inside)
+        ∙ matches e (elaborated_arms scope locals arms None)
+        ∙ ap (λ tss. then_checked (elaborated_arms scope locals arms None tss) (behind_arms e)) (sym types)
+        ∙ ap (λ found. then_checked found (behind_arms e)) (arms_shown more) ∙ cc

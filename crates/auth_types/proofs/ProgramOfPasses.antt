@@ -1,0 +1,109 @@
+-- The program that the passes give, of the parts that the code holds.
+use Rattle.std.proofs.Common.{◌≡◌, ℕ, ◌<◌, ◌≤◌, ◌&&◌, Bool, true, List, [], ◌∷◌, ◌++◌, length, map, slice_get, slice_index_or, Some, nat_le, nat_lt, refl, sym, ap, ◌∙◌, subst, arith, le-leb, lt-ltb}
+use Rattle.std.specs.Prelude.{All}
+use Rattle.std.specs.List.{list_all}
+use Rattle.std.proofs.lemmas.List.{length-map}
+use Rattle.std.proofs.lemmas.List.Elements.{All-cons, All-head, All-nil, All-tail}
+use Rattle.std.proofs.lemmas.Option.{slice_get_within}
+use Rattle.core_terms.specs.Types.{Ty, has_tags}
+use Rattle.core_terms.specs.Terms as tree
+use Rattle.core_terms.specs.TypeTables.{type_at}
+use Rattle.core_terms.specs.Typing.{is_shaped, is_typed}
+use Rattle.core_terms.specs.LanguageTrees.{are_below, function_of, has_fields_below, has_types_below, is_within, program_of, table_of, types_at}
+use Rattle.core_terms.specs.LanguageTypes.{types_of_forms}
+use Rattle.core_terms.specs.declared.types.TyId.{TyId}
+use Rattle.core_terms.specs.declared.language.types.TyForm.{TyForm}
+use Rattle.core_terms.specs.declared.language.term.Constructor.{Constructor}
+use Rattle.core_terms.specs.declared.language.term.Function.{Function}
+use Rattle.core_terms.specs.declared.language.term.NamedType.{NamedType}
+use Rattle.auth_syntax.specs.Syntax.{FunctionSyntax, ParameterSyntax, Program}
+use Rattle.auth_syntax.specs.Trees as written
+use Rattle.auth_types.specs.Bodies.{Signature}
+use Rattle.auth_types.specs.Checking.{Sound}
+use Rattle.auth_types.specs.CheckedLaws.{HasGoodLiterals}
+use Rattle.auth_types.specs.CheckedPrograms.{all_passes, fourth_pass, names_of, signature_of, state_of, table_of_program, third_pass}
+use Rattle.auth_types.specs.Declarations.{first_pass, most_constructors}
+use Rattle.auth_types.specs.OverTypes.{Grows}
+use Rattle.auth_types.specs.Scopes.{AreHeadsOf, AreWithin, IsConstructorWithin, IsCounted, IsHeadWithin, IsNamedWithin, IsWithin, functions_meant, scope_in, scope_meant, signature_meant}
+use Rattle.auth_types.specs.WrittenTypes.{functions_in, second_pass, type_meant}
+use Rattle.auth_types.specs.declared.scope.Head.{Head}
+use Rattle.auth_types.specs.declared.scope.Scope.{Scope}
+use Rattle.auth_types.proofs.PassesOfTrees.{passes_end, table_is}
+use Rattle.auth_types.proofs.ScopeStays.{grows_length, table_stays, type_stays_at, within_more}
+use Rattle.auth_types.proofs.SoundPrograms.{checked_is_typed, checked_is_within_limits}
+
+-- a head that stands for its function has as many numbers as the function has parameters
+counted_each : (names : List (List ℕ)) (types : List Ty) (heads : List Head) → map (signature_meant types) heads ≡ map (signature_of names) (map (λ (h : Head). written.function_of h.function.now) heads) → All IsCounted heads
+counted_each names types [] same = All-nil IsCounted
+counted_each names types (h ∷ heads) same =
+    let here : signature_meant types h ≡ signature_of names (written.function_of h.function.now) = cc in
+    let many : length h.parameters.items ≡ length h.function.now.parameters.items =
+    sym (length-map h.parameters.items (type_at types)) ∙ ap (λ (s : Signature). length s.parameters) here
+    ∙ length-map (written.parameters_of h.function.now.parameters) (λ (p : ParameterSyntax). type_meant names p.of_type) ∙ length-map h.function.now.parameters.items written.parameter_of in
+    All-cons IsCounted h heads many (counted_each names types heads (cc))
+
+pub heads_counted : (names : List (List ℕ)) (types : List Ty) (scope : Scope) → AreHeadsOf names types scope → All IsCounted scope.heads.items
+heads_counted names types scope are = counted_each names types scope.heads.items are
+
+-- each number that is within passes the test
+all_pass : {A : Type 0} (P : A → Type 0) (test : A → Bool) → ((x : A) → P x → test x ≡ true) → (xs : List A) → All P xs → list_all test xs ≡ true
+all_pass P test passes [] all = refl
+all_pass P test passes (x ∷ xs) all = rw (passes x (All-head P x xs all), all_pass P test passes xs (All-tail P x xs all)) refl
+
+ids_below : (count : ℕ) (ids : List TyId) → AreWithin count ids → are_below count ids ≡ true
+ids_below count ids within = all_pass (λ (id : TyId). id.0 < count) (λ (id : TyId). nat_lt id.0 count) (λ id h. lt-ltb id.0 count h) ids within
+
+named_below : (count : ℕ) (named : List NamedType) → All (IsNamedWithin count) named → list_all (has_fields_below count) named ≡ true
+named_below count named within =
+    all_pass (IsNamedWithin count) (has_fields_below count)
+    (λ t h. all_pass (IsConstructorWithin count) (λ (c : Constructor). are_below count c.fields.items) (λ c h. ids_below count c.fields.items h) t.constructors.items h) named within
+
+-- functions with the numbers of heads
+functions_below : (count : ℕ) (functions : List Function) (heads : List Head) → All (IsHeadWithin count) heads → map (λ (f : Function). f.parameters.items) functions ≡ map (λ (h : Head). h.parameters.items) heads
+    → map (λ (f : Function). f.result) functions ≡ map (λ (h : Head). h.result) heads → list_all (has_types_below count) functions ≡ true
+functions_below count [] heads within parameters results = refl
+functions_below count (f ∷ functions) [] within parameters results = absurd (cc)
+functions_below count (f ∷ functions) (h ∷ heads) within parameters results =
+    let head : IsHeadWithin count h = All-head (IsHeadWithin count) h heads within in
+    let ids : f.parameters.items ≡ h.parameters.items = cc in
+    let gives : f.result ≡ h.result = cc in
+    let below : are_below count f.parameters.items ≡ true = ap (are_below count) ids ∙ ids_below count h.parameters.items head.parameters in
+    let inside : nat_lt f.result.0 count ≡ true = ap (λ (id : TyId). nat_lt id.0 count) gives ∙ lt-ltb h.result.0 count head.result in
+    let rest = functions_below count functions heads (All-tail (IsHeadWithin count) h heads within) (cc) (cc) in
+    rw (below, inside, rest) refl
+
+module _ (program : Program) (before : List Ty) (forms : List TyForm) (scope : Scope) (state : TyId) (functions : List Function)
+    (grows : Grows before (types_of_forms forms)) (meant : scope_meant before scope ≡ scope_in program.declarations) (named : functions_meant scope ≡ functions_in program.declarations) (within : IsWithin (length before) scope) where
+  pub program_within : state.0 < length before → map (λ (f : Function). f.parameters.items) functions ≡ map (λ (h : Head). h.parameters.items) scope.heads.items
+      → map (λ (f : Function). f.result) functions ≡ map (λ (h : Head). h.result) scope.heads.items → is_within forms scope.named.items state functions ≡ true
+  program_within inside parameters results =
+      let count = length (types_of_forms forms) in
+      let more = grows_length before (types_of_forms forms) grows in
+      let all : IsWithin count scope = within_more (length before) count scope more within in
+      let here : nat_lt state.0 count ≡ true = lt-ltb state.0 count (omega (arith, inside, more)) in
+      rw (here, named_below count scope.named.items all.named, functions_below count functions scope.heads.items all.heads parameters results) refl
+
+  module _ (state_at : type_at before state ≡ state_of program) (inside : state.0 < length before)
+      (first : first_pass program ≡ Sound tt) (second : second_pass program ≡ Sound tt) (third : third_pass program ≡ Sound tt)
+      (fourth : fourth_pass program ≡ Sound (map (function_of (types_of_forms forms)) functions)) where
+    table_made : table_of (types_of_forms forms) scope.named.items ≡ table_of_program program
+    table_made = table_stays before (types_of_forms forms) grows scope.named.items within.named ∙ table_is program before scope meant named
+
+    state_made : type_at (types_of_forms forms) state ≡ state_of program
+    state_made = type_stays_at before (types_of_forms forms) grows state inside ∙ state_at
+
+    pub passes_give : all_passes program ≡ Sound (program_of forms scope.named.items state functions)
+    passes_give =
+        let table = table_made in
+        let of_state = state_made in
+        passes_end program first second third (map (function_of (types_of_forms forms)) functions) fourth ∙ cc
+
+    pub program_tagged : has_tags (program_of forms scope.named.items state functions).types ≡ true
+    program_tagged =
+        all_pass (λ (constructors : List (List Ty)). length constructors ≤ most_constructors) (λ (constructors : List (List Ty)). nat_le (length constructors) 255) (λ constructors few. le-leb (length constructors) 255 few)
+        (program_of forms scope.named.items state functions).types (checked_is_within_limits program (program_of forms scope.named.items state functions) passes_give).constructors
+
+    pub typed_and_shaped : All (λ (f : FunctionSyntax). HasGoodLiterals f.body) (functions_meant scope)
+        → (is_typed (program_of forms scope.named.items state functions) ≡ true) × (is_shaped (program_of forms scope.named.items state functions) ≡ true)
+    typed_and_shaped good =
+        checked_is_typed program (program_of forms scope.named.items state functions) (subst (All (λ (f : FunctionSyntax). HasGoodLiterals f.body)) named good) passes_give

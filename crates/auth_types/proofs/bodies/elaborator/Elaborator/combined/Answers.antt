@@ -1,0 +1,9 @@
+use Rattle.auth_syntax.specs.Trees.{binary_of}
+use Rattle.auth_types.specs.Elaborators.{types_of}
+use Rattle.auth_types.proofs.OperationSteps.{combined_shows}
+use Rattle.auth_types.proofs.bodies.elaborator.Elaborator.combined.Goals as goal
+
+pub returns-clause-found : goal.returns-clause-found
+returns-clause-found c = λ x y h h'.
+    combined_shows (binary_of c.args.operator) (types_of c.args.self.now) (types_of c.plain.new.self) c.args.first c.args.second c.in_ok-term.term c.in_ok-plain.field-0 x y c.in_ok-plain.ensures.keeps.grows c.in_ok-term.ensures
+    (rw c.result_form.ensures.form at c.in_ok-plain.ensures.found) h h'

@@ -1,0 +1,51 @@
+use Rattle.std.proofs.Common.{map, sym, ap, ◌∙◌}
+use Rattle.auth_syntax.specs.Trees.{declaration_of}
+use Rattle.auth_types.specs.OverTypes.{functions_written}
+use Rattle.auth_types.specs.ScopeNames.{joined, names_in}
+use Rattle.auth_types.proofs.NamesOfDeclarations.{constructors_named, functions_named, types_named}
+use Rattle.auth_types.proofs.NumberedParts.{all_named_grow}
+use Rattle.auth_types.proofs.NumberedScopes.{heads_functions, heads_names, named_constructors, named_few, named_names, scope_is, scope_within}
+use Rattle.auth_types.proofs.TypeNumbers.{grows_on}
+use Rattle.auth_types.proofs.numbering.declared_scope.Goals as goal
+
+pub returns-in_err-heads-clause-grows : goal.returns-in_err-heads-clause-grows
+returns-in_err-heads-clause-grows c = grows_on _ _ _ c.named_types.ensures.grows c.heads.ensures.grows
+
+pub returns-in_err-constructor_ids-clause-grows : goal.returns-in_err-constructor_ids-clause-grows
+returns-in_err-constructor_ids-clause-grows c = grows_on _ _ _ c.named_types.ensures.grows c.heads.ensures.grows
+
+pub returns-clause-grows : goal.returns-clause-grows
+returns-clause-grows c = grows_on _ _ _ c.named_types.ensures.grows c.heads.ensures.grows
+
+pub constructor_ids-requires : goal.constructor_ids-requires
+constructor_ids-requires c =
+    rw c.deref.ensures.value (named_few (names_in c.args.declared.types.keys) _ c.args.declared (map declaration_of c.args.declarations.now) c.in_ok-named.named.items c.in_ok-named.ensures.found c.requires)
+
+pub invariant_of-result-clause-constructors_named : goal.invariant_of-result-clause-constructors_named
+invariant_of-result-clause-constructors_named c =
+    constructors_named c.args.declared (map declaration_of c.args.declarations.now) c.requires
+    ∙ ap joined (sym (named_constructors (names_in c.args.declared.types.keys) _ (map declaration_of c.args.declarations.now) c.in_ok-named.named.items c.in_ok-named.ensures.found))
+
+pub invariant_of-result-clause-constructors_numbered : goal.invariant_of-result-clause-constructors_numbered
+invariant_of-result-clause-constructors_numbered c = rw c.deref.ensures.value at c.in_ok-constructor_ids.ensures
+
+pub invariant_of-result-clause-functions_named : goal.invariant_of-result-clause-functions_named
+invariant_of-result-clause-functions_named c =
+    functions_named c.args.declared (map declaration_of c.args.declarations.now) c.requires
+    ∙ sym (heads_names (names_in c.args.declared.types.keys) _ (functions_written c.args.declarations.now) c.in_ok-heads.heads.items c.in_ok-heads.ensures.found)
+
+pub returns-clause-scope : goal.returns-clause-scope
+returns-clause-scope c =
+    scope_is (names_in c.args.declared.types.keys) _ (map declaration_of c.args.declarations.now) c.in_ok-named.named.items c.in_ok-heads.heads.items (types_named c.args.declared (map declaration_of c.args.declarations.now) c.requires)
+    (all_named_grow (names_in c.args.declared.types.keys) _ _ c.heads.ensures.grows (map declaration_of c.args.declarations.now) c.in_ok-named.named.items c.in_ok-named.ensures.found) c.in_ok-heads.ensures.found
+
+pub returns-clause-functions : goal.returns-clause-functions
+returns-clause-functions c = heads_functions (names_in c.args.declared.types.keys) _ (functions_written c.args.declarations.now) c.in_ok-heads.heads.items c.in_ok-heads.ensures.found
+
+pub returns-clause-names : goal.returns-clause-names
+returns-clause-names c = named_names (names_in c.args.declared.types.keys) _ (map declaration_of c.args.declarations.now) c.in_ok-named.named.items c.in_ok-named.ensures.found
+
+pub returns-clause-within : goal.returns-clause-within
+returns-clause-within c =
+    scope_within (names_in c.args.declared.types.keys) _ (map declaration_of c.args.declarations.now) _
+    (all_named_grow (names_in c.args.declared.types.keys) _ _ c.heads.ensures.grows (map declaration_of c.args.declarations.now) c.in_ok-named.named.items c.in_ok-named.ensures.found) c.in_ok-heads.ensures.found

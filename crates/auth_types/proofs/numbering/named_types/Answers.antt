@@ -1,0 +1,27 @@
+use Rattle.std.proofs.Common.{Vec, map, take, sym, ap, ◌∙◌, subst}
+use Rattle.std.specs.Global.{Global}
+use Rattle.core_terms.specs.LanguagePrograms.{types_in}
+use Rattle.core_terms.specs.declared.language.term.NamedType.{NamedType}
+use Rattle.auth_syntax.specs.Trees.{declaration_of}
+use Rattle.auth_types.specs.Numbering.{AreNamedOf}
+use Rattle.auth_types.specs.OverTypes.{Grows}
+use Rattle.auth_types.specs.ScopeNames.{names_in}
+use Rattle.auth_types.proofs.NumberedParts.{named_passed, named_taken}
+use Rattle.auth_types.proofs.TypeNumbers.{grows_on}
+use Rattle.auth_types.proofs.numbering.named_types.Goals as goal
+use Rattle.auth_types.proofs.numbering.named_types.Goals.{in_default, in-Type+in_ok-named_type+in_ok-push}
+
+pub loop-declaration-preserved : goal.loop-declaration-preserved
+loop-declaration-preserved c = elim c.match-declaration.branch [
+  | in-Type+in_ok-named_type+in_ok-push w ↦ record {
+    grows = rw w.types-is (grows_on _ _ _ c.loop-declaration.invariant.grows w.named_type.ensures.grows);
+    found = rw (w.types-is, w.named-is, w.in_ok-push.ensures.items)
+        (named_taken c.args.declarations.now c.loop-declaration.declaration-index c.declaration-item.result c.loop-declaration-test.true c.declaration-item.is (names_in c.args.names.now.keys) _ _ c.loop-declaration.named.items _ _ w.in-Type.declared
+        w.named_type.ensures.grows w.in-Type.is c.loop-declaration.invariant.found w.in_ok-named_type.ensures.found);
+  }
+  | in_default w ↦ record {
+    grows = rw w.types-is c.loop-declaration.invariant.grows;
+    found = rw (w.types-is, w.named-is) (named_passed c.args.declarations.now c.loop-declaration.declaration-index c.declaration-item.result c.loop-declaration-test.true c.declaration-item.is (names_in c.args.names.now.keys) _ c.loop-declaration.named.items
+        w.in_default.not-Type c.loop-declaration.invariant.found);
+  }
+]

@@ -1,0 +1,239 @@
+// Pairs and operations, once their operands are elaborated.
+ghost use Rattle.std.specs.Prelude.{◌≡◌, ◌<◌, [], ℕ, true, length, List, Some, slice_get, IfOk, OnOk};
+ghost use Rattle.core_terms.specs.LanguageTrees.{expression_of};
+ghost use Rattle.core_terms.specs.LanguageTypes.{stands_behind, type_of_form};
+ghost use Rattle.core_terms.specs.TypeTables.{type_at};
+ghost use Rattle.core_terms.specs.Terms.{Expression};
+ghost use Rattle.core_terms.specs.Types.{Ty};
+ghost use Rattle.auth_syntax.specs.Syntax as syntax;
+ghost use Rattle.auth_syntax.specs.Trees as written;
+ghost use Rattle.auth_types.specs.Bodies as specified;
+ghost use Rattle.auth_types.specs.Bodies.{binary_expression, operand_type, pair, result_type, typed, unary};
+ghost use Rattle.auth_types.specs.Checking.{Checking, then_checked};
+ghost use Rattle.auth_types.specs.OverTypes.{FindsOver, Shows};
+ghost use Rattle.auth_types.specs.Elaborators.{Keeps, typed_of, types_of};
+
+use crate::bodies::Typed;
+use crate::bodies::elaborator::Elaborator;
+use crate::fault::{Fault, TypeKind};
+use auth_syntax::place::Place;
+use auth_syntax::tree::{BinaryOperator, UnaryOperator};
+use core_terms::TyId;
+use core_terms::language::{Arith, Compare, Term, TextCompare, TyForm};
+use std::alloc::{AllocError, Global};
+
+/// The form of the type of the operands.
+fn operand_form(operator: BinaryOperator) -> TyForm
+    ensures form { (types : List Ty) → type_of_form types result ≡ operand_type (written.binary_of operator) }
+    ensures plain { (count : ℕ) → stands_behind count result ≡ true }
+{
+    match operator {
+        BinaryOperator::Add
+        | BinaryOperator::Sub
+        | BinaryOperator::Mul
+        | BinaryOperator::Div
+        | BinaryOperator::Rem
+        | BinaryOperator::Eq
+        | BinaryOperator::Lt
+        | BinaryOperator::Le => TyForm::IntForm,
+        BinaryOperator::Teq | BinaryOperator::Tlt | BinaryOperator::Cat => TyForm::TextForm,
+    }
+}
+
+/// The form of the type of the result.
+fn result_form(operator: BinaryOperator) -> TyForm
+    ensures form { type_of_form [] result ≡ result_type (written.binary_of operator) }
+    ensures plain { stands_behind 0 result ≡ true }
+{
+    match operator {
+        BinaryOperator::Add
+        | BinaryOperator::Sub
+        | BinaryOperator::Mul
+        | BinaryOperator::Div
+        | BinaryOperator::Rem => TyForm::IntForm,
+        BinaryOperator::Eq
+        | BinaryOperator::Lt
+        | BinaryOperator::Le
+        | BinaryOperator::Teq
+        | BinaryOperator::Tlt => TyForm::BoolForm,
+        BinaryOperator::Cat => TyForm::TextForm,
+    }
+}
+
+/// The term of an operation on two terms.
+#[tactic(auto, using(crate::proofs::TermViews::operations_meant))]
+fn operation(
+    alloc: Global,
+    operator: BinaryOperator,
+    first: Term,
+    second: Term,
+) -> Result<Term, AllocError>
+    ensures { IfOk result (λ term. (types : List Ty) → expression_of types term ≡ binary_expression (written.binary_of operator) (expression_of types first) (expression_of types second)) }
+{
+    let first = Box::new(alloc, first)?;
+    let second = Box::new(alloc, second)?;
+    Ok(match operator {
+        BinaryOperator::Add => Term::Arith(Arith::Add, first, second),
+        BinaryOperator::Sub => Term::Arith(Arith::Sub, first, second),
+        BinaryOperator::Mul => Term::Arith(Arith::Mul, first, second),
+        BinaryOperator::Div => Term::Arith(Arith::Div, first, second),
+        BinaryOperator::Rem => Term::Arith(Arith::Rem, first, second),
+        BinaryOperator::Eq => Term::Compare(Compare::Eq, first, second),
+        BinaryOperator::Lt => Term::Compare(Compare::Lt, first, second),
+        BinaryOperator::Le => Term::Compare(Compare::Le, first, second),
+        BinaryOperator::Teq => Term::TextCompare(TextCompare::Eq, first, second),
+        BinaryOperator::Tlt => Term::TextCompare(TextCompare::Lt, first, second),
+        BinaryOperator::Cat => Term::Cat(first, second),
+    })
+}
+
+impl<'s, 'a> Elaborator<'s, 'a> {
+    /// A pair.
+    pub(super) fn paired(&mut self, first: Typed, second: Typed) -> Result<Typed, AllocError>
+        requires first { first.ty.0 < length (types_of self.old) }
+        requires second { second.ty.0 < length (types_of self.old) }
+        ensures keeps { OnOk result (Keeps self.old self.new) }
+        ensures found { IfOk result (λ whole. (x y : Checking specified.Typed) → Shows (types_of self.old) typed_of x first → Shows (types_of self.old) typed_of y second → Shows (types_of self.new) typed_of (pair x y) whole) }
+        ensures inside { IfOk result (λ typed. typed.ty.0 < length (types_of self.new)) }
+    {
+        let ty = self.intern(TyForm::PairForm(first.ty, second.ty))?;
+        let term = Term::Pair(
+            first.ty,
+            second.ty,
+            Box::new(self.alloc, first.term)?,
+            Box::new(self.alloc, second.term)?,
+        );
+        Ok(Typed { term, ty })
+    }
+
+    /// An operation on a term at this place.
+    pub(super) fn unary(
+        &mut self,
+        operator: UnaryOperator,
+        at: Place,
+        operand: Typed,
+    ) -> Result<Typed, Fault>
+        requires { operand.ty.0 < length (types_of self.old) }
+        ensures keeps { OnOk result (Keeps self.old self.new) }
+        ensures found { (found : Checking specified.Typed) → Shows (types_of self.old) typed_of found operand → FindsOver (types_of self.new) typed_of (unary (written.unary_of operator) at found) result }
+        ensures inside { IfOk result (λ typed. typed.ty.0 < length (types_of self.new)) }
+    {
+        match operator {
+            UnaryOperator::Fst => self.first(at, operand),
+            UnaryOperator::Snd => self.second(at, operand),
+            UnaryOperator::Auth => Ok(self.authenticated(operand)?),
+            UnaryOperator::Unauth => self.opened(at, operand),
+            UnaryOperator::Len => self.text_length(at, operand),
+            UnaryOperator::Not => self.negated(at, operand),
+        }
+    }
+
+    /// `fst` of a term at this place, which has a type of pairs.
+    fn first(&self, at: Place, operand: Typed) -> Result<Typed, Fault>
+        requires { operand.ty.0 < length (types_of self.now) }
+        ensures found { (found : Checking specified.Typed) → Shows (types_of self.now) typed_of found operand → FindsOver (types_of self.now) typed_of (unary syntax.FstOperation at found) result }
+        ensures inside { IfOk result (λ typed. typed.ty.0 < length (types_of self.now)) }
+    {
+        match self.form(operand.ty) {
+            TyForm::PairForm(first, second) => Ok(Typed {
+                term: Term::Fst(first, second, Box::new(self.alloc, operand.term)?),
+                ty: first,
+            }),
+            _ => Err(Fault::At(TypeKind::NotPair, at)),
+        }
+    }
+
+    /// `snd` of a term at this place, which has a type of pairs.
+    fn second(&self, at: Place, operand: Typed) -> Result<Typed, Fault>
+        requires { operand.ty.0 < length (types_of self.now) }
+        ensures found { (found : Checking specified.Typed) → Shows (types_of self.now) typed_of found operand → FindsOver (types_of self.now) typed_of (unary syntax.SndOperation at found) result }
+        ensures inside { IfOk result (λ typed. typed.ty.0 < length (types_of self.now)) }
+    {
+        match self.form(operand.ty) {
+            TyForm::PairForm(first, second) => Ok(Typed {
+                term: Term::Snd(first, second, Box::new(self.alloc, operand.term)?),
+                ty: second,
+            }),
+            _ => Err(Fault::At(TypeKind::NotPair, at)),
+        }
+    }
+
+    /// `auth` of a term.
+    fn authenticated(&mut self, operand: Typed) -> Result<Typed, AllocError>
+        requires { operand.ty.0 < length (types_of self.old) }
+        ensures keeps { OnOk result (Keeps self.old self.new) }
+        ensures found { IfOk result (λ typed. (at : Place) (found : Checking specified.Typed) → Shows (types_of self.old) typed_of found operand → Shows (types_of self.new) typed_of (unary syntax.AuthOperation at found) typed) }
+        ensures inside { IfOk result (λ typed. typed.ty.0 < length (types_of self.new)) }
+    {
+        let ty = self.intern(TyForm::AuthForm(operand.ty))?;
+        let term = Term::Auth(operand.ty, Box::new(self.alloc, operand.term)?);
+        Ok(Typed { term, ty })
+    }
+
+    /// `unauth` of a term at this place, which has a type of authenticated values.
+    fn opened(&self, at: Place, operand: Typed) -> Result<Typed, Fault>
+        requires { operand.ty.0 < length (types_of self.now) }
+        ensures found { (found : Checking specified.Typed) → Shows (types_of self.now) typed_of found operand → FindsOver (types_of self.now) typed_of (unary syntax.UnauthOperation at found) result }
+        ensures inside { IfOk result (λ typed. typed.ty.0 < length (types_of self.now)) }
+    {
+        match self.form(operand.ty) {
+            TyForm::AuthForm(ty) => Ok(Typed {
+                term: Term::Unauth(ty, Box::new(self.alloc, operand.term)?),
+                ty,
+            }),
+            _ => Err(Fault::At(TypeKind::NotAuth, at)),
+        }
+    }
+
+    /// `len` of a term at this place, which is a text.
+    fn text_length(&mut self, at: Place, operand: Typed) -> Result<Typed, Fault>
+        requires { operand.ty.0 < length (types_of self.old) }
+        ensures keeps { OnOk result (Keeps self.old self.new) }
+        ensures found { (found : Checking specified.Typed) → Shows (types_of self.old) typed_of found operand → FindsOver (types_of self.new) typed_of (unary syntax.LenOperation at found) result }
+        ensures inside { IfOk result (λ typed. typed.ty.0 < length (types_of self.new)) }
+    {
+        let text = self.intern(TyForm::TextForm)?;
+        let operand = self.wanted(at, text, operand)?;
+        let length = Term::Len(Box::new(self.alloc, operand)?);
+        Ok(self.plain(length, TyForm::IntForm)?)
+    }
+
+    /// `not` of a term at this place, which is a truth value.
+    fn negated(&mut self, at: Place, operand: Typed) -> Result<Typed, Fault>
+        requires { operand.ty.0 < length (types_of self.old) }
+        ensures keeps { OnOk result (Keeps self.old self.new) }
+        ensures found { (found : Checking specified.Typed) → Shows (types_of self.old) typed_of found operand → FindsOver (types_of self.new) typed_of (unary syntax.NotOperation at found) result }
+        ensures inside { IfOk result (λ typed. typed.ty.0 < length (types_of self.new)) }
+    {
+        let truth = self.intern(TyForm::BoolForm)?;
+        let operand = self.wanted(at, truth, operand)?;
+        Ok(Typed {
+            term: Term::Not(Box::new(self.alloc, operand)?),
+            ty: truth,
+        })
+    }
+
+    /// The type that an operation wants of its operands.
+    pub(super) fn operand_type(&mut self, operator: BinaryOperator) -> Result<TyId, AllocError>
+        ensures keeps { OnOk result (Keeps self.old self.new) }
+        ensures found { IfOk result (λ id. slice_get (types_of self.new) id.0 ≡ Some (operand_type (written.binary_of operator))) }
+        ensures inside { IfOk result (λ id. id.0 < length (types_of self.new)) }
+    {
+        self.intern(operand_form(operator))
+    }
+
+    /// An operation on two terms of the types that it wants.
+    pub(super) fn combined(
+        &mut self,
+        operator: BinaryOperator,
+        first: Term,
+        second: Term,
+    ) -> Result<Typed, Fault>
+        ensures keeps { OnOk result (Keeps self.old self.new) }
+        ensures found { (x y : Checking Expression) → Shows (types_of self.old) expression_of x first → Shows (types_of self.old) expression_of y second → FindsOver (types_of self.new) typed_of (then_checked x (λ x. then_checked y (λ y. typed (binary_expression (written.binary_of operator) x y) (result_type (written.binary_of operator))))) result }
+        ensures inside { IfOk result (λ whole. whole.ty.0 < length (types_of self.new)) }
+    {
+        let term = operation(self.alloc, operator, first, second)?;
+        Ok(self.plain(term, result_form(operator))?)
+    }
+}
