@@ -2,14 +2,16 @@
 use Rattle.std.proofs.Common.{◌≡◌, ℕ, List, Option, Some, Ok, Err, ap, sym, ◌∙◌, subst, inl, inr, arith}
 use Rattle.std.specs.List.{concat}
 use Rattle.std.specs.Io.KnownBytes.{append_known}
+use Rattle.command_words.specs.Invocations.{Invocation}
+use Rattle.command_words.specs.Invocations as invocations
 use Rattle.lam_outside.specs.Told.{Contents}
 use Rattle.ideal_meaning.specs.Checked.{BadState, BadArgument, Rejected, Accepted}
 use Rattle.ideal_meaning.specs.Ideal.{Outcome, Done, Trapped, Out}
 use Rattle.printed_lines.specs.Lines.{collision_line, rejected_line}
 use Rattle.printed_lines.specs.declared.refusal.Refusal.TheVariants as refusal
 use Rattle.collision_audit.specs.Audits.{Audit, Collides, Judges}
-use Rattle.auth_cli.specs.Answer.{Answer, agreeing, audit_answer, audit_told, outcome_answer}
-use Rattle.auth_cli.specs.AuditedCalls.{AgreesOnOutcome, AuditSays, AuditedBy, IfJudged, IsAudited, IsOfAudit, IsTrueAudit, MeansAudit, TellsAnAudit}
+use Rattle.auth_cli.specs.Answer.{Answer, agreeing, audit_told, command_answer, outcome_answer}
+use Rattle.auth_cli.specs.AuditedCalls.{AgreesOnOutcome, AuditSays, AuditedBy, IfJudged, IsAudit, IsAudited, IsOfAudit, IsTrueAudit, MeansAudit, TellsAnAudit}
 use Rattle.auth_cli.specs.Codes.{code}
 use Rattle.auth_cli.specs.Ending.{Outside, EndsAs, IsToldAs}
 use Rattle.auth_cli.specs.Halting.{Found, status_of}
@@ -18,8 +20,6 @@ use Rattle.auth_cli.specs.Telling.{Tells}
 use Rattle.auth_cli.specs.declared.report.Halt.TheVariants.{Usage, Refused, ReadFault, NoMemory}
 use Rattle.auth_cli.specs.declared.status.Status.{Status}
 use Rattle.auth_cli.specs.declared.status.Status.TheVariants as status
-use Rattle.auth_cli.specs.declared.words.Command.{Command}
-use Rattle.auth_cli.specs.declared.words.Command.TheVariants as command
 use Rattle.auth_cli.proofs.Ends.{one_line}
 
 -- an audit that agrees says what it agrees on, with the status of an outcome
@@ -49,8 +49,8 @@ audit_says call proof (Judges (Rejected cause)) old new ended is_so told written
 audit_says call proof (Judges (BadState offset)) old new ended is_so told written = absurd is_so
 audit_says call proof (Judges (BadArgument offset)) old new ended is_so told written = absurd is_so
 
-told_audited : (arguments : List (List ℕ)) (files : Contents) (old new : Outside) (ended : Status) → IsToldAs (audit_answer arguments files) old new ended → MeansAudit arguments files → IsAudited arguments files old new ended
-told_audited arguments files old new ended told means =
+told_audited : (invocation : Invocation) (files : Contents) (old new : Outside) (ended : Status) → IsToldAs (command_answer invocation files) old new ended → MeansAudit invocation files → IsAudited invocation files old new ended
+told_audited invocation files old new ended told means =
     let told' = subst (λ (a : Option Answer). IsToldAs a old new ended) means.answered told in
     record {
       call = means.call;
@@ -59,19 +59,19 @@ told_audited arguments files old new ended told means =
       says = audit_says means.call means.proof (call_audit means.call means.proof) old.written new.written ended means.is_so told'.0 told'.1;
     }
 
-pub audited_ends : (arguments : List (List ℕ)) (files : Contents) (old new : Outside) (ended : Status) → IsOfAudit ended → EndsAs (audit_answer arguments) old new ended → old.contents ≡ Some files
-    → MeansAudit arguments files → IsAudited arguments files old new ended
-audited_ends arguments files old new status.Done of_audit ends known means = told_audited arguments files old new status.Done (ends.told files known) means
-audited_ends arguments files old new status.Trap of_audit ends known means = told_audited arguments files old new status.Trap (ends.told files known) means
-audited_ends arguments files old new status.OutOfFuel of_audit ends known means = told_audited arguments files old new status.OutOfFuel (ends.told files known) means
-audited_ends arguments files old new status.Rejected of_audit ends known means = told_audited arguments files old new status.Rejected (ends.told files known) means
-audited_ends arguments files old new status.Collision of_audit ends known means = told_audited arguments files old new status.Collision (ends.told files known) means
-audited_ends arguments files old new status.Usage of_audit ends known means = absurd of_audit
-audited_ends arguments files old new status.ProgramRefused of_audit ends known means = absurd of_audit
-audited_ends arguments files old new status.InputRefused of_audit ends known means = absurd of_audit
-audited_ends arguments files old new status.ReadFault of_audit ends known means = absurd of_audit
-audited_ends arguments files old new status.WriteFault of_audit ends known means = absurd of_audit
-audited_ends arguments files old new status.NoMemory of_audit ends known means = absurd of_audit
+pub audited_ends : (invocation : Invocation) (files : Contents) (old new : Outside) (ended : Status) → IsOfAudit ended → EndsAs (command_answer invocation) old new ended → old.contents ≡ Some files
+    → MeansAudit invocation files → IsAudited invocation files old new ended
+audited_ends invocation files old new status.Done of_audit ends known means = told_audited invocation files old new status.Done (ends.told files known) means
+audited_ends invocation files old new status.Trap of_audit ends known means = told_audited invocation files old new status.Trap (ends.told files known) means
+audited_ends invocation files old new status.OutOfFuel of_audit ends known means = told_audited invocation files old new status.OutOfFuel (ends.told files known) means
+audited_ends invocation files old new status.Rejected of_audit ends known means = told_audited invocation files old new status.Rejected (ends.told files known) means
+audited_ends invocation files old new status.Collision of_audit ends known means = told_audited invocation files old new status.Collision (ends.told files known) means
+audited_ends invocation files old new status.Usage of_audit ends known means = absurd of_audit
+audited_ends invocation files old new status.ProgramRefused of_audit ends known means = absurd of_audit
+audited_ends invocation files old new status.InputRefused of_audit ends known means = absurd of_audit
+audited_ends invocation files old new status.ReadFault of_audit ends known means = absurd of_audit
+audited_ends invocation files old new status.WriteFault of_audit ends known means = absurd of_audit
+audited_ends invocation files old new status.NoMemory of_audit ends known means = absurd of_audit
 
 -- what holds anyway holds of what was judged
 pub if_judged : {A : Type 0} (found : Found) → A → IfJudged found A
@@ -120,14 +120,16 @@ audit_of_code status.ReadFault tells = no_audit 8 (λ e. omega arith) (λ e. ome
 audit_of_code status.WriteFault tells = no_audit 9 (λ e. omega arith) (λ e. omega arith) (λ e. omega arith) (λ e. omega arith) (λ e. omega arith) tells
 audit_of_code status.NoMemory tells = no_audit 10 (λ e. omega arith) (λ e. omega arith) (λ e. omega arith) (λ e. omega arith) (λ e. omega arith) tells
 
--- a run of words that call `audit` is one of that command
-pub run_audited : (found : Option Command) (arguments behind : List (List ℕ)) (files : Contents) (old new : Outside) (ended : Status) → Some command.Audit ≡ found → arguments ≡ behind
-    → (IsOfAudit ended → IsAudited arguments files old new ended) → AuditedBy found behind files old new ended
-run_audited found arguments behind files old new ended called same audited =
-    subst (λ found. AuditedBy found behind files old new ended) called (λ of_audit. subst (λ arguments. IsAudited arguments files old new ended) same (audited of_audit))
+of_audit : (invocation : Invocation) (files : Contents) (old new : Outside) (ended : Status) → IsAudit invocation → IsOfAudit ended → AuditedBy (Some invocation) files old new ended → IsAudited invocation files old new ended
+of_audit (invocations.Audit program role image argument fuel proof) files old new ended is_audit is audited = audited is
+of_audit (invocations.Check program) files old new ended is_audit is audited = absurd is_audit
+of_audit (invocations.Init program role argument fuel out) files old new ended is_audit is audited = absurd is_audit
+of_audit (invocations.Shallow program image out) files old new ended is_audit is audited = absurd is_audit
+of_audit (invocations.Prove program role image argument fuel kept out) files old new ended is_audit is audited = absurd is_audit
+of_audit (invocations.Verify program role state argument fuel proof) files old new ended is_audit is audited = absurd is_audit
 
--- and the other way round, where it ended with the number of a status of an audit
-pub audited_run : (found : Option Command) (arguments : List (List ℕ)) (files : Contents) (old new : Outside) (ended : Status) (number : ℕ) → found ≡ Some command.Audit → number ≡ code ended → TellsAnAudit number
-    → AuditedBy found arguments files old new ended → IsAudited arguments files old new ended
-audited_run found arguments files old new ended number called is tells audited =
-    subst (λ found. AuditedBy found arguments files old new ended) called audited (audit_of_code ended (subst TellsAnAudit is tells))
+-- a run of words that call `audit`, where it ended with the number of a status of an audit
+pub audited_run : (found : Option Invocation) (invocation : Invocation) (files : Contents) (old new : Outside) (ended : Status) (number : ℕ) → found ≡ Some invocation → IsAudit invocation
+    → number ≡ code ended → TellsAnAudit number → AuditedBy found files old new ended → IsAudited invocation files old new ended
+audited_run found invocation files old new ended number called is_audit is tells audited =
+    of_audit invocation files old new ended is_audit (audit_of_code ended (subst TellsAnAudit is tells)) (subst (λ found. AuditedBy found files old new ended) called audited)

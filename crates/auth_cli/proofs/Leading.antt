@@ -1,8 +1,8 @@
 -- Where an answer tells an outcome, each of its steps went on.
-use Rattle.std.proofs.Common.{◌≡◌, ℕ, Bool, true, false, List, [], ◌∷◌, length, codes, cond, Option, Some, None, refl, ap, ◌∙◌, subst}
+use Rattle.std.proofs.Common.{◌≡◌, ℕ, Bool, true, false, List, length, cond, Option, Some, None, refl, ap, ◌∙◌, subst}
 use Rattle.std.specs.Prelude.{nat_le}
-use Rattle.std.specs.List.{list_any}
 use Rattle.std.specs.Option.{option_and_then}
+use Rattle.command_words.specs.Invocations.{Verify, invocation_of}
 use Rattle.sha2.specs.Sha256.{sha256}
 use Rattle.lam_outside.specs.Told.{Contents}
 use Rattle.core_terms.specs.Types.{Ty}
@@ -19,13 +19,11 @@ use Rattle.printed_lines.specs.declared.refusal.InputFault.TheVariants.{RoleKind
 use Rattle.ideal_meaning.specs.Ideal.{Outcome}
 use Rattle.ideal_meaning.specs.Checked.{Verdict, BadState, BadArgument, Rejected, Accepted}
 use Rattle.core_terms.specs.Roles.{argument_type}
-use Rattle.auth_cli.specs.Answer.{Answer, Call, answer, call_answer, command_answer, input_refused, judged_answer, literal_at, max_file, max_program, state_read, verdict_answer, with_argument, with_file, with_literal, with_number, with_program, with_query, with_query_at, with_state_read}
+use Rattle.auth_cli.specs.Answer.{Answer, Call, answer, call_answer, called_answer, input_refused, judged_answer, literal_at, max_file, max_program, state_read, verdict_answer, with_argument, with_file, with_literal, with_number, with_program, with_query, with_query_at, with_state_read}
 use Rattle.auth_cli.specs.FueledQueries.{DigestedProgram}
 use Rattle.auth_cli.specs.Arguments.{is_query, query_at, query_named, fuel_of}
 use Rattle.auth_cli.specs.SoundPrograms.{IsOutcome}
 use Rattle.auth_cli.specs.TextPrograms.{TextProgram, IsProgram, program_of_text}
-use Rattle.auth_cli.specs.Words.{is_refused}
-use Rattle.auth_cli.specs.declared.words.Command.TheVariants.{Verify}
 
 -- the answer tells an outcome
 abbrev pub HasOutcome : Option Answer → Type 0
@@ -96,20 +94,15 @@ module _ (program role state argument fuel proof : List ℕ) (files : Contents) 
       (leads_on _ _ _ (number_leads named.Fuel _ k _ fuel_is) (leads_on _ _ _ (file_leads max_file named.State _ s _ state_is) (leads_on _ _ _ (read_leads (state_read P s) s _)
       (leads_on _ _ _ (argument_leads P f argument a judged_with argument_is) (file_leads max_file named.Proof _ bytes _ proof_is)))))))
 
-  command_leads : (refused : Bool) → Leads (command_answer (cond refused None (Some Verify)) (program ∷ role ∷ state ∷ argument ∷ fuel ∷ proof ∷ []) files) (judged_answer program role state argument fuel proof files)
-  command_leads true has = absurd has
-  command_leads false has = refl
-
   -- the answer of words that call `verify` on these files and arguments is that of the verdict
-  pub line_leads : (line : List (List ℕ)) (name : List ℕ) → line ≡ name ∷ codes "verify" ∷ program ∷ role ∷ state ∷ argument ∷ fuel ∷ proof ∷ []
+  pub line_leads : (line : List (List ℕ)) → invocation_of line ≡ Some (Verify program role state argument fuel proof)
       → files program ≡ Some text → program_of_text text ≡ IsProgram P → query_named P role ≡ Some f → fuel_of fuel ≡ Some k → files state ≡ Some s
       → literal P (argument_type P f) argument ≡ IsValue a → files proof ≡ Some bytes
       → Leads (answer line files) (Some (call_answer meant_call bytes))
   unfolding answer
-  line_leads line name words text_is program_is role_is fuel_is state_is argument_is proof_is has =
-      let same = ap (λ l. answer l files) words in
-      same ∙ leads_on _ _ _ (command_leads (list_any is_refused (program ∷ role ∷ state ∷ argument ∷ fuel ∷ proof ∷ [])))
-      (judged_leads text_is program_is role_is fuel_is state_is argument_is proof_is) (subst HasOutcome same has)
+  line_leads line words text_is program_is role_is fuel_is state_is argument_is proof_is has =
+      let same = ap (λ called. called_answer called files) words in
+      same ∙ judged_leads text_is program_is role_is fuel_is state_is argument_is proof_is (subst HasOutcome same has)
 
 -- a verdict that tells an outcome is an accepted one
 pub accepted : (t : Ty) (v : Verdict) → HasOutcome (Some (verdict_answer t v)) → (o : Outcome) × (v ≡ Accepted o)

@@ -1,6 +1,7 @@
 pub mod AcceptedCalls
+pub mod Answered
 pub mod AuditedRuns
-pub mod CommandLine
+pub mod Called
 pub mod Ends
 pub mod EndsStored
 pub mod InitRoles
@@ -10,11 +11,13 @@ pub mod LiteralsRead
 pub mod MadeStates
 pub mod Numbers
 pub mod PlainArguments
-pub mod OnlyAudits
+pub mod CommandStatuses
+pub mod RunStatuses
 pub mod ProofOutputs
 pub mod ProvedRuns
 pub mod RolesByName
 pub mod SoundQueries
+pub mod SoundTexts
 pub mod StateOutputs
 pub mod Steps
 pub mod Stopping

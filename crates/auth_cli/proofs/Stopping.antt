@@ -14,10 +14,10 @@ use Rattle.printed_lines.specs.declared.refusal.Argument.{Argument}
 use Rattle.printed_lines.specs.declared.refusal.Argument.TheVariants as named
 use Rattle.printed_lines.specs.declared.refusal.InputFault.{InputFault}
 use Rattle.printed_lines.specs.declared.refusal.InputFault.TheVariants.{RoleKind, TooLong}
-use Rattle.auth_cli.specs.Answer.{Answer, image_read, input_refused, literal_at, max_file, max_program, state_read, with_argument, with_file, with_fueled_query, with_ideal_call, with_image_file, with_init, with_init_at, with_literal, with_number, with_program, with_program_file, with_query_at, with_root, with_state_file, with_state_read, with_value}
+use Rattle.auth_cli.specs.Answer.{Answer, image_read, input_refused, literal_at, max_file, max_program, state_read, with_argument, with_file, with_fueled_query, with_ideal_call, with_image_file, with_init, with_init_at, with_language_file, with_literal, with_number, with_program, with_program_file, with_query_at, with_root, with_state_file, with_state_read, with_value}
 use Rattle.auth_cli.specs.Arguments.{fuel_of, is_init, is_query}
 use Rattle.auth_cli.specs.FueledQueries.{DigestedProgram, FueledQuery}
-use Rattle.auth_cli.specs.TextPrograms.{TextProgram, IsProgram, IsRefused, program_of_text}
+use Rattle.auth_cli.specs.TextPrograms.{TextProgram, IsProgram, IsRefused, language_program_of_text, program_of_text}
 use Rattle.auth_cli.specs.declared.status.Status.{Status}
 use Rattle.auth_cli.specs.declared.status.Status.TheVariants.{InputRefused, ProgramRefused}
 
@@ -69,6 +69,9 @@ module _ (Of : Status → Type 0) (no_program : Of ProgramRefused → ⊥) (no_i
   state_read_stops (BadAt offset) bytes go none has = no_input has
 
   -- the reading of a program, of a query and of an init
+  pub language_file_stops : (file : Option (List ℕ)) → Stops (with_language_file file)
+  language_file_stops file go none = file_stops max_program named.Program file _ (λ text. program_stops (sha256 text) (language_program_of_text text) go none)
+
   pub program_file_stops : (file : Option (List ℕ)) → Stops (with_program_file file)
   program_file_stops file go none = file_stops max_program named.Program file _ (λ text. program_stops (sha256 text) (program_of_text text) go none)
 

@@ -30,10 +30,11 @@ checked_format : (found : Checking Program) (P : Program) → HasFormat found �
 checked_format (Sound Q) P h e = let same : Q ≡ P = cc in subst (λ (P : Program). P.format ≡ program_format) same h
 checked_format (FaultAt kind at) P h e = absurd (cc)
 
+pub parsed_format : (found : Parsed) (P : Program) → of_parsed found ≡ IsProgram P → P.format ≡ program_format
+unfolding checked
+parsed_format (Tree program) P e = checked_format (all_passes program) P (passes_format program) e
+parsed_format (FirstFault kind line column) P e = absurd (cc)
+
 pub text_format : (text : List ℕ) (P : Program) → program_of_text text ≡ IsProgram P → P.format ≡ program_format
-unfolding program_of_text checked
-text_format text P = by (parsed fragment text)
-  where
-    by : (found : Parsed) → of_parsed found ≡ IsProgram P → P.format ≡ program_format
-    by (Tree program) e = checked_format (all_passes program) P (passes_format program) e
-    by (FirstFault kind line column) e = absurd (cc)
+unfolding program_of_text
+text_format text P e = parsed_format (parsed fragment text) P e

@@ -11,15 +11,6 @@ use Rattle.auth_cli.specs.declared.report.Halt.{Halt}
 use Rattle.auth_cli.specs.declared.report.Output.{Output}
 use Rattle.auth_cli.specs.declared.status.Status.{Status}
 
--- what holds anyway holds of a report
-pub if_ok : {A : Type 0} (found : Found) → A → IfOk found (λ _. A)
-if_ok (Ok report) holds = holds
-if_ok (Err halt) holds = tt
-
-pub if_found : {A : Type 0} (found : Result Output Halt) → A → IfOk found (λ _. A)
-if_found (Ok output) holds = holds
-if_found (Err halt) holds = tt
-
 -- what ends in an outcome is a report
 report_of_outcome : {A : Type 0} (found : Found) → IsOutcome (status_of found) → IfOk found (λ _. A) → A
 report_of_outcome (Ok report) outcome holds = holds
@@ -31,7 +22,7 @@ report_of_outcome (Err ReadFault) outcome holds = absurd outcome
 report_of_outcome (Err NoMemory) outcome holds = absurd outcome
 
 -- what holds of every report holds where an outcome was told
-pub told_outcome : {A : Type 0} (found : Found) (ended : Status) (old new : Option (List ℕ)) (before now : ℕ) → Tells found ended old new before now → IfOk found (λ _. A) → IsOutcome ended → A
+told_outcome : {A : Type 0} (found : Found) (ended : Status) (old new : Option (List ℕ)) (before now : ℕ) → Tells found ended old new before now → IfOk found (λ _. A) → IsOutcome ended → A
 told_outcome found ended old new before now (inl (inl told)) holds outcome = report_of_outcome found (subst IsOutcome told.0 outcome) holds
 told_outcome found ended old new before now (inl (inr told)) holds outcome = absurd (subst IsOutcome told.0 outcome)
 told_outcome found ended old new before now (inr (inl told)) holds outcome = absurd (subst IsOutcome told.0 outcome)

@@ -1,5 +1,5 @@
 -- The headline of a run, from the definitions.
-use Rattle.std.proofs.Common.{◌≡◌, ℕ, List, drop, Option, Some, None, ap, sym, ◌∙◌, subst, inl, inr, arith}
+use Rattle.std.proofs.Common.{◌≡◌, ℕ, List, Option, Some, None, ap, sym, ◌∙◌, subst, inl, inr, arith}
 use Rattle.std.specs.List.{concat}
 use Rattle.std.specs.Option.{ForSome}
 use Rattle.std.specs.Io.KnownBytes.{append_known}
@@ -17,11 +17,12 @@ use Rattle.auth_cli.specs.Codes.{code}
 use Rattle.auth_cli.specs.Ending.{Outside, EndsAs, IsToldAs}
 use Rattle.auth_cli.specs.TrueLines.{IsTrueLine, TellsOutcome}
 use Rattle.core_terms.specs.Roles.{argument_type}
-use Rattle.auth_cli.specs.SoundPrograms.{IsOutcome, ReadSound}
+use Rattle.auth_cli.specs.SoundPrograms.{IsOutcome}
 use Rattle.auth_cli.specs.declared.status.Status.{Status}
 use Rattle.auth_cli.specs.declared.status.Status.TheVariants.{Done, Usage, Trap, OutOfFuel, Rejected, ProgramRefused, InputRefused, ReadFault, WriteFault, NoMemory, Collision}
 use Rattle.auth_cli.proofs.Leading.{HasOutcome, line_leads, accepted}
 use Rattle.auth_cli.proofs.SoundQueries.{sound_headline}
+use Rattle.auth_cli.proofs.SoundTexts.{text_sound}
 
 -- an answer that was told with the status of an outcome tells an outcome
 told_has : (answer : Option Answer) (old new : Outside) (status : Status) → IsOutcome status → IsToldAs answer old new status → HasOutcome answer
@@ -36,14 +37,14 @@ verdict_told found t v old new status is outcome told =
     let o = accepted t v (told_has (Some (verdict_answer t v)) old new status outcome told') in
     (o.0, o.1, told'.1 ∙ ap (λ v. append_known old.written (concat (verdict_answer t v).lines)) o.1)
 
-told_true : (line : List (List ℕ)) (files : Contents) (old new : Outside) (status : Status) → IsOutcome status → ReadSound (drop 2 line) files status → IsToldAs (answer line files) old new status
+told_true : (line : List (List ℕ)) (files : Contents) (old new : Outside) (status : Status) → IsOutcome status → IsToldAs (answer line files) old new status
     → IsTrueLine line files old.written new.written (code status)
-told_true line files old new status outcome reads told P f k state argument proof calls number =
+told_true line files old new status outcome told P f k state argument proof calls number =
     let s = spelling (projection sha256 P P.state state) in
     let a = projection sha256 P (argument_type P f) argument in
     let t = (function_at P f).result in
-    let sound = subst (λ l. ReadSound (drop 2 l) files status) calls.words reads outcome calls.text P calls.program_file calls.program in
-    let leads = line_leads calls.program_name calls.role_name calls.state_name calls.argument_text calls.fuel_text calls.proof_name files calls.text s proof a P f k line calls.name calls.words
+    let sound = text_sound calls.text P calls.program in
+    let leads = line_leads calls.program_name calls.role_name calls.state_name calls.argument_text calls.fuel_text calls.proof_name files calls.text s proof a P f k line calls.words
     calls.program_file calls.program calls.role calls.fuel calls.state_file calls.argument_is calls.proof_file (told_has (answer line files) old new status outcome told) in
     let o = verdict_told (answer line files) t (call_verdict (record { program = P; role = f; fuel = k; state = s; argument = spelling a }) proof) old new status leads outcome told in
     (o.0, o.2, sound_headline P f k state argument proof o.0 sound calls.role_name calls.role calls.ideal_state calls.ideal_argument o.1)
@@ -55,15 +56,15 @@ none n zero three four (inr (inr is)) = absurd (four is)
 
 -- a run that ends in this status has the headline
 pub true_line : (line : List (List ℕ)) (old new : Outside) (status : Status) → EndsAs (answer line) old new status
-    → ForSome old.contents (λ files. ReadSound (drop 2 line) files status) → ForSome old.contents (λ files. IsTrueLine line files old.written new.written (code status))
-true_line line old new Done ends reads files known = told_true line files old new Done tt (reads files known) (ends.told files known)
-true_line line old new Trap ends reads files known = told_true line files old new Trap tt (reads files known) (ends.told files known)
-true_line line old new OutOfFuel ends reads files known = told_true line files old new OutOfFuel tt (reads files known) (ends.told files known)
-true_line line old new Usage ends reads files known = λ P f k state argument proof calls number. none 2 (λ e. omega arith) (λ e. omega arith) (λ e. omega arith) number
-true_line line old new Rejected ends reads files known = λ P f k state argument proof calls number. none 5 (λ e. omega arith) (λ e. omega arith) (λ e. omega arith) number
-true_line line old new ProgramRefused ends reads files known = λ P f k state argument proof calls number. none 6 (λ e. omega arith) (λ e. omega arith) (λ e. omega arith) number
-true_line line old new InputRefused ends reads files known = λ P f k state argument proof calls number. none 7 (λ e. omega arith) (λ e. omega arith) (λ e. omega arith) number
-true_line line old new ReadFault ends reads files known = λ P f k state argument proof calls number. none 8 (λ e. omega arith) (λ e. omega arith) (λ e. omega arith) number
-true_line line old new WriteFault ends reads files known = λ P f k state argument proof calls number. none 9 (λ e. omega arith) (λ e. omega arith) (λ e. omega arith) number
-true_line line old new NoMemory ends reads files known = λ P f k state argument proof calls number. none 10 (λ e. omega arith) (λ e. omega arith) (λ e. omega arith) number
-true_line line old new Collision ends reads files known = λ P f k state argument proof calls number. none 11 (λ e. omega arith) (λ e. omega arith) (λ e. omega arith) number
+    → ForSome old.contents (λ files. IsTrueLine line files old.written new.written (code status))
+true_line line old new Done ends files known = told_true line files old new Done tt (ends.told files known)
+true_line line old new Trap ends files known = told_true line files old new Trap tt (ends.told files known)
+true_line line old new OutOfFuel ends files known = told_true line files old new OutOfFuel tt (ends.told files known)
+true_line line old new Usage ends files known = λ P f k state argument proof calls number. none 2 (λ e. omega arith) (λ e. omega arith) (λ e. omega arith) number
+true_line line old new Rejected ends files known = λ P f k state argument proof calls number. none 5 (λ e. omega arith) (λ e. omega arith) (λ e. omega arith) number
+true_line line old new ProgramRefused ends files known = λ P f k state argument proof calls number. none 6 (λ e. omega arith) (λ e. omega arith) (λ e. omega arith) number
+true_line line old new InputRefused ends files known = λ P f k state argument proof calls number. none 7 (λ e. omega arith) (λ e. omega arith) (λ e. omega arith) number
+true_line line old new ReadFault ends files known = λ P f k state argument proof calls number. none 8 (λ e. omega arith) (λ e. omega arith) (λ e. omega arith) number
+true_line line old new WriteFault ends files known = λ P f k state argument proof calls number. none 9 (λ e. omega arith) (λ e. omega arith) (λ e. omega arith) number
+true_line line old new NoMemory ends files known = λ P f k state argument proof calls number. none 10 (λ e. omega arith) (λ e. omega arith) (λ e. omega arith) number
+true_line line old new Collision ends files known = λ P f k state argument proof calls number. none 11 (λ e. omega arith) (λ e. omega arith) (λ e. omega arith) number

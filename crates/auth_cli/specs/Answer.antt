@@ -1,6 +1,7 @@
 -- What a run answers: its status, the lines that it writes and the files that it stores.
-use Rattle.std.specs.Prelude.{ℕ, List, [], ◌∷◌, ◌++◌, length, drop, map, nat_le, codes, Option, Some, None, if◌then◌else◌}
+use Rattle.std.specs.Prelude.{ℕ, List, [], ◌∷◌, ◌++◌, length, map, nat_le, codes, Option, Some, None, if◌then◌else◌}
 use Rattle.sha2.specs.Sha256.{sha256}
+use Rattle.command_words.specs.Invocations.{Invocation, Check, Init, Shallow, Prove, Verify, Audit, invocation_of}
 use Rattle.lam_outside.specs.Told.{Contents, Stores}
 use Rattle.core_terms.specs.Types.{Ty}
 use Rattle.core_terms.specs.Values.{Value, NoV, AndV}
@@ -30,10 +31,7 @@ use Rattle.collision_audit.specs.Audits as audits
 use Rattle.auth_cli.specs.Arguments.{is_init, is_query, fuel_of, number_within}
 use Rattle.auth_cli.specs.FueledQueries.{DigestedProgram, FueledQuery}
 use Rattle.auth_cli.specs.IdealCalls.{IdealCall, call_audit, call_proof, call_proof_line, projected_outcome, result_type}
-use Rattle.auth_cli.specs.TextPrograms.{TextProgram, IsProgram, IsRefused, program_of_text}
-use Rattle.auth_cli.specs.Words.{command_of}
-use Rattle.auth_cli.specs.declared.words.Command.{Command}
-use Rattle.auth_cli.specs.declared.words.Command.TheVariants.{Check, Verify, Shallow, Init, Prove, Audit}
+use Rattle.auth_cli.specs.TextPrograms.{TextProgram, IsProgram, IsRefused, language_program_of_text, program_of_text}
 use Rattle.auth_cli.specs.declared.status.Status.{Status}
 use Rattle.auth_cli.specs.declared.status.Status.TheVariants.{Done, Usage, Trap, OutOfFuel, Rejected, ProgramRefused, InputRefused, Collision}
 
@@ -95,7 +93,14 @@ abbrev pub with_program : List ℕ → TextProgram → (DigestedProgram → Opti
 with_program digest (IsProgram P) go = go (record { program = P; digest = digest })
 with_program digest (IsRefused kind line column) go = Some (refused (refusal.Program kind line column))
 
--- goes on with the program of a text, and with that in a file
+-- goes on with the program of the whole language that a text is, and with that in a file
+abbrev pub with_language_text : List ℕ → (DigestedProgram → Option Answer) → Option Answer
+with_language_text text go = with_program (sha256 text) (language_program_of_text text) go
+
+abbrev pub with_language_file : Option (List ℕ) → (DigestedProgram → Option Answer) → Option Answer
+with_language_file file go = with_file max_program named.Program file (λ text. with_language_text text go)
+
+-- the same of a program of the fragment
 abbrev pub with_text : List ℕ → (DigestedProgram → Option Answer) → Option Answer
 with_text text go = with_program (sha256 text) (program_of_text text) go
 
@@ -218,9 +223,9 @@ judged_answer program role state argument fuel proof files =
     with_call program role state argument fuel files (λ call.
     with_file max_file named.Proof (files proof) (λ bytes. Some (call_answer call bytes)))
 
--- `check P`: the digest of the program's text
+-- `check P`: the digest of the program's text, which is one of the whole language
 abbrev pub checked_answer : List ℕ → Contents → Option Answer
-checked_answer program files = with_program_file (files program) (λ p. Some (says Done (ok_line p.digest)))
+checked_answer program files = with_language_file (files program) (λ p. Some (says Done (ok_line p.digest)))
 
 -- the projection of an ideal state: a digest stands for what is authenticated
 unfoldable pub state_projection : Program → Value → Value
@@ -329,41 +334,21 @@ audited_answer program role image argument fuel proof files =
     with_ideal_call q image argument files (λ call.
     with_file max_file named.Proof (files proof) (λ bytes. Some (call_audit_answer call bytes))))
 
--- of each command, by its arguments: `check P`, `verify P ROLE STATE ARG FUEL PROOF`, `shallow P IMG OUT`,
--- `init P ROLE ARG FUEL OUT`, `prove P ROLE IMG ARG FUEL N OUT` and `audit P ROLE IMG ARG FUEL PROOF`
-abbrev pub check_answer : List (List ℕ) → Contents → Option Answer
-check_answer (program ∷ []) files = checked_answer program files
-check_answer words files = Some usage_answer
+-- what is answered to a command with its arguments: `check P`, `init P ROLE ARG FUEL OUT`, `shallow P IMG OUT`,
+-- `prove P ROLE IMG ARG FUEL N OUT`, `verify P ROLE STATE ARG FUEL PROOF` and `audit P ROLE IMG ARG FUEL PROOF`
+abbrev pub command_answer : Invocation → Contents → Option Answer
+command_answer (Check program) = checked_answer program
+command_answer (Init program role argument fuel out) = initial_answer program role argument fuel out
+command_answer (Shallow program image out) = spelled_answer program image out
+command_answer (Prove program role image argument fuel kept out) = proved_answer program role image argument fuel kept out
+command_answer (Verify program role state argument fuel proof) = judged_answer program role state argument fuel proof
+command_answer (Audit program role image argument fuel proof) = audited_answer program role image argument fuel proof
 
-abbrev pub verify_answer : List (List ℕ) → Contents → Option Answer
-verify_answer (program ∷ role ∷ state ∷ argument ∷ fuel ∷ proof ∷ []) files = judged_answer program role state argument fuel proof files
-verify_answer words files = Some usage_answer
-
-abbrev pub shallow_answer : List (List ℕ) → Contents → Option Answer
-shallow_answer (program ∷ image ∷ out ∷ []) files = spelled_answer program image out files
-shallow_answer words files = Some usage_answer
-
-abbrev pub init_answer : List (List ℕ) → Contents → Option Answer
-init_answer (program ∷ role ∷ argument ∷ fuel ∷ out ∷ []) files = initial_answer program role argument fuel out files
-init_answer words files = Some usage_answer
-
-abbrev pub prove_answer : List (List ℕ) → Contents → Option Answer
-prove_answer (program ∷ role ∷ image ∷ argument ∷ fuel ∷ kept ∷ out ∷ []) files = proved_answer program role image argument fuel kept out files
-prove_answer words files = Some usage_answer
-
-abbrev pub audit_answer : List (List ℕ) → Contents → Option Answer
-audit_answer (program ∷ role ∷ image ∷ argument ∷ fuel ∷ proof ∷ []) files = audited_answer program role image argument fuel proof files
-audit_answer words files = Some usage_answer
-
-abbrev pub command_answer : Option Command → List (List ℕ) → Contents → Option Answer
-command_answer None arguments files = Some usage_answer
-command_answer (Some Check) arguments files = check_answer arguments files
-command_answer (Some Verify) arguments files = verify_answer arguments files
-command_answer (Some Shallow) arguments files = shallow_answer arguments files
-command_answer (Some Init) arguments files = init_answer arguments files
-command_answer (Some Prove) arguments files = prove_answer arguments files
-command_answer (Some Audit) arguments files = audit_answer arguments files
+-- what is answered to words that call it, or that call no command
+abbrev pub called_answer : Option Invocation → Contents → Option Answer
+called_answer None = λ files. Some usage_answer
+called_answer (Some invocation) = command_answer invocation
 
 -- by the words of the command line, the program's name first, and the contents of the files
 unfoldable pub answer : List (List ℕ) → Contents → Option Answer
-answer words = command_answer (command_of words) (drop 2 words)
+answer words = called_answer (invocation_of words)

@@ -1,8 +1,10 @@
 -- What a run of `audit` says, in the words of its command line and its files.
-use Rattle.std.specs.Prelude.{◌≡◌, ◌⊎◌, ℕ, List, [], ◌∷◌, Option, Some, Ok, Err, ⊤}
+use Rattle.std.specs.Prelude.{◌≡◌, ◌⊎◌, ℕ, List, Option, Some, Ok, Err, ⊤}
 use Rattle.std.specs.List.{concat}
 use Rattle.std.specs.Io.KnownBytes.{append_known}
 use Rattle.sha2.specs.Sha256.{sha256}
+use Rattle.command_words.specs.Invocations.{Invocation}
+use Rattle.command_words.specs.Invocations as invocations
 use Rattle.lam_outside.specs.Told.{Contents}
 use Rattle.core_terms.specs.Projection.{digest_at}
 use Rattle.ideal_meaning.specs.Checked.{Cause, Accepted, Rejected}
@@ -13,7 +15,7 @@ use Rattle.printed_lines.specs.declared.refusal.Refusal.TheVariants as refusal
 use Rattle.collision_audit.specs.AuditAnswers.{HasNoSplit}
 use Rattle.collision_audit.specs.Audits.{Audit, Collides, Judges}
 use Rattle.collision_audit.specs.Splits.{Split, IsSplit, offered_in}
-use Rattle.auth_cli.specs.Answer.{agreeing, audit_answer, call_audit_answer, call_verdict, outcome_answer}
+use Rattle.auth_cli.specs.Answer.{agreeing, call_audit_answer, call_verdict, command_answer, outcome_answer}
 use Rattle.auth_cli.specs.Ending.{Outside}
 use Rattle.auth_cli.specs.Halting.{Found}
 use Rattle.auth_cli.specs.IdealCalls.{IdealCall, call_audit, call_pieces, called_program, projected_outcome, result_type}
@@ -23,18 +25,16 @@ use Rattle.auth_cli.specs.TrueLines.{TellsOutcome}
 use Rattle.auth_cli.specs.declared.report.Halt.TheVariants.{Refused}
 use Rattle.auth_cli.specs.declared.status.Status.{Status}
 use Rattle.auth_cli.specs.declared.status.Status.TheVariants as status
-use Rattle.auth_cli.specs.declared.words.Command.{Command}
-use Rattle.auth_cli.specs.declared.words.Command.TheVariants as command
 
--- the arguments call `audit` on files and texts that name this call, and on this proof
-pub record CallsAudit (arguments : List (List ℕ)) (files : Contents) (call : IdealCall) (proof : List ℕ) : Type 0 where
+-- the command is `audit` on files and texts that name this call, and on this proof
+pub record CallsAudit (invocation : Invocation) (files : Contents) (call : IdealCall) (proof : List ℕ) : Type 0 where
   pub program_name : List ℕ
   pub role_name : List ℕ
   pub image_name : List ℕ
   pub argument_text : List ℕ
   pub fuel_text : List ℕ
   pub proof_name : List ℕ
-  pub words : arguments ≡ program_name ∷ role_name ∷ image_name ∷ argument_text ∷ fuel_text ∷ proof_name ∷ []
+  pub words : invocation ≡ invocations.Audit program_name role_name image_name argument_text fuel_text proof_name
   pub query : NamesQuery program_name role_name fuel_text files call.query
   pub inputs : NamesInputs image_name argument_text files call
   pub proof_file : files proof_name ≡ Some proof
@@ -90,18 +90,23 @@ IsOfAudit other = ⊥
 abbrev pub TellsAnAudit : ℕ → Type 0
 TellsAnAudit number = TellsOutcome number ⊎ ((number ≡ 5) ⊎ (number ≡ 11))
 
--- The headline of a run of `audit` that ended in such a status. The arguments mean a call and a proof of it, and what was told is so:
+-- The headline of a run of `audit` that ended in such a status. The command means a call and a proof of it, and what was told is so:
 -- status 11 came exactly where the offered pieces split from the honest ones.
-pub record IsAudited (arguments : List (List ℕ)) (files : Contents) (old new : Outside) (ended : Status) : Type 0 where
+pub record IsAudited (invocation : Invocation) (files : Contents) (old new : Outside) (ended : Status) : Type 0 where
   pub call : IdealCall
   pub proof : List ℕ
-  pub calls : CallsAudit arguments files call proof
+  pub calls : CallsAudit invocation files call proof
   pub says : AuditSays call proof ended old.written new.written
 
--- the same of a run of any command: nothing is said of the others
-abbrev pub AuditedBy : Option Command → List (List ℕ) → Contents → Outside → Outside → Status → Type 0
-AuditedBy (Some command.Audit) arguments files old new ended = IsOfAudit ended → IsAudited arguments files old new ended
-AuditedBy called arguments files old new ended = Unit {0}
+-- the command is `audit`
+abbrev pub IsAudit : Invocation → Type 0
+IsAudit (invocations.Audit program role image argument fuel proof) = Unit {0}
+IsAudit other = ⊥
+
+-- the same of a run of any words: nothing is said of other commands
+abbrev pub AuditedBy : Option Invocation → Contents → Outside → Outside → Status → Type 0
+AuditedBy (Some (invocations.Audit program role image argument fuel proof)) files old new ended = IsOfAudit ended → IsAudited (invocations.Audit program role image argument fuel proof) files old new ended
+AuditedBy called files old new ended = Unit {0}
 
 -- what the audit of a proof of the call comes to is so
 abbrev pub IsTrueAudit : IdealCall → List ℕ → Audit → Type 0
@@ -111,12 +116,12 @@ IsTrueAudit call proof (Judges (Accepted o)) =
 IsTrueAudit call proof (Judges (Rejected cause)) = SplitsNowhere call proof × (call_verdict (client_call call) proof ≡ Rejected cause)
 IsTrueAudit call proof (Judges v) = ⊥
 
--- the arguments mean a call and a proof of it, the audit is answered to them, and it is so
-pub record MeansAudit (arguments : List (List ℕ)) (files : Contents) : Type 0 where
+-- the command means a call and a proof of it, the audit is answered to it, and it is so
+pub record MeansAudit (invocation : Invocation) (files : Contents) : Type 0 where
   pub call : IdealCall
   pub proof : List ℕ
-  pub calls : CallsAudit arguments files call proof
-  pub answered : audit_answer arguments files ≡ Some (call_audit_answer call proof)
+  pub calls : CallsAudit invocation files call proof
+  pub answered : command_answer invocation files ≡ Some (call_audit_answer call proof)
   pub is_so : IsTrueAudit call proof (call_audit call proof)
 
 -- a fact, where a report or the rejection of a proof was found

@@ -8,7 +8,7 @@ use Rattle.lam_outside.specs.Told.{Contents, Stores, AddsStores}
 use Rattle.auth_cli.specs.Answer.{Answer}
 use Rattle.auth_cli.specs.Codes.{code}
 use Rattle.auth_cli.specs.declared.status.Status.{Status}
-use Rattle.auth_cli.specs.declared.status.Status.TheVariants.{ReadFault, WriteFault, NoMemory}
+use Rattle.auth_cli.specs.declared.status.Status.TheVariants.{Usage, ReadFault, WriteFault, NoMemory}
 
 -- what files and a sink tell, and their counts of faults
 pub record Outside : Type 0 where
@@ -56,6 +56,13 @@ StoresSome (Some a) old new = AddsStores old new [] ⊎ AddsStores old new a.sto
 abbrev pub IsToldAs : Option Answer → Outside → Outside → Status → Type 0
 IsToldAs None old new status = ⊥
 IsToldAs (Some a) old new status = (a.status ≡ status) × (new.written ≡ append_known old.written (concat a.lines)) × AddsStores old.stores new.stores a.stored
+
+-- a status that refused words may have: their own, or that of the sink's failing or of the want of memory
+abbrev pub IsOfRefused : Status → Type 0
+IsOfRefused Usage = Unit {0}
+IsOfRefused WriteFault = Unit {0}
+IsOfRefused NoMemory = Unit {0}
+IsOfRefused other = ⊥
 
 -- with an answer: no count rose
 pub record EndsAnswered (answer : Contents → Option Answer) (old new : Outside) (status : Status) : Type 0 where

@@ -17,5 +17,4 @@ pub mod Storing
 pub mod Telling
 pub mod TextPrograms
 pub mod TrueLines
-pub mod Words
 pub mod VerdictLaws

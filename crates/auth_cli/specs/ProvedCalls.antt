@@ -2,18 +2,17 @@
 use Rattle.std.specs.Prelude.{◌≡◌, ◌≤◌, ℕ, List, [], ◌∷◌, ◌++◌, length, Option, Some}
 use Rattle.std.specs.List.{concat}
 use Rattle.std.specs.Io.KnownBytes.{append_known}
+use Rattle.command_words.specs.Invocations.{Invocation, Prove}
 use Rattle.lam_outside.specs.Told.{Contents, AddsStores}
 use Rattle.core_terms.specs.Spelling.{spelling}
 use Rattle.ideal_meaning.specs.Checked.{Accepted}
-use Rattle.auth_cli.specs.Answer.{Call, call_verdict, max_file, outcome_answer, proof_answer, prove_answer, state_projection, verify_answer}
+use Rattle.auth_cli.specs.Answer.{Call, call_verdict, command_answer, judged_answer, max_file, outcome_answer, proof_answer, state_projection}
 use Rattle.auth_cli.specs.Arguments.{number_within}
 use Rattle.auth_cli.specs.Ending.{Outside}
 use Rattle.auth_cli.specs.IdealCalls.{IdealCall, call_proof, call_proof_line, called_program, projected_outcome, result_type}
 use Rattle.auth_cli.specs.NamedCalls.{NamesInputs, NamesQuery}
 use Rattle.auth_cli.specs.SoundPrograms.{IsOutcome}
 use Rattle.auth_cli.specs.declared.status.Status.{Status}
-use Rattle.auth_cli.specs.declared.words.Command.{Command}
-use Rattle.auth_cli.specs.declared.words.Command.TheVariants.{Prove}
 
 -- The call as a client makes it, who holds the spelling of the state's projection, as `shallow` stores it, and that of the argument.
 abbrev pub client_call : IdealCall → Call
@@ -31,15 +30,15 @@ client_call call =
 abbrev pub IsAcceptedCall : IdealCall → ℕ → Type 0
 IsAcceptedCall call n = call_verdict (client_call call) (call_proof call n) ≡ Accepted (projected_outcome call)
 
--- the arguments call `prove` on files and texts that name this call, the number of pieces that are kept, and the file that is stored
-pub record CallsProve (arguments : List (List ℕ)) (files : Contents) (call : IdealCall) (n : ℕ) (out : List ℕ) : Type 0 where
+-- the command is `prove` on files and texts that name this call, the number of pieces that are kept, and the file that is stored
+pub record CallsProve (invocation : Invocation) (files : Contents) (call : IdealCall) (n : ℕ) (out : List ℕ) : Type 0 where
   pub program_name : List ℕ
   pub role_name : List ℕ
   pub image_name : List ℕ
   pub argument_text : List ℕ
   pub fuel_text : List ℕ
   pub kept_text : List ℕ
-  pub words : arguments ≡ program_name ∷ role_name ∷ image_name ∷ argument_text ∷ fuel_text ∷ kept_text ∷ out ∷ []
+  pub words : invocation ≡ Prove program_name role_name image_name argument_text fuel_text kept_text out
   pub query : NamesQuery program_name role_name fuel_text files call.query
   pub kept : number_within (called_program call).format.most_kept kept_text ≡ Some n
   pub inputs : NamesInputs image_name argument_text files call
@@ -50,33 +49,38 @@ abbrev pub IsVerified : (call : IdealCall) → ℕ → (text role argument fuel 
 IsVerified call n text role argument fuel =
     (program state proof : List ℕ) (files : Contents) → files program ≡ Some text → files state ≡ Some (client_call call).state
     → files proof ≡ Some (call_proof call n) → length (call_proof call n) ≤ max_file
-    → verify_answer (program ∷ role ∷ state ∷ argument ∷ fuel ∷ proof ∷ []) files ≡ Some (outcome_answer (result_type call) (projected_outcome call))
+    → judged_answer program role state argument fuel proof files ≡ Some (outcome_answer (result_type call) (projected_outcome call))
 
--- the arguments mean a call, its proof is answered to them, and the proof is accepted
-pub record MeansProof (arguments : List (List ℕ)) (files : Contents) : Type 0 where
+-- the command means a call, its proof is answered to it, and the proof is accepted
+pub record MeansProof (invocation : Invocation) (files : Contents) : Type 0 where
   pub call : IdealCall
   pub kept : ℕ
   pub out : List ℕ
-  pub calls : CallsProve arguments files call kept out
-  pub answered : prove_answer arguments files ≡ Some (proof_answer call kept out)
+  pub calls : CallsProve invocation files call kept out
+  pub answered : command_answer invocation files ≡ Some (proof_answer call kept out)
   pub accepted : IsAcceptedCall call kept
   pub verified : IsVerified call kept calls.query.program_file.text calls.role_name calls.argument_text calls.fuel_text
 
--- The companion of a run of `prove` that ended with the status of an outcome. The arguments mean a call; its proof was stored, and the
+-- The companion of a run of `prove` that ended with the status of an outcome. The command means a call; its proof was stored, and the
 -- line of its projected outcome written, and then that of the proof. Given no more than the spellings of the projected state and of the
 -- argument, this very proof is accepted with this outcome: `verify` answers it with the status of the run, and with that line.
-pub record IsProved (arguments : List (List ℕ)) (files : Contents) (old new : Outside) (status : Status) : Type 0 where
+pub record IsProved (invocation : Invocation) (files : Contents) (old new : Outside) (status : Status) : Type 0 where
   pub call : IdealCall
   pub kept : ℕ
   pub out : List ℕ
-  pub calls : CallsProve arguments files call kept out
+  pub calls : CallsProve invocation files call kept out
   pub status_told : (outcome_answer (result_type call) (projected_outcome call)).status ≡ status
   pub written : new.written ≡ append_known old.written (concat ((outcome_answer (result_type call) (projected_outcome call)).lines ++ call_proof_line call kept ∷ []))
   pub stored : AddsStores old.stores new.stores ((out, call_proof call kept) ∷ [])
   pub accepted : IsAcceptedCall call kept
   pub verified : IsVerified call kept calls.query.program_file.text calls.role_name calls.argument_text calls.fuel_text
 
--- the same of a run of any command: nothing is said of the others
-abbrev pub ProvedBy : Option Command → List (List ℕ) → Contents → Outside → Outside → Status → Type 0
-ProvedBy (Some Prove) arguments files old new status = IsOutcome status → IsProved arguments files old new status
-ProvedBy command arguments files old new status = Unit {0}
+-- the command is `prove`
+abbrev pub IsProve : Invocation → Type 0
+IsProve (Prove program role image argument fuel kept out) = Unit {0}
+IsProve other = ⊥
+
+-- the same of a run of any words: nothing is said of other commands
+abbrev pub ProvedBy : Option Invocation → Contents → Outside → Outside → Status → Type 0
+ProvedBy (Some (Prove program role image argument fuel kept out)) files old new status = IsOutcome status → IsProved (Prove program role image argument fuel kept out) files old new status
+ProvedBy called files old new status = Unit {0}

@@ -1,6 +1,9 @@
 -- What reading a program says of the program of its text. Where memory ran out nothing is said.
 use Rattle.std.specs.Prelude.{◌≡◌, Result, Ok, Err, ⊤}
+use Rattle.core_terms.specs.LanguagePrograms as language
 use Rattle.core_terms.specs.Programs.{meaning}
+use Rattle.core_terms.specs.Terms as tree
+use Rattle.core_terms.specs.declared.language.program.Program.{Program as LanguageProgram}
 use Rattle.core_terms.specs.declared.program.Program.{Program}
 use Rattle.auth_syntax.specs.declared.fault.SyntaxFault.{SyntaxFault}
 use Rattle.auth_syntax.specs.declared.fault.SyntaxFault.TheVariants as syntax_fault
@@ -12,11 +15,11 @@ use Rattle.auth_cli.specs.TextPrograms.{TextProgram, IsProgram, IsRefused}
 use Rattle.auth_cli.specs.declared.programs.ProgramFault.{ProgramFault}
 use Rattle.auth_cli.specs.declared.programs.ProgramFault.TheVariants.{At, NoMemory}
 
--- Ok gives the program of the text, a refusal its first fault
-abbrev pub ReadsProgram : TextProgram → Result Program ProgramFault → Type 0
-ReadsProgram found (Ok p) = found ≡ IsProgram (meaning p)
-ReadsProgram found (Err (At kind line column)) = found ≡ IsRefused kind line column
-ReadsProgram found (Err NoMemory) = ⊤
+-- Ok gives the program of the text, which is what p means; a refusal gives its first fault
+abbrev pub ReadsProgram : {A : Type 0} → (A → tree.Program) → TextProgram → Result A ProgramFault → Type 0
+ReadsProgram means found (Ok p) = found ≡ IsProgram (means p)
+ReadsProgram means found (Err (At kind line column)) = found ≡ IsRefused kind line column
+ReadsProgram means found (Err NoMemory) = ⊤
 
 -- why a text is no program, where it has no tree
 abbrev pub of_syntax_fault : SyntaxFault → ProgramFault
@@ -31,3 +34,6 @@ of_type_fault type_fault.NoMemory = NoMemory
 -- a program with the digest that it holds
 abbrev pub digested : Program → DigestedProgram
 digested p = record { program = meaning p; digest = p.text_digest.0 }
+
+abbrev pub language_digested : LanguageProgram → DigestedProgram
+language_digested p = record { program = language.meaning p; digest = p.text_digest.0 }

@@ -1,7 +1,7 @@
 -- A text as a program.
 use Rattle.std.specs.Prelude.{ℕ, List}
 use Rattle.core_terms.specs.Terms.{Program}
-use Rattle.auth_syntax.specs.Vocabulary.{fragment}
+use Rattle.auth_syntax.specs.Vocabulary.{fragment, whole_language}
 use Rattle.auth_syntax.specs.Parsing.{Parsed, parsed}
 use Rattle.auth_syntax.specs.Parsing as parsing
 use Rattle.auth_types.specs.CheckedPrograms.{Checked, checked}
@@ -22,6 +22,9 @@ abbrev pub of_parsed : Parsed → TextProgram
 of_parsed (parsing.Tree program) = of_checked (checked program)
 of_parsed (parsing.FirstFault kind line column) = IsRefused (Syntax kind) line column
 
--- A text as a program of the fragment. A fault of its syntax comes before all faults of its typing.
+-- A text as a program of the whole language, and of the fragment that runs so far. A fault of its syntax comes before all faults of its typing.
+unfoldable pub language_program_of_text : List ℕ → TextProgram
+language_program_of_text text = of_parsed (parsed whole_language text)
+
 unfoldable pub program_of_text : List ℕ → TextProgram
 program_of_text text = of_parsed (parsed fragment text)

@@ -1,7 +1,8 @@
 -- What a run of `verify` says of the ideal run, in the words of its command line and its files.
-use Rattle.std.specs.Prelude.{◌≡◌, ◌⊎◌, ℕ, List, [], ◌∷◌, drop, codes, Option, Some}
+use Rattle.std.specs.Prelude.{◌≡◌, ◌⊎◌, ℕ, List, [], drop, Option, Some}
 use Rattle.std.specs.List.{concat}
 use Rattle.std.specs.Io.KnownBytes.{append_known}
+use Rattle.command_words.specs.Invocations.{Verify, invocation_of}
 use Rattle.sha2.specs.Sha256.{sha256}
 use Rattle.lam_outside.specs.Told.{Contents}
 use Rattle.core_terms.specs.Values.{Value, IsIdeal}
@@ -21,14 +22,13 @@ use Rattle.auth_cli.specs.TextPrograms.{IsProgram, program_of_text}
 -- and an ideal argument. The state's file has the spelling of its projection, and the argument is a literal of its own; the proof's
 -- file has any bytes.
 pub record CallsVerify (line : List (List ℕ)) (files : Contents) (P : Program) (f k : ℕ) (state argument : Value) (proof : List ℕ) : Type 0 where
-  pub name : List ℕ
   pub program_name : List ℕ
   pub role_name : List ℕ
   pub state_name : List ℕ
   pub argument_text : List ℕ
   pub fuel_text : List ℕ
   pub proof_name : List ℕ
-  pub words : line ≡ name ∷ codes "verify" ∷ program_name ∷ role_name ∷ state_name ∷ argument_text ∷ fuel_text ∷ proof_name ∷ []
+  pub words : invocation_of line ≡ Some (Verify program_name role_name state_name argument_text fuel_text proof_name)
   pub text : List ℕ
   pub program_file : files program_name ≡ Some text
   pub program : program_of_text text ≡ IsProgram P

@@ -14,7 +14,7 @@ ghost use Rattle.auth_cli.specs.Halting.{GoesOnInHand};
 
 use crate::Halt;
 use crate::values::read_value;
-use auth_syntax::literal::parse_literal;
+use auth_syntax::literal::parse_fragment_literal;
 use core_terms::{FunctionId, Kind, Program, Spelling};
 use plain_meaning::Plain;
 use printed_lines::refusal::{Argument, InputFault};
@@ -142,5 +142,5 @@ pub fn read_argument(
     ensures { GoesOnInHand (with_argument (meaning program.now) query.0 text.now) (λ spelling. spelling) result }
 {
     let parameters = &program.function(query).parameters;
-    Ok(parse_literal(alloc, program, parameters[1], text)?)
+    Ok(parse_fragment_literal(alloc, program, parameters[1], text)?)
 }

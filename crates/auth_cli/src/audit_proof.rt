@@ -1,28 +1,28 @@
 // The command `audit`.
-ghost use Rattle.std.specs.Prelude.{◌≡◌, ◌∷◌, [], Ok, length, IfOk};
+ghost use Rattle.std.specs.Prelude.{◌≡◌, Ok, IfOk};
 ghost use Rattle.std.specs.Option.{ForSome};
+ghost use Rattle.command_words.specs.Invocations.{Audit};
 ghost use Rattle.core_terms.specs.Programs.{meaning, types_of};
 ghost use Rattle.core_terms.specs.TypeTables.{type_at};
 ghost use Rattle.collision_audit.specs.AuditAnswers.{TellsAudit};
 ghost use Rattle.collision_audit.specs.Audits as audits;
 ghost use Rattle.printed_lines.specs.Lines as lines;
-ghost use Rattle.auth_cli.specs.Answer.{audit_answer, audit_told, audited_answer, call_audit_answer};
+ghost use Rattle.auth_cli.specs.Answer.{audit_told, audited_answer, call_audit_answer};
 ghost use Rattle.auth_cli.specs.AuditedCalls.{IfJudged, IsAudited, IsOfAudit, MeansAudit};
 ghost use Rattle.auth_cli.specs.Calls.{IsIdealCall, ideal_call_of};
 ghost use Rattle.auth_cli.specs.Ending.{EndsAs, outside};
 ghost use Rattle.auth_cli.specs.Halting.{Finds, FindsInHand, HaltCause};
 ghost use Rattle.auth_cli.specs.IdealCalls.{call_audit, result_type};
 ghost use Rattle.auth_cli.specs.Reporting.{ReportsAgreement};
-ghost use Rattle.auth_cli.specs.SoundPrograms.{HoldsSound, ReadSound};
-ghost use Rattle.auth_cli.specs.Words.{texts};
 
 use crate::calls::MAX_FILE;
-use crate::ideal_calls::{IdealCall, IdealCallWords, read_ideal_call};
+use crate::ideal_calls::{IdealCall, read_ideal_call};
 use crate::outcomes::report_of;
 use crate::queries::read_query;
 use crate::report::{load, tell};
 use crate::{Ending, Halt, Report, Status};
 use collision_audit::{Audited, Collision, audit};
+use command_words::AuditArguments;
 use core_terms::{Outcome, Program, Spelling, TyId};
 use digest_layer::Sha;
 use lam_outside::{Files, Sink};
@@ -32,55 +32,38 @@ use std::alloc::{AllocError, Global};
 
 /// Audits a proof of a query, and tells the outcome on which it agrees, the collision that the proof shows, or why the proof is
 /// rejected.
-///
-/// The words are the command's arguments: the names of the program's file, of the role and of the file with the state's image, the
-/// argument as a literal, the fuel in decimal, and the name of the proof's file.
 pub fn audit_command<F: Files, O: Sink>(
     alloc: Global,
-    words: &[&str],
+    words: &AuditArguments<'_>,
     files: &mut F,
     out: &mut O,
 ) -> Status
-    requires { length words.now ≡ 6 }
-    ensures ends { let seen = outside F.contents F.stores F.faults F.store_faults O.written O.faults in
-        EndsAs (audit_answer (texts words.now)) (seen files.old out.old) (seen files.new out.new) result }
-    ensures sound { ForSome (F.contents files.old) (λ told. ReadSound (texts words.now) told result) }
-    ensures audited { let seen = outside F.contents F.stores F.faults F.store_faults O.written O.faults in
-        ForSome (F.contents files.old) (λ told. IsOfAudit result → IsAudited (texts words.now) told (seen files.old out.old) (seen files.new out.new) result) }
+    ensures ends { let words = words.now in let seen = outside F.contents F.stores F.faults F.store_faults O.written O.faults in
+        EndsAs (audited_answer words.program.now words.role.now words.image.now words.argument.now words.fuel.now words.proof.now) (seen files.old out.old) (seen files.new out.new) result }
+    ensures audited { let words = words.now in let seen = outside F.contents F.stores F.faults F.store_faults O.written O.faults in
+        ForSome (F.contents files.old) (λ told. IsOfAudit result → IsAudited (Audit words.program.now words.role.now words.image.now words.argument.now words.fuel.now words.proof.now) told (seen files.old out.old) (seen files.new out.new) result) }
 {
-    let [program, role, image, argument, fuel, proof] = *words else {
-        unreachable!()
-    };
-    let call = IdealCallWords {
-        program,
-        role,
-        image,
-        argument,
-        fuel,
-    };
-    let found = find_audit(alloc, &call, proof, files);
+    let found = find_audit(alloc, words, files);
     tell(alloc, out, found)
 }
 
 /// What is found of a call and a proof: the proof file is opened when all else is well-formed.
 fn find_audit<F: Files>(
     alloc: Global,
-    words: &IdealCallWords<'_>,
-    proof: &str,
+    words: &AuditArguments<'_>,
     files: &mut F,
 ) -> Result<Report, Halt>
     ensures finds { let words = words.now in ForSome (F.contents files.old) (λ told.
-        Finds (audited_answer words.program.now words.role.now words.image.now words.argument.now words.fuel.now proof.now told) result) }
+        Finds (audited_answer words.program.now words.role.now words.image.now words.argument.now words.fuel.now words.proof.now told) result) }
     ensures means { let words = words.now in ForSome (F.contents files.old) (λ told. IfJudged result
-        (MeansAudit (words.program.now ∷ words.role.now ∷ words.image.now ∷ words.argument.now ∷ words.fuel.now ∷ proof.now ∷ []) told)) }
-    ensures sound { let words = words.now in ForSome (F.contents files.old) (λ told. IfOk result (λ _. HoldsSound (told words.program.now))) }
+        (MeansAudit (Audit words.program.now words.role.now words.image.now words.argument.now words.fuel.now words.proof.now) told)) }
     ensures cause { HaltCause (F.faults files.old) (F.faults files.new) result }
     ensures stores { F.stores files.new ≡ F.stores files.old }
     ensures store_faults { F.store_faults files.new ≡ F.store_faults files.old }
 {
     let query = read_query(alloc, files, words.program, words.role, words.fuel)?;
     let call = read_ideal_call(alloc, files, query, words.image, words.argument)?;
-    let proof = load(alloc, files, Argument::Proof, proof, MAX_FILE)?;
+    let proof = load(alloc, files, Argument::Proof, words.proof, MAX_FILE)?;
     judge(alloc, &call, &proof)
 }
 

@@ -5,27 +5,17 @@ ghost use Rattle.core_terms.specs.Programs.{meaning};
 ghost use Rattle.auth_cli.specs.Answer.{with_call, with_state, with_state_file};
 ghost use Rattle.auth_cli.specs.Calls.{IsQueryCall, call_of};
 ghost use Rattle.auth_cli.specs.Halting.{GoesOn, GoesOnInHand, HaltCause};
-ghost use Rattle.auth_cli.specs.SoundPrograms.{HoldsSound};
 
 use crate::Halt;
 use crate::arguments::read_argument;
 use crate::queries::{FueledQuery, read_query};
 use crate::report::load;
+use command_words::VerifyArguments;
 use core_terms::{Program, Spelling};
 use lam_outside::Files;
 use printed_lines::refusal::{Argument, InputFault};
 use std::alloc::Global;
 use verifier_mode::reading::Shallow;
-
-/// The words that name a call: those of the program and of the state are names of files.
-#[derive(Clone, Copy)]
-pub struct CallWords<'a> {
-    pub program: &'a str,
-    pub role: &'a str,
-    pub state: &'a str,
-    pub argument: &'a str,
-    pub fuel: &'a str,
-}
 
 /// A call of a query.
 #[derive(Drop)]
@@ -42,12 +32,11 @@ pub const MAX_FILE: usize = 67_108_864;
 /// The call that the words name. What is refused first in this order halts it: the query, the state, the argument.
 pub fn read_call<F: Files>(
     alloc: Global,
-    words: &CallWords<'_>,
+    words: &VerifyArguments<'_>,
     files: &mut F,
 ) -> Result<Call, Halt>
     ensures goes { let words = words.now in ForSome (F.contents files.old) (λ told.
         GoesOn (with_call words.program.now words.role.now words.state.now words.argument.now words.fuel.now told) call_of result) }
-    ensures sound { let words = words.now in ForSome (F.contents files.old) (λ told. IfOk result (λ _. HoldsSound (told words.program.now))) }
     ensures valid { IfOk result (λ call. IsQueryCall (call_of call)) }
     ensures cause { HaltCause (F.faults files.old) (F.faults files.new) result }
     ensures contents { F.contents files.new ≡ F.contents files.old }

@@ -14,16 +14,6 @@ use lam_outside::Files;
 use plain_meaning::Plain;
 use std::alloc::Global;
 
-/// The words that name a call of a query on an ideal state: those of the program and of the image are names of files.
-#[derive(Clone, Copy)]
-pub struct IdealCallWords<'a> {
-    pub program: &'a str,
-    pub role: &'a str,
-    pub image: &'a str,
-    pub argument: &'a str,
-    pub fuel: &'a str,
-}
-
 /// A call of a query on an ideal state.
 #[derive(Drop)]
 pub struct IdealCall {

@@ -7,19 +7,18 @@ ghost use Rattle.core_terms.specs.Terms as tree;
 ghost use Rattle.core_terms.specs.Values.{IsIdeal};
 ghost use Rattle.plain_meaning.specs.PlainValues.{plain_of};
 ghost use Rattle.plain_meaning.specs.Telling.{IsPlainOf, plain_outcome_of};
-ghost use Rattle.auth_cli.specs.Answer.{init_answer, init_answer_of, init_outcome, initial_answer, made_answer, made_by};
+ghost use Rattle.auth_cli.specs.Answer.{init_answer_of, init_outcome, initial_answer, made_answer, made_by};
 ghost use Rattle.core_terms.specs.Roles.{init_type};
 ghost use Rattle.auth_cli.specs.Ending.{EndsAs, outside};
 ghost use Rattle.auth_cli.specs.Halting.{HaltCause};
 ghost use Rattle.auth_cli.specs.ReadPrograms.{digested};
-ghost use Rattle.auth_cli.specs.SoundPrograms.{HoldsSound, ReadSound};
 ghost use Rattle.auth_cli.specs.Storing.{FindsOutput, FindsOutputInHand};
-ghost use Rattle.auth_cli.specs.Words.{texts};
 
 use crate::arguments::{fuel_named, init_named, read_init_argument};
 use crate::programs::read_program_file;
 use crate::storing::store_and_tell;
 use crate::{Ending, Halt, Output, Report, Status};
+use command_words::InitArguments;
 use core_terms::{FunctionId, Outcome, Program};
 use digest_layer::Sha;
 use images::save_image;
@@ -30,44 +29,33 @@ use prover_mode::project;
 use std::alloc::{AllocError, Global};
 
 /// Makes a state, stores its image, and tells its projection; or tells the trap or the want of fuel.
-///
-/// The words are the command's arguments: the names of the program's file and of the role, the argument as a literal, the fuel in
-/// decimal, and the name of the file that is stored.
 pub fn init_command<F: Files, O: Sink>(
     alloc: Global,
-    words: &[&str],
+    words: &InitArguments<'_>,
     files: &mut F,
     out: &mut O,
 ) -> Status
-    requires { length words.now ≡ 5 }
-    ensures ends { let seen = outside F.contents F.stores F.faults F.store_faults O.written O.faults in
-        EndsAs (init_answer (texts words.now)) (seen files.old out.old) (seen files.new out.new) result }
-    ensures sound { ForSome (F.contents files.old) (λ told. ReadSound (texts words.now) told result) }
+    ensures { let words = words.now in let seen = outside F.contents F.stores F.faults F.store_faults O.written O.faults in
+        EndsAs (initial_answer words.program.now words.role.now words.argument.now words.fuel.now words.out.now) (seen files.old out.old) (seen files.new out.new) result }
 {
-    let [program, role, argument, fuel, name] = *words else {
-        unreachable!()
-    };
-    let found = find_initial(alloc, program, role, argument, fuel, files);
-    store_and_tell(alloc, name, files, out, found)
+    let found = find_initial(alloc, words, files);
+    store_and_tell(alloc, words.out, files, out, found)
 }
 
 /// What is found of a program and an init: the state that it makes.
 fn find_initial<F: Files>(
     alloc: Global,
-    program: &str,
-    role: &str,
-    argument: &str,
-    fuel: &str,
+    words: &InitArguments<'_>,
     files: &mut F,
 ) -> Result<Output, Halt>
-    ensures finds { (name : List ℕ) → ForSome (F.contents files.old) (λ told. FindsOutput name (initial_answer program.now role.now argument.now fuel.now name told) result) }
-    ensures sound { ForSome (F.contents files.old) (λ told. IfOk result (λ _. HoldsSound (told program.now))) }
+    ensures finds { let words = words.now in ForSome (F.contents files.old) (λ told.
+        FindsOutput words.out.now (initial_answer words.program.now words.role.now words.argument.now words.fuel.now words.out.now told) result) }
     ensures cause { HaltCause (F.faults files.old) (F.faults files.new) result }
     ensures stores { F.stores files.new ≡ F.stores files.old }
     ensures store_faults { F.store_faults files.new ≡ F.store_faults files.old }
 {
-    let program = read_program_file(alloc, files, program)?;
-    make_state(alloc, &program, role, argument, fuel)
+    let program = read_program_file(alloc, files, words.program)?;
+    make_state(alloc, &program, words.role, words.argument, words.fuel)
 }
 
 /// What an init of a program gives.

@@ -20,7 +20,6 @@ mod storing;
 mod top;
 mod values;
 mod verify_query;
-mod words;
 
 pub use audit_proof::audit_command;
 pub use check_program::check_command;
@@ -31,4 +30,3 @@ pub use shallow_state::shallow_command;
 pub use status::Status;
 pub use top::run;
 pub use verify_query::verify_command;
-pub use words::Command;

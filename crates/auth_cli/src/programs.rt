@@ -2,20 +2,22 @@
 ghost use Rattle.std.specs.Prelude.{◌≡◌, ◌≤◌, length, IfOk};
 ghost use Rattle.std.specs.Option.{ForSome};
 ghost use Rattle.sha2.specs.Sha256.{sha256};
-ghost use Rattle.auth_cli.specs.Answer.{with_program_file};
+ghost use Rattle.core_terms.specs.LanguagePrograms as language;
+ghost use Rattle.core_terms.specs.Programs.{meaning};
+ghost use Rattle.auth_cli.specs.Answer.{with_language_file, with_program_file};
 ghost use Rattle.auth_cli.specs.Halting.{GoesOn, HaltCause};
 ghost use Rattle.auth_cli.specs.NamedCalls.{KeepsProgram};
-ghost use Rattle.auth_cli.specs.ReadPrograms.{ReadsProgram, digested};
-ghost use Rattle.auth_cli.specs.SoundPrograms.{HoldsSound};
-ghost use Rattle.auth_cli.specs.TextPrograms.{program_of_text};
+ghost use Rattle.auth_cli.specs.ReadPrograms.{ReadsProgram, digested, language_digested};
+ghost use Rattle.auth_cli.specs.TextPrograms.{language_program_of_text, program_of_text};
 
 use crate::Halt;
 use crate::report::load;
 use auth_syntax::fault::SyntaxFault;
-use auth_syntax::parser::parse_fragment;
+use auth_syntax::parser::{parse, parse_fragment};
 use auth_types::check::check;
 use auth_types::fault::TypeFault;
-use core_terms::{Hash32, Program};
+use auth_types::fragment::check_fragment;
+use core_terms::{Hash32, Program, language};
 use digest_layer::Sha;
 use lam_outside::Files;
 use printed_lines::refusal::{Argument, ProgramKind};
@@ -65,23 +67,50 @@ impl From<TypeFault> for ProgramFault {
 /// The longest text of a program, in bytes.
 const MAX_PROGRAM: usize = 262_144;
 
-/// The program of a text of at most 262,144 bytes, with the SHA-256 digest of the text.
+/// The program of a text of at most 262,144 bytes, with the SHA-256 digest of the text. It may have all forms of the language.
 ///
 /// # Errors
 ///
 /// `At` with the first fault of the syntax, or of the typing where the syntax has none; `NoMemory` where there is no memory for
 /// the tokens, the tree or the program.
-#[tactic(auto, unfolding(crate::specs::TextPrograms::program_of_text))]
-pub fn read_program(alloc: Global, text: &[u8]) -> Result<Program, ProgramFault>
+#[tactic(auto, unfolding(crate::specs::TextPrograms::language_program_of_text))]
+pub fn read_language_program(alloc: Global, text: &[u8]) -> Result<language::Program, ProgramFault>
     requires { length text.now ≤ 262144 }
-    ensures answer { ReadsProgram (program_of_text text.now) result }
+    ensures answer { ReadsProgram language.meaning (language_program_of_text text.now) result }
     ensures digest { IfOk result (λ p. p.text_digest.0 ≡ sha256 text.now) }
 {
-    let ast = parse_fragment(alloc, text)?;
+    let ast = parse(alloc, text)?;
     Ok(check(alloc, ast, Sha::of(text))?)
 }
 
-/// The program in a file.
+/// The same of a text of the fragment that runs so far; a token that goes beyond it is a fault of the syntax.
+#[tactic(auto, unfolding(crate::specs::TextPrograms::program_of_text))]
+pub fn read_program(alloc: Global, text: &[u8]) -> Result<Program, ProgramFault>
+    requires { length text.now ≤ 262144 }
+    ensures answer { ReadsProgram meaning (program_of_text text.now) result }
+    ensures digest { IfOk result (λ p. p.text_digest.0 ≡ sha256 text.now) }
+{
+    let ast = parse_fragment(alloc, text)?;
+    Ok(check_fragment(alloc, ast, Sha::of(text))?)
+}
+
+/// The program of the whole language in a file.
+pub fn read_language_file<F: Files>(
+    alloc: Global,
+    files: &mut F,
+    name: &str,
+) -> Result<language::Program, Halt>
+    ensures goes { ForSome (F.contents files.old) (λ told. GoesOn (with_language_file (told name.now)) language_digested result) }
+    ensures cause { HaltCause (F.faults files.old) (F.faults files.new) result }
+    ensures contents { F.contents files.new ≡ F.contents files.old }
+    ensures stores { F.stores files.new ≡ F.stores files.old }
+    ensures store_faults { F.store_faults files.new ≡ F.store_faults files.old }
+{
+    let text = load(alloc, files, Argument::Program, name, MAX_PROGRAM)?;
+    Ok(read_language_program(alloc, &text)?)
+}
+
+/// The program of the fragment in a file.
 pub fn read_program_file<F: Files>(
     alloc: Global,
     files: &mut F,
@@ -89,7 +118,6 @@ pub fn read_program_file<F: Files>(
 ) -> Result<Program, Halt>
     ensures goes { ForSome (F.contents files.old) (λ told. GoesOn (with_program_file (told name.now)) digested result) }
     ensures kept { ForSome (F.contents files.old) (λ told. IfOk result (λ program. KeepsProgram (told name.now) (digested program))) }
-    ensures sound { ForSome (F.contents files.old) (λ told. IfOk result (λ _. HoldsSound (told name.now))) }
     ensures cause { HaltCause (F.faults files.old) (F.faults files.new) result }
     ensures contents { F.contents files.new ≡ F.contents files.old }
     ensures stores { F.stores files.new ≡ F.stores files.old }

@@ -1,24 +1,25 @@
 // The command `prove`.
-ghost use Rattle.std.specs.Prelude.{◌≡◌, ◌≤◌, ◌∷◌, ℕ, List, [], length, IfOk};
+ghost use Rattle.std.specs.Prelude.{◌≡◌, ◌≤◌, ℕ, List, IfOk};
 ghost use Rattle.std.specs.Option.{ForSome};
+ghost use Rattle.command_words.specs.Invocations.{Prove};
 ghost use Rattle.core_terms.specs.Programs.{meaning, types_of};
 ghost use Rattle.core_terms.specs.TypeTables.{type_at};
-ghost use Rattle.auth_cli.specs.Answer.{proof_answer, prove_answer, proved_answer};
+ghost use Rattle.auth_cli.specs.Answer.{proof_answer, proved_answer};
 ghost use Rattle.auth_cli.specs.Calls.{IsIdealCall, ideal_call_of};
 ghost use Rattle.auth_cli.specs.Ending.{EndsAs, outside};
 ghost use Rattle.auth_cli.specs.Halting.{HaltCause};
 ghost use Rattle.auth_cli.specs.ProvedCalls.{IsProved, MeansProof};
 ghost use Rattle.auth_cli.specs.Reporting.{ReportsProof};
-ghost use Rattle.auth_cli.specs.SoundPrograms.{HoldsSound, IsOutcome, ReadSound};
+ghost use Rattle.auth_cli.specs.SoundPrograms.{IsOutcome};
 ghost use Rattle.auth_cli.specs.Storing.{FindsOutput, IsOutput};
-ghost use Rattle.auth_cli.specs.Words.{texts};
 
 use crate::arguments::kept_named;
-use crate::ideal_calls::{IdealCall, IdealCallWords, read_ideal_call};
+use crate::ideal_calls::{IdealCall, read_ideal_call};
 use crate::outcomes::report_of;
 use crate::queries::read_query;
 use crate::storing::store_and_tell;
 use crate::{Halt, Output, Report, Status};
+use command_words::ProveArguments;
 use core_terms::{Program, TyId};
 use digest_layer::Sha;
 use lam_outside::{Files, Sink};
@@ -27,54 +28,37 @@ use prover_mode::{Proved, proof_file, prove};
 use std::alloc::{AllocError, Global};
 
 /// Proves a call of a query, stores the proof file, and tells the outcome and what the proof has.
-///
-/// The words are the command's arguments: the names of the program's file, of the role and of the file with the state's image, the
-/// argument as a literal, the fuel and the number of pieces that are kept in decimal, and the name of the file that is stored.
 pub fn prove_command<F: Files, O: Sink>(
     alloc: Global,
-    words: &[&str],
+    words: &ProveArguments<'_>,
     files: &mut F,
     out: &mut O,
 ) -> Status
-    requires { length words.now ≡ 7 }
-    ensures ends { let seen = outside F.contents F.stores F.faults F.store_faults O.written O.faults in
-        EndsAs (prove_answer (texts words.now)) (seen files.old out.old) (seen files.new out.new) result }
-    ensures sound { ForSome (F.contents files.old) (λ told. ReadSound (texts words.now) told result) }
-    ensures proved { let seen = outside F.contents F.stores F.faults F.store_faults O.written O.faults in
-        ForSome (F.contents files.old) (λ told. IsOutcome result → IsProved (texts words.now) told (seen files.old out.old) (seen files.new out.new) result) }
+    ensures ends { let words = words.now in let seen = outside F.contents F.stores F.faults F.store_faults O.written O.faults in
+        EndsAs (proved_answer words.program.now words.role.now words.image.now words.argument.now words.fuel.now words.kept.now words.out.now) (seen files.old out.old) (seen files.new out.new) result }
+    ensures proved { let words = words.now in let seen = outside F.contents F.stores F.faults F.store_faults O.written O.faults in
+        ForSome (F.contents files.old) (λ told. IsOutcome result → IsProved (Prove words.program.now words.role.now words.image.now words.argument.now words.fuel.now words.kept.now words.out.now) told (seen files.old out.old) (seen files.new out.new) result) }
 {
-    let [program, role, image, argument, fuel, kept, name] = *words else {
-        unreachable!()
-    };
-    let call = IdealCallWords {
-        program,
-        role,
-        image,
-        argument,
-        fuel,
-    };
-    let found = find_proof(alloc, &call, kept, files);
-    store_and_tell(alloc, name, files, out, found)
+    let found = find_proof(alloc, words, files);
+    store_and_tell(alloc, words.out, files, out, found)
 }
 
 /// What is found of a call and the number of pieces that are kept: the proof. The image is opened when the numbers are well-formed.
 fn find_proof<F: Files>(
     alloc: Global,
-    words: &IdealCallWords<'_>,
-    kept: &str,
+    words: &ProveArguments<'_>,
     files: &mut F,
 ) -> Result<Output, Halt>
-    ensures finds { let words = words.now in (name : List ℕ) → ForSome (F.contents files.old) (λ told.
-        FindsOutput name (proved_answer words.program.now words.role.now words.image.now words.argument.now words.fuel.now kept.now name told) result) }
-    ensures means { let words = words.now in (name : List ℕ) → ForSome (F.contents files.old) (λ told. IfOk result (λ _.
-        MeansProof (words.program.now ∷ words.role.now ∷ words.image.now ∷ words.argument.now ∷ words.fuel.now ∷ kept.now ∷ name ∷ []) told)) }
-    ensures sound { let words = words.now in ForSome (F.contents files.old) (λ told. IfOk result (λ _. HoldsSound (told words.program.now))) }
+    ensures finds { let words = words.now in ForSome (F.contents files.old) (λ told.
+        FindsOutput words.out.now (proved_answer words.program.now words.role.now words.image.now words.argument.now words.fuel.now words.kept.now words.out.now told) result) }
+    ensures means { let words = words.now in ForSome (F.contents files.old) (λ told. IfOk result (λ _.
+        MeansProof (Prove words.program.now words.role.now words.image.now words.argument.now words.fuel.now words.kept.now words.out.now) told)) }
     ensures cause { HaltCause (F.faults files.old) (F.faults files.new) result }
     ensures stores { F.stores files.new ≡ F.stores files.old }
     ensures store_faults { F.store_faults files.new ≡ F.store_faults files.old }
 {
     let query = read_query(alloc, files, words.program, words.role, words.fuel)?;
-    let kept = kept_named(&query.program, kept)?;
+    let kept = kept_named(&query.program, words.kept)?;
     let call = read_ideal_call(alloc, files, query, words.image, words.argument)?;
     Ok(make_proof(alloc, &call, kept)?)
 }

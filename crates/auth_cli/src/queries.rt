@@ -5,7 +5,6 @@ ghost use Rattle.auth_cli.specs.Answer.{with_fueled_query};
 ghost use Rattle.auth_cli.specs.Calls.{IsQuery, query_of};
 ghost use Rattle.auth_cli.specs.Halting.{GoesOn, HaltCause};
 ghost use Rattle.auth_cli.specs.NamedCalls.{NamesQuery};
-ghost use Rattle.auth_cli.specs.SoundPrograms.{HoldsSound};
 
 use crate::Halt;
 use crate::arguments::{fuel_named, query_named};
@@ -32,7 +31,6 @@ pub fn read_query<F: Files>(
 ) -> Result<FueledQuery, Halt>
     ensures goes { ForSome (F.contents files.old) (λ told. GoesOn (with_fueled_query program.now role.now fuel.now told) query_of result) }
     ensures named { ForSome (F.contents files.old) (λ told. IfOk result (λ query. NamesQuery program.now role.now fuel.now told (query_of query))) }
-    ensures sound { ForSome (F.contents files.old) (λ told. IfOk result (λ _. HoldsSound (told program.now))) }
     ensures valid { IfOk result (λ query. IsQuery (query_of query)) }
     ensures cause { HaltCause (F.faults files.old) (F.faults files.new) result }
     ensures contents { F.contents files.new ≡ F.contents files.old }

@@ -1,20 +1,19 @@
 // The command `shallow`.
-ghost use Rattle.std.specs.Prelude.{◌≡◌, ℕ, List, length, IfOk};
+ghost use Rattle.std.specs.Prelude.{◌≡◌, ℕ, List, IfOk};
 ghost use Rattle.std.specs.Option.{ForSome};
 ghost use Rattle.core_terms.specs.Programs.{meaning};
 ghost use Rattle.core_terms.specs.Values.{IsIdeal};
 ghost use Rattle.plain_meaning.specs.PlainValues.{plain_of};
-ghost use Rattle.auth_cli.specs.Answer.{shallow_answer, spelled_answer, state_answer};
+ghost use Rattle.auth_cli.specs.Answer.{spelled_answer, state_answer};
 ghost use Rattle.auth_cli.specs.Ending.{EndsAs, outside};
 ghost use Rattle.auth_cli.specs.Halting.{HaltCause};
-ghost use Rattle.auth_cli.specs.SoundPrograms.{HoldsSound, ReadSound};
 ghost use Rattle.auth_cli.specs.Storing.{FindsOutput, IsOutput};
-ghost use Rattle.auth_cli.specs.Words.{texts};
 
 use crate::programs::read_program_file;
 use crate::states::read_image_file;
 use crate::storing::store_and_tell;
 use crate::{Ending, Halt, Output, Report, Status};
+use command_words::ShallowArguments;
 use core_terms::Program;
 use digest_layer::Sha;
 use lam_outside::{Files, Sink};
@@ -24,25 +23,17 @@ use prover_mode::project;
 use std::alloc::{AllocError, Global};
 
 /// Stores the spelling of the projection of a state, and tells its value.
-///
-/// The words are the command's arguments: the names of the program's file, of the file with the state's image and of the
-/// file that is stored.
 pub fn shallow_command<F: Files, O: Sink>(
     alloc: Global,
-    words: &[&str],
+    words: &ShallowArguments<'_>,
     files: &mut F,
     out: &mut O,
 ) -> Status
-    requires { length words.now ≡ 3 }
-    ensures ends { let seen = outside F.contents F.stores F.faults F.store_faults O.written O.faults in
-        EndsAs (shallow_answer (texts words.now)) (seen files.old out.old) (seen files.new out.new) result }
-    ensures sound { ForSome (F.contents files.old) (λ told. ReadSound (texts words.now) told result) }
+    ensures { let words = words.now in let seen = outside F.contents F.stores F.faults F.store_faults O.written O.faults in
+        EndsAs (spelled_answer words.program.now words.image.now words.out.now) (seen files.old out.old) (seen files.new out.new) result }
 {
-    let [program, image, name] = *words else {
-        unreachable!()
-    };
-    let found = find_state(alloc, program, image, files);
-    store_and_tell(alloc, name, files, out, found)
+    let found = find_state(alloc, words.program, words.image, files);
+    store_and_tell(alloc, words.out, files, out, found)
 }
 
 /// What is found of an image: the projection of its state.
@@ -53,7 +44,6 @@ fn find_state<F: Files>(
     files: &mut F,
 ) -> Result<Output, Halt>
     ensures finds { (name : List ℕ) → ForSome (F.contents files.old) (λ told. FindsOutput name (spelled_answer program.now image.now name told) result) }
-    ensures sound { ForSome (F.contents files.old) (λ told. IfOk result (λ _. HoldsSound (told program.now))) }
     ensures cause { HaltCause (F.faults files.old) (F.faults files.new) result }
     ensures stores { F.stores files.new ≡ F.stores files.old }
     ensures store_faults { F.store_faults files.new ≡ F.store_faults files.old }

@@ -1,24 +1,24 @@
 // All that the program does.
-ghost use Rattle.std.specs.Prelude.{◌≡◌, ◌≢◌, ◌⊎◌, ◌↔◌, ◌<◌, ◌-◌, ◌^◌, ℕ, List, drop, codes, Some};
+ghost use Rattle.std.specs.Prelude.{◌≡◌, ◌≢◌, ◌⊎◌, ◌↔◌, ◌<◌, ◌-◌, ◌^◌, ℕ, List, codes, Some, None};
 ghost use Rattle.std.specs.Option.{ForSome};
 ghost use Rattle.std.specs.Io.KnownBytes.{append_known};
+ghost use Rattle.command_words.specs.CommandLine.{AreRefused};
+ghost use Rattle.command_words.specs.Invocations.{Invocation, invocation_of, texts};
 ghost use Rattle.lam_outside.specs.Causes.{Rose};
 ghost use Rattle.auth_cli.specs.Answer.{answer};
-ghost use Rattle.auth_cli.specs.AuditedCalls.{AuditedBy, IsAudited, TellsAnAudit};
+ghost use Rattle.auth_cli.specs.AuditedCalls.{AuditedBy, IsAudit, IsAudited, TellsAnAudit};
 ghost use Rattle.auth_cli.specs.Codes.{code};
-ghost use Rattle.auth_cli.specs.Ending.{outside, EndsAs, IsToldByCode, MayWrite, NoneRose, StoresSome, WritesPart, no_memory_text};
-ghost use Rattle.auth_cli.specs.ProvedCalls.{IsProved, ProvedBy};
-ghost use Rattle.auth_cli.specs.SoundPrograms.{ReadSound};
+ghost use Rattle.auth_cli.specs.Ending.{outside, EndsAs, IsOfRefused, IsToldByCode, MayWrite, NoneRose, StoresSome, WritesPart, no_memory_text};
+ghost use Rattle.auth_cli.specs.ProvedCalls.{IsProve, IsProved, ProvedBy};
 ghost use Rattle.auth_cli.specs.TrueLines.{IsTrueLine, TellsOutcome};
-ghost use Rattle.auth_cli.specs.Words.{command_of, texts};
-ghost use Rattle.auth_cli.specs.declared.words.Command.TheVariants.{Audit, Prove};
 ghost use Rattle.auth_cli.specs.declared.status.Status.{Status};
 
 use crate::report::tell;
 use crate::{
-    Command, Halt, Status, audit_command, check_command, init_command, prove_command,
-    shallow_command, verify_command,
+    Halt, Status, audit_command, check_command, init_command, prove_command, shallow_command,
+    verify_command,
 };
+use command_words::{Command, WordsFault, read};
 use lam_outside::{Files, Sink};
 use std::alloc::Global;
 
@@ -97,15 +97,20 @@ pub fn run<F: Files, O: Sink>(alloc: Global, words: &[&str], files: &mut F, out:
 
     // What `prove` stores is accepted: `verify` answers it, from the projected state alone, with the very status and line of the run.
     ensures companion { let seen = outside F.contents F.stores F.faults F.store_faults O.written O.faults in
-        command_of (texts words.now) ≡ Some Prove → TellsOutcome result → ForSome (F.contents files.old) (λ told.
-        (status : Status) × (result ≡ code status) × IsProved (drop 2 (texts words.now)) told (seen files.old out.old) (seen files.new out.new) status) }
+        (called : Invocation) → invocation_of (texts words.now) ≡ Some called → IsProve called → TellsOutcome result → ForSome (F.contents files.old) (λ told.
+        (status : Status) × (result ≡ code status) × IsProved called told (seen files.old out.old) (seen files.new out.new) status) }
 
     // What `audit` tells is so: 11, which no other command answers, exactly where the offered pieces split from the honest ones, with
     // the place and both pieces.
     ensures audited { let seen = outside F.contents F.stores F.faults F.store_faults O.written O.faults in
-        command_of (texts words.now) ≡ Some Audit → TellsAnAudit result → ForSome (F.contents files.old) (λ told.
-        (status : Status) × (result ≡ code status) × IsAudited (drop 2 (texts words.now)) told (seen files.old out.old) (seen files.new out.new) status) }
-    ensures collision { result ≡ 11 → ForSome (F.contents files.old) (λ _. command_of (texts words.now) ≡ Some Audit) }
+        (called : Invocation) → invocation_of (texts words.now) ≡ Some called → IsAudit called → TellsAnAudit result → ForSome (F.contents files.old) (λ told.
+        (status : Status) × (result ≡ code status) × IsAudited called told (seen files.old out.old) (seen files.new out.new) status) }
+    ensures collision { result ≡ 11 → ForSome (F.contents files.old) (λ _.
+        (called : Invocation) × (invocation_of (texts words.now) ≡ Some called) × IsAudit called) }
+
+    // 2 exactly where the program's own test or clap refuses the words, 9 and 10 aside.
+    ensures usage { result ≡ 2 → ForSome (F.contents files.old) (λ _. AreRefused (texts words.now)) }
+    ensures refused { AreRefused (texts words.now) → (result ≡ 2) ⊎ ((result ≡ 9) ⊎ (result ≡ 10)) }
 
     // 8 exactly where the read count rose, 9 and 10 aside, and then `read fault` alone was written.
     ensures read_fault { result ≡ 8 → Rose (F.faults files.old) (F.faults files.new) }
@@ -133,19 +138,20 @@ pub fn run<F: Files, O: Sink>(alloc: Global, words: &[&str], files: &mut F, out:
 fn ended<F: Files, O: Sink>(alloc: Global, words: &[&str], files: &mut F, out: &mut O) -> Status
     ensures ends { let seen = outside F.contents F.stores F.faults F.store_faults O.written O.faults in
         EndsAs (answer (texts words.now)) (seen files.old out.old) (seen files.new out.new) result }
-    ensures sound { ForSome (F.contents files.old) (λ told. ReadSound (drop 2 (texts words.now)) told result) }
     ensures proved { let seen = outside F.contents F.stores F.faults F.store_faults O.written O.faults in
-        ForSome (F.contents files.old) (λ told. ProvedBy (command_of (texts words.now)) (drop 2 (texts words.now)) told (seen files.old out.old) (seen files.new out.new) result) }
+        ForSome (F.contents files.old) (λ told. ProvedBy (invocation_of (texts words.now)) told (seen files.old out.old) (seen files.new out.new) result) }
     ensures audited { let seen = outside F.contents F.stores F.faults F.store_faults O.written O.faults in
-        ForSome (F.contents files.old) (λ told. AuditedBy (command_of (texts words.now)) (drop 2 (texts words.now)) told (seen files.old out.old) (seen files.new out.new) result) }
+        ForSome (F.contents files.old) (λ told. AuditedBy (invocation_of (texts words.now)) told (seen files.old out.old) (seen files.new out.new) result) }
+    ensures refused { invocation_of (texts words.now) ≡ None → IsOfRefused result }
 {
-    match Command::of_words(words) {
-        Some(Command::Check) => check_command(alloc, &words[2..], files, out),
-        Some(Command::Verify) => verify_command(alloc, &words[2..], files, out),
-        Some(Command::Init) => init_command(alloc, &words[2..], files, out),
-        Some(Command::Shallow) => shallow_command(alloc, &words[2..], files, out),
-        Some(Command::Prove) => prove_command(alloc, &words[2..], files, out),
-        Some(Command::Audit) => audit_command(alloc, &words[2..], files, out),
-        None => tell(alloc, out, Err(Halt::Usage)),
+    match read(alloc, words) {
+        Ok(Command::Check(words)) => check_command(alloc, &words, files, out),
+        Ok(Command::Init(words)) => init_command(alloc, &words, files, out),
+        Ok(Command::Shallow(words)) => shallow_command(alloc, &words, files, out),
+        Ok(Command::Prove(words)) => prove_command(alloc, &words, files, out),
+        Ok(Command::Verify(words)) => verify_command(alloc, &words, files, out),
+        Ok(Command::Audit(words)) => audit_command(alloc, &words, files, out),
+        Err(WordsFault::Refused) => tell(alloc, out, Err(Halt::Usage)),
+        Err(WordsFault::NoMemory) => tell(alloc, out, Err(Halt::NoMemory)),
     }
 }

@@ -12,7 +12,7 @@ ghost use Rattle.auth_cli.specs.Halting.{GoesOnInHand};
 ghost use Rattle.auth_cli.specs.PlainArguments.{IsPlainValue, IsSpelling, SpellsAlone};
 
 use crate::Halt;
-use auth_syntax::literal::parse_literal;
+use auth_syntax::literal::parse_fragment_literal;
 use core_terms::{Program, Text, TyId};
 use plain_meaning::Plain;
 use std::alloc::{AllocError, Global};
@@ -25,7 +25,7 @@ pub fn read_value(alloc: Global, program: &Program, ty: TyId, text: &str) -> Res
     ensures value { IfOk result (λ value. literal_at (meaning program.now) (type_at (types_of program.now) ty) text.now ≡ IsValue (plain_of value)) }
     ensures ideal { IfOk result (λ value. IsIdeal (meaning program.now).types (type_at (types_of program.now) ty) (plain_of value)) }
 {
-    let spelling = parse_literal(alloc, program, ty, text)?;
+    let spelling = parse_fragment_literal(alloc, program, ty, text)?;
     let value = read_back(program, ty, spelling.as_bytes());
     Ok(owned(alloc, value)?)
 }

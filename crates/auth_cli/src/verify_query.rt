@@ -1,18 +1,17 @@
 // The command `verify`.
-ghost use Rattle.std.specs.Prelude.{◌≡◌, length, IfOk};
+ghost use Rattle.std.specs.Prelude.{◌≡◌, IfOk};
 ghost use Rattle.std.specs.Option.{ForSome};
 ghost use Rattle.verifier_mode.specs.Verdicts.{Answers};
-ghost use Rattle.auth_cli.specs.Answer.{call_answer, call_verdict, judged_answer, verify_answer};
+ghost use Rattle.auth_cli.specs.Answer.{call_answer, call_verdict, judged_answer};
 ghost use Rattle.auth_cli.specs.Calls.{IsQueryCall, call_of};
 ghost use Rattle.auth_cli.specs.Ending.{EndsAs, outside};
 ghost use Rattle.auth_cli.specs.Halting.{Finds, FindsInHand, HaltCause};
-ghost use Rattle.auth_cli.specs.SoundPrograms.{HoldsSound, ReadSound};
-ghost use Rattle.auth_cli.specs.Words.{texts};
 
-use crate::calls::{Call, CallWords, MAX_FILE, read_call};
+use crate::calls::{Call, MAX_FILE, read_call};
 use crate::outcomes::report_of;
 use crate::report::{load, tell};
 use crate::{Halt, Report, Status};
+use command_words::VerifyArguments;
 use core_terms::{Outcome, Spelling};
 use digest_layer::Sha;
 use lam_outside::{Files, Sink};
@@ -21,50 +20,33 @@ use std::alloc::Global;
 use verifier_mode::{Verdict, verify};
 
 /// Verifies a proof of a query, and tells the outcome.
-///
-/// The words are the command's arguments: the names of the program's file, of the role and of the file with the state's
-/// spelling, the argument as a literal, the fuel in decimal, and the name of the proof's file.
 pub fn verify_command<F: Files, O: Sink>(
     alloc: Global,
-    words: &[&str],
+    words: &VerifyArguments<'_>,
     files: &mut F,
     out: &mut O,
 ) -> Status
-    requires { length words.now ≡ 6 }
-    ensures ends { let seen = outside F.contents F.stores F.faults F.store_faults O.written O.faults in
-        EndsAs (verify_answer (texts words.now)) (seen files.old out.old) (seen files.new out.new) result }
-    ensures sound { ForSome (F.contents files.old) (λ told. ReadSound (texts words.now) told result) }
+    ensures { let words = words.now in let seen = outside F.contents F.stores F.faults F.store_faults O.written O.faults in
+        EndsAs (judged_answer words.program.now words.role.now words.state.now words.argument.now words.fuel.now words.proof.now) (seen files.old out.old) (seen files.new out.new) result }
 {
-    let [program, role, state, argument, fuel, proof] = *words else {
-        unreachable!()
-    };
-    let call = CallWords {
-        program,
-        role,
-        state,
-        argument,
-        fuel,
-    };
-    let found = find_verdict(alloc, &call, proof, files);
+    let found = find_verdict(alloc, words, files);
     tell(alloc, out, found)
 }
 
 /// What is found of a call and a proof: the proof file is opened when all else is well-formed.
 fn find_verdict<F: Files>(
     alloc: Global,
-    words: &CallWords<'_>,
-    proof: &str,
+    words: &VerifyArguments<'_>,
     files: &mut F,
 ) -> Result<Report, Halt>
     ensures finds { let words = words.now in ForSome (F.contents files.old) (λ told.
-        Finds (judged_answer words.program.now words.role.now words.state.now words.argument.now words.fuel.now proof.now told) result) }
-    ensures sound { let words = words.now in ForSome (F.contents files.old) (λ told. IfOk result (λ _. HoldsSound (told words.program.now))) }
+        Finds (judged_answer words.program.now words.role.now words.state.now words.argument.now words.fuel.now words.proof.now told) result) }
     ensures cause { HaltCause (F.faults files.old) (F.faults files.new) result }
     ensures stores { F.stores files.new ≡ F.stores files.old }
     ensures store_faults { F.store_faults files.new ≡ F.store_faults files.old }
 {
     let call = read_call(alloc, words, files)?;
-    let proof = load(alloc, files, Argument::Proof, proof, MAX_FILE)?;
+    let proof = load(alloc, files, Argument::Proof, words.proof, MAX_FILE)?;
     judge(alloc, &call, &proof)
 }
 

@@ -1,6 +1,7 @@
-use Rattle.std.proofs.Common.{◌≡◌, ◌∙◌, [], ◌∷◌, refl, sym, subst}
+use Rattle.std.proofs.Common.{◌≡◌, ◌∙◌, refl, sym, subst}
 use Rattle.std.proofs.lemmas.Result.{err_from_is_err_and}
 use Rattle.std.specs.Prelude.{ℕ, List, Option, Some}
+use Rattle.command_words.specs.Invocations.{Audit}
 use Rattle.lam_outside.specs.Told.{Contents}
 use Rattle.printed_lines.specs.declared.refusal.Argument.TheVariants.{Proof}
 use Rattle.auth_cli.specs.Answer.{Answer, call_audit_answer, max_file, with_file, with_fueled_query, with_ideal_call}
@@ -12,7 +13,6 @@ use Rattle.auth_cli.specs.IdealCalls.{IdealCall}
 use Rattle.auth_cli.specs.NamedCalls.{NamesQuery}
 use Rattle.auth_cli.proofs.AuditedRuns.{if_judged}
 use Rattle.auth_cli.proofs.Steps.{finds_halt, halts_behind, report_found}
-use Rattle.auth_cli.proofs.Told.{if_ok}
 use Rattle.auth_cli.proofs.TrueAudits.{true_audit}
 use Rattle.auth_cli.proofs.Unjudged.{inputs_stop, proof_stops, query_stops, unjudged, unjudged_halt}
 use Rattle.auth_cli.proofs.audit_proof.find_audit.Goals as goal
@@ -29,19 +29,19 @@ behind_query image argument proof files q = with_ideal_call q image argument fil
 
 -- what the words mean
 abbrev meant : (program role image argument fuel proof : List ℕ) → Contents → Type 0
-meant program role image argument fuel proof files = MeansAudit (program ∷ role ∷ image ∷ argument ∷ fuel ∷ proof ∷ []) files
+meant program role image argument fuel proof files = MeansAudit (Audit program role image argument fuel proof) files
 
 pub returns-in_err-query-clause-finds : goal.returns-in_err-query-clause-finds
 returns-in_err-query-clause-finds g c = λ told known.
     let words = c.args.words.now in
     let err = err_from_is_err_and c.from_residual.result c.from_residual.ensures.1 in
-    finds_halt _ c.from_residual.result _ (cc) (c.in_err-query.ensures.goes told known (behind_query words.image.now words.argument.now c.args.proof.now told))
+    finds_halt _ c.from_residual.result _ (cc) (c.in_err-query.ensures.goes told known (behind_query words.image.now words.argument.now c.args.words.now.proof.now told))
 
 pub returns-in_err-query-clause-means : goal.returns-in_err-query-clause-means
 returns-in_err-query-clause-means g c = λ told known.
     let words = c.args.words.now in
     let err = err_from_is_err_and c.from_residual.result c.from_residual.ensures.1 in
-    unjudged_halt (meant words.program.now words.role.now words.image.now words.argument.now words.fuel.now c.args.proof.now told) (with_fueled_query words.program.now words.role.now words.fuel.now told) (query_stops words.program.now words.role.now words.fuel.now told) c.from_residual.result _ (cc)
+    unjudged_halt (meant words.program.now words.role.now words.image.now words.argument.now words.fuel.now c.args.words.now.proof.now told) (with_fueled_query words.program.now words.role.now words.fuel.now told) (query_stops words.program.now words.role.now words.fuel.now told) c.from_residual.result _ (cc)
     (c.in_err-query.ensures.goes told known (λ (q : FueledQuery). unjudged))
 
 pub returns-in_err-call-clause-finds : goal.returns-in_err-call-clause-finds
@@ -49,15 +49,15 @@ returns-in_err-call-clause-finds g c = λ told known.
     let words = c.args.words.now in
     let err = err_from_is_err_and c.from_residual-in_err-call.result c.from_residual-in_err-call.ensures.1 in
     finds_halt _ c.from_residual-in_err-call.result _ (cc)
-    (halts_behind _ _ _ (c.in_ok-query.ensures.goes told known (behind_query words.image.now words.argument.now c.args.proof.now told))
-    (c.in_err-call.ensures.goes told (c.in_ok-query.ensures.contents ∙ known) (behind_inputs c.args.proof.now told)))
+    (halts_behind _ _ _ (c.in_ok-query.ensures.goes told known (behind_query words.image.now words.argument.now c.args.words.now.proof.now told))
+    (c.in_err-call.ensures.goes told (c.in_ok-query.ensures.contents ∙ known) (behind_inputs c.args.words.now.proof.now told)))
 
 pub returns-in_err-call-clause-means : goal.returns-in_err-call-clause-means
 returns-in_err-call-clause-means g c = λ told known.
     let words = c.args.words.now in
     let q = query_of c.in_ok-query.query in
     let err = err_from_is_err_and c.from_residual-in_err-call.result c.from_residual-in_err-call.ensures.1 in
-    unjudged_halt (meant words.program.now words.role.now words.image.now words.argument.now words.fuel.now c.args.proof.now told) (with_ideal_call q words.image.now words.argument.now told) (inputs_stop q words.image.now words.argument.now told) c.from_residual-in_err-call.result _ (cc)
+    unjudged_halt (meant words.program.now words.role.now words.image.now words.argument.now words.fuel.now c.args.words.now.proof.now told) (with_ideal_call q words.image.now words.argument.now told) (inputs_stop q words.image.now words.argument.now told) c.from_residual-in_err-call.result _ (cc)
     (c.in_err-call.ensures.goes told (c.in_ok-query.ensures.contents ∙ known) (λ (call : IdealCall). unjudged))
 
 pub returns-in_err-proof-clause-finds : goal.returns-in_err-proof-clause-finds
@@ -66,15 +66,15 @@ returns-in_err-proof-clause-finds g c = λ told known.
     let err = err_from_is_err_and c.from_residual-in_err-proof.result c.from_residual-in_err-proof.ensures.1 in
     finds_halt _ c.from_residual-in_err-proof.result _ (cc)
     (halts_behind _ _ _
-    (c.in_ok-query.ensures.goes told known (behind_query words.image.now words.argument.now c.args.proof.now told)
-    ∙ c.in_ok-call.ensures.goes told (c.in_ok-query.ensures.contents ∙ known) (behind_inputs c.args.proof.now told))
+    (c.in_ok-query.ensures.goes told known (behind_query words.image.now words.argument.now c.args.words.now.proof.now told)
+    ∙ c.in_ok-call.ensures.goes told (c.in_ok-query.ensures.contents ∙ known) (behind_inputs c.args.words.now.proof.now told))
     (c.in_err-proof.ensures.goes told (c.in_ok-call.ensures.contents ∙ (c.in_ok-query.ensures.contents ∙ known)) (behind_proof (ideal_call_of c.in_ok-call.call))))
 
 pub returns-in_err-proof-clause-means : goal.returns-in_err-proof-clause-means
 returns-in_err-proof-clause-means g c = λ told known.
     let words = c.args.words.now in
     let err = err_from_is_err_and c.from_residual-in_err-proof.result c.from_residual-in_err-proof.ensures.1 in
-    unjudged_halt (meant words.program.now words.role.now words.image.now words.argument.now words.fuel.now c.args.proof.now told) (with_file max_file Proof (told c.args.proof.now)) (proof_stops (told c.args.proof.now)) c.from_residual-in_err-proof.result _ (cc)
+    unjudged_halt (meant words.program.now words.role.now words.image.now words.argument.now words.fuel.now c.args.words.now.proof.now told) (with_file max_file Proof (told c.args.words.now.proof.now)) (proof_stops (told c.args.words.now.proof.now)) c.from_residual-in_err-proof.result _ (cc)
     (c.in_err-proof.ensures.goes told (c.in_ok-call.ensures.contents ∙ (c.in_ok-query.ensures.contents ∙ known)) (λ (bytes : List ℕ). unjudged))
 
 pub returns-clause-finds : goal.returns-clause-finds
@@ -82,8 +82,8 @@ returns-clause-finds g c = λ told known.
     let words = c.args.words.now in
     let call = ideal_call_of c.in_ok-call.call in
     let answer =
-    c.in_ok-query.ensures.goes told known (behind_query words.image.now words.argument.now c.args.proof.now told)
-    ∙ (c.in_ok-call.ensures.goes told (c.in_ok-query.ensures.contents ∙ known) (behind_inputs c.args.proof.now told)
+    c.in_ok-query.ensures.goes told known (behind_query words.image.now words.argument.now c.args.words.now.proof.now told)
+    ∙ (c.in_ok-call.ensures.goes told (c.in_ok-query.ensures.contents ∙ known) (behind_inputs c.args.words.now.proof.now told)
     ∙ c.in_ok-proof.ensures.goes told (c.in_ok-call.ensures.contents ∙ (c.in_ok-query.ensures.contents ∙ known)) (behind_proof call)) in
     let found = subst (λ bytes. Finds (Some (call_audit_answer call bytes)) c.judge.result) c.deref.ensures.value (report_found (call_audit_answer call c.deref.result.now) c.judge.result c.judge.ensures) in
     subst (λ answer. Finds answer c.judge.result) (sym answer) found
@@ -105,17 +105,14 @@ returns-clause-means g c = λ told known.
         image_name = words.image.now;
         argument_text = words.argument.now;
         fuel_text = words.fuel.now;
-        proof_name = c.args.proof.now;
+        proof_name = c.args.words.now.proof.now;
         words = refl;
         query = subst (NamesQuery words.program.now words.role.now words.fuel.now told) same (c.in_ok-query.ensures.named told known);
         inputs = c.in_ok-call.ensures.inputs told behind;
         proof_file = c.in_ok-proof.ensures.holds told (c.in_ok-call.ensures.contents ∙ behind);
       };
-      answered = c.in_ok-query.ensures.goes told known (behind_query words.image.now words.argument.now c.args.proof.now told)
-          ∙ (c.in_ok-call.ensures.goes told behind (behind_inputs c.args.proof.now told)
+      answered = c.in_ok-query.ensures.goes told known (behind_query words.image.now words.argument.now c.args.words.now.proof.now told)
+          ∙ (c.in_ok-call.ensures.goes told behind (behind_inputs c.args.words.now.proof.now told)
           ∙ c.in_ok-proof.ensures.goes told (c.in_ok-call.ensures.contents ∙ behind) (behind_proof (ideal_call_of call)));
       is_so = true_audit call proof c.in_ok-call.ensures.valid;
     })
-
-pub returns-clause-sound : goal.returns-clause-sound
-returns-clause-sound g c = λ told known. if_ok c.judge.result (c.in_ok-query.ensures.sound told known)

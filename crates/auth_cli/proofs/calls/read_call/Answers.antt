@@ -29,6 +29,3 @@ returns-in_err-state-clause-goes g c = λ told known.
     halted (with_call words.program.now words.role.now words.state.now words.argument.now words.fuel.now told) call_of c.from_residual-in_err-state.result _ (cc)
     (λ go. halts_behind _ _ _ (c.in_ok-query.ensures.goes told known (λ q. behind_query words.state.now words.argument.now told q go))
     (c.in_err-state.ensures.goes told (c.in_ok-query.ensures.contents ∙ known) _))
-
-pub returns-clause-sound : goal.returns-clause-sound
-returns-clause-sound g c = λ told known. c.in_ok-query.ensures.sound told known

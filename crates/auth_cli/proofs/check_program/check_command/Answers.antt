@@ -1,20 +1,9 @@
-use Rattle.std.proofs.Common.{sym, subst}
-use Rattle.auth_cli.specs.Answer.{check_answer}
-use Rattle.auth_cli.specs.Halting.{Finds}
-use Rattle.auth_cli.specs.Words.{texts}
+use Rattle.auth_cli.specs.Answer.{checked_answer}
 use Rattle.auth_cli.proofs.Ends.{ends_as}
-use Rattle.auth_cli.proofs.CommandLine.{check_words, first_word}
-use Rattle.auth_cli.proofs.Told.{told_outcome}
 use Rattle.auth_cli.proofs.check_program.check_command.Goals as goal
 
-pub returns-clause-ends : goal.returns-clause-ends
-returns-clause-ends g c =
+pub returns : goal.returns
+returns g c =
     let found = c.find_digest-found in
-    ends_as (check_answer (texts c.args.words.now)) _ _ found.result c.tell.result
-    (λ told known. subst (λ answer. Finds answer found.result) (sym (check_words c.args.words.now _ told c.requires)) (found.ensures.finds told known))
-    found.ensures.cause found.ensures.stores found.ensures.store_faults c.tell.ensures
-
-pub returns-clause-sound : goal.returns-clause-sound
-returns-clause-sound g c = λ told known.
-    first_word c.args.words.now _ told c.tell.result
-    (told_outcome c.find_digest-found.result c.tell.result _ _ _ _ c.tell.ensures (c.find_digest-found.ensures.sound told known))
+    ends_as (checked_answer c.args.words.now.program.now) _ _ found.result c.tell.result
+    found.ensures.finds found.ensures.cause found.ensures.stores found.ensures.store_faults c.tell.ensures

@@ -18,6 +18,3 @@ returns-in_err-program-clause-goes g c = λ told known.
 pub returns-clause-named : goal.returns-clause-named
 returns-clause-named g c = λ told known.
     record { program_file = c.in_ok-program.ensures.kept told known; role = c.in_ok-role.ensures.named; fuel = c.in_ok-fuel.ensures.tells }
-
-pub returns-clause-sound : goal.returns-clause-sound
-returns-clause-sound g c = λ told known. c.in_ok-program.ensures.sound told known
