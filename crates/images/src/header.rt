@@ -7,20 +7,20 @@ use crate::ImageFault;
 use core_terms::Digest;
 
 /// The bytes that an image begins with.
-pub(crate) const MAGIC: [u8; 4] = *b"LAI1";
+pub const MAGIC: [u8; 4] = *b"LAI1";
 
 /// The number of bytes of the header: the magic, the digest of the program's text, and the number of records.
-pub(crate) const HEADER_LENGTH: usize = 40;
+pub const HEADER_LENGTH: usize = 40;
 
 /// What the header of an image says, and the bytes behind it.
 #[derive(Clone, Copy)]
-pub(crate) struct Header<'a> {
+pub struct Header<'a> {
     pub count: u32,
     pub records: &'a [u8],
 }
 
 /// The header of an image of the program whose text has this digest. An error is `Magic`, `Cut` or `OtherProgram`.
-pub(crate) fn read_header<'a>(digest: &Digest, bytes: &'a [u8]) -> Result<Header<'a>, ImageFault>
+pub fn read_header<'a>(digest: &Digest, bytes: &'a [u8]) -> Result<Header<'a>, ImageFault>
     ensures { IsHeaded (λ go. headed digest.now.0 bytes.now go) result }
 {
     let Some((magic, behind)) = bytes.split_first_chunk::<4>() else {

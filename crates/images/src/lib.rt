@@ -6,11 +6,11 @@
 #![tactic(auto)]
 
 mod fault;
-mod header;
+pub mod header;
 mod kept;
 mod load;
 mod plain_type;
-mod record;
+pub mod record;
 mod save;
 
 pub use fault::{ImageFault, SaveFault};

@@ -7,7 +7,7 @@ use std::str::from_utf8;
 
 /// A record. A text is lent by the image, and is UTF-8.
 #[derive(Clone, Copy)]
-pub(crate) enum Record<'a> {
+pub enum Record<'a> {
     UnitRecord,
     BoolRecord(bool),
     IntRecord(i64),
@@ -20,14 +20,14 @@ pub(crate) enum Record<'a> {
 
 /// The record that some bytes begin with, and the bytes behind it.
 #[derive(Clone, Copy)]
-pub(crate) struct Front<'a> {
+pub struct Front<'a> {
     pub record: Record<'a>,
     pub rest: &'a [u8],
 }
 
 /// Why no record stands at the front of some bytes.
 #[derive(Clone, Copy, Debug, PartialEq, Eq)]
-pub(crate) enum RecordFault {
+pub enum RecordFault {
     /// The bytes end inside it.
     Cut,
     /// Its kind, a byte of a bool or a text is not allowed, or it is of a constructor, and no state of the fragment has any.
@@ -35,7 +35,7 @@ pub(crate) enum RecordFault {
 }
 
 /// The record that the bytes begin with, where no constructors may stand in the image.
-pub(crate) fn read_record(bytes: &[u8]) -> Result<Front<'_>, RecordFault>
+pub fn read_record(bytes: &[u8]) -> Result<Front<'_>, RecordFault>
     ensures read { (count : ℕ → ℕ → Option ℕ) → ((number tag : ℕ) → count number tag ≡ None) → IsRead (meant.read_record count bytes.now) result }
     ensures text { IfOk result (λ front. HasText front.record) }
 {

@@ -83,6 +83,13 @@ impl Program {
         &self.text_digest
     }
 
+    /// The number of types. Their numbers are those below it.
+    pub fn type_count(&self) -> usize
+        ensures { result ≡ length (types_of self.now) }
+    {
+        self.types.len()
+    }
+
     /// The form of a type. Its parts stand before the type.
     pub fn form(&self, ty: TyId) -> TyForm
         ensures form { type_of_form (types_of self.now) result ≡ type_at (types_of self.now) ty }
