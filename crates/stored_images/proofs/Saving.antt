@@ -1,0 +1,43 @@
+-- What is saved so far of a value, and what waits.
+use Rattle.std.proofs.Common.{◌≡◌, ℕ, List, [], ◌∷◌, ◌++◌, map, drop, Some, slice_get}
+use Rattle.core_terms.specs.Types.{Table}
+use Rattle.core_terms.specs.Values.{IsIdeal}
+use Rattle.images.specs.Images.{Entry}
+use Rattle.images.specs.SavedImages.{distinct, records_bytes, walk}
+use Rattle.value_store.specs.Nodes.{Node}
+use Rattle.stored_images.specs.SavedRecords.{number_at, records_in}
+use Rattle.stored_images.specs.declared.save.Frame.{Frame}
+use Rattle.stored_images.specs.declared.save.records.Records.{Records}
+use Rattle.stored_images.proofs.AmongEntries.{IsAmong, AreAmong}
+use Rattle.stored_images.proofs.EntryParts.{parts, walks}
+use Rattle.stored_images.proofs.NodeEntries.{StandsAs}
+use Rattle.stored_images.proofs.NumberedEntries.{AreOnce}
+use Rattle.stored_images.proofs.RecordReading.{seen_of}
+
+-- all that the walk over the entry meets is among these
+pub record IsPlaced (types : Table) (done : List Entry) (e : Entry) : Type 0 where
+  pub ideal : IsIdeal types e.of_type e.value
+  pub walked : AreAmong done (walk types e.of_type e.value)
+
+-- the records are those of these entries, each behind its parts, and the nodes with numbers stand for them
+pub record AreNumbered (types : Table) (nodes : List Node) (done : List Entry) (records : Records) : Type 0 where
+  pub keys : records_in records ≡ map (seen_of types done) done
+  pub bytes : records.bytes.items ≡ records_bytes types done done
+  pub placed : (e : Entry) → IsAmong done e → IsPlaced types done e
+  pub once : AreOnce done
+  pub numbers : (r n : ℕ) → number_at records r ≡ Some n → (e : Entry) × StandsAs types nodes r e × (slice_get done n ≡ Some e)
+
+-- the entries that are still to be met, where these nodes wait, the one that is walked now first
+abbrev pub AreLeft : Table → List Node → List Frame → List Entry → Type 0
+AreLeft types nodes [] left = left ≡ []
+AreLeft types nodes (f ∷ fs) left =
+    (e : Entry) × (rest : List Entry) × StandsAs types nodes f.node.0 e
+    × (left ≡ walks types (drop f.next (parts types e.of_type e.value)) ++ (e ∷ rest)) × AreLeft types nodes fs rest
+
+-- the entries so far, and those that are wanted in the end
+pub record Saving (types : Table) (nodes : List Node) (wanted : List Entry) (records : Records) (frames : List Frame) : Type 0 where
+  pub done : List Entry
+  pub numbered : AreNumbered types nodes done records
+  pub left : List Entry
+  pub are_left : AreLeft types nodes frames left
+  pub met : distinct done left ≡ wanted

@@ -1,0 +1,167 @@
+// Loading the records of an image into a store.
+ghost use Rattle.std.specs.Prelude.{ℕ, List, [], IfOk};
+ghost use Rattle.core_terms.specs.LanguagePrograms.{meaning, types_of};
+ghost use Rattle.images.specs.Images.{Entry, checked_entry, field_count, image_of, last, rooted};
+ghost use Rattle.images.specs.Images as meant;
+ghost use Rattle.images.specs.Records as defined;
+ghost use Rattle.stored_images.specs.LoadedRoots.{LoadsOver};
+ghost use Rattle.stored_images.specs.LoadedRecords.{AreLoaded, IsFront, IsRoot};
+ghost use Rattle.stored_images.specs.PartMarks.{IsMarksOf};
+ghost use Rattle.stored_images.specs.ReadRecords.{HasConstructor, record_told};
+ghost use Rattle.stored_images.specs.StoredRecords.{AreStored, IsLoaded};
+ghost use Rattle.value_store.specs.Markings.{Marking};
+ghost use Rattle.value_store.specs.Nodes.{Node};
+ghost use Rattle.value_store.specs.Standing.{Keeps};
+ghost use Rattle.value_store.specs.Stores.{nodes_in};
+
+use crate::ImageFault;
+use crate::entries::{authenticated, bool, constructor, int, pair, text, unit};
+use crate::part_types::PartTypes;
+use crate::parts::PartMarks;
+use crate::record::{Front, Record, RecordFault, read_record};
+use crate::stored::StoredRecord;
+use core_terms::language::Program;
+use images::header::{Header, read_header};
+use std::alloc::Global;
+use value_store::{Marker, Ref, Store};
+
+/// The records of an image as nodes of a store, and the root: the last of them, which stands for a state of the program.
+#[derive(Drop)]
+pub struct Loaded {
+    pub store: Store,
+    pub root: Ref,
+}
+
+/// What all records stand for, and the bytes behind them.
+#[derive(Drop)]
+struct Records<'a> {
+    store: Store,
+    loaded: Vec<StoredRecord>,
+    rest: &'a [u8],
+}
+
+/// The state that an image of the program keeps, over nodes of the marker's kind. Each record is read once and put as one node.
+///
+/// # Errors
+///
+/// The first fault of the image: of its header, then record by record, then of its root and of what stands behind the records. And
+/// `NoMemory` where there is no memory for the nodes.
+pub fn load_image<M: Marker>(
+    alloc: Global,
+    program: &Program,
+    marker: &mut M,
+    bytes: &[u8],
+) -> Result<Loaded, ImageFault>
+    ensures loads { LoadsOver M.marking (meaning program.now) (image_of (meaning program.now) program.now.text_digest.0 bytes.now) result }
+{
+    let header = read_header(program.text_digest(), bytes)?;
+    let parts = PartMarks::of(alloc, program)?;
+    let types = PartTypes {
+        program,
+        parts: &parts,
+    };
+    let records = load_records(alloc, &types, marker, bytes.len(), header)?;
+    let root = root(program, &records.loaded, records.rest)?;
+    Ok(Loaded {
+        store: records.store,
+        root,
+    })
+}
+
+/// The records behind the header, one after another, in an image of `size` bytes.
+fn load_records<'a, M: Marker>(
+    alloc: Global,
+    types: &PartTypes<'a>,
+    marker: &mut M,
+    size: usize,
+    header: Header<'a>,
+) -> Result<Records<'a>, ImageFault>
+    requires marked { IsMarksOf types.now.program.now types.now.parts.now }
+    ensures { AreLoaded M.marking (meaning types.now.program.now) (types_of types.now.program.now) (meant.load_records (meaning types.now.program.now) size header.entry.count [] header.entry.records.now) result }
+{
+    let mut store = Store::new(alloc);
+    let mut loaded = Vec::new(alloc);
+    let mut rest = header.records;
+    for number in 0..header.count {
+        let front = next_front(types, number, size, rest)?;
+        let stored = stored(
+            alloc,
+            types,
+            marker,
+            &mut store,
+            &loaded,
+            number,
+            front.record,
+        )?;
+        loaded.push(stored)?;
+        rest = front.rest;
+    }
+    Ok(Records {
+        store,
+        loaded,
+        rest,
+    })
+}
+
+/// The record with this number, at the front of some bytes of an image of `size`.
+fn next_front<'a>(
+    types: &PartTypes<'a>,
+    number: u32,
+    size: usize,
+    bytes: &'a [u8],
+) -> Result<Front<'a>, ImageFault>
+    requires marked { IsMarksOf types.now.program.now types.now.parts.now }
+    ensures front { IsFront (meaning types.now.program.now) size number (defined.read_record (field_count (meaning types.now.program.now) size) bytes.now) result }
+    ensures constructor { IfOk result (λ front. HasConstructor types.now.program.now front.record) }
+{
+    match read_record(types.program, types.parts, bytes) {
+        Ok(front) => Ok(front),
+        Err(RecordFault::Cut) => Err(ImageFault::Cut(size)),
+        Err(RecordFault::Bad) => Err(ImageFault::BadRecord(number)),
+    }
+}
+
+/// What the record with this number stands for, behind those that are loaded, put into the store.
+fn stored<M: Marker>(
+    alloc: Global,
+    types: &PartTypes,
+    marker: &mut M,
+    store: &mut Store,
+    loaded: &[StoredRecord],
+    number: u32,
+    found: Record,
+) -> Result<StoredRecord, ImageFault>
+    requires marked { IsMarksOf types.now.program.now types.now.parts.now }
+    requires stored { (entries : List Entry) × AreStored M.marking (meaning types.now.program.now) (types_of types.now.program.now) (nodes_in store.old) loaded.now entries }
+    requires constructor { HasConstructor types.now.program.now found }
+    ensures loaded { (entries : List Entry) → AreStored M.marking (meaning types.now.program.now) (types_of types.now.program.now) (nodes_in store.old) loaded.now entries
+        → (size : ℕ) → IsLoaded M.marking (meaning types.now.program.now) (types_of types.now.program.now) (nodes_in store.new) (λ go. checked_entry (meaning types.now.program.now) size number (meant.stands_for (meaning types.now.program.now).types entries (record_told found.entry)) go) result }
+    ensures keeps { Keeps (nodes_in store.old) (nodes_in store.new) }
+{
+    match found {
+        Record::Unit => unit(types, store, number),
+        Record::Bool(value) => bool(types, store, number, value),
+        Record::Int(value) => int(types, store, number, value),
+        Record::Text(value) => text(types, store, number, value),
+        Record::Pair(first, second) => pair(types, store, loaded, number, first, second),
+        Record::Constructor(found) => constructor(alloc, types, store, loaded, number, found),
+        Record::Auth(inner) => authenticated(types, marker, store, loaded, number, inner),
+    }
+}
+
+/// The node of the last record, which must be of the state's type; nothing stands behind it.
+fn root(program: &Program, loaded: &[StoredRecord], rest: &[u8]) -> Result<Ref, ImageFault>
+    ensures { (marking : Marking) (nodes : List Node) (entries : List Entry) → AreStored marking (meaning program.now) (types_of program.now) nodes loaded.now entries
+        → IsRoot marking (meaning program.now) nodes (rooted (meaning program.now).state (last entries) rest.now) result }
+{
+    let Some(root) = loaded.last() else {
+        return Err(ImageFault::RootType);
+    };
+    if !root.is_of(program.state_type()) {
+        return Err(ImageFault::RootType);
+    }
+    if !rest.is_empty() {
+        return Err(ImageFault::Leftover(rest.len()));
+    }
+    Ok(root.value)
+}

@@ -1,0 +1,105 @@
+// Writing the image of a value that stands in a store.
+mod record;
+mod records;
+
+ghost use Rattle.std.specs.Prelude.{◌≡◌, ◌<◌, ◌≤◌, ◌∷◌, ◌++◌, [], length, IfOk, OnOk};
+ghost use Rattle.std.specs.Int.{w32, to_be_bytes};
+ghost use Rattle.core_terms.specs.LanguagePrograms.{meaning};
+ghost use Rattle.core_terms.specs.Types.{Table, Ty};
+ghost use Rattle.core_terms.specs.Values.{Value};
+ghost use Rattle.images.specs.Images.{image_magic};
+ghost use Rattle.images.specs.Saves.{IsSaved};
+ghost use Rattle.images.specs.SavedImages.{distinct, saved_image, walk};
+ghost use Rattle.stored_images.specs.LoadedRoots.{IsStateAt};
+ghost use Rattle.stored_images.specs.SavedRecords.{AreSaved};
+ghost use Rattle.stored_images.specs.Frames.{frame_of};
+ghost use Rattle.value_store.specs.Standing.{IdealNodes, StandsFor};
+ghost use Rattle.value_store.specs.Stores.{nodes_in};
+
+use crate::SaveFault;
+use core_terms::Digest;
+use core_terms::language::Program;
+use images::header::MAGIC;
+use record::part;
+use records::Records;
+use std::alloc::{AllocError, Global};
+use value_store::{Ref, Store};
+
+/// The image of the state that a node stands for: the distinct parts of the value, each once, in the order in which a walk that visits
+/// parts from left to right before the whole first completes them. The node is read over ideal nodes or the prover's.
+///
+/// # Errors
+///
+/// `TooLong` exactly where the image has more than 67,108,864 bytes, and `NoMemory` where there is no memory for it.
+pub fn save_image(
+    alloc: Global,
+    program: &Program,
+    store: &Store,
+    root: Ref,
+) -> Result<Vec<u8>, SaveFault>
+    requires { (v : Value) × IsStateAt (meaning program.now) store.now root v }
+    ensures saved { (v : Value) → IsStateAt (meaning program.now) store.now root v → IsSaved (saved_image (meaning program.now) program.now.text_digest.0 v) result }
+{
+    let digest = digest_bytes(program.text_digest());
+    let records = records_of(alloc, store, root)?;
+    let mut image = header(alloc, digest, records.count() as u32)?;
+    image.extend_from_slice(records.bytes())?;
+    Ok(image)
+}
+
+/// The 32 bytes of a digest.
+fn digest_bytes(digest: &Digest) -> &[u8]
+    ensures bytes { result.now ≡ digest.now.0 }
+    ensures length { length result.now ≡ 32 }
+{
+    &digest.0
+}
+
+/// The header of an image of so many records.
+fn header(alloc: Global, digest: &[u8], count: u32) -> Result<Vec<u8>, AllocError>
+    ensures { IfOk result (λ bytes. bytes.items ≡ image_magic ++ digest.now ++ to_be_bytes w32 count) }
+{
+    let mut bytes = MAGIC.to_vec(alloc)?;
+    bytes.extend_from_slice(digest)?;
+    bytes.extend_from_slice(&count.to_be_bytes())?;
+    Ok(bytes)
+}
+
+/// A node on the way to its record, with the number of its parts, from the first on, that have theirs.
+#[derive(Clone, Copy)]
+struct Frame {
+    node: Ref,
+    next: usize,
+}
+
+/// The records of what a node stands for, each once. Nodes on the way to their records wait in a list, so the depth of the value costs no
+/// stack; a node that has its record is not walked again.
+fn records_of(alloc: Global, store: &Store, root: Ref) -> Result<Records, SaveFault>
+    requires { root.0 < length (nodes_in store.now) }
+    ensures saved { (types : Table) (t : Ty) (v : Value) → StandsFor IdealNodes types (nodes_in store.now) root.0 t v → AreSaved types (distinct [] (walk types t v)) result }
+{
+    let mut records = Records::new(alloc);
+    let mut frames = Vec::new(alloc);
+    add(&mut frames, root, 0)?;
+    while let Some(frame) = frames.pop() {
+        let view = store.view(frame.node);
+        match part(view, frame.next) {
+            Some(part) => {
+                add(&mut frames, frame.node, frame.next + 1)?;
+                if records.number_of(part).is_none() {
+                    add(&mut frames, part, 0)?;
+                }
+            }
+            None => records.add(frame.node, view)?,
+        }
+    }
+    Ok(records)
+}
+
+/// Adds a node that waits for its record, and so many of whose parts have theirs.
+fn add(frames: &mut Vec<Frame>, node: Ref, next: usize) -> Result<(), AllocError>
+    ensures { OnOk result (frames.new.items ≡ frames.old.items ++ frame_of node next ∷ []) }
+{
+    frames.push(Frame { node, next })?;
+    Ok(())
+}
