@@ -10,10 +10,10 @@ use Rattle.core_terms.specs.Values.{Value}
 use Rattle.ideal_meaning.specs.Checked.{Verdict, BadState, BadArgument, Rejected, Accepted}
 use Rattle.ideal_meaning.specs.Ideal.{Outcome, Done, Trapped, Out}
 use Rattle.collision_audit.specs.Audits as audits
-use Rattle.printed_lines.specs.Lines.{done_line}
+use Rattle.printed_lines.specs.Lines.{done_line, ok_line}
 use Rattle.printed_lines.specs.declared.refusal.Argument.TheVariants as named
 use Rattle.printed_lines.specs.declared.refusal.InputFault.TheVariants.{TooLong}
-use Rattle.auth_cli.specs.Answer.{Answer, agreed_answer, audit_told, audited_answer, call_answer, call_audit_answer, call_verdict, command_answer, init_answer_of, init_outcome, initial_answer, input_refused, judged_answer, made_answer, max_file, outcome_answer, proof_answer, proved_answer, state_image, state_projection, verdict_answer}
+use Rattle.auth_cli.specs.Answer.{Answer, agreed_answer, audit_told, audited_answer, call_answer, call_audit_answer, call_verdict, command_answer, init_answer_of, init_outcome, initial_answer, input_refused, judged_answer, made_answer, max_file, outcome_answer, proof_answer, proved_answer, says, state_answer, state_image, state_projection, verdict_answer}
 use Rattle.auth_cli.specs.Arguments.{fuel_of, number_within}
 use Rattle.auth_cli.specs.FueledQueries.{DigestedProgram}
 use Rattle.auth_cli.specs.IdealCalls.{call_audit, projected_outcome, result_type}
@@ -77,10 +77,11 @@ module _ (Of : Status → Type 0) (no_program : Of status.ProgramRefused → ⊥
       ideal_call_stops Of no_program no_input q image argument files (λ call. Some (proof_answer call n out)) (λ call. no_outcome (result_type call) (projected_outcome call))))
 
   pub only_audits : (invocation : Invocation) (files : Contents) → Has (command_answer invocation files) → IsAudit invocation
-  only_audits (Check program) files has = absurd (language_file_stops Of no_program no_input (files program) _ (λ p. no_done) has)
+  only_audits (Check program) files has = absurd (language_file_stops Of no_program no_input (files program) (λ p. Some (says status.Done (ok_line p.digested.digest))) (λ p. no_done) has)
   only_audits (Init program role argument fuel out) files has = absurd (no_inits program role argument fuel out files has)
   only_audits (Shallow program image out) files has =
-      absurd (program_file_stops Of no_program no_input (files program) _ (λ p. image_file_stops Of no_program no_input p (files image) _ (λ v. no_done)) has)
+      absurd
+      (language_file_stops Of no_program no_input (files program) _ (λ p. image_file_stops Of no_program no_input p.digested (files image) (λ v. Some (state_answer p v out)) (λ v. no_done)) has)
   only_audits (Prove program role image argument fuel kept out) files has = absurd (no_proofs program role image argument fuel kept out files has)
   only_audits (Verify program role state argument fuel proof) files has = absurd (no_verdicts program role state argument fuel proof files has)
   only_audits (Audit program role image argument fuel proof) files has = tt

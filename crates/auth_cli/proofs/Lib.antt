@@ -2,6 +2,7 @@ pub mod AcceptedCalls
 pub mod Answered
 pub mod AuditedRuns
 pub mod Called
+pub mod ClientStates
 pub mod Ends
 pub mod EndsStored
 pub mod InitRoles
@@ -9,6 +10,8 @@ pub mod Known
 pub mod Leading
 pub mod LiteralsRead
 pub mod MadeStates
+pub mod MarkedStates
+pub mod NamedConstructors
 pub mod Numbers
 pub mod PlainArguments
 pub mod CommandStatuses
@@ -27,4 +30,6 @@ pub mod TrueLine
 pub mod Unjudged
 pub mod VerifiedCalls
 pub mod TextFormats
+pub mod TextNames
+pub mod WholeTexts
 pub mod OnProofs

@@ -15,7 +15,7 @@ use Rattle.images.specs.declared.fault.ImageFault.{ImageFault}
 use Rattle.images.specs.declared.fault.ImageFault.TheVariants as image_fault
 use Rattle.auth_cli.specs.Answer.{Answer, image_read, literal_at, with_image, with_literal, with_root, with_value}
 use Rattle.auth_cli.specs.FueledQueries.{DigestedProgram}
-use Rattle.auth_cli.specs.Halting.{Finds, FindsInHand, Found, GoesOn, GoesOnInHand, HaltCause, HaltsAs, of_image_fault, of_literal_fault}
+use Rattle.auth_cli.specs.Halting.{Finds, FindsInHand, Found, GoesOn, GoesOnFor, GoesOnForInHand, GoesOnInHand, HaltCause, HaltsAs, of_image_fault, of_literal_fault}
 use Rattle.auth_cli.specs.Storing.{FindsOutput, FindsOutputInHand}
 use Rattle.auth_cli.specs.declared.report.Halt.{Halt}
 use Rattle.auth_cli.specs.declared.report.Halt.TheVariants.{Usage, Refused, ReadFault, NoMemory}
@@ -35,6 +35,22 @@ halts_first first next value result halt is halts = halted (λ go. first (λ a. 
 -- an answer that comes to a halt
 pub halts_behind : (answer behind : Option Answer) (halt : Halt) → answer ≡ behind → HaltsAs behind halt → HaltsAs answer halt
 halts_behind answer behind halt same halts = subst (λ a. HaltsAs a halt) (sym same) halts
+
+-- what halts the first of two steps halts both, where what is given stands for a value
+pub halts_first_for : {A B T : Type 0} (first : (A → Option Answer) → Option Answer) (next : A → (B → Option Answer) → Option Answer) (Stands : T → B → Type 0) (result : Result T Halt) (halt : Halt)
+    → result ≡ Err halt → ((go : A → Option Answer) → HaltsAs (first go) halt) → GoesOnFor (λ go. first (λ a. next a go)) Stands result
+halts_first_for first next Stands (Ok t) halt is halts = absurd (cc)
+halts_first_for first next Stands (Err other) halt is halts =
+    λ go. let same : halt ≡ other = cc in subst (λ h. HaltsAs (first (λ a. next a go)) h) same (halts (λ a. next a go))
+
+-- a step on what is in hand, behind one that goes on with it
+pub goes_behind : {A B T : Type 0} (first : (A → Option Answer) → Option Answer) (a : A) (next : A → (B → Option Answer) → Option Answer) (Stands : T → B → Type 0) (result : Result T Halt)
+    → ((go : A → Option Answer) → first go ≡ go a) → GoesOnForInHand (next a) Stands result → GoesOnFor (λ go. first (λ a. next a go)) Stands result
+goes_behind first a next Stands (Ok t) is goes = (goes.0, (λ go. is (λ a. next a go) ∙ goes.1 go), goes.2)
+goes_behind first a next Stands (Err Usage) is goes = λ go. halts_behind _ _ Usage (is (λ a. next a go)) (goes go)
+goes_behind first a next Stands (Err (Refused what)) is goes = λ go. halts_behind _ _ (Refused what) (is (λ a. next a go)) (goes go)
+goes_behind first a next Stands (Err ReadFault) is goes = absurd goes
+goes_behind first a next Stands (Err NoMemory) is goes = λ go. tt
 
 -- what halts a step on what is in hand
 pub hand_halts : {A T : Type 0} (step : (A → Option Answer) → Option Answer) (value : T → A) (halt : Halt) → GoesOnInHand step value (Err halt) → (go : A → Option Answer) → HaltsAs (step go) halt
@@ -94,6 +110,17 @@ image_refused p bytes value fault (Err h) halt is = subst (λ h. GoesOnInHand (w
     by image_fault.RootType is = λ go. ap (λ i. with_root i go) is
     by (image_fault.Leftover n) is = λ go. ap (λ i. with_root i go) is
     by image_fault.NoMemory is = λ go. tt
+
+pub image_refused_for : {T : Type 0} (p : DigestedProgram) (bytes : List ℕ) (Stands : T → Value → Type 0) (fault : ImageFault) (result : Result T Halt)
+    → IsErrAnd result (λ halt. halt ≡ of_image_fault fault) → Tells (λ f. image_of p.program p.digest bytes ≡ images.Refused f) fault → GoesOnForInHand (with_image p bytes) Stands result
+image_refused_for p bytes Stands fault (Ok t) halt is = absurd halt
+image_refused_for p bytes Stands fault (Err h) halt is = by h (image_refused {T = Value} p bytes (λ v. v) fault (Err h) halt is)
+  where
+    by : (h : Halt) → GoesOnInHand {T = Value} (with_image p bytes) (λ v. v) (Err h) → GoesOnForInHand (with_image p bytes) Stands (Err h)
+    by Usage goes = goes
+    by (Refused what) goes = goes
+    by ReadFault goes = absurd goes
+    by NoMemory goes = goes
 
 -- bytes that are one are gone on with
 pub image_goes : (p : DigestedProgram) (bytes : List ℕ) (v : Value) → image_of p.program p.digest bytes ≡ Root v → (go : Value → Option Answer) → with_image p bytes go ≡ go v

@@ -70,7 +70,7 @@ module _ (Of : Status → Type 0) (no_program : Of ProgramRefused → ⊥) (no_i
 
   -- the reading of a program, of a query and of an init
   pub language_file_stops : (file : Option (List ℕ)) → Stops (with_language_file file)
-  language_file_stops file go none = file_stops max_program named.Program file _ (λ text. program_stops (sha256 text) (language_program_of_text text) go none)
+  language_file_stops file go none = file_stops max_program named.Program file _ (λ text. program_stops (sha256 text) (language_program_of_text text) _ (λ p. none _))
 
   pub program_file_stops : (file : Option (List ℕ)) → Stops (with_program_file file)
   program_file_stops file go none = file_stops max_program named.Program file _ (λ text. program_stops (sha256 text) (program_of_text text) go none)

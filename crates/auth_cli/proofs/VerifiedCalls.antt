@@ -35,7 +35,7 @@ passed true a b is = refl
 passed false a b is = absurd (cc)
 
 -- a file that isn't too long is gone on with
-file_goes : (most : ℕ) (word : Argument) (file : Option (List ℕ)) (bytes : List ℕ) (go : List ℕ → Option Answer) → file ≡ Some bytes → length bytes ≤ most → with_file most word file go ≡ go bytes
+pub file_goes : (most : ℕ) (word : Argument) (file : Option (List ℕ)) (bytes : List ℕ) (go : List ℕ → Option Answer) → file ≡ Some bytes → length bytes ≤ most → with_file most word file go ≡ go bytes
 file_goes most word file bytes go held fits =
     ap (λ (file : Option (List ℕ)). with_file most word file go) held ∙ passed (nat_le (length bytes) most) (go bytes) _ (le-leb (length bytes) most fits)
 

@@ -29,9 +29,9 @@ use Rattle.core_terms.specs.Roles.{argument_type, init_type}
 use Rattle.collision_audit.specs.Audits.{Collides, Judges}
 use Rattle.collision_audit.specs.Audits as audits
 use Rattle.auth_cli.specs.Arguments.{is_init, is_query, fuel_of, number_within}
-use Rattle.auth_cli.specs.FueledQueries.{DigestedProgram, FueledQuery}
+use Rattle.auth_cli.specs.FueledQueries.{DigestedProgram, FueledQuery, NamedProgram}
 use Rattle.auth_cli.specs.IdealCalls.{IdealCall, call_audit, call_proof, call_proof_line, projected_outcome, result_type}
-use Rattle.auth_cli.specs.TextPrograms.{TextProgram, IsProgram, IsRefused, language_program_of_text, program_of_text}
+use Rattle.auth_cli.specs.TextPrograms.{TextProgram, IsProgram, IsRefused, constructor_names_of_text, language_program_of_text, program_of_text}
 use Rattle.auth_cli.specs.declared.status.Status.{Status}
 use Rattle.auth_cli.specs.declared.status.Status.TheVariants.{Done, Usage, Trap, OutOfFuel, Rejected, ProgramRefused, InputRefused, Collision}
 
@@ -94,10 +94,11 @@ with_program digest (IsProgram P) go = go (record { program = P; digest = digest
 with_program digest (IsRefused kind line column) go = Some (refused (refusal.Program kind line column))
 
 -- goes on with the program of the whole language that a text is, and with that in a file
-abbrev pub with_language_text : List ℕ → (DigestedProgram → Option Answer) → Option Answer
-with_language_text text go = with_program (sha256 text) (language_program_of_text text) go
+abbrev pub with_language_text : List ℕ → (NamedProgram → Option Answer) → Option Answer
+with_language_text text go =
+    with_program (sha256 text) (language_program_of_text text) (λ p. go (record { digested = p; names = constructor_names_of_text text }))
 
-abbrev pub with_language_file : Option (List ℕ) → (DigestedProgram → Option Answer) → Option Answer
+abbrev pub with_language_file : Option (List ℕ) → (NamedProgram → Option Answer) → Option Answer
 with_language_file file go = with_file max_program named.Program file (λ text. with_language_text text go)
 
 -- the same of a program of the fragment
@@ -225,22 +226,24 @@ judged_answer program role state argument fuel proof files =
 
 -- `check P`: the digest of the program's text, which is one of the whole language
 abbrev pub checked_answer : List ℕ → Contents → Option Answer
-checked_answer program files = with_language_file (files program) (λ p. Some (says Done (ok_line p.digest)))
+checked_answer program files = with_language_file (files program) (λ p. Some (says Done (ok_line p.digested.digest)))
 
 -- the projection of an ideal state: a digest stands for what is authenticated
 unfoldable pub state_projection : Program → Value → Value
 state_projection P v = projection sha256 P P.state v
 
--- what is answered for an ideal state whose projection is told: its value, and its spelling stored under a name
-abbrev pub state_answer : Program → Value → List ℕ → Answer
-state_answer P v name =
+-- What is answered for an ideal state whose projection is told: its value, with the names of its constructors, and its spelling stored
+-- under a name.
+abbrev pub state_answer : NamedProgram → Value → List ℕ → Answer
+state_answer p v name =
+    let P = p.digested.program in
     let projected = state_projection P v in
-    record { status = Done; lines = state_line P.state projected ∷ []; stored = (name, spelling projected) ∷ [] }
+    record { status = Done; lines = state_line P.types p.names P.state projected ∷ []; stored = (name, spelling projected) ∷ [] }
 
--- `shallow P IMG OUT`: the projection of the state that an image keeps
+-- `shallow P IMG OUT`: the projection of the state that an image keeps, of a program of the whole language
 abbrev pub spelled_answer : (program image out : List ℕ) → Contents → Option Answer
 spelled_answer program image out files =
-    with_program_file (files program) (λ p. with_image_file p (files image) (λ v. Some (state_answer p.program v out)))
+    with_language_file (files program) (λ p. with_image_file p.digested (files image) (λ v. Some (state_answer p v out)))
 
 -- goes on with the role of this number, where it is an init
 abbrev pub with_init_at : Program → Option ℕ → (ℕ → Option Answer) → Option Answer

@@ -1,11 +1,17 @@
--- A program with the digest of its text, and a query of it with the fuel that it is called with.
+-- A program with the digest and the names of its text, and a query of it with the fuel that it is called with.
 use Rattle.std.specs.Prelude.{ℕ, List}
 use Rattle.core_terms.specs.Terms.{Program}
+use Rattle.auth_syntax.specs.Literals.{ConstructorNames}
 
 -- a program with the digest of its text
 pub record DigestedProgram : Type 0 where
   pub program : Program
   pub digest : List ℕ
+
+-- the same of a program of the whole language, with the names of the constructors that its text declares
+pub record NamedProgram : Type 0 where
+  pub digested : DigestedProgram
+  pub names : ConstructorNames
 
 -- a query of a program, by the number of its function, with the fuel that it is called with
 pub record FueledQuery : Type 0 where

@@ -114,6 +114,16 @@ abbrev pub GoesOnInHand : {A T : Type 0} → ((A → Option Answer) → Option A
 GoesOnInHand step value (Err ReadFault) = ⊥
 GoesOnInHand step value found = GoesOn step value found
 
+-- A step that gives what stands for the value that the answer goes on with, or halts.
+abbrev pub GoesOnFor : {A T : Type 0} → ((A → Option Answer) → Option Answer) → (T → A → Type 0) → Result T Halt → Type 0
+GoesOnFor {A = A} step Stands (Ok t) = (a : A) × ((go : A → Option Answer) → step go ≡ go a) × Stands t a
+GoesOnFor {A = A} step Stands (Err halt) = (go : A → Option Answer) → HaltsAs (step go) halt
+
+-- the same of a step on what is in hand
+abbrev pub GoesOnForInHand : {A T : Type 0} → ((A → Option Answer) → Option Answer) → (T → A → Type 0) → Result T Halt → Type 0
+GoesOnForInHand step Stands (Err ReadFault) = ⊥
+GoesOnForInHand step Stands found = GoesOnFor step Stands found
+
 -- the count of reads rose at `ReadFault` and nowhere else
 abbrev pub HaltCause : {T : Type 0} → ℕ → ℕ → Result T Halt → Type 0
 HaltCause before now (Err ReadFault) = Rose before now

@@ -12,9 +12,12 @@ pub mod ProvedCalls
 pub mod AuditedCalls
 pub mod ReadPrograms
 pub mod Reporting
+pub mod ShallowLaws
 pub mod SoundPrograms
+pub mod StoredStates
 pub mod Storing
 pub mod Telling
+pub mod TextLaws
 pub mod TextPrograms
 pub mod TrueLines
 pub mod VerdictLaws

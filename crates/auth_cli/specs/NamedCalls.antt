@@ -6,7 +6,7 @@ use Rattle.core_terms.specs.Values.{Value}
 use Rattle.auth_syntax.specs.Literals.{IsValue}
 use Rattle.images.specs.Images.{Root}
 use Rattle.core_terms.specs.Roles.{argument_type}
-use Rattle.auth_cli.specs.Answer.{image_read, literal_at, max_program}
+use Rattle.auth_cli.specs.Answer.{image_read, literal_at, max_file, max_program}
 use Rattle.auth_cli.specs.Arguments.{fuel_of, query_named}
 use Rattle.auth_cli.specs.FueledQueries.{DigestedProgram, FueledQuery}
 use Rattle.auth_cli.specs.IdealCalls.{IdealCall, called_program}
@@ -30,6 +30,7 @@ pub record NamesQuery (program_name role_name fuel_text : List ℕ) (files : Con
 pub record KeepsState (file : Option (List ℕ)) (p : DigestedProgram) (state : Value) : Type 0 where
   pub image : List ℕ
   pub there : file ≡ Some image
+  pub fits : length image ≤ max_file
   pub root : image_read p image ≡ Root state
 
 -- the state of the call is that of the image in the file, and its argument is what the text is a literal of

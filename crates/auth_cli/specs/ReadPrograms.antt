@@ -10,7 +10,7 @@ use Rattle.auth_syntax.specs.declared.fault.SyntaxFault.TheVariants as syntax_fa
 use Rattle.auth_types.specs.declared.fault.TypeFault.{TypeFault}
 use Rattle.auth_types.specs.declared.fault.TypeFault.TheVariants as type_fault
 use Rattle.printed_lines.specs.declared.refusal.ProgramKind.TheVariants.{Syntax, Typing}
-use Rattle.auth_cli.specs.FueledQueries.{DigestedProgram}
+use Rattle.auth_cli.specs.FueledQueries.{DigestedProgram, NamedProgram}
 use Rattle.auth_cli.specs.TextPrograms.{TextProgram, IsProgram, IsRefused}
 use Rattle.auth_cli.specs.declared.programs.ProgramFault.{ProgramFault}
 use Rattle.auth_cli.specs.declared.programs.ProgramFault.TheVariants.{At, NoMemory}
@@ -37,3 +37,7 @@ digested p = record { program = meaning p; digest = p.text_digest.0 }
 
 abbrev pub language_digested : LanguageProgram → DigestedProgram
 language_digested p = record { program = language.meaning p; digest = p.text_digest.0 }
+
+-- the same with the names of its constructors
+abbrev pub language_named : LanguageProgram → NamedProgram
+language_named p = record { digested = language_digested p; names = language.constructor_names p.named.items }

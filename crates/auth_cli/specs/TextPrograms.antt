@@ -1,10 +1,11 @@
 -- A text as a program.
-use Rattle.std.specs.Prelude.{ℕ, List}
+use Rattle.std.specs.Prelude.{ℕ, List, [], slice_get, unwrap_or}
 use Rattle.core_terms.specs.Terms.{Program}
+use Rattle.auth_syntax.specs.Literals.{ConstructorNames}
 use Rattle.auth_syntax.specs.Vocabulary.{fragment, whole_language}
 use Rattle.auth_syntax.specs.Parsing.{Parsed, parsed}
 use Rattle.auth_syntax.specs.Parsing as parsing
-use Rattle.auth_types.specs.CheckedPrograms.{Checked, checked}
+use Rattle.auth_types.specs.CheckedPrograms.{Checked, checked, constructors_in}
 use Rattle.auth_types.specs.CheckedPrograms as checking
 use Rattle.printed_lines.specs.declared.refusal.ProgramKind.{ProgramKind}
 use Rattle.printed_lines.specs.declared.refusal.ProgramKind.TheVariants.{Syntax, Typing}
@@ -28,3 +29,12 @@ language_program_of_text text = of_parsed (parsed whole_language text)
 
 unfoldable pub program_of_text : List ℕ → TextProgram
 program_of_text text = of_parsed (parsed fragment text)
+
+-- the names of the constructors of each type that a tree declares, in the order of its declarations
+abbrev pub constructors_of_parsed : Parsed → List (List (List ℕ))
+constructors_of_parsed (parsing.Tree program) = constructors_in program.declarations
+constructors_of_parsed (parsing.FirstFault kind line column) = []
+
+-- The names of the constructors of the n-th type that a text declares, from 0, in the order in which it declares them: by tag.
+unfoldable pub constructor_names_of_text : List ℕ → ConstructorNames
+constructor_names_of_text text n = unwrap_or (slice_get (constructors_of_parsed (parsed whole_language text)) n) []

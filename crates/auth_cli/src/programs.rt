@@ -7,8 +7,8 @@ ghost use Rattle.core_terms.specs.Programs.{meaning};
 ghost use Rattle.auth_cli.specs.Answer.{with_language_file, with_program_file};
 ghost use Rattle.auth_cli.specs.Halting.{GoesOn, HaltCause};
 ghost use Rattle.auth_cli.specs.NamedCalls.{KeepsProgram};
-ghost use Rattle.auth_cli.specs.ReadPrograms.{ReadsProgram, digested, language_digested};
-ghost use Rattle.auth_cli.specs.TextPrograms.{language_program_of_text, program_of_text};
+ghost use Rattle.auth_cli.specs.ReadPrograms.{ReadsProgram, digested, language_named};
+ghost use Rattle.auth_cli.specs.TextPrograms.{constructor_names_of_text, language_program_of_text, program_of_text};
 
 use crate::Halt;
 use crate::report::load;
@@ -78,6 +78,7 @@ pub fn read_language_program(alloc: Global, text: &[u8]) -> Result<language::Pro
     requires { length text.now ≤ 262144 }
     ensures answer { ReadsProgram language.meaning (language_program_of_text text.now) result }
     ensures digest { IfOk result (λ p. p.text_digest.0 ≡ sha256 text.now) }
+    ensures names { IfOk result (λ p. language.constructor_names p.named.items ≡ constructor_names_of_text text.now) }
 {
     let ast = parse(alloc, text)?;
     Ok(check(alloc, ast, Sha::of(text))?)
@@ -100,7 +101,7 @@ pub fn read_language_file<F: Files>(
     files: &mut F,
     name: &str,
 ) -> Result<language::Program, Halt>
-    ensures goes { ForSome (F.contents files.old) (λ told. GoesOn (with_language_file (told name.now)) language_digested result) }
+    ensures goes { ForSome (F.contents files.old) (λ told. GoesOn (with_language_file (told name.now)) language_named result) }
     ensures cause { HaltCause (F.faults files.old) (F.faults files.new) result }
     ensures contents { F.contents files.new ≡ F.contents files.old }
     ensures stores { F.stores files.new ≡ F.stores files.old }

@@ -1,26 +1,26 @@
 // The command `shallow`.
 ghost use Rattle.std.specs.Prelude.{◌≡◌, ℕ, List, IfOk};
 ghost use Rattle.std.specs.Option.{ForSome};
-ghost use Rattle.core_terms.specs.Programs.{meaning};
-ghost use Rattle.core_terms.specs.Values.{IsIdeal};
-ghost use Rattle.plain_meaning.specs.PlainValues.{plain_of};
+ghost use Rattle.core_terms.specs.LanguagePrograms.{meaning};
+ghost use Rattle.core_terms.specs.Values.{Value};
 ghost use Rattle.auth_cli.specs.Answer.{spelled_answer, state_answer};
 ghost use Rattle.auth_cli.specs.Ending.{EndsAs, outside};
 ghost use Rattle.auth_cli.specs.Halting.{HaltCause};
+ghost use Rattle.auth_cli.specs.ReadPrograms.{language_named};
+ghost use Rattle.auth_cli.specs.StoredStates.{IsStoredState};
 ghost use Rattle.auth_cli.specs.Storing.{FindsOutput, IsOutput};
 
-use crate::programs::read_program_file;
-use crate::states::read_image_file;
+use crate::programs::read_language_file;
+use crate::stored_states::load_image_file;
 use crate::storing::store_and_tell;
 use crate::{Ending, Halt, Output, Report, Status};
 use command_words::ShallowArguments;
-use core_terms::Program;
-use digest_layer::Sha;
+use core_terms::language::Program;
 use lam_outside::{Files, Sink};
-use plain_meaning::Plain;
 use printed_lines::lines::state_line;
-use prover_mode::project;
+use shallow_codec::spell;
 use std::alloc::{AllocError, Global};
+use stored_images::Loaded;
 
 /// Stores the spelling of the projection of a state, and tells its value.
 pub fn shallow_command<F: Files, O: Sink>(
@@ -48,19 +48,19 @@ fn find_state<F: Files>(
     ensures stores { F.stores files.new ≡ F.stores files.old }
     ensures store_faults { F.store_faults files.new ≡ F.store_faults files.old }
 {
-    let program = read_program_file(alloc, files, program)?;
-    let state = read_image_file(alloc, files, &program, image)?;
+    let program = read_language_file(alloc, files, program)?;
+    let state = load_image_file(alloc, files, &program, image)?;
     Ok(spell_state(alloc, &program, &state)?)
 }
 
 /// The projection of a state, spelled and told.
-#[tactic(auto, unfolding(crate::specs::Answer::state_projection))]
-fn spell_state(alloc: Global, program: &Program, state: &Plain) -> Result<Output, AllocError>
-    requires { IsIdeal (meaning program.now).types (meaning program.now).state (plain_of state.now) }
-    ensures { IfOk result (λ output. (name : List ℕ) → IsOutput (state_answer (meaning program.now) (plain_of state.now) name) name output) }
+fn spell_state(alloc: Global, program: &Program, state: &Loaded) -> Result<Output, AllocError>
+    requires { (v : Value) × IsStoredState (meaning program.now) state.now v }
+    ensures { IfOk result
+        (λ output. (name : List ℕ) (v : Value) → IsStoredState (meaning program.now) state.now v → IsOutput (state_answer (language_named program.now) v name) name output) }
 {
     let ty = program.state_type();
-    let spelled = project::<Sha>(alloc, program, ty, state.lent())?;
+    let spelled = spell(alloc, program, &state.store, state.root, ty)?;
     let text = state_line(alloc, program, ty, spelled.as_bytes())?;
     let report = Report {
         ending: Ending::Done,

@@ -1,12 +1,13 @@
 -- The texts of the lines that are printed. Numbers are decimal, digests 64 lower-case hexadecimal digits.
 use Rattle.std.specs.Prelude.{ℕ, List, [], ◌∷◌, ◌++◌, codes, decimal}
 use Rattle.hex.specs.Hex.{encode_lower}
-use Rattle.core_terms.specs.Types.{Ty}
+use Rattle.core_terms.specs.Types.{Ty, Table}
 use Rattle.core_terms.specs.Values.{Value}
 use Rattle.ideal_meaning.specs.Checked.{Cause, Short, Cut, BadKind, PieceLong, BadUse, WrongPiece, BadPiece, Header, Leftover}
 use Rattle.ideal_meaning.specs.Run.{Trap, Overflow, DivZero, TooBig, TooDeep}
 use Rattle.ideal_meaning.specs.Told.{cause_told}
-use Rattle.auth_syntax.specs.PrintedValues.{value_text}
+use Rattle.auth_syntax.specs.Literals.{ConstructorNames}
+use Rattle.auth_syntax.specs.PrintedValues.{printed, value_text}
 use Rattle.auth_syntax.specs.declared.fault.LexicalFault.{LexicalFault}
 use Rattle.auth_syntax.specs.declared.fault.LexicalFault.TheVariants as lexical
 use Rattle.auth_syntax.specs.declared.fault.SyntaxKind.{SyntaxKind}
@@ -174,9 +175,9 @@ out_line = codes "out of fuel\n"
 abbrev pub ok_line : List ℕ → List ℕ
 ok_line digest = line_of (codes "ok ") (encode_lower digest)
 
--- the line of a state
-abbrev pub state_line : Ty → Value → List ℕ
-state_line t v = line_of (codes "state ") (value_text t v)
+-- the line of a state, over the named types of a program and the names of their constructors
+abbrev pub state_line : Table → ConstructorNames → Ty → Value → List ℕ
+state_line types names t v = line_of (codes "state ") (printed types names t v)
 
 -- the line of a proof: how many pieces it has of its own, how many it names again, and how many bytes it has
 abbrev pub proof_line : (fresh again bytes : ℕ) → List ℕ

@@ -1,7 +1,8 @@
 // The lines of outcomes and refusals.
 
-ghost use Rattle.std.specs.Prelude.{◌≡◌, ◌++◌, IfOk, string_bytes};
+ghost use Rattle.std.specs.Prelude.{◌≡◌, ◌<◌, ◌^◌, ◌++◌, length, IfOk, string_bytes};
 ghost use Rattle.hex.specs.Hex.{encode_lower};
+ghost use Rattle.core_terms.specs.LanguagePrograms as language;
 ghost use Rattle.core_terms.specs.Programs.{meaning, types_of};
 ghost use Rattle.core_terms.specs.Spelling.{spelling};
 ghost use Rattle.core_terms.specs.TypeTables.{type_at};
@@ -11,8 +12,9 @@ ghost use Rattle.printed_lines.specs.Lines as def;
 
 use crate::names::{argument_name, literal_name, program_name};
 use crate::refusal::{ImageKind, InputFault, ProgramKind, Refusal};
+use auth_syntax::printing::language::print_value as language_text;
 use auth_syntax::printing::print_value;
-use core_terms::{Cause, Digest, Program, Trap, TyId};
+use core_terms::{Cause, Digest, Program, Trap, TyId, language};
 use std::alloc::{AllocError, Global};
 
 /// The line of a refusal.
@@ -150,17 +152,19 @@ pub fn done_line(
     between(alloc, b"done ", &value)
 }
 
-/// The line of a state with a value of a type of the program, which these bytes spell.
+/// The line of a state with a value of a type of the program, which these bytes spell, fewer than 2^32. The program is one of the whole
+/// language, and constructors are written with its names.
 pub fn state_line(
     alloc: Global,
-    program: &Program,
+    program: &language::Program,
     ty: TyId,
     bytes: &[u8],
 ) -> Result<Vec<u8>, AllocError>
-    ensures { IfOk result (λ line. (v : Value) → IsShallow (meaning program.now).types (type_at (types_of program.now) ty) v → bytes.now ≡ spelling v
-        → line.items ≡ def.state_line (type_at (types_of program.now) ty) v) }
+    ensures { let P = language.meaning program.now in let t = type_at (language.types_of program.now) ty in
+        IfOk result (λ line. (v : Value) → IsShallow P.types t v → length bytes.now < 2 ^ 32 → bytes.now ≡ spelling v
+        → line.items ≡ def.state_line P.types (language.constructor_names program.now.named.items) t v) }
 {
-    let value = print_value(alloc, program, ty, bytes)?;
+    let value = language_text(alloc, program, ty, bytes)?;
     between(alloc, b"state ", &value)
 }
 

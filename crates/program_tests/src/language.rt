@@ -198,14 +198,13 @@ fn the_fragment_ends_at_the_first_token_beyond_it(rt: HostRuntime) -> Result<(),
     Ok(())
 }
 
-// Each command that runs a program or reads its values, on a text that `check` takes.
+// Each command that runs a program, on a text that `check` takes.
 #[test]
 fn commands_that_run_take_the_fragment(rt: HostRuntime) -> Result<(), Fail> {
     let text = b"state unit; query q(s: unit, x: int): int = if lt(x, 0) then 0 else x;";
     let stage = staged(text, &[], PROOF);
-    let commands: [&[&str]; 5] = [
+    let commands: [&[&str]; 4] = [
         &["init", "p", "q", "()", "1", "o"],
-        &["shallow", "p", "q", "o"],
         &["prove", "p", "q", "q", "1", "1", "0", "o"],
         &["verify", "p", "q", "s", "1", "1", "q"],
         &["audit", "p", "q", "q", "1", "1", "q"],

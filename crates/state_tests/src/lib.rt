@@ -2,4 +2,6 @@
 #![tactic(auto)]
 
 #[cfg(test)]
+mod language;
+#[cfg(test)]
 mod states;

@@ -1,8 +1,6 @@
 // What `init` and `shallow` store and tell.
 use auth_cli::run;
 use cli_stage::stage::{OPEN, STATE, files, run_words, sink, staged};
-use printed_lines::lines::refusal_line;
-use printed_lines::refusal::{ImageKind, InputFault, Refusal};
 use std::test::Fail;
 
 /// The image of the state of `()`: a unit, and what is authenticated of it.
@@ -147,14 +145,5 @@ fn a_text_with_a_spelling_beyond_the_limit_is_too_big(rt: HostRuntime) -> Result
     let words = ["shallow", "p", "q", "o"];
     let told = run_words(alloc, &staged(TEXT, b"", &image), &words)?;
     assert!(rt; told.is(7, "input refused: image too big 0\n"));
-    Ok(())
-}
-
-// No value of a state of the fragment is nested as deep, so the line stands alone.
-#[test]
-fn a_value_that_is_too_deep_has_its_line(rt: HostRuntime) -> Result<(), Fail> {
-    let fault = InputFault::Image(ImageKind::TooDeep(7));
-    let line = refusal_line(rt.alloc(), &Refusal::Input(fault))?;
-    assert!(rt; line.as_slice() == b"input refused: image too deep 7\n".as_slice());
     Ok(())
 }

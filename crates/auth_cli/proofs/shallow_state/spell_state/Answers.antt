@@ -1,18 +1,39 @@
-use Rattle.std.proofs.Common.{refl, ap, ◌∙◌}
+use Rattle.std.proofs.Common.{◌<◌, ◌^◌, length, refl, sym, ◌∙◌, subst}
 use Rattle.sha2.specs.Sha256.{sha256}
-use Rattle.core_terms.specs.Programs.{meaning, types_of}
-use Rattle.core_terms.specs.Spelling.{spelling}
-use Rattle.core_terms.specs.Projection.{projection}
+use Rattle.sha2.proofs.Facts256.{length-sha256}
+use Rattle.core_terms.specs.LanguagePrograms.{meaning, types_of}
+use Rattle.core_terms.specs.Projection.{digest_at, projection}
 use Rattle.core_terms.specs.TypeTables.{type_at}
-use Rattle.plain_meaning.specs.PlainValues.{plain_of}
-use Rattle.core_terms.proofs.CodePrograms.{is_format}
+use Rattle.value_store.specs.Standing.{ProverNodes, StandsFor}
+use Rattle.value_store.specs.Stores.{nodes_in}
+use Rattle.value_store.proofs.StandingNodes.{within_stands}
+use Rattle.value_store.proofs.TypedNodes.{ideal_stands, prover_refers}
+use Rattle.auth_cli.specs.ReadPrograms.{language_named}
+use Rattle.auth_cli.proofs.MarkedStates.{language_format, projected}
 use Rattle.auth_cli.proofs.StateOutputs.{state_output}
 use Rattle.auth_cli.proofs.shallow_state.spell_state.Goals as goal
 
+pub spell-requires : goal.spell-requires
+spell-requires c =
+    let p = c.args.program.now in
+    let P = meaning p in
+    let nodes = nodes_in c.args.state.now.store in
+    let root = c.args.state.now.root.0 in
+    let t = type_at (types_of p) c.state_type-ty.result in
+    let stands = subst (λ t. StandsFor (ProverNodes (digest_at sha256 P)) P.types nodes root t c.requires.0) (sym c.state_type-ty.ensures.state) c.requires.1 in
+    (projection sha256 P t c.requires.0, projected p nodes t c.requires.0 root stands)
+
 pub returns : goal.returns
-returns c =
-    let P = meaning c.args.program.now in
-    let t = type_at (types_of c.args.program.now) c.state_type-ty.result in
-    let spelled = c.in_ok-spelled.ensures.bytes ∙ ap (λ v. spelling (projection sha256 P t v)) c.lent.ensures.value in
-    state_output P (is_format c.args.program.now) t (plain_of c.args.state.now) c.in_ok-spelled.spelled _ c.into_bytes.result c.requires c.state_type-ty.ensures spelled refl
-    (λ w shallow is. c.in_ok-text.ensures w shallow (c.as_bytes.ensures ∙ is)) refl c.into_bytes.ensures
+returns c = λ name v h.
+    let p = c.args.program.now in
+    let P = meaning p in
+    let kind = ProverNodes (digest_at sha256 P) in
+    let nodes = nodes_in c.args.state.now.store in
+    let root = c.args.state.now.root.0 in
+    let t = type_at (types_of p) c.state_type-ty.result in
+    let stands = subst (λ t. StandsFor kind P.types nodes root t v) (sym c.state_type-ty.ensures.state) h in
+    let ideal = ideal_stands kind P.types (prover_refers (digest_at sha256 P) P.types) nodes P.state v root h in
+    let within = within_stands kind P.types nodes P.state v root c.args.state.now.store.sound h in
+    state_output (language_named p) (language_format p) t v c.in_ok-spelled.spelled _ c.into_bytes.result ideal within.size_fits c.state_type-ty.ensures.state
+    (c.in_ok-spelled.ensures.projected sha256 v length-sha256 stands) refl
+    (λ w shallow short is. c.in_ok-text.ensures w shallow (subst (λ bytes. length bytes < 2 ^ 32) (sym c.as_bytes.ensures) short) (c.as_bytes.ensures ∙ is)) refl c.into_bytes.ensures name
