@@ -1,5 +1,5 @@
 -- The constructors of named types are numbered one after another.
-use Rattle.std.proofs.Common.{◌≡◌, ℕ, suc, ◌+◌, ◌<◌, List, [], ◌∷◌, ◌++◌, length, map, drop, slice_index_or, refl, sym, ap, ◌∙◌, add-one, append_assoc, drop-cons}
+use Rattle.std.proofs.Common.{◌≡◌, ℕ, suc, ◌+◌, ◌<◌, List, [], ◌∷◌, ◌++◌, length, map, drop, slice_index_or, sym, ap, ◌∙◌, add-one, append_assoc, drop-cons}
 use Rattle.std.proofs.lemmas.List.{map-append}
 use Rattle.core_terms.specs.declared.language.term.Constructor.{Constructor}
 use Rattle.core_terms.specs.declared.language.term.NamedType.{NamedType}

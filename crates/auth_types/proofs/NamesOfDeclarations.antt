@@ -1,12 +1,12 @@
 -- The names that the first pass finds are those that are declared, in order.
-use Rattle.std.proofs.Common.{◌≡◌, ℕ, ◌+◌, Bool, not, List, [], ◌∷◌, ◌++◌, length, map, reverse, nat_lt, Bor, refl, sym, ap, ◌∙◌, append_assoc}
-use Rattle.std.proofs.lemmas.List.{append-nil, map-append, reverse-append, reverse-reverse}
+use Rattle.std.proofs.Common.{◌≡◌, ℕ, ◌+◌, not, List, [], ◌∷◌, ◌++◌, map, reverse, nat_lt, sym, ap, ◌∙◌, append_assoc}
+use Rattle.std.proofs.lemmas.List.{append-nil, reverse-append, reverse-reverse}
 use Rattle.auth_syntax.specs.Syntax.{ConstructorDeclaration, DeclarationSyntax, FunctionDeclaration, FunctionSyntax, NameSyntax, StateDeclaration, TypeDeclaration, TypeSyntax}
 use Rattle.auth_syntax.specs.declared.place.Place.{Place}
-use Rattle.auth_types.specs.Checking.{Checking, Sound, is_among}
+use Rattle.auth_types.specs.Checking.{Sound, is_among}
 use Rattle.auth_types.specs.CheckedPrograms.{constructors_in}
 use Rattle.auth_types.specs.Declarations.{Declared, checked_constructors, checked_declaration, checked_declarations, checked_fields, checked_parameters, most_constructors, most_functions, most_types, nothing_declared}
-use Rattle.auth_types.specs.DeclaredNames.{declared_of, names_met}
+use Rattle.auth_types.specs.DeclaredNames.{declared_of}
 use Rattle.auth_types.specs.ScopeNames.{joined, names_in}
 use Rattle.auth_types.specs.WrittenTypes.{functions_in, type_names}
 use Rattle.auth_types.specs.declared.declarations.Declared.{Declared as DeclaredSets}

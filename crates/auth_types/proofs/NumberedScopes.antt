@@ -1,5 +1,5 @@
 -- What the numbered parts of a text stand for: the scope of its declarations.
-use Rattle.std.proofs.Common.{◌≡◌, ℕ, ◌<◌, ◌≤◌, List, [], ◌∷◌, length, map, slice_get, slice_index_or, Some, refl, sym, ap, ◌∙◌, subst, arith}
+use Rattle.std.proofs.Common.{◌≡◌, ℕ, ◌<◌, ◌≤◌, List, [], ◌∷◌, length, map, slice_get, Some, refl, sym, ap, ◌∙◌, subst, arith}
 use Rattle.std.specs.Prelude.{All}
 use Rattle.std.specs.List.{AllZip}
 use Rattle.std.proofs.lemmas.List.{length-map}
@@ -19,7 +19,7 @@ use Rattle.auth_types.specs.CheckedPrograms.{constructors_in, signature_of}
 use Rattle.auth_types.specs.Checking.{Sound}
 use Rattle.auth_types.specs.Declarations.{checked_declarations, most_constructors, nothing_declared}
 use Rattle.auth_types.specs.DeclaredNames.{declared_of}
-use Rattle.auth_types.specs.Numbering.{AreConstructorsOf, AreNamedOf, IsConstructorOf, IsHeadOf}
+use Rattle.auth_types.specs.Numbering.{AreConstructorsOf, AreNamedOf, IsHeadOf}
 use Rattle.auth_types.specs.OverTypes.{AreNumbers}
 use Rattle.auth_types.specs.ScopeNames.{constructors_meant}
 use Rattle.auth_types.specs.Scopes.{AreWithin, IsConstructorWithin, IsHeadWithin, IsNamedWithin, IsWithin, scope_in, signature_meant}

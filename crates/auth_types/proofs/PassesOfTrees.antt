@@ -1,5 +1,5 @@
 -- The passes on a tree, one after another: the first that finds a fault ends them, and where none does they give the program.
-use Rattle.std.proofs.Common.{◌≡◌, ℕ, ◌<◌, Bool, true, false, not, List, [], ◌∷◌, length, map, nat_lt, slice_get, Some, Result, Ok, Err, refl, sym, ap, ◌∙◌, subst, arith}
+use Rattle.std.proofs.Common.{◌≡◌, ℕ, ◌<◌, false, List, [], ◌∷◌, length, map, slice_get, Some, Result, Err, refl, sym, ap, ◌∙◌, subst, arith}
 use Rattle.std.proofs.lemmas.Option.{get_or_from_slice_get, slice_get_within}
 use Rattle.core_terms.specs.Types.{Ty, UnitTy, Table}
 use Rattle.core_terms.specs.Terms as tree
@@ -7,24 +7,21 @@ use Rattle.core_terms.specs.ProgramTrees.{program_format}
 use Rattle.core_terms.specs.LanguageTrees.{table_of}
 use Rattle.core_terms.specs.TypeTables.{type_at}
 use Rattle.core_terms.specs.declared.types.TyId.{TyId}
-use Rattle.auth_syntax.specs.Syntax.{ConstructorDeclaration, DeclarationSyntax, FunctionDeclaration, FunctionSyntax, NameSyntax, Program, StateDeclaration, TypeDeclaration, TypeSyntax}
-use Rattle.auth_syntax.specs.declared.place.Place.{Place}
+use Rattle.auth_syntax.specs.Syntax.{DeclarationSyntax, FunctionDeclaration, Program, StateDeclaration, TypeDeclaration, TypeSyntax}
 use Rattle.auth_types.specs.Bodies.{Scope, checked_functions}
-use Rattle.auth_types.specs.Checking.{Checking, Sound, FaultAt, is_among, then_checked, unless_fault}
+use Rattle.auth_types.specs.Checking.{Checking, Sound, FaultAt, then_checked}
 use Rattle.auth_types.specs.CheckedPrograms.{all_passes, first_state, fourth_pass, names_of, scope_of, signature_of, state_of, table_of_program, third_pass}
 use Rattle.auth_types.specs.Declarations.{Declared, checked_constructors, checked_declaration, checked_declarations, checked_parameters, first_pass, most_functions, most_types, nothing_declared}
 use Rattle.auth_types.specs.Numbering.{written_state}
 use Rattle.auth_types.specs.Outcomes.{Finds}
 use Rattle.auth_types.specs.OverTypes.{Grows}
 use Rattle.auth_types.specs.RoleRules.{checked_roles}
-use Rattle.auth_types.specs.Scopes.{AreHeadsOf, functions_meant, scope_in, scope_meant, signature_meant}
-use Rattle.auth_types.specs.WrittenTypes.{functions_in, known_declarations, second_pass, states_in, type_meant, type_names}
+use Rattle.auth_types.specs.Scopes.{AreHeadsOf, functions_meant, scope_in, scope_meant}
+use Rattle.auth_types.specs.WrittenTypes.{functions_in, known_declarations, second_pass, states_in, type_meant}
 use Rattle.auth_types.specs.declared.fault.Fault.{Fault}
 use Rattle.auth_types.specs.declared.fault.Fault.TheVariants.{At, NoMemory}
-use Rattle.auth_types.specs.declared.fault.TypeKind.{TypeKind}
-use Rattle.auth_types.specs.declared.fault.TypeKind.TheVariants.{NoState, Twice}
+use Rattle.auth_types.specs.declared.fault.TypeKind.TheVariants.{NoState}
 use Rattle.auth_types.specs.declared.fault.Limited.TheVariants.{Functions, Types}
-use Rattle.auth_types.specs.declared.scope.Head.{Head}
 use Rattle.auth_types.specs.declared.scope.Scope.{Scope as CodeScope}
 use Rattle.auth_types.proofs.ScopeStays.{grows_length, type_stays_at}
 use Rattle.auth_types.proofs.SoundLimits.{gives_new}

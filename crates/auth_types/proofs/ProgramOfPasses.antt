@@ -1,15 +1,14 @@
 -- The program that the passes give, of the parts that the code holds.
-use Rattle.std.proofs.Common.{◌≡◌, ℕ, ◌<◌, ◌≤◌, ◌&&◌, Bool, true, List, [], ◌∷◌, ◌++◌, length, map, slice_get, slice_index_or, Some, nat_le, nat_lt, refl, sym, ap, ◌∙◌, subst, arith, le-leb, lt-ltb}
+use Rattle.std.proofs.Common.{◌≡◌, ℕ, ◌<◌, ◌≤◌, Bool, true, List, [], ◌∷◌, length, map, nat_le, nat_lt, refl, sym, ap, ◌∙◌, subst, arith, le-leb, lt-ltb}
 use Rattle.std.specs.Prelude.{All}
 use Rattle.std.specs.List.{list_all}
 use Rattle.std.proofs.lemmas.List.{length-map}
 use Rattle.std.proofs.lemmas.List.Elements.{All-cons, All-head, All-nil, All-tail}
-use Rattle.std.proofs.lemmas.Option.{slice_get_within}
-use Rattle.core_terms.specs.Types.{Ty, has_tags}
+use Rattle.core_terms.specs.Types.{Ty, has_numbers, has_tags}
 use Rattle.core_terms.specs.Terms as tree
 use Rattle.core_terms.specs.TypeTables.{type_at}
 use Rattle.core_terms.specs.Typing.{is_shaped, is_typed}
-use Rattle.core_terms.specs.LanguageTrees.{are_below, function_of, has_fields_below, has_types_below, is_within, program_of, table_of, types_at}
+use Rattle.core_terms.specs.LanguageTrees.{are_below, function_of, has_fields_below, has_types_below, is_within, program_of, table_of}
 use Rattle.core_terms.specs.LanguageTypes.{types_of_forms}
 use Rattle.core_terms.specs.declared.types.TyId.{TyId}
 use Rattle.core_terms.specs.declared.language.types.TyForm.{TyForm}
@@ -21,8 +20,8 @@ use Rattle.auth_syntax.specs.Trees as written
 use Rattle.auth_types.specs.Bodies.{Signature}
 use Rattle.auth_types.specs.Checking.{Sound}
 use Rattle.auth_types.specs.CheckedLaws.{HasGoodLiterals}
-use Rattle.auth_types.specs.CheckedPrograms.{all_passes, fourth_pass, names_of, signature_of, state_of, table_of_program, third_pass}
-use Rattle.auth_types.specs.Declarations.{first_pass, most_constructors}
+use Rattle.auth_types.specs.CheckedPrograms.{all_passes, fourth_pass, signature_of, state_of, table_of_program, third_pass}
+use Rattle.auth_types.specs.Declarations.{first_pass, most_constructors, most_types}
 use Rattle.auth_types.specs.OverTypes.{Grows}
 use Rattle.auth_types.specs.Scopes.{AreHeadsOf, AreWithin, IsConstructorWithin, IsCounted, IsHeadWithin, IsNamedWithin, IsWithin, functions_meant, scope_in, scope_meant, signature_meant}
 use Rattle.auth_types.specs.WrittenTypes.{functions_in, second_pass, type_meant}
@@ -97,6 +96,10 @@ module _ (program : Program) (before : List Ty) (forms : List TyForm) (scope : S
         let table = table_made in
         let of_state = state_made in
         passes_end program first second third (map (function_of (types_of_forms forms)) functions) fourth ∙ cc
+
+    pub program_numbered : has_numbers (program_of forms scope.named.items state functions).types ≡ true
+    program_numbered =
+        le-leb (length (program_of forms scope.named.items state functions).types) most_types (checked_is_within_limits program (program_of forms scope.named.items state functions) passes_give).types
 
     pub program_tagged : has_tags (program_of forms scope.named.items state functions).types ≡ true
     program_tagged =

@@ -1,9 +1,9 @@
 -- Lemmas of the third pass: the roles of a scope's functions.
-use Rattle.std.proofs.Common.{◌≡◌, ◌≢◌, ℕ, zero, suc, ◌+◌, ◌<◌, Bool, true, false, not, ◌&&◌, List, [], ◌∷◌, length, map, drop, slice_get, slice_index_or, Some, ◌-◌, Result, Ok, Err, refl, sym, ap, ◌∙◌, subst, arith, add-one, drop-cons}
+use Rattle.std.proofs.Common.{◌≡◌, ◌≢◌, ℕ, zero, suc, ◌+◌, ◌<◌, Bool, true, false, ◌&&◌, List, [], ◌∷◌, length, map, drop, slice_get, slice_index_or, Some, ◌-◌, Result, Ok, Err, refl, sym, ap, ◌∙◌, subst, arith, add-one, drop-cons}
 use Rattle.std.specs.Prelude.{IsTrue}
 use Rattle.std.proofs.lemmas.Bool.{false≢true}
 use Rattle.std.proofs.lemmas.List.{length-map}
-use Rattle.core_terms.specs.Types.{Ty, UnitTy, Table}
+use Rattle.core_terms.specs.Types.{Ty, Table}
 use Rattle.core_terms.specs.Roles.{has_auth}
 use Rattle.core_terms.specs.Typing.{same_type}
 use Rattle.core_terms.specs.LanguageTrees.{types_at}
@@ -11,11 +11,11 @@ use Rattle.core_terms.specs.TypeTables.{type_at}
 use Rattle.core_terms.specs.declared.types.TyId.{TyId}
 use Rattle.core_terms.proofs.TypingSound.{same_sound}
 use Rattle.core_terms.proofs.TypingComplete.{same_self}
-use Rattle.auth_syntax.specs.Syntax.{FunctionSyntax, InitSyntax, KindSyntax, ParameterSyntax, QuerySyntax, UpdateSyntax, place_of_type}
+use Rattle.auth_syntax.specs.Syntax.{FunctionSyntax, InitSyntax, ParameterSyntax, QuerySyntax, UpdateSyntax, place_of_type}
 use Rattle.auth_syntax.specs.Trees as written
 use Rattle.auth_syntax.specs.declared.place.Place.{Place}
 use Rattle.auth_syntax.specs.declared.tree.Parameter.{Parameter}
-use Rattle.auth_types.specs.Checking.{Checking, Sound, FaultAt, then_checked, unless_fault}
+use Rattle.auth_types.specs.Checking.{Checking, FaultAt, then_checked}
 use Rattle.auth_types.specs.CheckedPrograms.{signature_of}
 use Rattle.auth_types.specs.Bodies.{Signature}
 use Rattle.auth_types.specs.Outcomes.{Finds}
@@ -25,7 +25,7 @@ use Rattle.auth_types.specs.Scopes.{AreHeadsOf, functions_meant, signature_meant
 use Rattle.auth_types.specs.WrittenTypes.{type_meant}
 use Rattle.auth_types.specs.declared.fault.Fault.{Fault}
 use Rattle.auth_types.specs.declared.fault.Fault.TheVariants.{At, NoMemory}
-use Rattle.auth_types.specs.declared.fault.TypeKind.TheVariants.{AuthInArgument, RoleShape}
+use Rattle.auth_types.specs.declared.fault.TypeKind.TheVariants.{RoleShape}
 use Rattle.auth_types.specs.declared.scope.Head.{Head}
 use Rattle.auth_types.specs.declared.scope.Scope.{Scope}
 

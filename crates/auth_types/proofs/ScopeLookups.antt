@@ -1,21 +1,17 @@
 -- The look-ups of a scope by name find what the definitions find.
-use Rattle.std.proofs.Common.{◌≡◌, ℕ, zero, suc, ◌+◌, ◌<◌, Bool, true, false, not, List, [], ◌∷◌, ◌++◌, length, map, Option, Some, None, option_map, option_and_then, unwrap_or, slice_get, slice_index_or, bytes_eq, nat_lt, if◌then◌else◌, cond, Bor, refl, sym, ap, ◌∙◌, subst, lt-ltb, add-zero, zero-add, length-append, arith}
+use Rattle.std.proofs.Common.{◌≡◌, ℕ, suc, ◌+◌, Bool, true, false, not, List, [], ◌∷◌, ◌++◌, length, map, Option, Some, None, option_map, option_and_then, unwrap_or, slice_get, slice_index_or, bytes_eq, nat_lt, if◌then◌else◌, cond, Bor, refl, sym, ap, ◌∙◌, lt-ltb, add-zero, zero-add, length-append, arith}
 use Rattle.std.specs.List.{position, position_or_len}
 use Rattle.std.proofs.lemmas.Cmp.{nat_list_eq_equiv}
 use Rattle.std.proofs.lemmas.Option.{slice_get-map, slice_get-get_or, slice_get_within}
 use Rattle.std.proofs.lemmas.List.{length-map}
 use Rattle.std.proofs.lemmas.Simd.{map-map}
-use Rattle.core_terms.specs.Types.{Ty, fields_at}
-use Rattle.core_terms.specs.LanguageTrees.{types_at}
-use Rattle.core_terms.specs.declared.language.term.Constructor.{Constructor}
-use Rattle.core_terms.specs.declared.language.term.NamedType.{NamedType}
+use Rattle.core_terms.specs.Types.{Ty}
 use Rattle.core_terms.specs.declared.program.FunctionId.{FunctionId}
 use Rattle.core_terms.proofs.Roles.{one_later}
 use Rattle.auth_types.specs.Bodies.{Numbered, Signature, constructor_named, function_named, tag_in}
 use Rattle.auth_types.specs.ScopeNames.{constructor_meant, constructors_meant, joined, names_in, numbered, tagged}
 use Rattle.auth_types.specs.Scopes.{function_meant, no_signature, scope_meant, signature_meant}
 use Rattle.auth_types.specs.WrittenTypes.{number_of}
-use Rattle.auth_types.specs.declared.scope.ConstructorId.{ConstructorId}
 use Rattle.auth_types.specs.declared.scope.Head.{Head}
 use Rattle.auth_types.specs.declared.scope.Scope.{Scope}
 

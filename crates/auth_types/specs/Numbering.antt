@@ -1,5 +1,5 @@
 -- What the code numbers of a text: its functions, its named types and their constructors, over the types of a table.
-use Rattle.std.specs.Prelude.{◌≡◌, ℕ, List, [], ◌∷◌, map, slice_get, Some, Vec}
+use Rattle.std.specs.Prelude.{◌≡◌, ℕ, List, [], ◌∷◌, map, slice_get, Some}
 use Rattle.std.specs.List.{AllZip}
 use Rattle.core_terms.specs.Types.{Ty}
 use Rattle.core_terms.specs.declared.language.term.Constructor.{Constructor}

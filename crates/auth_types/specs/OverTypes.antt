@@ -4,7 +4,6 @@ use Rattle.core_terms.specs.Types.{Ty}
 use Rattle.core_terms.specs.declared.types.TyId.{TyId}
 use Rattle.auth_syntax.specs.Syntax.{FunctionSyntax}
 use Rattle.auth_syntax.specs.Trees as written
-use Rattle.auth_syntax.specs.declared.place.Place.{Place}
 use Rattle.auth_syntax.specs.declared.tree.Declaration.{Declaration}
 use Rattle.auth_types.specs.Checking.{Checking, Sound, FaultAt}
 use Rattle.auth_types.specs.WrittenTypes.{functions_in}

@@ -1,7 +1,7 @@
 -- What the third pass finds of a function of a scope.
 use Rattle.std.specs.Prelude.{◌≡◌, ℕ, Bool, not, List, [], ◌∷◌, Result}
 use Rattle.core_terms.specs.Types.{Ty, Table}
-use Rattle.auth_syntax.specs.Syntax.{FunctionSyntax, KindSyntax, NameSyntax, ParameterSyntax, place_of_type}
+use Rattle.auth_syntax.specs.Syntax.{FunctionSyntax, KindSyntax, ParameterSyntax, place_of_type}
 use Rattle.auth_syntax.specs.Trees as written
 use Rattle.auth_syntax.specs.declared.place.Place.{Place}
 use Rattle.auth_types.specs.Checking.{Checking, Sound, unless_fault}

@@ -3,7 +3,7 @@ ghost use Rattle.std.specs.Prelude.{◌≡◌, true, [], IfOk};
 ghost use Rattle.core_terms.specs.LanguagePrograms.{meaning, types_in};
 ghost use Rattle.core_terms.specs.TypeTables.{type_at};
 ghost use Rattle.core_terms.specs.LanguageTrees.{is_within, table_of};
-ghost use Rattle.core_terms.specs.Types.{has_tags};
+ghost use Rattle.core_terms.specs.Types.{has_numbers, has_tags};
 
 use core_terms::language::{NamedType, Program, TyTable};
 use core_terms::{Digest, Spelling, TyId};
@@ -19,6 +19,7 @@ pub(crate) fn of_types(
     state: TyId,
 ) -> Result<Program, AllocError>
     requires within { is_within types.forms.keys named.items state [] ≡ true }
+    requires numbers { has_numbers (table_of (types_in types) named.items) ≡ true }
     requires tags { has_tags (table_of (types_in types) named.items) ≡ true }
     ensures { IfOk result (λ program. (meaning program).state ≡ type_at (types_in types) state) }
 {

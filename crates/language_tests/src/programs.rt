@@ -3,7 +3,7 @@ ghost use Rattle.std.specs.Prelude.{◌≡◌, ◌<◌, ℕ, true, List, length,
 ghost use Rattle.std.specs.List.{list_all};
 ghost use Rattle.core_terms.specs.LanguagePrograms.{types_in};
 ghost use Rattle.core_terms.specs.LanguageTrees.{are_below, has_fields_below, table_of};
-ghost use Rattle.core_terms.specs.Types.{Ty, has_tags};
+ghost use Rattle.core_terms.specs.Types.{Ty, has_numbers, has_tags};
 
 use core_terms::language::{Constructor, NamedId, NamedType, Program, TyForm, TyTable};
 use core_terms::{Digest, Name, TyId};
@@ -41,6 +41,7 @@ fn of_types(
 ) -> Result<Program, AllocError>
     requires state { state.0 < length (types_in types) }
     requires named { list_all (has_fields_below (length (types_in types))) named.items ≡ true }
+    requires numbers { has_numbers (table_of (types_in types) named.items) ≡ true }
     requires tags { has_tags (table_of (types_in types) named.items) ≡ true }
 {
     Program::new(types, named, state, Vec::new(alloc), Digest([7; 32]), alloc)
@@ -55,6 +56,7 @@ fn three_types(
     plain: TyId,
 ) -> Result<Vec<NamedType>, AllocError>
     ensures within { IfOk result (λ named. (count : ℕ) → int.0 < count → held.0 < count → holder.0 < count → plain.0 < count → list_all (has_fields_below count) named.items ≡ true) }
+    ensures numbers { IfOk result (λ named. (types : List Ty) → has_numbers (table_of types named.items) ≡ true) }
     ensures tags { IfOk result (λ named. (types : List Ty) → has_tags (table_of types named.items) ≡ true) }
 {
     let mut named = Vec::new(alloc);

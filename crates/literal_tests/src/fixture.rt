@@ -2,7 +2,7 @@
 ghost use Rattle.std.specs.Prelude.{◌≡◌, ◌<◌, ℕ, true, List, length, IfOk};
 ghost use Rattle.std.specs.List.{list_all};
 ghost use Rattle.core_terms.specs.LanguageTrees.{has_fields_below, table_of};
-ghost use Rattle.core_terms.specs.Types.{Ty, has_tags};
+ghost use Rattle.core_terms.specs.Types.{Ty, has_numbers, has_tags};
 
 use auth_syntax::fault::{LiteralFault, LiteralKind};
 use auth_syntax::literal::parse_literal;
@@ -67,6 +67,7 @@ fn named_types(
     chain: TyId,
 ) -> Result<Vec<NamedType>, AllocError>
     ensures within { IfOk result (λ named. (count : ℕ) → bool.0 < count → held.0 < count → pair.0 < count → chain.0 < count → list_all (has_fields_below count) named.items ≡ true) }
+    ensures numbers { IfOk result (λ named. (types : List Ty) → has_numbers (table_of types named.items) ≡ true) }
     ensures tags { IfOk result (λ named. (types : List Ty) → has_tags (table_of types named.items) ≡ true) }
 {
     let mut links = Vec::new(alloc);

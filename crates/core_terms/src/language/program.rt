@@ -9,7 +9,7 @@ ghost use Rattle.core_terms.specs.RoleViews.{has_role_below, role_of};
 ghost use Rattle.core_terms.specs.Roles.{HasRoleShape, has_auth, role_function, role_named, program_roles, roles_set};
 ghost use Rattle.core_terms.specs.Terms.{function_at, kinds_set};
 ghost use Rattle.core_terms.specs.TypeTables.{type_at};
-ghost use Rattle.core_terms.specs.Types.{fields_at, has_tags, types_set};
+ghost use Rattle.core_terms.specs.Types.{fields_at, has_numbers, has_tags, types_set};
 ghost use Rattle.core_terms.specs.Typing.{is_shaped, is_typed};
 
 use crate::language::marks::{auth_marks, is_marked};
@@ -22,7 +22,7 @@ use crate::{Digest, TyId};
 use std::alloc::{AllocError, Global};
 
 /// A program: its types, the type of its state and its functions. It is well-typed, its roles have their shapes, and the types of
-/// its state, fields, parameters and results are in its table. No named type has more than 255 constructors.
+/// its state, fields, parameters and results are in its table. It has at most 256 named types, of at most 255 constructors each.
 #[derive(Drop)]
 pub struct Program {
     types: TyTable,
@@ -37,6 +37,7 @@ pub struct Program {
     ghost typed: { is_typed (program_of types.forms.keys named.items state functions.items) ≡ true },
     ghost shaped: { is_shaped (program_of types.forms.keys named.items state functions.items) ≡ true },
     ghost within: { is_within types.forms.keys named.items state functions.items ≡ true },
+    ghost numbers: { has_numbers (program_of types.forms.keys named.items state functions.items).types ≡ true },
     ghost tags: { has_tags (program_of types.forms.keys named.items state functions.items).types ≡ true },
     ghost roles_within: { list_all (has_role_below (length (types_of_forms types.forms.keys))) roles.items ≡ true },
 }
@@ -58,6 +59,7 @@ impl Program {
         requires typed { is_typed (program_of types.forms.keys named.items state functions.items) ≡ true }
         requires shaped { is_shaped (program_of types.forms.keys named.items state functions.items) ≡ true }
         requires within { is_within types.forms.keys named.items state functions.items ≡ true }
+        requires numbers { has_numbers (program_of types.forms.keys named.items state functions.items).types ≡ true }
         requires tags { has_tags (program_of types.forms.keys named.items state functions.items).types ≡ true }
         ensures meaning { IfOk result (λ program. meaning program ≡ program_of types.forms.keys named.items state functions.items) }
         ensures named { IfOk result (λ program. program.named.items ≡ named.items) }
@@ -111,6 +113,7 @@ impl Program {
     pub fn named_types(&self) -> &[NamedType]
         ensures named { result.now ≡ self.now.named.items }
         ensures within { list_all (has_fields_below (length (types_of self.now))) result.now ≡ true }
+        ensures numbers { has_numbers (meaning self.now).types ≡ true }
         ensures tags { has_tags (meaning self.now).types ≡ true }
     {
         &self.named

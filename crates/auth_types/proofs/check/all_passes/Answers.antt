@@ -6,7 +6,6 @@ use Rattle.core_terms.specs.LanguagePrograms as language
 use Rattle.auth_syntax.specs.Syntax.{Program}
 use Rattle.auth_syntax.specs.Trees.{declaration_of, program_of, type_of}
 use Rattle.auth_syntax.specs.declared.tree.Declaration.{Declaration}
-use Rattle.auth_types.specs.Bodies.{checked_functions}
 use Rattle.auth_types.specs.Checking.{Sound}
 use Rattle.auth_types.specs.CheckedPrograms.{fourth_pass, names_of, third_pass}
 use Rattle.auth_types.specs.Declarations.{first_pass}
@@ -16,7 +15,7 @@ use Rattle.auth_types.specs.Scopes.{functions_meant, scope_in, scope_meant}
 use Rattle.auth_types.specs.WrittenTypes.{functions_in, known_declarations, second_pass, states_in}
 use Rattle.auth_types.proofs.NamesOfDeclarations.{types_named}
 use Rattle.auth_types.proofs.PassesOfTrees.{IsRefused, finds_refused, first_fault, fourth_fault, fourth_is, heads_signed, second_fault, second_is, state_numbered, state_there, third_fault, third_is}
-use Rattle.auth_types.proofs.ProgramOfPasses.{heads_counted, passes_give, program_tagged, program_within, typed_and_shaped}
+use Rattle.auth_types.proofs.ProgramOfPasses.{heads_counted, passes_give, program_numbered, program_tagged, program_within, typed_and_shaped}
 use Rattle.auth_types.proofs.check.all_passes.Goals as goal
 
 pub returns-in_err-declared-clause-answer : goal.returns-in_err-declared-clause-answer
@@ -118,6 +117,21 @@ new-requires-clause-typed c =
     let fourth : fourth_pass program ≡ Sound (map (function_of (types_in c.in_ok-bodies.bodies.types)) c.in_ok-bodies.bodies.functions.items) =
     sym (fourth_is program _ c.in_ok-scope.scope meant functions) ∙ c.in_ok-bodies.ensures.found (names_of program) (heads_signed program _ c.in_ok-scope.scope meant functions) in
     (typed_and_shaped program (types_in c.declared_scope.new.types) c.in_ok-bodies.bodies.types.forms.keys c.in_ok-scope.scope c.in_ok-state.state c.in_ok-bodies.bodies.functions.items c.in_ok-bodies.ensures.grows meant functions c.in_ok-scope.ensures.within state.0 state.1 first second third fourth c.in_ok-bodies.ensures.literals).0
+
+pub new-requires-clause-numbers : goal.new-requires-clause-numbers
+new-requires-clause-numbers c =
+    let program : Program = program_of c.args.ast.now in
+    let names : names_in c.in_ok-declared.declared.types.keys ≡ names_of program = types_named c.in_ok-declared.declared program.declarations (rw c.deref.ensures.value at c.in_ok-declared.ensures.declared) in
+    let first : first_pass program ≡ Sound tt = rw c.deref.ensures.value at c.in_ok-declared.ensures.found in
+    let second : second_pass program ≡ Sound tt = sym (second_is program _ names) ∙ (rw c.deref-2.ensures.value at c.in_ok-second_pass.ensures) in
+    let meant : scope_meant (types_in c.declared_scope.new.types) c.in_ok-scope.scope ≡ scope_in program.declarations = rw c.deref-4.ensures.value at c.in_ok-scope.ensures.scope in
+    let functions : functions_meant c.in_ok-scope.scope ≡ functions_in program.declarations = rw c.deref-4.ensures.value at c.in_ok-scope.ensures.functions in
+    let state = state_numbered program _ (types_in c.number.new.types) (types_in c.declared_scope.new.types) c.in_ok-state.state (type_of c.in_ok-tree.tree.now) names (rw c.deref-3.ensures.value at c.in_ok-tree.ensures) c.declared_scope.ensures.grows c.in_ok-state.ensures.found in
+    let third : third_pass program ≡ Sound tt =
+    sym (third_is program _ c.in_ok-scope.scope meant functions c.in_ok-state.state state.0) ∙ c.in_ok-third_pass.ensures (names_of program) (heads_signed program _ c.in_ok-scope.scope meant functions) in
+    let fourth : fourth_pass program ≡ Sound (map (function_of (types_in c.in_ok-bodies.bodies.types)) c.in_ok-bodies.bodies.functions.items) =
+    sym (fourth_is program _ c.in_ok-scope.scope meant functions) ∙ c.in_ok-bodies.ensures.found (names_of program) (heads_signed program _ c.in_ok-scope.scope meant functions) in
+    program_numbered program (types_in c.declared_scope.new.types) c.in_ok-bodies.bodies.types.forms.keys c.in_ok-scope.scope c.in_ok-state.state c.in_ok-bodies.bodies.functions.items c.in_ok-bodies.ensures.grows meant functions c.in_ok-scope.ensures.within state.0 state.1 first second third fourth
 
 pub new-requires-clause-tags : goal.new-requires-clause-tags
 new-requires-clause-tags c =

@@ -1,4 +1,3 @@
-use Rattle.core_terms.specs.LanguagePrograms.{types_in}
 use Rattle.auth_types.specs.ScopeNames.{names_in}
 use Rattle.auth_types.proofs.NumberedParts.{head_taken, heads_passed}
 use Rattle.auth_types.proofs.TypeNumbers.{grows_on}

@@ -1,10 +1,3 @@
-use Rattle.std.proofs.Common.{Vec, map, take, sym, ap, ◌∙◌, subst}
-use Rattle.std.specs.Global.{Global}
-use Rattle.core_terms.specs.LanguagePrograms.{types_in}
-use Rattle.core_terms.specs.declared.language.term.NamedType.{NamedType}
-use Rattle.auth_syntax.specs.Trees.{declaration_of}
-use Rattle.auth_types.specs.Numbering.{AreNamedOf}
-use Rattle.auth_types.specs.OverTypes.{Grows}
 use Rattle.auth_types.specs.ScopeNames.{names_in}
 use Rattle.auth_types.proofs.NumberedParts.{named_passed, named_taken}
 use Rattle.auth_types.proofs.TypeNumbers.{grows_on}

@@ -8,7 +8,7 @@ use Rattle.auth_types.specs.Declarations as declared
 use Rattle.auth_types.specs.OverTypes.{functions_written}
 use Rattle.auth_types.specs.FragmentBodies.{state_in}
 use Rattle.auth_types.specs.RoleRules.{checked_roles}
-use Rattle.auth_types.specs.WrittenTypes.{known_declarations, states_in, type_meant, type_names}
+use Rattle.auth_types.specs.WrittenTypes.{states_in, type_meant}
 use Rattle.auth_types.proofs.FragmentPasses.{Refuses, fourth_fault, passes_end, passes_on, first_is_sound, names_checked, names_fault, program_shaped, program_typed, state_fault, third_fault}
 use Rattle.auth_types.proofs.fragment.check.all_passes.Goals as goal
 

@@ -1,4 +1,4 @@
-use Rattle.std.proofs.Common.{◌∙◌, sym, ap, Some, None, option_map, refl, arith}
+use Rattle.std.proofs.Common.{◌∙◌, ap, Some, None, option_map, refl, arith}
 use Rattle.std.proofs.lemmas.Option.{slice_get_read}
 use Rattle.auth_types.specs.ScopeNames.{constructor_meant}
 use Rattle.auth_types.proofs.ScopeLookups.{constructor_found, ids_length, number_in}

@@ -1,4 +1,4 @@
-use Rattle.std.proofs.Common.{◌∙◌, sym, Some, None}
+use Rattle.std.proofs.Common.{◌∙◌, Some, None}
 use Rattle.auth_types.proofs.ScopeLookups.{function_found, number_in}
 use Rattle.auth_types.proofs.scope.Scope.function.Goals as goal
 
