@@ -14,7 +14,5 @@ pub mod place;
 pub mod print;
 mod printer;
 pub mod printing;
-#[cfg(test)]
-mod tests;
 mod token;
 pub mod tree;

@@ -1,56 +1,13 @@
-// Each public call on its happy path, with ample memory, and one fault of each.
+// Literals and printed values of the fragment without named types and pairs.
 ghost use Rattle.std.specs.Prelude.{◌≡◌, true};
 ghost use Rattle.core_terms.specs.TypeTables.{stands_behind};
 
-use crate::fault::{LexicalFault, LiteralFault, LiteralKind, SyntaxFault, SyntaxKind};
-use crate::literal::parse_fragment_literal;
-use crate::parser::{parse, parse_fragment};
-use crate::print::print;
-use crate::tree::{Declaration, ExpTree, FunctionKind};
+use auth_syntax::fault::{LexicalFault, LiteralFault, LiteralKind};
+use auth_syntax::literal::parse_fragment_literal;
+use auth_syntax::printing::print_value;
 use core_terms::{Digest, Program, TyForm, TyId, TyTable};
 use std::alloc::{AllocError, Global};
 use std::test::Fail;
-
-const PROGRAM: &str = "state auth int;\n\
-    init make(x: int): auth int = auth(add(x, 1));\n\
-    query open(s: auth int, x: unit): int = unauth(s); # what the state is";
-
-#[test]
-fn a_program_is_parsed(rt: HostRuntime) -> Result<(), Fail> {
-    let ast = parse(rt.alloc(), PROGRAM.as_bytes())?;
-    assert_eq!(rt; ast.declarations.len(), 3);
-    let Declaration::Function(at, open) = &ast.declarations[2] else {
-        panic!(rt; "no function");
-    };
-    assert_eq!(rt; (at.offset, at.line, at.column), (63, 3, 1));
-    assert!(rt; open.kind == FunctionKind::Query);
-    assert_eq!(rt; open.name.name.as_bytes(), b"open".as_slice());
-    assert_eq!(rt; open.parameters.len(), 2);
-    assert!(rt; matches!(open.body, ExpTree::Unary(_, _, _)));
-    assert_eq!(rt; ast.end.offset, PROGRAM.len());
-    Ok(())
-}
-
-#[test]
-fn a_program_is_printed(rt: HostRuntime) -> Result<(), Fail> {
-    let ast = parse(
-        rt.alloc(),
-        b"state\tauth int ;init f(x:int):auth int=auth(add (x,-01));",
-    )?;
-    assert_eq!(rt;
-        print(rt.alloc(), &ast)?.as_slice(),
-        b"state auth int;\ninit f(x: int): auth int = auth(add(x, -1));\n".as_slice()
-    );
-    Ok(())
-}
-
-#[test]
-fn the_first_fault_is_told(rt: HostRuntime) {
-    let refused = parse(rt.alloc(), b"state unit;\nquery f(let: unit): unit = ();");
-    assert!(rt; matches!(refused, Err(SyntaxFault::At(SyntaxKind::Expected, 2, 9))));
-    let beyond = parse_fragment(rt.alloc(), b"state unit;\n type t = A;");
-    assert!(rt; matches!(beyond, Err(SyntaxFault::At(SyntaxKind::Expected, 2, 2))));
-}
 
 /// A program without functions, that has this type, and the type's number.
 fn program_with(alloc: Global, form: TyForm) -> Result<(Program, TyId), AllocError>
@@ -108,5 +65,38 @@ fn literals_are_refused(rt: HostRuntime) -> Result<(), Fail> {
     let program = Program::new(types, auth, Vec::new(alloc), Digest([0; 32]));
     let refused = parse_fragment_literal(alloc, &program, auth, " ()");
     assert!(rt; matches!(refused, Err(LiteralFault::At(LiteralKind::Mismatch, 1))));
+    Ok(())
+}
+
+#[test]
+fn prints_a_value_of_each_type(rt: HostRuntime) -> Result<(), Fail> {
+    let mut types = TyTable::new(rt.alloc());
+    let unit = types.intern(TyForm::UnitForm)?;
+    let boolean = types.intern(TyForm::BoolForm)?;
+    let text = types.intern(TyForm::TextForm)?;
+    let int = types.intern(TyForm::IntForm)?;
+    let authenticated = types.intern(TyForm::AuthForm(int))?;
+    let rows: [(TyId, &[u8], &[u8]); 5] = [
+        (unit, b"", b"()"),
+        (boolean, b"\x01", b"true"),
+        (int, b"\xff\xff\xff\xff\xff\xff\xff\xfe", b"-2"),
+        (
+            text,
+            b"\x00\x00\x00\x07a\"\\\n\x7f\xc3\xa9",
+            b"\"a\\\"\\\\\\n\\x7f\xc3\xa9\"",
+        ),
+        (
+            authenticated,
+            &[0x2a; 32],
+            b"#2a2a2a2a2a2a2a2a2a2a2a2a2a2a2a2a2a2a2a2a2a2a2a2a2a2a2a2a2a2a2a2a",
+        ),
+    ];
+    let program = Program::new(types, unit, Vec::new(rt.alloc()), Digest([0; 32]));
+    for (ty, bytes, printed) in rows {
+        assert_eq!(rt;
+            print_value(rt.alloc(), &program, ty, bytes)?.as_slice(),
+            printed
+        );
+    }
     Ok(())
 }
