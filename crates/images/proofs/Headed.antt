@@ -1,9 +1,12 @@
 -- The header of an image, taken apart from the front.
-use Rattle.std.proofs.Common.{◌≡◌, ℕ, ◌+◌, Bool, true, false, List, length, take, drop, refl, sym, ap, ◌∙◌, arith, le-ltb}
+use Rattle.std.proofs.Common.{◌≡◌, ℕ, ◌+◌, ◌<◌, Bool, true, false, List, ◌++◌, length, take, drop, refl, sym, ap, ◌∙◌, arith, append_assoc, le-ltb, length-append}
 use Rattle.std.specs.Prelude.{bytes_eq, not}
-use Rattle.std.specs.Int.{w32, from_be_bytes}
+use Rattle.std.specs.Int.{w32, from_be_bytes, to_be_bytes}
 use Rattle.std.proofs.lemmas.List.{drop-drop}
+use Rattle.std.proofs.lemmas.Nat.{from_be_bytes-to_be_bytes_4}
+use Rattle.std.proofs.lemmas.Slice.Eq.{bytes_eq-Decides}
 use Rattle.images.specs.Images.{Image, headed, image_magic}
+use Rattle.images.proofs.Fronts.{drop_front, take_front}
 
 pub header_is : (digest bytes magic behind of_text left count records : List ℕ) (n : ℕ)
     → magic ≡ take 4 bytes → behind ≡ drop 4 bytes → length behind + 4 ≡ length bytes → bytes_eq magic image_magic ≡ true
@@ -22,3 +25,22 @@ header_is digest bytes magic behind of_text left count records n is_magic is_beh
 pub not_other : (same differs : Bool) → differs ≡ not same → differs ≡ false → same ≡ true
 not_other true differs e h = refl
 not_other false differs e h = absurd (cc)
+
+-- a header that is written is read again
+pub header_again : (digest records : List ℕ) (n : ℕ) (go : ℕ → List ℕ → Image) → length digest ≡ 32 → n < 4294967296
+    → headed digest (image_magic ++ digest ++ to_be_bytes w32 n ++ records) go ≡ go n records
+header_again digest records n go long small =
+    let count = to_be_bytes w32 n in
+    let bytes = image_magic ++ digest ++ count ++ records in
+    let front = digest ++ count in
+    let of_front = length-append digest count in
+    let of_bytes = length-append (image_magic ++ digest ++ count) records in
+    let of_header = length-append (image_magic ++ digest) count in
+    let of_start = length-append image_magic digest in
+    let enough = le-ltb (length bytes) 40 (omega (arith, of_bytes, of_header, of_start, long)) in
+    let said : take 32 (front ++ records) ≡ digest = ap (take 32) (append_assoc digest count records) ∙ take_front 32 digest (count ++ records) long in
+    let same : bytes_eq digest digest ≡ true = (bytes_eq-Decides digest digest).1 refl in
+    let behind : drop 32 (front ++ records) ≡ count ++ records = ap (drop 32) (append_assoc digest count records) ∙ drop_front 32 digest (count ++ records) long in
+    let rest : drop 36 (front ++ records) ≡ records = drop_front 36 front records (omega (arith, of_front, long)) in
+    let number : from_be_bytes w32 count ≡ n = from_be_bytes-to_be_bytes_4 n small in
+    rw (enough, said, same, behind, rest, number) refl

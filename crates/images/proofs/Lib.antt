@@ -5,7 +5,8 @@ mod TextRecords
 mod Limits
 mod Loaded
 mod Standing
-mod Headed
+pub mod Fronts
+pub mod Headed
 mod LoadedImages
 mod Saved
 mod Restored

@@ -4,12 +4,12 @@ use Rattle.std.proofs.lemmas.List.{length-map, map-append}
 use Rattle.core_terms.specs.Types.{NamedTy}
 use Rattle.core_terms.specs.Programs.{meaning}
 use Rattle.core_terms.specs.declared.program.Program.{Program}
-use Rattle.images.specs.Images.{Entry, Loading, FaultyImage, Loaded, checked_entry, field_count, load_records, stands_for, with_record}
+use Rattle.images.specs.Images.{Entry, Loading, FaultyImage, checked_entry, field_count, load_records, stands_for, with_record}
 use Rattle.images.specs.Images as meant
 use Rattle.images.specs.KeptValues.{entries_of, entry_of}
 use Rattle.images.specs.Loads.{AreLoaded, IsNext, StandsFor, Tells}
 use Rattle.images.specs.Parts.{is_part}
-use Rattle.images.specs.Records.{RecordRead, ReadRecord, CutRecord, NoRecord, read_record}
+use Rattle.images.specs.Records.{ReadRecord, CutRecord, NoRecord, read_record}
 use Rattle.images.specs.Records as defined
 use Rattle.images.specs.declared.fault.ImageFault.{ImageFault}
 use Rattle.images.specs.declared.kept.Kept.{Kept}

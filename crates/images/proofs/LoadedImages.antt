@@ -3,7 +3,7 @@ use Rattle.std.proofs.Common.{◌≡◌, ℕ, List, [], length, Result, Ok, Err,
 use Rattle.core_terms.specs.Types.{Ty}
 use Rattle.core_terms.specs.Programs.{meaning}
 use Rattle.core_terms.specs.declared.program.Program.{Program}
-use Rattle.images.specs.Images.{Image, Loading, Loaded, FaultyImage, Refused, as_image, headed, image_of, last, load_records, rooted}
+use Rattle.images.specs.Images.{Image, FaultyImage, Refused, as_image, headed, image_of, last, load_records, rooted}
 use Rattle.images.specs.Images as meant
 use Rattle.images.specs.KeptValues.{entries_of}
 use Rattle.images.specs.Loads.{AreLoaded, IsHeaded, LoadsAs, Tells}

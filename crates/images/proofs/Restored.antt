@@ -1,50 +1,28 @@
 -- What is written for a value of the fragment loads to the value.
-use Rattle.std.proofs.Common.{◌≡◌, ℕ, zero, suc, ◌+◌, ◌<◌, ◌≤◌, ◌^◌, true, false, List, [], ◌∷◌, ◌++◌, length, take, drop, ℤ, Option, Some, slice_get, slice_index_or, refl, sym, ap, ◌∙◌, subst, arith, length-append, append_assoc, append-nil, le-leb, Fits, FitsSigned, if◌then◌else◌}
+use Rattle.std.proofs.Common.{◌≡◌, ℕ, zero, suc, ◌+◌, ◌<◌, ◌≤◌, ◌^◌, true, false, List, [], ◌∷◌, ◌++◌, length, Option, Some, slice_get, slice_index_or, refl, sym, ap, ◌∙◌, arith, append_assoc, append-nil, if◌then◌else◌}
 use Rattle.std.specs.Int.{w32, w64, cast_unsigned, cast_signed, to_be_bytes, from_be_bytes}
 use Rattle.std.specs.Option.{option_map}
-use Rattle.std.proofs.Math.Facts.{Fits-of_z}
-use Rattle.std.proofs.Math.Seq.{take-append_seam, drop-append_seam, get_or-append_seam}
-use Rattle.std.proofs.lemmas.Int.{to_z-of_z}
-use Rattle.std.proofs.lemmas.Nat.{from_be_bytes-to_be_bytes_4, from_be_bytes-to_be_bytes_8}
+use Rattle.std.proofs.Math.Seq.{get_or-append_seam}
+use Rattle.std.proofs.lemmas.Nat.{from_be_bytes-to_be_bytes_4}
 use Rattle.std.proofs.lemmas.Option.{slice_get-get_or}
-use Rattle.std.proofs.lemmas.Slice.Eq.{bytes_eq-Decides}
-use Rattle.core_terms.proofs.Numbers.{mag_of}
 use Rattle.core_terms.specs.Types.{AuthTy}
 use Rattle.core_terms.specs.Texts.{bytes_of}
 use Rattle.core_terms.specs.Typing.{same_type}
-use Rattle.core_terms.specs.Values.{IsIdeal, int_fits, size, depth}
+use Rattle.core_terms.specs.Values.{IsIdeal, size, depth}
 use Rattle.core_terms.specs.Programs.{meaning}
 use Rattle.core_terms.specs.declared.program.Program.{Program}
-use Rattle.images.specs.Images.{Entry, entry, Root, Refused, RootType, Loading, Loaded, as_image, checked_entry, field_count, image_magic, image_of, last, load_records, rooted, stands_for, with_record}
+use Rattle.images.specs.Images.{Entry, entry, Root, Refused, RootType, Loading, Loaded, as_image, checked_entry, field_count, headed, image_of, last, load_records, rooted, stands_for, with_record}
 use Rattle.images.specs.PlainTypes.{type_of_leaf, within_auth}
 use Rattle.plain_meaning.specs.PlainValues.{plain_of}
-use Rattle.images.specs.Records.{Record, ReadRecord, UnitRecord, BoolRecord, IntRecord, TextRecord, AuthRecord, fixed, number_of, read_record}
+use Rattle.images.specs.Records.{Record, ReadRecord, UnitRecord, BoolRecord, IntRecord, TextRecord, AuthRecord, number_of, read_record}
 use Rattle.images.specs.Saves.{auth_bytes, layers_bytes, leaf_bytes, leaf_of}
 use Rattle.plain_meaning.specs.declared.values.Plain.{Plain}
 use Rattle.plain_meaning.specs.declared.values.Plain.TheVariants.{UnitValue, BoolValue, IntValue, TextValue}
-use Rattle.images.proofs.Headed.{header_is}
+use Rattle.images.proofs.Fronts.{fixed_front, int_back, text_front}
+use Rattle.images.proofs.Headed.{header_again}
 use Rattle.images.proofs.Limits.{is_within}
 use Rattle.images.proofs.Saved.{layer, layers_to, length_layers, written}
-use Rattle.images.proofs.TextRecords.{text_is}
 use Rattle.images.proofs.TypeParts.{part, same}
-
--- n bytes in front
-take_front : (n : ℕ) (front rest : List ℕ) → length front ≡ n → take n (front ++ rest) ≡ front
-take_front n front rest h = subst (λ n. take n (front ++ rest) ≡ front) h (take-append_seam front rest)
-
-drop_front : (n : ℕ) (front rest : List ℕ) → length front ≡ n → drop n (front ++ rest) ≡ rest
-drop_front n front rest h = subst (λ n. drop n (front ++ rest) ≡ rest) h (drop-append_seam front rest)
-
-fixed_front : (n : ℕ) (make : List ℕ → Record) (front rest : List ℕ) → length front ≡ n → fixed n make (front ++ rest) ≡ ReadRecord (make front) rest
-fixed_front n make front rest h =
-    let enough = le-leb n (length (front ++ rest)) (omega (arith, length-append front rest, h)) in
-    rw (enough, take_front n front rest h, drop_front n front rest h) refl
-
-int_back : (z : ℤ) → int_fits z ≡ true → cast_signed w64 (from_be_bytes w64 (to_be_bytes w64 (cast_unsigned w64 z))) ≡ z
-int_back z e =
-    let f : FitsSigned w64 z = record { sfits = mag_of z e } in
-    let g : Fits w64 (cast_unsigned w64 z) = Fits-of_z f in
-    ap (λ n. cast_signed w64 n) (from_be_bytes-to_be_bytes_8 (cast_unsigned w64 z) (g.fits)) ∙ to_z-of_z w64 z f
 
 -- the record of the value
 abbrev leaf_found : Plain → Record
@@ -62,11 +40,8 @@ read_leaf (IntValue z) ideal count rest =
     fixed_front 8 (λ bs. IntRecord (cast_signed w64 (from_be_bytes w64 bs))) (to_be_bytes w64 (cast_unsigned w64 z)) rest refl
     ∙ ap (λ z. ReadRecord (IntRecord z) rest) (int_back z ideal)
 read_leaf (TextValue text) ideal count rest =
-    let n = length (bytes_of text) in
-    let small : n < 2 ^ 32 = omega (arith, text.fits) in
-    let bytes = (to_be_bytes w32 n ++ bytes_of text) ++ rest in
-    text_is bytes (to_be_bytes w32 n) (bytes_of text ++ rest) (bytes_of text) rest n refl refl (omega arith) (sym (from_be_bytes-to_be_bytes_4 n small))
-    (omega (arith, length-append (bytes_of text) rest)) (sym (take_front n (bytes_of text) rest refl)) (sym (drop_front n (bytes_of text) rest refl)) ideal
+    let small : length (bytes_of text) < 2 ^ 32 = omega (arith, text.fits) in
+    text_front (bytes_of text) rest small ideal
 
 leaf_stands : (x : Plain) → stands_for [] [] (leaf_found x) ≡ Some (layer x 0)
 leaf_stands UnitValue = refl
@@ -163,21 +138,7 @@ pub restored : (p : Program) (x : Plain) (k : ℕ) (digest bytes : List ℕ) →
     → IsIdeal [] (type_of_leaf (leaf_of x)) (plain_of x) → k + 1 < 2 ^ 32 → length digest ≡ 32 → bytes ≡ written x digest k
     → image_of (meaning p) digest bytes ≡ Root (plain_of x)
 restored p x k digest bytes is ideal counted long is_written =
-    let number = to_be_bytes w32 (k + 1) in
-    let records = leaf_bytes x ++ layers_bytes k in
     let small : k < 2 ^ 32 = omega (arith, counted) in
     let go = λ (count : ℕ) (records : List ℕ). as_image (meaning p).state (load_records (meaning p) (length bytes) count [] records) in
-    let behind : drop 4 bytes ≡ (digest ++ number) ++ records = ap (drop 4) is_written in
-    let left : number ++ records ≡ drop 32 (drop 4 bytes) =
-    sym (ap (drop 32) (behind ∙ append_assoc digest number records) ∙ drop_front 32 digest (number ++ records) long) in
-    let of_text : digest ≡ take 32 (drop 4 bytes) =
-    sym (ap (take 32) (behind ∙ append_assoc digest number records) ∙ take_front 32 digest (number ++ records) long) in
-    let magic : image_magic ≡ take 4 bytes = sym (ap (take 4) is_written) in
-    let all = ap length is_written in
-    let of_behind = ap length behind in
-    let long_behind : length (drop 4 bytes) + 4 ≡ length bytes = omega (arith, of_behind, all) in
-    let long_left : length (number ++ records) + 32 ≡ length (drop 4 bytes) =
-    omega (arith, of_behind, length-append (digest ++ number) records, length-append digest number, length-append number records, long) in
-    header_is digest bytes image_magic (drop 4 bytes) digest (number ++ records) number records (k + 1) magic refl long_behind refl of_text left long_left
-    ((bytes_eq-Decides digest digest).1 refl) refl refl (omega arith) (sym (from_be_bytes-to_be_bytes_4 (k + 1) counted)) go
+    ap (λ image. headed digest image go) is_written ∙ header_again digest (leaf_bytes x ++ layers_bytes k) (k + 1) go long counted
     ∙ ap (as_image (meaning p).state) (records_back p x k (length bytes) is ideal small) ∙ root_back p x k (length bytes) is ideal small

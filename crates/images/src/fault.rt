@@ -16,7 +16,7 @@ pub enum ImageFault {
     BadRecord(u32),
     /// The spelling of what the record with this number stands for would pass its limit.
     TooBig(u32),
-    /// What the record with this number stands for is deeper than a value may be. No value of the fragment is.
+    /// What the record with this number stands for is deeper than a value may be.
     TooDeep(u32),
     /// There is no record, or the last one hasn't the type of the state.
     RootType,

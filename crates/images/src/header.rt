@@ -1,16 +1,18 @@
 // The header of an image.
-ghost use Rattle.std.specs.Prelude.{ℕ, List};
-ghost use Rattle.images.specs.Images.{headed};
+ghost use Rattle.std.specs.Prelude.{◌≡◌, ◌++◌, ℕ, List, length, IfOk};
+ghost use Rattle.std.specs.Int.{w32, to_be_bytes};
+ghost use Rattle.images.specs.Images.{headed, image_magic};
 ghost use Rattle.images.specs.Loads.{IsHeaded};
 
 use crate::ImageFault;
 use core_terms::Digest;
+use std::alloc::{AllocError, Global};
 
 /// The bytes that an image begins with.
-pub const MAGIC: [u8; 4] = *b"LAI1";
+const MAGIC: [u8; 4] = *b"LAI1";
 
 /// The number of bytes of the header: the magic, the digest of the program's text, and the number of records.
-pub const HEADER_LENGTH: usize = 40;
+pub(crate) const HEADER_LENGTH: usize = 40;
 
 /// What the header of an image says, and the bytes behind it.
 #[derive(Clone, Copy)]
@@ -42,4 +44,22 @@ pub fn read_header<'a>(digest: &Digest, bytes: &'a [u8]) -> Result<Header<'a>, I
         count: u32::from_be_bytes(*count),
         records,
     })
+}
+
+/// The header of an image of so many records, of the program whose text has the digest with these 32 bytes.
+pub fn write_header(alloc: Global, digest: &[u8], count: u32) -> Result<Vec<u8>, AllocError>
+    ensures { IfOk result (λ bytes. bytes.items ≡ image_magic ++ digest.now ++ to_be_bytes w32 count) }
+{
+    let mut bytes = MAGIC.to_vec(alloc)?;
+    bytes.extend_from_slice(digest)?;
+    bytes.extend_from_slice(&count.to_be_bytes())?;
+    Ok(bytes)
+}
+
+/// The 32 bytes of a digest.
+pub fn digest_bytes(digest: &Digest) -> &[u8]
+    ensures bytes { result.now ≡ digest.now.0 }
+    ensures length { length result.now ≡ 32 }
+{
+    &digest.0
 }

@@ -4,15 +4,15 @@ ghost use Rattle.std.specs.Int.{w32, w64, cast_unsigned, to_be_bytes};
 ghost use Rattle.core_terms.specs.Texts.{bytes_of};
 ghost use Rattle.core_terms.specs.Programs.{meaning};
 ghost use Rattle.core_terms.specs.Values.{IsIdeal};
-ghost use Rattle.images.specs.Images.{image_magic, image_of, Root};
+ghost use Rattle.images.specs.Images.{image_of, Root};
 ghost use Rattle.plain_meaning.specs.PlainValues.{plain_of};
 ghost use Rattle.images.specs.SavedImages.{saved_image};
 ghost use Rattle.images.specs.Saves.{IsSaved, layers_bytes, leaf_bytes};
 
-use crate::header::{HEADER_LENGTH, MAGIC};
+use crate::header::{HEADER_LENGTH, digest_bytes, write_header};
 use crate::plain_type::PlainType;
 use crate::{Plain, SaveFault};
-use core_terms::{Digest, Program, Text};
+use core_terms::{Program, Text};
 use std::alloc::{AllocError, Global};
 
 /// The greatest number of bytes of an image that is written.
@@ -42,28 +42,10 @@ pub fn save_image(alloc: Global, program: &Program, value: &Plain) -> Result<Vec
         return Err(SaveFault::TooLong);
     }
     let layers = layers as u32;
-    let mut image = header(alloc, digest, layers + 1)?;
+    let mut image = write_header(alloc, digest, layers + 1)?;
     image.extend_from_slice(&leaf)?;
     add_layers(&mut image, layers)?;
     Ok(image)
-}
-
-/// The 32 bytes of a digest.
-fn digest_bytes(digest: &Digest) -> &[u8]
-    ensures bytes { result.now ≡ digest.now.0 }
-    ensures length { length result.now ≡ 32 }
-{
-    &digest.0
-}
-
-/// The header of an image of so many records.
-fn header(alloc: Global, digest: &[u8], count: u32) -> Result<Vec<u8>, AllocError>
-    ensures { IfOk result (λ bytes. bytes.items ≡ image_magic ++ digest.now ++ to_be_bytes w32 count) }
-{
-    let mut bytes = MAGIC.to_vec(alloc)?;
-    bytes.extend_from_slice(digest)?;
-    bytes.extend_from_slice(&count.to_be_bytes())?;
-    Ok(bytes)
 }
 
 /// The record of a value, with no `auth` around its type.
