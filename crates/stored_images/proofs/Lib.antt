@@ -21,7 +21,7 @@ mod SameEntries
 mod AmongEntries
 mod DistinctEntries
 mod NumberedEntries
-mod SeenRecords
+mod SameRecords
 mod NumberedParts
 mod EntryParts
 mod RecordBytes
@@ -37,3 +37,11 @@ mod SavingAdd
 mod SavingSteps
 mod LoopFacts
 mod WholeImages
+mod GrowingTests
+mod ClosedParts
+mod FitEntries
+mod BehindParts
+mod WholeLast
+mod ReadEntries
+mod LoadedAgain
+mod SavedLoads

@@ -3,7 +3,7 @@ use Rattle.std.proofs.Common.{◌≡◌, ℕ, List, [], length, Result, Ok, Err,
 use Rattle.core_terms.specs.LanguagePrograms.{meaning}
 use Rattle.core_terms.specs.Values.{Value}
 use Rattle.core_terms.specs.declared.language.program.Program.{Program}
-use Rattle.images.specs.Images.{Entry, Image, Loading, Loaded, FaultyImage, Refused, Root, as_image, headed, image_of, last, load_records, rooted}
+use Rattle.images.specs.Images.{Entry, Image, Loaded, FaultyImage, Refused, Root, as_image, headed, image_of, last, load_records, rooted}
 use Rattle.images.specs.Images as meant
 use Rattle.images.specs.Loads.{IsHeaded, Tells}
 use Rattle.images.specs.declared.fault.ImageFault.{ImageFault}

@@ -1,5 +1,5 @@
 -- What the steps of the loop say of the node that is walked now.
-use Rattle.std.proofs.Common.{◌≡◌, ℕ, ◌<◌, true, List, [], ◌∷◌, ◌++◌, reverse, Option, Some, None, Result, Ok, Err, IsErr, slice_get, ap, ◌∙◌}
+use Rattle.std.proofs.Common.{◌≡◌, ℕ, ◌<◌, true, List, [], ◌∷◌, ◌++◌, reverse, Option, Some, None, Result, Ok, Err, IsErr, length, slice_get, refl, ap, ◌∙◌}
 use Rattle.std.specs.Option.{option_map, option_map_or, option_to_list}
 use Rattle.std.specs.Result.{IsErrAnd}
 use Rattle.std.proofs.lemmas.List.{reverse-append}
@@ -34,3 +34,7 @@ part_below r i form part p below h e = below_at r (refs_in form) i p.0 below (sh
 pub same_error : {A E : Type 0} (result : Result A E) (fault : E) → IsErr result × IsErrAnd result (λ found. found ≡ fault) → result ≡ Err fault
 same_error (Err found) fault h = ap Err h.1
 same_error (Ok a) fault h = absurd (cc)
+
+pub emptied : {A : Type 0} (xs : List A) → length xs ≡ 0 → xs ≡ []
+emptied [] h = refl
+emptied (x ∷ xs) h = absurd (cc)

@@ -5,13 +5,13 @@ use Rattle.std.specs.Option.{option_map_or}
 use Rattle.core_terms.specs.Types.{Ty, UnitTy, BoolTy, IntTy, TextTy, PairTy, NamedTy, AuthTy, Table, fields_at, OnFields}
 use Rattle.core_terms.specs.Values.{Value, UnitV, BoolV, IntV, TextV, PairV, ConV, Values, NoV, AndV}
 use Rattle.images.specs.Images.{Entry, entry}
-use Rattle.images.specs.SavedImages.{number_among, record_bytes}
+use Rattle.images.specs.SavedImages.{number_among}
 use Rattle.value_store.specs.Nodes.{Held, InnerHeld, BothHeld, OnlyHeld, Form, UnitNode, BoolNode, IntNode, TextNode, PairNode, ConNode, AuthNode, Node, form_at, inner_refs, refs_in}
 use Rattle.value_store.specs.Standing.{IdealNodes, Holds, StandsFor, AllStandFor}
-use Rattle.stored_images.specs.FormRecords.{Seen, head_of, named_in, numbered, record_at}
+use Rattle.stored_images.specs.FormRecords.{head_of, numbered, record_at}
 use Rattle.stored_images.proofs.EntryParts.{fields, parts}
 use Rattle.stored_images.proofs.RecordBytes.{head_at, part_numbers, record_parts}
-use Rattle.stored_images.proofs.RecordReading.{named_of, seen_of}
+use Rattle.stored_images.proofs.RecordReading.{record_of}
 
 -- the numbers of the nodes that a node refers to
 abbrev pub refs_at : List Node → ℕ → List ℕ
@@ -57,25 +57,25 @@ module _ (types : Table) (nodes : List Node) where
       at_form r (ConNode number tag h.0) (fields (unwrap_or (fields_at types number tag) []) vs) h.1 (con_stand (fields_at types number tag) h.0 vs h.2)
   parts_stand r t v h = elim h [ ]
 
-  -- what stands in its record before the numbers of the parts, and the number of its named type
+  -- what stands in its record before the numbers of the parts
   abbrev HasHead : Form → Ty → Value → Type 0
-  HasHead form t v = (head_of form ≡ head_at t v) × (named_in form ≡ named_of t)
+  HasHead form t v = head_of form ≡ head_at t v
 
   with_form : (r : ℕ) (form other : Form) (t : Ty) (v : Value) → form_at nodes r ≡ Some form → form_at nodes r ≡ Some other → HasHead other t v → HasHead form t v
   with_form r form other t v at is h = let same : other ≡ form = cc in subst (λ f. HasHead f t v) same h
 
   bool_head : (b : Bool) → HasHead (BoolNode b) BoolTy (BoolV b)
-  bool_head Bool.true = (refl, refl)
-  bool_head Bool.false = (refl, refl)
+  bool_head Bool.true = refl
+  bool_head Bool.false = refl
 
   pub head_stands : (r : ℕ) (form : Form) (t : Ty) (v : Value) → form_at nodes r ≡ Some form → StandsFor IdealNodes types nodes r t v → HasHead form t v
-  head_stands r form (AuthTy t) v at h = with_form r form (AuthNode h.0) (AuthTy t) v at h.1 (refl, refl)
-  head_stands r form UnitTy UnitV at h = with_form r form UnitNode UnitTy UnitV at h (refl, refl)
+  head_stands r form (AuthTy t) v at h = with_form r form (AuthNode h.0) (AuthTy t) v at h.1 refl
+  head_stands r form UnitTy UnitV at h = with_form r form UnitNode UnitTy UnitV at h refl
   head_stands r form BoolTy (BoolV b) at h = with_form r form (BoolNode b) BoolTy (BoolV b) at h (bool_head b)
-  head_stands r form IntTy (IntV z) at h = with_form r form (IntNode z) IntTy (IntV z) at h.0 (refl, refl)
-  head_stands r form TextTy (TextV bytes) at h = with_form r form (TextNode bytes) TextTy (TextV bytes) at h.0 (refl, refl)
-  head_stands r form (PairTy a b) (PairV x y) at h = with_form r form (PairNode h.0 h.1) (PairTy a b) (PairV x y) at h.2 (refl, refl)
-  head_stands r form (NamedTy number) (ConV tag vs) at h = with_form r form (ConNode number tag h.0) (NamedTy number) (ConV tag vs) at h.1 (refl, refl)
+  head_stands r form IntTy (IntV z) at h = with_form r form (IntNode z) IntTy (IntV z) at h.0 refl
+  head_stands r form TextTy (TextV bytes) at h = with_form r form (TextNode bytes) TextTy (TextV bytes) at h.0 refl
+  head_stands r form (PairTy a b) (PairV x y) at h = with_form r form (PairNode h.0 h.1) (PairTy a b) (PairV x y) at h.2 refl
+  head_stands r form (NamedTy number) (ConV tag vs) at h = with_form r form (ConNode number tag h.0) (NamedTy number) (ConV tag vs) at h.1 refl
   head_stands r form t v at h = elim h [ ]
 
 -- the nodes have the numbers of the entries
@@ -93,10 +93,8 @@ numbers_agree number done rs es h = elim h [ ]
 -- the record of a node is that of what it stands for, where its parts have the numbers of theirs
 pub record_stands : (types : Table) (nodes : List Node) (number : ℕ → ℕ) (done : List Entry) (r : ℕ) (form : Form) (e : Entry)
     → form_at nodes r ≡ Some form → StandsAs types nodes r e → HaveNumbers number done (refs_in form) (parts types e.of_type e.value)
-    → record_at number form ≡ seen_of types done e
+    → record_at number form ≡ record_of types done e
 record_stands types nodes number done r form e at stands numbers =
     let head = head_stands types nodes r form e.of_type e.value at stands in
-    let bytes : head_of form ++ numbered number (refs_in form) ≡ record_bytes types done e.of_type e.value =
-    ap₂ (λ (a b : List ℕ). a ++ b) head.0 (numbers_agree number done (refs_in form) (parts types e.of_type e.value) numbers)
-    ∙ sym (record_parts types done e.of_type e.value) in
-    ap₂ (λ (n : ℕ) (bytes : List ℕ). let made : Seen = record { named = n; bytes = bytes } in made) head.1 bytes
+    ap₂ (λ (a b : List ℕ). a ++ b) head (numbers_agree number done (refs_in form) (parts types e.of_type e.value) numbers)
+    ∙ sym (record_parts types done e.of_type e.value)

@@ -1,5 +1,7 @@
 -- The numbers of entries among others.
-use Rattle.std.proofs.Common.{◌≡◌, ℕ, suc, ◌<◌, Bool, true, false, ◌||◌, List, [], ◌∷◌, ◌++◌, length, Some, slice_get, if◌then◌else◌, refl, sym, ap, ◌∙◌, arith, true≢false}
+use Rattle.std.proofs.Common.{◌≡◌, ℕ, suc, ◌<◌, ◌≤◌, Bool, true, false, ◌||◌, List, [], ◌∷◌, ◌++◌, length, Some, slice_get, if◌then◌else◌, refl, sym, ap, ◌∙◌, arith, true≢false}
+use Rattle.std.specs.Int.{w32, from_be_bytes, to_be_bytes}
+use Rattle.std.proofs.lemmas.Nat.{from_be_bytes-to_be_bytes_4}
 use Rattle.images.specs.Images.{Entry}
 use Rattle.images.specs.SavedImages.{same_entry, is_entry_of, number_among}
 use Rattle.stored_images.proofs.SameEntries.{entry_sound, entry_self}
@@ -22,6 +24,10 @@ entry_numbered e (x ∷ xs) h = by (same_entry x e) refl h (λ g. entry_numbered
         → slice_get (x ∷ xs) (if b then 0 else suc (number_among xs e)) ≡ Some e
     by true s h rest = ap Some (entry_sound x e s)
     by false s h rest = rest h
+
+-- the number in 4 bytes, read again
+pub number_again : (e : Entry) (xs : List Entry) → length xs ≤ 4294967296 → IsAmong xs e → from_be_bytes w32 (to_be_bytes w32 (number_among xs e)) ≡ number_among xs e
+number_again e xs few h = from_be_bytes-to_be_bytes_4 (number_among xs e) (let k = number_within e xs h in omega (arith, k, few))
 
 pub number_more : (e : Entry) (xs ys : List Entry) → IsAmong xs e → number_among (xs ++ ys) e ≡ number_among xs e
 number_more e [] ys h = absurd (true≢false (sym h))

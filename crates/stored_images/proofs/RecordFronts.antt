@@ -1,5 +1,5 @@
 -- The records of a whole program's image, by their first bytes.
-use Rattle.std.proofs.Common.{◌≡◌, ℕ, zero, suc, ◌+◌, ◌*◌, ◌<◌, ◌≤◌, Bool, true, false, List, [], ◌∷◌, length, take, drop, Option, Some, None, slice_get, slice_index_or, nat_eq, refl, sym, ap, ◌∙◌, subst, arith, le-leb, eqb-true, drop-drop, get_or-drop}
+use Rattle.std.proofs.Common.{◌≡◌, ℕ, zero, suc, ◌+◌, ◌<◌, ◌≤◌, Bool, true, false, List, [], ◌∷◌, length, take, drop, Option, Some, None, slice_get, slice_index_or, nat_eq, refl, sym, ap, ◌∙◌, subst, arith, le-leb, eqb-true, get_or-drop}
 use Rattle.std.proofs.lemmas.Option.{slice_get-get_or}
 use Rattle.std.specs.List.{list_all}
 use Rattle.std.specs.Int.{w16, from_be_bytes}
@@ -7,7 +7,7 @@ use Rattle.core_terms.specs.LanguageTrees.{are_below, has_fields_below}
 use Rattle.core_terms.specs.declared.language.term.Constructor.{Constructor}
 use Rattle.core_terms.specs.declared.language.term.NamedType.{NamedType}
 use Rattle.core_terms.proofs.TypingSound.{first_of, second_of}
-use Rattle.images.specs.Records.{NoRecord, con_record, number_of, numbers_of, read_record, record_of}
+use Rattle.images.specs.Records.{NoRecord, con_record, read_record, record_of}
 use Rattle.stored_images.proofs.PartMarking.{fields_below_at}
 
 -- an element that is there
@@ -44,11 +44,3 @@ no_constructor count bytes head behind rest number tag is_head is_behind long is
   where
     one_more : (rest : List ℕ) → 1 ≤ suc (length rest)
     one_more rest = omega arith
-
--- one of the numbers of 4 bytes in a row
-pub number_place : (count place : ℕ) (bytes : List ℕ) → place < count → slice_get (numbers_of count bytes) place ≡ Some (number_of (take 4 (drop (4 * place) bytes)))
-number_place zero place bytes h = absurd (omega (arith, h))
-number_place (suc n) zero bytes h = refl
-number_place (suc n) (suc p) bytes h =
-    let four : 4 + 4 * p ≡ 4 * suc p = omega arith in
-    number_place n p (drop 4 bytes) (omega (arith, h)) ∙ ap (λ bs. Some (number_of (take 4 bs))) (drop-drop (4 * p) 4 bytes ∙ ap (λ k. drop k bytes) four)

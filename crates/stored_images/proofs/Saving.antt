@@ -1,18 +1,19 @@
 -- What is saved so far of a value, and what waits.
-use Rattle.std.proofs.Common.{◌≡◌, ℕ, List, [], ◌∷◌, ◌++◌, map, drop, Some, slice_get}
+use Rattle.std.proofs.Common.{◌≡◌, ℕ, List, [], ◌∷◌, ◌++◌, map, drop, Some, slice_get, refl, ap, ◌∙◌}
 use Rattle.core_terms.specs.Types.{Table}
 use Rattle.core_terms.specs.Values.{IsIdeal}
 use Rattle.images.specs.Images.{Entry}
-use Rattle.images.specs.SavedImages.{distinct, records_bytes, walk}
+use Rattle.images.specs.SavedImages.{distinct, record_bytes, records_bytes, walk}
 use Rattle.value_store.specs.Nodes.{Node}
-use Rattle.stored_images.specs.SavedRecords.{number_at, records_in}
+use Rattle.stored_images.specs.FormRecords.{joined}
+use Rattle.stored_images.specs.SavedRecords.{bytes_in, number_at, records_in}
 use Rattle.stored_images.specs.declared.save.Frame.{Frame}
 use Rattle.stored_images.specs.declared.save.records.Records.{Records}
 use Rattle.stored_images.proofs.AmongEntries.{IsAmong, AreAmong}
 use Rattle.stored_images.proofs.EntryParts.{parts, walks}
 use Rattle.stored_images.proofs.NodeEntries.{StandsAs}
 use Rattle.stored_images.proofs.NumberedEntries.{AreOnce}
-use Rattle.stored_images.proofs.RecordReading.{seen_of}
+use Rattle.stored_images.proofs.RecordReading.{record_of}
 
 -- all that the walk over the entry meets is among these
 pub record IsPlaced (types : Table) (done : List Entry) (e : Entry) : Type 0 where
@@ -21,8 +22,7 @@ pub record IsPlaced (types : Table) (done : List Entry) (e : Entry) : Type 0 whe
 
 -- the records are those of these entries, each behind its parts, and the nodes with numbers stand for them
 pub record AreNumbered (types : Table) (nodes : List Node) (done : List Entry) (records : Records) : Type 0 where
-  pub keys : records_in records ≡ map (seen_of types done) done
-  pub bytes : records.bytes.items ≡ records_bytes types done done
+  pub keys : records_in records ≡ map (record_of types done) done
   pub placed : (e : Entry) → IsAmong done e → IsPlaced types done e
   pub once : AreOnce done
   pub numbers : (r n : ℕ) → number_at records r ≡ Some n → (e : Entry) × StandsAs types nodes r e × (slice_get done n ≡ Some e)
@@ -41,3 +41,12 @@ pub record Saving (types : Table) (nodes : List Node) (wanted : List Entry) (rec
   pub left : List Entry
   pub are_left : AreLeft types nodes frames left
   pub met : distinct done left ≡ wanted
+
+records_joined : (types : Table) (done es : List Entry) → joined (map (record_of types done) es) ≡ records_bytes types done es
+records_joined types done [] = refl
+records_joined types done (e ∷ es) = ap (λ bytes. record_bytes types done e.of_type e.value ++ bytes) (records_joined types done es)
+
+-- the bytes of the records are those of the entries
+pub bytes_numbered : (types : Table) (nodes : List Node) (done : List Entry) (records : Records) → AreNumbered types nodes done records
+    → bytes_in records ≡ records_bytes types done done
+bytes_numbered types nodes done records h = ap joined h.keys ∙ records_joined types done done

@@ -1,43 +1,34 @@
 -- A node whose parts have their records gets its own.
 use Rattle.std.proofs.Common.{◌≡◌, ◌⊎◌, inl, inr, ℕ, ◌≤◌, Bool, true, false, List, [], ◌∷◌, ◌++◌, length, map, Option, Some, None, IsSome, slice_get, nat_eq, unwrap_or, if◌then◌else◌, true≢false, refl, sym, ap, ap₂, ◌∙◌, subst, arith}
 use Rattle.std.proofs.lemmas.Bool.{eqb-true}
-use Rattle.std.proofs.lemmas.List.{append-nil}
 use Rattle.core_terms.specs.Types.{Table}
 use Rattle.core_terms.specs.Values.{IsIdeal}
 use Rattle.images.specs.Images.{Entry}
-use Rattle.images.specs.SavedImages.{distinct, is_entry_of, number_among, record_bytes, records_bytes, walk}
+use Rattle.images.specs.SavedImages.{distinct, is_entry_of, number_among, walk}
 use Rattle.value_store.specs.Nodes.{Form, Node, form_at, refs_in}
 use Rattle.value_store.specs.Standing.{IdealNodes}
 use Rattle.value_store.proofs.TypedNodes.{ideal_refers, ideal_stands}
-use Rattle.stored_images.specs.FormRecords.{Seen, most_bytes, record_at}
+use Rattle.stored_images.specs.FormRecords.{bytes_of}
 use Rattle.stored_images.specs.SavedRecords.{HaveRecords, IsAdded, IsAmongOld, IsBehindOld, IsNew, number_at, number_or_first, record_for, records_in}
 use Rattle.stored_images.specs.declared.save.records.Records.{Records}
-use Rattle.stored_images.proofs.AmongEntries.{IsAmong, AreAmong, among_at, among_behind, among_cases, among_here, among_later, are_append, are_more}
+use Rattle.stored_images.proofs.AmongEntries.{IsAmong, AreAmong, among_at, among_behind, among_here, among_later, among_split, are_append, are_more}
 use Rattle.stored_images.proofs.DistinctEntries.{distinct_new, distinct_there}
 use Rattle.stored_images.proofs.EntryParts.{among_parts, among_walks, parts, walks, walk_parts}
 use Rattle.stored_images.proofs.NodeEntries.{HaveNumbers, StandsAs, StandAs, parts_stand, record_stands, refs_at}
 use Rattle.stored_images.proofs.NumberedEntries.{AreOnce, entry_numbered, number_more, number_new}
-use Rattle.stored_images.proofs.RecordBytes.{record_more, records_append}
-use Rattle.stored_images.proofs.RecordReading.{named_of, one_record, seen_of}
+use Rattle.stored_images.proofs.RecordBytes.{record_more}
+use Rattle.stored_images.proofs.RecordReading.{one_record, record_of}
 use Rattle.stored_images.proofs.Saving.{AreNumbered, IsPlaced}
 use Rattle.stored_images.proofs.SavingLists.{at_map, at_more, at_push, length-map, map_at, map_push}
 use Rattle.stored_images.proofs.SavingWalk.{known_walk}
 
-few_of : (records : Records) (done : List Entry) (f : Entry → Seen) → records_in records ≡ map f done → length done ≤ 4294967296
+few_of : (records : Records) (done : List Entry) (f : Entry → List ℕ) → records_in records ≡ map f done → length done ≤ 4294967296
 few_of records done f keys =
     let same = ap length keys ∙ length-map f done in
-    let all = length-map Rattle.stored_images.specs.FormRecords.seen records.records.keys in
+    let all = length-map bytes_of records.records.keys in
     omega (arith, same, all, records.few, records.short)
 
-among_split : (xs : List Entry) (e x : Entry) → IsAmong (xs ++ e ∷ []) x → IsAmong xs x ⊎ (e ≡ x)
-among_split [] e x h = elim (among_cases x e [] h) [ inl s ↦ inr s | inr t ↦ absurd (true≢false (sym t)) ]
-among_split (y ∷ ys) e x h = by (among_cases x y (ys ++ e ∷ []) h) (λ t. among_split ys e x t)
-  where
-    by : (y ≡ x) ⊎ IsAmong (ys ++ e ∷ []) x → (IsAmong (ys ++ e ∷ []) x → IsAmong ys x ⊎ (e ≡ x)) → IsAmong (y ∷ ys) x ⊎ (e ≡ x)
-    by (inl s) rest = inl (subst (λ y. IsAmong (y ∷ ys) x) (sym s) (among_here x ys))
-    by (inr t) rest = elim (rest t) [ inl g ↦ inl (among_later x y ys g) | inr s ↦ inr s ]
-
-module _ (types : Table) (nodes : List Node) where
+module _ (types : Table) (few_types : length types ≤ 65536) (nodes : List Node) where
   -- the parts have the numbers of what they stand for, and all that walks over them meet is there
   have_numbers : (done : List Entry) (records : Records) (rs : List ℕ) (es : List Entry) → AreNumbered types nodes done records → HaveRecords records rs → StandAs types nodes rs es
       → HaveNumbers (number_or_first records) done rs es × AreAmong done (walks types es)
@@ -53,30 +44,21 @@ module _ (types : Table) (nodes : List Node) where
           let known = known_walk types nodes done records r n e numbered at stand.0 in
           ((ap (λ o. unwrap_or o 0) at ∙ sym (numbered.once n e known.0), rest.0), are_append done (walk types e.of_type e.value) (walks types es) known.1.walked rest.1)
 
-  seen_more : (done more : List Entry) (e : Entry) → AreAmong done (parts types e.of_type e.value) → seen_of types (done ++ more) e ≡ seen_of types done e
-  seen_more done more e h = ap (λ (bytes : List ℕ). let made : Seen = record { named = named_of e.of_type; bytes = bytes } in made) (record_more types done more e h)
-
-  all_seen_more : (done more xs : List Entry) → ((x : Entry) → IsAmong xs x → AreAmong done (parts types x.of_type x.value))
-      → map (seen_of types (done ++ more)) xs ≡ map (seen_of types done) xs
-  all_seen_more done more [] h = refl
-  all_seen_more done more (x ∷ xs) h =
-      ap₂ (λ (s : Seen) (ss : List Seen). s ∷ ss) (seen_more done more x (h x (among_here x xs))) (all_seen_more done more xs (λ y g. h y (among_later y x xs g)))
-
-  all_bytes_more : (done more xs : List Entry) → ((x : Entry) → IsAmong xs x → AreAmong done (parts types x.of_type x.value))
-      → records_bytes types (done ++ more) xs ≡ records_bytes types done xs
-  all_bytes_more done more [] h = refl
-  all_bytes_more done more (x ∷ xs) h =
-      ap₂ (λ (a b : List ℕ). a ++ b) (record_more types done more x (h x (among_here x xs))) (all_bytes_more done more xs (λ y g. h y (among_later y x xs g)))
+  records_more : (done more xs : List Entry) → ((x : Entry) → IsAmong xs x → AreAmong done (parts types x.of_type x.value))
+      → map (record_of types (done ++ more)) xs ≡ map (record_of types done) xs
+  records_more done more [] h = refl
+  records_more done more (x ∷ xs) h =
+      ap₂ (λ (s : List ℕ) (ss : List (List ℕ)). s ∷ ss) (record_more types done more x (h x (among_here x xs))) (records_more done more xs (λ y g. h y (among_later y x xs g)))
 
   -- the entry with a number has the record with the number
   entry_found : (done : List Entry) (e : Entry) (n : ℕ) → length done ≤ 4294967296 → ((x : Entry) → IsAmong done x → IsPlaced types done x)
-      → IsIdeal types e.of_type e.value → AreAmong done (parts types e.of_type e.value) → slice_get (map (seen_of types done) done) n ≡ Some (seen_of types done e)
+      → IsIdeal types e.of_type e.value → AreAmong done (parts types e.of_type e.value) → slice_get (map (record_of types done) done) n ≡ Some (record_of types done e)
       → slice_get done n ≡ Some e
   entry_found done e n few placed ideal inside at =
-      let found = at_map (seen_of types done) done n (seen_of types done e) at in
+      let found = at_map (record_of types done) done n (record_of types done e) at in
       let x : Entry = found.0 in
       let place = placed x (among_at x done n found.1) in
-      found.1 ∙ ap Some (one_record done few types x e place.ideal (among_parts types done x place.walked) ideal inside found.2)
+      found.1 ∙ ap Some (one_record done few types few_types x e place.ideal (among_parts types done x place.walked) ideal inside found.2)
 
   -- a node that waits with all its parts known: what it stands for, and its record
   pub record Whole (done : List Entry) (records : Records) (r : ℕ) (form : Form) (e : Entry) : Type 0 where
@@ -84,7 +66,7 @@ module _ (types : Table) (nodes : List Node) where
     pub ideal : IsIdeal types e.of_type e.value
     pub walked : AreAmong done (walks types (parts types e.of_type e.value))
     pub inside : AreAmong done (parts types e.of_type e.value)
-    pub found : record_for records form ≡ seen_of types done e
+    pub found : record_for records form ≡ record_of types done e
 
   pub whole : (done : List Entry) (records : Records) (r : ℕ) (form : Form) (e : Entry) → AreNumbered types nodes done records → StandsAs types nodes r e
       → form_at nodes r ≡ Some form → HaveRecords records (refs_in form) → Whole done records r form e
@@ -124,13 +106,12 @@ module _ (types : Table) (nodes : List Node) where
       → slice_get (records_in new) n ≡ Some (record_for old form) → IsAmongOld old new → ((s : ℕ) → number_at new s ≡ (if nat_eq r s then Some n else number_at old s))
       → Extended done new e
   extended_old done old new r n form e numbered is at there now =
-      let keys = there.0 ∙ numbered.keys in
-      let found = entry_found done e n (few_of new done (seen_of types done) keys) numbered.placed is.ideal is.inside (ap (λ ks. slice_get ks n) (sym keys) ∙ at ∙ ap Some is.found) in
+      let keys = there ∙ numbered.keys in
+      let found = entry_found done e n (few_of new done (record_of types done) keys) numbered.placed is.ideal is.inside (ap (λ ks. slice_get ks n) (sym keys) ∙ at ∙ ap Some is.found) in
       record {
         all = done;
         numbered = record {
           keys = keys;
-          bytes = there.1 ∙ numbered.bytes;
           placed = numbered.placed;
           once = numbered.once;
           numbers = numbers_new done old new r n e is.stands found numbered.numbers now;
@@ -139,13 +120,13 @@ module _ (types : Table) (nodes : List Node) where
       }
 
   -- a new record is of an entry that isn't there
-  pub not_there : (done : List Entry) (old : Records) (found : Seen) (e : Entry) → records_in old ≡ map (seen_of types done) done → found ≡ seen_of types done e → IsNew found old → is_entry_of e done ≡ false
+  pub not_there : (done : List Entry) (old : Records) (found : List ℕ) (e : Entry) → records_in old ≡ map (record_of types done) done → found ≡ record_of types done e → IsNew found old → is_entry_of e done ≡ false
   not_there done old found e keys is new = by (is_entry_of e done) refl
     where
       by : (b : Bool) → is_entry_of e done ≡ b → b ≡ false
       by true h =
           absurd (new (number_among done e) (ap (λ ks. slice_get ks (number_among done e)) keys
-          ∙ map_at (seen_of types done) done (number_among done e) e (entry_numbered e done h) ∙ ap Some (sym is)))
+          ∙ map_at (record_of types done) done (number_among done e) e (entry_numbered e done h) ∙ ap Some (sym is)))
       by false h = refl
 
   placed_more : (done : List Entry) (e : Entry) → ((x : Entry) → IsAmong done x → IsPlaced types done x) → IsIdeal types e.of_type e.value
@@ -177,22 +158,18 @@ module _ (types : Table) (nodes : List Node) where
       let fresh = not_there done old (record_for old form) e numbered.keys is.found behind.0 in
       let all : List Entry = done ++ e ∷ [] in
       let inside = λ (x : Entry) (h : IsAmong done x). among_parts types done x (numbered.placed x h).walked in
-      let own = seen_more done (e ∷ []) e is.inside in
-      let keys : records_in new ≡ map (seen_of types all) all =
-      behind.1 ∙ ap (λ ks. ks ++ record_for old form ∷ []) (numbered.keys ∙ sym (all_seen_more done (e ∷ []) done inside))
-      ∙ ap (λ s. map (seen_of types all) done ++ s ∷ []) (is.found ∙ sym own) ∙ sym (map_push (seen_of types all) done e) in
-      let bytes : new.bytes.items ≡ records_bytes types all all =
-      behind.2 ∙ ap₂ (λ (a b : List ℕ). a ++ b) (numbered.bytes ∙ sym (all_bytes_more done (e ∷ []) done inside)) (ap (λ (s : Seen). s.bytes) (is.found ∙ sym own) ∙ sym (append-nil (record_bytes types all e.of_type e.value)))
-      ∙ sym (records_append types all done (e ∷ [])) in
+      let own = record_more types done (e ∷ []) e is.inside in
+      let keys : records_in new ≡ map (record_of types all) all =
+      behind.1 ∙ ap (λ ks. ks ++ record_for old form ∷ []) (numbered.keys ∙ sym (records_more done (e ∷ []) done inside))
+      ∙ ap (λ s. map (record_of types all) done ++ s ∷ []) (is.found ∙ sym own) ∙ sym (map_push (record_of types all) done e) in
       let placed = placed_more done e numbered.placed is.ideal is.walked in
-      let found = entry_found all e n (few_of new all (seen_of types all) keys) placed is.ideal (are_more done (e ∷ []) (parts types e.of_type e.value) is.inside)
+      let found = entry_found all e n (few_of new all (record_of types all) keys) placed is.ideal (are_more done (e ∷ []) (parts types e.of_type e.value) is.inside)
       (ap (λ ks. slice_get ks n) (sym keys) ∙ at ∙ ap Some (is.found ∙ sym own)) in
       let before = λ (s m : ℕ) (h : number_at old s ≡ Some m). (let known = numbered.numbers s m h in moved all done s m known.0 known.1 (at_more done (e ∷ []) m known.0 known.2)) in
       record {
         all = all;
         numbered = record {
           keys = keys;
-          bytes = bytes;
           placed = placed;
           once = once_more done e numbered.once fresh;
           numbers = numbers_new all old new r n e is.stands found before now;

@@ -1,5 +1,5 @@
 -- The walk over nodes, as the code goes on: the list of nodes that wait has the one that is walked now at its end.
-use Rattle.std.proofs.Common.{◌≡◌, ◌⊎◌, inl, inr, ℕ, zero, suc, true, false, Bool, List, [], ◌∷◌, ◌++◌, length, Some, None, Err, IsSome, slice_get, nat_eq, if◌then◌else◌, refl, sym, ap, ◌∙◌, subst, length-append, arith, eq-eqb}
+use Rattle.std.proofs.Common.{◌≡◌, ◌⊎◌, inl, inr, ℕ, zero, suc, true, false, Bool, List, [], ◌∷◌, ◌++◌, length, ◌≤◌, Some, None, Err, IsSome, slice_get, nat_eq, if◌then◌else◌, refl, sym, ap, ◌∙◌, subst, length-append, arith, eq-eqb}
 use Rattle.std.proofs.lemmas.List.{append-nil}
 use Rattle.core_terms.specs.Types.{Table}
 use Rattle.images.specs.Images.{Entry}
@@ -7,7 +7,6 @@ use Rattle.images.specs.SavedImages.{distinct, record_bytes, records_bytes}
 use Rattle.images.specs.declared.fault.SaveFault.{SaveFault}
 use Rattle.images.specs.declared.fault.SaveFault.TheVariants.{TooLong, NoMemory}
 use Rattle.value_store.specs.Nodes.{Form, Node, form_at, refs_in}
-use Rattle.stored_images.specs.FormRecords.{Seen}
 use Rattle.stored_images.specs.SavedRecords.{AreSaved, HaveRecords, IsAdded, IsTooMuch, number_at, record_for}
 use Rattle.stored_images.specs.declared.save.Frame.{Frame}
 use Rattle.stored_images.specs.declared.save.records.Records.{Records}
@@ -16,7 +15,7 @@ use Rattle.stored_images.proofs.EntryParts.{parts, walks}
 use Rattle.stored_images.proofs.NodeEntries.{StandAs, parts_stand, refs_at}
 use Rattle.stored_images.proofs.NumberedParts.{drop_all}
 use Rattle.stored_images.proofs.RecordBytes.{length-records, records_append}
-use Rattle.stored_images.proofs.Saving.{Saving}
+use Rattle.stored_images.proofs.Saving.{Saving, bytes_numbered}
 use Rattle.stored_images.proofs.SavingAdd.{extended, not_there, whole}
 use Rattle.stored_images.proofs.WaitingFrames.{HasRecord}
 
@@ -29,7 +28,7 @@ module _ (types : Table) (nodes : List Node) where
   stand_none (r ∷ rs) (e ∷ es) zero h at = absurd (cc)
   stand_none (r ∷ rs) (e ∷ es) (suc i) h at = stand_none rs es i h.1 at
 
-  module _ (wanted : List Entry) (records : Records) (form : Form) (f : Frame) (fs : List Frame) (form_is : form_at nodes f.node.0 ≡ Some form)
+  module _ (few_types : length types ≤ 65536) (wanted : List Entry) (records : Records) (form : Form) (f : Frame) (fs : List Frame) (form_is : form_at nodes f.node.0 ≡ Some form)
       (over : slice_get (refs_at nodes f.node.0) f.next ≡ None) (have : HaveRecords records (refs_in form)) (saving : Saving types nodes wanted records (f ∷ fs)) where
     -- where all parts are passed, the whole is left
     whole_left : saving.left ≡ saving.are_left.0 ∷ saving.are_left.1
@@ -43,8 +42,8 @@ module _ (types : Table) (nodes : List Node) where
     pub saving_add : (new : Records) → IsAdded f.node.0 form records new → Saving types nodes wanted new fs
     saving_add new added =
         let e : Entry = saving.are_left.0 in
-        let is = whole types nodes saving.done records f.node.0 form e saving.numbered saving.are_left.2 form_is have in
-        let more = extended types nodes saving.done records new f.node.0 form e saving.numbered is added in
+        let is = whole types few_types nodes saving.done records f.node.0 form e saving.numbered saving.are_left.2 form_is have in
+        let more = extended types few_types nodes saving.done records new f.node.0 form e saving.numbered is added in
         record {
           done = more.all;
           numbered = more.numbered;
@@ -59,8 +58,8 @@ module _ (types : Table) (nodes : List Node) where
     saving_refused TooLong h =
         let e : Entry = saving.are_left.0 in
         let done = saving.done in
-        let is = whole types nodes done records f.node.0 form e saving.numbered saving.are_left.2 form_is have in
-        let fresh = not_there types nodes done records (record_for records form) e saving.numbered.keys is.found h.0 in
+        let is = whole types few_types nodes done records f.node.0 form e saving.numbered saving.are_left.2 form_is have in
+        let fresh = not_there types few_types nodes done records (record_for records form) e saving.numbered.keys is.found h.0 in
         let grown = distinct_grows (done ++ e ∷ []) saving.are_left.1 in
         let same : (done ++ e ∷ []) ++ grown.0 ≡ wanted =
         sym grown.1 ∙ sym (distinct_new done e saving.are_left.1 fresh) ∙ ap (distinct done) (sym whole_left) ∙ saving.met in
@@ -69,8 +68,8 @@ module _ (types : Table) (nodes : List Node) where
         let front = length-records types ((done ++ e ∷ []) ++ grown.0) done (done ++ e ∷ []) in
         let last = ap length (records_append types done done (e ∷ [])) ∙ length-append (records_bytes types done done) (records_bytes types done (e ∷ [])) in
         let own = ap length (append-nil (record_bytes types done e.of_type e.value)) in
-        let bytes = ap length saving.numbered.bytes in
-        let found = ap (λ (s : Seen). length s.bytes) is.found in
+        let bytes = ap length (bytes_numbered types nodes done records saving.numbered) in
+        let found = ap length is.found in
         omega (arith, all, parted, front, last, own, bytes, found, h.1)
 
 -- a node with a number has its record, as those before

@@ -6,7 +6,7 @@ use Rattle.images.specs.SavedImages.{distinct, records_bytes, walk}
 use Rattle.value_store.specs.Nodes.{Node}
 use Rattle.value_store.specs.declared.node.Ref.{Ref}
 use Rattle.stored_images.specs.Frames.{frame_of}
-use Rattle.stored_images.specs.SavedRecords.{AreSaved, number_at, records_in}
+use Rattle.stored_images.specs.SavedRecords.{AreSaved, bytes_in, number_at, records_in}
 use Rattle.stored_images.specs.FormRecords.{most_bytes}
 use Rattle.stored_images.specs.declared.save.Frame.{Frame}
 use Rattle.stored_images.specs.declared.save.records.Records.{Records}
@@ -16,9 +16,9 @@ use Rattle.stored_images.proofs.EntryParts.{parts, walks, walk_parts}
 use Rattle.stored_images.proofs.NodeEntries.{StandsAs, StandAs, parts_stand, refs_at}
 use Rattle.stored_images.proofs.NumberedParts.{drop_next}
 use Rattle.stored_images.proofs.OneEntry.{one_entry}
-use Rattle.stored_images.proofs.RecordReading.{seen_of}
+use Rattle.stored_images.proofs.RecordReading.{record_of}
 use Rattle.stored_images.proofs.SavingLists.{length-map}
-use Rattle.stored_images.proofs.Saving.{AreLeft, AreNumbered, IsPlaced, Saving}
+use Rattle.stored_images.proofs.Saving.{AreLeft, AreNumbered, IsPlaced, Saving, bytes_numbered}
 use Rattle.stored_images.proofs.Weights.{drop_zero}
 
 nothing_at : (i : ℕ) (x : Entry) → slice_get [] i ≡ Some x → ⊥
@@ -105,15 +105,14 @@ module _ (types : Table) (nodes : List Node) where
         }
 
   -- the beginning: nothing is saved
-  pub saving_first : (records : Records) (root : Ref) (e : Entry) → StandsAs types nodes root.0 e → records_in records ≡ [] → records.bytes.items ≡ []
+  pub saving_first : (records : Records) (root : Ref) (e : Entry) → StandsAs types nodes root.0 e → records_in records ≡ []
       → ((r : ℕ) → number_at records r ≡ None) → Saving types nodes (distinct [] (walk types e.of_type e.value)) records (frame_of root 0 ∷ [])
-  saving_first records root e stands keys bytes none =
+  saving_first records root e stands keys none =
       let es = parts types e.of_type e.value in
       record {
         done = [];
         numbered = record {
           keys = keys;
-          bytes = bytes;
           placed = λ x h. absurd (true≢false (sym h));
           once = λ i x h. absurd (nothing_at i x h);
           numbers = λ r n h. absurd (none_some (number_at records r) n (none r) h);
@@ -124,7 +123,7 @@ module _ (types : Table) (nodes : List Node) where
       }
 
   -- the end: all that is wanted is saved
-  pub saving_last : (wanted : List Entry) (records : Records) → length records.bytes.items ≤ most_bytes → Saving types nodes wanted records [] → AreSaved types wanted (Ok records)
+  pub saving_last : (wanted : List Entry) (records : Records) → length (bytes_in records) ≤ most_bytes → Saving types nodes wanted records [] → AreSaved types wanted (Ok records)
   saving_last wanted records short h =
       let same : h.done ≡ wanted = ap (distinct h.done) (sym h.are_left) ∙ h.met in
-      (ap length h.numbered.keys ∙ length-map (seen_of types h.done) h.done ∙ ap length same, h.numbered.bytes ∙ ap (λ es. records_bytes types es es) same, short)
+      (ap length h.numbered.keys ∙ length-map (record_of types h.done) h.done ∙ ap length same, bytes_numbered types nodes h.done records h.numbered ∙ ap (λ es. records_bytes types es es) same, short)

@@ -9,7 +9,7 @@ use Rattle.images.specs.SavedImages.{distinct, records_bytes, saved_image, walk}
 use Rattle.images.specs.Saves.{IsSaved}
 use Rattle.images.specs.declared.fault.SaveFault.{SaveFault}
 use Rattle.images.specs.declared.fault.SaveFault.TheVariants.{TooLong, NoMemory}
-use Rattle.stored_images.specs.SavedRecords.{AreSaved, records_in}
+use Rattle.stored_images.specs.SavedRecords.{AreSaved, bytes_in, records_in}
 use Rattle.stored_images.specs.declared.save.records.Records.{Records}
 
 module _ (P : Program) (digest : List ℕ) (digest_length : length digest ≡ 32) (v : Value) where
@@ -29,7 +29,7 @@ module _ (P : Program) (digest : List ℕ) (digest_length : length digest ≡ 32
   image_refused TooLong h = let all = length-image in omega (arith, all, h)
 
   pub image_made : (records : Records) (told header : List ℕ) (count : ℕ) (image : Vec ℕ Global) → AreSaved P.types entries (Ok records) → told ≡ digest → count ≡ length (records_in records)
-      → header ≡ image_magic ++ told ++ to_be_bytes w32 count → image.items ≡ header ++ records.bytes.items → IsSaved (saved_image P digest v) (Ok image)
+      → header ≡ image_magic ++ told ++ to_be_bytes w32 count → image.items ≡ header ++ bytes_in records → IsSaved (saved_image P digest v) (Ok image)
   image_made records told header count image h is_told is_count is_header is_image =
       let front = ap₂ (λ (told : List ℕ) (n : ℕ). image_magic ++ told ++ to_be_bytes w32 n) is_told (is_count ∙ h.0) in
       let all = length-image in

@@ -4,11 +4,6 @@ use Rattle.std.specs.Int.{w16, w32, w64, to_be_bytes, cast_unsigned}
 use Rattle.value_store.specs.Nodes.{Form, UnitNode, BoolNode, IntNode, TextNode, PairNode, ConNode, AuthNode, refs_in}
 use Rattle.stored_images.specs.declared.save.record.Record.{Record}
 
--- the number of the named type of a node; 0 where it is of another form
-abbrev pub named_in : Form → ℕ
-named_in (ConNode number tag fields) = number
-named_in form = 0
-
 -- what stands in the record before the numbers of the parts
 abbrev pub head_of : Form → List ℕ
 head_of UnitNode = 0 ∷ []
@@ -25,17 +20,18 @@ abbrev pub numbered : (ℕ → ℕ) → List ℕ → List ℕ
 numbered number [] = []
 numbered number (r ∷ rs) = to_be_bytes w32 (number r) ++ numbered number rs
 
--- a record: the number of its named type, where it is of one, and its bytes
-pub record Seen : Type 0 where
-  pub named : ℕ
-  pub bytes : List ℕ
+-- the bytes of a record
+abbrev pub bytes_of : Record → List ℕ
+bytes_of of_code = of_code.0.items
 
-abbrev pub seen : Record → Seen
-seen of_code = record { named = of_code.named.0; bytes = of_code.bytes.items }
+-- some bytes, one behind the other
+abbrev pub joined : List (List ℕ) → List ℕ
+joined [] = []
+joined (bytes ∷ rest) = bytes ++ joined rest
 
--- that of a node, where the records of its parts have these numbers
-abbrev pub record_at : (ℕ → ℕ) → Form → Seen
-record_at number form = record { named = named_in form; bytes = head_of form ++ numbered number (refs_in form) }
+-- the record of a node, where the records of its parts have these numbers
+abbrev pub record_at : (ℕ → ℕ) → Form → List ℕ
+record_at number form = head_of form ++ numbered number (refs_in form)
 
 -- a text within the limits of the nodes of a store
 abbrev pub HasShortText : Form → Type 0

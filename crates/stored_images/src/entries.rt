@@ -23,11 +23,8 @@ use core_terms::language::TyForm;
 use std::alloc::Global;
 use value_store::{Marker, Store};
 
-/// The greatest number of bytes of a spelling.
-const MOST_SIZE: u32 = 65_536;
-
-/// The greatest number of bytes of a text: its spelling has 4 more.
-const MOST_TEXT: usize = 65_532;
+/// The number of bytes in which the spelling of a text has its length.
+const LENGTH_BYTES: usize = 4;
 
 /// The greatest depth of a value.
 const MOST_DEPTH: u32 = 512;
@@ -99,7 +96,7 @@ pub(crate) fn text(
     let Some(ty) = types.part(TyForm::TextForm) else {
         return Err(ImageFault::BadRecord(number));
     };
-    if text.len() > MOST_TEXT {
+    if text.len() > types.size_limit() as usize - LENGTH_BYTES {
         return Err(ImageFault::TooBig(number));
     }
     let value = store.put_text(text)?;
@@ -130,7 +127,7 @@ pub(crate) fn pair(
     let Some(ty) = types.part(TyForm::PairForm(first.ty, second.ty)) else {
         return Err(ImageFault::BadRecord(number));
     };
-    if store.shallow_size(first.value) + store.shallow_size(second.value) > MOST_SIZE {
+    if store.shallow_size(first.value) + store.shallow_size(second.value) > types.size_limit() {
         return Err(ImageFault::TooBig(number));
     }
     if store
@@ -192,7 +189,7 @@ pub(crate) fn constructor(
         return Err(ImageFault::BadRecord(number));
     };
     let fields = refs.as_slice();
-    if !sizes_fit(store, fields, MOST_SIZE - 1) {
+    if !sizes_fit(store, fields, types.size_limit() - 1) {
         return Err(ImageFault::TooBig(number));
     }
     if !depths_fit(store, fields, MOST_DEPTH - 1) {

@@ -1,6 +1,6 @@
 // The types that a record may have.
 ghost use Rattle.std.specs.Prelude.{◌≡◌, true, length};
-ghost use Rattle.core_terms.specs.LanguagePrograms.{types_of};
+ghost use Rattle.core_terms.specs.LanguagePrograms.{meaning, types_of};
 ghost use Rattle.core_terms.specs.LanguageTypes.{stands_behind};
 ghost use Rattle.stored_images.specs.PartMarks.{IsMarksOf, IsPartOfState};
 
@@ -23,5 +23,12 @@ impl<'a> PartTypes<'a> {
         ensures { IsPartOfState self.now.program.now form result }
     {
         self.parts.part_of(self.program, form)
+    }
+
+    /// The greatest number of bytes of a spelling.
+    pub fn size_limit(&self) -> u32
+        ensures { result ≡ (meaning self.now.program.now).format.limit }
+    {
+        self.program.spelling_limit() as u32
     }
 }

@@ -1,5 +1,5 @@
 // The records of an image of a program of the whole language, read from their bytes.
-ghost use Rattle.std.specs.Prelude.{◌≡◌, ◌*◌, ◌+◌, ◌<◌, ◌≤◌, ◌∷◌, ℕ, List, Option, length, slice_get, Some, IfOk};
+ghost use Rattle.std.specs.Prelude.{◌≡◌, ◌∷◌, ℕ, List, Option, IfOk};
 ghost use Rattle.core_terms.specs.LanguagePrograms.{meaning};
 ghost use Rattle.core_terms.specs.declared.language.program.Program as code;
 ghost use Rattle.images.specs.Images.{field_count};
@@ -160,16 +160,4 @@ fn with_text(found: plain::Record<'_>) -> Record<'_>
         plain::Record::PairRecord(first, second) => Record::Pair(first, second),
         plain::Record::AuthRecord(inner) => Record::Auth(inner),
     }
-}
-
-/// One of the numbers of 4 bytes in a row.
-pub(crate) fn number_at(numbers: &[u8], place: usize) -> u32
-    requires within { 4 * place + 4 ≤ length numbers.now }
-    ensures { (count : ℕ) → place < count → slice_get (meant.numbers_of count numbers.now) place ≡ Some result }
-{
-    let bytes = &numbers[4 * place..];
-    let Some(number) = bytes.first_chunk::<4>() else {
-        unreachable!()
-    };
-    u32::from_be_bytes(*number)
 }

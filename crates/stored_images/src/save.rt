@@ -2,12 +2,11 @@
 mod record;
 mod records;
 
-ghost use Rattle.std.specs.Prelude.{◌≡◌, ◌<◌, ◌≤◌, ◌∷◌, ◌++◌, [], length, IfOk, OnOk};
-ghost use Rattle.std.specs.Int.{w32, to_be_bytes};
+ghost use Rattle.std.specs.Prelude.{◌≡◌, true, ◌<◌, ◌≤◌, ◌∷◌, ◌++◌, [], length, IfOk, OnOk};
 ghost use Rattle.core_terms.specs.LanguagePrograms.{meaning};
-ghost use Rattle.core_terms.specs.Types.{Table, Ty};
+ghost use Rattle.core_terms.specs.Types.{Table, Ty, has_numbers};
 ghost use Rattle.core_terms.specs.Values.{Value};
-ghost use Rattle.images.specs.Images.{image_magic};
+ghost use Rattle.images.specs.Images.{image_of, Root};
 ghost use Rattle.images.specs.Saves.{IsSaved};
 ghost use Rattle.images.specs.SavedImages.{distinct, saved_image, walk};
 ghost use Rattle.stored_images.specs.LoadedRoots.{IsStateAt};
@@ -17,16 +16,16 @@ ghost use Rattle.value_store.specs.Standing.{IdealNodes, StandsFor};
 ghost use Rattle.value_store.specs.Stores.{nodes_in};
 
 use crate::SaveFault;
-use core_terms::Digest;
 use core_terms::language::Program;
-use images::header::MAGIC;
+use images::header::{digest_bytes, write_header};
 use record::part;
 use records::Records;
 use std::alloc::{AllocError, Global};
 use value_store::{Ref, Store};
 
 /// The image of the state that a node stands for: the distinct parts of the value, each once, in the order in which a walk that visits
-/// parts from left to right before the whole first completes them. The node is read over ideal nodes or the prover's.
+/// parts from left to right before the whole first completes them. The node is read over ideal nodes or the prover's. What is written
+/// loads to the state again.
 ///
 /// # Errors
 ///
@@ -39,30 +38,13 @@ pub fn save_image(
 ) -> Result<Vec<u8>, SaveFault>
     requires { (v : Value) × IsStateAt (meaning program.now) store.now root v }
     ensures saved { (v : Value) → IsStateAt (meaning program.now) store.now root v → IsSaved (saved_image (meaning program.now) program.now.text_digest.0 v) result }
+    ensures loads { (v : Value) → IsStateAt (meaning program.now) store.now root v → IfOk result (λ image. image_of (meaning program.now) program.now.text_digest.0 image.items ≡ Root v) }
 {
     let digest = digest_bytes(program.text_digest());
     let records = records_of(alloc, store, root)?;
-    let mut image = header(alloc, digest, records.count() as u32)?;
-    image.extend_from_slice(records.bytes())?;
+    let mut image = write_header(alloc, digest, records.count() as u32)?;
+    records.write(&mut image)?;
     Ok(image)
-}
-
-/// The 32 bytes of a digest.
-fn digest_bytes(digest: &Digest) -> &[u8]
-    ensures bytes { result.now ≡ digest.now.0 }
-    ensures length { length result.now ≡ 32 }
-{
-    &digest.0
-}
-
-/// The header of an image of so many records.
-fn header(alloc: Global, digest: &[u8], count: u32) -> Result<Vec<u8>, AllocError>
-    ensures { IfOk result (λ bytes. bytes.items ≡ image_magic ++ digest.now ++ to_be_bytes w32 count) }
-{
-    let mut bytes = MAGIC.to_vec(alloc)?;
-    bytes.extend_from_slice(digest)?;
-    bytes.extend_from_slice(&count.to_be_bytes())?;
-    Ok(bytes)
 }
 
 /// A node on the way to its record, with the number of its parts, from the first on, that have theirs.
@@ -76,7 +58,7 @@ struct Frame {
 /// stack; a node that has its record is not walked again.
 fn records_of(alloc: Global, store: &Store, root: Ref) -> Result<Records, SaveFault>
     requires { root.0 < length (nodes_in store.now) }
-    ensures saved { (types : Table) (t : Ty) (v : Value) → StandsFor IdealNodes types (nodes_in store.now) root.0 t v → AreSaved types (distinct [] (walk types t v)) result }
+    ensures saved { (types : Table) (t : Ty) (v : Value) → has_numbers types ≡ true → StandsFor IdealNodes types (nodes_in store.now) root.0 t v → AreSaved types (distinct [] (walk types t v)) result }
 {
     let mut records = Records::new(alloc);
     let mut frames = Vec::new(alloc);

@@ -3,18 +3,15 @@ ghost use Rattle.std.specs.Prelude.{◌≡◌, ◌<◌, ◌≤◌, ◌∷◌, �
 ghost use Rattle.std.specs.Int.{w16, w32, w64, cast_unsigned, to_be_bytes};
 ghost use Rattle.value_store.specs.Nodes.{refs_in};
 ghost use Rattle.value_store.specs.Views.{form_shown};
-ghost use Rattle.stored_images.specs.FormRecords.{HasShortText, head_of, named_in};
+ghost use Rattle.stored_images.specs.FormRecords.{HasShortText, head_of};
 
 use core_terms::language::{NamedId, Tag};
 use std::alloc::{AllocError, Global};
 use value_store::{Held, Ref, View};
 
-/// A record. Of a constructor its bytes have two of the bytes of the type's number, and not the others.
+/// A record, as its bytes.
 #[derive(PartialEq, Eq, Hash, Drop)]
-pub(crate) struct Record {
-    pub named: NamedId,
-    pub bytes: Vec<u8>,
-}
+pub(crate) struct Record(pub Vec<u8>);
 
 /// A part of what is shown, by its number from 0, where there are so many.
 pub(crate) fn part(view: View<'_>, index: usize) -> Option<Ref>
@@ -26,16 +23,6 @@ pub(crate) fn part(view: View<'_>, index: usize) -> Option<Ref>
         View::Constructor(_, _, fields) => fields.get(index).copied(),
         View::Auth(Held::Inner(inner) | Held::Both(_, inner)) if index == 0 => Some(*inner),
         _ => None,
-    }
-}
-
-/// The number of the type of a constructor; 0 where none is shown.
-pub(crate) fn named_type(view: View<'_>) -> NamedId
-    ensures { result.0 ≡ named_in (form_shown view.entry) }
-{
-    match view {
-        View::Constructor(named, _, _) => named,
-        _ => NamedId(0),
     }
 }
 

@@ -1,12 +1,12 @@
 // The records that are saved so far.
-ghost use Rattle.std.specs.Prelude.{◌≡◌, ◌<◌, ◌≤◌, ℕ, [], length, nat_eq, Some, None, IfOk, IfErr};
+ghost use Rattle.std.specs.Prelude.{◌≡◌, ◌<◌, ◌≤◌, ◌++◌, ℕ, [], length, map, nat_eq, Some, None, IfOk, IfErr, OnOk};
 ghost use Rattle.std.specs.HashMap.{get};
 ghost use Rattle.indexmap.specs.IndexSet.{index_set_len};
 ghost use Rattle.value_store.specs.Nodes.{refs_in};
 ghost use Rattle.value_store.specs.Views.{form_shown};
-ghost use Rattle.stored_images.specs.FormRecords.{HasShortText, most_bytes, seen};
+ghost use Rattle.stored_images.specs.FormRecords.{HasShortText, bytes_of, joined, most_bytes};
 
-use super::record::{Record, head, named_type, part};
+use super::record::{Record, head, part};
 use crate::SaveFault;
 use indexmap::IndexSet;
 use std::alloc::{AllocError, Global};
@@ -22,27 +22,27 @@ pub(crate) struct Records {
     records: IndexSet<Record>,
     /// The number of the record of each node that has one.
     numbers: HashMap<usize, usize>,
-    /// The bytes of all records.
-    bytes: Vec<u8>,
+    /// The number of bytes of all records.
+    byte_count: usize,
     alloc: Global,
-    ghost short: { length bytes.items ≤ most_bytes },
-    ghost few: { index_set_len records ≤ length bytes.items },
+    ghost counted: { byte_count ≡ length (joined (map bytes_of records.keys)) },
+    ghost short: { byte_count ≤ most_bytes },
+    ghost few: { index_set_len records ≤ byte_count },
     ghost within: { (r n : ℕ) → get nat_eq numbers r ≡ Some n → n < index_set_len records },
 }
 
 impl Records {
-    ghost use Rattle.stored_images.specs.SavedRecords.{HasNumber, HaveRecords, IsAdded, IsTooMuch, number_at, record_for, records_in};
+    ghost use Rattle.stored_images.specs.SavedRecords.{HasNumber, HaveRecords, IsAdded, IsTooMuch, bytes_in, number_at, record_for, records_in};
 
     /// No records.
     pub fn new(alloc: Global) -> Self
         ensures records { records_in result ≡ [] }
-        ensures bytes { result.bytes.items ≡ [] }
         ensures numbers { (r : ℕ) → number_at result r ≡ None }
     {
         Records {
             records: IndexSet::new(alloc),
             numbers: HashMap::new(alloc),
-            bytes: Vec::new(alloc),
+            byte_count: 0,
             alloc,
         }
     }
@@ -55,11 +55,14 @@ impl Records {
         self.records.len()
     }
 
-    /// The bytes of all records.
-    pub fn bytes(&self) -> &[u8]
-        ensures { result.now ≡ self.now.bytes.items }
+    /// Writes the bytes of all records behind what was written.
+    pub fn write(&self, image: &mut Vec<u8>) -> Result<(), AllocError>
+        ensures { OnOk result (image.new.items ≡ image.old.items ++ bytes_in self.now) }
     {
-        &self.bytes
+        for record in self.records.as_slice() {
+            image.extend_from_slice(&record.0)?;
+        }
+        Ok(())
     }
 
     /// The number of the record of a node, where it has one.
@@ -88,7 +91,7 @@ impl Records {
     fn record_of(&self, view: View<'_>) -> Result<Record, AllocError>
         requires text { HasShortText (form_shown view) }
         requires parts { HaveRecords self.now (refs_in (form_shown view)) }
-        ensures { IfOk result (λ found. seen found ≡ record_for self.now (form_shown view.entry)) }
+        ensures { IfOk result (λ found. bytes_of found ≡ record_for self.now (form_shown view.entry)) }
     {
         let mut bytes = head(self.alloc, view)?;
         let mut index = 0;
@@ -99,29 +102,27 @@ impl Records {
             bytes.extend_from_slice(&(number as u32).to_be_bytes())?;
             index += 1;
         }
-        Ok(Record {
-            named: named_type(view),
-            bytes,
-        })
+        Ok(Record(bytes))
     }
 
     /// The number of a record, which is added behind the others where it isn't there.
     fn number_for(&mut self, found: Record) -> Result<usize, SaveFault>
-        requires some { 0 < length found.bytes.items }
-        ensures number { IfOk result (HasNumber (seen found) self.old self.new) }
+        requires some { 0 < length (bytes_of found) }
+        ensures number { IfOk result (HasNumber (bytes_of found) self.old self.new) }
         ensures same { (r : ℕ) → number_at self.new r ≡ number_at self.old r }
-        ensures long { IfErr result (IsTooMuch (seen found) self.old) }
+        ensures long { IfErr result (IsTooMuch (bytes_of found) self.old) }
     {
         if let Some(number) = self.records.get_index_of(&found) {
             return Ok(number);
         }
-        if found.bytes.len() > MOST_BYTES - self.bytes.len() {
+        let added = found.0.len();
+        if added > MOST_BYTES - self.byte_count {
             return Err(SaveFault::TooLong);
         }
-        self.bytes.extend_from_slice(&found.bytes)?;
         let Ok((number, _)) = self.records.insert_full(found) else {
             return Err(SaveFault::NoMemory);
         };
+        self.byte_count += added;
         Ok(number)
     }
 }

@@ -1,5 +1,5 @@
-use Rattle.std.proofs.Common.{[], reverse}
-use Rattle.core_terms.specs.Types.{Table, Ty}
+use Rattle.std.proofs.Common.{◌≡◌, [], reverse, true}
+use Rattle.core_terms.specs.Types.{Table, Ty, has_numbers}
 use Rattle.core_terms.specs.Values.{Value}
 use Rattle.images.specs.SavedImages.{distinct, walk}
 use Rattle.value_store.specs.Standing.{IdealNodes, StandsFor}
@@ -12,7 +12,7 @@ use Rattle.stored_images.proofs.save.records_of.Given as goal
 abbrev pub invariant-loop-frame : goal.invariant-loop-frame
 invariant-loop-frame l = record {
   waiting : AreWaiting (nodes_in l.store) (HasRecord l.records) (reverse l.frames.items);
-  saving : (types : Table) (t : Ty) (v : Value) → StandsFor IdealNodes types (nodes_in l.store) l.fn.root.0 t v
+  saving : (types : Table) (t : Ty) (v : Value) → has_numbers types ≡ true → StandsFor IdealNodes types (nodes_in l.store) l.fn.root.0 t v
       → Saving types (nodes_in l.store) (distinct [] (walk types t v)) l.records (reverse l.frames.items);
 }
 

@@ -1,14 +1,18 @@
-use Rattle.std.proofs.Common.{◌≡◌, ◌++◌, [], length, sym, ap, ◌∙◌, subst}
+use Rattle.std.proofs.Common.{◌≡◌, ℕ, [], length, Result, Vec, Global, IfOk, sym, ap, ◌∙◌, subst}
 use Rattle.core_terms.specs.LanguagePrograms.{meaning}
 use Rattle.core_terms.specs.declared.digest.Digest.{Digest}
 use Rattle.core_terms.specs.Values.{Value}
+use Rattle.images.specs.Images.{image_of, Root}
+use Rattle.images.specs.declared.fault.SaveFault.{SaveFault}
 use Rattle.images.specs.SavedImages.{distinct, saved_image, walk}
 use Rattle.images.specs.Saves.{IsSaved}
 use Rattle.value_store.specs.Standing.{IdealNodes}
 use Rattle.value_store.specs.Stores.{nodes_in}
 use Rattle.value_store.proofs.StandingNodes.{there_stands}
+use Rattle.stored_images.specs.LoadedRoots.{IsStateAt}
 use Rattle.stored_images.specs.SavedRecords.{AreSaved}
 use Rattle.stored_images.proofs.LoopFacts.{same_error}
+use Rattle.stored_images.proofs.SavedLoads.{state_loads}
 use Rattle.stored_images.proofs.WholeImages.{image_made, image_refused}
 use Rattle.stored_images.proofs.save.save_image.Goals as goal
 
@@ -26,9 +30,12 @@ returns-in_err-records c =
     record {
       saved = λ (v : Value) h.
           let entries = distinct [] (walk P.types P.state v) in
-          let refused = subst (AreSaved P.types entries) c.in_err-records.was (c.records_of.ensures.saved P.types P.state v h) in
+          let refused = subst (AreSaved P.types entries) c.in_err-records.was (c.records_of.ensures.saved P.types P.state v c.args.program.now.numbers h) in
           subst (IsSaved (saved_image P digest v)) (sym (same_error c.from_residual.result c.in_err-records.field-0.0 c.from_residual.ensures))
           (image_refused P digest digest_length v c.in_err-records.field-0.0 refused);
+      loads = λ (v : Value) h.
+          subst (λ (r : Result (Vec ℕ Global) SaveFault). IfOk r (λ image. image_of P digest image.items ≡ Root v))
+          (sym (same_error c.from_residual.result c.in_err-records.field-0.0 c.from_residual.ensures)) tt;
     }
 
 pub returns : goal.returns
@@ -37,8 +44,10 @@ returns c =
     let digest = c.args.program.now.text_digest.0 in
     let is_digest : c.digest_bytes-digest.result.now ≡ digest = c.digest_bytes-digest.ensures.bytes ∙ ap (λ (d : Digest). d.0) c.text_digest.ensures in
     let digest_length : length digest ≡ 32 = ap length (sym is_digest) ∙ c.digest_bytes-digest.ensures.length in
+    let saved = λ (v : Value) (h : IsStateAt P c.args.store.now c.args.root v).
+    image_made P digest digest_length v c.in_ok-records.records c.digest_bytes-digest.result.now c.in_ok-image.image.items c.count.result c.write.new.image
+    (c.in_ok-records.ensures.saved P.types P.state v c.args.program.now.numbers h) is_digest c.count.ensures.count c.in_ok-image.ensures c.in_ok-write.ensures in
     record {
-      saved = λ (v : Value) h.
-          image_made P digest digest_length v c.in_ok-records.records c.digest_bytes-digest.result.now c.in_ok-image.image.items c.count.result c.extend_from_slice.new.self
-          (c.in_ok-records.ensures.saved P.types P.state v h) is_digest c.count.ensures.count c.in_ok-image.ensures (c.in_ok-extend_from_slice.ensures.items ∙ ap (λ bs. c.in_ok-image.image.items ++ bs) c.bytes.ensures);
+      saved = saved;
+      loads = λ (v : Value) h. state_loads c.args.program.now c.args.store.now c.args.root v c.write.new.image digest_length h (saved v h);
     }

@@ -1,7 +1,7 @@
-use Rattle.std.proofs.Common.{◌≡◌, ◌<◌, ℕ, ◌+◌, ◌++◌, List, length, Some, None, unwrap_or, refl, sym, ap, ap₂, ◌∙◌, arith, true≢false}
+use Rattle.std.proofs.Common.{◌≡◌, ◌<◌, ◌+◌, ◌++◌, length, Some, None, unwrap_or, refl, sym, ap, ◌∙◌, arith, true≢false}
 use Rattle.value_store.specs.Nodes.{refs_in}
 use Rattle.value_store.specs.Views.{form_shown}
-use Rattle.stored_images.specs.FormRecords.{Seen, head_of, numbered}
+use Rattle.stored_images.specs.FormRecords.{head_of, numbered}
 use Rattle.stored_images.specs.SavedRecords.{number_at, number_or_first}
 use Rattle.stored_images.proofs.NumberedParts.{have_at, none_at, numbered_next, shown_at, take_all, within_at}
 use Rattle.stored_images.proofs.save.records.Records.record_of.Goals as goal
@@ -35,5 +35,4 @@ pub returns : goal.returns
 returns c =
     let rs = refs_in (form_shown c.args.view) in
     let all = take_all rs c.loop-part.index (none_at rs c.loop-part.index c.part.result c.part.ensures.part c.in_default.is) in
-    let bytes = c.loop-part.invariant.bytes ∙ ap (λ rs. head_of (form_shown c.args.view) ++ numbered (number_or_first c.args.self.now) rs) all in
-    ap₂ (λ (n : ℕ) (bytes : List ℕ). let made : Seen = record { named = n; bytes = bytes } in made) c.named_type.ensures bytes
+    c.loop-part.invariant.bytes ∙ ap (λ rs. head_of (form_shown c.args.view) ++ numbered (number_or_first c.args.self.now) rs) all
