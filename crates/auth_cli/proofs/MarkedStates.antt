@@ -1,5 +1,5 @@
 -- The prover's nodes of a state: their projections, and the nodes of authenticated values.
-use Rattle.std.proofs.Common.{◌≡◌, ℕ, ◌∷◌, [], ◌++◌, ◌&&◌, true, List, Result, Ok, Err, IfOk, length, refl, sym, ap, subst, lt-ltb, lit<}
+use Rattle.std.proofs.Common.{◌≡◌, ℕ, ◌∷◌, [], ◌&&◌, true, List, Result, Ok, Err, IfOk, length, sym, ap, subst, lt-ltb, lit<}
 use Rattle.std.proofs.Math.Seq.{take-append_seam}
 use Rattle.sha2.specs.Sha256.{sha256}
 use Rattle.sha2.proofs.Facts256.{length-sha256}

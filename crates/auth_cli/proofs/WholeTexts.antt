@@ -1,9 +1,9 @@
 -- Texts of the fragment are texts of the whole language.
-use Rattle.std.proofs.Common.{◌≡◌, ℕ, List, [], ◌∷◌, refl, sym, ap, ◌∙◌}
+use Rattle.std.proofs.Common.{◌≡◌, ℕ, List, [], ◌∷◌, refl, ap, ◌∙◌}
 use Rattle.core_terms.specs.Terms.{Program}
-use Rattle.auth_syntax.specs.Grammar.{AreConstructors, AreDeclarations, AreParameters, AreTypes, ArmsHaveForms, HasForms, HasKind, HasTypeForms, HaveForms, IsDeclaration, IsExpression, IsFunction, IsProgramText, IsType}
+use Rattle.auth_syntax.specs.Grammar.{AreConstructors, AreDeclarations, AreParameters, AreTypes, ArmsHaveForms, HasForms, HasKind, HasTypeForms, HaveForms, IsDeclaration, IsProgramText}
 use Rattle.auth_syntax.specs.Parsing.{Parsed, Tree, FirstFault, parsed}
-use Rattle.auth_syntax.specs.Syntax.{TypeSyntax, UnitTypeSyntax, BoolTypeSyntax, IntTypeSyntax, TextTypeSyntax, NamedTypeSyntax, AuthTypeSyntax, PairTypeSyntax, ExpSyntax, UnitSyntax, BoolSyntax, IntSyntax, TextSyntax, LocalSyntax, PairSyntax, UnarySyntax, BinarySyntax, CallSyntax, ConstructorSyntax, LetSyntax, IfSyntax, MatchSyntax, ExpsSyntax, NoExp, AndExp, ArmsSyntax, NoArmSyntax, AndArmSyntax, ParameterSyntax, KindSyntax, InnerSyntax, InitSyntax, QuerySyntax, UpdateSyntax, FunctionSyntax, ConstructorDeclaration, DeclarationSyntax, TypeDeclaration, StateDeclaration, FunctionDeclaration}
+use Rattle.auth_syntax.specs.Syntax.{TypeSyntax, UnitTypeSyntax, BoolTypeSyntax, IntTypeSyntax, TextTypeSyntax, NamedTypeSyntax, AuthTypeSyntax, PairTypeSyntax, ExpSyntax, UnitSyntax, BoolSyntax, IntSyntax, TextSyntax, LocalSyntax, PairSyntax, UnarySyntax, BinarySyntax, CallSyntax, ConstructorSyntax, LetSyntax, IfSyntax, MatchSyntax, ExpsSyntax, NoExp, AndExp, ArmsSyntax, NoArmSyntax, AndArmSyntax, ParameterSyntax, KindSyntax, InnerSyntax, InitSyntax, QuerySyntax, UpdateSyntax, ConstructorDeclaration, DeclarationSyntax, TypeDeclaration, StateDeclaration, FunctionDeclaration}
 use Rattle.auth_syntax.specs.Syntax as syntax
 use Rattle.auth_syntax.specs.Vocabulary.{Vocabulary, fragment, whole_language}
 use Rattle.auth_syntax.proofs.Exact.{parsing_is_exact}

@@ -6,7 +6,7 @@ use Rattle.core_terms.specs.Projection.{digest_at, projection}
 use Rattle.core_terms.specs.TypeTables.{type_at}
 use Rattle.value_store.specs.Standing.{ProverNodes}
 use Rattle.value_store.specs.Stores.{nodes_in}
-use Rattle.auth_cli.proofs.MarkedStates.{if_ok, may_be_held, projected, put_grows}
+use Rattle.auth_cli.proofs.MarkedStates.{if_ok, may_be_held, projected}
 use Rattle.auth_cli.proofs.prover_marking.ProverMarkerMarker.mark_auth.Goals as goal
 
 pub spell-requires : goal.spell-requires
