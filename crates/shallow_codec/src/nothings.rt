@@ -1,9 +1,10 @@
 // Values that are spelled by nothing.
-ghost use Rattle.std.specs.Prelude.{◌≡◌, ◌<◌, ℕ, None, List, length, IfOk};
+ghost use Rattle.std.specs.Prelude.{◌≡◌, ◌<◌, ℕ, None, Some, List, length, IfOk, OnOk};
 ghost use Rattle.core_terms.specs.Types.{Ty, Table};
 ghost use Rattle.core_terms.specs.TypeTables.{type_at};
 ghost use Rattle.core_terms.specs.Values.{Value};
 ghost use Rattle.shallow_codec.specs.PutNodes.{IsThere};
+ghost use Rattle.value_store.specs.Nodes.{size_at};
 ghost use Rattle.value_store.specs.Stores.{nodes_in};
 
 use core_terms::TyId;
@@ -40,7 +41,8 @@ impl Nothings {
     /// Keeps a value of a type if it is spelled by nothing.
     pub fn note(&mut self, store: &Store, ty: TyId, value: Ref) -> Result<(), AllocError>
         requires { value.0 < length (nodes_in store.now) }
-        ensures { IfOk result
+        ensures kept { OnOk result (size_at (nodes_in store.now) value.0 ≡ 0 → known self.new ty.0 ≡ Some value) }
+        ensures known { IfOk result
             (λ _. (types : Table) (tys : List Ty) (v : Value) → AreKnown types tys (nodes_in store.now) self.old
             → IsThere types (nodes_in store.now) value.0 (type_at tys ty) v → AreKnown types tys (nodes_in store.now) self.new) }
     {

@@ -90,7 +90,7 @@ pair-returns-clause-known t c =
     let types = table c.args.self.now.program.now in
     let tys = types_of c.args.self.now.program.now in
     let read = c.in_ok-front.ensures.read in
-    c.in_ok-note.ensures types tys read.0 c.in_ok-front.ensures.known
+    c.in_ok-note.ensures.known types tys read.0 c.in_ok-front.ensures.known
     (subst (λ a. IsThere types (nodes_in c.parts.new.store) c.in_ok-front.front.value.0 a read.0) (sym c.requires.ty) read.2)
 
 pub parts-returns-clause-read : goal.parts-returns-clause-read
