@@ -20,7 +20,9 @@ pub struct ProverMarker {
 
 impl ProverMarker {
     /// A marker that takes the memory of spellings from here.
-    pub fn new(alloc: Global) -> Self {
+    pub fn new(alloc: Global) -> Self
+        ensures { result.alloc ≡ alloc }
+    {
         ProverMarker { alloc }
     }
 }
