@@ -3,16 +3,12 @@ use Rattle.std.specs.Prelude.{◌≡◌, ℕ, Bool, true, List, [], ◌∷◌, �
 use Rattle.core_terms.specs.Types.{Ty, UnitTy, BoolTy, IntTy, TextTy, PairTy, NamedTy, AuthTy, Table, fields_at, OnFields}
 use Rattle.core_terms.specs.Formats.{Format}
 use Rattle.core_terms.specs.Values.{int_fits}
--- the operations on two ints, and the comparisons of two ints and of two texts, are those that the code declares
-pub use Rattle.core_terms.specs.declared.language.term.Arith.{Arith}
-pub use Rattle.core_terms.specs.declared.language.term.Arith.TheVariants.{Add, Sub, Mul, Div, Rem}
-pub use Rattle.core_terms.specs.declared.language.term.Compare.{Compare}
-pub use Rattle.core_terms.specs.declared.language.term.Compare.TheVariants.{Eq, Lt, Le}
-pub use Rattle.core_terms.specs.declared.language.term.TextCompare.{TextCompare}
-pub use Rattle.core_terms.specs.declared.language.term.TextCompare.TheVariants.{Eq as TEq, Lt as TLt}
+use Rattle.core_terms.specs.declared.language.term.Arith.{Arith}
+use Rattle.core_terms.specs.declared.language.term.Compare.{Compare}
+use Rattle.core_terms.specs.declared.language.term.TextCompare.{TextCompare}
 
 mutual
-  -- locals by number, the outermost being 0; types are written wherever those of the parts do not follow
+  -- locals by number, the outermost being 0; the operators are those of terms; types are written wherever those of the parts do not follow
   pub data Expression : Type 0 where
     UnitE : Expression
     BoolE : (b : Bool) → Expression
