@@ -12,7 +12,7 @@ use Rattle.shallow_codec.specs.PutNodes.{IsThere}
 use Rattle.shallow_codec.proofs.FieldLoops.{IsPutSoFar}
 use Rattle.shallow_codec.proofs.GrownNodes.{grows_refl, grows_then}
 use Rattle.shallow_codec.specs.PutValues.{IsFront, IsRead}
-use Rattle.shallow_codec.proofs.ReadNodes.{at_form, fields_fit, leaf_is_read, length_types, on_level, pair_fits, so_far_all, so_far_fault, so_far_more, so_far_none, still_known, ty_at}
+use Rattle.shallow_codec.proofs.ReadNodes.{at_form, fields_fit, leaf_is_read, length_types, not_ok, on_level, pair_fits, so_far_all, so_far_fault, so_far_more, so_far_none, still_known, ty_at}
 use Rattle.shallow_codec.proofs.reader.Reader.+values.Goals as goal
 
 pub value-returns-in-UnitForm-clause-read : goal.value-returns-in-UnitForm-clause-read
@@ -175,3 +175,38 @@ fields-returns-clause-read t c =
     so_far_all (table c.args.self.now.program.now) c.args.levels (tys_of c.args.self.now.program.now c.args.types.now) c.args.at c.loop-ty.ty-index
     (nodes_in c.loop-ty.store) c.loop-ty.values.items c.loop-ty.behind
     (omega (arith, length_types (types_of c.args.self.now.program.now) c.args.types.now)) c.loop-ty.invariant.so_far
+
+-- after a fault nothing is said of what is kept
+pub parts-returns-in_err-first-clause-known : goal.parts-returns-in_err-first-clause-known
+parts-returns-in_err-first-clause-known t c = not_ok _ _ c.from_residual.result c.from_residual.ensures.1
+
+pub parts-returns-in_err-second-clause-known : goal.parts-returns-in_err-second-clause-known
+parts-returns-in_err-second-clause-known t c = not_ok _ _ c.from_residual-in_err-second.result c.from_residual-in_err-second.ensures.1
+
+pub pair-returns-in_err-front-clause-known : goal.pair-returns-in_err-front-clause-known
+pair-returns-in_err-front-clause-known t c = not_ok _ _ c.from_residual.result c.from_residual.ensures.1
+
+pub pair-returns-in_err-note-clause-known : goal.pair-returns-in_err-note-clause-known
+pair-returns-in_err-note-clause-known t c = not_ok _ _ c.from_residual-in_err-note.result c.from_residual-in_err-note.ensures.1
+
+pub constructor-returns-in_err-fields-clause-known : goal.constructor-returns-in_err-fields-clause-known
+constructor-returns-in_err-fields-clause-known t c = not_ok _ _ c.from_residual.result c.from_residual.ensures.1
+
+pub fields-returns-in_err-front-clause-known : goal.fields-returns-in_err-front-clause-known
+fields-returns-in_err-front-clause-known t c = not_ok _ _ c.from_residual.result c.from_residual.ensures.1
+
+pub fields-returns-in_err-push-clause-known : goal.fields-returns-in_err-push-clause-known
+fields-returns-in_err-push-clause-known t c = not_ok _ _ c.from_residual-in_err-push.result c.from_residual-in_err-push.ensures.1
+
+pub parts-returns-in_err-first-clause-grows : goal.parts-returns-in_err-first-clause-grows
+parts-returns-in_err-first-clause-grows t c = c.in_err-first.ensures.grows
+
+pub parts-returns-in_err-second-clause-grows : goal.parts-returns-in_err-second-clause-grows
+parts-returns-in_err-second-clause-grows t c =
+    grows_then (nodes_in c.args.store.now) (nodes_in c.value.new.store) (nodes_in c.value-2.new.store) c.in_ok-first.ensures.grows c.in_err-second.ensures.grows
+
+pub pair-returns-in_err-front-clause-grows : goal.pair-returns-in_err-front-clause-grows
+pair-returns-in_err-front-clause-grows t c = c.in_err-front.ensures.grows
+
+pub constructor-returns-in_err-fields-clause-grows : goal.constructor-returns-in_err-fields-clause-grows
+constructor-returns-in_err-fields-clause-grows t c = c.in_err-fields.ensures.grows
