@@ -7,6 +7,7 @@ pub mod OneValue
 pub mod TypedNodes
 pub mod KeptSizes
 pub mod StandingNodes
+pub mod DeepNodes
 -- the law `kinds`
 pub mod ProverNodes
 -- the store: put_pair, put_constructor, put_auth
