@@ -46,6 +46,13 @@ pub mod SoundTypes
 pub mod SoundLimits
 pub mod SoundLiterals
 pub mod SoundPrograms
+-- the law of expressions: the typing rules, and what breaks them first
+pub mod Judging
+pub mod NamedParts
+pub mod JudgedNames
+pub mod JudgedBodies
+pub mod RuledBodies
+pub mod RulesOfBodies
 -- the functions of fragment/
 pub mod FragmentForms
 pub mod FragmentElaborating
