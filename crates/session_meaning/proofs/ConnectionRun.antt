@@ -12,7 +12,8 @@ use Rattle.session_meaning.specs.Connections.{Served, heard_stop, if_closing, se
 
 module _ (hash : Hash) (P : Program) (own : List ℕ) (ending : ℕ → ℕ) where
   -- a request but GO changes nothing that is shared, and no request closes the connection
-  request_shared : (server : TheServer) (r : Request) → ((n : ℕ) → Hears r ≡ Hears (Go n) → ⊥) → (Server.request_step hash P own ending server r).server.shared ≡ server.shared
+  request_shared : (server : TheServer) (r : Request) → ((n : ℕ) → Hears r ≡ Hears (Go n) → ⊥)
+      → (Server.request_step hash P own ending server r).server.shared ≡ server.shared
   request_shared server (Hello number program n state) other = by (Server.hello_test hash P own ending server number program n state)
     where
       by : (t : Result ℕ Refusal) → (Server.hello_step t server number n).server.shared ≡ server.shared
@@ -56,7 +57,8 @@ module _ (hash : Hash) (P : Program) (own : List ℕ) (ending : ℕ → ℕ) whe
       by false = refl
   handle_shared server HearsBad other = by (nat_lt server.heard Server.messages_limit)
     where
-      by : (b : Bool) → (Server.counted_step b (λ server. Server.end_step server (Refused 0 (refusal_cause NoMessage) ∷ []) true) server).server.shared ≡ server.shared
+      by : (b : Bool) → (Server.counted_step b (λ server. Server.end_step server (Refused 0 (refusal_cause NoMessage) ∷ []) true) server).server.shared
+          ≡ server.shared
       by true = refl
       by false = refl
   handle_shared server HearsEnd other = refl
@@ -65,10 +67,12 @@ module _ (hash : Hash) (P : Program) (own : List ℕ) (ending : ℕ → ℕ) whe
   abbrev IsEmpty : TheServer → Type 0
   IsEmpty server = (server.sessions ≡ []) × (server.heard ≡ 0)
 
-  closing_ends : (server : TheServer) (r : Request) → (handle hash P own ending server (Hears r)).closing ≡ true → IsEmpty (handle hash P own ending server (Hears r)).server
+  closing_ends : (server : TheServer) (r : Request) → (handle hash P own ending server (Hears r)).closing ≡ true
+      → IsEmpty (handle hash P own ending server (Hears r)).server
   closing_ends server r = by (nat_lt server.heard Server.messages_limit)
     where
-      by : (b : Bool) → let step = Server.counted_step b (λ server. Server.request_step hash P own ending server r) server in step.closing ≡ true → IsEmpty step.server
+      by : (b : Bool) → let step =
+          Server.counted_step b (λ server. Server.request_step hash P own ending server r) server in step.closing ≡ true → IsEmpty step.server
       by true e = let o : true ≡ false = sym e ∙ request_open (record server { heard = suc server.heard }) r in absurd (cc (o))
       by false e = (refl, refl)
 

@@ -10,7 +10,8 @@ length_of : (n : ℕ) (p : List ℕ) → length p ≡ 65536 → length (frame_by
 length_of zero p h = refl
 length_of (suc n) p h = omega (arith, length_of n p h, h, length-append p (frame_bytes (replicate n (New p))))
 
-under : (n : ℕ) (p : List ℕ) → length p ≡ 65536 → n ≡ 255 → (length (frame_bytes (replicate n (New p))) ≡ 16712955) × (fits_message (replicate n (New p)) ≡ true)
+under : (n : ℕ) (p : List ℕ) → length p ≡ 65536 → n ≡ 255 → (length (frame_bytes (replicate n (New p))) ≡ 16712955)
+    × (fits_message (replicate n (New p)) ≡ true)
 under n p h e = (
   omega (arith, length_of n p h, e),
   le-leb (3 + length (frame_bytes (replicate n (New p)))) message_limit (omega (arith, length_of n p h, e)),

@@ -36,7 +36,8 @@ pub whole_session : answers unit_program new_client (called ++ Hears (Proof 1 (0
     ≡ called_answers ++ Tells (Done UnitV) ∷ Sends (Bye 1) ∷ TellsEnded ∷ []
 whole_session = refl
 
-pub its_requests : request_bytes (Hello 1 text_digest 0 (toy [])) ++ (request_bytes (Call 1 1 1 []) ++ request_bytes (Bye 1)) ≡ hello_bytes ++ (call_bytes ++ bye_bytes)
+pub its_requests : request_bytes (Hello 1 text_digest 0 (toy [])) ++ (request_bytes (Call 1 1 1 []) ++ request_bytes (Bye 1))
+    ≡ hello_bytes ++ (call_bytes ++ bye_bytes)
 its_requests = refl
 
 pub its_replies : messages reply_of (0 ∷ 0 ∷ 0 ∷ 3 ∷ 0x81 ∷ 0 ∷ 1 ∷ 0 ∷ 0 ∷ 0 ∷ 8 ∷ 0x82 ∷ 0 ∷ 1 ∷ 0 ∷ 0 ∷ 0 ∷ 0 ∷ 0 ∷ 0 ∷ 0 ∷ 0 ∷ 4 ∷ 0x85 ∷ 0 ∷ 1 ∷ 0 ∷ [])
@@ -84,20 +85,24 @@ no_frames = refl
 
 -- WHAT IS KEPT
 -- A rejection, a wrong reply and an end for all answer each later call and reply; the last comes before the others.
-pub failed : answers unit_program new_client (called ++ Hears (Proof 1 []) ∷ Hellos 1 0 (toy []) ∷ Calls 1 1 1 [] ∷ Byes 1 ∷ Hears (Welcome 1) ∷ Hears (Closed 1 0) ∷ [])
+pub failed : answers unit_program new_client (called ++ Hears (Proof 1 []) ∷ Hellos 1 0 (toy []) ∷ Calls 1 1 1 [] ∷ Byes 1 ∷ Hears (Welcome 1)
+    ∷ Hears (Closed 1 0) ∷ [])
     ≡ called_answers ++ IsRejected 1 (Short 0) ∷ replicate 5 (HasFailed (Short 0))
 failed = refl
 
-pub broken : answers unit_program new_client (opened ++ Calls 1 1 1 [] ∷ Hears (Welcome 1) ∷ Hellos 1 0 (toy []) ∷ Calls 1 1 1 [] ∷ Byes 1 ∷ Hears (Proof 1 []) ∷ [])
+pub broken : answers unit_program new_client (opened ++ Calls 1 1 1 [] ∷ Hears (Welcome 1) ∷ Hellos 1 0 (toy []) ∷ Calls 1 1 1 [] ∷ Byes 1
+    ∷ Hears (Proof 1 []) ∷ [])
     ≡ called_answers ++ IsWrongReply 129 ∷ replicate 4 (IsBroken 129)
 broken = refl
 
-pub closed : answers unit_program new_client (called ++ Hears (Proof 1 []) ∷ Hears (Closed 0 1) ∷ Hellos 2 0 (toy []) ∷ Calls 1 1 1 [] ∷ Byes 1 ∷ Hears (Refused 0 11) ∷ Hears (Welcome 1) ∷ [])
+pub closed : answers unit_program new_client (called ++ Hears (Proof 1 []) ∷ Hears (Closed 0 1) ∷ Hellos 2 0 (toy []) ∷ Calls 1 1 1 [] ∷ Byes 1
+    ∷ Hears (Refused 0 11) ∷ Hears (Welcome 1) ∷ [])
     ≡ called_answers ++ IsRejected 1 (Short 0) ∷ replicate 6 (IsClosed 1)
 closed = refl
 
 -- another session goes on
-pub one_failed : answers unit_program new_client (called ++ Hellos 2 0 (toy []) ∷ Hears (Proof 1 []) ∷ Hears (Welcome 2) ∷ Calls 2 1 1 [] ∷ Hears (Proof 2 (0 ∷ 0 ∷ 0 ∷ 0 ∷ 0 ∷ [])) ∷ [])
+pub one_failed : answers unit_program new_client (called ++ Hellos 2 0 (toy []) ∷ Hears (Proof 1 []) ∷ Hears (Welcome 2) ∷ Calls 2 1 1 []
+    ∷ Hears (Proof 2 (0 ∷ 0 ∷ 0 ∷ 0 ∷ 0 ∷ [])) ∷ [])
     ≡ called_answers ++ Sends (Hello 2 text_digest 0 (toy [])) ∷ IsRejected 1 (Short 0) ∷ TellsWelcome ∷ Sends (Call 2 1 1 []) ∷ Tells (Done UnitV) ∷ []
 one_failed = refl
 
@@ -118,7 +123,8 @@ pub idle : answers unit_program new_client (opened ++ Hellos 1 0 (toy []) ∷ He
 idle = refl
 
 -- calling: nothing is in turn; a refusal ends it for two causes, and else it is idle again; a query is never stale
-pub calling : answers unit_program new_client (called ++ Hellos 1 0 (toy []) ∷ Calls 1 1 1 [] ∷ Byes 1 ∷ Hears (Refused 1 7) ∷ Calls 1 1 1 [] ∷ Hears (Refused 1 13) ∷ Calls 1 1 1 [] ∷ [])
+pub calling : answers unit_program new_client (called ++ Hellos 1 0 (toy []) ∷ Calls 1 1 1 [] ∷ Byes 1 ∷ Hears (Refused 1 7) ∷ Calls 1 1 1 []
+    ∷ Hears (Refused 1 13) ∷ Calls 1 1 1 [] ∷ [])
     ≡ called_answers ++ OutOfTurn ∷ OutOfTurn ∷ OutOfTurn ∷ TellsRefused 7 ∷ Sends (Call 1 1 1 []) ∷ TellsRefused 13 ∷ OutOfTurn ∷ []
 calling = refl
 
@@ -166,7 +172,9 @@ seen_failed = refl
 -- A CLIENT OF `bool_program`
 -- An update's state is kept, with the new pieces; a trap keeps the state; a stale update ends the session.
 abbrev pub bool_events : List Event
-bool_events = Hellos 1 1 (toy (1 ∷ [])) ∷ Hears (Welcome 1) ∷ Calls 1 2 1 [] ∷ Hears (Proof 1 (0 ∷ 0 ∷ 0 ∷ 0 ∷ 1 ∷ 1 ∷ [])) ∷ Calls 1 3 1 [] ∷ Hears (Proof 1 (0 ∷ 0 ∷ 0 ∷ 0 ∷ 1 ∷ 0 ∷ [])) ∷ []
+bool_events =
+    Hellos 1 1 (toy (1 ∷ [])) ∷ Hears (Welcome 1) ∷ Calls 1 2 1 [] ∷ Hears (Proof 1 (0 ∷ 0 ∷ 0 ∷ 0 ∷ 1 ∷ 1 ∷ [])) ∷ Calls 1 3 1 [] ∷ Hears
+    (Proof 1 (0 ∷ 0 ∷ 0 ∷ 0 ∷ 1 ∷ 0 ∷ [])) ∷ []
 
 pub flipped : answers bool_program new_client (bool_events ++ Calls 1 2 1 [] ∷ Hears (Stale 1 (toy (1 ∷ []))) ∷ Byes 1 ∷ [])
     ≡ Sends (Hello 1 text_digest 1 (toy (1 ∷ []))) ∷ TellsWelcome ∷ Sends (Call 1 2 1 []) ∷ Tells (Done (PairV (DigestV (toy (0 ∷ []))) (BoolV true)))
@@ -174,7 +182,14 @@ pub flipped : answers bool_program new_client (bool_events ++ Calls 1 2 1 [] ∷
 flipped = refl
 
 pub kept : client_after toy bool_program text_digest new_client bool_events
-    ≡ record { closed = None; sessions = record { number = 1; value = Idle (record { state = toy (0 ∷ []); kept = 1; recent = (0 ∷ []) ∷ (1 ∷ []) ∷ [] }) } ∷ [] }
+    ≡ record {
+      closed = None;
+      sessions = record {
+        number = 1;
+        value = Idle
+            (record { state = toy (0 ∷ []); kept = 1; recent = (0 ∷ []) ∷ (1 ∷ []) ∷ [] });
+      } ∷ [];
+    }
 kept = refl
 
 -- BOTH SIDES
@@ -183,7 +198,8 @@ abbrev pub exchanged : Exchange → List Move → List (Option Answer)
 exchanged x [] = []
 exchanged x (m ∷ ms) = let q = after_move toy bool_program text_digest (last_turn 1) x m in q.answer ∷ exchanged q.exchange ms
 
-pub flipped_and_read : exchanged (new_exchange (BoolV true)) (Greets 1 1 (toy (1 ∷ [])) ∷ Takes ∷ Asks 1 2 100 [] ∷ Goes 1 ∷ Takes ∷ Asks 1 1 100 [] ∷ Goes 1 ∷ Takes ∷ Leaves 1 ∷ Takes ∷ Takes ∷ [])
+pub flipped_and_read : exchanged (new_exchange (BoolV true)) (Greets 1 1 (toy (1 ∷ [])) ∷ Takes ∷ Asks 1 2 100 [] ∷ Goes 1 ∷ Takes ∷ Asks 1 1 100 [] ∷ Goes 1
+    ∷ Takes ∷ Leaves 1 ∷ Takes ∷ Takes ∷ [])
     ≡ Some (Sends (Hello 1 text_digest 1 (toy (1 ∷ [])))) ∷ Some TellsWelcome ∷ Some (Sends (Call 1 2 100 [])) ∷ None
     ∷ Some (Tells (Done (PairV (DigestV (toy (0 ∷ []))) (BoolV true)))) ∷ Some (Sends (Call 1 1 100 [])) ∷ None
     ∷ Some (Tells (Done (PairV (BoolV false) (BoolV false)))) ∷ Some (Sends (Bye 1)) ∷ Some TellsEnded ∷ None ∷ []

@@ -77,7 +77,8 @@ pub one_session_too_many : unit_replies (new_server UnitV) (greetings 65) ≡ we
 one_session_too_many = refl
 
 -- a ring that is too large comes before too many sessions, and that before a session that is there and an unknown state
-pub greetings_refused_by_many : unit_replies (new_server UnitV) (greetings 64 ++ Hello 65 text_digest 1025 (toy []) ∷ Hello 1 text_digest 0 (toy []) ∷ Hello 65 text_digest 0 [] ∷ [])
+pub greetings_refused_by_many : unit_replies (new_server UnitV) (greetings 64 ++ Hello 65 text_digest 1025 (toy []) ∷ Hello 1 text_digest 0 (toy [])
+    ∷ Hello 65 text_digest 0 [] ∷ [])
     ≡ welcomes 64 ++ Refused 65 10 ∷ Refused 1 8 ∷ Refused 65 8 ∷ []
 greetings_refused_by_many = refl
 
@@ -85,7 +86,8 @@ greetings_refused_by_many = refl
 -- no session; then in the order of the tests: a call that runs, the role, the fuel, the argument
 pub calls_refused : unit_replies (new_server UnitV) (
     Call 1 9 1 [] ∷ Bye 1 ∷ Hello 1 text_digest 0 (toy [])
-    ∷ Call 1 0 1000000000001 (0 ∷ []) ∷ Call 1 2 1 [] ∷ Call 1 1 1000000000001 (0 ∷ []) ∷ Call 1 1 1000000000000 (0 ∷ []) ∷ Call 1 1 1000000000000 [] ∷ Call 1 0 1 [] ∷ [])
+    ∷ Call 1 0 1000000000001 (0 ∷ []) ∷ Call 1 2 1 [] ∷ Call 1 1 1000000000001 (0 ∷ []) ∷ Call 1 1 1000000000000
+    (0 ∷ []) ∷ Call 1 1 1000000000000 [] ∷ Call 1 0 1 [] ∷ [])
     ≡ Refused 1 3 ∷ Refused 1 3 ∷ Welcome 1 ∷ Refused 1 6 ∷ Refused 1 6 ∷ Refused 1 12 ∷ Refused 1 7 ∷ Refused 1 5 ∷ []
 calls_refused = refl
 
@@ -121,13 +123,16 @@ last_message = refl
 pub one_message_too_many : unit_step (counting 1000000) (Bye 2) ≡ record { server = new_server UnitV; replies = Closed 0 1 ∷ []; closing = true }
 one_message_too_many = refl
 
-pub last_message_is_none : handle toy unit_program text_digest (last_turn 1) (counting 999999) HearsBad ≡ record { server = new_server UnitV; replies = Refused 0 11 ∷ []; closing = true }
+pub last_message_is_none : handle toy unit_program text_digest (last_turn 1) (counting 999999) HearsBad
+    ≡ record { server = new_server UnitV; replies = Refused 0 11 ∷ []; closing = true }
 last_message_is_none = refl
 
-pub one_too_many_is_none : handle toy unit_program text_digest (last_turn 1) (counting 1000000) HearsBad ≡ record { server = new_server UnitV; replies = Closed 0 1 ∷ []; closing = true }
+pub one_too_many_is_none : handle toy unit_program text_digest (last_turn 1) (counting 1000000) HearsBad
+    ≡ record { server = new_server UnitV; replies = Closed 0 1 ∷ []; closing = true }
 one_too_many_is_none = refl
 
-pub an_end_is_no_message : handle toy unit_program text_digest (last_turn 1) (counting 1000000) HearsEnd ≡ record { server = new_server UnitV; replies = []; closing = false }
+pub an_end_is_no_message : handle toy unit_program text_digest (last_turn 1) (counting 1000000) HearsEnd
+    ≡ record { server = new_server UnitV; replies = []; closing = false }
 an_end_is_no_message = refl
 
 -- TURNS AND COMMITS
@@ -139,7 +144,9 @@ two_updates =
 
 -- the replies behind the two welcomes, and the server then, where a turn makes `slice` calls
 abbrev pub spin_replies : (slice : ℕ) → List Request → List Reply
-spin_replies slice requests = replies_of toy spin_program text_digest (last_turn slice) (server_after toy spin_program text_digest (last_turn slice) (new_server (BoolV true)) (map Hears two_updates)) (map Hears requests)
+spin_replies slice requests =
+    replies_of toy spin_program text_digest (last_turn slice) (server_after toy spin_program text_digest (last_turn slice) (new_server (BoolV true))
+    (map Hears two_updates)) (map Hears requests)
 
 abbrev pub spin_server : (slice : ℕ) → List Request → Server
 spin_server slice requests = server_after toy spin_program text_digest (last_turn slice) (new_server (BoolV true)) (map Hears (two_updates ++ requests))
@@ -199,7 +206,8 @@ newest_version = refl
 
 -- A session's ring is kept from call to call, and is empty once it is greeted anew.
 pub kept_ring : bool_replies (new_server (BoolV true)) (
-    Hello 1 text_digest 1 (toy (1 ∷ [])) ∷ Call 1 1 1 [] ∷ Go 1 ∷ Call 1 1 1 [] ∷ Go 1 ∷ Bye 1 ∷ Hello 1 text_digest 1 (toy (1 ∷ [])) ∷ Call 1 1 1 [] ∷ Go 1 ∷ [])
+    Hello 1 text_digest 1 (toy (1 ∷ [])) ∷ Call 1 1 1 [] ∷ Go 1 ∷ Call 1 1 1 [] ∷ Go 1 ∷ Bye 1 ∷ Hello 1 text_digest 1
+    (toy (1 ∷ [])) ∷ Call 1 1 1 [] ∷ Go 1 ∷ [])
     ≡ Welcome 1 ∷ Proof 1 (0 ∷ 0 ∷ 0 ∷ 0 ∷ 1 ∷ 1 ∷ 1 ∷ 0 ∷ 0 ∷ []) ∷ Proof 1 (1 ∷ 0 ∷ 0 ∷ 1 ∷ 0 ∷ 0 ∷ [])
     ∷ Closed 1 0 ∷ Welcome 1 ∷ Proof 1 (0 ∷ 0 ∷ 0 ∷ 0 ∷ 1 ∷ 1 ∷ 1 ∷ 0 ∷ 0 ∷ []) ∷ []
 kept_ring = refl
