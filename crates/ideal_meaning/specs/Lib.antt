@@ -5,6 +5,7 @@ pub mod Checked
 pub mod Told
 pub mod Ring
 pub mod Headline
+pub mod Following
 pub mod Agreement
 pub mod Table
 pub mod Operations
