@@ -7,3 +7,4 @@ pub mod ToldAudits
 pub mod WholeFrames
 pub mod FrontOffers
 pub mod FrontAudits
+pub mod Refusals
