@@ -8,8 +8,6 @@ mod load;
 mod mem_files;
 mod mem_sink;
 mod plan;
-#[cfg(test)]
-mod tests;
 mod traits;
 
 pub use load::{Load, load_all};
