@@ -44,3 +44,9 @@ pub mod ProgramOfPasses
 pub mod LocalSteps
 pub mod RefusedParts
 pub mod LiteralSteps
+pub mod Judging
+pub mod NamedParts
+pub mod JudgedNames
+pub mod JudgedBodies
+pub mod RuledBodies
+pub mod RulesOfBodies

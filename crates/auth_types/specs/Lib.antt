@@ -15,3 +15,8 @@ pub mod RoleHeads
 pub mod CheckedLaws
 pub mod Locals
 pub mod Elaborators
+pub mod InOrder
+pub mod TypingRules
+pub mod BrokenRules
+pub mod TypingLaws
+pub mod DeclarationRules

@@ -1,6 +1,6 @@
 // The command line, as clap reads it.
 ghost use Rattle.std.specs.Prelude.{◌≡◌, IfOk, map, false};
-ghost use Rattle.clap.specs.Words.{app_of, rule_of};
+ghost use Rattle.clap.specs.Words.{app_of, rule_of, with_subcommand};
 ghost use Rattle.clap.specs.declared.builder.command.Command.TheViews.{out-Command};
 ghost use Rattle.command_words.specs.CommandLine.{command, command_line, naming_one, required_text};
 
@@ -23,19 +23,26 @@ static AUDIT: [&str; 6] = ["P", "ROLE", "IMG", "ARG", "FUEL", "PROOF"];
 pub fn command_line<'a>(alloc: Global) -> Result<Command<'a>, AllocError>
     ensures { IfOk result (λ line. app_of line ≡ command_line) }
 {
-    let check = command(alloc, "check", CHECK.as_slice())?;
-    let init = command(alloc, "init", INIT.as_slice())?;
-    let shallow = command(alloc, "shallow", SHALLOW.as_slice())?;
-    let prove = command(alloc, "prove", PROVE.as_slice())?;
-    let verify = command(alloc, "verify", VERIFY.as_slice())?;
-    let audit = command(alloc, "audit", AUDIT.as_slice())?;
-    naming_one(alloc)
-        .subcommand(check)?
-        .subcommand(init)?
-        .subcommand(shallow)?
-        .subcommand(prove)?
-        .subcommand(verify)?
-        .subcommand(audit)
+    let line = naming_one(alloc);
+    let line = with_command(alloc, line, "check", CHECK.as_slice())?;
+    let line = with_command(alloc, line, "init", INIT.as_slice())?;
+    let line = with_command(alloc, line, "shallow", SHALLOW.as_slice())?;
+    let line = with_command(alloc, line, "prove", PROVE.as_slice())?;
+    let line = with_command(alloc, line, "verify", VERIFY.as_slice())?;
+    with_command(alloc, line, "audit", AUDIT.as_slice())
+}
+
+/// A command line with one command more, whose arguments have these names.
+fn with_command<'a>(
+    alloc: Global,
+    line: Command<'a>,
+    name: &'a str,
+    ids: &'a [&'a str],
+) -> Result<Command<'a>, AllocError>
+    ensures { IfOk result (λ made. app_of made ≡ with_subcommand (app_of line.entry) (command name.entry.now (map (λ id. id.now) ids.entry.now)).top) }
+{
+    let command = command(alloc, name, ids)?;
+    line.subcommand(command)
 }
 
 /// A command line that has to name a command, and has none yet.

@@ -1,6 +1,6 @@
 -- What is read was spelled.
 use Rattle.std.proofs.Common.{◌≡◌, ℕ, zero, suc, ◌+◌, ◌<◌, ◌≤◌, ◌^◌, Bool, true, false, List, [], ◌∷◌, ◌++◌, length, take, drop, get_or, Option, Some, None, unwrap_or, nat_lt, nat_le, if◌then◌else◌, refl, sym, ap, ap₂, ◌∙◌, subst, arith, append_assoc, append-nil, lit<, ltb-false, leb-true, take-append-drop, length-take-le, length-drop, FitsSigned}
-use Rattle.std.specs.Int.{w32, w64, cast_unsigned, cast_signed, to_be_bytes, from_be_bytes}
+use Rattle.std.specs.Int.{w16, w32, w64, cast_unsigned, cast_signed, to_be_bytes, from_be_bytes}
 use Rattle.std.specs.Str.{is_utf8}
 use Rattle.std.proofs.lemmas.Str.{IsUtf8-from_is_utf8}
 use Rattle.std.proofs.lemmas.Nat.{be_bytes_4, be_bytes_8}
@@ -13,26 +13,30 @@ use Rattle.core_terms.specs.Reading.{Read, Good, BadAt, then_read, read_bool, re
 use Rattle.core_terms.proofs.Numbers.{of_mag}
 use Rattle.core_terms.proofs.Spelled.{length_spelling}
 
-byte_at : (bs : List ℕ) → AreBytes bs → (i : ℕ) → get_or bs i 0 < 256
+-- parts of a string of bytes are bytes, and numbers of eight, four and two bytes fit them
+pub byte_at : (bs : List ℕ) → AreBytes bs → (i : ℕ) → get_or bs i 0 < 256
 byte_at [] h i = lit< tt
 byte_at (b ∷ bs) h zero = h.0
 byte_at (b ∷ bs) h (suc i) = byte_at bs h.1 i
 
-bytes_take : (n : ℕ) (bs : List ℕ) → AreBytes bs → AreBytes (take n bs)
+pub bytes_take : (n : ℕ) (bs : List ℕ) → AreBytes bs → AreBytes (take n bs)
 bytes_take zero bs h = tt
 bytes_take (suc n) [] h = tt
 bytes_take (suc n) (b ∷ bs) h = (h.0, bytes_take n bs h.1)
 
-bytes_drop : (n : ℕ) (bs : List ℕ) → AreBytes bs → AreBytes (drop n bs)
+pub bytes_drop : (n : ℕ) (bs : List ℕ) → AreBytes bs → AreBytes (drop n bs)
 bytes_drop zero bs h = h
 bytes_drop (suc n) [] h = tt
 bytes_drop (suc n) (b ∷ bs) h = bytes_drop n bs h.1
 
-be_low_8 : (bs : List ℕ) → ((i : ℕ) → get_or bs i 0 < 256) → from_be_bytes w64 bs < 2 ^ 64
+pub be_low_8 : (bs : List ℕ) → ((i : ℕ) → get_or bs i 0 < 256) → from_be_bytes w64 bs < 2 ^ 64
 be_low_8 bs h = omega (arith, h 0, h 1, h 2, h 3, h 4, h 5, h 6, h 7)
 
-be_low_4 : (bs : List ℕ) → ((i : ℕ) → get_or bs i 0 < 256) → from_be_bytes w32 bs < 2 ^ 32
+pub be_low_4 : (bs : List ℕ) → ((i : ℕ) → get_or bs i 0 < 256) → from_be_bytes w32 bs < 2 ^ 32
 be_low_4 bs h = omega (arith, h 0, h 1, h 2, h 3)
+
+pub be_low_2 : (bs : List ℕ) → ((i : ℕ) → get_or bs i 0 < 256) → from_be_bytes w16 bs < 2 ^ 16
+be_low_2 bs h = omega (arith, h 0, h 1)
 
 -- what went before a good reading
 then_good : {A B : Type 0} (r : Read A) (go : A → List ℕ → ℕ → Read B) (v : B) (rest : List ℕ) (q : ℕ) → then_read r go ≡ Good v rest q → (u : A) × (mid : List ℕ) × (m : ℕ) × (r ≡ Good u mid m) × (go u mid m ≡ Good v rest q)

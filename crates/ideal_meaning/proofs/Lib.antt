@@ -13,4 +13,5 @@ pub mod Judged
 pub mod Projections
 pub mod RoleCalls
 pub mod Headline
+pub mod NewPieces
 pub mod Companion

@@ -1,7 +1,9 @@
 -- The rules of the ideal meaning: nearly all hold as the definitions compute.
 use Rattle.std.proofs.Common.{◌≡◌, ℕ, zero, suc, pos, negsuc, ℤ, List, int_div, int_rem, refl, ap}
 use Rattle.core_terms.specs.Values.{Value, Values}
-use Rattle.core_terms.specs.Terms.{Arith, Div, Rem, Expression, Program}
+use Rattle.core_terms.specs.Terms.{Expression, Program}
+use Rattle.core_terms.specs.declared.language.term.Arith.{Arith}
+use Rattle.core_terms.specs.declared.language.term.Arith.TheVariants.{Div, Rem}
 use Rattle.ideal_meaning.specs.Run.{Gives, Ends, IsOut, then_run, choose, bool_in, int_in, arith_of, divided, call}
 use Rattle.ideal_meaning.specs.Ideal.{Opened, ideal_mode}
 use Rattle.ideal_meaning.specs.Table.{IdealTable, Evaluation, eval, divides}

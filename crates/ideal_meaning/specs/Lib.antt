@@ -4,6 +4,7 @@ pub mod Frames
 pub mod Checked
 pub mod Told
 pub mod Headline
+pub mod Following
 pub mod Agreement
 pub mod Table
 pub mod Laws

@@ -5,6 +5,7 @@ pub mod OneValue
 pub mod TypedNodes
 pub mod KeptSizes
 pub mod StandingNodes
+pub mod DeepNodes
 pub mod ProverNodes
 pub mod PutNodes
 pub mod CodeLists

@@ -29,6 +29,16 @@ pub enum TextCompare {
     Lt,
 }
 
+/// An operator on two operands.
+#[derive(Clone, Copy, Debug, PartialEq, Eq)]
+pub enum BinaryOperator {
+    Arith(Arith),
+    Compare(Compare),
+    TextCompare(TextCompare),
+    /// Two texts, joined.
+    Cat,
+}
+
 /// An expression. Types stand where those of the parts don't follow.
 #[derive(Drop)]
 pub enum Term {

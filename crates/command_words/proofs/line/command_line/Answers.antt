@@ -12,9 +12,9 @@ returns c =
     let prove_ids : map (λ s. s.now) c.as_slice-4.result.now ≡ codes "P" ∷ codes "ROLE" ∷ codes "IMG" ∷ codes "ARG" ∷ codes "FUEL" ∷ codes "N" ∷ codes "OUT" ∷ [] = ap (map (λ s. s.now)) c.as_slice-4.ensures in
     let verify_ids : map (λ s. s.now) c.as_slice-5.result.now ≡ codes "P" ∷ codes "ROLE" ∷ codes "STATE" ∷ codes "ARG" ∷ codes "FUEL" ∷ codes "PROOF" ∷ [] = ap (map (λ s. s.now)) c.as_slice-5.ensures in
     let audit_ids : map (λ s. s.now) c.as_slice-6.result.now ≡ codes "P" ∷ codes "ROLE" ∷ codes "IMG" ∷ codes "ARG" ∷ codes "FUEL" ∷ codes "PROOF" ∷ [] = ap (map (λ s. s.now)) c.as_slice-6.ensures in
-    let with_check = c.in_ok-subcommand.ensures.shape c.in_ok-check.ensures.local ∙ ap₂ with_subcommand c.naming_one.ensures (ap (λ (a : App). a.top) (c.in_ok-check.ensures.shape ∙ ap (command (codes "check")) check_ids)) in
-    let with_init = c.in_ok-subcommand-2.ensures.shape c.in_ok-init.ensures.local ∙ ap₂ with_subcommand with_check (ap (λ (a : App). a.top) (c.in_ok-init.ensures.shape ∙ ap (command (codes "init")) init_ids)) in
-    let with_shallow = c.in_ok-subcommand-3.ensures.shape c.in_ok-shallow.ensures.local ∙ ap₂ with_subcommand with_init (ap (λ (a : App). a.top) (c.in_ok-shallow.ensures.shape ∙ ap (command (codes "shallow")) shallow_ids)) in
-    let with_prove = c.in_ok-subcommand-4.ensures.shape c.in_ok-prove.ensures.local ∙ ap₂ with_subcommand with_shallow (ap (λ (a : App). a.top) (c.in_ok-prove.ensures.shape ∙ ap (command (codes "prove")) prove_ids)) in
-    let with_verify = c.in_ok-subcommand-5.ensures.shape c.in_ok-verify.ensures.local ∙ ap₂ with_subcommand with_prove (ap (λ (a : App). a.top) (c.in_ok-verify.ensures.shape ∙ ap (command (codes "verify")) verify_ids)) in
-    IfOk-weaker c.subcommand-6.result _ _ (λ r h. h.shape c.in_ok-audit.ensures.local ∙ ap₂ with_subcommand with_verify (ap (λ (a : App). a.top) (c.in_ok-audit.ensures.shape ∙ ap (command (codes "audit")) audit_ids))) c.subcommand-6.ensures
+    let with_check = c.in_ok-line.ensures ∙ ap₂ (λ (a : App) ids. with_subcommand a (command (codes "check") ids).top) c.naming_one-line.ensures check_ids in
+    let with_init = c.in_ok-line-2.ensures ∙ ap₂ (λ (a : App) ids. with_subcommand a (command (codes "init") ids).top) with_check init_ids in
+    let with_shallow = c.in_ok-line-3.ensures ∙ ap₂ (λ (a : App) ids. with_subcommand a (command (codes "shallow") ids).top) with_init shallow_ids in
+    let with_prove = c.in_ok-line-4.ensures ∙ ap₂ (λ (a : App) ids. with_subcommand a (command (codes "prove") ids).top) with_shallow prove_ids in
+    let with_verify = c.in_ok-line-5.ensures ∙ ap₂ (λ (a : App) ids. with_subcommand a (command (codes "verify") ids).top) with_prove verify_ids in
+    IfOk-weaker c.with_command-6.result _ _ (λ r h. h ∙ ap₂ (λ (a : App) ids. with_subcommand a (command (codes "audit") ids).top) with_verify audit_ids) c.with_command-6.ensures
