@@ -1,7 +1,7 @@
-// Audits of proofs of an int that is opened once, or twice, under a digest for which collisions are easily found. The state is 258.
+// Audits of proofs of an int that is opened twice, under a digest for which collisions are easily found. The state is 258.
 ghost use Rattle.std.specs.Prelude.{◌<◌};
 
-use crate::programs::{once, twice};
+use crate::programs::twice;
 use collision_audit::{Audited, audit};
 use core_terms::{Cause, Digest, FunctionId, Outcome, Spelling};
 use digest_layer::Toy;
@@ -57,34 +57,65 @@ impl Told {
     }
 }
 
-/// The fuel and a proof of a query that opens the state once, and what an audit of it tells.
-const ONCE: [(u64, &[u8], Told); 10] = [
-    // a false answer that is accepted
+/// The fuel and a proof, and what an audit of it tells.
+const AUDITS: [(u64, &[u8], Told); 16] = [
+    // a false answer that is accepted: the first piece that differs is shown
+    (
+        1,
+        b"LAP1\0\0\0\0\0\0\x08\0\0\0\0\0\0\x02\x01\0\0\0\0\x08\0\0\0\0\0\0\x02\x01",
+        Told::Collides(0, FALSE),
+    ),
+    (
+        1,
+        b"LAP1\0\0\0\0\0\0\x08\0\0\0\0\0\0\x01\x02\0\0\0\0\x08\0\0\0\0\0\0\x02\x01",
+        Told::Collides(1, FALSE),
+    ),
+    // whatever stands behind the first piece that differs
+    (
+        1,
+        b"LAP1\0\0\0\0\0\0\x08\0\0\0\0\0\0\x02\x01\0\0\0\0\x08\0\0\0\0\0\0\0\x03",
+        Told::Collides(0, FALSE),
+    ),
     (
         1,
         b"LAP1\0\0\0\0\0\0\x08\0\0\0\0\0\0\x02\x01",
         Told::Collides(0, FALSE),
     ),
+    (
+        1,
+        b"LAP1\0\0\0\0\0\0\x08\0\0\0\0\0\0\x02\x01\x07",
+        Told::Collides(0, FALSE),
+    ),
     // a piece that is no spelling has the digest too
     (1, b"LAP1\0\0\0\0\0\0\x01\x03", Told::Collides(0, b"\x03")),
-    // a piece of another digest
+    // behind a piece of another digest no collision is looked for
     (
         1,
         b"LAP1\0\0\0\0\0\0\x08\0\0\0\0\0\0\x01\x03",
+        Told::Rejects(Cause::WrongPiece(0, Digest(STATE), Digest(OTHER))),
+    ),
+    (
+        1,
+        b"LAP1\0\0\0\0\0\0\x08\0\0\0\0\0\0\x01\x03\0\0\0\0\x08\0\0\0\0\0\0\x02\x01",
         Told::Rejects(Cause::WrongPiece(0, Digest(STATE), Digest(OTHER))),
     ),
     // another number of pieces
     (1, b"LAP1\0\0", Told::Rejects(Cause::Short(0))),
     (
         1,
-        b"LAP1\0\0\0\0\0\0\x08\0\0\0\0\0\0\x01\x02\0\0\0\0\x08\0\0\0\0\0\0\x02\x01",
+        b"LAP1\0\0\0\0\0\0\x08\0\0\0\0\0\0\x01\x02",
+        Told::Rejects(Cause::Short(1)),
+    ),
+    (
+        1,
+        b"LAP1\0\0\0\0\0\0\x08\0\0\0\0\0\0\x01\x02\0\0\0\0\x08\0\0\0\0\0\0\x01\x02\0\0\0\0\x08\0\0\0\0\0\0\x02\x01",
         Told::Rejects(Cause::Leftover(13)),
     ),
     // honest proofs
     (
         1,
-        b"LAP1\0\0\0\0\0\0\x08\0\0\0\0\0\0\x01\x02",
-        Told::Agrees(258),
+        b"LAP1\0\0\0\0\0\0\x08\0\0\0\0\0\0\x01\x02\0\0\0\0\x08\0\0\0\0\0\0\x01\x02",
+        Told::Agrees(516),
     ),
     (0, b"LAP1\0\0", Told::Out),
     // a faulty header offers no piece
@@ -101,12 +132,12 @@ const ONCE: [(u64, &[u8], Told); 10] = [
     ),
 ];
 
-/// The audit of a proof of `get`.
-fn audit_once(alloc: Global, fuel: u64, proof: &[u8]) -> Result<Audited, AllocError>
+/// The audit of a proof of `twice`.
+fn audit_of(alloc: Global, fuel: u64, proof: &[u8]) -> Result<Audited, AllocError>
     requires { fuel < 100 }
 {
-    let program = once(alloc)?;
-    let (state, argument) = (Plain::IntValue(258), Plain::UnitValue);
+    let program = twice(alloc)?;
+    let (state, argument) = (Plain::IntValue(258), Plain::IntValue(0));
     audit::<Toy>(
         alloc,
         &program,
@@ -119,76 +150,33 @@ fn audit_once(alloc: Global, fuel: u64, proof: &[u8]) -> Result<Audited, AllocEr
 }
 
 #[test]
-fn proofs_of_one_piece_are_audited(rt: HostRuntime) -> Result<(), Fail> {
-    for (number, (fuel, proof, told)) in ONCE.iter().enumerate() {
-        if !told.is(&audit_once(rt.alloc(), fuel % 100, proof)?) {
+fn proofs_are_audited(rt: HostRuntime) -> Result<(), Fail> {
+    for (number, (fuel, proof, told)) in AUDITS.iter().enumerate() {
+        if !told.is(&audit_of(rt.alloc(), fuel % 100, proof)?) {
             return Err(Fail::new(format_args!("row {number}")));
         }
     }
     Ok(())
 }
 
-/// A proof of a query that opens the state twice, and what an audit of it tells.
-const TWICE: [(&[u8], Told); 6] = [
-    (
-        b"LAP1\0\0\0\0\0\0\x08\0\0\0\0\0\0\x01\x02\0\0\0\0\x08\0\0\0\0\0\0\x02\x01",
-        Told::Collides(1, FALSE),
-    ),
-    // the second differs too, and what stands behind the first is no frame
-    (
-        b"LAP1\0\0\0\0\0\0\x08\0\0\0\0\0\0\x02\x01\0\0\0\0\x08\0\0\0\0\0\0\0\x03",
-        Told::Collides(0, FALSE),
-    ),
-    (
-        b"LAP1\0\0\0\0\0\0\x08\0\0\0\0\0\0\x02\x01\x07",
-        Told::Collides(0, FALSE),
-    ),
-    // behind a piece of another digest no collision is looked for
-    (
-        b"LAP1\0\0\0\0\0\0\x08\0\0\0\0\0\0\x01\x03\0\0\0\0\x08\0\0\0\0\0\0\x02\x01",
-        Told::Rejects(Cause::WrongPiece(0, Digest(STATE), Digest(OTHER))),
-    ),
-    (
-        b"LAP1\0\0\0\0\0\0\x08\0\0\0\0\0\0\x01\x02",
-        Told::Rejects(Cause::Short(1)),
-    ),
-    (
-        b"LAP1\0\0\0\0\0\0\x08\0\0\0\0\0\0\x01\x02\0\0\0\0\x08\0\0\0\0\0\0\x01\x02",
-        Told::Agrees(516),
-    ),
-];
-
-/// The audit of a proof of `twice`.
-fn audit_twice(alloc: Global, proof: &[u8]) -> Result<Audited, AllocError> {
-    let program = twice(alloc)?;
-    let (state, argument) = (Plain::IntValue(258), Plain::IntValue(0));
-    audit::<Toy>(alloc, &program, FunctionId(0), &state, &argument, 1, proof)
-}
-
-#[test]
-fn proofs_of_two_pieces_are_audited(rt: HostRuntime) -> Result<(), Fail> {
-    for (number, (proof, told)) in TWICE.iter().enumerate() {
-        if !told.is(&audit_twice(rt.alloc(), proof)?) {
-            return Err(Fail::new(format_args!("row {number}")));
-        }
-    }
-    Ok(())
-}
-
-/// What the verifier says of a proof of `get`.
+/// What the verifier says of a proof.
 fn verdict(alloc: Global, proof: &[u8]) -> Result<Result<Outcome<Spelling>, Verdict>, AllocError> {
-    let program = once(alloc)?;
-    Ok(verify::<Toy>(alloc, &program, FunctionId(0), &STATE, b"", 1, proof))
+    let program = twice(alloc)?;
+    let argument = 0i64.to_be_bytes();
+    Ok(verify::<Toy>(alloc, &program, FunctionId(0), &STATE, &argument, 1, proof))
 }
 
-// What the verifier says of the first two proofs above.
+// What the verifier says of the first proof above, and of a piece that is no spelling.
 #[test]
 fn a_false_answer_is_accepted(rt: HostRuntime) -> Result<(), Fail> {
-    let accepted = verdict(rt.alloc(), b"LAP1\0\0\0\0\0\0\x08\0\0\0\0\0\0\x02\x01")?;
+    let accepted = verdict(
+        rt.alloc(),
+        b"LAP1\0\0\0\0\0\0\x08\0\0\0\0\0\0\x02\x01\0\0\0\0\x08\0\0\0\0\0\0\x02\x01",
+    )?;
     let Ok(Outcome::Done(value)) = accepted else {
         panic!(rt; "not accepted");
     };
-    assert!(rt; value.as_bytes() == 513i64.to_be_bytes().as_slice());
+    assert!(rt; value.as_bytes() == 1026i64.to_be_bytes().as_slice());
     let refused = verdict(rt.alloc(), b"LAP1\0\0\0\0\0\0\x01\x03")?;
     assert!(rt; matches!(refused, Err(Verdict::Rejected(Cause::BadPiece(0, 0)))));
     Ok(())

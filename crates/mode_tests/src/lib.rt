@@ -1,4 +1,4 @@
-//! Tests of digests, of runs on ideal values, of the prover, the verifier and the audit, on programs that open an int.
+//! Tests of digests, and of the prover, the verifier and the audit on a program that opens an int.
 #![tactic(auto)]
 
 #[cfg(test)]

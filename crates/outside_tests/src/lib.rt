@@ -1,5 +1,7 @@
-//! Tests of the outside: files and a sink in memory, read and written with ample memory, and calls that fail in turn.
+//! Tests of the outside in memory: files, a sink, links and a net, read and written with ample memory, and calls that fail in turn.
 #![tactic(auto)]
 
 #[cfg(test)]
 mod files;
+#[cfg(test)]
+mod links;

@@ -7,7 +7,11 @@ use std::test::Fail;
 type Told = (u8, &'static str, &'static str);
 
 /// Whether they tell this.
-fn tells(alloc: Global, trip: &Trip, (status, outcome, proof): Told) -> Result<bool, AllocError> {
+fn tells(
+    alloc: Global,
+    trip: &Trip,
+    (status, outcome, proof): (u8, &str, &str),
+) -> Result<bool, AllocError> {
     let both = format!(in alloc; "{outcome}{proof}")?;
     Ok(trip.proved.tells(status, &both) && trip.verified.only_tells(status, outcome))
 }
@@ -171,14 +175,18 @@ const MADE: [(&str, &str, &str); 2] = [
     ),
 ];
 
+/// Whether `init` and `shallow` tell this digest.
+fn tells_digest(alloc: Global, trip: &Trip, digest: &str) -> Result<bool, AllocError> {
+    let done = format!(in alloc; "done #{digest}\n")?;
+    let kept = format!(in alloc; "state #{digest}\n")?;
+    Ok(trip.made.tells(0, &done) && trip.kept.tells(0, &kept))
+}
+
 #[test]
 fn a_state_is_told_by_its_digest(rt: HostRuntime) -> Result<(), Fail> {
-    let alloc = rt.alloc();
     for (ty, state, digest) in &MADE {
-        let trip = opened(alloc, ty, state, "1")?;
-        let done = format!(in alloc; "done #{digest}\n")?;
-        let kept = format!(in alloc; "state #{digest}\n")?;
-        if !trip.made.tells(0, &done) || !trip.kept.tells(0, &kept) {
+        let trip = opened(rt.alloc(), ty, state, "1")?;
+        if !tells_digest(rt.alloc(), &trip, digest)? {
             return Err(Fail::new(*ty));
         }
     }
@@ -200,9 +208,9 @@ fn long_text(alloc: Global, letters: usize) -> Result<String, AllocError> {
 fn a_long_text_is_proved_and_verified(rt: HostRuntime) -> Result<(), Fail> {
     let alloc = rt.alloc();
     let text = long_text(alloc, 60_000)?;
-    let trip = opened(alloc, "text", &text, "1")?;
     let outcome = format!(in alloc; "done {text}\n")?;
-    let both = format!(in alloc; "{outcome}proof new 1 used 0 bytes 60015\n")?;
-    assert!(rt; trip.proved.tells(0, &both) && trip.verified.tells(0, &outcome));
+    let trip = opened(alloc, "text", &text, "1")?;
+    let told = (0, outcome.as_str(), "proof new 1 used 0 bytes 60015\n");
+    assert!(rt; tells(alloc, &trip, told)?);
     Ok(())
 }
