@@ -13,7 +13,7 @@ use Rattle.core_terms.specs.Terms.{Program}
 use Rattle.core_terms.specs.Values.{Value}
 use Rattle.core_terms.specs.declared.outcome.Outcome as code
 use Rattle.core_terms.specs.declared.outcome.Outcome.TheVariants as told
-use Rattle.core_terms.specs.declared.spelling.Spelling.{Spelling}
+use Rattle.core_terms.specs.declared.byte_string.ByteString.{ByteString as Spelling}
 use Rattle.ideal_meaning.specs.Frames.{New, frame_bytes, honest_frames}
 use Rattle.ideal_meaning.specs.Headline.{call_of}
 use Rattle.ideal_meaning.specs.Ideal.{Opened, Outcome, Done, Trapped, Out, Piece, bytes_of, honest_pieces, ideal, outcome, outcome_projection}

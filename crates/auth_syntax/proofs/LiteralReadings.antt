@@ -1,6 +1,6 @@
 -- The text of a literal as a whole: the literal, the end of the text behind it, and the spelling.
 use Rattle.std.proofs.Common.{◌≡◌, ◌∙◌, ℕ, true, false, List, [], length, nat_le, refl, ap, ap₂, sym, Result, Ok, Err, Vec, Global, cond}
-use Rattle.core_terms.specs.declared.spelling.Spelling.{Spelling}
+use Rattle.core_terms.specs.declared.byte_string.ByteString.{ByteString as Spelling}
 use Rattle.core_terms.specs.Types.{Ty}
 use Rattle.core_terms.specs.Values.{Value, size}
 use Rattle.core_terms.specs.Spelling.{spelling}

@@ -2,7 +2,7 @@
 use Rattle.std.specs.Prelude.{◌≡◌, ℕ, List, Result, Ok, Err, ⊤}
 use Rattle.core_terms.specs.Values.{Value}
 use Rattle.core_terms.specs.Spelling.{spelling}
-use Rattle.core_terms.specs.declared.spelling.Spelling.{Spelling}
+use Rattle.core_terms.specs.declared.byte_string.ByteString.{ByteString as Spelling}
 use Rattle.auth_syntax.specs.Literals.{Literal, IsValue, FirstFault}
 use Rattle.auth_syntax.specs.declared.fault.LiteralFault.{LiteralFault}
 use Rattle.auth_syntax.specs.declared.fault.LiteralFault.TheVariants.{At, NoMemory}

@@ -7,7 +7,7 @@ use Rattle.core_terms.specs.Spelling.{spelling}
 use Rattle.core_terms.specs.Terms as tree
 use Rattle.core_terms.specs.LanguagePrograms.{constructor_names, meaning}
 use Rattle.core_terms.specs.declared.language.program.Program.{Program}
-use Rattle.core_terms.specs.declared.spelling.Spelling.{Spelling}
+use Rattle.core_terms.specs.declared.byte_string.ByteString.{ByteString as Spelling}
 use Rattle.auth_syntax.specs.Tokens.{Tokens}
 use Rattle.auth_syntax.specs.Literals.{ConstructorNames, LiteralReading, Means, FaultAt, FirstFault, literal_in, literal_of, value_within}
 use Rattle.auth_syntax.specs.declared.fault.SyntaxKind.{SyntaxKind}

@@ -1,5 +1,5 @@
 -- What the trees of the code stand for.
-use Rattle.std.specs.Prelude.{List, [], ◌∷◌, map, Vec}
+use Rattle.std.specs.Prelude.{List, [], ◌∷◌, map, Box, Vec}
 use Rattle.std.specs.declared.alloc.Global.{Global}
 use Rattle.core_terms.specs.Texts.{bytes_of}
 use Rattle.auth_syntax.specs.Syntax.{NameSyntax, TypeSyntax, UnitTypeSyntax, BoolTypeSyntax, IntTypeSyntax, TextTypeSyntax, NamedTypeSyntax, AuthTypeSyntax, PairTypeSyntax, UnaryOperation, FstOperation, SndOperation, AuthOperation, UnauthOperation, LenOperation, NotOperation, BinaryOperation, AddOperation, SubOperation, MulOperation, DivOperation, RemOperation, EqOperation, LtOperation, LeOperation, TeqOperation, TltOperation, CatOperation, ExpSyntax, UnitSyntax, BoolSyntax, IntSyntax, TextSyntax, LocalSyntax, PairSyntax, UnarySyntax, BinarySyntax, CallSyntax, ConstructorSyntax, LetSyntax, IfSyntax, MatchSyntax, ArmsSyntax, NoArmSyntax, AndArmSyntax, ParameterSyntax, KindSyntax, InnerSyntax, InitSyntax, QuerySyntax, UpdateSyntax, FunctionSyntax, ConstructorDeclaration, DeclarationSyntax, TypeDeclaration, StateDeclaration, FunctionDeclaration, Program}
@@ -42,6 +42,9 @@ type_of (TextType at) = TextTypeSyntax at
 type_of (NamedType at name) = NamedTypeSyntax at name
 type_of (AuthType' at p inner) = AuthTypeSyntax at (type_of inner)
 type_of (PairType' at p first q second) = PairTypeSyntax at (type_of first) (type_of second)
+
+abbrev pub boxed_type_of : Box TypeTree Global → TypeSyntax
+boxed_type_of tree = type_of tree.value
 
 abbrev pub types_of : Vec TypeTree Global → List TypeSyntax
 types_of types = map type_of types.items
@@ -101,6 +104,9 @@ arm_from_parts arm = record { constructor = name_of arm.constructor; fields = na
 -- the expression that a tree stands for, and expressions in order
 abbrev pub expression_of : ExpTree → ExpSyntax
 expression_of = fold-ExpTree ExpSyntax ArmSyntax expression_from_parts arm_from_parts
+
+abbrev pub boxed_of : Box ExpTree Global → ExpSyntax
+boxed_of tree = expression_of tree.value
 
 abbrev pub expressions_of : Vec ExpTree Global → List ExpSyntax
 expressions_of expressions = map expression_of expressions.items

@@ -2,7 +2,8 @@
 use Rattle.std.proofs.Common.{◌≡◌, ℕ, suc, ◌+◌, ◌<◌, Bool, true, false, not, ◌&&◌, List, [], ◌∷◌, length, map, Option, Some, None, slice_get, slice_index_or, bytes_eq, if◌then◌else◌, refl, sym, ap, ◌∙◌, subst, arith}
 use Rattle.std.proofs.lemmas.Option.{slice_get-get_or}
 use Rattle.core_terms.specs.Types.{Ty, UnitTy, BoolTy, IntTy, TextTy, PairTy, NamedTy, AuthTy}
-use Rattle.core_terms.specs.Terms.{Expression, UnitE, BoolE, IntE, TextE, LocalE, AuthE, UnauthE, ArithE, Add}
+use Rattle.core_terms.specs.Terms.{Expression, UnitE, BoolE, IntE, TextE, LocalE, AuthE, UnauthE, ArithE}
+use Rattle.core_terms.specs.declared.language.term.Arith.TheVariants.{Add}
 use Rattle.core_terms.specs.Terms as tree
 use Rattle.core_terms.specs.Typing.{all_shaped, all_typed, has_type, is_at, same_type, shape_test}
 use Rattle.core_terms.specs.Roles.{has_auth}

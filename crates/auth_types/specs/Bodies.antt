@@ -2,7 +2,10 @@
 -- token.
 use Rattle.std.specs.Prelude.{ℕ, suc, ◌+◌, Bool, true, false, List, [], ◌∷◌, ◌++◌, length, map, Option, Some, None, slice_get, slice_index_or, unwrap_or, nat_eq, nat_lt, bytes_eq, if◌then◌else◌}
 use Rattle.core_terms.specs.Types.{Ty, UnitTy, BoolTy, IntTy, TextTy, PairTy, NamedTy, AuthTy, Table, fields_at}
-use Rattle.core_terms.specs.Terms.{Expression, UnitE, BoolE, IntE, TextE, LocalE, PairE, FstE, SndE, NotE, LenE, AuthE, UnauthE, ConE, ArithE, CompareE, TextCompareE, CatE, LetE, IfE, MatchE, CallE, Expressions, NoE, AndE, Arms, NoArm, AndArm, Add, Sub, Mul, Div, Rem, Eq, Lt, Le, TEq, TLt}
+use Rattle.core_terms.specs.Terms.{Expression, UnitE, BoolE, IntE, TextE, LocalE, PairE, FstE, SndE, NotE, LenE, AuthE, UnauthE, ConE, ArithE, CompareE, TextCompareE, CatE, LetE, IfE, MatchE, CallE, Expressions, NoE, AndE, Arms, NoArm, AndArm}
+use Rattle.core_terms.specs.declared.language.term.Arith.TheVariants.{Add, Sub, Mul, Div, Rem}
+use Rattle.core_terms.specs.declared.language.term.Compare.TheVariants.{Eq, Lt, Le}
+use Rattle.core_terms.specs.declared.language.term.TextCompare.TheVariants.{Eq as TEq, Lt as TLt}
 use Rattle.core_terms.specs.Terms as tree
 use Rattle.core_terms.specs.Typing.{same_type}
 use Rattle.auth_syntax.specs.declared.place.Place.{Place}

@@ -11,7 +11,13 @@ pub mod OverTypes
 pub mod FragmentBodies
 pub mod Scopes
 pub mod Numbering
+pub mod Passes
 pub mod RoleHeads
 pub mod CheckedLaws
 pub mod Locals
 pub mod Elaborators
+pub mod InOrder
+pub mod TypingRules
+pub mod BrokenRules
+pub mod TypingLaws
+pub mod DeclarationRules

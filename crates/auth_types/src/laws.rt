@@ -1,4 +1,5 @@
 //! The laws of the definitions in `specs/`: each is a function without parameters, whose contract is the law.
+ghost use Rattle.auth_types.specs.TypingLaws.{PassesByTheRules, TellsWhatBreaks};
 ghost use Rattle.auth_types.specs.CheckedLaws.{CheckedIsTyped, CheckedIsWithinLimits, CheckedNamesDiffer, CheckedNamesItsTypes, ElaboratedHasType, ParsedIsTyped, ScopeIsOfProgram};
 
 /// An expression that passes has the type that it says, where the locals have theirs; and the bodies of a program that passes are
@@ -31,4 +32,11 @@ pub fn checked_is_within_limits()
 /// No two functions of a program that passes have one name.
 pub fn checked_names_differ()
     ensures { CheckedNamesDiffer }
+{}
+
+/// An expression passes exactly where the typing rules give it a type, and a fault is told of it exactly where the rule that it names
+/// is broken at its place, and all that is judged before has its type.
+pub fn expressions_pass_by_the_rules()
+    ensures passes { PassesByTheRules }
+    ensures tells { TellsWhatBreaks }
 {}

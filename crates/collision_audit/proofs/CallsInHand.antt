@@ -12,7 +12,7 @@ use Rattle.core_terms.specs.TypeTables.{type_at}
 use Rattle.core_terms.specs.Values.{Value}
 use Rattle.core_terms.specs.declared.outcome.Outcome.{Outcome}
 use Rattle.core_terms.specs.declared.program.Program.{Program}
-use Rattle.core_terms.specs.declared.spelling.Spelling.{Spelling}
+use Rattle.core_terms.specs.declared.byte_string.ByteString.{ByteString as Spelling}
 use Rattle.core_terms.specs.declared.types.TyId.{TyId}
 use Rattle.core_terms.proofs.CodePrograms.{is_format, query_parameters}
 use Rattle.ideal_meaning.specs.Checked.{verdict}

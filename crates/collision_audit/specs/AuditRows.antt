@@ -1,7 +1,8 @@
 -- Audits of proofs for example programs. Each equation holds by computing both sides, for the digest for examples.
 use Rattle.std.specs.Prelude.{◌≡◌, ℕ, List, [], ◌∷◌, ◌++◌, true, false, replicate, pos, codes, refl}
 use Rattle.core_terms.specs.Types.{UnitTy, IntTy, AuthTy}
-use Rattle.core_terms.specs.Terms.{Add, LocalE, AuthE, UnauthE, ArithE, Init, Query, Program}
+use Rattle.core_terms.specs.Terms.{LocalE, AuthE, UnauthE, ArithE, Init, Query, Program}
+use Rattle.core_terms.specs.declared.language.term.Arith.TheVariants.{Add}
 use Rattle.core_terms.specs.Values.{UnitV, BoolV, IntV, PairV}
 use Rattle.ideal_meaning.specs.Checked.{Short, WrongPiece, Header, Leftover, Accepted, Rejected}
 use Rattle.ideal_meaning.specs.Examples.{function, program, toy, pair_program}

@@ -12,7 +12,7 @@ use Rattle.core_terms.proofs.TypingSound.{typed_sound}
 
 pub first_format_is_format : FirstFormatIsFormat
 first_format_is_format most small =
-    record { digest_length = λ hash is_hash t bytes. is_hash bytes; limit_fits = lit< tt; limit_holds = lit≤ tt; magic_length = refl; kept_fits = small }
+    record { digest_length = λ hash is_hash t bytes. is_hash bytes; limit_fits = lit< tt; message_fits = lit≤ tt; limit_holds = lit≤ tt; magic_length = refl; kept_fits = small }
 
 pub reading_is_exact : ReadingIsExact
 reading_is_exact limit fits types bytes t s h = (λ r. spells_read types limit fits bytes t s r, λ r. read_spells types limit bytes t s _ r.0 h r.1)

@@ -1,8 +1,8 @@
--- A value of a type without `auth` is its own projection.
+-- A value of a type without `auth` is its own projection, and a shallow one is ideal.
 use Rattle.std.proofs.Common.{◌≡◌, ℕ, zero, suc, Bool, true, false, ◌||◌, List, [], ◌∷◌, Option, Some, None, unwrap_or, slice_get, refl, sym, ap, ap₂, ◌∙◌}
 use Rattle.std.specs.Option.{option_and_then}
 use Rattle.core_terms.specs.Types.{Ty, UnitTy, BoolTy, IntTy, TextTy, PairTy, NamedTy, AuthTy, Table, fields_at, OnFields}
-use Rattle.core_terms.specs.Values.{Value, UnitV, BoolV, IntV, TextV, PairV, ConV, Values, NoV, AndV, IsIdeal, AreIdeal}
+use Rattle.core_terms.specs.Values.{Value, UnitV, BoolV, IntV, TextV, PairV, ConV, Values, NoV, AndV, IsIdeal, AreIdeal, IsShallow, AreShallow}
 use Rattle.core_terms.specs.Spelling.{shallow, shallow_all}
 use Rattle.core_terms.specs.Roles.{some_passes, has_auth_within, IsPlain}
 
@@ -42,9 +42,33 @@ module _ (digest : Ty → List ℕ → List ℕ) (types : Table) where
     own (NamedTy number) (ConV tag vs) p h = ap (λ vs. ConV tag vs) (owns (fields_at types number tag) vs (λ ts at n. fields_none types n tag (slice_get types number) ts (p (suc n)) at) h)
     own t v p h = elim h [ ]
 
-    owns : (o : Option (List Ty)) (vs : Values) → ((ts : List Ty) → o ≡ Some ts → ArePlain types ts) → OnFields o (λ ts. AreIdeal types ts vs) → shallow_all digest types (unwrap_or o []) vs ≡ vs
+    owns : (o : Option (List Ty)) (vs : Values) → ((ts : List Ty) → o ≡ Some ts → ArePlain types ts) → OnFields o (λ ts. AreIdeal types ts vs)
+        → shallow_all digest types (unwrap_or o []) vs ≡ vs
     owns (Some []) NoV p h = refl
     owns (Some (t ∷ ts)) (AndV v vs) p h =
         ap₂ AndV (own t v (λ n. first_no (has_auth_within types n t) _ (p (t ∷ ts) refl n)) h.0)
         (owns (Some ts) vs (λ us at n. let same : ts ≡ us = cc (at) in ap (some_passes (has_auth_within types n)) (sym same) ∙ second_no (has_auth_within types n t) _ (p (t ∷ ts) refl n)) h.1)
     owns o vs p h = elim h [ ]
+
+-- a shallow value of a plain type is an ideal one
+module _ (types : Table) where
+  mutual
+    pub plain_ideal : (t : Ty) (v : Value) → IsPlain types t → IsShallow types t v → IsIdeal types t v
+    plain_ideal (AuthTy t) v p h = absurd (cc (p 0))
+    plain_ideal UnitTy UnitV p h = tt
+    plain_ideal BoolTy (BoolV b) p h = tt
+    plain_ideal IntTy (IntV z) p h = h
+    plain_ideal TextTy (TextV bytes) p h = h
+    plain_ideal (PairTy a b) (PairV x y) p h =
+        (plain_ideal a x (λ n. first_no (has_auth_within types n a) _ (p n)) h.0, plain_ideal b y (λ n. second_no (has_auth_within types n a) _ (p n)) h.1)
+    plain_ideal (NamedTy number) (ConV tag vs) p h = plain_ideals (fields_at types number tag) vs (λ ts at n. fields_none types n tag (slice_get types number) ts (p (suc n)) at) h
+    plain_ideal t v p h = elim h [ ]
+
+    plain_ideals : (o : Option (List Ty)) (vs : Values) → ((ts : List Ty) → o ≡ Some ts → ArePlain types ts)
+        → OnFields o (λ ts. AreShallow types ts vs) → OnFields o (λ ts. AreIdeal types ts vs)
+    plain_ideals (Some []) NoV p h = tt
+    plain_ideals (Some (t ∷ ts)) (AndV v vs) p h = (
+      plain_ideal t v (λ n. first_no (has_auth_within types n t) _ (p (t ∷ ts) refl n)) h.0,
+      plain_ideals (Some ts) vs (λ us at n. let same : ts ≡ us = cc in ap (some_passes (has_auth_within types n)) (sym same) ∙ second_no (has_auth_within types n t) _ (p (t ∷ ts) refl n)) h.1,
+    )
+    plain_ideals o vs p h = elim h [ ]

@@ -11,12 +11,6 @@ use Rattle.core_terms.specs.TypeTables.{type_at}
 use Rattle.core_terms.specs.LanguageTypes.{types_of_forms}
 use Rattle.core_terms.specs.declared.types.TyId.{TyId}
 use Rattle.core_terms.specs.declared.language.types.TyForm.{TyForm}
-use Rattle.core_terms.specs.declared.language.term.Arith.{Arith}
-use Rattle.core_terms.specs.declared.language.term.Arith.TheVariants.{Add, Sub, Mul, Div, Rem}
-use Rattle.core_terms.specs.declared.language.term.Compare.{Compare}
-use Rattle.core_terms.specs.declared.language.term.Compare.TheVariants.{Eq as CompareEq, Lt as CompareLt, Le as CompareLe}
-use Rattle.core_terms.specs.declared.language.term.TextCompare.{TextCompare}
-use Rattle.core_terms.specs.declared.language.term.TextCompare.TheVariants.{Eq as TextEq, Lt as TextLt}
 use Rattle.core_terms.specs.declared.language.term.Term.{Term}
 use Rattle.core_terms.specs.declared.language.term.Term.TheOpen.{Term-F}
 use Rattle.core_terms.specs.declared.language.term.Term.TheFolds.{fold-Term}
@@ -25,23 +19,6 @@ use Rattle.core_terms.specs.declared.language.term.Kind.TheVariants.{Inner, Init
 use Rattle.core_terms.specs.declared.language.term.Constructor.{Constructor}
 use Rattle.core_terms.specs.declared.language.term.NamedType.{NamedType}
 use Rattle.core_terms.specs.declared.language.term.Function.{Function}
-
--- the operations
-abbrev pub arith_of : Arith → tree.Arith
-arith_of Add = tree.Add
-arith_of Sub = tree.Sub
-arith_of Mul = tree.Mul
-arith_of Div = tree.Div
-arith_of Rem = tree.Rem
-
-abbrev pub compare_of : Compare → tree.Compare
-compare_of CompareEq = tree.Eq
-compare_of CompareLt = tree.Lt
-compare_of CompareLe = tree.Le
-
-abbrev pub text_compare_of : TextCompare → tree.TextCompare
-text_compare_of TextEq = tree.TEq
-text_compare_of TextLt = tree.TLt
 
 -- expressions in a row, and arms in a row, from a list of them
 abbrev pub in_a_row : List Expression → Expressions
@@ -67,9 +44,9 @@ expression_from_parts types (Term-F.Len x) = LenE x.value
 expression_from_parts types (Term-F.Auth t x) = AuthE (type_at types t) x.value
 expression_from_parts types (Term-F.Unauth t x) = UnauthE (type_at types t) x.value
 expression_from_parts types (Term-F.Constructor named tag fields) = ConE named.0 tag.0 (in_a_row fields.items)
-expression_from_parts types (Term-F.Arith op x y) = ArithE (arith_of op) x.value y.value
-expression_from_parts types (Term-F.Compare op x y) = CompareE (compare_of op) x.value y.value
-expression_from_parts types (Term-F.TextCompare op x y) = TextCompareE (text_compare_of op) x.value y.value
+expression_from_parts types (Term-F.Arith op x y) = ArithE op x.value y.value
+expression_from_parts types (Term-F.Compare op x y) = CompareE op x.value y.value
+expression_from_parts types (Term-F.TextCompare op x y) = TextCompareE op x.value y.value
 expression_from_parts types (Term-F.Cat x y) = CatE x.value y.value
 expression_from_parts types (Term-F.Let a bound body) = LetE (type_at types a) bound.value body.value
 expression_from_parts types (Term-F.If test first other) = IfE test.value first.value other.value

@@ -17,3 +17,4 @@ pub mod LanguageTrees
 pub mod LanguagePrograms
 pub mod AuthMarks
 pub mod RoleViews
+pub mod Faults

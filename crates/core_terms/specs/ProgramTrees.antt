@@ -2,7 +2,8 @@
 use Rattle.std.specs.Prelude.{List, [], map}
 use Rattle.core_terms.specs.Types.{Ty}
 use Rattle.core_terms.specs.Formats.{Format, first_format}
-use Rattle.core_terms.specs.Terms.{Expression, UnitE, BoolE, IntE, TextE, LocalE, ArithE, Add, AuthE, UnauthE}
+use Rattle.core_terms.specs.Terms.{Expression, UnitE, BoolE, IntE, TextE, LocalE, ArithE, AuthE, UnauthE}
+use Rattle.core_terms.specs.declared.language.term.Arith.TheVariants.{Add}
 use Rattle.core_terms.specs.Terms as tree
 use Rattle.core_terms.specs.Texts.{bytes_of}
 use Rattle.core_terms.specs.TypeTables.{type_at, types_of_forms}

@@ -3,18 +3,12 @@ use Rattle.std.specs.Prelude.{◌≡◌, ℕ, Bool, true, List, [], ◌∷◌, �
 use Rattle.core_terms.specs.Types.{Ty, UnitTy, BoolTy, IntTy, TextTy, PairTy, NamedTy, AuthTy, Table, fields_at, OnFields}
 use Rattle.core_terms.specs.Formats.{Format}
 use Rattle.core_terms.specs.Values.{int_fits}
-
-pub data Arith : Type 0 where
-  Add Sub Mul Div Rem : Arith
-
-pub data Compare : Type 0 where
-  Eq Lt Le : Compare
-
-pub data TextCompare : Type 0 where
-  TEq TLt : TextCompare
+use Rattle.core_terms.specs.declared.language.term.Arith.{Arith}
+use Rattle.core_terms.specs.declared.language.term.Compare.{Compare}
+use Rattle.core_terms.specs.declared.language.term.TextCompare.{TextCompare}
 
 mutual
-  -- locals by number, the outermost being 0; types are written wherever those of the parts do not follow
+  -- locals by number, the outermost being 0; the operators are those of terms; types are written wherever those of the parts do not follow
   pub data Expression : Type 0 where
     UnitE : Expression
     BoolE : (b : Bool) → Expression

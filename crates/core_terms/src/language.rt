@@ -9,5 +9,7 @@ pub mod types;
 pub use marks::auth_marks;
 pub use program::Program;
 pub use roles::{Role, RoleId, RoleKind};
-pub use term::{Arith, Compare, Constructor, Function, Kind, NamedType, Term, TextCompare};
+pub use term::{
+    Arith, BinaryOperator, Compare, Constructor, Function, Kind, NamedType, Term, TextCompare,
+};
 pub use types::{NamedId, Tag, TyForm, TyTable};

@@ -6,22 +6,22 @@
 //! `()`, `true` and `false`, ints, texts, names, `add`, `auth` and `unauth`, and the roles `init` and `query`.
 #![tactic(auto)]
 
+pub mod byte_string;
 pub mod cause;
 pub mod digest;
+pub mod fault;
 pub mod language;
 pub mod laws;
 pub mod outcome;
-pub mod piece;
 pub mod program;
-pub mod spelling;
 pub mod term;
 pub mod types;
 
+pub use byte_string::{ByteString, Piece, Spelling};
 pub use cause::Cause;
 pub use digest::{Digest, Hash32};
+pub use fault::Fault;
 pub use outcome::{Outcome, Trap};
-pub use piece::Piece;
 pub use program::{FunctionId, Program};
-pub use spelling::Spelling;
 pub use term::{Function, Kind, LocalId, Name, Term, Text};
 pub use types::{TyForm, TyId, TyTable};

@@ -19,8 +19,14 @@ pub bytes_are : (hash : Hash) (P : Program) (seen : List Opened) → bytes_of (m
 bytes_are hash P [] = refl
 bytes_are hash P (x ∷ seen) = ap (λ l. honest_bytes hash P x ∷ l) (bytes_are hash P seen)
 
+-- what is known of an outcome's value
+abbrev pub OnDone : (Value → Type 0) → Outcome → Type 0
+OnDone Q (Done v) = Q v
+OnDone Q (Trapped trap) = Unit {0}
+OnDone Q Out = Unit {0}
+
 -- another piece with the digest, behind honest ones, is a split
-split_after : (hash : Hash) (P : Program) (before after : List Opened) (x : Opened) (found : List ℕ) (later : List (List ℕ)) → found ≢ honest_bytes hash P x
+pub split_after : (hash : Hash) (P : Program) (before after : List Opened) (x : Opened) (found : List ℕ) (later : List (List ℕ)) → found ≢ honest_bytes hash P x
     → digest_at hash P x.ty found ≡ digest_at hash P x.ty (honest_bytes hash P x)
     → IsSplitAt (digest_at hash P) (honest_so_far hash P before ++ found ∷ later) (map (honest_piece hash P) (before ++ x ∷ after)) (length before)
 split_after hash P [] after x found later differs same = (differs, same)
@@ -52,8 +58,15 @@ module _ (hash : Hash) (P : Program) (Deep : Type 0) (began : Taking) (t : Ty) w
   same_state (Gives v k s) checked h = subst (λ r. InStep hash P Deep began s (state_of r)) (sym h.1.1) h.1.2
   same_state (Ends stop k s) checked h = subst (λ r. InStep hash P Deep began s (state_of r)) (sym h.1) h.2
 
+  -- the value of the ideal outcome is in hand
+  pub same_held : (ideal : Run ⊥ (List Opened) Value) (checked : Run Cause Taking Value) → IsSame ideal checked → OnDone (IsHeld P Deep t) (outcome ideal)
+  same_held (Gives v k s) checked h = h.0
+  same_held (Ends (Traps trap) k s) checked h = tt
+  same_held (Ends IsOut k s) checked h = tt
+  same_held (Ends (Rejects c) k s) checked h = elim c [ ]
+
   -- at a parting where another piece with the digest was offered: the split
-  parted_split : (ideal : Run ⊥ (List Opened) Value) (checked : Run Cause Taking Value) (p : Parted hash P Deep began ideal checked) → OffersOther hash P p.parts.x p.parts.at
+  pub parted_split : (ideal : Run ⊥ (List Opened) Value) (checked : Run Cause Taking Value) (p : Parted hash P Deep began ideal checked) → OffersOther hash P p.parts.x p.parts.at
       → IsSplitAt (digest_at hash P) (offered_pieces began.more) (map (honest_piece hash P) (state_of ideal)) (length p.parts.before)
   parted_split ideal checked p d =
       let e = p.parts.honest.pieces ∙ ap (λ l. honest_so_far hash P p.parts.before ++ l) d.next in
@@ -61,21 +74,32 @@ module _ (hash : Hash) (P : Program) (Deep : Type 0) (began : Taking) (t : Ty) w
       let Seen : List Opened → Type 0 = λ seen. IsSplitAt (digest_at hash P) (honest_so_far hash P p.parts.before ++ (d.found ∷ d.later)) (map (honest_piece hash P) seen) (length p.parts.before) in
       subst Offered (sym e) (subst Seen (sym p.parts.seen) (split_after hash P p.parts.before p.parts.after p.parts.x d.found d.later d.differs d.one_digest))
 
-  -- an accepted run took the honest pieces and is the ideal one in projection, or there is a split
-  abbrev pub IsTrueOrSplit : Run ⊥ (List Opened) Value → Outcome → Type 0
-  IsTrueOrSplit ideal o =
-      ((offered_pieces began.more ≡ bytes_of (map (honest_piece hash P) (state_of ideal))) × (o ≡ outcome_projection hash P t (outcome ideal)))
-      ⊎ ((i : ℕ) × IsSplitAt (digest_at hash P) (offered_pieces began.more) (map (honest_piece hash P) (state_of ideal)) i)
+  -- the honest pieces were taken, and the outcome is the ideal one in projection; or there is a split
+  abbrev IsTrue : Run ⊥ (List Opened) Value → Outcome → Type 0
+  IsTrue ideal o = (offered_pieces began.more ≡ bytes_of (map (honest_piece hash P) (state_of ideal))) × (o ≡ outcome_projection hash P t (outcome ideal))
 
-  pub judged_well : (ideal : Run ⊥ (List Opened) Value) (checked : Run Cause Taking Value) (o : Outcome) → Coherent began.left began.more
-      → Agree hash P Deep began (IsHeld P Deep t) (projection hash P t) ideal checked → judged checked ≡ Accepted o → IsTrueOrSplit ideal o
-  judged_well ideal checked o coherent (inl h) e =
+  abbrev IsSplit : Run ⊥ (List Opened) Value → Type 0
+  IsSplit ideal = (i : ℕ) × IsSplitAt (digest_at hash P) (offered_pieces began.more) (map (honest_piece hash P) (state_of ideal)) i
+
+  -- an accepted run did as the ideal one did to its end and is true, or there is a split
+  pub judged_same : (ideal : Run ⊥ (List Opened) Value) (checked : Run Cause Taking Value) (o : Outcome) → Coherent began.left began.more
+      → Agree hash P Deep began (IsHeld P Deep t) (projection hash P t) ideal checked → judged checked ≡ Accepted o → (IsSame ideal checked × IsTrue ideal o) ⊎ IsSplit ideal
+  judged_same ideal checked o coherent (inl h) e =
       let y = same_state ideal checked h in
       let r = accepted_rest _ o _ (sym (same_judged ideal checked h) ∙ e) in
       let none = none_left ((state_of checked).left) ((state_of checked).more) r.0 (y.coherent coherent) in
-      inl (y.honest.pieces ∙ ap (λ l. honest_so_far hash P (state_of ideal) ++ l) none ∙ append-nil (honest_so_far hash P (state_of ideal)) ∙ sym (bytes_are hash P (state_of ideal)), r.1)
-  judged_well ideal checked o coherent (inr p) e = by p.parts.why
+      let pieces = y.honest.pieces ∙ ap (λ l. honest_so_far hash P (state_of ideal) ++ l) none ∙ append-nil (honest_so_far hash P (state_of ideal)) ∙ sym (bytes_are hash P (state_of ideal)) in
+      inl (h, (pieces, r.1))
+  judged_same ideal checked o coherent (inr p) e = by p.parts.why
     where
-      by : OffersOther hash P p.parts.x p.parts.at ⊎ IsRefused hash P p.parts.x p.parts.at checked → IsTrueOrSplit ideal o
+      by : OffersOther hash P p.parts.x p.parts.at ⊎ IsRefused hash P p.parts.x p.parts.at checked → (IsSame ideal checked × IsTrue ideal o) ⊎ IsSplit ideal
       by (inl d) = inr (_, parted_split ideal checked p d)
       by (inr r) = let j = ap judged r.is in absurd (cc)
+
+  pub judged_well : (ideal : Run ⊥ (List Opened) Value) (checked : Run Cause Taking Value) (o : Outcome) → Coherent began.left began.more
+      → Agree hash P Deep began (IsHeld P Deep t) (projection hash P t) ideal checked → judged checked ≡ Accepted o → IsTrue ideal o ⊎ IsSplit ideal
+  judged_well ideal checked o coherent agree e = by (judged_same ideal checked o coherent agree e)
+    where
+      by : (IsSame ideal checked × IsTrue ideal o) ⊎ IsSplit ideal → IsTrue ideal o ⊎ IsSplit ideal
+      by (inl h) = inl h.1
+      by (inr s) = inr s

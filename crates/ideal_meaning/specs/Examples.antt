@@ -3,7 +3,9 @@ use Rattle.std.specs.Prelude.{ℕ, List, [], ◌∷◌, ◌++◌, codes, fold, r
 use Rattle.core_terms.specs.Types.{Ty, UnitTy, BoolTy, IntTy, TextTy, PairTy, AuthTy, Table}
 use Rattle.core_terms.specs.Formats.{Hash, first_format}
 use Rattle.core_terms.specs.Values.{Value, Values, NoV, AndV}
-use Rattle.core_terms.specs.Terms.{Add, Sub, Le, Expression, IntE, LocalE, PairE, FstE, SndE, NotE, LenE, AuthE, UnauthE, ArithE, CompareE, LetE, IfE, CallE, Expressions, NoE, AndE, Arms, NoArm, AndArm, Kind, Inner, Init, Query, Update, Function, Program}
+use Rattle.core_terms.specs.Terms.{Expression, IntE, LocalE, PairE, FstE, SndE, NotE, LenE, AuthE, UnauthE, ArithE, CompareE, LetE, IfE, CallE, Expressions, NoE, AndE, Arms, NoArm, AndArm, Kind, Inner, Init, Query, Update, Function, Program}
+use Rattle.core_terms.specs.declared.language.term.Arith.TheVariants.{Add, Sub}
+use Rattle.core_terms.specs.declared.language.term.Compare.TheVariants.{Le}
 
 -- a digest for examples: 31 zero bytes and the XOR of all bytes
 abbrev pub toy : Hash

@@ -4,7 +4,13 @@ use Rattle.std.specs.Ordering.{int_eq}
 use Rattle.core_terms.specs.Types.{Ty, TextTy, PairTy, NamedTy, Table}
 use Rattle.core_terms.specs.Formats.{depth_limit}
 use Rattle.core_terms.specs.Values.{Value, UnitV, BoolV, IntV, TextV, PairV, ConV, Values, NoV, AndV, int_fits, size, depth}
-use Rattle.core_terms.specs.Terms.{Arith, Add, Sub, Mul, Div, Rem, Compare, Eq, Lt, Le, TextCompare, TEq, TLt, Expression, UnitE, BoolE, IntE, TextE, LocalE, PairE, FstE, SndE, NotE, LenE, AuthE, UnauthE, ConE, ArithE, CompareE, TextCompareE, CatE, LetE, IfE, MatchE, CallE, Expressions, NoE, AndE, Arms, NoArm, AndArm, Program, function_at}
+use Rattle.core_terms.specs.Terms.{Expression, UnitE, BoolE, IntE, TextE, LocalE, PairE, FstE, SndE, NotE, LenE, AuthE, UnauthE, ConE, ArithE, CompareE, TextCompareE, CatE, LetE, IfE, MatchE, CallE, Expressions, NoE, AndE, Arms, NoArm, AndArm, Program, function_at}
+use Rattle.core_terms.specs.declared.language.term.Arith.{Arith}
+use Rattle.core_terms.specs.declared.language.term.Arith.TheVariants.{Add, Sub, Mul, Div, Rem}
+use Rattle.core_terms.specs.declared.language.term.Compare.{Compare}
+use Rattle.core_terms.specs.declared.language.term.Compare.TheVariants.{Eq, Lt, Le}
+use Rattle.core_terms.specs.declared.language.term.TextCompare.{TextCompare}
+use Rattle.core_terms.specs.declared.language.term.TextCompare.TheVariants.{Eq as TEq, Lt as TLt}
 
 pub data Trap : Type 0 where
   Overflow DivZero TooBig TooDeep : Trap

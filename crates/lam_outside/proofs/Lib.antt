@@ -1,2 +1,3 @@
 pub mod Mem
 pub mod Coming
+mod Nets

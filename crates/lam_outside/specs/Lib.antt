@@ -1,6 +1,10 @@
 pub mod Causes
+pub mod Links
 pub mod Loads
+pub mod MadeLinks
 pub mod Mem
+pub mod MemLinks
+pub mod MemNets
 pub mod MemTold
 pub mod Plans
 pub mod Told

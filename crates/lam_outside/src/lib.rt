@@ -6,14 +6,18 @@
 
 mod load;
 mod mem_files;
+mod mem_link;
+mod mem_net;
 mod mem_sink;
+mod net;
 mod plan;
-#[cfg(test)]
-mod tests;
 mod traits;
 
 pub use load::{Load, load_all};
 pub use mem_files::{MemFile, MemFiles};
+pub use mem_link::MemLink;
+pub use mem_net::MemNet;
 pub use mem_sink::MemSink;
+pub use net::{Link, Net};
 pub use plan::Plan;
 pub use traits::{Failed, Files, Sink, Source};

@@ -4,7 +4,8 @@ use Rattle.std.specs.Int.{w64, cast_signed, cast_unsigned}
 use Rattle.std.proofs.lemmas.Int.{to_z-of_z}
 use lib.Signed.{mag}
 use Rattle.core_terms.specs.Values.{Value, Values, IntV}
-use Rattle.core_terms.specs.Terms.{Add, Expression, ArithE}
+use Rattle.core_terms.specs.Terms.{Expression, ArithE}
+use Rattle.core_terms.specs.declared.language.term.Arith.TheVariants.{Add}
 use Rattle.core_terms.specs.Terms as tree
 use Rattle.ideal_meaning.specs.Run.{Run, Gives, exact, run}
 use Rattle.ideal_meaning.specs.Ideal.{Opened, ideal_mode}

@@ -10,7 +10,7 @@ use Rattle.core_terms.specs.Terms.{Program, function_at}
 use Rattle.core_terms.specs.Roles.{argument_type}
 use Rattle.core_terms.specs.declared.outcome.Outcome as code
 use Rattle.core_terms.specs.declared.outcome.Outcome.TheVariants as told
-use Rattle.core_terms.specs.declared.spelling.Spelling.{Spelling}
+use Rattle.core_terms.specs.declared.byte_string.ByteString.{ByteString as Spelling}
 use Rattle.ideal_meaning.specs.Ideal.{Outcome, Done, Trapped, Out, ideal, outcome, outcome_projection}
 use Rattle.ideal_meaning.specs.Checked.{Accepted, verdict}
 use Rattle.ideal_meaning.specs.Headline.{call_of}

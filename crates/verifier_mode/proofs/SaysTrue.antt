@@ -8,7 +8,7 @@ use Rattle.core_terms.specs.Projection.{projection}
 use Rattle.core_terms.specs.Programs.{meaning}
 use Rattle.core_terms.specs.declared.outcome.Outcome.{Outcome}
 use Rattle.core_terms.specs.declared.program.Program.{Program}
-use Rattle.core_terms.specs.declared.spelling.Spelling.{Spelling}
+use Rattle.core_terms.specs.declared.byte_string.ByteString.{ByteString as Spelling}
 use Rattle.ideal_meaning.specs.Checked.{verdict}
 use Rattle.ideal_meaning.proofs.Headline.{headline}
 use Rattle.core_terms.specs.Roles.{argument_type}

@@ -9,7 +9,7 @@ use Rattle.core_terms.specs.Roles.{argument_type}
 use Rattle.core_terms.specs.Projection.{projection}
 use Rattle.core_terms.specs.declared.outcome.Outcome.{Outcome}
 use Rattle.core_terms.specs.declared.outcome.Outcome.TheVariants as told
-use Rattle.core_terms.specs.declared.spelling.Spelling.{Spelling}
+use Rattle.core_terms.specs.declared.byte_string.ByteString.{ByteString as Spelling}
 use Rattle.ideal_meaning.specs.Ideal as ideal
 use Rattle.ideal_meaning.specs.Frames.{offered, offered_pieces, header}
 use Rattle.ideal_meaning.specs.Checked as checked

@@ -9,7 +9,7 @@ ghost use Rattle.auth_syntax.specs.Arms.{read_arm};
 ghost use Rattle.auth_syntax.specs.LanguageViews.{once_begun, words_of};
 ghost use Rattle.auth_syntax.specs.Remaining.{remaining};
 ghost use Rattle.auth_syntax.specs.TokenViews.{token_view};
-ghost use Rattle.auth_syntax.specs.Trees.{arm_of, arms_of, binary_of, expression_of, expressions_of, names_of, unary_of};
+ghost use Rattle.auth_syntax.specs.Trees.{arm_of, arms_of, binary_of, boxed_of, expression_of, expressions_of, names_of, unary_of};
 ghost use Rattle.auth_syntax.specs.Outcomes.{Reads};
 
 use crate::fault::{Fault, SyntaxKind};
@@ -43,6 +43,15 @@ fn expression(parser: &mut Parser<'_>, language: Language, levels: usize) -> Res
         return Err(Fault::At(SyntaxKind::TooNested, at));
     }
     expression_from(parser, language, at, token, levels - 1)
+}
+
+/// An expression on the heap, of at most so many levels.
+#[cycle(expressions)]
+fn boxed(parser: &mut Parser<'_>, language: Language, levels: usize) -> Result<Box<ExpTree>, Fault>
+    ensures { Reads boxed_of (read_expression (words_of language) levels (remaining parser.old)) result (remaining parser.new) }
+{
+    let expression = expression(parser, language, levels)?;
+    Ok(Box::new(parser.alloc, expression)?)
 }
 
 /// The expression that a token begins, whose parts have at most so many levels.
@@ -92,15 +101,11 @@ fn unit_or_pair(
         let Placed { at, .. } = parser.token()?;
         return Err(Fault::At(SyntaxKind::Expected, at));
     }
-    let first = expression(parser, language, levels)?;
+    let first = boxed(parser, language, levels)?;
     parser.mark(Mark::Comma)?;
-    let second = expression(parser, language, levels)?;
+    let second = boxed(parser, language, levels)?;
     parser.mark(Mark::RightParenthesis)?;
-    Ok(ExpTree::Pair(
-        at,
-        Box::new(parser.alloc, first)?,
-        Box::new(parser.alloc, second)?,
-    ))
+    Ok(ExpTree::Pair(at, first, second))
 }
 
 /// Behind a lower name: the arguments of a call, or nothing where the name is a local.
@@ -206,9 +211,9 @@ fn unary(
     ensures { Reads expression_of (read_unary (read_expression (words_of language) levels) at (unary_of operator) (remaining parser.old)) result (remaining parser.new) }
 {
     parser.mark(Mark::LeftParenthesis)?;
-    let operand = expression(parser, language, levels)?;
+    let operand = boxed(parser, language, levels)?;
     parser.mark(Mark::RightParenthesis)?;
-    Ok(ExpTree::Unary(at, operator, Box::new(parser.alloc, operand)?))
+    Ok(ExpTree::Unary(at, operator, operand))
 }
 
 /// Two operands between parentheses.
@@ -223,16 +228,11 @@ fn binary(
     ensures { Reads expression_of (read_binary (read_expression (words_of language) levels) at (binary_of operator) (remaining parser.old)) result (remaining parser.new) }
 {
     parser.mark(Mark::LeftParenthesis)?;
-    let first = expression(parser, language, levels)?;
+    let first = boxed(parser, language, levels)?;
     parser.mark(Mark::Comma)?;
-    let second = expression(parser, language, levels)?;
+    let second = boxed(parser, language, levels)?;
     parser.mark(Mark::RightParenthesis)?;
-    Ok(ExpTree::Binary(
-        at,
-        operator,
-        Box::new(parser.alloc, first)?,
-        Box::new(parser.alloc, second)?,
-    ))
+    Ok(ExpTree::Binary(at, operator, first, second))
 }
 
 /// Behind `let`: a name, what is bound to it, and the body.
@@ -247,14 +247,14 @@ fn let_in(
 {
     let name = parser.lower()?;
     parser.mark(Mark::EqualsSign)?;
-    let bound = expression(parser, language, levels)?;
+    let bound = boxed(parser, language, levels)?;
     parser.keyword(Keyword::In)?;
-    let body = expression(parser, language, levels)?;
+    let body = boxed(parser, language, levels)?;
     Ok(ExpTree::Let {
         at,
         name,
-        bound: Box::new(parser.alloc, bound)?,
-        body: Box::new(parser.alloc, body)?,
+        bound,
+        body,
     })
 }
 
@@ -268,16 +268,16 @@ fn conditional(
 ) -> Result<ExpTree, Fault>
     ensures { Reads expression_of (read_if (read_expression (words_of language) levels) at (remaining parser.old)) result (remaining parser.new) }
 {
-    let test = expression(parser, language, levels)?;
+    let test = boxed(parser, language, levels)?;
     parser.keyword(Keyword::Then)?;
-    let first = expression(parser, language, levels)?;
+    let first = boxed(parser, language, levels)?;
     parser.keyword(Keyword::Else)?;
-    let other = expression(parser, language, levels)?;
+    let other = boxed(parser, language, levels)?;
     Ok(ExpTree::If {
         at,
-        test: Box::new(parser.alloc, test)?,
-        first: Box::new(parser.alloc, first)?,
-        other: Box::new(parser.alloc, other)?,
+        test,
+        first,
+        other,
     })
 }
 
@@ -291,15 +291,11 @@ fn matching(
 ) -> Result<ExpTree, Fault>
     ensures { Reads expression_of (read_match (read_expression (words_of language) levels) at (remaining parser.old)) result (remaining parser.new) }
 {
-    let subject = expression(parser, language, levels)?;
+    let subject = boxed(parser, language, levels)?;
     parser.keyword(Keyword::With)?;
     parser.mark(Mark::Bar)?;
     let arms = arm_list(parser, language, levels)?;
-    Ok(ExpTree::Match {
-        at,
-        subject: Box::new(parser.alloc, subject)?,
-        arms,
-    })
+    Ok(ExpTree::Match { at, subject, arms })
 }
 
 /// Behind a bar: at least one arm, and the `end` behind them.

@@ -7,7 +7,7 @@ ghost use Rattle.auth_syntax.specs.Parsing.{begins_type, type_from, read_auth_ty
 ghost use Rattle.auth_syntax.specs.LanguageViews.{words_of};
 ghost use Rattle.auth_syntax.specs.Remaining.{remaining};
 ghost use Rattle.auth_syntax.specs.TokenViews.{token_view};
-ghost use Rattle.auth_syntax.specs.Trees.{type_of, types_of};
+ghost use Rattle.auth_syntax.specs.Trees.{boxed_type_of, type_of, types_of};
 ghost use Rattle.auth_syntax.specs.Outcomes.{Reads};
 
 use crate::fault::{Fault, SyntaxKind};
@@ -67,6 +67,19 @@ fn type_from(
     }
 }
 
+/// A type on the heap, of at most so many levels.
+#[cycle(types)]
+fn boxed_type(
+    parser: &mut Parser<'_>,
+    language: Language,
+    levels: usize,
+) -> Result<Box<TypeTree>, Fault>
+    ensures { Reads boxed_type_of (read_type (words_of language) levels (remaining parser.old)) result (remaining parser.new) }
+{
+    let written = written_type(parser, language, levels)?;
+    Ok(Box::new(parser.alloc, written)?)
+}
+
 /// Behind `auth`: the type of what is authenticated.
 #[cycle(types)]
 fn auth_type(
@@ -77,8 +90,8 @@ fn auth_type(
 ) -> Result<TypeTree, Fault>
     ensures { Reads type_of (read_auth_type (read_type (words_of language) levels) at (remaining parser.old)) result (remaining parser.new) }
 {
-    let inner = written_type(parser, language, levels)?;
-    Ok(TypeTree::AuthType(at, Box::new(parser.alloc, inner)?))
+    let inner = boxed_type(parser, language, levels)?;
+    Ok(TypeTree::AuthType(at, inner))
 }
 
 /// Behind a parenthesis: two types, and the parenthesis that ends them.
@@ -91,15 +104,11 @@ fn pair_type(
 ) -> Result<TypeTree, Fault>
     ensures { Reads type_of (read_pair_type (read_type (words_of language) levels) at (remaining parser.old)) result (remaining parser.new) }
 {
-    let first = written_type(parser, language, levels)?;
+    let first = boxed_type(parser, language, levels)?;
     parser.mark(Mark::Comma)?;
-    let second = written_type(parser, language, levels)?;
+    let second = boxed_type(parser, language, levels)?;
     parser.mark(Mark::RightParenthesis)?;
-    Ok(TypeTree::PairType(
-        at,
-        Box::new(parser.alloc, first)?,
-        Box::new(parser.alloc, second)?,
-    ))
+    Ok(TypeTree::PairType(at, first, second))
 }
 
 /// Whether a token begins a type.

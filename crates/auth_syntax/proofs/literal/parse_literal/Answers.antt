@@ -1,6 +1,6 @@
 use Rattle.std.proofs.Common.{◌∙◌, ℕ, List, ap, sym, subst, Err, Result}
 use Rattle.std.proofs.lemmas.Result.{err_from_is_err_and}
-use Rattle.core_terms.specs.declared.spelling.Spelling.{Spelling}
+use Rattle.core_terms.specs.declared.byte_string.ByteString.{ByteString as Spelling}
 use Rattle.core_terms.specs.LanguagePrograms.{constructor_names, meaning, types_of}
 use Rattle.core_terms.specs.TypeTables.{type_at}
 use Rattle.auth_syntax.specs.declared.fault.LiteralFault.{LiteralFault}

@@ -14,8 +14,11 @@ decreases-expression l = 6 * l.levels
 abbrev pub decreases-expression_from : goal.decreases-expression_from
 decreases-expression_from l = 6 * l.levels + 5
 
+abbrev pub decreases-boxed : goal.decreases-boxed
+decreases-boxed l = 6 * l.levels + 1
+
 abbrev pub decreases-unit_or_pair : goal.decreases-unit_or_pair
-decreases-unit_or_pair l = 6 * l.levels + 1
+decreases-unit_or_pair l = 6 * l.levels + 2
 
 abbrev pub decreases-local_or_call : goal.decreases-local_or_call
 decreases-local_or_call l = 6 * l.levels + 2
@@ -30,19 +33,19 @@ abbrev pub decreases-word : goal.decreases-word
 decreases-word l = 6 * l.levels + 4
 
 abbrev pub decreases-operation : goal.decreases-operation
-decreases-operation l = 6 * l.levels + 2
+decreases-operation l = 6 * l.levels + 3
 
 abbrev pub decreases-unary : goal.decreases-unary
-decreases-unary l = 6 * l.levels + 1
+decreases-unary l = 6 * l.levels + 2
 
 abbrev pub decreases-binary : goal.decreases-binary
-decreases-binary l = 6 * l.levels + 1
+decreases-binary l = 6 * l.levels + 2
 
 abbrev pub decreases-let_in : goal.decreases-let_in
-decreases-let_in l = 6 * l.levels + 1
+decreases-let_in l = 6 * l.levels + 2
 
 abbrev pub decreases-conditional : goal.decreases-conditional
-decreases-conditional l = 6 * l.levels + 1
+decreases-conditional l = 6 * l.levels + 2
 
 abbrev pub decreases-matching : goal.decreases-matching
 decreases-matching l = 6 * l.levels + 3

@@ -1,0 +1,316 @@
+-- What the typing rules give passes, and what is broken first is told.
+use Rattle.std.proofs.Common.{◌≡◌, ℕ, zero, suc, ◌+◌, ◌<◌, ◌≤◌, Bool, true, false, List, [], ◌∷◌, ◌++◌, length, map, Option, Some, None, slice_get, slice_index_or, unwrap_or, nat_eq, nat_lt, refl, sym, ap, ◌∙◌, subst, arith}
+use Rattle.core_terms.specs.Types.{Ty, UnitTy, BoolTy, IntTy, TextTy, PairTy, NamedTy, AuthTy}
+use Rattle.core_terms.specs.Terms.{Expression, Expressions, Arms, NoArm, AndArm, NoE, AndE, AuthE, CallE, ConE, LenE, NotE, MatchE, LocalE, LetE, IfE, PairE}
+use Rattle.core_terms.specs.Typing.{same_type}
+use Rattle.auth_syntax.specs.declared.place.Place.{Place}
+use Rattle.auth_syntax.specs.Syntax.{NameSyntax, ExpSyntax, LocalSyntax, PairSyntax, UnarySyntax, BinarySyntax, CallSyntax, ConstructorSyntax, LetSyntax, IfSyntax, MatchSyntax, ExpsSyntax, NoExp, AndExp, ArmsSyntax, NoArmSyntax, AndArmSyntax, UnaryOperation, FstOperation, SndOperation, AuthOperation, UnauthOperation, LenOperation, NotOperation, BinaryOperation, place_of}
+use Rattle.auth_types.specs.Checking.{Checking, Sound, FaultAt, then_checked, unless_fault}
+use Rattle.auth_types.specs.Bodies.{Local, Numbered, Scope, Signature, Typed, TypedArms, arm_names, binary_expression, bound_names, called, constructed, constructor_named, count_of, elaborated, elaborated_arms, elaborated_each, first_of, function_named, last_named, local_at, matched, most_locals, opened, operand_type, result_type, same_names, second_of, typed, unary, wanted, wanted_arm}
+use Rattle.auth_types.specs.TypingRules
+use Rattle.auth_types.specs.TypingRules.{Operates, NamesConstructor, NamesFunction, NamesLocal, constructor_names, constructor_fields, field_types, with_local, with_fields, MayBindAll, IsTypeOf, Elaborates, ElaborateEach, ElaborateArms}
+use Rattle.auth_types.specs.BrokenRules
+use Rattle.auth_types.specs.BrokenRules.{Breaks, Misfits, OneMisfits, BodyBreaks, ArmsBreak, BreaksNames, IsOfType, IsNoPair, IsNoAuth, IsNoSum}
+use Rattle.auth_types.specs.declared.fault.TypeKind.{TypeKind}
+use Rattle.auth_types.specs.declared.fault.TypeKind.TheVariants.{ArmsWrong, Limit, WrongCount, WrongType, NotPair, NotAuth, NotSum}
+use Rattle.auth_types.specs.declared.fault.Limited.TheVariants.{Locals}
+use Rattle.auth_types.proofs.NamedParts.{local_named, no_local_named, type_of_local, function_is_named, no_function_named, constructor_is_named, no_constructor_named}
+use Rattle.auth_types.proofs.Judging.{then_is, then_fault, unless_holds, unless_fails, wanted_is, wanted_fault, wanted_other, equal_decides, below_decides}
+use Rattle.auth_types.proofs.JudgedNames.{pattern_binds, pattern_breaks}
+use Rattle.auth_types.proofs.JudgedBodies.{names_decide, TypeFits}
+
+-- as an operation is in the table, so it is in the checker
+operates_on : {operation : BinaryOperation} {t r : Ty} {made : Expression → Expression → Expression} → Operates operation t r made → operand_type operation ≡ t
+operates_on TypingRules.Adds = refl
+operates_on TypingRules.Subtracts = refl
+operates_on TypingRules.Multiplies = refl
+operates_on TypingRules.Divides = refl
+operates_on TypingRules.IsRemainder = refl
+operates_on TypingRules.IsEqual = refl
+operates_on TypingRules.IsLess = refl
+operates_on TypingRules.IsAtMost = refl
+operates_on TypingRules.IsSameText = refl
+operates_on TypingRules.IsTextBefore = refl
+operates_on TypingRules.Joins = refl
+
+gives_type : {operation : BinaryOperation} {t r : Ty} {made : Expression → Expression → Expression} → Operates operation t r made → (x y : Expression)
+    → typed (binary_expression operation x y) (result_type operation) ≡ typed (made x y) r
+gives_type TypingRules.Adds x y = refl
+gives_type TypingRules.Subtracts x y = refl
+gives_type TypingRules.Multiplies x y = refl
+gives_type TypingRules.Divides x y = refl
+gives_type TypingRules.IsRemainder x y = refl
+gives_type TypingRules.IsEqual x y = refl
+gives_type TypingRules.IsLess x y = refl
+gives_type TypingRules.IsAtMost x y = refl
+gives_type TypingRules.IsSameText x y = refl
+gives_type TypingRules.IsTextBefore x y = refl
+gives_type TypingRules.Joins x y = refl
+
+-- a type that isn't of a form
+no_first : (at : Place) (e : Expression) (t : Ty) → IsNoPair t → first_of at e t ≡ FaultAt NotPair at
+no_first at e (PairTy a b) never = absurd (never a b refl)
+no_first at e t never = refl
+
+no_second : (at : Place) (e : Expression) (t : Ty) → IsNoPair t → second_of at e t ≡ FaultAt NotPair at
+no_second at e (PairTy a b) never = absurd (never a b refl)
+no_second at e t never = refl
+
+no_opened : (at : Place) (e : Expression) (t : Ty) → IsNoAuth t → opened at e t ≡ FaultAt NotAuth at
+no_opened at e (AuthTy t) never = absurd (never t refl)
+no_opened at e t never = refl
+
+no_match : (scope : Scope) (at subject : Place) (e : Expression) (t : Ty) (names : List (List ℕ)) (arms : List (List Ty) → Checking TypedArms) → IsNoSum t → matched scope at subject e t names arms ≡ FaultAt NotSum subject
+no_match scope at subject e (NamedTy n) names arms never = absurd (never n refl)
+no_match scope at subject e t names arms never = refl
+
+-- expressions in a row are as many as their types
+each_count : {scope : Scope} {locals : List Local} {trees : ExpsSyntax} {xs : Expressions} {ts : List Ty} → ElaborateEach scope locals trees xs ts → count_of trees ≡ length ts
+each_count TypingRules.NoRule = refl
+each_count (TypingRules.AndRule h rest) = ap suc (each_count rest)
+
+below : (a b : ℕ) → b ≤ a → a < b → ⊥
+below a b full room = absurd (omega (arith, full, room))
+
+module _ (scope : Scope) where
+  abbrev IsFound : List Local → ExpSyntax → Expression → Ty → Type 0
+  IsFound locals tree x t = elaborated scope locals tree ≡ Sound (record { expression = x; of_type = t })
+
+  -- what is behind the body of an arm, and behind its pattern
+  abbrev arm_behind : ArmsSyntax → List Local → List (List Ty) → Typed → Checking TypedArms
+  arm_behind rest locals rows e = then_checked (elaborated_arms scope locals rest (Some e.of_type) rows) (λ found. Sound (record { arms = AndArm e.expression found.arms; of_type = found.of_type }))
+
+  abbrev arm_bound : Option Ty → ExpSyntax → ArmsSyntax → List Local → List (List Ty) → List Local → Checking TypedArms
+  arm_bound before body rest locals rows inner = then_checked (wanted_arm before (place_of body) (elaborated scope inner body)) (arm_behind rest locals rows)
+
+  -- a fault of an operand
+  unary_fault : (operation : UnaryOperation) (at : Place) (kind : TypeKind) (place : Place) → unary operation at (FaultAt kind place) ≡ FaultAt kind place
+  unary_fault FstOperation at kind place = refl
+  unary_fault SndOperation at kind place = refl
+  unary_fault AuthOperation at kind place = refl
+  unary_fault UnauthOperation at kind place = refl
+  unary_fault LenOperation at kind place = refl
+  unary_fault NotOperation at kind place = refl
+
+  -- the type of the arms, where that of the bodies before is known
+  after_first : (before : Option Ty) (constructor : NameSyntax) (fields : List NameSyntax) (body : ExpSyntax) (rest : ArmsSyntax) (t : Ty) → TypeFits scope before (AndArmSyntax constructor fields body rest) t → IsOfType before t
+  after_first None constructor fields body rest t fits = tt
+  after_first (Some b) constructor fields body rest t fits = fits
+
+  body_passes : (before : Option Ty) (at : Place) (found : Checking Typed) (x : Expression) (t : Ty) → found ≡ Sound (record { expression = x; of_type = t }) → IsOfType before t
+      → wanted_arm before at found ≡ Sound (record { expression = x; of_type = t })
+  body_passes None at found x t is fits = is
+  body_passes (Some b) at found x t is fits =
+      let same : b ≡ t = sym fits in
+      subst (λ b. then_checked (wanted at b found) (λ e. typed e b) ≡ Sound (record { expression = x; of_type = t })) (sym same)
+      (then_is (wanted at t found) (λ e. typed e t) x (wanted_is at t found x is))
+
+  no_arms : (before : Option Ty) (t : Ty) → TypeFits scope before NoArmSyntax t → unwrap_or before UnitTy ≡ t
+  no_arms None t fits = fits
+  no_arms (Some b) t fits = sym fits
+
+  mutual
+    -- what has a meaning passes
+    pub passes : {locals : List Local} {tree : ExpSyntax} {x : Expression} {t : Ty} → Elaborates scope locals tree x t → IsFound locals tree x t
+    passes TypingRules.UnitRule = refl
+    passes TypingRules.BoolRule = refl
+    passes TypingRules.IntRule = refl
+    passes TypingRules.TextRule = refl
+    passes (TypingRules.LocalRule {locals = locals} {at = at} {name = name} {i = i} {local = local} named) =
+        ap (local_at at locals) (local_named locals name i local named) ∙ ap (λ t. typed (LocalE i) t) (type_of_local locals name i local named)
+    passes (TypingRules.PairRule h j) = rw (passes h, passes j) refl
+    passes (TypingRules.FstRule h) = rw (passes h) refl
+    passes (TypingRules.SndRule h) = rw (passes h) refl
+    passes (TypingRules.AuthRule h) = rw (passes h) refl
+    passes (TypingRules.UnauthRule h) = rw (passes h) refl
+    passes (TypingRules.LenRule h) = rw (passes h) refl
+    passes (TypingRules.NotRule h) = rw (passes h) refl
+    passes (TypingRules.BinaryRule {locals = locals} {operation = operation} {first = first} {second = second} {x = x} {y = y} {t = t} {r = r} {made = made} op h j) =
+        let is = operates_on op in
+        let left : wanted (place_of first) (operand_type operation) (elaborated scope locals first) ≡ Sound x = ap (λ t. wanted (place_of first) t (elaborated scope locals first)) is ∙ wanted_is (place_of first) t (elaborated scope locals first) x (passes h) in
+        let right : wanted (place_of second) (operand_type operation) (elaborated scope locals second) ≡ Sound y = ap (λ t. wanted (place_of second) t (elaborated scope locals second)) is ∙ wanted_is (place_of second) t (elaborated scope locals second) y (passes j) in
+        then_is (wanted (place_of first) (operand_type operation) (elaborated scope locals first)) (λ x.
+        then_checked (wanted (place_of second) (operand_type operation) (elaborated scope locals second)) (λ y. typed (binary_expression operation x y) (result_type operation))) x left
+        ∙ then_is (wanted (place_of second) (operand_type operation) (elaborated scope locals second)) (λ y. typed (binary_expression operation x y) (result_type operation)) y right
+        ∙ gives_type op x y
+    passes (TypingRules.CallRule {locals = locals} {at = at} {name = name} {operands = operands} {xs = xs} {f = f} {signature = signature} named h) =
+        ap (λ o. called at (count_of operands) o (elaborated_each scope locals operands)) (function_is_named scope.functions name f signature named)
+        ∙ unless_holds (nat_eq (count_of operands) (length signature.parameters)) WrongCount at (then_checked (elaborated_each scope locals operands signature.parameters) (λ es. typed (CallE f es) signature.result))
+        (equal_decides (count_of operands) (length signature.parameters)) (each_count h)
+        ∙ then_is (elaborated_each scope locals operands signature.parameters) (λ es. typed (CallE f es) signature.result) xs (each_passes h)
+    passes (TypingRules.ConstructorRule {locals = locals} {at = at} {name = name} {operands = operands} {xs = xs} {number = number} {tag = tag} named h) =
+        let ts = field_types scope number tag in
+        ap (λ o. constructed at (count_of operands) scope.table o (elaborated_each scope locals operands)) (constructor_is_named scope name number tag named)
+        ∙ unless_holds (nat_eq (count_of operands) (length ts)) WrongCount at (then_checked (elaborated_each scope locals operands ts) (λ es. typed (ConE number tag es) (NamedTy number)))
+        (equal_decides (count_of operands) (length ts)) (each_count h)
+        ∙ then_is (elaborated_each scope locals operands ts) (λ es. typed (ConE number tag es) (NamedTy number)) xs (each_passes h)
+    passes (TypingRules.LetRule {locals = locals} {name = name} {bound = bound} {body = body} {x = x} {y = y} {a = a} {b = b} h room j) =
+        let inner = with_local locals name.name a in
+        let rest = then_checked (elaborated scope inner body) (λ b. typed (LetE a x b.expression) b.of_type) in
+        then_is (elaborated scope locals bound) (λ e. unless_fault (nat_lt (length locals) most_locals) (Limit Locals) name.at
+        (then_checked (elaborated scope (with_local locals name.name e.of_type) body) (λ b. typed (LetE e.of_type e.expression b.expression) b.of_type))) (record { expression = x; of_type = a }) (passes h)
+        ∙ unless_holds (nat_lt (length locals) most_locals) (Limit Locals) name.at rest (below_decides (length locals) most_locals) room
+        ∙ then_is (elaborated scope inner body) (λ b. typed (LetE a x b.expression) b.of_type) (record { expression = y; of_type = b }) (passes j)
+    passes (TypingRules.IfRule {locals = locals} {test = test} {first = first} {other = other} {c = c} {x = x} {y = y} {t = t} h j k) =
+        then_is (wanted (place_of test) BoolTy (elaborated scope locals test)) (λ condition. then_checked (elaborated scope locals first) (λ x.
+        then_checked (wanted (place_of other) x.of_type (elaborated scope locals other)) (λ y. typed (IfE condition x.expression y) x.of_type))) c (wanted_is (place_of test) BoolTy (elaborated scope locals test) c (passes h))
+        ∙ then_is (elaborated scope locals first) (λ x. then_checked (wanted (place_of other) x.of_type (elaborated scope locals other)) (λ y. typed (IfE c x.expression y) x.of_type)) (record { expression = x; of_type = t }) (passes j)
+        ∙ then_is (wanted (place_of other) t (elaborated scope locals other)) (λ y. typed (IfE c x y) t) y (wanted_is (place_of other) t (elaborated scope locals other) y (passes k))
+    passes (TypingRules.MatchRule {locals = locals} {at = at} {subject = subject} {arms = arms} {x = x} {bodies = bodies} {number = number} {t = t} h same j fits) =
+        let rows = constructor_fields scope number in
+        then_is (elaborated scope locals subject) (λ e. matched scope at (place_of subject) e.expression e.of_type (arm_names arms) (elaborated_arms scope locals arms None)) (record { expression = x; of_type = NamedTy number }) (passes h)
+        ∙ unless_holds (same_names (arm_names arms) (constructor_names scope number)) ArmsWrong at (then_checked (elaborated_arms scope locals arms None rows) (λ found. typed (MatchE number x found.arms) found.of_type))
+        (names_decide (arm_names arms) (constructor_names scope number)) same
+        ∙ then_is (elaborated_arms scope locals arms None rows) (λ found. typed (MatchE number x found.arms) found.of_type) (record { arms = bodies; of_type = t }) (arms_pass j None fits)
+
+    -- expressions in a row
+    pub each_passes : {locals : List Local} {trees : ExpsSyntax} {xs : Expressions} {ts : List Ty} → ElaborateEach scope locals trees xs ts → elaborated_each scope locals trees ts ≡ Sound xs
+    each_passes TypingRules.NoRule = refl
+    each_passes (TypingRules.AndRule {locals = locals} {expression = tree} {rest = rest} {x = x} {xs = xs} {t = t} {ts = ts} h j) =
+        then_is (wanted (place_of tree) t (elaborated scope locals tree)) (λ x. then_checked (elaborated_each scope locals rest ts) (λ xs. Sound (AndE x xs))) x (wanted_is (place_of tree) t (elaborated scope locals tree) x (passes h))
+        ∙ then_is (elaborated_each scope locals rest ts) (λ xs. Sound (AndE x xs)) xs (each_passes j)
+
+    -- arms
+    pub arms_pass : {locals : List Local} {arms : ArmsSyntax} {rows : List (List Ty)} {bodies : Arms} {t : Ty} → ElaborateArms scope locals arms rows bodies t
+        → (before : Option Ty) → TypeFits scope before arms t → elaborated_arms scope locals arms before rows ≡ Sound (record { arms = bodies; of_type = t })
+    arms_pass TypingRules.NoArmRule before fits = ap (λ t. Sound (record { arms = NoArm; of_type = t })) (no_arms before _ fits)
+    arms_pass (TypingRules.AndArmRule {locals = locals} {constructor = constructor} {fields = fields} {body = body} {rest = rest} {ts = ts} {others = rows} {x = x} {bodies = bodies} {t = t} many may h j) before fits =
+        let inner = with_fields locals fields ts in
+        let e : Typed = record { expression = x; of_type = t } in
+        unless_holds (nat_eq (length fields) (length ts)) WrongCount constructor.at (then_checked (bound_names [] locals fields ts) (arm_bound before body rest locals rows)) (equal_decides (length fields) (length ts)) many
+        ∙ then_is (bound_names [] locals fields ts) (arm_bound before body rest locals rows) inner (pattern_binds locals fields ts may many)
+        ∙ then_is (wanted_arm before (place_of body) (elaborated scope inner body)) (arm_behind rest locals rows) e (body_passes before (place_of body) (elaborated scope inner body) x t (passes h) (after_first before constructor fields body rest t fits))
+        ∙ then_is (elaborated_arms scope locals rest (Some t) rows) (λ found. Sound (record { arms = AndArm x found.arms; of_type = found.of_type })) (record { arms = bodies; of_type = t }) (arms_pass j (Some t) refl)
+
+  mutual
+    -- what is broken first is told
+    pub tells : {locals : List Local} {tree : ExpSyntax} {kind : TypeKind} {place : Place} → Breaks scope locals tree kind place → elaborated scope locals tree ≡ FaultAt kind place
+    tells (BrokenRules.UnknownLocal {locals = locals} {at = at} {name = name} none) = ap (local_at at locals) (no_local_named locals name none)
+    tells (BrokenRules.InFirst b) = rw (tells b) refl
+    tells (BrokenRules.InSecond h b) = rw (passes h, tells b) refl
+    tells (BrokenRules.InOperand {operation = operation} {operand = operand} b) = ap (unary operation (place_of operand)) (tells b) ∙ unary_fault operation (place_of operand) _ _
+    tells (BrokenRules.FirstOfNoPair {operand = operand} {x = x} {t = t} h never) = ap (unary FstOperation (place_of operand)) (passes h) ∙ no_first (place_of operand) x t never
+    tells (BrokenRules.SecondOfNoPair {operand = operand} {x = x} {t = t} h never) = ap (unary SndOperation (place_of operand)) (passes h) ∙ no_second (place_of operand) x t never
+    tells (BrokenRules.OpensNoAuth {operand = operand} {x = x} {t = t} h never) = ap (unary UnauthOperation (place_of operand)) (passes h) ∙ no_opened (place_of operand) x t never
+    tells (BrokenRules.LengthOfNoText {locals = locals} {operand = operand} {x = x} {t = t} h never) =
+        ap (λ c. then_checked c (λ e. typed (LenE e) IntTy)) (wanted_other (place_of operand) TextTy t (elaborated scope locals operand) x (passes h) never)
+    tells (BrokenRules.NotOfNoBool {locals = locals} {operand = operand} {x = x} {t = t} h never) =
+        ap (λ c. then_checked c (λ e. typed (NotE e) BoolTy)) (wanted_other (place_of operand) BoolTy t (elaborated scope locals operand) x (passes h) never)
+    tells (BrokenRules.InLeft {locals = locals} {operation = operation} {first = first} {second = second} {t = t} {kind = kind} {place = place} op m) =
+        let left : wanted (place_of first) (operand_type operation) (elaborated scope locals first) ≡ FaultAt kind place = ap (λ t. wanted (place_of first) t (elaborated scope locals first)) (operates_on op) ∙ misfit_told m in
+        then_fault (wanted (place_of first) (operand_type operation) (elaborated scope locals first)) (λ x.
+        then_checked (wanted (place_of second) (operand_type operation) (elaborated scope locals second)) (λ y. typed (binary_expression operation x y) (result_type operation))) kind place left
+    tells (BrokenRules.InRight {locals = locals} {operation = operation} {first = first} {second = second} {x = x} {t = t} {kind = kind} {place = place} op h m) =
+        let is = operates_on op in
+        let left : wanted (place_of first) (operand_type operation) (elaborated scope locals first) ≡ Sound x = ap (λ t. wanted (place_of first) t (elaborated scope locals first)) is ∙ wanted_is (place_of first) t (elaborated scope locals first) x (passes h) in
+        let right : wanted (place_of second) (operand_type operation) (elaborated scope locals second) ≡ FaultAt kind place = ap (λ t. wanted (place_of second) t (elaborated scope locals second)) is ∙ misfit_told m in
+        then_is (wanted (place_of first) (operand_type operation) (elaborated scope locals first)) (λ x.
+        then_checked (wanted (place_of second) (operand_type operation) (elaborated scope locals second)) (λ y. typed (binary_expression operation x y) (result_type operation))) x left
+        ∙ then_fault (wanted (place_of second) (operand_type operation) (elaborated scope locals second)) (λ y. typed (binary_expression operation x y) (result_type operation)) kind place right
+    tells (BrokenRules.UnknownFunction {locals = locals} {at = at} {name = name} {operands = operands} none) =
+        ap (λ o. called at (count_of operands) o (elaborated_each scope locals operands)) (no_function_named scope.functions name none)
+    tells (BrokenRules.OtherArguments {locals = locals} {at = at} {name = name} {operands = operands} {f = f} {signature = signature} named never) =
+        ap (λ o. called at (count_of operands) o (elaborated_each scope locals operands)) (function_is_named scope.functions name f signature named)
+        ∙ unless_fails (nat_eq (count_of operands) (length signature.parameters)) WrongCount at (then_checked (elaborated_each scope locals operands signature.parameters) (λ es. typed (CallE f es) signature.result))
+        (equal_decides (count_of operands) (length signature.parameters)) never
+    tells (BrokenRules.InArguments {locals = locals} {at = at} {name = name} {operands = operands} {f = f} {signature = signature} {kind = kind} {place = place} named many m) =
+        ap (λ o. called at (count_of operands) o (elaborated_each scope locals operands)) (function_is_named scope.functions name f signature named)
+        ∙ unless_holds (nat_eq (count_of operands) (length signature.parameters)) WrongCount at (then_checked (elaborated_each scope locals operands signature.parameters) (λ es. typed (CallE f es) signature.result))
+        (equal_decides (count_of operands) (length signature.parameters)) many
+        ∙ then_fault (elaborated_each scope locals operands signature.parameters) (λ es. typed (CallE f es) signature.result) kind place (one_told m)
+    tells (BrokenRules.UnknownConstructor {locals = locals} {at = at} {name = name} {operands = operands} none) =
+        ap (λ o. constructed at (count_of operands) scope.table o (elaborated_each scope locals operands)) (no_constructor_named scope.constructors name none)
+    tells (BrokenRules.OtherFields {locals = locals} {at = at} {name = name} {operands = operands} {number = number} {tag = tag} named never) =
+        let ts = field_types scope number tag in
+        ap (λ o. constructed at (count_of operands) scope.table o (elaborated_each scope locals operands)) (constructor_is_named scope name number tag named)
+        ∙ unless_fails (nat_eq (count_of operands) (length ts)) WrongCount at (then_checked (elaborated_each scope locals operands ts) (λ es. typed (ConE number tag es) (NamedTy number)))
+        (equal_decides (count_of operands) (length ts)) never
+    tells (BrokenRules.InFields {locals = locals} {at = at} {name = name} {operands = operands} {number = number} {tag = tag} {kind = kind} {place = place} named many m) =
+        let ts = field_types scope number tag in
+        ap (λ o. constructed at (count_of operands) scope.table o (elaborated_each scope locals operands)) (constructor_is_named scope name number tag named)
+        ∙ unless_holds (nat_eq (count_of operands) (length ts)) WrongCount at (then_checked (elaborated_each scope locals operands ts) (λ es. typed (ConE number tag es) (NamedTy number)))
+        (equal_decides (count_of operands) (length ts)) many
+        ∙ then_fault (elaborated_each scope locals operands ts) (λ es. typed (ConE number tag es) (NamedTy number)) kind place (one_told m)
+    tells (BrokenRules.InBound {locals = locals} {name = name} {bound = bound} {body = body} {kind = kind} {place = place} b) =
+        then_fault (elaborated scope locals bound) (λ e. unless_fault (nat_lt (length locals) most_locals) (Limit Locals) name.at
+        (then_checked (elaborated scope (with_local locals name.name e.of_type) body) (λ b. typed (LetE e.of_type e.expression b.expression) b.of_type))) kind place (tells b)
+    tells (BrokenRules.BindsTooMany {locals = locals} {name = name} {bound = bound} {body = body} {x = x} {a = a} h full) =
+        then_is (elaborated scope locals bound) (λ e. unless_fault (nat_lt (length locals) most_locals) (Limit Locals) name.at
+        (then_checked (elaborated scope (with_local locals name.name e.of_type) body) (λ b. typed (LetE e.of_type e.expression b.expression) b.of_type))) (record { expression = x; of_type = a }) (passes h)
+        ∙ unless_fails (nat_lt (length locals) most_locals) (Limit Locals) name.at (then_checked (elaborated scope (with_local locals name.name a) body) (λ b. typed (LetE a x b.expression) b.of_type))
+        (below_decides (length locals) most_locals) (below (length locals) most_locals full)
+    tells (BrokenRules.InLetBody {locals = locals} {name = name} {bound = bound} {body = body} {x = x} {a = a} {kind = kind} {place = place} h room b) =
+        let rest = then_checked (elaborated scope (with_local locals name.name a) body) (λ b. typed (LetE a x b.expression) b.of_type) in
+        then_is (elaborated scope locals bound) (λ e. unless_fault (nat_lt (length locals) most_locals) (Limit Locals) name.at
+        (then_checked (elaborated scope (with_local locals name.name e.of_type) body) (λ b. typed (LetE e.of_type e.expression b.expression) b.of_type))) (record { expression = x; of_type = a }) (passes h)
+        ∙ unless_holds (nat_lt (length locals) most_locals) (Limit Locals) name.at rest (below_decides (length locals) most_locals) room
+        ∙ then_fault (elaborated scope (with_local locals name.name a) body) (λ b. typed (LetE a x b.expression) b.of_type) kind place (tells b)
+    tells (BrokenRules.InTest {locals = locals} {test = test} {first = first} {other = other} {kind = kind} {place = place} m) =
+        then_fault (wanted (place_of test) BoolTy (elaborated scope locals test)) (λ condition. then_checked (elaborated scope locals first) (λ x.
+        then_checked (wanted (place_of other) x.of_type (elaborated scope locals other)) (λ y. typed (IfE condition x.expression y) x.of_type))) kind place (misfit_told m)
+    tells (BrokenRules.InThen {locals = locals} {test = test} {first = first} {other = other} {c = c} {kind = kind} {place = place} h b) =
+        then_is (wanted (place_of test) BoolTy (elaborated scope locals test)) (λ condition. then_checked (elaborated scope locals first) (λ x.
+        then_checked (wanted (place_of other) x.of_type (elaborated scope locals other)) (λ y. typed (IfE condition x.expression y) x.of_type))) c (wanted_is (place_of test) BoolTy (elaborated scope locals test) c (passes h))
+        ∙ then_fault (elaborated scope locals first) (λ x. then_checked (wanted (place_of other) x.of_type (elaborated scope locals other)) (λ y. typed (IfE c x.expression y) x.of_type)) kind place (tells b)
+    tells (BrokenRules.InElse {locals = locals} {test = test} {first = first} {other = other} {c = c} {x = x} {t = t} {kind = kind} {place = place} h j m) =
+        then_is (wanted (place_of test) BoolTy (elaborated scope locals test)) (λ condition. then_checked (elaborated scope locals first) (λ x.
+        then_checked (wanted (place_of other) x.of_type (elaborated scope locals other)) (λ y. typed (IfE condition x.expression y) x.of_type))) c (wanted_is (place_of test) BoolTy (elaborated scope locals test) c (passes h))
+        ∙ then_is (elaborated scope locals first) (λ x. then_checked (wanted (place_of other) x.of_type (elaborated scope locals other)) (λ y. typed (IfE c x.expression y) x.of_type)) (record { expression = x; of_type = t }) (passes j)
+        ∙ then_fault (wanted (place_of other) t (elaborated scope locals other)) (λ y. typed (IfE c x y) t) kind place (misfit_told m)
+    tells (BrokenRules.InSubject {locals = locals} {at = at} {subject = subject} {arms = arms} {kind = kind} {place = place} b) =
+        then_fault (elaborated scope locals subject) (λ e. matched scope at (place_of subject) e.expression e.of_type (arm_names arms) (elaborated_arms scope locals arms None)) kind place (tells b)
+    tells (BrokenRules.MatchesNoSum {locals = locals} {at = at} {subject = subject} {arms = arms} {x = x} {t = t} h never) =
+        then_is (elaborated scope locals subject) (λ e. matched scope at (place_of subject) e.expression e.of_type (arm_names arms) (elaborated_arms scope locals arms None)) (record { expression = x; of_type = t }) (passes h)
+        ∙ no_match scope at (place_of subject) x t (arm_names arms) (elaborated_arms scope locals arms None) never
+    tells (BrokenRules.OtherArms {locals = locals} {at = at} {subject = subject} {arms = arms} {x = x} {number = number} h never) =
+        let rows = constructor_fields scope number in
+        then_is (elaborated scope locals subject) (λ e. matched scope at (place_of subject) e.expression e.of_type (arm_names arms) (elaborated_arms scope locals arms None)) (record { expression = x; of_type = NamedTy number }) (passes h)
+        ∙ unless_fails (same_names (arm_names arms) (constructor_names scope number)) ArmsWrong at (then_checked (elaborated_arms scope locals arms None rows) (λ found. typed (MatchE number x found.arms) found.of_type))
+        (names_decide (arm_names arms) (constructor_names scope number)) never
+    tells (BrokenRules.InArms {locals = locals} {at = at} {subject = subject} {arms = arms} {x = x} {number = number} {kind = kind} {place = place} h same b) =
+        let rows = constructor_fields scope number in
+        then_is (elaborated scope locals subject) (λ e. matched scope at (place_of subject) e.expression e.of_type (arm_names arms) (elaborated_arms scope locals arms None)) (record { expression = x; of_type = NamedTy number }) (passes h)
+        ∙ unless_holds (same_names (arm_names arms) (constructor_names scope number)) ArmsWrong at (then_checked (elaborated_arms scope locals arms None rows) (λ found. typed (MatchE number x found.arms) found.of_type))
+        (names_decide (arm_names arms) (constructor_names scope number)) same
+        ∙ then_fault (elaborated_arms scope locals arms None rows) (λ found. typed (MatchE number x found.arms) found.of_type) kind place (arms_told b)
+
+    -- a part of which a type is wanted
+    pub misfit_told : {locals : List Local} {t : Ty} {tree : ExpSyntax} {kind : TypeKind} {place : Place} → Misfits scope locals t tree kind place → wanted (place_of tree) t (elaborated scope locals tree) ≡ FaultAt kind place
+    misfit_told (BrokenRules.Inside {locals = locals} {t = t} {expression = tree} {kind = kind} {place = place} b) = wanted_fault (place_of tree) t (elaborated scope locals tree) kind place (tells b)
+    misfit_told (BrokenRules.OtherType {locals = locals} {t = t} {a = a} {expression = tree} {x = x} h never) = wanted_other (place_of tree) t a (elaborated scope locals tree) x (passes h) never
+
+    -- expressions in a row
+    pub one_told : {locals : List Local} {ts : List Ty} {trees : ExpsSyntax} {kind : TypeKind} {place : Place} → OneMisfits scope locals ts trees kind place → elaborated_each scope locals trees ts ≡ FaultAt kind place
+    one_told (BrokenRules.ThisMisfits {locals = locals} {t = t} {ts = ts} {expression = tree} {rest = rest} {kind = kind} {place = place} m) =
+        then_fault (wanted (place_of tree) t (elaborated scope locals tree)) (λ x. then_checked (elaborated_each scope locals rest ts) (λ xs. Sound (AndE x xs))) kind place (misfit_told m)
+    one_told (BrokenRules.LaterMisfits {locals = locals} {t = t} {ts = ts} {expression = tree} {rest = rest} {x = x} {kind = kind} {place = place} h m) =
+        then_is (wanted (place_of tree) t (elaborated scope locals tree)) (λ x. then_checked (elaborated_each scope locals rest ts) (λ xs. Sound (AndE x xs))) x (wanted_is (place_of tree) t (elaborated scope locals tree) x (passes h))
+        ∙ then_fault (elaborated_each scope locals rest ts) (λ xs. Sound (AndE x xs)) kind place (one_told m)
+
+    -- the body of an arm
+    pub body_told : {locals : List Local} {before : Option Ty} {body : ExpSyntax} {kind : TypeKind} {place : Place} → BodyBreaks scope locals before body kind place
+        → wanted_arm before (place_of body) (elaborated scope locals body) ≡ FaultAt kind place
+    body_told (BrokenRules.FirstBody b) = tells b
+    body_told (BrokenRules.LaterBody {locals = locals} {t = t} {body = body} {kind = kind} {place = place} m) = then_fault (wanted (place_of body) t (elaborated scope locals body)) (λ e. typed e t) kind place (misfit_told m)
+
+    -- arms
+    pub arms_told : {locals : List Local} {arms : ArmsSyntax} {before : Option Ty} {rows : List (List Ty)} {kind : TypeKind} {place : Place} → ArmsBreak scope locals arms before rows kind place
+        → elaborated_arms scope locals arms before rows ≡ FaultAt kind place
+    arms_told (BrokenRules.OtherNames {locals = locals} {constructor = constructor} {fields = fields} {body = body} {rest = rest} {before = before} {ts = ts} {others = rows} never) =
+        unless_fails (nat_eq (length fields) (length ts)) WrongCount constructor.at (then_checked (bound_names [] locals fields ts) (arm_bound before body rest locals rows))
+        (equal_decides (length fields) (length ts)) never
+    arms_told (BrokenRules.InPattern {locals = locals} {constructor = constructor} {fields = fields} {body = body} {rest = rest} {before = before} {ts = ts} {others = rows} {kind = kind} {place = place} many b) =
+        unless_holds (nat_eq (length fields) (length ts)) WrongCount constructor.at (then_checked (bound_names [] locals fields ts) (arm_bound before body rest locals rows)) (equal_decides (length fields) (length ts)) many
+        ∙ then_fault (bound_names [] locals fields ts) (arm_bound before body rest locals rows) kind place (pattern_breaks locals fields ts kind place b many)
+    arms_told (BrokenRules.InBody {locals = locals} {constructor = constructor} {fields = fields} {body = body} {rest = rest} {before = before} {ts = ts} {others = rows} {kind = kind} {place = place} many may b) =
+        let inner = with_fields locals fields ts in
+        unless_holds (nat_eq (length fields) (length ts)) WrongCount constructor.at (then_checked (bound_names [] locals fields ts) (arm_bound before body rest locals rows)) (equal_decides (length fields) (length ts)) many
+        ∙ then_is (bound_names [] locals fields ts) (arm_bound before body rest locals rows) inner (pattern_binds locals fields ts may many)
+        ∙ then_fault (wanted_arm before (place_of body) (elaborated scope inner body)) (arm_behind rest locals rows) kind place (body_told b)
+    arms_told (BrokenRules.InLaterArm {locals = locals} {constructor = constructor} {fields = fields} {body = body} {rest = rest} {before = before} {ts = ts} {others = rows} {x = x} {t = t} {kind = kind} {place = place} many may h is b) =
+        let inner = with_fields locals fields ts in
+        let e : Typed = record { expression = x; of_type = t } in
+        unless_holds (nat_eq (length fields) (length ts)) WrongCount constructor.at (then_checked (bound_names [] locals fields ts) (arm_bound before body rest locals rows)) (equal_decides (length fields) (length ts)) many
+        ∙ then_is (bound_names [] locals fields ts) (arm_bound before body rest locals rows) inner (pattern_binds locals fields ts may many)
+        ∙ then_is (wanted_arm before (place_of body) (elaborated scope inner body)) (arm_behind rest locals rows) e (body_passes before (place_of body) (elaborated scope inner body) x t (passes h) is)
+        ∙ then_fault (elaborated_arms scope locals rest (Some t) rows) (λ found. Sound (record { arms = AndArm x found.arms; of_type = found.of_type })) kind place (arms_told b)
