@@ -53,6 +53,13 @@ pub mod JudgedNames
 pub mod JudgedBodies
 pub mod RuledBodies
 pub mod RulesOfBodies
+pub mod Ruled
+pub mod RuledSpaces
+pub mod RuledDeclarations
+pub mod RuledTypeNames
+pub mod RuledRoles
+pub mod RuledPrograms
+pub mod RuledTypes
 -- the functions of fragment/
 pub mod FragmentForms
 pub mod FragmentElaborating

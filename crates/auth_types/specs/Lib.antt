@@ -21,3 +21,6 @@ pub mod TypingRules
 pub mod BrokenRules
 pub mod TypingLaws
 pub mod DeclarationRules
+pub mod RoleShapes
+pub mod ProgramRules
+pub mod WrittenTypeRules

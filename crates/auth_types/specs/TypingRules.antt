@@ -118,7 +118,7 @@ mutual
     NoRule : {locals : List Local} → ElaborateEach scope locals NoExp NoE []
     AndRule : {locals : List Local} {expression : ExpSyntax} {rest : ExpsSyntax} {x : Expression} {xs : Expressions} {t : Ty} {ts : List Ty}
         → Elaborates scope locals expression x t → ElaborateEach scope locals rest xs ts
-            → ElaborateEach scope locals (AndExp expression rest) (AndE x xs) (t ∷ ts)
+        → ElaborateEach scope locals (AndExp expression rest) (AndE x xs) (t ∷ ts)
 
   -- arms, as many as these constructors with fields, all of one type: a pattern has as many names as the constructor has fields
   pub data ElaborateArms (scope : Scope) : List Local → ArmsSyntax → List (List Ty) → Arms → Ty → Type 0 where
@@ -126,5 +126,5 @@ mutual
     AndArmRule : {locals : List Local} {constructor : NameSyntax} {fields : List NameSyntax} {body : ExpSyntax} {rest : ArmsSyntax} {ts : List Ty}
         {others : List (List Ty)} {x : Expression} {bodies : Arms} {t : Ty}
         → length fields ≡ length ts → MayBindAll locals fields → Elaborates scope (with_fields locals fields ts) body x t
-            → ElaborateArms scope locals rest others bodies t
+        → ElaborateArms scope locals rest others bodies t
         → ElaborateArms scope locals (AndArmSyntax constructor fields body rest) (ts ∷ others) (AndArm x bodies) t
