@@ -44,7 +44,7 @@ pub struct Output {
 }
 
 /// What ends a command's work early.
-#[derive(Clone, Copy, Debug, PartialEq, Eq)]
+#[derive(Clone, Copy)]
 pub enum Halt {
     /// The words call no command.
     Usage,

@@ -11,6 +11,7 @@ pub mod OverTypes
 pub mod FragmentBodies
 pub mod Scopes
 pub mod Numbering
+pub mod Passes
 pub mod RoleHeads
 pub mod CheckedLaws
 pub mod Locals

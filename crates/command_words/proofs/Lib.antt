@@ -1,6 +1,7 @@
 pub mod PlainWords
+pub mod Leaves
+pub mod Counts
 pub mod Levels
-pub mod Unknown
-pub mod Verdicts
 pub mod Judging
 pub mod ClapErrors
+pub mod Found

@@ -3,10 +3,12 @@ pub mod Ideal
 pub mod Frames
 pub mod Checked
 pub mod Told
+pub mod Ring
 pub mod Headline
 pub mod Following
 pub mod Agreement
 pub mod Table
+pub mod Operations
 pub mod Laws
 pub mod Examples
 pub mod ExampleSpellings
