@@ -15,11 +15,11 @@ five = record {
   types = [];
   state = BoolTy;
   functions = declared (codes "help") Inner (IntTy ∷ TextTy ∷ []) UnitTy
-  ∷ declared (codes "make") Init (IntTy ∷ []) BoolTy
-  ∷ declared (codes "ask") Inner (TextTy ∷ []) IntTy
-  ∷ declared (codes "ask") Query (BoolTy ∷ TextTy ∷ []) UnitTy
-  ∷ declared (codes "put") Update (BoolTy ∷ UnitTy ∷ []) (PairTy BoolTy IntTy)
-  ∷ [];
+      ∷ declared (codes "make") Init (IntTy ∷ []) BoolTy
+      ∷ declared (codes "ask") Inner (TextTy ∷ []) IntTy
+      ∷ declared (codes "ask") Query (BoolTy ∷ TextTy ∷ []) UnitTy
+      ∷ declared (codes "put") Update (BoolTy ∷ UnitTy ∷ []) (PairTy BoolTy IntTy)
+      ∷ [];
 }
 
 -- in the order of declarations, each with the number of its function, its kind, what its caller passes and what its function gives
