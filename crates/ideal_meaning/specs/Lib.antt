@@ -14,5 +14,7 @@ pub mod Examples
 pub mod ExampleSpellings
 pub mod ExampleRuns
 pub mod ExampleProofs
+pub mod RingRows
+pub mod ToldRows
 pub mod Library
 pub mod LibraryRuns
