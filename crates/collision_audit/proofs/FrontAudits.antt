@@ -45,7 +45,7 @@ header_in_front format front more h =
     rw (magic, size, long) refl
 
 -- what is there behind a good header
-behind_header : {A : Type 0} (o : Option ℕ) (f : ℕ → Option A) (a : A) → option_and_then f o ≡ Some a → (n : ℕ) × (o ≡ Some n) × (f n ≡ Some a)
+pub behind_header : {A : Type 0} (o : Option ℕ) (f : ℕ → Option A) (a : A) → option_and_then f o ≡ Some a → (n : ℕ) × (o ≡ Some n) × (f n ≡ Some a)
 behind_header None f a e = absurd (cc (e))
 behind_header (Some n) f a e = (n, refl, e)
 
@@ -59,8 +59,11 @@ module _ (format : Format) (front more other : List ℕ) (i n : ℕ) (good : hea
       ap (λ h. offered_behind format h (front ++ behind)) (header_in_front format front behind long ∙ (sym (header_in_front format front more long) ∙ good))
       ∙ ap (λ bytes. offered_pieces (offered format.limit bytes n [])) (drop-append-le 6 front behind long)
 
-  -- the pieces up to that place are the same, whatever follows
-  same_pieces : take (suc i) (offered_in format (front ++ more)) ≡ take (suc i) (offered_in format (front ++ other))
+  -- the header is the same, and so are the pieces up to that place, whatever follows
+  pub same_header : header format (front ++ other) ≡ Some n
+  same_header = header_in_front format front other long ∙ (sym (header_in_front format front more long) ∙ good)
+
+  pub same_pieces : take (suc i) (offered_in format (front ++ more)) ≡ take (suc i) (offered_in format (front ++ other))
   same_pieces =
       let at = subst (λ (bytes : List ℕ). left_behind (offered format.limit bytes n []) i ≡ Some (length more)) (drop-append-le 6 front more long) left in
       ap (take (suc i)) (offers more)

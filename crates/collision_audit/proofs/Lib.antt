@@ -12,3 +12,4 @@ pub mod ToldAudits
 pub mod WholeFrames
 pub mod FrontOffers
 pub mod FrontAudits
+pub mod Refusals

@@ -1,5 +1,5 @@
 -- Laws of the audit, by which a reader can judge the definitions.
-use Rattle.std.specs.Prelude.{◌≡◌, ◌⊎◌, ◌↔◌, ℕ, List, ◌++◌, length, Some, None}
+use Rattle.std.specs.Prelude.{◌≡◌, ◌≢◌, ◌⊎◌, ◌↔◌, ℕ, zero, suc, List, ◌∷◌, ◌++◌, length, Some, None}
 use Rattle.core_terms.specs.Types.{Ty}
 use Rattle.core_terms.specs.Formats.{Hash, IsHash, IsFormat}
 use Rattle.core_terms.specs.Projection.{Fits, digest_at}
@@ -63,3 +63,21 @@ EndsWithItsFrame = (hash : Hash) (P : Program) (t : Ty) (f : ℕ) (state argumen
     → audit_of hash P t f state argument k (front ++ more) ≡ Collides s
     → rest_behind P.format (front ++ more) s.place ≡ Some (length more)
     → audit_of hash P t f state argument k (front ++ other) ≡ Collides s
+
+-- The lists first differ at place i: both have a piece there, the two differ, and all pieces before are equal.
+abbrev pub FirstDifferAt : List (List ℕ) → List Piece → ℕ → Type 0
+FirstDifferAt (a ∷ offered) (b ∷ honest) zero = a ≢ b.bytes
+FirstDifferAt (a ∷ offered) (b ∷ honest) (suc i) = (a ≡ b.bytes) × FirstDifferAt offered honest i
+FirstDifferAt offered honest i = ⊥
+
+-- Nothing behind the first difference matters, whatever the digest of the piece there. Where the frame of the first offered piece
+-- that differs from the honest one ends with `front`, the audit of every proof file that begins with `front` gives the same answer,
+-- whatever follows.
+abbrev pub EndsWithTheDifference : Type 0
+EndsWithTheDifference = (hash : Hash) → IsHash hash → (P : Program) → IsFormat P.format → IsTyped P
+    → (f : ℕ) (kind : Kind) (t answer : Ty) → IsRole P f kind t answer → ReadsState kind
+    → (state argument : Value) → IsIdeal P.types P.state state → IsIdeal P.types t argument
+    → (k : ℕ) (front more other : List ℕ) (i : ℕ)
+    → FirstDifferAt (offered_in P.format (front ++ more)) (honest_pieces hash P f (call_of state argument) k) i
+    → rest_behind P.format (front ++ more) i ≡ Some (length more)
+    → audit_of hash P t f state argument k (front ++ other) ≡ audit_of hash P t f state argument k (front ++ more)

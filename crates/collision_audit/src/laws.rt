@@ -1,5 +1,5 @@
 //! Laws over the definitions of an audit, each the contract of a function that does nothing.
-ghost use Rattle.collision_audit.specs.AuditLaws.{AgreementIsTrue, AuditShowsCollision, EndsWithItsFrame, NoSplitIsFound, SplitIsFound, VerdictIsOnProof};
+ghost use Rattle.collision_audit.specs.AuditLaws.{AgreementIsTrue, AuditShowsCollision, EndsWithItsFrame, EndsWithTheDifference, NoSplitIsFound, SplitIsFound, VerdictIsOnProof};
 
 /// The headline with its pair. What a verifier accepts is true, or the audit of the same call shows the first offered piece that
 /// differs from the honest one and has its digest. And what an audit agrees on is true.
@@ -14,9 +14,11 @@ pub fn splits()
     ensures none { NoSplitIsFound }
 {}
 
-/// A collision depends on no byte behind its frame: whatever follows there, the audit shows it.
+/// A collision depends on no byte behind its frame: whatever follows there, the audit shows it. And whatever its digest, nothing
+/// behind the first offered piece that differs from the honest one matters to the answer.
 pub fn front()
-    ensures { EndsWithItsFrame }
+    ensures collision { EndsWithItsFrame }
+    ensures difference { EndsWithTheDifference }
 {}
 
 /// Of a state and an argument within the limits an audit comes to no verdict: it is one on the proof.

@@ -26,7 +26,7 @@ typed_at P typed f = by (slice_get P.functions f) refl
 -- before the first opening
 at_start : (hash : Hash) (P : Program) (Deep : Type 0) (began : Taking) → InStep hash P Deep began [] began
 at_start hash P Deep began =
-    record { honest = record { pieces = refl; place = omega arith }; lefts = refl; fit = λ l. tt; coherent = λ c. c }
+    record { honest = record { pieces = refl; place = omega arith; fit = tt }; lefts = refl; ideals = tt; coherent = λ c. c }
 
 module _ (hash : Hash) (P : Program) (format : IsFormat P.format) (typed : IsTyped P) (reads_back : (t : Ty) (v : Value) → IsIdeal P.types t v → ReadsBack hash P t v) (Deep : Type 0) (began : Taking) where
   -- calls with any bound on nesting, wherever the runs stand

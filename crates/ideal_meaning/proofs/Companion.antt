@@ -15,11 +15,11 @@ use Rattle.ideal_meaning.specs.Frames.{Offer, NoMore, Offers, offered, offered_p
 use Rattle.ideal_meaning.specs.Checked.{Taking, Cause, checked, before_all, Verdict, Accepted, with_rest, judge, with_header, with_argument, with_state, on_argument, on_state, verdict_on}
 use Rattle.ideal_meaning.specs.Headline.{call_of, Companion}
 use Rattle.ideal_meaning.specs.Following.{CompanionOfFrames, VerdictIsOnFrames}
-use Rattle.ideal_meaning.specs.Agreement.{honest_so_far, OffersOther, IsRefused}
+use Rattle.ideal_meaning.specs.Agreement.{AllOpenedFit, honest_so_far, OffersOther, IsRefused}
 use Rattle.ideal_meaning.proofs.FramesBack.{last_left, AllShort, frames_back, header_back, behind_header, offer_of, offers_of}
 use Rattle.ideal_meaning.proofs.NewPieces.{after_honest}
 use Rattle.ideal_meaning.proofs.InHand.{IsHeld}
-use Rattle.ideal_meaning.proofs.Relation.{AllOpenedFit, Parted, Agree}
+use Rattle.ideal_meaning.proofs.Relation.{AllOpenedIdeal, Parted, Agree}
 use Rattle.ideal_meaning.proofs.Opening.{ReadsBack}
 use Rattle.ideal_meaning.proofs.Projections.{reads_back, length_piece}
 use Rattle.ideal_meaning.proofs.Calls.{calls_agree}
@@ -39,9 +39,9 @@ module _ (hash : Hash) (is_hash : IsHash hash) (P : Program) (format : IsFormat 
       by e (inr r) = (r.only _ e).2 (p.fits tt)
 
   -- the honest pieces are within the limit
-  honest_are_short : (s : List Opened) → AllOpenedFit P s → AllShort P.format.limit (honest_so_far hash P s)
-  honest_are_short [] h = tt
-  honest_are_short (x ∷ s) h = (omega (arith, length_piece hash is_hash P format x.ty x.value h.0, h.1.size_fits), honest_are_short s h.2)
+  honest_are_short : (s : List Opened) → AllOpenedIdeal P s → AllOpenedFit P s → AllShort P.format.limit (honest_so_far hash P s)
+  honest_are_short [] ideals fit = tt
+  honest_are_short (x ∷ s) ideals fit = (omega (arith, length_piece hash is_hash P format x.ty x.value ideals.0, fit.0.size_fits), honest_are_short s ideals.1 fit.1)
 
 -- where nothing is left of the pieces, nothing is left of the bytes
 no_rest : (o : Offer) (left : ℕ) → offered_pieces o ≡ [] → last_left left o ≡ 0 → left ≡ 0
@@ -73,7 +73,7 @@ module _ (hash : Hash) (is_hash : IsHash hash) (P : Program) (format : IsFormat 
   honest_short =
       let same = same_on 0 (offer_of Honest) (offers_of Honest) in
       let y = same_state hash P (Unit {0}) (before_all 0 (offer_of Honest)) (function_at P f).result (ideal P f args k) _ same in
-      honest_are_short hash is_hash P format (state_of (ideal P f args k)) (y.fit tt)
+      honest_are_short hash is_hash P format (state_of (ideal P f args k)) y.ideals y.honest.fit
 
   -- the value of the outcome is in hand, with all that is authenticated in it
   honest_held : OnDone (IsHeld P (Unit {0}) (function_at P f).result) (outcome (ideal P f args k))

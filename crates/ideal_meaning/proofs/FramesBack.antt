@@ -11,7 +11,7 @@ use Rattle.ideal_meaning.specs.Laws.{ProofFileIsReadBack}
 use Rattle.ideal_meaning.specs.Frames.{offered, NoByte, IsCut, LongBy, Offer, NoMore, Offers, new_frame, used_piece, use_frame, frames, offered_pieces, header, Frame, New, Use, place_of, frame_at, honest_frames, frame_bytes, proof_file}
 
 -- a new piece within the limit is read back
-new_back : (limit : ℕ) (p rest : List ℕ) (recent : List (List ℕ)) (more : List (List ℕ) → List ℕ → Offer) → limit < 2 ^ 32 → length p ≤ limit
+pub new_back : (limit : ℕ) (p rest : List ℕ) (recent : List (List ℕ)) (more : List (List ℕ) → List ℕ → Offer) → limit < 2 ^ 32 → length p ≤ limit
     → new_frame limit recent (to_be_bytes w32 (length p) ++ (p ++ rest)) more ≡ Offers p (length rest) (more (p ∷ recent) rest)
 new_back limit p rest recent more fits h =
     let F : ℕ → Type 0 = λ len. body len ≡ Offers p (length rest) (more (p ∷ recent) rest) in

@@ -26,7 +26,7 @@ OnDone Q (Trapped trap) = Unit {0}
 OnDone Q Out = Unit {0}
 
 -- another piece with the digest, behind honest ones, is a split
-split_after : (hash : Hash) (P : Program) (before after : List Opened) (x : Opened) (found : List ℕ) (later : List (List ℕ)) → found ≢ honest_bytes hash P x
+pub split_after : (hash : Hash) (P : Program) (before after : List Opened) (x : Opened) (found : List ℕ) (later : List (List ℕ)) → found ≢ honest_bytes hash P x
     → digest_at hash P x.ty found ≡ digest_at hash P x.ty (honest_bytes hash P x)
     → IsSplitAt (digest_at hash P) (honest_so_far hash P before ++ found ∷ later) (map (honest_piece hash P) (before ++ x ∷ after)) (length before)
 split_after hash P [] after x found later differs same = (differs, same)

@@ -1,8 +1,10 @@
 pub mod FramesBack
 pub mod FramesBound
+pub mod Ring
 pub mod Nesting
 pub mod Splitting
 pub mod Rules
+pub mod Operations
 pub mod Grows
 pub mod InHand
 pub mod Relation

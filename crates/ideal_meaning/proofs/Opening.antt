@@ -15,7 +15,7 @@ use Rattle.ideal_meaning.specs.Frames.{Offer, NoMore, Offers, offered_pieces}
 use Rattle.ideal_meaning.specs.Checked.{Taking, Cause, WrongPiece, BadPiece, cause_of, opened, take_piece, digest_in}
 use Rattle.ideal_meaning.specs.Agreement.{IsRefused, honest_so_far}
 use Rattle.ideal_meaning.proofs.InHand.{IsHeld}
-use Rattle.ideal_meaning.proofs.Relation.{fit_next, InStep, Agree}
+use Rattle.ideal_meaning.proofs.Relation.{fit_next, ideal_next, InStep, Agree}
 
 -- The honest piece of a value is read back as its projection, and the value is within the limits; or the piece is refused, and
 -- the value isn't.
@@ -26,16 +26,16 @@ ReadsBack hash P t v =
 
 module _ (hash : Hash) (P : Program) (reads_back : (t : Ty) (v : Value) → IsIdeal P.types t v → ReadsBack hash P t v) (Deep : Type 0) (began : Taking) where
   -- one more piece that is the honest one
-  in_step_next : (s : List Opened) (x : Opened) → IsIdeal P.types x.ty x.value → (Deep → Fits P x.ty x.value) → (place left n : ℕ) (more : Offer)
+  in_step_next : (s : List Opened) (x : Opened) → IsIdeal P.types x.ty x.value → Fits P x.ty x.value → (place left n : ℕ) (more : Offer)
       → InStep hash P Deep began s (record { place = place; left = left; more = Offers (honest_bytes hash P x) n more })
       → InStep hash P Deep began (s ++ x ∷ []) (record { place = suc place; left = n; more = more })
   in_step_next s x ideal fits place left n more y =
       let e : honest_so_far hash P (s ++ x ∷ []) ++ offered_pieces more ≡ honest_so_far hash P s ++ (honest_bytes hash P x ∷ offered_pieces more) = ap (λ l. l ++ offered_pieces more) (map-append (honest_bytes hash P) s (x ∷ [])) ∙ append_assoc (honest_so_far hash P s) (honest_bytes hash P x ∷ []) (offered_pieces more) in
       let p : place ≡ began.place + length s = y.honest.place in
       record {
-        honest = record { pieces = y.honest.pieces ∙ sym e; place = omega (arith, length-append s (x ∷ [])) };
+        honest = record { pieces = y.honest.pieces ∙ sym e; place = omega (arith, length-append s (x ∷ [])); fit = fit_next P s x y.honest.fit fits };
         lefts = y.lefts;
-        fit = λ l. fit_next P s x (y.fit l) ideal (fits l);
+        ideals = ideal_next P s x y.ideals ideal;
         coherent = λ c. (y.coherent c).1;
       }
 
@@ -43,6 +43,13 @@ module _ (hash : Hash) (P : Program) (reads_back : (t : Ty) (v : Value) → IsId
   module _ (t : Ty) (v : Value) (h : IsHeld P Deep (AuthTy t) v) (k : ℕ) (s : List Opened) where
     abbrev piece : List ℕ
     piece = spelling (projection hash P t v)
+
+    -- the digest that is held
+    abbrev want : List ℕ
+    want = digest_at hash P t piece
+
+    same_want : bytes_eq want want ≡ true
+    same_want = (bytes_eq-Decides want want).1 refl
 
     -- the verifier with n bytes left and more to come behind this piece
     abbrev At : ℕ → ℕ → List ℕ → ℕ → Offer → Taking
@@ -73,12 +80,20 @@ module _ (hash : Hash) (P : Program) (reads_back : (t : Ty) (v : Value) → IsId
                 (
                   Next place n more,
                   ap (λ q. with_fuel k (opened hash P q place (Next place n more))) r.1.1,
-                  in_step_next s (record { ty = t; value = v }) h.ideal (λ l. (h.deep l).0) place left n more y,
+                  in_step_next s (record { ty = t; value = v }) h.ideal r.0 place left n more y,
                 ),
               )
           by (inr r) =
               refused (At place left piece n more) _ y
-              (record { cause = BadPiece place r.1.0; fuel = k; left = Next place n more; is = ap (λ q. with_fuel k (opened hash P q place (Next place n more))) r.1.1; only = λ later e. (r.1.0, refl, r.0) })
+              (record {
+                cause = BadPiece place r.1.0;
+                fuel = k;
+                left = Next place n more;
+                is = ap (λ q. with_fuel k (opened hash P q place (Next place n more))) r.1.1;
+                refused = ap (λ b. if b then opened hash P (read_at P t piece) place (Next place n more) else Refuses (WrongPiece place want want) (At place left piece n more)) same_want
+                    ∙ ap (λ q. opened hash P q place (Next place n more)) r.1.1;
+                only = λ later e. (r.1.0, refl, r.0);
+              })
 
       -- some piece with the digest of the honest one
       same_digest : (bytes : List ℕ) → digest_at hash P t bytes ≡ digest_at hash P t piece → (b : Bool) → bytes_eq bytes piece ≡ b → InStep hash P Deep began s (At place left bytes n more)
@@ -105,7 +120,7 @@ module _ (hash : Hash) (P : Program) (reads_back : (t : Ty) (v : Value) → IsId
     opens_at : (place left : ℕ) (more : Offer) → InStep hash P Deep began s (record { place = place; left = left; more = more })
         → Agrees (with_fuel k (take_piece hash P t (digest_at hash P t piece) place more (record { place = place; left = left; more = more })))
     opens_at place left (NoMore e) y =
-        refused _ _ y (record { cause = cause_of e place; fuel = k; left = record { place = place; left = left; more = NoMore e }; is = refl; only = λ later e. absurd (cc) })
+        refused _ _ y (record { cause = cause_of e place; fuel = k; left = record { place = place; left = left; more = NoMore e }; is = refl; refused = refl; only = λ later e. absurd (cc) })
     opens_at place left (Offers bytes n more) y = by (bytes_eq (digest_at hash P t bytes) (digest_at hash P t piece)) refl
       where
         by : (b : Bool) → bytes_eq (digest_at hash P t bytes) (digest_at hash P t piece) ≡ b
@@ -118,6 +133,7 @@ module _ (hash : Hash) (P : Program) (reads_back : (t : Ty) (v : Value) → IsId
               fuel = k;
               left = At place left bytes n more;
               is = refl;
+              refused = ap (λ b. if b then opened hash P (read_at P t bytes) place (Next place n more) else Refuses (WrongPiece place want (digest_at hash P t bytes)) (At place left bytes n more)) e;
               only = λ later q. let same : bytes ≡ piece = cc in absurd (true≢false (sym ((bytes_eq-Decides (digest_at hash P t bytes) (digest_at hash P t piece)).1 (ap (digest_at hash P t) same)) ∙ e));
             })
 

@@ -7,18 +7,22 @@ use Rattle.core_terms.specs.Projection.{Fits}
 use Rattle.ideal_meaning.specs.Run.{Trap, Traps, Run, Gives, Ends, then_run, state_of}
 use Rattle.ideal_meaning.specs.Ideal.{Opened}
 use Rattle.ideal_meaning.specs.Checked.{Taking, Cause}
-use Rattle.ideal_meaning.specs.Agreement.{as_checked, TookHonest, OffersOther, IsRefused, Parts}
+use Rattle.ideal_meaning.specs.Agreement.{as_checked, AllOpenedFit, TookHonest, OffersOther, IsRefused, Parts}
 use Rattle.ideal_meaning.proofs.Grows.{Grows}
 use Rattle.ideal_meaning.proofs.FramesBack.{last_left, Coherent}
 
--- the values that were opened are ideal, and within the limits
-abbrev pub AllOpenedFit : Program → List Opened → Type 0
-AllOpenedFit P [] = Unit {0}
-AllOpenedFit P (x ∷ s) = IsIdeal P.types x.ty x.value × Fits P x.ty x.value × AllOpenedFit P s
+-- the values that were opened are ideal
+abbrev pub AllOpenedIdeal : Program → List Opened → Type 0
+AllOpenedIdeal P [] = Unit {0}
+AllOpenedIdeal P (x ∷ s) = IsIdeal P.types x.ty x.value × AllOpenedIdeal P s
 
-pub fit_next : (P : Program) (s : List Opened) (x : Opened) → AllOpenedFit P s → IsIdeal P.types x.ty x.value → Fits P x.ty x.value → AllOpenedFit P (s ++ x ∷ [])
-fit_next P [] x h i w = (i, w, tt)
-fit_next P (y ∷ s) x h i w = (h.0, h.1, fit_next P s x h.2 i w)
+pub ideal_next : (P : Program) (s : List Opened) (x : Opened) → AllOpenedIdeal P s → IsIdeal P.types x.ty x.value → AllOpenedIdeal P (s ++ x ∷ [])
+ideal_next P [] x h i = (i, tt)
+ideal_next P (y ∷ s) x h i = (h.0, ideal_next P s x h.1 i)
+
+pub fit_next : (P : Program) (s : List Opened) (x : Opened) → AllOpenedFit P s → Fits P x.ty x.value → AllOpenedFit P (s ++ x ∷ [])
+fit_next P [] x h w = (w, tt)
+fit_next P (y ∷ s) x h w = (h.0, fit_next P s x h.1 w)
 
 -- Of a run that began with the verifier at `began`. `Deep` is the premise under which each authenticated value is within the limits.
 module _ (hash : Hash) (P : Program) (Deep : Type 0) (began : Taking) where
@@ -26,7 +30,7 @@ module _ (hash : Hash) (P : Program) (Deep : Type 0) (began : Taking) where
   pub record InStep (s : List Opened) (w : Taking) : Type 0 where
     pub honest : TookHonest hash P began s w
     pub lefts : last_left began.left began.more ≡ last_left w.left w.more
-    pub fit : Deep → AllOpenedFit P s
+    pub ideals : AllOpenedIdeal P s
     pub coherent : Coherent began.left began.more → Coherent w.left w.more
 
   -- the runs parted at an opening, under the premise at that of a value within the limits
@@ -64,7 +68,7 @@ module _ (hash : Hash) (P : Program) (Deep : Type 0) (began : Taking) where
 
       later : OffersOther hash P p.parts.x p.parts.at ⊎ IsRefused hash P p.parts.x p.parts.at checked → OffersOther hash P p.parts.x p.parts.at ⊎ IsRefused hash P p.parts.x p.parts.at (then_run checked g)
       later (inl h) = inl h
-      later (inr h) = inr (record { cause = h.cause; fuel = h.fuel; left = h.left; is = ap (λ r. then_run r g) h.is; only = h.only })
+      later (inr h) = inr (record { cause = h.cause; fuel = h.fuel; left = h.left; is = ap (λ r. then_run r g) h.is; refused = h.refused; only = h.only })
 
   -- what agrees, goes on in agreement
   pub agree_then : {A B C D : Type 0} (Known : A → Type 0) (project : A → B) (Known' : C → Type 0) (project' : C → D) (ideal : Run ⊥ (List Opened) A) (checked : Run Cause Taking B) (f : A → ℕ → List Opened → Run ⊥ (List Opened) C) (g : B → ℕ → Taking → Run Cause Taking D)

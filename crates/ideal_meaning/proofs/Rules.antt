@@ -1,5 +1,5 @@
 -- The rules of the ideal meaning: nearly all hold as the definitions compute.
-use Rattle.std.proofs.Common.{◌≡◌, ℕ, zero, suc, pos, negsuc, ℤ, List, int_div, int_rem, refl, ap}
+use Rattle.std.proofs.Common.{◌≡◌, ℕ, zero, suc, Bool, true, false, pos, negsuc, ℤ, List, int_div, int_rem, if◌then◌else◌, refl}
 use Rattle.core_terms.specs.Values.{Value, Values}
 use Rattle.core_terms.specs.Terms.{Expression, Program}
 use Rattle.core_terms.specs.declared.language.term.Arith.{Arith}
@@ -27,6 +27,12 @@ operation_is : (P : Program) (n : ℕ) (op : Arith) (of : ℤ → ℤ → ℕ �
     ≡ then_run (eval P n x env k s) (λ u k s. then_run (eval P n y env k s) (λ v k s. of (int_in u) (int_in v) k s))
 operation_is P n op of x y env k s h =
     then_alike (eval P n x env k s) _ _ (λ u k s. then_alike (eval P n y env k s) _ _ (λ v k s. h (int_in u) (int_in v) k s))
+
+-- one of two ways to go on, as the table says it
+chosen : (b : Bool) (first other : Values → ℕ → List Opened → Evaluation Value) (env : Values) (k : ℕ) (s : List Opened)
+    → choose b first other env k s ≡ (if b then first env k s else other env k s)
+chosen true first other env k s = refl
+chosen false first other env k s = refl
 
 -- no call is made without fuel, whatever the bound
 no_fuel : (P : Program) (n f : ℕ) (vs : Values) (s : List Opened) → call P ideal_mode n f vs 0 s ≡ Ends IsOut 0 s
@@ -60,8 +66,7 @@ ideal_table P n = record {
   len = λ x env k s. refl;
   cat = λ x y env k s. refl;
   let_is = λ a x body env k s. refl;
-  if_true = λ x e f env k k' s s' h. ap (λ r. then_run r (λ v k s. choose (bool_in v) (eval P n e) (eval P n f) env k s)) h;
-  if_false = λ x e f env k k' s s' h. ap (λ r. then_run r (λ v k s. choose (bool_in v) (eval P n e) (eval P n f) env k s)) h;
+  if_is = λ x e f env k s. then_alike (eval P n x env k s) _ _ (λ v k s. chosen (bool_in v) (eval P n e) (eval P n f) env k s);
   match_is = λ number x arms env k s. refl;
   arm_first = λ body arms env k s. refl;
   arm_later = λ body arms tag env k s. refl;

@@ -4,10 +4,10 @@ use Rattle.core_terms.specs.Formats.{Hash, IsHash, IsFormat}
 use Rattle.core_terms.specs.Values.{Values, AreIdeal}
 use Rattle.core_terms.specs.Terms.{Program, function_at, IsTyped}
 use Rattle.core_terms.specs.Projection.{digest_at, projection, projections, Fits, AllFit}
-use Rattle.ideal_meaning.specs.Run.{Stop, Traps, IsOut, Rejects, Run, Gives, Ends, state_of, call}
+use Rattle.ideal_meaning.specs.Run.{Stop, Traps, IsOut, Rejects, Run, Gives, Ends, Refuses, state_of, call}
 use Rattle.ideal_meaning.specs.Ideal.{Opened, ideal_mode, honest_bytes}
 use Rattle.ideal_meaning.specs.Frames.{offered_pieces}
-use Rattle.ideal_meaning.specs.Checked.{Taking, Cause, BadPiece, checked_mode}
+use Rattle.ideal_meaning.specs.Checked.{Taking, Cause, BadPiece, checked_mode, take_piece}
 
 -- a trap or the want of fuel, as the end of a checked run; an ideal run has no causes
 abbrev pub as_checked : Stop ⊥ → Stop Cause
@@ -15,15 +15,22 @@ as_checked (Traps trap) = Traps trap
 as_checked IsOut = IsOut
 as_checked (Rejects c) = elim c [ ]
 
+-- each value that was opened is within the limits
+abbrev pub AllOpenedFit : Program → List Opened → Type 0
+AllOpenedFit P [] = Unit {0}
+AllOpenedFit P (x ∷ seen) = Fits P x.ty x.value × AllOpenedFit P seen
+
 -- the bytes that an honest prover appends for what was opened
 abbrev pub honest_so_far : Hash → Program → List Opened → List (List ℕ)
 honest_so_far hash P seen = map (honest_bytes hash P) seen
 
 module _ (hash : Hash) (P : Program) where
-  -- Between `began` and `w` the verifier took one piece for each opened value, and each was the honest one.
+  -- Between `began` and `w` the verifier took one piece for each opened value, each was the honest one, and it was read: so each of
+  -- these values is within the limits.
   pub record TookHonest (began : Taking) (seen : List Opened) (w : Taking) : Type 0 where
     pub pieces : offered_pieces began.more ≡ honest_so_far hash P seen ++ offered_pieces w.more
     pub place : w.place ≡ began.place + length seen
+    pub fit : AllOpenedFit P seen
 
   -- The next piece isn't the honest one for x, and has its digest.
   pub record OffersOther (x : Opened) (w : Taking) : Type 0 where
@@ -33,13 +40,15 @@ module _ (hash : Hash) (P : Program) where
     pub differs : found ≢ honest_bytes hash P x
     pub one_digest : digest_at hash P x.ty found ≡ digest_at hash P x.ty (honest_bytes hash P x)
 
-  -- The checked run is rejected where x is opened. Where the next piece is the honest one, that is since x isn't within the
-  -- limits, and the cause is that the piece is no spelling.
+  -- The checked run is rejected where x is opened: it holds the digest of the honest piece, and the next piece is refused for this
+  -- cause. Where the next piece is the honest one, that is since x isn't within the limits, and the cause is that the piece is no
+  -- spelling.
   pub record IsRefused {B : Type 0} (x : Opened) (w : Taking) (checked : Run Cause Taking B) : Type 0 where
     pub cause : Cause
     pub fuel : ℕ
     pub left : Taking
     pub is : checked ≡ Ends (Rejects cause) fuel left
+    pub refused : take_piece hash P x.ty (digest_at hash P x.ty (honest_bytes hash P x)) w.place w.more w ≡ Refuses cause left
     pub only : (later : List (List ℕ)) → offered_pieces w.more ≡ honest_bytes hash P x ∷ later
         → (offset : ℕ) × (cause ≡ BadPiece w.place offset) × (Fits P x.ty x.value → ⊥)
 

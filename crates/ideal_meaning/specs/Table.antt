@@ -1,5 +1,5 @@
 -- The ideal meaning, rule by rule, in words that know no mode: for a reader who checks it against the language's own table.
-use Rattle.std.specs.Prelude.{◌≡◌, ℕ, zero, suc, Bool, true, false, not, List, [], ◌∷◌, ◌++◌, length, ℤ, pos, ◌+ℤ◌, ◌-ℤ◌, ◌*ℤ◌, int_lt, int_le, int_div, int_rem, nat_lt, bytes_eq, if◌then◌else◌}
+use Rattle.std.specs.Prelude.{◌≡◌, ℕ, zero, suc, Bool, not, List, [], ◌∷◌, ◌++◌, length, ℤ, pos, ◌+ℤ◌, ◌-ℤ◌, ◌*ℤ◌, int_lt, int_le, int_div, int_rem, nat_lt, bytes_eq, if◌then◌else◌}
 use Rattle.std.specs.Ordering.{int_eq}
 use Rattle.core_terms.specs.Types.{Ty, TextTy, PairTy, NamedTy}
 use Rattle.core_terms.specs.Values.{Value, UnitV, BoolV, IntV, TextV, PairV, ConV, Values, NoV, AndV, int_fits, size, depth}
@@ -102,10 +102,8 @@ module _ (P : Program) (n : ℕ) where
     -- its fields as locals
     pub let_is : (a : Ty) (x body : Expression) (env : Values) (k : ℕ) (s : List Opened)
         → eval P n (LetE a x body) env k s ≡ then_run (eval P n x env k s) (λ v k s. eval P n body (join env (AndV v NoV)) k s)
-    pub if_true : (x e f : Expression) (env : Values) (k k' : ℕ) (s s' : List Opened)
-        → eval P n x env k s ≡ Gives (BoolV true) k' s' → eval P n (IfE x e f) env k s ≡ eval P n e env k' s'
-    pub if_false : (x e f : Expression) (env : Values) (k k' : ℕ) (s s' : List Opened)
-        → eval P n x env k s ≡ Gives (BoolV false) k' s' → eval P n (IfE x e f) env k s ≡ eval P n f env k' s'
+    pub if_is : (x e f : Expression) (env : Values) (k : ℕ) (s : List Opened)
+        → eval P n (IfE x e f) env k s ≡ then_run (eval P n x env k s) (λ v k s. if bool_in v then eval P n e env k s else eval P n f env k s)
     pub match_is : (number : ℕ) (x : Expression) (arms : Arms) (env : Values) (k : ℕ) (s : List Opened)
         → eval P n (MatchE number x arms) env k s ≡ then_run (eval P n x env k s) (λ v k s. eval_arm P n arms (tag_in v) (join env (fields_in v)) k s)
     pub arm_first : (body : Expression) (arms : Arms) (env : Values) (k : ℕ) (s : List Opened)

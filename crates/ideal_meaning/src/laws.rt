@@ -1,9 +1,11 @@
 //! Laws over the definitions alone, each the contract of a function that does nothing.
 
 ghost use Rattle.ideal_meaning.specs.Headline.{HeadlineOfFrames, Headline, Companion};
-ghost use Rattle.ideal_meaning.specs.Following.{CompanionOfFrames, NewPiecesAreReadBack, VerdictIsOnFrames};
+ghost use Rattle.ideal_meaning.specs.Following.{CompanionOfFrames, NewPieceBoundIsEnough, NewPiecesAreReadBack, VerdictIsOnFrames};
 ghost use Rattle.ideal_meaning.specs.Agreement.{Agreement};
 ghost use Rattle.ideal_meaning.specs.Laws.{BoundIsEnough, FrameBoundIsEnough, OneSplit, ProofFileIsReadBack};
+ghost use Rattle.ideal_meaning.specs.Ring.{RingOfProver, RingOfVerifier};
+ghost use Rattle.ideal_meaning.specs.Operations.{OperationTable};
 ghost use Rattle.ideal_meaning.specs.Table.{IdealTable};
 
 /// The headline: what a verifier accepts is true, or a collision of the hash is shown and its place named.
@@ -29,11 +31,13 @@ pub fn companion()
 /// Proofs that follow one another without headers, each over the new pieces of those before it.
 ///
 /// `verdict` says that a file is judged as its frames are, before which nothing came. `accepted` is the companion of frames
-/// alone, over whatever pieces came before; and `pieces` says that honest frames leave on both sides the same new pieces.
+/// alone, over whatever pieces came before; `pieces` says that honest frames leave on both sides the same new pieces, and
+/// `bound` that the bound on the number of frames ends none of them.
 pub fn following_proofs()
     ensures verdict { VerdictIsOnFrames }
     ensures accepted { CompanionOfFrames }
     ensures pieces { NewPiecesAreReadBack }
+    ensures bound { NewPieceBoundIsEnough }
 {}
 
 /// The relation behind both: called on ideal values and on their projections, with the same fuel and whatever pieces are
@@ -57,6 +61,12 @@ pub fn ideal_table()
     ensures { IdealTable }
 {}
 
+/// What the operations give, in the words of arithmetic and of byte strings. Sums, differences and products are exact; quotients
+/// are truncated toward zero; texts are compared byte by byte, and their order is strict; each trap comes exactly where it says.
+pub fn operations()
+    ensures { OperationTable }
+{}
+
 /// The bound on the number of frames never ends a proof: each bound that isn't below the number of bytes offers the same pieces.
 pub fn frame_bound()
     ensures { FrameBoundIsEnough }
@@ -65,4 +75,11 @@ pub fn frame_bound()
 /// A proof file of pieces within the limit has a good header and offers these pieces.
 pub fn proof_file_read_back()
     ensures { ProofFileIsReadBack }
+{}
+
+/// The ring keeps new pieces alone. USE k names the k-th last of the new pieces so far, whatever was used in between, exactly
+/// where k is below the ring size and below their number; an honest prover writes it with the least such k, else NEW.
+pub fn ring()
+    ensures verifier { RingOfVerifier }
+    ensures prover { RingOfProver }
 {}
