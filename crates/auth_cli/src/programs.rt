@@ -12,7 +12,6 @@ ghost use Rattle.auth_cli.specs.TextPrograms.{constructor_names_of_text, languag
 
 use crate::Halt;
 use crate::report::load;
-use auth_syntax::fault::SyntaxFault;
 use auth_syntax::parser::{parse, parse_fragment};
 use auth_types::check::check;
 use auth_types::fault::TypeFault;
@@ -20,6 +19,7 @@ use auth_types::fragment::check_fragment;
 use core_terms::{Hash32, Program, language};
 use digest_layer::Sha;
 use lam_outside::Files;
+use lexemes::fault::SyntaxFault;
 use printed_lines::refusal::{Argument, ProgramKind};
 use std::alloc::Global;
 
@@ -40,8 +40,8 @@ impl From<SyntaxFault> for ProgramFault {
 
     fn from(fault: SyntaxFault) -> ProgramFault {
         match fault {
-            SyntaxFault::At(kind, line, column) => {
-                ProgramFault::At(ProgramKind::Syntax(kind), line, column)
+            SyntaxFault::At(kind, at) => {
+                ProgramFault::At(ProgramKind::Syntax(kind), at.line, at.column)
             }
             SyntaxFault::NoMemory => ProgramFault::NoMemory,
         }
