@@ -4,6 +4,7 @@ ghost use Rattle.std.specs.Option.{ForSome};
 ghost use Rattle.sha2.specs.Sha256.{sha256};
 ghost use Rattle.core_terms.specs.LanguagePrograms as language;
 ghost use Rattle.core_terms.specs.Programs.{meaning};
+ghost use Rattle.auth_cli.specs.Reaching.{FaultsAt};
 ghost use Rattle.auth_cli.specs.Answer.{with_language_file, with_program_file};
 ghost use Rattle.auth_cli.specs.Halting.{GoesOn, HaltCause};
 ghost use Rattle.auth_cli.specs.NamedCalls.{KeepsProgram};
@@ -102,6 +103,7 @@ pub fn read_language_file<F: Files>(
     name: &str,
 ) -> Result<language::Program, Halt>
     ensures goes { ForSome (F.contents files.old) (λ told. GoesOn (with_language_file (told name.now)) language_named result) }
+    ensures asked { FaultsAt name.now (F.asked files.new) result }
     ensures cause { HaltCause (F.faults files.old) (F.faults files.new) result }
     ensures contents { F.contents files.new ≡ F.contents files.old }
     ensures stores { F.stores files.new ≡ F.stores files.old }
@@ -119,6 +121,7 @@ pub fn read_program_file<F: Files>(
 ) -> Result<Program, Halt>
     ensures goes { ForSome (F.contents files.old) (λ told. GoesOn (with_program_file (told name.now)) digested result) }
     ensures kept { ForSome (F.contents files.old) (λ told. IfOk result (λ program. KeepsProgram (told name.now) (digested program))) }
+    ensures asked { FaultsAt name.now (F.asked files.new) result }
     ensures cause { HaltCause (F.faults files.old) (F.faults files.new) result }
     ensures contents { F.contents files.new ≡ F.contents files.old }
     ensures stores { F.stores files.new ≡ F.stores files.old }
