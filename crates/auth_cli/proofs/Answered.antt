@@ -1,13 +1,15 @@
 -- How a run ended, by the number of its status: where no count rose, and what it stored.
-use Rattle.std.proofs.Common.{◌≢◌, ◌⊎◌, [], Option, Some, None, refl, ap, inl, inr, sym}
+use Rattle.std.proofs.Common.{◌≡◌, ◌≢◌, ◌<◌, ◌^◌, ◌-◌, ℕ, List, [], Option, Some, None, refl, ap, inl, inr, sym, ◌∙◌, arith}
+use Rattle.std.specs.List.{concat}
 use Rattle.std.specs.Option.{ForSome}
 use Rattle.lam_outside.specs.Causes.{Rose}
 use Rattle.lam_outside.specs.Told.{AddsStores, Contents, Stores}
 use Rattle.auth_cli.specs.Answer.{Answer}
 use Rattle.auth_cli.specs.Codes.{code}
-use Rattle.auth_cli.specs.Ending.{EndsAnswered, EndsAs, IsToldAs, IsToldByCode, NoneRose, Outside, StoresSome}
+use Rattle.auth_cli.specs.Ending.{EndsAnswered, EndsAs, IsToldAs, IsToldByCode, MayWrite, NoneRose, Outside, StoresSome, WritesPart, lines_of}
 use Rattle.auth_cli.specs.declared.status.Status.{Status}
 use Rattle.auth_cli.specs.declared.status.Status.TheVariants as status
+use Rattle.auth_cli.proofs.Known.{append_none}
 
 by_code : (found : Option Answer) (old new : Outside) (ended : Status) → IsToldAs found old new ended → IsToldByCode found old new (code ended)
 by_code None old new ended told = told
@@ -21,9 +23,9 @@ none_stored : (found : Option Answer) (old new : Option Stores) → AddsStores o
 none_stored None old new none = none
 none_stored (Some a) old new none = inl none
 
-rose : {old new : Outside} → NoneRose old new → (Rose old.write_faults new.write_faults ⊎ Rose old.store_faults new.store_faults) → ⊥
-rose none (inl written) = none.writes written
-rose none (inr stored) = none.stores stored
+-- a count that stands where it stood didn't rise
+no_rise : {before now : ℕ} → before < 2 ^ 64 - 1 → now ≡ before → Rose before now → ⊥
+no_rise below same rose = omega (arith, below, same, rose)
 
 module _ (answer : Contents → Option Answer) (old new : Outside) where
   all_told : (ended : Status) → EndsAnswered answer old new ended → ForSome old.contents (λ files. IsToldByCode (answer files) old new (code ended))
@@ -31,7 +33,8 @@ module _ (answer : Contents → Option Answer) (old new : Outside) where
 
   pub answered : (ended : Status) → EndsAs answer old new ended → NoneRose old new → code ended ≢ 10 → ForSome old.contents (λ files. IsToldByCode (answer files) old new (code ended))
   answered status.ReadFault ends none other files known = absurd (none.reads ends.rose)
-  answered status.WriteFault ends none other files known = absurd (rose none ends.rose)
+  answered status.WriteFault (inl fails) none other files known = absurd (none.writes fails.rose)
+  answered status.WriteFault (inr fails) none other files known = absurd (none.stores fails.rose)
   answered status.NoMemory ends none other files known = absurd (other refl)
   answered status.Done ends none other files known = all_told status.Done ends files known
   answered status.Usage ends none other files known = all_told status.Usage ends files known
@@ -47,7 +50,8 @@ module _ (answer : Contents → Option Answer) (old new : Outside) where
 
   pub stored : (ended : Status) → EndsAs answer old new ended → ForSome old.contents (λ files. StoresSome (answer files) old.stores new.stores)
   stored status.ReadFault ends files known = none_stored (answer files) old.stores new.stores ends.stored
-  stored status.WriteFault ends files known = ends.stored files known
+  stored status.WriteFault (inl fails) files known = fails.stored files known
+  stored status.WriteFault (inr fails) files known = fails.stored files known
   stored status.NoMemory ends files known = ends.stored files known
   stored status.Done ends files known = answer_stored status.Done ends files known
   stored status.Usage ends files known = answer_stored status.Usage ends files known
@@ -57,3 +61,33 @@ module _ (answer : Contents → Option Answer) (old new : Outside) where
   stored status.ProgramRefused ends files known = answer_stored status.ProgramRefused ends files known
   stored status.InputRefused ends files known = answer_stored status.InputRefused ends files known
   stored status.Collision ends files known = answer_stored status.Collision ends files known
+
+  -- what was written where the sink or `store` failed is a front of a text that the run may begin
+  pub part_written : (ended : Status) → EndsAs answer old new ended → code ended ≡ 9 → ForSome old.contents (λ files. (text : List ℕ) × MayWrite (answer files) text × WritesPart old.written new.written text)
+  part_written status.WriteFault (inl fails) is files known = fails.part files known
+  part_written status.WriteFault (inr fails) is files known = (concat (lines_of (answer files)), inl refl, (0, fails.nothing ∙ sym (append_none old.written)))
+  part_written status.ReadFault ends is files known = absurd (omega arith)
+  part_written status.NoMemory ends is files known = absurd (omega arith)
+  part_written status.Done ends is files known = absurd (omega arith)
+  part_written status.Usage ends is files known = absurd (omega arith)
+  part_written status.Trap ends is files known = absurd (omega arith)
+  part_written status.OutOfFuel ends is files known = absurd (omega arith)
+  part_written status.Rejected ends is files known = absurd (omega arith)
+  part_written status.ProgramRefused ends is files known = absurd (omega arith)
+  part_written status.InputRefused ends is files known = absurd (omega arith)
+  part_written status.Collision ends is files known = absurd (omega arith)
+
+  -- where a file could not be stored, nothing was written
+  pub stored_first : old.store_faults < 2 ^ 64 - 1 → (ended : Status) → EndsAs answer old new ended → Rose old.store_faults new.store_faults → new.written ≡ old.written
+  stored_first below status.WriteFault (inl fails) rose = absurd (no_rise below fails.stores rose)
+  stored_first below status.WriteFault (inr fails) rose = fails.nothing
+  stored_first below status.ReadFault ends rose = absurd (no_rise below ends.stores rose)
+  stored_first below status.NoMemory ends rose = absurd (no_rise below ends.stores rose)
+  stored_first below status.Done ends rose = absurd (no_rise below ends.stores rose)
+  stored_first below status.Usage ends rose = absurd (no_rise below ends.stores rose)
+  stored_first below status.Trap ends rose = absurd (no_rise below ends.stores rose)
+  stored_first below status.OutOfFuel ends rose = absurd (no_rise below ends.stores rose)
+  stored_first below status.Rejected ends rose = absurd (no_rise below ends.stores rose)
+  stored_first below status.ProgramRefused ends rose = absurd (no_rise below ends.stores rose)
+  stored_first below status.InputRefused ends rose = absurd (no_rise below ends.stores rose)
+  stored_first below status.Collision ends rose = absurd (no_rise below ends.stores rose)

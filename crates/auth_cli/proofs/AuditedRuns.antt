@@ -2,8 +2,9 @@
 use Rattle.std.proofs.Common.{◌≡◌, ℕ, List, Option, Some, Ok, Err, ap, sym, ◌∙◌, subst, inl, inr, arith}
 use Rattle.std.specs.List.{concat}
 use Rattle.std.specs.Io.KnownBytes.{append_known}
+use Rattle.std.specs.Option.{ForSome}
 use Rattle.command_words.specs.Invocations.{Invocation}
-use Rattle.command_words.specs.Invocations as invocations
+use Rattle.command_words.specs.declared.command.Command.TheVariants as command
 use Rattle.lam_outside.specs.Told.{Contents}
 use Rattle.ideal_meaning.specs.Checked.{BadState, BadArgument, Rejected, Accepted}
 use Rattle.ideal_meaning.specs.Ideal.{Outcome, Done, Trapped, Out}
@@ -11,12 +12,13 @@ use Rattle.printed_lines.specs.Lines.{collision_line, rejected_line}
 use Rattle.printed_lines.specs.declared.refusal.Refusal.TheVariants as refusal
 use Rattle.collision_audit.specs.Audits.{Audit, Collides, Judges}
 use Rattle.auth_cli.specs.Answer.{Answer, agreeing, audit_told, command_answer, outcome_answer}
-use Rattle.auth_cli.specs.AuditedCalls.{AgreesOnOutcome, AuditSays, AuditedBy, IfJudged, IsAudit, IsAudited, IsOfAudit, IsTrueAudit, MeansAudit, TellsAnAudit}
+use Rattle.auth_cli.specs.AuditedCalls.{AgreesOnOutcome, AuditSays, IfJudged, IsAudited, IsAuditedBy, IsOfAudit, IsTrueAudit, MeansAudit, TellsAnAudit}
 use Rattle.auth_cli.specs.Codes.{code}
 use Rattle.auth_cli.specs.Ending.{Outside, EndsAs, IsToldAs}
-use Rattle.auth_cli.specs.Halting.{Found, status_of}
+use Rattle.auth_cli.specs.Halting.{Found, MayHalt, status_of}
 use Rattle.auth_cli.specs.IdealCalls.{IdealCall, call_audit, projected_outcome, result_type}
 use Rattle.auth_cli.specs.Telling.{Tells}
+use Rattle.auth_cli.specs.declared.report.Halt.{Halt}
 use Rattle.auth_cli.specs.declared.report.Halt.TheVariants.{Usage, Refused, ReadFault, NoMemory}
 use Rattle.auth_cli.specs.declared.status.Status.{Status}
 use Rattle.auth_cli.specs.declared.status.Status.TheVariants as status
@@ -120,16 +122,19 @@ audit_of_code status.ReadFault tells = no_audit 8 (λ e. omega arith) (λ e. ome
 audit_of_code status.WriteFault tells = no_audit 9 (λ e. omega arith) (λ e. omega arith) (λ e. omega arith) (λ e. omega arith) (λ e. omega arith) tells
 audit_of_code status.NoMemory tells = no_audit 10 (λ e. omega arith) (λ e. omega arith) (λ e. omega arith) (λ e. omega arith) (λ e. omega arith) tells
 
-of_audit : (invocation : Invocation) (files : Contents) (old new : Outside) (ended : Status) → IsAudit invocation → IsOfAudit ended → AuditedBy (Some invocation) files old new ended → IsAudited invocation files old new ended
-of_audit (invocations.Audit program role image argument fuel proof) files old new ended is_audit is audited = audited is
-of_audit (invocations.Check program) files old new ended is_audit is audited = absurd is_audit
-of_audit (invocations.Init program role argument fuel out) files old new ended is_audit is audited = absurd is_audit
-of_audit (invocations.Shallow program image out) files old new ended is_audit is audited = absurd is_audit
-of_audit (invocations.Prove program role image argument fuel kept out) files old new ended is_audit is audited = absurd is_audit
-of_audit (invocations.Verify program role state argument fuel proof) files old new ended is_audit is audited = absurd is_audit
-
 -- a run of words that call `audit`, where it ended with the number of a status of an audit
-pub audited_run : (found : Option Invocation) (invocation : Invocation) (files : Contents) (old new : Outside) (ended : Status) (number : ℕ) → found ≡ Some invocation → IsAudit invocation
-    → number ≡ code ended → TellsAnAudit number → AuditedBy found files old new ended → IsAudited invocation files old new ended
-audited_run found invocation files old new ended number called is_audit is tells audited =
-    of_audit invocation files old new ended is_audit (audit_of_code ended (subst TellsAnAudit is tells)) (subst (λ found. AuditedBy found files old new ended) called audited)
+pub audited_run : (called : Invocation) (contents : Option Contents) (old new : Outside) (ended : Status) (number : ℕ) → called.command ≡ command.Audit → number ≡ code ended → TellsAnAudit number
+    → IsAuditedBy called contents old new ended → ForSome contents (λ files. IsAudited called files old new ended)
+audited_run called contents old new ended number audit is tells audited = audited audit (audit_of_code ended (subst TellsAnAudit is tells))
+
+-- what halts the reading of the files is no rejection of a proof
+halt_unjudged : (A : Type 0) (before now : ℕ) (halt : Halt) → MayHalt before now halt → IfJudged (Err halt) A
+halt_unjudged A before now Usage cause = tt
+halt_unjudged A before now (Refused (refusal.Program kind line column)) cause = tt
+halt_unjudged A before now (Refused (refusal.Input fault)) cause = tt
+halt_unjudged A before now (Refused (refusal.Proof why)) cause = absurd cause
+halt_unjudged A before now ReadFault cause = tt
+halt_unjudged A before now NoMemory cause = tt
+
+pub unjudged : (A : Type 0) (before now : ℕ) (found : Found) (halt : Halt) → found ≡ Err halt → MayHalt before now halt → IfJudged found A
+unjudged A before now found halt is cause = subst (λ found. IfJudged found A) (sym is) (halt_unjudged A before now halt cause)

@@ -1,13 +1,14 @@
 -- A run of words, from the command that they call.
-use Rattle.std.proofs.Common.{◌≡◌, ◌⊎◌, inl, inr, ℕ, List, Option, Some, None, Err, refl, sym, subst}
-use Rattle.command_words.specs.Invocations.{Invocation, Check, Init, Shallow, Prove, Verify, Audit, invocation_of}
+use Rattle.std.proofs.Common.{◌≡◌, ◌⊎◌, inl, inr, ℕ, List, Option, Some, None, Err, refl, sym, ◌∙◌, subst}
+use Rattle.command_words.specs.Invocations.{Invocation, invocation_of}
 use Rattle.lam_outside.specs.Told.{Contents}
 use Rattle.auth_cli.specs.Answer.{answer, called_answer, command_answer}
 use Rattle.auth_cli.specs.Codes.{code}
 use Rattle.auth_cli.specs.Ending.{EndsAs, IsOfRefused, Outside}
-use Rattle.auth_cli.specs.AuditedCalls.{AuditedBy, IsOfAudit}
-use Rattle.auth_cli.specs.ProvedCalls.{ProvedBy}
+use Rattle.auth_cli.specs.AuditedCalls.{IsAuditedBy, IsOfAudit}
+use Rattle.auth_cli.specs.ProvedCalls.{IsProvedBy}
 use Rattle.auth_cli.specs.SoundPrograms.{IsOutcome}
+use Rattle.auth_cli.specs.Statuses.{MayAnswer}
 use Rattle.auth_cli.specs.Telling.{Tells}
 use Rattle.auth_cli.specs.declared.report.Halt.TheVariants.{Usage, NoMemory}
 use Rattle.auth_cli.specs.declared.status.Status.{Status}
@@ -79,20 +80,31 @@ no_audit status.InputRefused is audit = is
 no_audit status.ReadFault is audit = is
 no_audit status.Collision is audit = is
 
-pub nothing_proved : (found : Option Invocation) (files : Contents) (old new : Outside) (status : Status) → IsOfRefused status → ProvedBy found files old new status
-nothing_proved None files old new status is = tt
-nothing_proved (Some (Check program)) files old new status is = tt
-nothing_proved (Some (Init program role argument fuel out)) files old new status is = tt
-nothing_proved (Some (Shallow program image out)) files old new status is = tt
-nothing_proved (Some (Prove program role image argument fuel kept out)) files old new status is = λ outcome. absurd (no_outcome status is outcome)
-nothing_proved (Some (Verify program role state argument fuel proof)) files old new status is = tt
-nothing_proved (Some (Audit program role image argument fuel proof)) files old new status is = tt
+pub nothing_proved : (called : Invocation) (contents : Option Contents) (old new : Outside) (status : Status) → IsOfRefused status → IsProvedBy called contents old new status
+nothing_proved called contents old new status is = λ prove outcome. absurd (no_outcome status is outcome)
 
-pub nothing_audited : (found : Option Invocation) (files : Contents) (old new : Outside) (status : Status) → IsOfRefused status → AuditedBy found files old new status
-nothing_audited None files old new status is = tt
-nothing_audited (Some (Check program)) files old new status is = tt
-nothing_audited (Some (Init program role argument fuel out)) files old new status is = tt
-nothing_audited (Some (Shallow program image out)) files old new status is = tt
-nothing_audited (Some (Prove program role image argument fuel kept out)) files old new status is = tt
-nothing_audited (Some (Verify program role state argument fuel proof)) files old new status is = tt
-nothing_audited (Some (Audit program role image argument fuel proof)) files old new status is = λ audit. absurd (no_audit status is audit)
+pub nothing_audited : (called : Invocation) (contents : Option Contents) (old new : Outside) (status : Status) → IsOfRefused status → IsAuditedBy called contents old new status
+nothing_audited called contents old new status is = λ audit of_audit. absurd (no_audit status is of_audit)
+
+-- what words call is one thing alone
+same_called : (words : List (List ℕ)) (read called : Invocation) → invocation_of words ≡ Some read → invocation_of words ≡ Some called → read ≡ called
+same_called words read called is other = same read called (sym is ∙ other)
+  where
+    same : (a b : Invocation) → Some a ≡ Some b → a ≡ b
+    same a b e = cc
+
+module _ (words : List (List ℕ)) (read called : Invocation) (is : invocation_of words ≡ Some read) (other : invocation_of words ≡ Some called) (status : Status) where
+  pub possible_called : MayAnswer read.command status → MayAnswer called.command status
+  possible_called may = subst (λ (i : Invocation). MayAnswer i.command status) (same_called words read called is other) may
+
+  pub proved_called : (contents : Option Contents) (old new : Outside) → IsProvedBy read contents old new status → IsProvedBy called contents old new status
+  proved_called contents old new proved = subst (λ i. IsProvedBy i contents old new status) (same_called words read called is other) proved
+
+  pub audited_called : (contents : Option Contents) (old new : Outside) → IsAuditedBy read contents old new status → IsAuditedBy called contents old new status
+  audited_called contents old new audited = subst (λ i. IsAuditedBy i contents old new status) (same_called words read called is other) audited
+
+pub none_called : {A : Type 0} (words : List (List ℕ)) (called : Invocation) → invocation_of words ≡ None → invocation_of words ≡ Some called → A
+none_called words called none is = absurd (by (invocation_of words) none is)
+  where
+    by : (found : Option Invocation) → found ≡ None → found ≡ Some called → ⊥
+    by found none is = absurd (cc)

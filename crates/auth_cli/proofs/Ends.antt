@@ -11,10 +11,11 @@ use Rattle.printed_lines.specs.declared.refusal.Refusal.{Refusal}
 use Rattle.printed_lines.specs.declared.refusal.Refusal.TheVariants as refusal
 use Rattle.auth_cli.specs.Answer.{Answer, refused, refusal_status, says}
 use Rattle.auth_cli.specs.Ending.{Outside, EndsAnswered, EndsAs, EndsInWriteFault, IsToldAs, MayWrite, StoresSome, WritesPart, lines_of}
-use Rattle.auth_cli.specs.Halting.{Found, Finds, HaltCause, ending_status, line_of, status_of}
+use Rattle.auth_cli.specs.Halting.{Found, Finds, HaltCause, JudgementCause, MayHalt, MayHaltJudging, ending_status, line_of, status_of}
 use Rattle.auth_cli.specs.Telling.{Tells}
 use Rattle.auth_cli.specs.declared.report.Ending.{Ending}
 use Rattle.auth_cli.specs.declared.report.Ending.TheVariants as ending
+use Rattle.auth_cli.specs.declared.report.Halt.{Halt}
 use Rattle.auth_cli.specs.declared.report.Halt.TheVariants.{Usage, Refused, ReadFault, NoMemory}
 use Rattle.auth_cli.specs.declared.status.Status.{Status}
 use Rattle.auth_cli.specs.declared.status.Status.TheVariants as status
@@ -41,6 +42,19 @@ line_told answer old new status line is written same =
 -- the line of an answer of one line
 line_is : (answer : Option Answer) (status : Status) (line : List ℕ) → answer ≡ Some (says status line) → line ≡ concat (lines_of answer)
 line_is answer status line is = rw (is, one_line line) refl
+
+-- what may halt the reading of files may halt work that judges a proof
+pub halt_judging : (before now : ℕ) (halt : Halt) → MayHalt before now halt → MayHaltJudging before now halt
+halt_judging before now Usage cause = cause
+halt_judging before now (Refused (refusal.Program kind line column)) cause = cause
+halt_judging before now (Refused (refusal.Input fault)) cause = cause
+halt_judging before now (Refused (refusal.Proof why)) cause = absurd cause
+halt_judging before now ReadFault cause = cause
+halt_judging before now NoMemory cause = cause
+
+pub judging : (before now : ℕ) (found : Found) → HaltCause before now found → JudgementCause before now found
+judging before now (Ok report) cause = cause
+judging before now (Err halt) cause = halt_judging before now halt cause
 
 module _ (answer : Contents → Option Answer) (old new : Outside) where
   abbrev FindsTold : Found → Type 0
@@ -84,10 +98,10 @@ module _ (answer : Contents → Option Answer) (old new : Outside) where
   }
 
   -- all of the line was written
-  whole : (found : Found) → FindsTold found → HaltCause old.read_faults new.read_faults found → new.stores ≡ old.stores → new.store_faults ≡ old.store_faults
+  whole : (found : Found) → FindsTold found → JudgementCause old.read_faults new.read_faults found → new.stores ≡ old.stores → new.store_faults ≡ old.store_faults
       → new.written ≡ append_known old.written (line_of found) → new.write_faults ≡ old.write_faults → EndsAs answer old new (status_of found)
   whole (Ok report) finds cause same stores written writes = report_ends report.ending report.text.items finds written same cause stores writes
-  whole (Err Usage) finds cause same stores written writes = answered _ _ finds written same cause stores writes
+  whole (Err Usage) finds cause same stores written writes = absurd cause
   whole (Err (Refused what)) finds cause same stores written writes = refusal_ends what finds written same cause stores writes
   whole (Err ReadFault) finds cause same stores written writes = record {
     rose = cause;
@@ -107,25 +121,28 @@ module _ (answer : Contents → Option Answer) (old new : Outside) where
   may_write (Err NoMemory) files finds = inr (inr (0, refl))
 
   -- a front of the line was written
-  part : (found : Found) → FindsTold found → new.stores ≡ old.stores → WritesPart old.written new.written (line_of found) → Rose old.write_faults new.write_faults → EndsInWriteFault answer old new
-  part found finds same written rose = record {
-    rose = inl rose;
+  part : (found : Found) → FindsTold found → new.stores ≡ old.stores → new.store_faults ≡ old.store_faults → WritesPart old.written new.written (line_of found)
+      → Rose old.write_faults new.write_faults → EndsInWriteFault answer old new
+  part found finds same stores written rose = inl (record {
+    rose = rose;
     part = λ files known. (line_of found, may_write found files (finds files known), written);
     stored = λ files known. stores_none (answer files) old.stores new.stores same;
-  }
+    stores = stores;
+  })
 
   -- a front of the line of the want of memory was written
-  memory_part : new.stores ≡ old.stores → WritesPart old.written new.written (codes "no memory\n") → Rose old.write_faults new.write_faults → EndsInWriteFault answer old new
-  memory_part same written rose = record {
-    rose = inl rose;
+  memory_part : new.stores ≡ old.stores → new.store_faults ≡ old.store_faults → WritesPart old.written new.written (codes "no memory\n") → Rose old.write_faults new.write_faults → EndsInWriteFault answer old new
+  memory_part same stores written rose = inl (record {
+    rose = rose;
     part = λ files known. (codes "no memory\n", inr (inr (0, refl)), written);
     stored = λ files known. stores_none (answer files) old.stores new.stores same;
-  }
+    stores = stores;
+  })
 
   -- a command that stores nothing, by what its work found and how that was told
-  pub ends_as : (found : Found) (ended : Status) → FindsTold found → HaltCause old.read_faults new.read_faults found → new.stores ≡ old.stores → new.store_faults ≡ old.store_faults
+  pub ends_as : (found : Found) (ended : Status) → FindsTold found → JudgementCause old.read_faults new.read_faults found → new.stores ≡ old.stores → new.store_faults ≡ old.store_faults
       → Tells found ended old.written new.written old.write_faults new.write_faults → EndsAs answer old new ended
   ends_as found ended finds cause same stores (inl (inl told)) = rw told.0 (whole found finds cause same stores told.1 told.2)
-  ends_as found ended finds cause same stores (inl (inr told)) = rw told.0 (part found finds same told.1 told.2)
+  ends_as found ended finds cause same stores (inl (inr told)) = rw told.0 (part found finds same stores told.1 told.2)
   ends_as found ended finds cause same stores (inr (inl told)) = rw told.0 (memory_ends same stores told.1 told.2)
-  ends_as found ended finds cause same stores (inr (inr told)) = rw told.0 (memory_part same told.1 told.2)
+  ends_as found ended finds cause same stores (inr (inr told)) = rw told.0 (memory_part same stores told.1 told.2)

@@ -1,5 +1,5 @@
 -- From what was found, and how it was stored and told, to how the run ends.
-use Rattle.std.proofs.Common.{◌≡◌, ℕ, List, Option, Ok, Err, Result, codes, ◌⊎◌, refl, ap, sym, ◌∙◌, subst, inl, inr}
+use Rattle.std.proofs.Common.{◌≡◌, ℕ, List, Option, Ok, Err, Result, codes, refl, ap, sym, ◌∙◌, subst, inl, inr}
 use Rattle.std.specs.List.{concat}
 use Rattle.std.specs.Option.{ForSome}
 use Rattle.std.specs.Io.KnownBytes.{append_known}
@@ -18,8 +18,7 @@ use Rattle.auth_cli.specs.declared.report.Output.{Output}
 use Rattle.auth_cli.specs.declared.report.Report.{Report}
 use Rattle.auth_cli.specs.declared.status.Status.{Status}
 use Rattle.auth_cli.specs.declared.status.Status.TheVariants as status
-use Rattle.auth_cli.proofs.Ends.{ends_as}
-use Rattle.auth_cli.proofs.Known.{append_none}
+use Rattle.auth_cli.proofs.Ends.{ends_as, halt_judging}
 
 module _ (answer : Contents → Option Answer) (old new : Outside) (name : List ℕ) where
   module _ (output : Output) (finds : ForSome old.contents (λ files. FindsOutput name (answer files) (Ok output)))
@@ -58,21 +57,27 @@ module _ (answer : Contents → Option Answer) (old new : Outside) (name : List 
     output_ends ending.OutOfFuel is written reads store_faults writes = answered ending.OutOfFuel is written reads store_faults writes
     output_ends ending.Collision is written reads store_faults writes = answered ending.Collision is written reads store_faults writes
 
-    -- a front of them was written
-    part : WritesPart old.written new.written text → Rose old.write_faults new.write_faults ⊎ Rose old.store_faults new.store_faults → EndsInWriteFault answer old new
-    part written rose = record {
+    -- the file could not be stored
+    unstored : new.written ≡ old.written → new.write_faults ≡ old.write_faults → Rose old.store_faults new.store_faults → EndsInWriteFault answer old new
+    unstored nothing writes rose = inr (record { rose = rose; nothing = nothing; stored = stored; writes = writes })
+
+    -- a front of its lines was written
+    part : new.store_faults ≡ old.store_faults → WritesPart old.written new.written text → Rose old.write_faults new.write_faults → EndsInWriteFault answer old new
+    part store_faults written rose = inl (record {
       rose = rose;
       part = λ files known. (text, inl (text_is (answer files) (finds files known)), written);
       stored = stored;
-    }
+      stores = store_faults;
+    })
 
     -- memory was wanting for them
-    memory_part : WritesPart old.written new.written (codes "no memory\n") → Rose old.write_faults new.write_faults → EndsInWriteFault answer old new
-    memory_part written rose = record {
-      rose = inl rose;
+    memory_part : new.store_faults ≡ old.store_faults → WritesPart old.written new.written (codes "no memory\n") → Rose old.write_faults new.write_faults → EndsInWriteFault answer old new
+    memory_part store_faults written rose = inl (record {
+      rose = rose;
       part = λ files known. (codes "no memory\n", inr (inr (0, refl)), written);
       stored = stored;
-    }
+      stores = store_faults;
+    })
 
     memory_ends : new.store_faults ≡ old.store_faults → new.written ≡ append_known old.written (codes "no memory\n") → new.write_faults ≡ old.write_faults → EndsAs answer old new status.NoMemory
     memory_ends store_faults written writes = record {
@@ -85,21 +90,15 @@ module _ (answer : Contents → Option Answer) (old new : Outside) (name : List 
     told_ends : (ended : Status) → new.read_faults ≡ old.read_faults → new.store_faults ≡ old.store_faults
         → Tells (Ok output.report) ended old.written new.written old.write_faults new.write_faults → EndsAs answer old new ended
     told_ends ended reads store_faults (inl (inl told)) = subst (EndsAs answer old new) (sym told.0) (output_ends output.report.ending refl told.1 reads store_faults told.2)
-    told_ends ended reads store_faults (inl (inr told)) = subst (EndsAs answer old new) (sym told.0) (part told.1 (inl told.2))
+    told_ends ended reads store_faults (inl (inr told)) = subst (EndsAs answer old new) (sym told.0) (part store_faults told.1 told.2)
     told_ends ended reads store_faults (inr (inl told)) = subst (EndsAs answer old new) (sym told.0) (memory_ends store_faults told.1 told.2)
-    told_ends ended reads store_faults (inr (inr told)) = subst (EndsAs answer old new) (sym told.0) (memory_part told.1 told.2)
+    told_ends ended reads store_faults (inr (inr told)) = subst (EndsAs answer old new) (sym told.0) (memory_part store_faults told.1 told.2)
 
   both : (found : Result Output Halt) (ended : Status) → ForSome old.contents (λ files. FindsOutput name (answer files) found) → HaltCause old.read_faults new.read_faults found
       → StoresAndTells name found ended old.stores new.stores old.store_faults new.store_faults old.written new.written old.write_faults new.write_faults → EndsAs answer old new ended
-  both (Err halt) ended finds cause told = ends_as answer old new (Err halt) ended finds (halt_cause halt cause) told.0 told.1 told.2
-    where
-      halt_cause : (halt : Halt) → HaltCause {T = Output} old.read_faults new.read_faults (Err halt) → HaltCause {T = Report} old.read_faults new.read_faults (Err halt)
-      halt_cause Usage cause = cause
-      halt_cause (Refused what) cause = cause
-      halt_cause ReadFault cause = cause
-      halt_cause NoMemory cause = cause
+  both (Err halt) ended finds cause told = ends_as answer old new (Err halt) ended finds (halt_judging old.read_faults new.read_faults halt cause) told.0 told.1 told.2
   both (Ok output) ended finds cause (stores, inl failed) =
-      subst (EndsAs answer old new) (sym failed.0) (part output finds stores (0, failed.1 ∙ sym (append_none old.written)) (inr failed.2))
+      subst (EndsAs answer old new) (sym failed.0) (unstored output finds stores failed.1 failed.2 failed.3)
   both (Ok output) ended finds cause (stores, inr told) = told_ends output finds stores ended cause told.0 told.1
 
   -- a command that may store a file, by what its work found and how that was stored and told

@@ -1,8 +1,9 @@
 -- Where an answer tells an outcome, each of its steps went on.
-use Rattle.std.proofs.Common.{◌≡◌, ℕ, Bool, true, false, List, length, cond, Option, Some, None, refl, ap, ◌∙◌, subst}
+use Rattle.std.proofs.Common.{◌≡◌, ℕ, Bool, true, false, List, [], ◌∷◌, length, cond, Option, Some, None, refl, ap, ◌∙◌, subst}
 use Rattle.std.specs.Prelude.{nat_le}
 use Rattle.std.specs.Option.{option_and_then}
-use Rattle.command_words.specs.Invocations.{Verify, invocation_of}
+use Rattle.command_words.specs.Invocations.{calls, invocation_of}
+use Rattle.command_words.specs.declared.command.Command.TheVariants.{Verify}
 use Rattle.sha2.specs.Sha256.{sha256}
 use Rattle.lam_outside.specs.Told.{Contents}
 use Rattle.core_terms.specs.Types.{Ty}
@@ -95,7 +96,7 @@ module _ (program role state argument fuel proof : List ℕ) (files : Contents) 
       (leads_on _ _ _ (argument_leads P f argument a judged_with argument_is) (file_leads max_file named.Proof _ bytes _ proof_is)))))))
 
   -- the answer of words that call `verify` on these files and arguments is that of the verdict
-  pub line_leads : (line : List (List ℕ)) → invocation_of line ≡ Some (Verify program role state argument fuel proof)
+  pub line_leads : (line : List (List ℕ)) → invocation_of line ≡ Some (calls Verify (program ∷ role ∷ state ∷ argument ∷ fuel ∷ proof ∷ []))
       → files program ≡ Some text → program_of_text text ≡ IsProgram P → query_named P role ≡ Some f → fuel_of fuel ≡ Some k → files state ≡ Some s
       → literal P (argument_type P f) argument ≡ IsValue a → files proof ≡ Some bytes
       → Leads (answer line files) (Some (call_answer meant_call bytes))

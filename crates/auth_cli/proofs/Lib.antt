@@ -1,35 +1,35 @@
-pub mod AcceptedCalls
-pub mod Answered
-pub mod AuditedRuns
-pub mod Called
-pub mod ClientStates
-pub mod Ends
-pub mod EndsStored
-pub mod InitRoles
-pub mod Known
-pub mod Leading
-pub mod LiteralsRead
-pub mod MadeStates
-pub mod MarkedStates
-pub mod NamedConstructors
-pub mod Numbers
-pub mod PlainArguments
-pub mod CommandStatuses
-pub mod RunStatuses
-pub mod ProofOutputs
-pub mod ProvedRuns
-pub mod RolesByName
-pub mod SoundQueries
-pub mod SoundTexts
-pub mod StateOutputs
-pub mod Steps
-pub mod Stopping
-pub mod Told
-pub mod TrueAudits
-pub mod TrueLine
-pub mod Unjudged
-pub mod VerifiedCalls
-pub mod TextFormats
-pub mod TextNames
-pub mod WholeTexts
-pub mod OnProofs
+-- Each file of lemmas, and the functions whose proofs cite it.
+pub mod Steps  -- the readers (`read_..`, `load_..`) and finders (`find_..`): steps put together
+pub mod Words  -- the commands and `carry_out`: the words behind a command
+pub mod Possible  -- the commands and `run`: the statuses that may be answered
+pub mod Ends  -- `check_command`, `verify_command`, `audit_command`, `ended`
+pub mod EndsStored  -- `init_command`, `shallow_command`, `prove_command`
+pub mod Known  -- `write_all`
+pub mod Numbers  -- `read_number`, `has_digits_alone`
+pub mod RolesByName  -- `query_named`, `init_named`
+pub mod InitRoles  -- `read_init_argument`, `run_init`
+pub mod LiteralsRead  -- `read_value`
+pub mod PlainArguments  -- `read_value`
+pub mod TextNames  -- `read_language_program`
+pub mod MarkedStates  -- `mark_auth`, `spell_state`
+pub mod StateOutputs  -- `spell_state`
+pub mod MadeStates  -- `made_output`
+pub mod ProofOutputs  -- `make_proof`
+pub mod AcceptedCalls  -- `find_proof`
+pub mod VerifiedCalls  -- `find_proof`
+pub mod Told  -- `prove_command`
+pub mod ProvedRuns  -- `prove_command`, `run`
+pub mod TrueAudits  -- `find_audit`
+pub mod AuditedRuns  -- `find_audit`, `audit_command`, `run`
+pub mod Called  -- `ended`, `run`
+pub mod Answered  -- `run`: by the number of its status
+pub mod MeantCalls  -- `run`: clauses `split`, `proves`
+pub mod Leading  -- `run`: clause `headline`
+pub mod SoundQueries  -- `run`: clause `headline`
+pub mod TrueLine  -- `run`: clause `headline`
+pub mod SoundTexts  -- the law `programs_are_sound`
+pub mod TextFormats  -- the laws `programs_are_sound`, `verdicts_are_on_proofs`
+pub mod OnProofs  -- the law `verdicts_are_on_proofs`
+pub mod NamedConstructors  -- the law `texts_of_the_whole_language`
+pub mod WholeTexts  -- the laws `texts_of_the_whole_language`, `shallow_stores_the_clients_state`
+pub mod ClientStates  -- the law `shallow_stores_the_clients_state`

@@ -1,11 +1,13 @@
 -- What a run of `prove` says of the verifier, from how it ended and what its work found.
 use Rattle.std.proofs.Common.{◌≡◌, ℕ, Option, Some, subst, inl, inr, arith}
-use Rattle.command_words.specs.Invocations.{Invocation, Check, Init, Shallow, Prove, Verify, Audit}
+use Rattle.std.specs.Option.{ForSome}
+use Rattle.command_words.specs.Invocations.{Invocation}
+use Rattle.command_words.specs.declared.command.Command.TheVariants.{Prove}
 use Rattle.lam_outside.specs.Told.{Contents}
 use Rattle.auth_cli.specs.Answer.{Answer, command_answer}
 use Rattle.auth_cli.specs.Codes.{code}
 use Rattle.auth_cli.specs.Ending.{Outside, EndsAs, IsToldAs}
-use Rattle.auth_cli.specs.ProvedCalls.{IsProve, IsProved, MeansProof, ProvedBy}
+use Rattle.auth_cli.specs.ProvedCalls.{IsProved, IsProvedBy, MeansProof}
 use Rattle.auth_cli.specs.SoundPrograms.{IsOutcome}
 use Rattle.auth_cli.specs.TrueLines.{TellsOutcome}
 use Rattle.auth_cli.specs.declared.status.Status.{Status}
@@ -59,16 +61,7 @@ outcome_of_code WriteFault tells = no_outcome 9 (λ e. omega arith) (λ e. omega
 outcome_of_code NoMemory tells = no_outcome 10 (λ e. omega arith) (λ e. omega arith) (λ e. omega arith) tells
 outcome_of_code Collision tells = no_outcome 11 (λ e. omega arith) (λ e. omega arith) (λ e. omega arith) tells
 
-of_prove : (invocation : Invocation) (files : Contents) (old new : Outside) (status : Status) → IsProve invocation → IsOutcome status → ProvedBy (Some invocation) files old new status → IsProved invocation files old new status
-of_prove (Prove program role image argument fuel kept out) files old new status is_prove outcome proved = proved outcome
-of_prove (Check program) files old new status is_prove outcome proved = absurd is_prove
-of_prove (Init program role argument fuel out) files old new status is_prove outcome proved = absurd is_prove
-of_prove (Shallow program image out) files old new status is_prove outcome proved = absurd is_prove
-of_prove (Verify program role state argument fuel proof) files old new status is_prove outcome proved = absurd is_prove
-of_prove (Audit program role image argument fuel proof) files old new status is_prove outcome proved = absurd is_prove
-
 -- a run of words that call `prove`, where it ended with the number of an outcome's status
-pub proved_run : (found : Option Invocation) (invocation : Invocation) (files : Contents) (old new : Outside) (status : Status) (number : ℕ) → found ≡ Some invocation → IsProve invocation
-    → number ≡ code status → TellsOutcome number → ProvedBy found files old new status → IsProved invocation files old new status
-proved_run found invocation files old new status number called is_prove is tells proved =
-    of_prove invocation files old new status is_prove (outcome_of_code status (subst TellsOutcome is tells)) (subst (λ found. ProvedBy found files old new status) called proved)
+pub proved_run : (called : Invocation) (contents : Option Contents) (old new : Outside) (status : Status) (number : ℕ) → called.command ≡ Prove → number ≡ code status → TellsOutcome number
+    → IsProvedBy called contents old new status → ForSome contents (λ files. IsProved called files old new status)
+proved_run called contents old new status number prove is tells proved = proved prove (outcome_of_code status (subst TellsOutcome is tells))

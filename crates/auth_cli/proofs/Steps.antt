@@ -13,6 +13,7 @@ use Rattle.images.specs.Images as images
 use Rattle.images.specs.Loads.{Tells}
 use Rattle.images.specs.declared.fault.ImageFault.{ImageFault}
 use Rattle.images.specs.declared.fault.ImageFault.TheVariants as image_fault
+use Rattle.printed_lines.specs.declared.refusal.Refusal.TheVariants as refusal
 use Rattle.auth_cli.specs.Answer.{Answer, image_read, literal_at, with_image, with_literal, with_root, with_value}
 use Rattle.auth_cli.specs.FueledQueries.{DigestedProgram}
 use Rattle.auth_cli.specs.Halting.{Finds, FindsInHand, Found, GoesOn, GoesOnFor, GoesOnForInHand, GoesOnInHand, HaltCause, HaltsAs, of_image_fault, of_literal_fault}
@@ -47,15 +48,19 @@ halts_first_for first next Stands (Err other) halt is halts =
 pub goes_behind : {A B T : Type 0} (first : (A → Option Answer) → Option Answer) (a : A) (next : A → (B → Option Answer) → Option Answer) (Stands : T → B → Type 0) (result : Result T Halt)
     → ((go : A → Option Answer) → first go ≡ go a) → GoesOnForInHand (next a) Stands result → GoesOnFor (λ go. first (λ a. next a go)) Stands result
 goes_behind first a next Stands (Ok t) is goes = (goes.0, (λ go. is (λ a. next a go) ∙ goes.1 go), goes.2)
-goes_behind first a next Stands (Err Usage) is goes = λ go. halts_behind _ _ Usage (is (λ a. next a go)) (goes go)
-goes_behind first a next Stands (Err (Refused what)) is goes = λ go. halts_behind _ _ (Refused what) (is (λ a. next a go)) (goes go)
+goes_behind first a next Stands (Err Usage) is goes = absurd goes
+goes_behind first a next Stands (Err (Refused (refusal.Program kind line column))) is goes = λ go. halts_behind _ _ (Refused (refusal.Program kind line column)) (is (λ a. next a go)) (goes go)
+goes_behind first a next Stands (Err (Refused (refusal.Input fault))) is goes = λ go. halts_behind _ _ (Refused (refusal.Input fault)) (is (λ a. next a go)) (goes go)
+goes_behind first a next Stands (Err (Refused (refusal.Proof cause))) is goes = absurd goes
 goes_behind first a next Stands (Err ReadFault) is goes = absurd goes
 goes_behind first a next Stands (Err NoMemory) is goes = λ go. tt
 
 -- what halts a step on what is in hand
 pub hand_halts : {A T : Type 0} (step : (A → Option Answer) → Option Answer) (value : T → A) (halt : Halt) → GoesOnInHand step value (Err halt) → (go : A → Option Answer) → HaltsAs (step go) halt
-hand_halts step value Usage goes = goes
-hand_halts step value (Refused what) goes = goes
+hand_halts step value Usage goes = absurd goes
+hand_halts step value (Refused (refusal.Program kind line column)) goes = goes
+hand_halts step value (Refused (refusal.Input fault)) goes = goes
+hand_halts step value (Refused (refusal.Proof cause)) goes = absurd goes
 hand_halts step value ReadFault goes = absurd goes
 hand_halts step value NoMemory goes = goes
 
@@ -67,7 +72,7 @@ finds_halt answer (Err other) halt is halts = let same : halt ≡ other = cc in 
 -- what is found of work on what is in hand is found
 pub report_found : (answer : Answer) (result : Found) → FindsInHand answer result → Finds (Some answer) result
 report_found answer (Ok report) finds = finds
-report_found answer (Err Usage) finds = finds
+report_found answer (Err Usage) finds = absurd finds
 report_found answer (Err (Refused what)) finds = finds
 report_found answer (Err ReadFault) finds = absurd finds
 report_found answer (Err NoMemory) finds = finds
@@ -117,8 +122,10 @@ image_refused_for p bytes Stands fault (Ok t) halt is = absurd halt
 image_refused_for p bytes Stands fault (Err h) halt is = by h (image_refused {T = Value} p bytes (λ v. v) fault (Err h) halt is)
   where
     by : (h : Halt) → GoesOnInHand {T = Value} (with_image p bytes) (λ v. v) (Err h) → GoesOnForInHand (with_image p bytes) Stands (Err h)
-    by Usage goes = goes
-    by (Refused what) goes = goes
+    by Usage goes = absurd goes
+    by (Refused (refusal.Program kind line column)) goes = goes
+    by (Refused (refusal.Input fault)) goes = goes
+    by (Refused (refusal.Proof cause)) goes = absurd goes
     by ReadFault goes = absurd goes
     by NoMemory goes = goes
 
@@ -133,23 +140,29 @@ pub hand_halt : {A T : Type 0} (name : List ℕ) (step : (A → Option Answer) �
 hand_halt name step value go result halt is goes = subst (FindsOutputInHand name (step go)) (sym is) (by halt goes)
   where
     by : (halt : Halt) → GoesOnInHand step value (Err halt) → FindsOutputInHand name (step go) (Err halt)
-    by Usage goes = goes go
-    by (Refused what) goes = goes go
+    by Usage goes = absurd goes
+    by (Refused (refusal.Program kind line column)) goes = goes go
+    by (Refused (refusal.Input fault)) goes = goes go
+    by (Refused (refusal.Proof cause)) goes = absurd goes
     by ReadFault goes = absurd goes
     by NoMemory goes = goes go
 
 -- what is found of work on what is in hand is found
 pub hand_found : (name : List ℕ) (answer : Option Answer) (result : Result Output Halt) → FindsOutputInHand name answer result → FindsOutput name answer result
 hand_found name answer (Ok output) finds = finds
-hand_found name answer (Err Usage) finds = finds
-hand_found name answer (Err (Refused what)) finds = finds
+hand_found name answer (Err Usage) finds = absurd finds
+hand_found name answer (Err (Refused (refusal.Program kind line column))) finds = finds
+hand_found name answer (Err (Refused (refusal.Input fault))) finds = finds
+hand_found name answer (Err (Refused (refusal.Proof cause))) finds = absurd finds
 hand_found name answer (Err ReadFault) finds = absurd finds
 hand_found name answer (Err NoMemory) finds = finds
 
 -- and no file has failed
 pub hand_cause : (answer : List ℕ → Option Answer) (result : Result Output Halt) (before now : ℕ) → ((name : List ℕ) → FindsOutputInHand name (answer name) result) → now ≡ before → HaltCause before now result
 hand_cause answer (Ok output) before now finds same = same
-hand_cause answer (Err Usage) before now finds same = same
-hand_cause answer (Err (Refused what)) before now finds same = same
+hand_cause answer (Err Usage) before now finds same = absurd (finds [])
+hand_cause answer (Err (Refused (refusal.Program kind line column))) before now finds same = same
+hand_cause answer (Err (Refused (refusal.Input fault))) before now finds same = same
+hand_cause answer (Err (Refused (refusal.Proof cause))) before now finds same = absurd (finds [])
 hand_cause answer (Err ReadFault) before now finds same = absurd (finds [])
 hand_cause answer (Err NoMemory) before now finds same = same

@@ -40,13 +40,13 @@ file_goes most word file bytes go held fits =
     ap (λ (file : Option (List ℕ)). with_file most word file go) held ∙ passed (nat_le (length bytes) most) (go bytes) _ (le-leb (length bytes) most fits)
 
 -- so is the text of a program, and a query that is found by its name
-program_goes : (name : List ℕ) (files : Contents) (p : DigestedProgram) (text : List ℕ) (go : DigestedProgram → Option Answer) → files name ≡ Some text → length text ≤ max_program
+pub program_goes : (name : List ℕ) (files : Contents) (p : DigestedProgram) (text : List ℕ) (go : DigestedProgram → Option Answer) → files name ≡ Some text → length text ≤ max_program
     → program_of_text text ≡ IsProgram p.program → p.digest ≡ sha256 text → with_program_file (files name) go ≡ go p
 program_goes name files p text go held fits is digest =
     file_goes max_program named.Program (files name) text _ held fits ∙ ap (λ found. with_program (sha256 text) found go) is
     ∙ ap (λ (digest : List ℕ). go (record { program = p.program; digest = digest })) (sym digest)
 
-query_goes : (P : Program) (name : List ℕ) (f : ℕ) (go : ℕ → Option Answer) → query_named P name ≡ Some f → with_query P name go ≡ go f
+pub query_goes : (P : Program) (name : List ℕ) (f : ℕ) (go : ℕ → Option Answer) → query_named P name ≡ Some f → with_query P name go ≡ go f
 query_goes P name f go is = by (role_named P name) is
   where
     of_kind : (kind : Kind) (i : ℕ) (refusal : Option Answer) → cond (is_query kind) (Some i) None ≡ Some f → cond (is_query kind) (go i) refusal ≡ go f

@@ -1,7 +1,9 @@
 -- What a run answers: its status, the lines that it writes and the files that it stores.
 use Rattle.std.specs.Prelude.{ℕ, List, [], ◌∷◌, ◌++◌, length, map, nat_le, codes, Option, Some, None, if◌then◌else◌}
 use Rattle.sha2.specs.Sha256.{sha256}
-use Rattle.command_words.specs.Invocations.{Invocation, Check, Init, Shallow, Prove, Verify, Audit, invocation_of}
+use Rattle.command_words.specs.Invocations.{Invocation, invocation_of}
+use Rattle.command_words.specs.declared.command.Command.{Command}
+use Rattle.command_words.specs.declared.command.Command.TheVariants.{Check, Init, Shallow, Prove, Verify, Audit}
 use Rattle.lam_outside.specs.Told.{Contents, Stores}
 use Rattle.core_terms.specs.Types.{Ty}
 use Rattle.core_terms.specs.Values.{Value, NoV, AndV}
@@ -337,15 +339,20 @@ audited_answer program role image argument fuel proof files =
     with_ideal_call q image argument files (λ call.
     with_file max_file named.Proof (files proof) (λ bytes. Some (call_audit_answer call bytes))))
 
--- what is answered to a command with its arguments: `check P`, `init P ROLE ARG FUEL OUT`, `shallow P IMG OUT`,
--- `prove P ROLE IMG ARG FUEL N OUT`, `verify P ROLE STATE ARG FUEL PROOF` and `audit P ROLE IMG ARG FUEL PROOF`
+-- What is answered to a command with the texts of its arguments: `check P`, `init P ROLE ARG FUEL OUT`, `shallow P IMG OUT`,
+-- `prove P ROLE IMG ARG FUEL N OUT`, `verify P ROLE STATE ARG FUEL PROOF` and `audit P ROLE IMG ARG FUEL PROOF`. No command is called with
+-- more texts or fewer.
+abbrev pub answer_with : Command → List (List ℕ) → Contents → Option Answer
+answer_with Check (program ∷ []) = checked_answer program
+answer_with Init (program ∷ role ∷ argument ∷ fuel ∷ out ∷ []) = initial_answer program role argument fuel out
+answer_with Shallow (program ∷ image ∷ out ∷ []) = spelled_answer program image out
+answer_with Prove (program ∷ role ∷ image ∷ argument ∷ fuel ∷ kept ∷ out ∷ []) = proved_answer program role image argument fuel kept out
+answer_with Verify (program ∷ role ∷ state ∷ argument ∷ fuel ∷ proof ∷ []) = judged_answer program role state argument fuel proof
+answer_with Audit (program ∷ role ∷ image ∷ argument ∷ fuel ∷ proof ∷ []) = audited_answer program role image argument fuel proof
+answer_with command texts = λ files. None
+
 abbrev pub command_answer : Invocation → Contents → Option Answer
-command_answer (Check program) = checked_answer program
-command_answer (Init program role argument fuel out) = initial_answer program role argument fuel out
-command_answer (Shallow program image out) = spelled_answer program image out
-command_answer (Prove program role image argument fuel kept out) = proved_answer program role image argument fuel kept out
-command_answer (Verify program role state argument fuel proof) = judged_answer program role state argument fuel proof
-command_answer (Audit program role image argument fuel proof) = audited_answer program role image argument fuel proof
+command_answer invocation = answer_with invocation.command invocation.texts
 
 -- what is answered to words that call it, or that call no command
 abbrev pub called_answer : Option Invocation → Contents → Option Answer

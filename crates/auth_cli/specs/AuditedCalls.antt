@@ -1,10 +1,11 @@
 -- What a run of `audit` says, in the words of its command line and its files.
-use Rattle.std.specs.Prelude.{◌≡◌, ◌⊎◌, ℕ, List, Option, Some, Ok, Err, ⊤}
+use Rattle.std.specs.Prelude.{◌≡◌, ◌⊎◌, ◌≤◌, ℕ, List, [], ◌∷◌, length, Option, Some, Ok, Err, ⊤}
 use Rattle.std.specs.List.{concat}
+use Rattle.std.specs.Option.{ForSome}
 use Rattle.std.specs.Io.KnownBytes.{append_known}
 use Rattle.sha2.specs.Sha256.{sha256}
-use Rattle.command_words.specs.Invocations.{Invocation}
-use Rattle.command_words.specs.Invocations as invocations
+use Rattle.command_words.specs.Invocations.{Invocation, calls}
+use Rattle.command_words.specs.declared.command.Command.TheVariants.{Audit}
 use Rattle.lam_outside.specs.Told.{Contents}
 use Rattle.core_terms.specs.Projection.{digest_at}
 use Rattle.ideal_meaning.specs.Checked.{Cause, Accepted, Rejected}
@@ -13,9 +14,10 @@ use Rattle.ideal_meaning.specs.Ideal.{honest_pieces}
 use Rattle.printed_lines.specs.Lines.{collision_line, rejected_line}
 use Rattle.printed_lines.specs.declared.refusal.Refusal.TheVariants as refusal
 use Rattle.collision_audit.specs.AuditAnswers.{HasNoSplit}
-use Rattle.collision_audit.specs.Audits.{Audit, Collides, Judges}
+use Rattle.collision_audit.specs.Audits as audits
+use Rattle.collision_audit.specs.Audits.{Collides, Judges}
 use Rattle.collision_audit.specs.Splits.{Split, IsSplit, offered_in}
-use Rattle.auth_cli.specs.Answer.{agreeing, call_audit_answer, call_verdict, command_answer, outcome_answer}
+use Rattle.auth_cli.specs.Answer.{agreeing, call_audit_answer, call_verdict, command_answer, max_file, outcome_answer}
 use Rattle.auth_cli.specs.Ending.{Outside}
 use Rattle.auth_cli.specs.Halting.{Found}
 use Rattle.auth_cli.specs.IdealCalls.{IdealCall, call_audit, call_pieces, called_program, projected_outcome, result_type}
@@ -34,10 +36,11 @@ pub record CallsAudit (invocation : Invocation) (files : Contents) (call : Ideal
   pub argument_text : List ℕ
   pub fuel_text : List ℕ
   pub proof_name : List ℕ
-  pub words : invocation ≡ invocations.Audit program_name role_name image_name argument_text fuel_text proof_name
+  pub words : invocation ≡ calls Audit (program_name ∷ role_name ∷ image_name ∷ argument_text ∷ fuel_text ∷ proof_name ∷ [])
   pub query : NamesQuery program_name role_name fuel_text files call.query
   pub inputs : NamesInputs image_name argument_text files call
   pub proof_file : files proof_name ≡ Some proof
+  pub proof_fits : length proof ≤ max_file
 
 -- nowhere do the pieces that the proof offers split from the honest ones
 abbrev pub SplitsNowhere : IdealCall → List ℕ → Type 0
@@ -98,18 +101,12 @@ pub record IsAudited (invocation : Invocation) (files : Contents) (old new : Out
   pub calls : CallsAudit invocation files call proof
   pub says : AuditSays call proof ended old.written new.written
 
--- the command is `audit`
-abbrev pub IsAudit : Invocation → Type 0
-IsAudit (invocations.Audit program role image argument fuel proof) = Unit {0}
-IsAudit other = ⊥
-
--- the same of a run of any words: nothing is said of other commands
-abbrev pub AuditedBy : Option Invocation → Contents → Outside → Outside → Status → Type 0
-AuditedBy (Some (invocations.Audit program role image argument fuel proof)) files old new ended = IsOfAudit ended → IsAudited (invocations.Audit program role image argument fuel proof) files old new ended
-AuditedBy called files old new ended = Unit {0}
+-- The same of a run of any command that may tell its files' contents: nothing is said of the others.
+abbrev pub IsAuditedBy : Invocation → Option Contents → Outside → Outside → Status → Type 0
+IsAuditedBy called contents old new ended = called.command ≡ Audit → IsOfAudit ended → ForSome contents (λ files. IsAudited called files old new ended)
 
 -- what the audit of a proof of the call comes to is so
-abbrev pub IsTrueAudit : IdealCall → List ℕ → Audit → Type 0
+abbrev pub IsTrueAudit : IdealCall → List ℕ → audits.Audit → Type 0
 IsTrueAudit call proof (Collides split) = SplitsAt call proof split
 IsTrueAudit call proof (Judges (Accepted o)) =
     SplitsNowhere call proof × (offered_in (called_program call).format proof ≡ call_pieces call) × (call_verdict (client_call call) proof ≡ Accepted o) × (o ≡ projected_outcome call)

@@ -79,11 +79,23 @@ pub record EndsInReadFault (old new : Outside) : Type 0 where
   pub stores : new.store_faults ≡ old.store_faults
   pub writes : new.write_faults ≡ old.write_faults
 
--- with a line that could not be written, or a file that could not be stored
-pub record EndsInWriteFault (answer : Contents → Option Answer) (old new : Outside) : Type 0 where
-  pub rose : Rose old.write_faults new.write_faults ⊎ Rose old.store_faults new.store_faults
+-- with a line that could not be written, behind the files that were stored before it
+pub record FailsToWrite (answer : Contents → Option Answer) (old new : Outside) : Type 0 where
+  pub rose : Rose old.write_faults new.write_faults
   pub part : ForSome old.contents (λ files. (text : List ℕ) × MayWrite (answer files) text × WritesPart old.written new.written text)
   pub stored : ForSome old.contents (λ files. StoresSome (answer files) old.stores new.stores)
+  pub stores : new.store_faults ≡ old.store_faults
+
+-- with a file that could not be stored: nothing was written
+pub record FailsToStore (answer : Contents → Option Answer) (old new : Outside) : Type 0 where
+  pub rose : Rose old.store_faults new.store_faults
+  pub nothing : new.written ≡ old.written
+  pub stored : ForSome old.contents (λ files. StoresSome (answer files) old.stores new.stores)
+  pub writes : new.write_faults ≡ old.write_faults
+
+-- with either
+abbrev pub EndsInWriteFault : (Contents → Option Answer) → Outside → Outside → Type 0
+EndsInWriteFault answer old new = FailsToWrite answer old new ⊎ FailsToStore answer old new
 
 -- without the memory that was wanted
 pub record EndsInNoMemory (answer : Contents → Option Answer) (old new : Outside) : Type 0 where
@@ -109,3 +121,8 @@ pub record NoneRose (old new : Outside) : Type 0 where
 abbrev pub IsToldByCode : Option Answer → Outside → Outside → ℕ → Type 0
 IsToldByCode None old new number = ⊥
 IsToldByCode (Some a) old new number = (number ≡ code a.status) × (new.written ≡ append_known old.written (concat a.lines)) × AddsStores old.stores new.stores a.stored
+
+-- the number of a status that any run may end with, whatever it would answer: a file could not be read, the sink or `store` failed, or
+-- memory was wanting
+abbrev pub IsOfFault : ℕ → Type 0
+IsOfFault number = (number ≡ 8) ⊎ ((number ≡ 9) ⊎ (number ≡ 10))

@@ -101,6 +101,7 @@ Finds answer (Err halt) = HaltsAs answer halt
 
 -- the same of work on what is in hand, where no file can fail
 abbrev pub FindsInHand : Answer → Found → Type 0
+FindsInHand answer (Err Usage) = ⊥
 FindsInHand answer (Err ReadFault) = ⊥
 FindsInHand answer found = Finds (Some answer) found
 
@@ -109,8 +110,10 @@ abbrev pub GoesOn : {A T : Type 0} → ((A → Option Answer) → Option Answer)
 GoesOn {A = A} step value (Ok t) = (go : A → Option Answer) → step go ≡ go (value t)
 GoesOn {A = A} step value (Err halt) = (go : A → Option Answer) → HaltsAs (step go) halt
 
--- the same of a step on what is in hand
+-- the same of a step on what is in hand: no file can fail, and no proof is rejected
 abbrev pub GoesOnInHand : {A T : Type 0} → ((A → Option Answer) → Option Answer) → (T → A) → Result T Halt → Type 0
+GoesOnInHand step value (Err Usage) = ⊥
+GoesOnInHand step value (Err (Refused (refusal.Proof cause))) = ⊥
 GoesOnInHand step value (Err ReadFault) = ⊥
 GoesOnInHand step value found = GoesOn step value found
 
@@ -121,10 +124,26 @@ GoesOnFor {A = A} step Stands (Err halt) = (go : A → Option Answer) → HaltsA
 
 -- the same of a step on what is in hand
 abbrev pub GoesOnForInHand : {A T : Type 0} → ((A → Option Answer) → Option Answer) → (T → A → Type 0) → Result T Halt → Type 0
+GoesOnForInHand step Stands (Err Usage) = ⊥
+GoesOnForInHand step Stands (Err (Refused (refusal.Proof cause))) = ⊥
 GoesOnForInHand step Stands (Err ReadFault) = ⊥
 GoesOnForInHand step Stands found = GoesOnFor step Stands found
 
--- the count of reads rose at `ReadFault` and nowhere else
+-- What may halt work on a call and a proof: the count of reads rose at `ReadFault` and nowhere else.
+abbrev pub MayHaltJudging : ℕ → ℕ → Halt → Type 0
+MayHaltJudging before now Usage = ⊥
+MayHaltJudging before now ReadFault = Rose before now
+MayHaltJudging before now halt = now ≡ before
+
+abbrev pub JudgementCause : {T : Type 0} → ℕ → ℕ → Result T Halt → Type 0
+JudgementCause before now (Ok found) = now ≡ before
+JudgementCause before now (Err halt) = MayHaltJudging before now halt
+
+-- the same where no proof is judged
+abbrev pub MayHalt : ℕ → ℕ → Halt → Type 0
+MayHalt before now (Refused (refusal.Proof cause)) = ⊥
+MayHalt before now halt = MayHaltJudging before now halt
+
 abbrev pub HaltCause : {T : Type 0} → ℕ → ℕ → Result T Halt → Type 0
-HaltCause before now (Err ReadFault) = Rose before now
-HaltCause before now found = now ≡ before
+HaltCause before now (Ok found) = now ≡ before
+HaltCause before now (Err halt) = MayHalt before now halt

@@ -14,6 +14,7 @@ pub mod ReadPrograms
 pub mod Reporting
 pub mod ShallowLaws
 pub mod SoundPrograms
+pub mod Statuses
 pub mod StoredStates
 pub mod Storing
 pub mod Telling

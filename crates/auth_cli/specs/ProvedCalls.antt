@@ -1,8 +1,10 @@
 -- What a run of `prove` says of the verifier, in the words of its command line and its files.
 use Rattle.std.specs.Prelude.{◌≡◌, ◌≤◌, ℕ, List, [], ◌∷◌, ◌++◌, length, Option, Some}
 use Rattle.std.specs.List.{concat}
+use Rattle.std.specs.Option.{ForSome}
 use Rattle.std.specs.Io.KnownBytes.{append_known}
-use Rattle.command_words.specs.Invocations.{Invocation, Prove}
+use Rattle.command_words.specs.Invocations.{Invocation, calls}
+use Rattle.command_words.specs.declared.command.Command.TheVariants.{Prove}
 use Rattle.lam_outside.specs.Told.{Contents, AddsStores}
 use Rattle.core_terms.specs.Spelling.{spelling}
 use Rattle.ideal_meaning.specs.Checked.{Accepted}
@@ -38,7 +40,7 @@ pub record CallsProve (invocation : Invocation) (files : Contents) (call : Ideal
   pub argument_text : List ℕ
   pub fuel_text : List ℕ
   pub kept_text : List ℕ
-  pub words : invocation ≡ Prove program_name role_name image_name argument_text fuel_text kept_text out
+  pub words : invocation ≡ calls Prove (program_name ∷ role_name ∷ image_name ∷ argument_text ∷ fuel_text ∷ kept_text ∷ out ∷ [])
   pub query : NamesQuery program_name role_name fuel_text files call.query
   pub kept : number_within (called_program call).format.most_kept kept_text ≡ Some n
   pub inputs : NamesInputs image_name argument_text files call
@@ -75,12 +77,6 @@ pub record IsProved (invocation : Invocation) (files : Contents) (old new : Outs
   pub accepted : IsAcceptedCall call kept
   pub verified : IsVerified call kept calls.query.program_file.text calls.role_name calls.argument_text calls.fuel_text
 
--- the command is `prove`
-abbrev pub IsProve : Invocation → Type 0
-IsProve (Prove program role image argument fuel kept out) = Unit {0}
-IsProve other = ⊥
-
--- the same of a run of any words: nothing is said of other commands
-abbrev pub ProvedBy : Option Invocation → Contents → Outside → Outside → Status → Type 0
-ProvedBy (Some (Prove program role image argument fuel kept out)) files old new status = IsOutcome status → IsProved (Prove program role image argument fuel kept out) files old new status
-ProvedBy called files old new status = Unit {0}
+-- The same of a run of any command that may tell its files' contents: nothing is said of the others.
+abbrev pub IsProvedBy : Invocation → Option Contents → Outside → Outside → Status → Type 0
+IsProvedBy called contents old new status = called.command ≡ Prove → IsOutcome status → ForSome contents (λ files. IsProved called files old new status)

@@ -4,11 +4,12 @@ use Rattle.std.specs.List.{concat}
 use Rattle.std.specs.declared.alloc.Global.{Global}
 use Rattle.lam_outside.specs.Causes.{Rose}
 use Rattle.lam_outside.specs.Told.{Stores, AddsStores}
+use Rattle.printed_lines.specs.declared.refusal.Refusal.TheVariants as refusal
 use Rattle.auth_cli.specs.Answer.{Answer}
-use Rattle.auth_cli.specs.Halting.{HaltsAs, ending_status}
+use Rattle.auth_cli.specs.Halting.{HaltsAs, ending_status, halt_status}
 use Rattle.auth_cli.specs.Telling.{Tells}
 use Rattle.auth_cli.specs.declared.report.Halt.{Halt}
-use Rattle.auth_cli.specs.declared.report.Halt.TheVariants.{ReadFault}
+use Rattle.auth_cli.specs.declared.report.Halt.TheVariants.{Usage, Refused, ReadFault}
 use Rattle.auth_cli.specs.declared.report.Output.{Output}
 use Rattle.auth_cli.specs.declared.status.Status.{Status}
 use Rattle.auth_cli.specs.declared.status.Status.TheVariants.{WriteFault}
@@ -24,13 +25,20 @@ pub record IsOutput (answer : Answer) (name : List ℕ) (output : Output) : Type
   pub lines : concat answer.lines ≡ output.report.text.items
   pub stored : answer.stored ≡ stored_as name output.file
 
+-- the status that is meant
+abbrev pub output_status : Result Output Halt → Status
+output_status (Ok output) = ending_status output.report.ending
+output_status (Err halt) = halt_status halt
+
 -- what the work found is what the answer says, unless a file could not be read or memory was wanting
 abbrev pub FindsOutput : List ℕ → Option Answer → Result Output Halt → Type 0
 FindsOutput name answer (Ok output) = (a : Answer) × (answer ≡ Some a) × IsOutput a name output
 FindsOutput name answer (Err halt) = HaltsAs answer halt
 
--- the same of work on what is in hand, where no file can fail
+-- the same of work on what is in hand: no file can fail, and no proof is rejected
 abbrev pub FindsOutputInHand : List ℕ → Option Answer → Result Output Halt → Type 0
+FindsOutputInHand name answer (Err Usage) = ⊥
+FindsOutputInHand name answer (Err (Refused (refusal.Proof cause))) = ⊥
 FindsOutputInHand name answer (Err ReadFault) = ⊥
 FindsOutputInHand name answer found = FindsOutput name answer found
 
@@ -41,5 +49,5 @@ StoresAndTells name (Err halt) ended stores stores' store_faults store_faults' w
     (stores' ≡ stores) × (store_faults' ≡ store_faults) × Tells (Err halt) ended written written' faults faults'
 StoresAndTells name (Ok output) ended stores stores' store_faults store_faults' written written' faults faults' =
     AddsStores stores stores' (stored_as name output.file)
-    × (((ended ≡ WriteFault) × (written' ≡ written) × Rose store_faults store_faults')
+    × (((ended ≡ WriteFault) × (written' ≡ written) × (faults' ≡ faults) × Rose store_faults store_faults')
     ⊎ ((store_faults' ≡ store_faults) × Tells (Ok output.report) ended written written' faults faults'))

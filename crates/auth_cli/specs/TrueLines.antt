@@ -1,8 +1,9 @@
 -- What a run of `verify` says of the ideal run, in the words of its command line and its files.
-use Rattle.std.specs.Prelude.{◌≡◌, ◌⊎◌, ℕ, List, [], drop, Option, Some}
+use Rattle.std.specs.Prelude.{◌≡◌, ◌⊎◌, ℕ, List, [], ◌∷◌, drop, Option, Some}
 use Rattle.std.specs.List.{concat}
 use Rattle.std.specs.Io.KnownBytes.{append_known}
-use Rattle.command_words.specs.Invocations.{Verify, invocation_of}
+use Rattle.command_words.specs.Invocations.{calls, invocation_of}
+use Rattle.command_words.specs.declared.command.Command.TheVariants.{Verify}
 use Rattle.sha2.specs.Sha256.{sha256}
 use Rattle.lam_outside.specs.Told.{Contents}
 use Rattle.core_terms.specs.Values.{Value, IsIdeal}
@@ -28,7 +29,7 @@ pub record CallsVerify (line : List (List ℕ)) (files : Contents) (P : Program)
   pub argument_text : List ℕ
   pub fuel_text : List ℕ
   pub proof_name : List ℕ
-  pub words : invocation_of line ≡ Some (Verify program_name role_name state_name argument_text fuel_text proof_name)
+  pub words : invocation_of line ≡ Some (calls Verify (program_name ∷ role_name ∷ state_name ∷ argument_text ∷ fuel_text ∷ proof_name ∷ []))
   pub text : List ℕ
   pub program_file : files program_name ≡ Some text
   pub program : program_of_text text ≡ IsProgram P

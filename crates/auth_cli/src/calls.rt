@@ -8,9 +8,8 @@ ghost use Rattle.auth_cli.specs.Halting.{GoesOn, GoesOnInHand, HaltCause};
 
 use crate::Halt;
 use crate::arguments::read_argument;
-use crate::queries::{FueledQuery, read_query};
+use crate::queries::{CallWords, FueledQuery, read_query};
 use crate::report::load;
-use command_words::VerifyArguments;
 use core_terms::{Program, Spelling};
 use lam_outside::Files;
 use printed_lines::refusal::{Argument, InputFault};
@@ -32,19 +31,20 @@ pub const MAX_FILE: usize = 67_108_864;
 /// The call that the words name. What is refused first in this order halts it: the query, the state, the argument.
 pub fn read_call<F: Files>(
     alloc: Global,
-    words: &VerifyArguments<'_>,
+    words: &CallWords<'_>,
+    state: &str,
     files: &mut F,
 ) -> Result<Call, Halt>
     ensures goes { let words = words.now in ForSome (F.contents files.old) (λ told.
-        GoesOn (with_call words.program.now words.role.now words.state.now words.argument.now words.fuel.now told) call_of result) }
+        GoesOn (with_call words.program.now words.role.now state.now words.argument.now words.fuel.now told) call_of result) }
     ensures valid { IfOk result (λ call. IsQueryCall (call_of call)) }
     ensures cause { HaltCause (F.faults files.old) (F.faults files.new) result }
     ensures contents { F.contents files.new ≡ F.contents files.old }
     ensures stores { F.stores files.new ≡ F.stores files.old }
     ensures store_faults { F.store_faults files.new ≡ F.store_faults files.old }
 {
-    let query = read_query(alloc, files, words.program, words.role, words.fuel)?;
-    let state = read_state_file(alloc, files, &query.program, words.state)?;
+    let query = read_query(alloc, files, words)?;
+    let state = read_state_file(alloc, files, &query.program, state)?;
     let argument = read_argument(alloc, &query.program, query.role, words.argument)?;
     Ok(Call {
         query,

@@ -1,24 +1,28 @@
 // The command `init`.
 ghost use Rattle.std.specs.Prelude.{◌≡◌, ◌<◌, ℕ, List, None, Some, length, IfOk};
 ghost use Rattle.std.specs.Option.{ForSome};
+ghost use Rattle.command_words.specs.Commands.{texts};
+ghost use Rattle.command_words.specs.declared.command.Command.TheVariants.{Init};
 ghost use Rattle.core_terms.specs.Programs.{meaning};
 ghost use Rattle.core_terms.specs.Terms.{function_at};
 ghost use Rattle.core_terms.specs.Terms as tree;
 ghost use Rattle.core_terms.specs.Values.{IsIdeal};
 ghost use Rattle.plain_meaning.specs.PlainValues.{plain_of};
 ghost use Rattle.plain_meaning.specs.Telling.{IsPlainOf, plain_outcome_of};
-ghost use Rattle.auth_cli.specs.Answer.{init_answer_of, init_outcome, initial_answer, made_answer, made_by};
+ghost use Rattle.auth_cli.specs.Answer.{answer_with, init_answer_of, init_outcome, initial_answer, made_answer, made_by};
 ghost use Rattle.core_terms.specs.Roles.{init_type};
 ghost use Rattle.auth_cli.specs.Ending.{EndsAs, outside};
-ghost use Rattle.auth_cli.specs.Halting.{HaltCause};
+ghost use Rattle.auth_cli.specs.Halting.{HaltCause, ending_status};
 ghost use Rattle.auth_cli.specs.ReadPrograms.{digested};
+ghost use Rattle.auth_cli.specs.SoundPrograms.{IsOutcome};
+ghost use Rattle.auth_cli.specs.Statuses.{MayAnswer};
 ghost use Rattle.auth_cli.specs.Storing.{FindsOutput, FindsOutputInHand};
 
 use crate::arguments::{fuel_named, init_named, read_init_argument};
 use crate::programs::read_program_file;
+use crate::queries::CallWords;
 use crate::storing::store_and_tell;
 use crate::{Ending, Halt, Output, Report, Status};
-use command_words::InitArguments;
 use core_terms::{FunctionId, Outcome, Program};
 use digest_layer::Sha;
 use images::save_image;
@@ -28,49 +32,57 @@ use printed_lines::lines::{done_line, out_line, trap_line};
 use prover_mode::project;
 use std::alloc::{AllocError, Global};
 
-/// Makes a state, stores its image, and tells its projection; or tells the trap or the want of fuel.
+/// Makes a state, stores its image, and tells its projection; or tells the trap or the want of fuel. The words behind the command are
+/// `P ROLE ARG FUEL OUT`.
 pub fn init_command<F: Files, O: Sink>(
     alloc: Global,
-    words: &InitArguments<'_>,
+    words: &[&str],
     files: &mut F,
     out: &mut O,
 ) -> Status
-    ensures { let words = words.now in let seen = outside F.contents F.stores F.faults F.store_faults O.written O.faults in
-        EndsAs (initial_answer words.program.now words.role.now words.argument.now words.fuel.now words.out.now) (seen files.old out.old) (seen files.new out.new) result }
+    requires { length words.now ≡ 5 }
+    ensures ends { let seen = outside F.contents F.stores F.faults F.store_faults O.written O.faults in
+        EndsAs (answer_with Init (texts words.now)) (seen files.old out.old) (seen files.new out.new) result }
+    ensures possible { MayAnswer Init result }
 {
-    let found = find_initial(alloc, words, files);
-    store_and_tell(alloc, words.out, files, out, found)
+    let [program, role, argument, fuel, name] = words else {
+        unreachable!()
+    };
+    let words = CallWords {
+        program,
+        role,
+        argument,
+        fuel,
+    };
+    let found = find_initial(alloc, &words, files);
+    store_and_tell(alloc, name, files, out, found)
 }
 
 /// What is found of a program and an init: the state that it makes.
 fn find_initial<F: Files>(
     alloc: Global,
-    words: &InitArguments<'_>,
+    words: &CallWords<'_>,
     files: &mut F,
 ) -> Result<Output, Halt>
-    ensures finds { let words = words.now in ForSome (F.contents files.old) (λ told.
-        FindsOutput words.out.now (initial_answer words.program.now words.role.now words.argument.now words.fuel.now words.out.now told) result) }
+    ensures finds { let words = words.now in (name : List ℕ) → ForSome (F.contents files.old) (λ told.
+        FindsOutput name (initial_answer words.program.now words.role.now words.argument.now words.fuel.now name told) result) }
+    ensures ending { IfOk result (λ output. IsOutcome (ending_status output.report.ending)) }
     ensures cause { HaltCause (F.faults files.old) (F.faults files.new) result }
     ensures stores { F.stores files.new ≡ F.stores files.old }
     ensures store_faults { F.store_faults files.new ≡ F.store_faults files.old }
 {
     let program = read_program_file(alloc, files, words.program)?;
-    make_state(alloc, &program, words.role, words.argument, words.fuel)
+    make_state(alloc, &program, words)
 }
 
 /// What an init of a program gives.
-fn make_state(
-    alloc: Global,
-    program: &Program,
-    role: &str,
-    argument: &str,
-    fuel: &str,
-) -> Result<Output, Halt>
-    ensures { (name : List ℕ) → FindsOutputInHand name (made_by (digested program.now) role.now argument.now fuel.now name) result }
+fn make_state(alloc: Global, program: &Program, words: &CallWords<'_>) -> Result<Output, Halt>
+    ensures finds { let words = words.now in (name : List ℕ) → FindsOutputInHand name (made_by (digested program.now) words.role.now words.argument.now words.fuel.now name) result }
+    ensures ending { IfOk result (λ output. IsOutcome (ending_status output.report.ending)) }
 {
-    let role = init_named(program, role)?;
-    let fuel = fuel_named(fuel)?;
-    let argument = read_init_argument(alloc, program, role, argument)?;
+    let role = init_named(program, words.role)?;
+    let fuel = fuel_named(words.fuel)?;
+    let argument = read_init_argument(alloc, program, role, words.argument)?;
     let outcome = run_init(alloc, program, role, argument, fuel)?;
     init_output(alloc, program, outcome)
 }
@@ -98,7 +110,8 @@ fn run_init(
 /// What the outcome of an init gives.
 fn init_output(alloc: Global, program: &Program, outcome: Outcome<Plain>) -> Result<Output, Halt>
     requires { IsPlainOf (meaning program.now) (meaning program.now).state outcome }
-    ensures { (name : List ℕ) → FindsOutputInHand name (Some (init_answer_of (digested program.now) (plain_outcome_of outcome) name)) result }
+    ensures finds { (name : List ℕ) → FindsOutputInHand name (Some (init_answer_of (digested program.now) (plain_outcome_of outcome) name)) result }
+    ensures ending { IfOk result (λ output. IsOutcome (ending_status output.report.ending)) }
 {
     match outcome {
         Outcome::Done(state) => made_output(alloc, program, &state),
@@ -121,7 +134,8 @@ fn line_alone(alloc: Global, ending: Ending, line: &str) -> Result<Output, Alloc
 /// The image of a state, and the line of its projection.
 fn made_output(alloc: Global, program: &Program, state: &Plain) -> Result<Output, Halt>
     requires { IsIdeal (meaning program.now).types (meaning program.now).state (plain_of state.now) }
-    ensures { (name : List ℕ) → FindsOutputInHand name (Some (made_answer (digested program.now) (plain_of state.now) name)) result }
+    ensures finds { (name : List ℕ) → FindsOutputInHand name (Some (made_answer (digested program.now) (plain_of state.now) name)) result }
+    ensures ending { IfOk result (λ output. output.report.ending ≡ Ending.Done) }
 {
     let image = save_image(alloc, program, state)?;
     let ty = program.state_type();

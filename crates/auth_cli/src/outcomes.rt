@@ -2,7 +2,9 @@
 ghost use Rattle.std.specs.Prelude.{◌≡◌, IfOk};
 ghost use Rattle.core_terms.specs.Programs.{meaning, types_of};
 ghost use Rattle.core_terms.specs.TypeTables.{type_at};
+ghost use Rattle.auth_cli.specs.Halting.{ending_status};
 ghost use Rattle.auth_cli.specs.Reporting.{Reports};
+ghost use Rattle.auth_cli.specs.SoundPrograms.{IsOutcome};
 
 use crate::{Ending, Report};
 use core_terms::{Outcome, Program, Spelling, TyId};
@@ -16,7 +18,8 @@ pub fn report_of(
     ty: TyId,
     outcome: Outcome<Spelling>,
 ) -> Result<Report, AllocError>
-    ensures { IfOk result (Reports (meaning program.now) (type_at (types_of program.now) ty) outcome) }
+    ensures ending { IfOk result (λ report. IsOutcome (ending_status report.ending)) }
+    ensures reports { IfOk result (Reports (meaning program.now) (type_at (types_of program.now) ty) outcome) }
 {
     let (ending, text) = match outcome {
         Outcome::Done(value) => (

@@ -24,7 +24,7 @@ use printed_lines::refusal::{Argument, ProgramKind};
 use std::alloc::Global;
 
 /// Why a text gives no program.
-#[derive(Clone, Copy, Debug, PartialEq, Eq)]
+#[derive(Clone, Copy)]
 pub enum ProgramFault {
     /// The first fault: its kind, its line and its column, from 1 and by bytes.
     At(ProgramKind, usize, usize),

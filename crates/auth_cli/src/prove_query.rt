@@ -1,25 +1,27 @@
 // The command `prove`.
-ghost use Rattle.std.specs.Prelude.{◌≡◌, ◌≤◌, ℕ, List, IfOk};
+ghost use Rattle.std.specs.Prelude.{◌≡◌, ◌≤◌, ℕ, List, [], ◌∷◌, IfOk, length};
 ghost use Rattle.std.specs.Option.{ForSome};
-ghost use Rattle.command_words.specs.Invocations.{Prove};
+ghost use Rattle.command_words.specs.Commands.{texts};
+ghost use Rattle.command_words.specs.Invocations.{calls};
+ghost use Rattle.command_words.specs.declared.command.Command.TheVariants.{Prove};
 ghost use Rattle.core_terms.specs.Programs.{meaning, types_of};
 ghost use Rattle.core_terms.specs.TypeTables.{type_at};
-ghost use Rattle.auth_cli.specs.Answer.{proof_answer, proved_answer};
+ghost use Rattle.auth_cli.specs.Answer.{answer_with, proof_answer, proved_answer};
 ghost use Rattle.auth_cli.specs.Calls.{IsIdealCall, ideal_call_of};
 ghost use Rattle.auth_cli.specs.Ending.{EndsAs, outside};
-ghost use Rattle.auth_cli.specs.Halting.{HaltCause};
+ghost use Rattle.auth_cli.specs.Halting.{HaltCause, ending_status};
 ghost use Rattle.auth_cli.specs.ProvedCalls.{IsProved, MeansProof};
 ghost use Rattle.auth_cli.specs.Reporting.{ReportsProof};
 ghost use Rattle.auth_cli.specs.SoundPrograms.{IsOutcome};
+ghost use Rattle.auth_cli.specs.Statuses.{MayAnswer};
 ghost use Rattle.auth_cli.specs.Storing.{FindsOutput, IsOutput};
 
 use crate::arguments::kept_named;
 use crate::ideal_calls::{IdealCall, read_ideal_call};
 use crate::outcomes::report_of;
-use crate::queries::read_query;
+use crate::queries::{CallWords, read_query};
 use crate::storing::store_and_tell;
 use crate::{Halt, Output, Report, Status};
-use command_words::ProveArguments;
 use core_terms::{Program, TyId};
 use digest_layer::Sha;
 use lam_outside::{Files, Sink};
@@ -27,39 +29,54 @@ use printed_lines::lines::proof_line;
 use prover_mode::{Proved, proof_file, prove};
 use std::alloc::{AllocError, Global};
 
-/// Proves a call of a query, stores the proof file, and tells the outcome and what the proof has.
+/// Proves a call of a query, stores the proof file, and tells the outcome and what the proof has. The words behind the command are
+/// `P ROLE IMG ARG FUEL N OUT`.
 pub fn prove_command<F: Files, O: Sink>(
     alloc: Global,
-    words: &ProveArguments<'_>,
+    words: &[&str],
     files: &mut F,
     out: &mut O,
 ) -> Status
-    ensures ends { let words = words.now in let seen = outside F.contents F.stores F.faults F.store_faults O.written O.faults in
-        EndsAs (proved_answer words.program.now words.role.now words.image.now words.argument.now words.fuel.now words.kept.now words.out.now) (seen files.old out.old) (seen files.new out.new) result }
-    ensures proved { let words = words.now in let seen = outside F.contents F.stores F.faults F.store_faults O.written O.faults in
-        ForSome (F.contents files.old) (λ told. IsOutcome result → IsProved (Prove words.program.now words.role.now words.image.now words.argument.now words.fuel.now words.kept.now words.out.now) told (seen files.old out.old) (seen files.new out.new) result) }
+    requires { length words.now ≡ 7 }
+    ensures ends { let seen = outside F.contents F.stores F.faults F.store_faults O.written O.faults in
+        EndsAs (answer_with Prove (texts words.now)) (seen files.old out.old) (seen files.new out.new) result }
+    ensures possible { MayAnswer Prove result }
+    ensures proved { let seen = outside F.contents F.stores F.faults F.store_faults O.written O.faults in
+        ForSome (F.contents files.old) (λ told. IsOutcome result → IsProved (calls Prove (texts words.now)) told (seen files.old out.old) (seen files.new out.new) result) }
 {
-    let found = find_proof(alloc, words, files);
-    store_and_tell(alloc, words.out, files, out, found)
+    let [program, role, image, argument, fuel, kept, name] = words else {
+        unreachable!()
+    };
+    let words = CallWords {
+        program,
+        role,
+        argument,
+        fuel,
+    };
+    let found = find_proof(alloc, &words, image, kept, files);
+    store_and_tell(alloc, name, files, out, found)
 }
 
 /// What is found of a call and the number of pieces that are kept: the proof. The image is opened when the numbers are well-formed.
 fn find_proof<F: Files>(
     alloc: Global,
-    words: &ProveArguments<'_>,
+    words: &CallWords<'_>,
+    image: &str,
+    kept: &str,
     files: &mut F,
 ) -> Result<Output, Halt>
-    ensures finds { let words = words.now in ForSome (F.contents files.old) (λ told.
-        FindsOutput words.out.now (proved_answer words.program.now words.role.now words.image.now words.argument.now words.fuel.now words.kept.now words.out.now told) result) }
-    ensures means { let words = words.now in ForSome (F.contents files.old) (λ told. IfOk result (λ _.
-        MeansProof (Prove words.program.now words.role.now words.image.now words.argument.now words.fuel.now words.kept.now words.out.now) told)) }
+    ensures finds { let words = words.now in (name : List ℕ) → ForSome (F.contents files.old) (λ told.
+        FindsOutput name (proved_answer words.program.now words.role.now image.now words.argument.now words.fuel.now kept.now name told) result) }
+    ensures means { let words = words.now in (name : List ℕ) → ForSome (F.contents files.old) (λ told. IfOk result (λ _.
+        MeansProof (calls Prove (words.program.now ∷ words.role.now ∷ image.now ∷ words.argument.now ∷ words.fuel.now ∷ kept.now ∷ name ∷ [])) told)) }
+    ensures ending { IfOk result (λ output. IsOutcome (ending_status output.report.ending)) }
     ensures cause { HaltCause (F.faults files.old) (F.faults files.new) result }
     ensures stores { F.stores files.new ≡ F.stores files.old }
     ensures store_faults { F.store_faults files.new ≡ F.store_faults files.old }
 {
-    let query = read_query(alloc, files, words.program, words.role, words.fuel)?;
-    let kept = kept_named(&query.program, words.kept)?;
-    let call = read_ideal_call(alloc, files, query, words.image, words.argument)?;
+    let query = read_query(alloc, files, words)?;
+    let kept = kept_named(&query.program, kept)?;
+    let call = read_ideal_call(alloc, files, query, image, words.argument)?;
     Ok(make_proof(alloc, &call, kept)?)
 }
 
@@ -67,7 +84,8 @@ fn find_proof<F: Files>(
 fn make_proof(alloc: Global, call: &IdealCall, kept: u16) -> Result<Output, AllocError>
     requires valid { IsIdealCall (ideal_call_of call.now) }
     requires fits { kept ≤ (meaning call.now.query.program).format.most_kept }
-    ensures { IfOk result (λ output. (name : List ℕ) → IsOutput (proof_answer (ideal_call_of call.now) kept name) name output) }
+    ensures ending { IfOk result (λ output. IsOutcome (ending_status output.report.ending)) }
+    ensures output { IfOk result (λ output. (name : List ℕ) → IsOutput (proof_answer (ideal_call_of call.now) kept name) name output) }
 {
     let query = &call.query;
     let proved = prove::<Sha>(
@@ -94,7 +112,8 @@ fn proof_report(
     proved: Proved,
     bytes: usize,
 ) -> Result<Report, AllocError>
-    ensures { IfOk result (ReportsProof (meaning program.now) (type_at (types_of program.now) ty) proved bytes) }
+    ensures ending { IfOk result (λ report. IsOutcome (ending_status report.ending)) }
+    ensures reports { IfOk result (ReportsProof (meaning program.now) (type_at (types_of program.now) ty) proved bytes) }
 {
     let line = proof_line(alloc, proved.fresh, proved.again, bytes)?;
     let mut report = report_of(alloc, program, ty, proved.outcome)?;

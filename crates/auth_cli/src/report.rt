@@ -20,7 +20,7 @@ use std::alloc::{AllocError, Global};
 use verifier_mode::Verdict;
 
 /// How a command ends whose work was done.
-#[derive(Clone, Copy, Debug, PartialEq, Eq)]
+#[derive(Clone, Copy)]
 pub enum Ending {
     Done,
     Trap,
@@ -44,7 +44,7 @@ pub struct Output {
 }
 
 /// What ends a command's work early.
-#[derive(Clone, Copy, Debug, PartialEq, Eq)]
+#[derive(Clone, Copy)]
 pub enum Halt {
     /// The words call no command.
     Usage,

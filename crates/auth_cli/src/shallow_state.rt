@@ -1,12 +1,15 @@
 // The command `shallow`.
-ghost use Rattle.std.specs.Prelude.{◌≡◌, ℕ, List, IfOk};
+ghost use Rattle.std.specs.Prelude.{◌≡◌, ℕ, List, IfOk, length};
 ghost use Rattle.std.specs.Option.{ForSome};
+ghost use Rattle.command_words.specs.Commands.{texts};
+ghost use Rattle.command_words.specs.declared.command.Command.TheVariants.{Shallow};
 ghost use Rattle.core_terms.specs.LanguagePrograms.{meaning};
 ghost use Rattle.core_terms.specs.Values.{Value};
-ghost use Rattle.auth_cli.specs.Answer.{spelled_answer, state_answer};
+ghost use Rattle.auth_cli.specs.Answer.{answer_with, spelled_answer, state_answer};
 ghost use Rattle.auth_cli.specs.Ending.{EndsAs, outside};
-ghost use Rattle.auth_cli.specs.Halting.{HaltCause};
+ghost use Rattle.auth_cli.specs.Halting.{HaltCause, ending_status};
 ghost use Rattle.auth_cli.specs.ReadPrograms.{language_named};
+ghost use Rattle.auth_cli.specs.Statuses.{MayAnswer};
 ghost use Rattle.auth_cli.specs.StoredStates.{IsStoredState};
 ghost use Rattle.auth_cli.specs.Storing.{FindsOutput, IsOutput};
 
@@ -14,7 +17,6 @@ use crate::programs::read_language_file;
 use crate::stored_states::load_image_file;
 use crate::storing::store_and_tell;
 use crate::{Ending, Halt, Output, Report, Status};
-use command_words::ShallowArguments;
 use core_terms::language::Program;
 use lam_outside::{Files, Sink};
 use printed_lines::lines::state_line;
@@ -22,18 +24,23 @@ use shallow_codec::spell;
 use std::alloc::{AllocError, Global};
 use stored_images::Loaded;
 
-/// Stores the spelling of the projection of a state, and tells its value.
+/// Stores the spelling of the projection of a state, and tells its value. The words behind the command are `P IMG OUT`.
 pub fn shallow_command<F: Files, O: Sink>(
     alloc: Global,
-    words: &ShallowArguments<'_>,
+    words: &[&str],
     files: &mut F,
     out: &mut O,
 ) -> Status
-    ensures { let words = words.now in let seen = outside F.contents F.stores F.faults F.store_faults O.written O.faults in
-        EndsAs (spelled_answer words.program.now words.image.now words.out.now) (seen files.old out.old) (seen files.new out.new) result }
+    requires { length words.now ≡ 3 }
+    ensures ends { let seen = outside F.contents F.stores F.faults F.store_faults O.written O.faults in
+        EndsAs (answer_with Shallow (texts words.now)) (seen files.old out.old) (seen files.new out.new) result }
+    ensures possible { MayAnswer Shallow result }
 {
-    let found = find_state(alloc, words.program, words.image, files);
-    store_and_tell(alloc, words.out, files, out, found)
+    let [program, image, name] = words else {
+        unreachable!()
+    };
+    let found = find_state(alloc, program, image, files);
+    store_and_tell(alloc, name, files, out, found)
 }
 
 /// What is found of an image: the projection of its state.
@@ -44,6 +51,7 @@ fn find_state<F: Files>(
     files: &mut F,
 ) -> Result<Output, Halt>
     ensures finds { (name : List ℕ) → ForSome (F.contents files.old) (λ told. FindsOutput name (spelled_answer program.now image.now name told) result) }
+    ensures ending { IfOk result (λ output. MayAnswer Shallow (ending_status output.report.ending)) }
     ensures cause { HaltCause (F.faults files.old) (F.faults files.new) result }
     ensures stores { F.stores files.new ≡ F.stores files.old }
     ensures store_faults { F.store_faults files.new ≡ F.store_faults files.old }
@@ -56,7 +64,8 @@ fn find_state<F: Files>(
 /// The projection of a state, spelled and told.
 fn spell_state(alloc: Global, program: &Program, state: &Loaded) -> Result<Output, AllocError>
     requires { (v : Value) × IsStoredState (meaning program.now) state.now v }
-    ensures { IfOk result
+    ensures ending { IfOk result (λ output. MayAnswer Shallow (ending_status output.report.ending)) }
+    ensures output { IfOk result
         (λ output. (name : List ℕ) (v : Value) → IsStoredState (meaning program.now) state.now v → IsOutput (state_answer (language_named program.now) v name) name output) }
 {
     let ty = program.state_type();

@@ -3,13 +3,18 @@ ghost use Rattle.std.specs.Prelude.{◌≡◌, ◌≢◌, ◌⊎◌, ◌↔◌, 
 ghost use Rattle.std.specs.Option.{ForSome};
 ghost use Rattle.std.specs.Io.KnownBytes.{append_known};
 ghost use Rattle.command_words.specs.CommandLine.{AreRefused};
-ghost use Rattle.command_words.specs.Invocations.{Invocation, invocation_of, texts};
+ghost use Rattle.command_words.specs.Commands.{IsOfCommand, texts};
+ghost use Rattle.command_words.specs.Invocations.{Invocation, calls, invocation_of};
+ghost use Rattle.command_words.specs.declared.command.Command.TheVariants.{Audit, Prove};
+ghost use Rattle.collision_audit.specs.Splits.{Split};
 ghost use Rattle.lam_outside.specs.Causes.{Rose};
-ghost use Rattle.auth_cli.specs.Answer.{answer};
-ghost use Rattle.auth_cli.specs.AuditedCalls.{AuditedBy, IsAudit, IsAudited, TellsAnAudit};
+ghost use Rattle.auth_cli.specs.Answer.{answer, answer_with};
+ghost use Rattle.auth_cli.specs.AuditedCalls.{CallsAudit, IsAudited, IsAuditedBy, SplitsAt, TellsAnAudit};
 ghost use Rattle.auth_cli.specs.Codes.{code};
-ghost use Rattle.auth_cli.specs.Ending.{outside, EndsAs, IsOfRefused, IsToldByCode, MayWrite, NoneRose, StoresSome, WritesPart, no_memory_text};
-ghost use Rattle.auth_cli.specs.ProvedCalls.{IsProve, IsProved, ProvedBy};
+ghost use Rattle.auth_cli.specs.Ending.{outside, EndsAs, IsOfFault, IsOfRefused, IsToldByCode, MayWrite, NoneRose, StoresSome, WritesPart, no_memory_text};
+ghost use Rattle.auth_cli.specs.IdealCalls.{IdealCall};
+ghost use Rattle.auth_cli.specs.ProvedCalls.{CallsProve, IsProved, IsProvedBy};
+ghost use Rattle.auth_cli.specs.Statuses.{MayAnswer};
 ghost use Rattle.auth_cli.specs.TrueLines.{IsTrueLine, TellsOutcome};
 ghost use Rattle.auth_cli.specs.declared.status.Status.{Status};
 
@@ -97,19 +102,32 @@ pub fn run<F: Files, O: Sink>(alloc: Global, words: &[&str], files: &mut F, out:
 
     // What `prove` stores is accepted: `verify` answers it, from the projected state alone, with the very status and line of the run.
     ensures companion { let seen = outside F.contents F.stores F.faults F.store_faults O.written O.faults in
-        (called : Invocation) → invocation_of (texts words.now) ≡ Some called → IsProve called → TellsOutcome result → ForSome (F.contents files.old) (λ told.
+        (called : Invocation) → invocation_of (texts words.now) ≡ Some called → called.command ≡ Prove → TellsOutcome result → ForSome (F.contents files.old) (λ told.
         (status : Status) × (result ≡ code status) × IsProved called told (seen files.old out.old) (seen files.new out.new) status) }
 
-    // What `audit` tells is so: 11, which no other command answers, exactly where the offered pieces split from the honest ones, with
-    // the place and both pieces.
+    // And a proof is stored: where the words of `prove` and the files mean a call, the run tells its outcome, 8, 9 and 10 aside.
+    ensures proves { (called : Invocation) → invocation_of (texts words.now) ≡ Some called → ForSome (F.contents files.old) (λ told.
+        (call : IdealCall) (n : ℕ) (name : List ℕ) → CallsProve called told call n name → TellsOutcome result ⊎ IsOfFault result) }
+
+    // What `audit` tells is so: 11, which no other command answers, only where the offered pieces split from the honest ones, with the
+    // place and both pieces.
     ensures audited { let seen = outside F.contents F.stores F.faults F.store_faults O.written O.faults in
-        (called : Invocation) → invocation_of (texts words.now) ≡ Some called → IsAudit called → TellsAnAudit result → ForSome (F.contents files.old) (λ told.
+        (called : Invocation) → invocation_of (texts words.now) ≡ Some called → called.command ≡ Audit → TellsAnAudit result → ForSome (F.contents files.old) (λ told.
         (status : Status) × (result ≡ code status) × IsAudited called told (seen files.old out.old) (seen files.new out.new) status) }
-    ensures collision { result ≡ 11 → ForSome (F.contents files.old) (λ _.
-        (called : Invocation) × (invocation_of (texts words.now) ≡ Some called) × IsAudit called) }
+
+    // And 11 comes wherever they do: where the words of `audit` and the files mean a call and a proof whose offered pieces split from
+    // the honest ones, 8, 9 and 10 aside.
+    ensures split { (called : Invocation) → invocation_of (texts words.now) ≡ Some called → ForSome (F.contents files.old) (λ told.
+        (call : IdealCall) (proof : List ℕ) → CallsAudit called told call proof → (split : Split) → SplitsAt call proof split → (result ≡ 11) ⊎ IsOfFault result) }
+
+    // Whatever the files hold: each command answers some of the statuses alone.
+    ensures possible { (called : Invocation) → invocation_of (texts words.now) ≡ Some called → (status : Status) × (result ≡ code status) × MayAnswer called.command status }
+
+    // 11 from `audit` alone.
+    ensures collision { result ≡ 11 → (called : Invocation) × (invocation_of (texts words.now) ≡ Some called) × (called.command ≡ Audit) }
 
     // 2 exactly where the program's own test or clap refuses the words, 9 and 10 aside.
-    ensures usage { result ≡ 2 → ForSome (F.contents files.old) (λ _. AreRefused (texts words.now)) }
+    ensures usage { result ≡ 2 → AreRefused (texts words.now) }
     ensures refused { AreRefused (texts words.now) → (result ≡ 2) ⊎ ((result ≡ 9) ⊎ (result ≡ 10)) }
 
     // 8 exactly where the read count rose, 9 and 10 aside, and then `read fault` alone was written.
@@ -122,6 +140,9 @@ pub fn run<F: Files, O: Sink>(alloc: Global, words: &[&str], files: &mut F, out:
         ↔ (Rose (O.faults out.old) (O.faults out.new) ⊎ Rose (F.store_faults files.old) (F.store_faults files.new)) }
     ensures write_part { result ≡ 9 → ForSome (F.contents files.old) (λ told.
         (text : List ℕ) × MayWrite (answer (texts words.now) told) text × WritesPart (O.written out.old) (O.written out.new) text) }
+
+    // Stored before any line: where a file could not be stored, nothing was written.
+    ensures stored_first { Rose (F.store_faults files.old) (F.store_faults files.new) → O.written out.new ≡ O.written out.old }
 
     // At 10 whole lines of the answer were written, and then `no memory`.
     ensures no_memory { result ≡ 10 → ForSome (F.contents files.old) (λ told.
@@ -138,20 +159,43 @@ pub fn run<F: Files, O: Sink>(alloc: Global, words: &[&str], files: &mut F, out:
 fn ended<F: Files, O: Sink>(alloc: Global, words: &[&str], files: &mut F, out: &mut O) -> Status
     ensures ends { let seen = outside F.contents F.stores F.faults F.store_faults O.written O.faults in
         EndsAs (answer (texts words.now)) (seen files.old out.old) (seen files.new out.new) result }
+    ensures possible { (called : Invocation) → invocation_of (texts words.now) ≡ Some called → MayAnswer called.command result }
     ensures proved { let seen = outside F.contents F.stores F.faults F.store_faults O.written O.faults in
-        ForSome (F.contents files.old) (λ told. ProvedBy (invocation_of (texts words.now)) told (seen files.old out.old) (seen files.new out.new) result) }
+        (called : Invocation) → invocation_of (texts words.now) ≡ Some called → IsProvedBy called (F.contents files.old) (seen files.old out.old) (seen files.new out.new) result }
     ensures audited { let seen = outside F.contents F.stores F.faults F.store_faults O.written O.faults in
-        ForSome (F.contents files.old) (λ told. AuditedBy (invocation_of (texts words.now)) told (seen files.old out.old) (seen files.new out.new) result) }
+        (called : Invocation) → invocation_of (texts words.now) ≡ Some called → IsAuditedBy called (F.contents files.old) (seen files.old out.old) (seen files.new out.new) result }
     ensures refused { invocation_of (texts words.now) ≡ None → IsOfRefused result }
 {
     match read(alloc, words) {
-        Ok(Command::Check(words)) => check_command(alloc, &words, files, out),
-        Ok(Command::Init(words)) => init_command(alloc, &words, files, out),
-        Ok(Command::Shallow(words)) => shallow_command(alloc, &words, files, out),
-        Ok(Command::Prove(words)) => prove_command(alloc, &words, files, out),
-        Ok(Command::Verify(words)) => verify_command(alloc, &words, files, out),
-        Ok(Command::Audit(words)) => audit_command(alloc, &words, files, out),
+        Ok(called) => carry_out(alloc, called.command, called.texts, files, out),
         Err(WordsFault::Refused) => tell(alloc, out, Err(Halt::Usage)),
         Err(WordsFault::NoMemory) => tell(alloc, out, Err(Halt::NoMemory)),
+    }
+}
+
+/// Carries out a command with as many texts as it has arguments.
+fn carry_out<F: Files, O: Sink>(
+    alloc: Global,
+    command: Command,
+    words: &[&str],
+    files: &mut F,
+    out: &mut O,
+) -> Status
+    requires { IsOfCommand command (texts words.now) }
+    ensures ends { let seen = outside F.contents F.stores F.faults F.store_faults O.written O.faults in
+        EndsAs (answer_with command (texts words.now)) (seen files.old out.old) (seen files.new out.new) result }
+    ensures possible { MayAnswer command result }
+    ensures proved { let seen = outside F.contents F.stores F.faults F.store_faults O.written O.faults in
+        IsProvedBy (calls command (texts words.now)) (F.contents files.old) (seen files.old out.old) (seen files.new out.new) result }
+    ensures audited { let seen = outside F.contents F.stores F.faults F.store_faults O.written O.faults in
+        IsAuditedBy (calls command (texts words.now)) (F.contents files.old) (seen files.old out.old) (seen files.new out.new) result }
+{
+    match command {
+        Command::Check => check_command(alloc, words, files, out),
+        Command::Init => init_command(alloc, words, files, out),
+        Command::Shallow => shallow_command(alloc, words, files, out),
+        Command::Prove => prove_command(alloc, words, files, out),
+        Command::Verify => verify_command(alloc, words, files, out),
+        Command::Audit => audit_command(alloc, words, files, out),
     }
 }

@@ -1,17 +1,21 @@
 // The command `verify`.
-ghost use Rattle.std.specs.Prelude.{◌≡◌, IfOk};
+ghost use Rattle.std.specs.Prelude.{◌≡◌, IfOk, length};
 ghost use Rattle.std.specs.Option.{ForSome};
+ghost use Rattle.command_words.specs.Commands.{texts};
+ghost use Rattle.command_words.specs.declared.command.Command.TheVariants.{Verify};
 ghost use Rattle.verifier_mode.specs.Verdicts.{Answers};
-ghost use Rattle.auth_cli.specs.Answer.{call_answer, call_verdict, judged_answer};
+ghost use Rattle.auth_cli.specs.Answer.{answer_with, call_answer, call_verdict, judged_answer};
 ghost use Rattle.auth_cli.specs.Calls.{IsQueryCall, call_of};
 ghost use Rattle.auth_cli.specs.Ending.{EndsAs, outside};
-ghost use Rattle.auth_cli.specs.Halting.{Finds, FindsInHand, HaltCause};
+ghost use Rattle.auth_cli.specs.Halting.{Finds, FindsInHand, JudgementCause, ending_status};
+ghost use Rattle.auth_cli.specs.SoundPrograms.{IsOutcome};
+ghost use Rattle.auth_cli.specs.Statuses.{MayAnswer};
 
 use crate::calls::{Call, MAX_FILE, read_call};
 use crate::outcomes::report_of;
+use crate::queries::CallWords;
 use crate::report::{load, tell};
 use crate::{Halt, Report, Status};
-use command_words::VerifyArguments;
 use core_terms::{Outcome, Spelling};
 use digest_layer::Sha;
 use lam_outside::{Files, Sink};
@@ -19,41 +23,56 @@ use printed_lines::refusal::Argument;
 use std::alloc::Global;
 use verifier_mode::{Verdict, verify};
 
-/// Verifies a proof of a query, and tells the outcome.
+/// Verifies a proof of a query, and tells the outcome. The words behind the command are `P ROLE STATE ARG FUEL PROOF`.
 pub fn verify_command<F: Files, O: Sink>(
     alloc: Global,
-    words: &VerifyArguments<'_>,
+    words: &[&str],
     files: &mut F,
     out: &mut O,
 ) -> Status
-    ensures { let words = words.now in let seen = outside F.contents F.stores F.faults F.store_faults O.written O.faults in
-        EndsAs (judged_answer words.program.now words.role.now words.state.now words.argument.now words.fuel.now words.proof.now) (seen files.old out.old) (seen files.new out.new) result }
+    requires { length words.now ≡ 6 }
+    ensures ends { let seen = outside F.contents F.stores F.faults F.store_faults O.written O.faults in
+        EndsAs (answer_with Verify (texts words.now)) (seen files.old out.old) (seen files.new out.new) result }
+    ensures possible { MayAnswer Verify result }
 {
-    let found = find_verdict(alloc, words, files);
+    let [program, role, state, argument, fuel, proof] = words else {
+        unreachable!()
+    };
+    let words = CallWords {
+        program,
+        role,
+        argument,
+        fuel,
+    };
+    let found = find_verdict(alloc, &words, state, proof, files);
     tell(alloc, out, found)
 }
 
 /// What is found of a call and a proof: the proof file is opened when all else is well-formed.
 fn find_verdict<F: Files>(
     alloc: Global,
-    words: &VerifyArguments<'_>,
+    words: &CallWords<'_>,
+    state: &str,
+    proof: &str,
     files: &mut F,
 ) -> Result<Report, Halt>
     ensures finds { let words = words.now in ForSome (F.contents files.old) (λ told.
-        Finds (judged_answer words.program.now words.role.now words.state.now words.argument.now words.fuel.now words.proof.now told) result) }
-    ensures cause { HaltCause (F.faults files.old) (F.faults files.new) result }
+        Finds (judged_answer words.program.now words.role.now state.now words.argument.now words.fuel.now proof.now told) result) }
+    ensures ending { IfOk result (λ report. IsOutcome (ending_status report.ending)) }
+    ensures cause { JudgementCause (F.faults files.old) (F.faults files.new) result }
     ensures stores { F.stores files.new ≡ F.stores files.old }
     ensures store_faults { F.store_faults files.new ≡ F.store_faults files.old }
 {
-    let call = read_call(alloc, words, files)?;
-    let proof = load(alloc, files, Argument::Proof, words.proof, MAX_FILE)?;
+    let call = read_call(alloc, words, state, files)?;
+    let proof = load(alloc, files, Argument::Proof, proof, MAX_FILE)?;
     judge(alloc, &call, &proof)
 }
 
 /// Judges a proof of a call.
 fn judge(alloc: Global, call: &Call, proof: &[u8]) -> Result<Report, Halt>
     requires { IsQueryCall (call_of call.now) }
-    ensures { FindsInHand (call_answer (call_of call.now) proof.now) result }
+    ensures finds { FindsInHand (call_answer (call_of call.now) proof.now) result }
+    ensures ending { IfOk result (λ report. IsOutcome (ending_status report.ending)) }
 {
     let outcome = verdict_of(alloc, call, proof)?;
     let ty = call.query.program.function(call.query.role).result;

@@ -5,7 +5,7 @@ use Rattle.std.specs.declared.boxed.Box.{Box}
 use Rattle.core_terms.specs.Types.{Ty, BoolTy, NamedTy, Table, fields_at}
 use Rattle.core_terms.specs.Terms.{Expression, Expressions, CallE, ConE, IfE, LetE}
 use Rattle.core_terms.specs.TypeTables.{type_at}
-use Rattle.core_terms.specs.LanguageTrees.{expression_of, types_at}
+use Rattle.core_terms.specs.LanguageTrees.{types_at}
 use Rattle.core_terms.specs.declared.types.TyId.{TyId}
 use Rattle.core_terms.specs.declared.program.FunctionId.{FunctionId}
 use Rattle.core_terms.specs.declared.language.types.NamedId.{NamedId}
@@ -17,7 +17,7 @@ use Rattle.auth_syntax.specs.Parsing.{in_a_row}
 use Rattle.auth_syntax.specs.declared.place.Place.{Place}
 use Rattle.auth_types.specs.Checking.{Checking, Sound, FaultAt, then_checked, unless_fault}
 use Rattle.auth_types.specs.Bodies.{Local, Numbered, Scope, Signature, Typed, called, constructed, count_of, elaborated, most_locals, typed, wanted}
-use Rattle.auth_types.specs.Elaborators.{row_of, typed_of}
+use Rattle.auth_types.specs.Elaborators.{ShowsTerm, boxed_of, row_of, typed_of}
 use Rattle.auth_types.specs.OverTypes.{FindsOver, Grows, Shows}
 use Rattle.auth_types.specs.Scopes.{signature_meant}
 use Rattle.auth_types.specs.declared.fault.Fault.{Fault}
@@ -63,16 +63,16 @@ module _ (scope : Scope) (locals : List Local) where
         by true is = let same : locals ++ named_local name e.of_type ∷ [] ≡ inner = cc in ap (λ ls. let_body e (elaborated scope ls body)) same
         by false is = absurd (cc)
 
-    pub let_shows : (old new : List Ty) (b c : TypedTerm) (x y : Box Term Global) (inner : List Local) → Grows old new → Shows old typed_of (elaborated scope locals bound) b
-        → with_local locals name (type_at old b.ty) ≡ Sound inner → Shows new typed_of (elaborated scope inner body) c → x.value ≡ b.term → y.value ≡ c.term
-        → Shows new typed_of (elaborated scope locals (LetSyntax at name bound body)) (record { term = term.Let b.ty x y; ty = c.ty })
-    let_shows old new b c x y inner grows bound_shown is body_shown same same' = λ more.
+    pub let_shows : (old new : List Ty) (b c : TypedTerm) (inner : List Local) → Grows old new → Shows old typed_of (elaborated scope locals bound) b
+        → with_local locals name (type_at old b.ty) ≡ Sound inner → Shows new typed_of (elaborated scope inner body) c
+        → ShowsTerm new (elaborated scope locals (LetSyntax at name bound body)) (term.Let b.ty b.term c.term) c.ty
+    let_shows old new b c inner grows bound_shown is body_shown = λ more.
         let later = shows_grow old new typed_of (elaborated scope locals bound) b grows bound_shown more in
         let now = shows_now old typed_of (elaborated scope locals bound) b bound_shown in
         let one : typed_of old b ≡ typed_of (new ++ more) b = cc in
         let t : type_at old b.ty ≡ type_at (new ++ more) b.ty = ap (λ e. e.of_type) one in
         let there : with_local locals name (type_at (new ++ more) b.ty) ≡ Sound inner = ap (with_local locals name) (sym t) ∙ is in
-        let form = expression-Let (new ++ more) b.ty x y in
+        let form = expression-Let (new ++ more) b.ty b.term c.term in
         ap (λ found. then_checked found behind_bound) later
         ∙ let_inner (typed_of (new ++ more) b) inner there
         ∙ ap (let_body (typed_of (new ++ more) b)) (body_shown more) ∙ cc
@@ -85,27 +85,27 @@ module _ (scope : Scope) (locals : List Local) where
     abbrev pub behind_test : Expression → Checking Typed
     behind_test condition = then_checked (elaborated scope locals first) (behind_first condition)
 
-    pub if_shows : (tested middle new : List Ty) (t u : Ty) (c : Term) (a : TypedTerm) (b : Term) (x y z : Box Term Global) → Grows tested new → Grows middle new → t ≡ BoolTy → u ≡ type_at middle a.ty
-        → Shows tested expression_of (wanted (place_of test) t (elaborated scope locals test)) c → Shows middle typed_of (elaborated scope locals first) a
-        → Shows new expression_of (wanted (place_of other) u (elaborated scope locals other)) b → x.value ≡ c → y.value ≡ a.term → z.value ≡ b
-        → Shows new typed_of (elaborated scope locals (IfSyntax at test first other)) (record { term = term.If x y z; ty = a.ty })
-    if_shows tested middle new t u c a b x y z grows grows' truth here test_shown first_shown other_shown same same' same'' = λ more.
-        let tested_is = shows_grow tested new expression_of (wanted (place_of test) t (elaborated scope locals test)) c grows test_shown more in
+    pub if_shows : (tested middle new : List Ty) (t u : Ty) (c : Box Term Global) (a : TypedTerm) (b : Box Term Global) → Grows tested new → Grows middle new → t ≡ BoolTy → u ≡ type_at middle a.ty
+        → Shows tested boxed_of (wanted (place_of test) t (elaborated scope locals test)) c → Shows middle typed_of (elaborated scope locals first) a
+        → Shows new boxed_of (wanted (place_of other) u (elaborated scope locals other)) b
+        → ShowsTerm new (elaborated scope locals (IfSyntax at test first other)) (term.If c a.term b) a.ty
+    if_shows tested middle new t u c a b grows grows' truth here test_shown first_shown other_shown = λ more.
+        let tested_is = shows_grow tested new boxed_of (wanted (place_of test) t (elaborated scope locals test)) c grows test_shown more in
         let later = shows_grow middle new typed_of (elaborated scope locals first) a grows' first_shown more in
         let now = shows_now middle typed_of (elaborated scope locals first) a first_shown in
         let one : typed_of middle a ≡ typed_of (new ++ more) a = cc in
         let of_type : type_at middle a.ty ≡ type_at (new ++ more) a.ty = ap (λ e. e.of_type) one in
-        let form = expression-If (new ++ more) x y z in
+        let form = expression-If (new ++ more) c a.term b in
         ap (λ t. then_checked (wanted (place_of test) t (elaborated scope locals test)) behind_test) (sym truth)
         ∙ ap (λ found. then_checked found behind_test) tested_is
-        ∙ ap (λ found. then_checked found (behind_first (expression_of (new ++ more) c))) later
-        ∙ ap (λ t. then_checked (wanted (place_of other) t (elaborated scope locals other)) (λ y. typed (IfE (expression_of (new ++ more) c) (expression_of (new ++ more) a.term) y) (type_at (new ++ more) a.ty))) (sym of_type ∙ sym here)
-        ∙ ap (λ found. then_checked found (λ y. typed (IfE (expression_of (new ++ more) c) (expression_of (new ++ more) a.term) y) (type_at (new ++ more) a.ty))) (other_shown more)
+        ∙ ap (λ found. then_checked found (behind_first (boxed_of (new ++ more) c))) later
+        ∙ ap (λ t. then_checked (wanted (place_of other) t (elaborated scope locals other)) (λ y. typed (IfE (boxed_of (new ++ more) c) (boxed_of (new ++ more) a.term) y) (type_at (new ++ more) a.ty))) (sym of_type ∙ sym here)
+        ∙ ap (λ found. then_checked found (λ y. typed (IfE (boxed_of (new ++ more) c) (boxed_of (new ++ more) a.term) y) (type_at (new ++ more) a.ty))) (other_shown more)
         ∙ cc
 
 -- a call, once its arguments are found
 pub call_shows : (types : List Ty) (id : FunctionId) (arguments : Vec Term Global) (result : TyId) (t : Ty) (found : Checking Expressions) → ((more : List Ty) → type_at (types ++ more) result ≡ t)
-    → Shows types row_of found arguments → Shows types typed_of (then_checked found (λ es. typed (CallE id.0 es) t)) (record { term = term.Call id arguments; ty = result })
+    → Shows types row_of found arguments → ShowsTerm types (then_checked found (λ es. typed (CallE id.0 es) t)) (term.Call id arguments) result
 call_shows types id arguments result t found is shown = λ more.
     let form = expression-Call (types ++ more) id arguments in
     let here = is more in
@@ -114,7 +114,7 @@ call_shows types id arguments result t found is shown = λ more.
 -- a constructor, once its fields are found
 pub constructor_shows : (old new : List Ty) (named : NamedId) (tag : Tag) (fields : Vec Term Global) (ty : TyId) (found : Checking Expressions) → Grows old new
     → slice_get new ty.0 ≡ Some (NamedTy named.0) → Shows old row_of found fields
-    → Shows new typed_of (then_checked found (λ es. typed (ConE named.0 tag.0 es) (NamedTy named.0))) (record { term = term.Constructor named tag fields; ty = ty })
+    → ShowsTerm new (then_checked found (λ es. typed (ConE named.0 tag.0 es) (NamedTy named.0))) (term.Constructor named tag fields) ty
 constructor_shows old new named tag fields ty found grows there shown = λ more.
     let form = expression-Constructor (new ++ more) named tag fields in
     let here : type_at (new ++ more) ty ≡ NamedTy named.0 = type_stays new ty.0 (NamedTy named.0) there more in
@@ -130,7 +130,7 @@ module _ (types : List Ty) (at : Place) (xs : ExpsSyntax) (n : ℕ) (counted : n
         ∙ ap (λ (v : Signature). then_checked (each v.parameters) (λ es. typed (CallE id.0 es) v.result)) same
 
     pub call_found : (new : List Ty) (arguments : Vec Term Global) → Grows types new → head.result.0 < length types → Shows new row_of (each (types_at types head.parameters.items)) arguments
-        → Shows new typed_of (called at (count_of xs) f each) (record { term = term.Call id arguments; ty = head.result })
+        → ShowsTerm new (called at (count_of xs) f each) (term.Call id arguments) head.result
     call_found new arguments grows inside shown = λ more.
         call_is ∙ call_shows new id arguments head.result (type_at types head.result) (each (types_at types head.parameters.items))
         (λ more. type_stays_at types (new ++ more) (grown types new grows more) head.result inside) shown more
@@ -150,7 +150,7 @@ module _ (types : List Ty) (at : Place) (xs : ExpsSyntax) (n : ℕ) (counted : n
         ∙ ap (λ ts. then_checked (each ts) (λ es. typed (ConE named.0 tag.0 es) (NamedTy named.0))) (sym same)
 
     pub constructor_found : (middle new : List Ty) (fields : Vec Term Global) (ty : TyId) → Grows middle new → slice_get new ty.0 ≡ Some (NamedTy named.0) → Shows middle row_of (each (types_at types ids)) fields
-        → Shows new typed_of (constructed at (count_of xs) table found each) (record { term = term.Constructor named tag fields; ty = ty })
+        → ShowsTerm new (constructed at (count_of xs) table found each) (term.Constructor named tag fields) ty
     constructor_found middle new fields ty grows there shown = λ more. constructor_is ∙ constructor_shows middle new named tag fields ty (each (types_at types ids)) grows there shown more
 
     pub constructor_refused : (middle new : List Ty) (fault : Fault) (r : Result TypedTerm Fault) → r ≡ Err fault → FindsOver middle row_of (each (types_at types ids)) (Err fault)

@@ -34,6 +34,10 @@ pub on_ok : {T E P : Type 0} (r : Result T E) → P → OnOk r P
 on_ok (Ok value) p = p
 on_ok (Err fault) p = tt
 
+pub on_more : {T E P Q : Type 0} (r : Result T E) → (P → Q) → OnOk r P → OnOk r Q
+on_more (Ok value) more p = more p
+on_more (Err fault) more p = tt
+
 -- the same thing found by other means
 pub finds_is : {A B : Type 0} (types : List Ty) (view : List Ty → A → B) (found found' : Checking B) (r : Result A Fault) → found ≡ found' → FindsOver types view found r → FindsOver types view found' r
 finds_is types view found found' r same h = subst (λ found. FindsOver types view found r) same h

@@ -14,7 +14,7 @@ use Rattle.auth_syntax.specs.declared.tree.Parameter.{Parameter}
 use Rattle.auth_types.specs.Checking.{Checking, Sound, FaultAt, then_checked}
 use Rattle.auth_types.specs.Bodies.{Local, Scope, Signature, checked_function, checked_functions, elaborated, parameter_locals, wanted}
 use Rattle.auth_types.specs.CheckedPrograms.{signature_of}
-use Rattle.auth_types.specs.Elaborators.{found_at, locals_of, scope_of, types_of}
+use Rattle.auth_types.specs.Elaborators.{boxed_of, found_at, locals_of, scope_of, types_of}
 use Rattle.auth_types.specs.Scopes.{signature_meant}
 use Rattle.auth_types.specs.declared.scope.Head.{Head}
 use Rattle.auth_types.specs.declared.bodies.elaborator.Elaborator.{Elaborator}
@@ -99,8 +99,8 @@ module _ (names : List (List ℕ)) (scope : Scope) (f : FunctionSyntax) where
     body = body;
   }
 
-  pub function_refused : (types new : List Ty) (fault : Fault) (r : Result Function Fault) → r ≡ Err fault → FindsOver types expression_of body_found (Err fault) → FindsOver new function_of (checked_function names scope f) r
-  function_refused types new fault r is h = fault_first types new expression_of function_of body_found (λ body. Sound (with_body body)) fault r is h
+  pub function_refused : (types new : List Ty) (fault : Fault) (r : Result Function Fault) → r ≡ Err fault → FindsOver types boxed_of body_found (Err fault) → FindsOver new function_of (checked_function names scope f) r
+  function_refused types new fault r is h = fault_first types new boxed_of function_of body_found (λ body. Sound (with_body body)) fault r is h
 
   pub function_shows : (types : List Ty) (g : Function) (body : Term) → g.name ≡ f.name.name → kind_of g.kind ≡ kind_meant f.kind
       → ((more : List Ty) → types_at (types ++ more) g.parameters.items ≡ map (λ (p : ParameterSyntax). type_meant names p.of_type) f.parameters)

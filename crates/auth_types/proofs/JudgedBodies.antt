@@ -60,7 +60,7 @@ module _ (scope : Scope) where
   abbrev pub IsWanted : List Local → Ty → ExpSyntax → Checking Expression → Type 0
   IsWanted locals t tree found = Judges (λ x. Elaborates scope locals tree x t) (Misfits scope locals t tree) found
 
-  wanted_judged : (locals : List Local) (t : Ty) (tree : ExpSyntax) (found : Checking Typed) → IsJudged locals tree found → IsWanted locals t tree (wanted (place_of tree) t found)
+  pub wanted_judged : (locals : List Local) (t : Ty) (tree : ExpSyntax) (found : Checking Typed) → IsJudged locals tree found → IsWanted locals t tree (wanted (place_of tree) t found)
   wanted_judged locals t tree found h =
       let R : Expression → Type 0 = λ x. Elaborates scope locals tree x t in
       judges_then (Means locals tree) (Breaks scope locals tree) R (Misfits scope locals t tree) found (λ e. unless_fault (same_type e.of_type t) WrongType (place_of tree) (Sound e.expression)) h

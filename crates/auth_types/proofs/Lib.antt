@@ -1,16 +1,43 @@
+-- the first pass: `first_pass`, `declare`, `add_name`, `add_constructor`, `check_parameters` of declarations.rt
 pub mod NamesBefore
 pub mod Constructors
-pub mod DeclaredOneByOne
 pub mod ParameterNames
-pub mod Rows
-pub mod RowsOfLimits
+pub mod DeclaredOneByOne
+-- numbers of types, cited by each function behind the first two passes
 pub mod TypeNumbers
-pub mod FragmentForms
+pub mod ScopeStays
+-- `declared_scope` of numbering.rt, and the functions that it calls
+pub mod NamesOfDeclarations
+pub mod NumberedParts
+pub mod NumberedScopes
+pub mod ConstructorNumbers
+-- look-ups by name: `constructor` and `function` of scope.rt, `named_id` of numbering.rt
+pub mod ScopeLookups
+-- the third pass: `third_pass`, `check_update`, `is_same`, `last_parameter` of roles.rt
+pub mod RolesOfHeads
+-- the fourth pass, what its functions share: the forms of trees and of terms, where an elaborator stands, what is found of a part
 pub mod TreeViews
-pub mod FragmentElaborating
-pub mod FragmentFunctions
-pub mod FragmentTyping
-pub mod FragmentPasses
+pub mod TermViews
+pub mod ElaboratorSteps
+pub mod FindingSteps
+-- `local`, `plain` and `text` of elaborator.rt; operations.rt; calls.rt; `bind_each` of binders.rt
+pub mod LocalSteps
+pub mod OperationSteps
+pub mod CallSteps
+pub mod BoundNames
+-- the cycle of bodies.rt: what binds, conditions, calls and constructors; rows; matches and their arms; parts that are refused
+pub mod ExpressionSteps
+pub mod RowSteps
+pub mod MatchSteps
+pub mod ArmSteps
+pub mod RefusedParts
+pub mod LiteralSteps
+-- `enter`, `function` and `fourth_pass` of functions.rt
+pub mod FunctionSteps
+-- `all_passes`, `known_names` and `checked_scope` of check.rt
+pub mod PassesOfTrees
+pub mod ProgramOfPasses
+-- the laws of laws.rt: one file for each thing that a program which passes is held to, and the laws from these
 pub mod SoundSteps
 pub mod SoundNames
 pub mod SoundBodies
@@ -19,34 +46,27 @@ pub mod SoundTypes
 pub mod SoundLimits
 pub mod SoundLiterals
 pub mod SoundPrograms
-pub mod SoundRows
-pub mod FittingLiterals
-pub mod TermViews
-pub mod ScopeStays
-pub mod ElaboratorSteps
-pub mod FindingSteps
-pub mod OperationSteps
-pub mod BoundNames
-pub mod RowSteps
-pub mod ExpressionSteps
-pub mod FunctionSteps
-pub mod CallSteps
-pub mod ArmSteps
-pub mod MatchSteps
-pub mod ScopeLookups
-pub mod NamesOfDeclarations
-pub mod NumberedParts
-pub mod RolesOfHeads
-pub mod NumberedScopes
-pub mod PassesOfTrees
-pub mod ConstructorNumbers
-pub mod ProgramOfPasses
-pub mod LocalSteps
-pub mod RefusedParts
-pub mod LiteralSteps
+-- the law of expressions: the typing rules, and what breaks them first
 pub mod Judging
 pub mod NamedParts
 pub mod JudgedNames
 pub mod JudgedBodies
 pub mod RuledBodies
 pub mod RulesOfBodies
+pub mod Ruled
+pub mod RuledSpaces
+pub mod RuledDeclarations
+pub mod RuledTypeNames
+pub mod RuledRoles
+pub mod RuledPrograms
+pub mod RuledTypes
+-- the functions of fragment/
+pub mod FragmentForms
+pub mod FragmentElaborating
+pub mod FragmentFunctions
+pub mod FragmentTyping
+pub mod FragmentPasses
+-- the definitions, computed: no function cites these rows
+pub mod Rows
+pub mod RowsOfLimits
+pub mod SoundRows

@@ -11,11 +11,9 @@ use Rattle.auth_syntax.specs.declared.place.Place.{Place}
 use Rattle.auth_syntax.specs.Syntax.{LocalSyntax}
 use Rattle.auth_types.specs.Checking.{Checking, Sound, FaultAt}
 use Rattle.auth_types.specs.Bodies.{Local, Typed, last_named, local_at, typed}
-use Rattle.auth_types.specs.Elaborators.{found_at, locals_of, typed_of, types_of}
+use Rattle.auth_types.specs.Elaborators.{ShowsTerm, found_at, locals_of, types_of}
 use Rattle.auth_types.specs.Locals.{locals_meant}
-use Rattle.auth_types.specs.OverTypes.{Shows}
 use Rattle.auth_types.specs.declared.fault.TypeKind.TheVariants.{UnknownName}
-use Rattle.auth_types.specs.declared.bodies.Typed.{Typed as TypedTerm}
 use Rattle.auth_types.specs.declared.bodies.elaborator.Elaborator.{Elaborator}
 use Rattle.auth_types.specs.declared.bodies.elaborator.Local.{Local as CodeLocal}
 use Rattle.auth_types.proofs.ScopeStays.{type_stays_at}
@@ -29,7 +27,7 @@ type_of_local types (m ∷ locals) (suc i) l d inside is = type_of_local types l
 
 module _ (e : Elaborator) (at : Place) (name : List ℕ) where
   pub local_shows : (i : ℕ) (l d : CodeLocal) → i < length e.locals.items → l ≡ slice_index_or e.locals.items i d → last_named 0 (locals_meant (types_of e) e.locals.items) name ≡ Some i
-      → l.ty.0 < length (types_of e) → Shows (types_of e) typed_of (found_at e (LocalSyntax at name)) (record { term = term.Local (record { 0 = i }); ty = l.ty })
+      → l.ty.0 < length (types_of e) → ShowsTerm (types_of e) (found_at e (LocalSyntax at name)) (term.Local (record { 0 = i })) l.ty
   unfolding locals_of
   local_shows i l d inside is found within = λ more.
       let types = types_of e in
@@ -44,12 +42,11 @@ module _ (e : Elaborator) (at : Place) (name : List ℕ) where
   local_unknown found = ap (local_at at (locals_meant (types_of e) e.locals.items)) found
 
 -- a literal
-pub literal_shows : (types : List Ty) (found : Checking Typed) (literal : Term) (e : Expression) (t : Ty) (whole : TypedTerm) → found ≡ typed e t → ((types : List Ty) → expression_of types literal ≡ e)
-    → ((more : List Ty) → typed_of (types ++ more) whole ≡ record { expression = expression_of (types ++ more) literal; of_type = t }) → Shows types typed_of found whole
-literal_shows types found literal e t whole is means shown = λ more. is ∙ ap (λ e. typed e t) (sym (means (types ++ more))) ∙ ap Sound (sym (shown more))
+pub literal_shows : (types : List Ty) (found : Checking Typed) (literal : Term) (e : Expression) (t : Ty) → found ≡ typed e t → ((types : List Ty) → expression_of types literal ≡ e)
+    → (more : List Ty) → found ≡ typed (expression_of (types ++ more) literal) t
+literal_shows types found literal e t is means more = is ∙ ap (λ e. typed e t) (sym (means (types ++ more)))
 
 -- an int, as the code reads it
-pub int_shows : (types : List Ty) (found : Checking Typed) (z read : ℤ) (whole : TypedTerm) → found ≡ typed (IntE z) IntTy
-    → ((more : List Ty) → typed_of (types ++ more) whole ≡ record { expression = expression_of (types ++ more) (term.IntLiteral read); of_type = IntTy }) → read ≡ z → Shows types typed_of found whole
-int_shows types found z read whole is shown same =
-    literal_shows types found (term.IntLiteral read) (IntE z) IntTy whole is (λ types. expression-IntLiteral types read ∙ ap IntE same) shown
+pub int_shows : (types : List Ty) (found : Checking Typed) (z read : ℤ) → found ≡ typed (IntE z) IntTy → read ≡ z
+    → (more : List Ty) → found ≡ typed (expression_of (types ++ more) (term.IntLiteral read)) IntTy
+int_shows types found z read is same = literal_shows types found (term.IntLiteral read) (IntE z) IntTy is (λ types. expression-IntLiteral types read ∙ ap IntE same)

@@ -5,7 +5,6 @@ use Rattle.std.specs.declared.boxed.Box.{Box}
 use Rattle.core_terms.specs.Types.{Ty}
 use Rattle.core_terms.specs.Terms.{Expression, MatchE}
 use Rattle.core_terms.specs.TypeTables.{type_at}
-use Rattle.core_terms.specs.LanguageTrees.{expression_of}
 use Rattle.core_terms.specs.declared.language.types.NamedId.{NamedId}
 use Rattle.core_terms.specs.declared.language.term.Term.{Term}
 use Rattle.core_terms.specs.declared.language.term.Term as term
@@ -13,7 +12,7 @@ use Rattle.auth_syntax.specs.Syntax.{ArmsSyntax, ExpSyntax, MatchSyntax, place_o
 use Rattle.auth_syntax.specs.declared.place.Place.{Place}
 use Rattle.auth_types.specs.Checking.{Checking, then_checked}
 use Rattle.auth_types.specs.Bodies.{Local, Scope, Typed, TypedArms, arm_names, elaborated, elaborated_arms, matched, typed}
-use Rattle.auth_types.specs.Elaborators.{Matches, arms_of, typed_of}
+use Rattle.auth_types.specs.Elaborators.{Matches, ShowsTerm, arms_of, boxed_of, typed_of}
 use Rattle.auth_types.specs.OverTypes.{FindsOver, Grows, Shows}
 use Rattle.auth_types.specs.declared.fault.Fault.{Fault}
 use Rattle.auth_types.specs.declared.fault.Fault.TheVariants.{At, NoMemory}
@@ -41,7 +40,7 @@ module _ (scope : Scope) (locals : List Local) (at place : Place) (subject : Exp
   match_refused new fault r is h = subst (λ (r : Result TypedTerm Fault). FindsOver new typed_of (elaborated scope locals (MatchSyntax at subject arms)) r) (sym is) (by fault h)
     where
       by : (fault : Fault) → Matches scope at place (type_at old value.ty) (arm_names arms) (Err fault) → FindsOver new typed_of (elaborated scope locals (MatchSyntax at subject arms)) (Err fault)
-      by (At kind place) h = match_now ∙ h (expression_of old value.term) (elaborated_arms scope locals arms None)
+      by (At kind place) h = match_now ∙ h (boxed_of old value.term) (elaborated_arms scope locals arms None)
       by NoMemory h = tt
 
   module _ (named : NamedId) (tss : List (List Ty)) (matches : Matches scope at place (type_at old value.ty) (arm_names arms) (Ok named)) (types : tss ≡ unwrap_or (slice_get scope.table named.0) []) where
@@ -55,17 +54,17 @@ module _ (scope : Scope) (locals : List Local) (at place : Place) (subject : Exp
       where
         by : (fault : Fault) → FindsOver middle arms_of (elaborated_arms scope locals arms None tss) (Err fault) → FindsOver new typed_of (elaborated scope locals (MatchSyntax at subject arms)) (Err fault)
         by (At kind place) h =
-            match_now ∙ matches (expression_of old value.term) (elaborated_arms scope locals arms None)
-            ∙ ap (λ tss. then_checked (elaborated_arms scope locals arms None tss) (behind_arms (expression_of old value.term))) (sym types)
-            ∙ ap (λ found. then_checked found (behind_arms (expression_of old value.term))) h
+            match_now ∙ matches (boxed_of old value.term) (elaborated_arms scope locals arms None)
+            ∙ ap (λ tss. then_checked (elaborated_arms scope locals arms None tss) (behind_arms (boxed_of old value.term))) (sym types)
+            ∙ ap (λ found. then_checked found (behind_arms (boxed_of old value.term))) h
         by NoMemory h = tt
 
-    pub match_found : (new : List Ty) (bodies : TypedBodies) (x : Box Term Global) → Grows old new → value.ty.0 < length old → x.value ≡ value.term → Shows new arms_of (elaborated_arms scope locals arms None tss) bodies
-        → Shows new typed_of (elaborated scope locals (MatchSyntax at subject arms)) (record { term = term.Match named x bodies.bodies; ty = bodies.ty })
-    match_found new bodies x grows inside same arms_shown = λ more.
+    pub match_found : (new : List Ty) (bodies : TypedBodies) → Grows old new → value.ty.0 < length old → Shows new arms_of (elaborated_arms scope locals arms None tss) bodies
+        → ShowsTerm new (elaborated scope locals (MatchSyntax at subject arms)) (term.Match named value.term bodies.bodies) bodies.ty
+    match_found new bodies grows inside arms_shown = λ more.
         let later = shows_grow old new typed_of (elaborated scope locals subject) value grows shown more in
-        let e = expression_of (new ++ more) value.term in
-        let form = expression-Match (new ++ more) named x bodies.bodies in
+        let e = boxed_of (new ++ more) value.term in
+        let form = expression-Match (new ++ more) named value.term bodies.bodies in
         ap (λ found. then_checked found (behind_subject (place_of subject))) later
         ∙ ap (λ p. behind_subject p (typed_of (new ++ more) value)) (sym here)
         ∙ ap (λ t. matched scope at place e t (arm_names arms) (elaborated_arms scope locals arms None)) (type_stays_at old (new ++ more) (grown old new grows more) value.ty inside)

@@ -10,6 +10,8 @@ use Rattle.core_terms.specs.TypeTables.{type_at}
 use Rattle.core_terms.specs.Typing.{is_shaped, is_typed}
 use Rattle.core_terms.specs.LanguageTrees.{are_below, function_of, has_fields_below, has_types_below, is_within, program_of, table_of}
 use Rattle.core_terms.specs.LanguageTypes.{types_of_forms}
+use Rattle.core_terms.specs.LanguagePrograms.{types_in}
+use Rattle.core_terms.specs.declared.language.types.TyTable.{TyTable}
 use Rattle.core_terms.specs.declared.types.TyId.{TyId}
 use Rattle.core_terms.specs.declared.language.types.TyForm.{TyForm}
 use Rattle.core_terms.specs.declared.language.term.Constructor.{Constructor}
@@ -17,19 +19,29 @@ use Rattle.core_terms.specs.declared.language.term.Function.{Function}
 use Rattle.core_terms.specs.declared.language.term.NamedType.{NamedType}
 use Rattle.auth_syntax.specs.Syntax.{FunctionSyntax, ParameterSyntax, Program}
 use Rattle.auth_syntax.specs.Trees as written
-use Rattle.auth_types.specs.Bodies.{Signature}
+use Rattle.auth_types.specs.Bodies.{Signature, checked_functions}
 use Rattle.auth_types.specs.Checking.{Sound}
 use Rattle.auth_types.specs.CheckedLaws.{HasGoodLiterals}
 use Rattle.auth_types.specs.CheckedPrograms.{all_passes, fourth_pass, signature_of, state_of, table_of_program, third_pass}
 use Rattle.auth_types.specs.Declarations.{first_pass, most_constructors, most_types}
 use Rattle.auth_types.specs.OverTypes.{Grows}
+use Rattle.auth_types.specs.Passes.{StandsFor, names_known}
 use Rattle.auth_types.specs.Scopes.{AreHeadsOf, AreWithin, IsConstructorWithin, IsCounted, IsHeadWithin, IsNamedWithin, IsWithin, functions_meant, scope_in, scope_meant, signature_meant}
 use Rattle.auth_types.specs.WrittenTypes.{functions_in, second_pass, type_meant}
 use Rattle.auth_types.specs.declared.scope.Head.{Head}
 use Rattle.auth_types.specs.declared.scope.Scope.{Scope}
-use Rattle.auth_types.proofs.PassesOfTrees.{passes_end, table_is}
+use Rattle.auth_types.proofs.PassesOfTrees.{fourth_told, passes_end, table_is}
 use Rattle.auth_types.proofs.ScopeStays.{grows_length, table_stays, type_stays_at, within_more}
 use Rattle.auth_types.proofs.SoundPrograms.{checked_is_typed, checked_is_within_limits}
+
+-- the program of these parts is the one that the passes give, and it is what a program has to be
+pub record Passed (program : Program) (forms : List TyForm) (named : List NamedType) (state : TyId) (functions : List Function) : Type 0 where
+  pub gives : all_passes program ≡ Sound (program_of forms named state functions)
+  pub typed : is_typed (program_of forms named state functions) ≡ true
+  pub shaped : is_shaped (program_of forms named state functions) ≡ true
+  pub within : is_within forms named state functions ≡ true
+  pub numbers : has_numbers (program_of forms named state functions).types ≡ true
+  pub tags : has_tags (program_of forms named state functions).types ≡ true
 
 -- a head that stands for its function has as many numbers as the function has parameters
 counted_each : (names : List (List ℕ)) (types : List Ty) (heads : List Head) → map (signature_meant types) heads ≡ map (signature_of names) (map (λ (h : Head). written.function_of h.function.now) heads) → All IsCounted heads
@@ -71,42 +83,67 @@ functions_below count (f ∷ functions) (h ∷ heads) within parameters results 
     let rest = functions_below count functions heads (All-tail (IsHeadWithin count) h heads within) (cc) (cc) in
     rw (below, inside, rest) refl
 
-module _ (program : Program) (before : List Ty) (forms : List TyForm) (scope : Scope) (state : TyId) (functions : List Function)
-    (grows : Grows before (types_of_forms forms)) (meant : scope_meant before scope ≡ scope_in program.declarations) (named : functions_meant scope ≡ functions_in program.declarations) (within : IsWithin (length before) scope) where
-  pub program_within : state.0 < length before → map (λ (f : Function). f.parameters.items) functions ≡ map (λ (h : Head). h.parameters.items) scope.heads.items
+module _ (program : Program) (before : List Ty) (forms : List TyForm) (scope : Scope) (state : TyId) (functions : List Function) (grows : Grows before (types_of_forms forms)) (stands : StandsFor program before scope state) where
+  program_within : map (λ (f : Function). f.parameters.items) functions ≡ map (λ (h : Head). h.parameters.items) scope.heads.items
       → map (λ (f : Function). f.result) functions ≡ map (λ (h : Head). h.result) scope.heads.items → is_within forms scope.named.items state functions ≡ true
-  program_within inside parameters results =
+  program_within parameters results =
       let count = length (types_of_forms forms) in
       let more = grows_length before (types_of_forms forms) grows in
-      let all : IsWithin count scope = within_more (length before) count scope more within in
+      let all : IsWithin count scope = within_more (length before) count scope more stands.within in
+      let inside = stands.inside in
       let here : nat_lt state.0 count ≡ true = lt-ltb state.0 count (omega (arith, inside, more)) in
       rw (here, named_below count scope.named.items all.named, functions_below count functions scope.heads.items all.heads parameters results) refl
 
-  module _ (state_at : type_at before state ≡ state_of program) (inside : state.0 < length before)
-      (first : first_pass program ≡ Sound tt) (second : second_pass program ≡ Sound tt) (third : third_pass program ≡ Sound tt)
-      (fourth : fourth_pass program ≡ Sound (map (function_of (types_of_forms forms)) functions)) where
-    table_made : table_of (types_of_forms forms) scope.named.items ≡ table_of_program program
-    table_made = table_stays before (types_of_forms forms) grows scope.named.items within.named ∙ table_is program before scope meant named
+  table_made : table_of (types_of_forms forms) scope.named.items ≡ table_of_program program
+  table_made = table_stays before (types_of_forms forms) grows scope.named.items stands.within.named ∙ table_is program before scope state stands
 
-    state_made : type_at (types_of_forms forms) state ≡ state_of program
-    state_made = type_stays_at before (types_of_forms forms) grows state inside ∙ state_at
+  state_made : type_at (types_of_forms forms) state ≡ state_of program
+  state_made = type_stays_at before (types_of_forms forms) grows state stands.inside ∙ stands.state
 
-    pub passes_give : all_passes program ≡ Sound (program_of forms scope.named.items state functions)
-    passes_give =
-        let table = table_made in
-        let of_state = state_made in
-        passes_end program first second third (map (function_of (types_of_forms forms)) functions) fourth ∙ cc
-
-    pub program_numbered : has_numbers (program_of forms scope.named.items state functions).types ≡ true
+  module _ (gives : all_passes program ≡ Sound (program_of forms scope.named.items state functions)) where
+    program_numbered : has_numbers (program_of forms scope.named.items state functions).types ≡ true
     program_numbered =
-        le-leb (length (program_of forms scope.named.items state functions).types) most_types (checked_is_within_limits program (program_of forms scope.named.items state functions) passes_give).types
+        le-leb (length (program_of forms scope.named.items state functions).types) most_types (checked_is_within_limits program (program_of forms scope.named.items state functions) gives).types
 
-    pub program_tagged : has_tags (program_of forms scope.named.items state functions).types ≡ true
+    program_tagged : has_tags (program_of forms scope.named.items state functions).types ≡ true
     program_tagged =
         all_pass (λ (constructors : List (List Ty)). length constructors ≤ most_constructors) (λ (constructors : List (List Ty)). nat_le (length constructors) 255) (λ constructors few. le-leb (length constructors) 255 few)
-        (program_of forms scope.named.items state functions).types (checked_is_within_limits program (program_of forms scope.named.items state functions) passes_give).constructors
+        (program_of forms scope.named.items state functions).types (checked_is_within_limits program (program_of forms scope.named.items state functions) gives).constructors
 
-    pub typed_and_shaped : All (λ (f : FunctionSyntax). HasGoodLiterals f.body) (functions_meant scope)
+    typed_and_shaped : All (λ (f : FunctionSyntax). HasGoodLiterals f.body) (functions_meant scope)
         → (is_typed (program_of forms scope.named.items state functions) ≡ true) × (is_shaped (program_of forms scope.named.items state functions) ≡ true)
     typed_and_shaped good =
-        checked_is_typed program (program_of forms scope.named.items state functions) (subst (All (λ (f : FunctionSyntax). HasGoodLiterals f.body)) named good) passes_give
+        checked_is_typed program (program_of forms scope.named.items state functions) (subst (All (λ (f : FunctionSyntax). HasGoodLiterals f.body)) stands.functions good) gives
+
+  -- what the passes leave of a tree in which they find nothing
+  pub passed : names_known program ≡ Sound tt → third_pass program ≡ Sound tt → fourth_pass program ≡ Sound (map (function_of (types_of_forms forms)) functions)
+      → map (λ (f : Function). f.parameters.items) functions ≡ map (λ (h : Head). h.parameters.items) scope.heads.items → map (λ (f : Function). f.result) functions ≡ map (λ (h : Head). h.result) scope.heads.items
+      → All (λ (f : FunctionSyntax). HasGoodLiterals f.body) (functions_meant scope) → Passed program forms scope.named.items state functions
+  passed known third fourth parameters results good =
+      let table = table_made in
+      let of_state = state_made in
+      let gives : all_passes program ≡ Sound (program_of forms scope.named.items state functions) =
+      passes_end program known third (map (function_of (types_of_forms forms)) functions) fourth ∙ cc in
+      let sound = typed_and_shaped gives good in
+      record {
+        gives = gives;
+        typed = sound.0;
+        shaped = sound.1;
+        within = program_within parameters results;
+        numbers = program_numbered gives;
+        tags = program_tagged gives;
+      }
+
+-- the same as the code tells it, over a table and a scope that are lent and given on
+module _ (program : Program) (given : TyTable) (scope : Scope) (state : TyId) (stands : StandsFor program (types_in given) scope state) (table : TyTable) (lent last : Scope) where
+  pub passed_on : table ≡ given → lent ≡ scope → last ≡ scope → (forms : List TyForm) (functions : List Function) → Grows (types_in table) (types_of_forms forms) → names_known program ≡ Sound tt → third_pass program ≡ Sound tt
+      → ((names : List (List ℕ)) → AreHeadsOf names (types_in table) lent
+      → checked_functions names (scope_meant (types_in table) lent) (functions_meant lent) ≡ Sound (map (function_of (types_of_forms forms)) functions))
+      → map (λ (f : Function). f.parameters.items) functions ≡ map (λ (h : Head). h.parameters.items) lent.heads.items → map (λ (f : Function). f.result) functions ≡ map (λ (h : Head). h.result) lent.heads.items
+      → All (λ (f : FunctionSyntax). HasGoodLiterals f.body) (functions_meant lent) → Passed program forms last.named.items state functions
+  passed_on same same' same'' forms functions grows known third found parameters results good =
+      subst (λ (h : Scope). Passed program forms h.named.items state functions) (sym same'')
+      (passed program (types_in given) forms scope state functions (subst (λ (t : TyTable). Grows (types_in t) (types_of_forms forms)) same grows) stands known third
+      (fourth_told program (types_in given) scope state stands (λ found. found ≡ Sound (map (function_of (types_of_forms forms)) functions)) table lent (ap types_in same) same' found)
+      (parameters ∙ ap (λ (h : Scope). map (λ (h : Head). h.parameters.items) h.heads.items) same') (results ∙ ap (λ (h : Scope). map (λ (h : Head). h.result) h.heads.items) same')
+      (subst (λ (h : Scope). All (λ (f : FunctionSyntax). HasGoodLiterals f.body) (functions_meant h)) same' good))

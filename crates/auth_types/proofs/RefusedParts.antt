@@ -1,16 +1,17 @@
 -- A part of an expression is refused, and so the expression, where the parts before it are found.
 use Rattle.std.proofs.Common.{◌≡◌, ℕ, Option, List, Result, Err, refl, sym, ap, ◌∙◌, subst}
+use Rattle.std.specs.declared.alloc.Global.{Global}
+use Rattle.std.specs.declared.boxed.Box.{Box}
 use Rattle.core_terms.specs.Types.{Ty, BoolTy, PairTy, Table}
 use Rattle.core_terms.specs.Terms.{Expression, Expressions, IfE, LetE, PairE}
 use Rattle.core_terms.specs.TypeTables.{type_at}
-use Rattle.core_terms.specs.LanguageTrees.{expression_of}
 use Rattle.core_terms.specs.declared.program.FunctionId.{FunctionId}
 use Rattle.core_terms.specs.declared.language.term.Term.{Term}
 use Rattle.auth_syntax.specs.Syntax.{BinaryOperation, UnaryOperation, FstOperation, SndOperation, AuthOperation, UnauthOperation, LenOperation, NotOperation, ExpSyntax, ExpsSyntax, IfSyntax, LetSyntax, NameSyntax, place_of}
 use Rattle.auth_syntax.specs.declared.place.Place.{Place}
 use Rattle.auth_types.specs.Checking.{Checking, Sound, FaultAt, then_checked}
 use Rattle.auth_types.specs.Bodies.{Local, Numbered, Scope, Signature, Typed, binary, binary_expression, called, constructed, count_of, elaborated, operand_type, pair, result_type, typed, unary, wanted}
-use Rattle.auth_types.specs.Elaborators.{Calls, Constructs, typed_of}
+use Rattle.auth_types.specs.Elaborators.{Calls, Constructs, boxed_of, typed_of}
 use Rattle.auth_types.specs.Outcomes.{Finds}
 use Rattle.auth_types.specs.OverTypes.{FindsOver, Grows, Shows}
 use Rattle.auth_types.specs.declared.fault.TypeKind.{TypeKind}
@@ -43,24 +44,24 @@ module _ (operation : BinaryOperation) (new : List Ty) (at place : Place) (u v :
       ap (λ found. then_checked found (λ a. then_checked (wanted place v y') (of_operands a))) first_is
       ∙ ap (λ found. then_checked (wanted at (operand_type operation) x) (λ a. then_checked found (of_operands a))) second_is
 
-  pub first_operand_refused : (types : List Ty) (fault : Fault) (r : Result TypedTerm Fault) → r ≡ Err fault → FindsOver types expression_of (wanted at u x') (Err fault) → FindsOver new typed_of (binary operation at x place y) r
+  pub first_operand_refused : (types : List Ty) (fault : Fault) (r : Result TypedTerm Fault) → r ≡ Err fault → FindsOver types boxed_of (wanted at u x') (Err fault) → FindsOver new typed_of (binary operation at x place y) r
   first_operand_refused types fault r is h =
       finds_is new typed_of (then_checked (wanted at u x') (λ a. then_checked (wanted place v y') (of_operands a))) (binary operation at x place y) r whole_is
-      (fault_first types new expression_of typed_of (wanted at u x') (λ a. then_checked (wanted place v y') (of_operands a)) fault r is h)
+      (fault_first types new boxed_of typed_of (wanted at u x') (λ a. then_checked (wanted place v y') (of_operands a)) fault r is h)
 
-  pub second_operand_refused : (before types : List Ty) (value : Term) (fault : Fault) (r : Result TypedTerm Fault) → r ≡ Err fault → Shows before expression_of (wanted at u x') value
-      → FindsOver types expression_of (wanted place v y') (Err fault) → FindsOver new typed_of (binary operation at x place y) r
+  pub second_operand_refused : (before types : List Ty) (value : Box Term Global) (fault : Fault) (r : Result TypedTerm Fault) → r ≡ Err fault → Shows before boxed_of (wanted at u x') value
+      → FindsOver types boxed_of (wanted place v y') (Err fault) → FindsOver new typed_of (binary operation at x place y) r
   second_operand_refused before types value fault r is shown h =
       finds_is new typed_of (then_checked (wanted at u x') (λ a. then_checked (wanted place v y') (of_operands a))) (binary operation at x place y) r whole_is
-      (fault_second before types new expression_of expression_of typed_of (wanted at u x') value (wanted place v y') of_operands fault r is shown h)
+      (fault_second before types new boxed_of boxed_of typed_of (wanted at u x') value (wanted place v y') of_operands fault r is shown h)
 
-  pub operands_found : (before middle : List Ty) (first second : Term) (r : Result TypedTerm Fault) → Grows before middle → Shows before expression_of (wanted at u x') first
-      → Shows middle expression_of (wanted place v y') second
-      → ((a b : Checking Expression) → Shows middle expression_of a first → Shows middle expression_of b second → FindsOver new typed_of (then_checked a (λ a. then_checked b (of_operands a))) r)
+  pub operands_found : (before middle : List Ty) (first second : Box Term Global) (r : Result TypedTerm Fault) → Grows before middle → Shows before boxed_of (wanted at u x') first
+      → Shows middle boxed_of (wanted place v y') second
+      → ((a b : Checking Expression) → Shows middle boxed_of a first → Shows middle boxed_of b second → FindsOver new typed_of (then_checked a (λ a. then_checked b (of_operands a))) r)
       → FindsOver new typed_of (binary operation at x place y) r
   operands_found before middle first second r grows shown shown' whole =
       finds_is new typed_of (then_checked (wanted at u x') (λ a. then_checked (wanted place v y') (of_operands a))) (binary operation at x place y) r whole_is
-      (whole (wanted at u x') (wanted place v y') (shows_grow before middle expression_of (wanted at u x') first grows shown) shown')
+      (whole (wanted at u x') (wanted place v y') (shows_grow before middle boxed_of (wanted at u x') first grows shown) shown')
 
 module _ (scope : Scope) (locals : List Local) (at : Place) (new : List Ty) (fault : Fault) (r : Result TypedTerm Fault) (is : r ≡ Err fault) where
   module _ (test first other : ExpSyntax) where
@@ -68,33 +69,33 @@ module _ (scope : Scope) (locals : List Local) (at : Place) (new : List Ty) (fau
     if_found = elaborated scope locals (IfSyntax at test first other)
 
     -- the parts of a condition
-    pub test_refused : (types : List Ty) (t : Ty) → t ≡ BoolTy → FindsOver types expression_of (wanted (place_of test) t (elaborated scope locals test)) (Err fault) → FindsOver new typed_of if_found r
+    pub test_refused : (types : List Ty) (t : Ty) → t ≡ BoolTy → FindsOver types boxed_of (wanted (place_of test) t (elaborated scope locals test)) (Err fault) → FindsOver new typed_of if_found r
     test_refused types t truth h =
         finds_is new typed_of (then_checked (wanted (place_of test) t (elaborated scope locals test)) (behind_test scope locals at test first other)) if_found r
         (ap (λ t. then_checked (wanted (place_of test) t (elaborated scope locals test)) (behind_test scope locals at test first other)) truth)
-        (fault_first types new expression_of typed_of (wanted (place_of test) t (elaborated scope locals test)) (behind_test scope locals at test first other) fault r is h)
+        (fault_first types new boxed_of typed_of (wanted (place_of test) t (elaborated scope locals test)) (behind_test scope locals at test first other) fault r is h)
 
-    module _ (tested : List Ty) (t : Ty) (condition : Term) (truth : t ≡ BoolTy) (shown : Shows tested expression_of (wanted (place_of test) t (elaborated scope locals test)) condition) where
-      behind_condition : FindsOver new typed_of (behind_test scope locals at test first other (expression_of tested condition)) r → FindsOver new typed_of if_found r
+    module _ (tested : List Ty) (t : Ty) (condition : Box Term Global) (truth : t ≡ BoolTy) (shown : Shows tested boxed_of (wanted (place_of test) t (elaborated scope locals test)) condition) where
+      behind_condition : FindsOver new typed_of (behind_test scope locals at test first other (boxed_of tested condition)) r → FindsOver new typed_of if_found r
       behind_condition h =
           finds_is new typed_of (then_checked (wanted (place_of test) t (elaborated scope locals test)) (behind_test scope locals at test first other)) if_found r
           (ap (λ t. then_checked (wanted (place_of test) t (elaborated scope locals test)) (behind_test scope locals at test first other)) truth)
-          (behind_shown tested new expression_of typed_of (wanted (place_of test) t (elaborated scope locals test)) condition (behind_test scope locals at test first other) r shown h)
+          (behind_shown tested new boxed_of typed_of (wanted (place_of test) t (elaborated scope locals test)) condition (behind_test scope locals at test first other) r shown h)
 
       pub first_refused : (types : List Ty) → FindsOver types typed_of (elaborated scope locals first) (Err fault) → FindsOver new typed_of if_found r
       first_refused types h =
-          behind_condition (fault_first types new typed_of typed_of (elaborated scope locals first) (behind_first scope locals at test first other (expression_of tested condition)) fault r is h)
+          behind_condition (fault_first types new typed_of typed_of (elaborated scope locals first) (behind_first scope locals at test first other (boxed_of tested condition)) fault r is h)
 
       pub other_refused : (middle types : List Ty) (value : TypedTerm) (u : Ty) → u ≡ type_at middle value.ty → Shows middle typed_of (elaborated scope locals first) value
-          → FindsOver types expression_of (wanted (place_of other) u (elaborated scope locals other)) (Err fault) → FindsOver new typed_of if_found r
+          → FindsOver types boxed_of (wanted (place_of other) u (elaborated scope locals other)) (Err fault) → FindsOver new typed_of if_found r
       other_refused middle types value u same shown' h =
-          let c = expression_of tested condition in
+          let c = boxed_of tested condition in
           behind_condition
           (behind_shown middle new typed_of typed_of (elaborated scope locals first) value (behind_first scope locals at test first other c) r shown'
-          (finds_is new typed_of (then_checked (wanted (place_of other) u (elaborated scope locals other)) (λ y. typed (IfE c (expression_of middle value.term) y) (type_at middle value.ty)))
+          (finds_is new typed_of (then_checked (wanted (place_of other) u (elaborated scope locals other)) (λ y. typed (IfE c (boxed_of middle value.term) y) (type_at middle value.ty)))
           (behind_first scope locals at test first other c (typed_of middle value)) r
-          (ap (λ t. then_checked (wanted (place_of other) t (elaborated scope locals other)) (λ y. typed (IfE c (expression_of middle value.term) y) (type_at middle value.ty))) same)
-          (fault_first types new expression_of typed_of (wanted (place_of other) u (elaborated scope locals other)) (λ y. typed (IfE c (expression_of middle value.term) y) (type_at middle value.ty)) fault r is h)))
+          (ap (λ t. then_checked (wanted (place_of other) t (elaborated scope locals other)) (λ y. typed (IfE c (boxed_of middle value.term) y) (type_at middle value.ty))) same)
+          (fault_first types new boxed_of typed_of (wanted (place_of other) u (elaborated scope locals other)) (λ y. typed (IfE c (boxed_of middle value.term) y) (type_at middle value.ty)) fault r is h)))
 
   module _ (name : NameSyntax) (bound body : ExpSyntax) (old : List Ty) (value : TypedTerm) (shown : Shows old typed_of (elaborated scope locals bound) value) where
     abbrev let_found : Checking Typed
@@ -106,7 +107,7 @@ module _ (scope : Scope) (locals : List Local) (at : Place) (new : List Ty) (fau
         behind_shown old new typed_of typed_of (elaborated scope locals bound) value (behind_bound scope locals at name bound body) r shown
         (finds_is new typed_of (let_body scope locals at name bound body (typed_of old value) (elaborated scope inner body)) (behind_bound scope locals at name bound body (typed_of old value)) r
         (sym (let_inner scope locals at name bound body (typed_of old value) inner there))
-        (fault_first types new typed_of typed_of (elaborated scope inner body) (λ b. typed (LetE (type_at old value.ty) (expression_of old value.term) b.expression) b.of_type) fault r is h))
+        (fault_first types new typed_of typed_of (elaborated scope inner body) (λ b. typed (LetE (type_at old value.ty) (boxed_of old value.term) b.expression) b.of_type) fault r is h))
 
 -- the name that is bound is one too many
 module _ (scope : Scope) (locals : List Local) (at : Place) (new : List Ty) (name : NameSyntax) (bound body : ExpSyntax) (old : List Ty) (value : TypedTerm)

@@ -2,6 +2,7 @@
 use Rattle.std.proofs.Common.{◌≡◌, ℕ, zero, suc, ◌+◌, ◌<◌, ◌≤◌, Bool, true, false, List, [], ◌∷◌, ◌++◌, length, map, drop, nat_eq, Option, Some, None, Vec, slice_index_or, unwrap_or, refl, sym, ap, ◌∙◌, subst, arith, append_assoc}
 use Rattle.std.specs.Prelude.{All, IfSome}
 use Rattle.std.specs.Global.{Global}
+use Rattle.std.specs.declared.boxed.Box.{Box}
 use Rattle.std.proofs.lemmas.List.{map-append}
 use Rattle.core_terms.specs.Types.{Ty, UnitTy}
 use Rattle.core_terms.specs.Terms.{Expression, Expressions, NoE, AndE, Arms, NoArm, AndArm}
@@ -16,7 +17,7 @@ use Rattle.auth_syntax.specs.Trees.{ArmSyntax, arms_in_a_row as written_arms}
 use Rattle.auth_syntax.specs.declared.place.Place.{Place}
 use Rattle.auth_types.specs.Checking.{Checking, Sound, FaultAt, then_checked, unless_fault}
 use Rattle.auth_types.specs.Bodies.{Local, Scope, Typed, TypedArms, bound_names, elaborated, elaborated_arms, elaborated_each, wanted, wanted_arm}
-use Rattle.auth_types.specs.Elaborators.{arms_of, row_of, typed_of, want_of}
+use Rattle.auth_types.specs.Elaborators.{arms_of, boxed_of, row_of, typed_of, want_of}
 use Rattle.auth_types.specs.OverTypes.{Grows, Shows}
 use Rattle.auth_types.specs.declared.fault.TypeKind.{TypeKind}
 use Rattle.auth_types.specs.declared.fault.TypeKind.TheVariants.{WrongCount}
@@ -191,7 +192,7 @@ module _ (scope : Scope) (locals : List Local) where
     pub arms_more : (old new : List Ty) (e : TypedTerm) → Grows old new → IfSome want (λ ty. ty.0 < length old)
         → ((more : List Ty) → all ≡ arms_behind (map (expression_of (old ++ more)) es) (arms_left arms tss (want_of (old ++ more) want) i))
         → Shows new typed_of (one_arm scope locals (want_of old want) ts arm) e
-        → (more : List Ty) → all ≡ arms_behind (map (expression_of (new ++ more)) (es ++ e.term ∷ [])) (arms_left arms tss (want_of (new ++ more) (Some e.ty)) (i + 1))
+        → (more : List Ty) → all ≡ arms_behind (map (expression_of (new ++ more)) (es ++ e.term.value ∷ [])) (arms_left arms tss (want_of (new ++ more) (Some e.ty)) (i + 1))
     arms_more old new e (m, grows) inside so_far shown more =
         let types : new ++ more ≡ old ++ (m ++ more) = ap (λ l. l ++ more) grows ∙ append_assoc old m more in
         let stays : want_of (new ++ more) want ≡ want_of old want = want_stays old (new ++ more) want (m ++ more, types) inside in
@@ -199,7 +200,7 @@ module _ (scope : Scope) (locals : List Local) where
         ∙ ap (λ w. arms_behind (map (expression_of (new ++ more)) es) (arms_left arms tss w i)) stays
         ∙ ap (arms_behind (map (expression_of (new ++ more)) es)) (arms_here (want_of old want))
         ∙ arms_one scope locals (map (expression_of (new ++ more)) es) (want_of old want) arm ts (written_arms (drop (i + 1) arms)) (drop (i + 1) tss) (typed_of (new ++ more) e) (shown more)
-        ∙ ap (λ es. arms_behind es (arms_left arms tss (Some (type_at (new ++ more) e.ty)) (i + 1))) (sym (map-append (expression_of (new ++ more)) es (e.term ∷ [])))
+        ∙ ap (λ es. arms_behind es (arms_left arms tss (Some (type_at (new ++ more) e.ty)) (i + 1))) (sym (map-append (expression_of (new ++ more)) es (e.term.value ∷ [])))
 
     pub arms_refused : (old : List Ty) (kind : TypeKind) (at : Place) → IfSome want (λ ty. ty.0 < length old)
         → ((more : List Ty) → all ≡ arms_behind (map (expression_of (old ++ more)) es) (arms_left arms tss (want_of (old ++ more) want) i))
@@ -229,7 +230,7 @@ module _ (scope : Scope) (locals : List Local) where
       ∙ ap (λ t. Sound (record { arms = arms_in_a_row (map (expression_of (new ++ more)) es.items); of_type = t })) (ap (λ w. unwrap_or w UnitTy) stays ∙ sym (is more))
 
 -- the body of an arm, whose type is wanted
-pub body_shows : (old new : List Ty) (ty : TyId) (place : Place) (found : Checking Typed) (body : Term) → Grows old new → ty.0 < length old → Shows new expression_of (wanted place (type_at old ty) found) body
+pub body_shows : (old new : List Ty) (ty : TyId) (place : Place) (found : Checking Typed) (body : Box Term Global) → Grows old new → ty.0 < length old → Shows new boxed_of (wanted place (type_at old ty) found) body
     → Shows new typed_of (wanted_arm (want_of old (Some ty)) place found) (record { term = body; ty = ty })
 body_shows old new ty place found body grows inside shown = λ more.
     let stays = type_stays_at old (new ++ more) (grown old new grows more) ty inside in

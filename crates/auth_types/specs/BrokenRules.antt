@@ -28,7 +28,7 @@ pub data BreaksName (locals : List Local) : List NameSyntax → NameSyntax → T
       → BreaksName locals before name Twice name.at
   LocalTooMany : {before : List NameSyntax} {name : NameSyntax}
       → (Contains (map (λ (n : NameSyntax). n.name) before) name.name → ⊥) → most_locals ≤ length locals + length before
-          → BreaksName locals before name (Limit Locals) name.at
+      → BreaksName locals before name (Limit Locals) name.at
 
 -- one of the names of a pattern does
 abbrev pub BreaksNames : List Local → List NameSyntax → TypeKind → Place → Type 0
@@ -127,7 +127,7 @@ mutual
         → Misfits scope locals t expression kind place → OneMisfits scope locals (t ∷ ts) (AndExp expression rest) kind place
     LaterMisfits : {locals : List Local} {t : Ty} {ts : List Ty} {expression : ExpSyntax} {rest : ExpsSyntax} {x : Expression} {kind : TypeKind} {place : Place}
         → Elaborates scope locals expression x t → OneMisfits scope locals ts rest kind place
-            → OneMisfits scope locals (t ∷ ts) (AndExp expression rest) kind place
+        → OneMisfits scope locals (t ∷ ts) (AndExp expression rest) kind place
 
   -- the body of an arm, of which the type of the bodies before it is wanted, where there are some
   pub data BodyBreaks (scope : Scope) : List Local → Option Ty → ExpSyntax → TypeKind → Place → Type 0 where

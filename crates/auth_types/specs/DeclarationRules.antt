@@ -82,12 +82,12 @@ pub data BreaksDeclaration (before : List DeclarationSyntax) : DeclarationSyntax
       → BreaksSpace (type_names before) most_types Types name kind place → BreaksDeclaration before (TypeDeclaration at name constructors) kind place
   InConstructors : {at : Place} {name : NameSyntax} {constructors : List ConstructorDeclaration} {kind : TypeKind} {place : Place}
       → MayStand (type_names before) most_types name.name
-          → OneBreaks (MayConstruct (constructor_names_in before)) (BreaksConstructor (constructor_names_in before)) [] constructors kind place
+      → OneBreaks (MayConstruct (constructor_names_in before)) (BreaksConstructor (constructor_names_in before)) [] constructors kind place
       → BreaksDeclaration before (TypeDeclaration at name constructors) kind place
   StateTwice : {at : Place} {of_type : TypeSyntax} → (states_in before ≡ [] → ⊥) → BreaksDeclaration before (StateDeclaration at of_type) Twice at
   InFunctionName : {at : Place} {function : FunctionSyntax} {kind : TypeKind} {place : Place}
       → BreaksSpace (function_names before) most_functions Functions function.name kind place
-          → BreaksDeclaration before (FunctionDeclaration at function) kind place
+      → BreaksDeclaration before (FunctionDeclaration at function) kind place
   InParameters : {at : Place} {function : FunctionSyntax} {kind : TypeKind} {place : Place}
       → MayStand (function_names before) most_functions function.name.name → OneBreaks MayHaveParameter BreaksParameter [] function.parameters kind place
       → BreaksDeclaration before (FunctionDeclaration at function) kind place

@@ -1,5 +1,5 @@
 -- What the code elaborates bodies with, in the words of the definitions, and what its answers say.
-use Rattle.std.specs.Prelude.{◌≡◌, ℕ, List, [], length, map, nat_eq, slice_get, unwrap_or, Vec, Result, Ok, Err, Option, None, option_map, ⊤}
+use Rattle.std.specs.Prelude.{◌≡◌, ℕ, List, [], ◌++◌, length, map, nat_eq, slice_get, unwrap_or, Box, Vec, Result, Ok, Err, Option, None, option_map, ⊤}
 use Rattle.std.specs.Global.{Global}
 use Rattle.core_terms.specs.Types.{Ty, NamedTy, Table, fields_at}
 use Rattle.core_terms.specs.Terms.{Expression, Expressions, CallE, ConE, MatchE}
@@ -17,7 +17,7 @@ use Rattle.auth_syntax.specs.Syntax.{ExpSyntax, ExpsSyntax, ArmsSyntax, place_of
 use Rattle.auth_syntax.specs.Trees as written
 use Rattle.auth_syntax.specs.declared.place.Place.{Place}
 use Rattle.auth_syntax.specs.declared.tree.ExpTree.{ExpTree}
-use Rattle.auth_types.specs.Checking.{Checking, FaultAt, then_checked, unless_fault}
+use Rattle.auth_types.specs.Checking.{Checking, Sound, FaultAt, then_checked, unless_fault}
 use Rattle.auth_types.specs.Bodies.{Local, Numbered, Scope, Signature, Typed, TypedArms, bound_names, called, constructed, elaborated, elaborated_arms, elaborated_each, matched, typed, wanted_arm}
 use Rattle.auth_types.specs.Scopes.{scope_meant}
 use Rattle.auth_types.specs.Locals.{locals_meant}
@@ -54,8 +54,15 @@ abbrev pub found_in : Elaborator → ExpTree → Checking Typed
 found_in e tree = found_at e (written.expression_of tree)
 
 -- a term and its type, as an expression with its type
+abbrev pub boxed_of : List Ty → Box Term Global → Expression
+boxed_of types term = expression_of types term.value
+
 abbrev pub typed_of : List Ty → TypedTerm → Typed
-typed_of types typed = record { expression = expression_of types typed.term; of_type = type_at types typed.ty }
+typed_of types typed = record { expression = boxed_of types typed.term; of_type = type_at types typed.ty }
+
+-- a term of this type shows what is found, over these types and over any with more behind them
+abbrev pub ShowsTerm : List Ty → Checking Typed → Term → TyId → Type 0
+ShowsTerm types found term ty = (more : List Ty) → found ≡ Sound (record { expression = expression_of (types ++ more) term; of_type = type_at (types ++ more) ty })
 
 -- terms as expressions in a row
 abbrev pub row_of : List Ty → Vec Term Global → Expressions

@@ -11,6 +11,7 @@ pub mod OverTypes
 pub mod FragmentBodies
 pub mod Scopes
 pub mod Numbering
+pub mod Passes
 pub mod RoleHeads
 pub mod CheckedLaws
 pub mod Locals
@@ -20,3 +21,6 @@ pub mod TypingRules
 pub mod BrokenRules
 pub mod TypingLaws
 pub mod DeclarationRules
+pub mod RoleShapes
+pub mod ProgramRules
+pub mod WrittenTypeRules

@@ -47,8 +47,3 @@ module _ (names : List (List ℕ)) (types : List Ty) where
     pub function : written.function_of head.function.now ≡ declared
     pub parameters : AreNumbers types head.parameters.items (map (λ p. type_meant names p.of_type) declared.parameters)
     pub result : slice_get types head.result.0 ≡ Some (type_meant names declared.result_type)
-
--- the written type of the first state that is declared, in a text that ends at this place
-abbrev pub written_state : Place → List TypeSyntax → Checking TypeSyntax
-written_state end [] = FaultAt NoState end
-written_state end (t ∷ ts) = Sound t

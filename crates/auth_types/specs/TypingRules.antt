@@ -2,7 +2,10 @@
 use Rattle.std.specs.Prelude.{◌≡◌, ℕ, ◌+◌, ◌≤◌, ◌<◌, ℤ, Bool, List, [], ◌∷◌, ◌++◌, length, map, slice_get, unwrap_or}
 use Rattle.std.specs.List.{Contains}
 use Rattle.core_terms.specs.Types.{Ty, UnitTy, BoolTy, IntTy, TextTy, PairTy, NamedTy, AuthTy, fields_at}
-use Rattle.core_terms.specs.Terms.{Expression, UnitE, BoolE, IntE, TextE, LocalE, PairE, FstE, SndE, NotE, LenE, AuthE, UnauthE, ConE, ArithE, CompareE, TextCompareE, CatE, LetE, IfE, MatchE, CallE, Expressions, NoE, AndE, Arms, NoArm, AndArm, Add, Sub, Mul, Div, Rem, Eq, Lt, Le, TEq, TLt}
+use Rattle.core_terms.specs.Terms.{Expression, UnitE, BoolE, IntE, TextE, LocalE, PairE, FstE, SndE, NotE, LenE, AuthE, UnauthE, ConE, ArithE, CompareE, TextCompareE, CatE, LetE, IfE, MatchE, CallE, Expressions, NoE, AndE, Arms, NoArm, AndArm}
+use Rattle.core_terms.specs.declared.language.term.Arith.TheVariants.{Add, Sub, Mul, Div, Rem}
+use Rattle.core_terms.specs.declared.language.term.Compare.TheVariants.{Eq, Lt, Le}
+use Rattle.core_terms.specs.declared.language.term.TextCompare.TheVariants.{Eq as TEq, Lt as TLt}
 use Rattle.auth_syntax.specs.declared.place.Place.{Place}
 use Rattle.auth_syntax.specs.Syntax.{NameSyntax, ExpSyntax, UnitSyntax, BoolSyntax, IntSyntax, TextSyntax, LocalSyntax, PairSyntax, UnarySyntax, BinarySyntax, CallSyntax, ConstructorSyntax, LetSyntax, IfSyntax, MatchSyntax, ExpsSyntax, NoExp, AndExp, ArmsSyntax, NoArmSyntax, AndArmSyntax, FstOperation, SndOperation, AuthOperation, UnauthOperation, LenOperation, NotOperation, BinaryOperation, AddOperation, SubOperation, MulOperation, DivOperation, RemOperation, EqOperation, LtOperation, LeOperation, TeqOperation, TltOperation, CatOperation}
 use Rattle.auth_types.specs.Bodies.{Local, Scope, Signature, arm_names, most_locals}
@@ -118,7 +121,7 @@ mutual
     NoRule : {locals : List Local} → ElaborateEach scope locals NoExp NoE []
     AndRule : {locals : List Local} {expression : ExpSyntax} {rest : ExpsSyntax} {x : Expression} {xs : Expressions} {t : Ty} {ts : List Ty}
         → Elaborates scope locals expression x t → ElaborateEach scope locals rest xs ts
-            → ElaborateEach scope locals (AndExp expression rest) (AndE x xs) (t ∷ ts)
+        → ElaborateEach scope locals (AndExp expression rest) (AndE x xs) (t ∷ ts)
 
   -- arms, as many as these constructors with fields, all of one type: a pattern has as many names as the constructor has fields
   pub data ElaborateArms (scope : Scope) : List Local → ArmsSyntax → List (List Ty) → Arms → Ty → Type 0 where
@@ -126,5 +129,5 @@ mutual
     AndArmRule : {locals : List Local} {constructor : NameSyntax} {fields : List NameSyntax} {body : ExpSyntax} {rest : ArmsSyntax} {ts : List Ty}
         {others : List (List Ty)} {x : Expression} {bodies : Arms} {t : Ty}
         → length fields ≡ length ts → MayBindAll locals fields → Elaborates scope (with_fields locals fields ts) body x t
-            → ElaborateArms scope locals rest others bodies t
+        → ElaborateArms scope locals rest others bodies t
         → ElaborateArms scope locals (AndArmSyntax constructor fields body rest) (ts ∷ others) (AndArm x bodies) t

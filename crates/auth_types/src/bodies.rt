@@ -9,7 +9,7 @@ mod functions;
 mod operations;
 
 ghost use Rattle.std.specs.Prelude.{◌≡◌, ◌<◌, length, map, All, IfOk, IfSome, OnOk};
-ghost use Rattle.core_terms.specs.LanguageTrees.{expression_of, types_at};
+ghost use Rattle.core_terms.specs.LanguageTrees.{types_at};
 ghost use Rattle.core_terms.specs.TypeTables.{type_at};
 ghost use Rattle.auth_syntax.specs.Parsing.{in_a_row};
 ghost use Rattle.auth_syntax.specs.Places.{start};
@@ -17,7 +17,7 @@ ghost use Rattle.auth_syntax.specs.Syntax as syntax;
 ghost use Rattle.auth_syntax.specs.Trees as written;
 ghost use Rattle.auth_types.specs.Bodies as specified;
 ghost use Rattle.auth_types.specs.CheckedLaws.{ArmsHaveGoodLiterals, HasGoodLiterals, HaveGoodLiterals};
-ghost use Rattle.auth_types.specs.Elaborators.{Keeps, arm_found, arms_found, arms_of, fields_of, found_at, found_in, row_found, row_of, typed_of, types_of, want_of};
+ghost use Rattle.auth_types.specs.Elaborators.{Keeps, arm_found, arms_found, arms_of, boxed_of, fields_of, found_at, found_in, row_found, row_of, typed_of, types_of, want_of};
 ghost use Rattle.auth_types.specs.OverTypes.{FindsOver};
 ghost use Rattle.auth_types.specs.Scopes.{AreWithin, IsConstructorWithin};
 
@@ -32,7 +32,7 @@ pub(crate) use functions::{Bodies, fourth_pass};
 /// A term with the number of its type.
 #[derive(Drop)]
 struct Typed {
-    term: Term,
+    term: Box<Term>,
     ty: TyId,
 }
 
@@ -74,14 +74,12 @@ impl<'s, 'a> Elaborator<'s, 'a> {
         ensures literals { OnOk result (HasGoodLiterals (written.expression_of tree.now)) }
     {
         match tree {
-            ExpTree::UnitLiteral(_) => Ok(self.plain(Term::UnitLiteral, TyForm::UnitForm)?),
+            ExpTree::UnitLiteral(_) => self.plain(Term::UnitLiteral, TyForm::UnitForm),
             ExpTree::BoolLiteral(_, value) => {
-                Ok(self.plain(Term::BoolLiteral(*value), TyForm::BoolForm)?)
+                self.plain(Term::BoolLiteral(*value), TyForm::BoolForm)
             }
-            ExpTree::IntLiteral(_, value) => {
-                Ok(self.plain(Term::IntLiteral(*value), TyForm::IntForm)?)
-            }
-            ExpTree::TextLiteral(_, text) => Ok(self.text(text)?),
+            ExpTree::IntLiteral(_, value) => self.plain(Term::IntLiteral(*value), TyForm::IntForm),
+            ExpTree::TextLiteral(_, text) => self.text(text),
             ExpTree::Local(at, name) => self.local(*at, name),
             ExpTree::Pair(_, first, second) => self.pair(first, second),
             ExpTree::Unary(_, operator, operand) => {
@@ -110,10 +108,10 @@ impl<'s, 'a> Elaborator<'s, 'a> {
 
     /// The term of an expression, which has this type.
     #[cycle(bodies)]
-    fn part(&mut self, tree: &'a ExpTree, ty: TyId) -> Result<Term, Fault>
+    fn part(&mut self, tree: &'a ExpTree, ty: TyId) -> Result<Box<Term>, Fault>
         requires { ty.0 < length (types_of self.old) }
         ensures keeps { OnOk result (Keeps self.old self.new) }
-        ensures found { FindsOver (types_of self.new) expression_of (specified.wanted (syntax.place_of (written.expression_of tree.now)) (type_at (types_of self.old) ty) (found_in self.old tree.now)) result }
+        ensures found { FindsOver (types_of self.new) boxed_of (specified.wanted (syntax.place_of (written.expression_of tree.now)) (type_at (types_of self.old) ty) (found_in self.old tree.now)) result }
         ensures literals { OnOk result (HasGoodLiterals (written.expression_of tree.now)) }
     {
         let part = self.term(tree)?;
@@ -130,7 +128,7 @@ impl<'s, 'a> Elaborator<'s, 'a> {
     {
         let first = self.term(first)?;
         let second = self.term(second)?;
-        Ok(self.paired(first, second)?)
+        self.paired(first, second)
     }
 
     /// An operation on two operands.
@@ -163,10 +161,7 @@ impl<'s, 'a> Elaborator<'s, 'a> {
         let function = self.callee(at, name, operands.len())?;
         let head = self.scope.head(function);
         let arguments = self.operands(operands, &head.parameters)?;
-        Ok(Typed {
-            term: Term::Call(function, arguments),
-            ty: head.result,
-        })
+        self.typed(Term::Call(function, arguments), head.result)
     }
 
     /// The constructor of a name at this place, with its fields.
@@ -186,10 +181,7 @@ impl<'s, 'a> Elaborator<'s, 'a> {
         let types = self.scope.fields(id);
         let fields = self.operands(operands, types)?;
         let ty = self.intern(TyForm::NamedForm(id.named))?;
-        Ok(Typed {
-            term: Term::Constructor(id.named, id.tag, fields),
-            ty,
-        })
+        self.typed(Term::Constructor(id.named, id.tag, fields), ty)
     }
 
     /// Expressions in a row, of these types.
@@ -203,7 +195,8 @@ impl<'s, 'a> Elaborator<'s, 'a> {
     {
         let mut terms = Vec::new(self.alloc);
         for (index, operand) in operands.iter().enumerate() {
-            terms.push(self.part(operand, types[index])?)?;
+            let part = self.part(operand, types[index])?;
+            terms.push(Box::into_inner(part))?;
         }
         Ok(terms)
     }
@@ -226,14 +219,12 @@ impl<'s, 'a> Elaborator<'s, 'a> {
         self.bind(name, bound.ty)?;
         let body = self.term(body)?;
         self.close(outer);
-        Ok(Typed {
-            term: Term::Let {
-                bound_type: bound.ty,
-                bound: Box::new(self.alloc, bound.term)?,
-                body: Box::new(self.alloc, body.term)?,
-            },
-            ty: body.ty,
-        })
+        let term = Term::Let {
+            bound_type: bound.ty,
+            bound: bound.term,
+            body: body.term,
+        };
+        self.typed(term, body.ty)
     }
 
     /// A condition.
@@ -253,14 +244,12 @@ impl<'s, 'a> Elaborator<'s, 'a> {
         let test = self.part(test, truth)?;
         let first = self.term(first)?;
         let other = self.part(other, first.ty)?;
-        Ok(Typed {
-            term: Term::If {
-                test: Box::new(self.alloc, test)?,
-                first: Box::new(self.alloc, first.term)?,
-                other: Box::new(self.alloc, other)?,
-            },
-            ty: first.ty,
-        })
+        let term = Term::If {
+            test,
+            first: first.term,
+            other,
+        };
+        self.typed(term, first.ty)
     }
 
     /// A match at this place, with its arms.
@@ -281,14 +270,12 @@ impl<'s, 'a> Elaborator<'s, 'a> {
         let named = self.taken_apart(at, place, subject.ty, arms)?;
         let constructors = self.scope.constructors(named);
         let arms = self.arms(arms, constructors)?;
-        Ok(Typed {
-            term: Term::Match {
-                named,
-                subject: Box::new(self.alloc, subject.term)?,
-                arms: arms.bodies,
-            },
-            ty: arms.ty,
-        })
+        let term = Term::Match {
+            named,
+            subject: subject.term,
+            arms: arms.bodies,
+        };
+        self.typed(term, arms.ty)
     }
 
     /// The arms of a match, which are of these constructors. Behind the first the type of its body is wanted.
@@ -306,7 +293,7 @@ impl<'s, 'a> Elaborator<'s, 'a> {
         for (index, arm) in arms.iter().enumerate() {
             let body = self.arm(arm, wanted, &constructors[index].fields)?;
             wanted = Some(body.ty);
-            bodies.push(body.term)?;
+            bodies.push(Box::into_inner(body.term))?;
         }
         let ty = self.wanted_or_unit(wanted)?;
         Ok(TypedArms { bodies, ty })

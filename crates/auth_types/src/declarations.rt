@@ -52,16 +52,17 @@ pub(crate) fn first_pass<'a>(
     alloc: Global,
     declarations: &'a [Declaration],
     end: Place,
-) -> Result<Declared<'a>, Fault>
+) -> Result<Box<Declared<'a>>, Fault>
     ensures found { Finds (λ _. tt) (spec.first_pass (record { declarations = map written.declaration_of declarations.now; end = end })) result }
-    ensures declared { IfOk result (λ declared. spec.checked_declarations spec.nothing_declared (map written.declaration_of declarations.now) ≡ Sound (declared_of declared)) }
+    ensures declared { IfOk result (λ declared. spec.checked_declarations spec.nothing_declared (map written.declaration_of declarations.now) ≡ Sound (declared_of declared.value)) }
 {
-    let mut declared = Declared {
+    let nothing = Declared {
         types: IndexSet::new(alloc),
         constructors: IndexSet::new(alloc),
         functions: IndexSet::new(alloc),
         has_state: false,
     };
+    let mut declared = Box::new(alloc, nothing)?;
     for declaration in declarations {
         declare(&mut declared, declaration)?;
     }

@@ -50,7 +50,7 @@ pub enum TypeKind {
 }
 
 /// Why a tree gives no program.
-#[derive(Clone, Copy, Debug, PartialEq, Eq)]
+#[derive(Clone, Copy)]
 pub enum TypeFault {
     /// The first fault: its kind, its line and its column, from 1 and by bytes.
     At(TypeKind, usize, usize),
@@ -59,7 +59,7 @@ pub enum TypeFault {
 }
 
 /// The same inside the checker, with the whole place.
-#[derive(Clone, Copy, Debug, PartialEq, Eq)]
+#[derive(Clone, Copy)]
 pub(crate) enum Fault {
     At(TypeKind, Place),
     NoMemory,

@@ -27,32 +27,33 @@ use std::alloc::{AllocError, Global};
 pub(crate) fn declared_scope<'a>(
     alloc: Global,
     types: &mut TyTable,
-    declared: Declared<'a>,
+    declared: Box<Declared<'a>>,
     declarations: &'a [Declaration],
-) -> Result<Scope<'a>, AllocError>
-    requires { checked_declarations nothing_declared (map written.declaration_of declarations.now) ≡ Sound (declared_of declared) }
+) -> Result<Box<Scope<'a>>, AllocError>
+    requires { checked_declarations nothing_declared (map written.declaration_of declarations.now) ≡ Sound (declared_of declared.value) }
     ensures grows { Grows (types_in types.old) (types_in types.new) }
-    ensures scope { IfOk result (λ scope. scope_meant (types_in types.new) scope ≡ scope_in (map written.declaration_of declarations.now)) }
-    ensures functions { IfOk result (λ scope. functions_meant scope ≡ functions_written declarations.now) }
-    ensures names { IfOk result (λ scope. type_names scope.named.items ≡ defined.type_names (map written.declaration_of declarations.now)) }
-    ensures within { IfOk result (λ scope. IsWithin (length (types_in types.new)) scope) }
+    ensures scope { IfOk result (λ scope. scope_meant (types_in types.new) scope.value ≡ scope_in (map written.declaration_of declarations.now)) }
+    ensures functions { IfOk result (λ scope. functions_meant scope.value ≡ functions_written declarations.now) }
+    ensures names { IfOk result (λ scope. type_names scope.value.named.items ≡ defined.type_names (map written.declaration_of declarations.now)) }
+    ensures within { IfOk result (λ scope. IsWithin (length (types_in types.new)) scope.value) }
 {
+    let named = named_types(alloc, types, &declared.types, declarations)?;
+    let heads = heads(alloc, types, &declared.types, declarations)?;
+    let constructor_ids = constructor_ids(alloc, &named)?;
     let Declared {
-        types: type_names,
+        types: _,
         constructors: constructor_names,
         functions: function_names,
         has_state: _,
-    } = declared;
-    let named = named_types(alloc, types, &type_names, declarations)?;
-    let heads = heads(alloc, types, &type_names, declarations)?;
-    let constructor_ids = constructor_ids(alloc, &named)?;
-    Ok(Scope {
+    } = Box::into_inner(declared);
+    let scope = Scope {
         named,
         heads,
         constructor_names,
         constructor_ids,
         function_names,
-    })
+    };
+    Ok(Box::new(alloc, scope)?)
 }
 
 /// The number of a written type, where the named types have these names. A name that none has stands for the first type.

@@ -8,7 +8,7 @@ use core_terms::{FunctionId, Name, TyId};
 use indexmap::IndexSet;
 
 /// The number of a constructor: that of its type, and its tag there.
-#[derive(Clone, Copy, Debug, PartialEq, Eq)]
+#[derive(Clone, Copy)]
 pub(crate) struct ConstructorId {
     pub named: NamedId,
     pub tag: Tag,

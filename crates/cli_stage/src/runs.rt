@@ -1,16 +1,18 @@
-// Runs that may store a file.
+// Runs over files and a sink in memory.
 ghost use Rattle.std.specs.Prelude.{◌<◌};
 
 use crate::stage::{Stage, files, sink, staged};
 use auth_cli::run;
+use lam_outside::{MemFiles, MemSink};
 use std::alloc::{AllocError, Global};
 
-/// What a run told, and the file that it stored last.
+/// What a run told, how many files it stored, and the name and the bytes of the last one.
 #[derive(Drop)]
 pub struct Run {
     pub status: u8,
     pub text: Vec<u8>,
     pub stored: usize,
+    pub name: String,
     pub file: Vec<u8>,
 }
 
@@ -19,73 +21,106 @@ impl Run {
     pub fn tells(&self, status: u8, text: &str) -> bool {
         self.status == status && self.text.as_slice() == text.as_bytes()
     }
+
+    /// So it did, and it stored nothing.
+    pub fn only_tells(&self, status: u8, text: &str) -> bool {
+        self.tells(status, text) && self.stored == 0
+    }
+
+    /// It ended and wrote so, and stored a file `o` of these bytes alone.
+    pub fn stores(&self, status: u8, text: &str, file: &[u8]) -> bool {
+        self.tells(status, text)
+            && self.stored == 1
+            && self.name.as_str() == "o"
+            && self.file.as_slice() == file
+    }
 }
 
-/// Runs these words behind the program's name.
-pub fn run_storing(alloc: Global, stage: &Stage, words: &[&str]) -> Result<Run, AllocError>
-    requires { 0 < stage.now.most_read }
-{
-    let mut files = files(alloc, stage, &[])?;
-    let mut out = sink(alloc, 4096, &[])?;
+/// The program's name, and these words behind it.
+fn with_name<'a>(alloc: Global, words: &[&'a str]) -> Result<Vec<&'a str>, AllocError> {
     let mut all = Vec::new(alloc);
     all.push("lamauth")?;
     all.extend_from_slice(words)?;
-    let status = run(alloc, &all, &mut files, &mut out);
-    let mut file = Vec::new(alloc);
-    if let Some(stored) = files.stored().last() {
-        file.extend_from_slice(&stored.bytes)?;
-    }
+    Ok(all)
+}
+
+/// What a run with this status told and stored.
+fn told(alloc: Global, status: u8, files: &MemFiles, out: &MemSink) -> Result<Run, AllocError> {
+    let text = out.bytes().to_vec(alloc)?;
+    let (name, file) = match files.stored().last() {
+        Some(stored) => (stored.name.as_str(), stored.bytes.as_slice()),
+        None => ("", b"".as_slice()),
+    };
     Ok(Run {
         status,
-        text: out.bytes().to_vec(alloc)?,
+        text,
         stored: files.stored().len(),
-        file,
+        name: String::from_str(alloc, name)?,
+        file: file.to_vec(alloc)?,
     })
 }
 
-/// The image that `init` stores of the state of a literal, and the proof that `prove` stores of a call on it, with what was told;
-/// and what a client is told, who keeps what `shallow` stores.
-#[derive(Drop)]
-pub struct Trip {
-    pub made: Run,
-    pub kept: Run,
-    pub proved: Run,
-    pub verified: Run,
+/// How many bytes a write takes at most, and which writes fail.
+pub type Writes<'a> = (usize, &'a [u64]);
+
+/// Runs these words behind the program's name, where these calls of the files fail.
+pub fn run_failing(
+    alloc: Global,
+    stage: &Stage,
+    words: &[&str],
+    failing: &[u64],
+    writes: Writes,
+) -> Result<Run, AllocError>
+    requires read { 0 < stage.now.most_read }
+    requires written { 0 < writes.0 }
+{
+    let (most, failing_writes) = writes;
+    let words = with_name(alloc, words)?;
+    let mut out = sink(alloc, most, failing_writes)?;
+    let mut files = files(alloc, stage, failing)?;
+    let status = run(alloc, &words, &mut files, &mut out);
+    told(alloc, status, &files, &out)
 }
 
-/// The words of a call, and the literal of the state that it is made on by the init `make`.
-#[derive(Clone, Copy)]
-pub struct Call<'a> {
-    pub state: &'a str,
-    pub role: &'a str,
-    pub argument: &'a str,
-    pub fuel: &'a str,
+/// Runs these words behind the program's name.
+pub fn run_words(alloc: Global, stage: &Stage, words: &[&str]) -> Result<Run, AllocError>
+    requires { 0 < stage.now.most_read }
+{
+    run_failing(alloc, stage, words, &[], (100, &[]))
 }
 
-/// Makes a state, keeps its projection, proves a call and verifies the proof.
-pub fn trip_of(alloc: Global, program: &[u8], call: &Call) -> Result<Trip, AllocError> {
-    let made = made(alloc, program, call.state)?;
-    let kept = kept(alloc, program, &made.file)?;
-    let proved = proved(alloc, program, &made.file, call)?;
-    let verified = verified(alloc, program, &kept.file, &proved.file, call)?;
-    Ok(Trip {
-        made,
-        kept,
-        proved,
-        verified,
-    })
+/// Runs `check` of a program.
+pub fn check(alloc: Global, program: &[u8]) -> Result<Run, AllocError> {
+    run_words(alloc, &staged(program, &[], &[]), &["check", "p"])
 }
 
-/// Runs `init` on a literal.
+/// Runs `init` of the role `make` on a literal.
 pub fn made(alloc: Global, program: &[u8], literal: &str) -> Result<Run, AllocError> {
     let words = ["init", "p", "make", literal, "1", "o"];
-    run_storing(alloc, &staged(program, &[], &[]), &words)
+    run_words(alloc, &staged(program, &[], &[]), &words)
 }
 
 /// Runs `shallow` on an image.
 pub fn kept(alloc: Global, program: &[u8], image: &[u8]) -> Result<Run, AllocError> {
     let words = ["shallow", "p", "q", "o"];
-    run_storing(alloc, &staged(program, &[], image), &words)
+    run_words(alloc, &staged(program, &[], image), &words)
+}
+
+/// The words of a call.
+#[derive(Clone, Copy)]
+pub struct Call<'a> {
+    pub role: &'a str,
+    pub argument: &'a str,
+    pub fuel: &'a str,
+}
+
+/// The call of the role `open` with the argument `()`, with this much fuel.
+pub fn opening(fuel: &str) -> Call<'_> {
+    Call {
+        role: "open",
+        argument: "()",
+        fuel,
+    }
 }
 
 /// Runs `prove` of a call on an image.
@@ -100,7 +135,7 @@ pub fn proved(alloc: Global, program: &[u8], image: &[u8], call: &Call) -> Resul
         "0",
         "o",
     ];
-    run_storing(alloc, &staged(program, &[], image), &words)
+    run_words(alloc, &staged(program, &[], image), &words)
 }
 
 /// Runs `verify` of a proof of a call.
@@ -112,7 +147,7 @@ pub fn verified(
     call: &Call,
 ) -> Result<Run, AllocError> {
     let words = ["verify", "p", call.role, "s", call.argument, call.fuel, "q"];
-    run_storing(alloc, &staged(program, state, proof), &words)
+    run_words(alloc, &staged(program, state, proof), &words)
 }
 
 /// Runs `audit` of a proof of a call on an image.
@@ -124,5 +159,40 @@ pub fn audited(
     call: &Call,
 ) -> Result<Run, AllocError> {
     let words = ["audit", "p", call.role, "s", call.argument, call.fuel, "q"];
-    run_storing(alloc, &staged(program, image, proof), &words)
+    run_words(alloc, &staged(program, image, proof), &words)
+}
+
+/// A state that is made by `init`, what a client keeps of it, a call on it that is proved, and what the client is told of the proof.
+#[derive(Drop)]
+pub struct Trip {
+    pub made: Box<Run>,
+    pub kept: Box<Run>,
+    pub proved: Box<Run>,
+    pub verified: Box<Run>,
+}
+
+/// Makes a state of a literal, keeps its projection, proves a call and verifies the proof.
+pub fn trip_of(
+    alloc: Global,
+    program: &[u8],
+    literal: &str,
+    call: &Call,
+) -> Result<Trip, AllocError> {
+    let made = boxed(alloc, made(alloc, program, literal))?;
+    let kept = boxed(alloc, kept(alloc, program, &made.file))?;
+    let proved = boxed(alloc, proved(alloc, program, &made.file, call))?;
+    let verified = boxed(
+        alloc,
+        verified(alloc, program, &kept.file, &proved.file, call),
+    )?;
+    Ok(Trip {
+        made,
+        kept,
+        proved,
+        verified,
+    })
+}
+
+fn boxed(alloc: Global, run: Result<Run, AllocError>) -> Result<Box<Run>, AllocError> {
+    Ok(Box::new(alloc, run?)?)
 }

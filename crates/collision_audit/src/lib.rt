@@ -11,6 +11,3 @@ pub mod laws;
 
 pub use auditing::{Audited, audit};
 pub use collision::Collision;
-
-#[cfg(test)]
-mod tests;

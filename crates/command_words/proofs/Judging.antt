@@ -1,21 +1,39 @@
 -- clap's verdict on all words that the program's own test lets through: it takes exactly those that call a command.
-use Rattle.std.proofs.Common.{◌≡◌, ◌↔◌, inl, inr, List, [], ◌∷◌, Option, Some, None, Ok, Err, option_map, Bool, true, false, ◌||◌, codes, refl, sym, ◌∙◌, ap, subst}
-use Rattle.std.specs.List.{list_any}
+use Rattle.std.proofs.Common.{◌≡◌, ◌≢◌, ◌↔◌, ◌⊎◌, inl, inr, ◌==◌, ◌≤◌, List, [], ◌∷◌, length, Option, Some, None, Err, find, Bool, true, false, ◌||◌, ◌&&◌, codes, arith, refl, sym, ◌∙◌, ap, eq-eqb, nat_lt, ltb-true, option_map, if◌then◌else◌, get_or, drop, take, ◌-◌}
+use Rattle.std.specs.Borrow.{Bor}
+use Rattle.std.specs.List.{list_all, list_any}
+use Rattle.std.specs.Option.{option_and_then}
 use Rattle.std.specs.Str.{bytes_eq}
+use Rattle.std.proofs.lemmas.List.{take_rest}
 use Rattle.std.proofs.lemmas.Slice.Eq.{bytes_eq-Decides}
-use Rattle.clap.specs.Words.{Text, fault_of}
-use Rattle.clap.specs.Words.{subcommand_rows_of}
-use Rattle.clap.specs.declared.parser.matches.ArgMatches.{ArgMatches}
+use Rattle.clap.specs.Words.{fault_of}
+use Rattle.clap.specs.Walk.{idle, subcommand_met}
 use Rattle.command_words.specs.CommandLine.{AreRefused, command_line}
-use Rattle.command_words.specs.Matched.{invocation_matched}
-use Rattle.command_words.specs.Reading.{Matches, Reads}
+use Rattle.command_words.specs.Commands.{IsOfCommand, IsOfOneOf, Row, Text, commands, row_named, texts}
+use Rattle.command_words.specs.Invocations.{Invocation, called, calls, invocation_behind, invocation_of, is_refused, is_refused_word}
+use Rattle.command_words.specs.Reading.{IsJudged, Reads}
 use Rattle.command_words.specs.declared.command.Command.{Command}
 use Rattle.command_words.specs.declared.fault.WordsFault.{WordsFault}
 use Rattle.command_words.specs.declared.fault.WordsFault.TheVariants as fault
-use Rattle.command_words.specs.Invocations.{Invocation, invocation_behind, invocation_of, invoked, is_refused, is_refused_word}
+use Rattle.command_words.proofs.Counts.{IsCounted, counted, refused}
+use Rattle.command_words.proofs.Leaves.{finds, leaf_of, meets, names}
+use Rattle.command_words.proofs.Levels.{faults_behind, no_name_refused, no_words_refused, unknown_refused}
 use Rattle.command_words.proofs.PlainWords.{ArePlain, IsPlainWord, either_false, plain_word, plain_words}
-use Rattle.command_words.proofs.Unknown.{no_name_refused, no_words_refused, unknown_refused}
-use Rattle.command_words.proofs.Verdicts.{IsJudged, IsTaken, audit_judged, check_judged, init_judged, prove_judged, shallow_judged, verify_judged}
+
+-- clap takes the words, and they call this
+pub record IsTaken (words : List Text) : Type 0 where
+  pub invocation : Invocation
+  pub passes : fault_of command_line words ≡ []
+  pub behind : invocation_behind words ≡ Some invocation
+  pub counted : IsOfCommand invocation.command invocation.texts
+
+-- clap refuses the words, and they call nothing
+pub record IsDenied (words : List Text) : Type 0 where
+  pub fails : fault_of command_line words ≢ []
+  pub uncalled : invocation_behind words ≡ None
+
+abbrev pub IsDecided : List Text → Type 0
+IsDecided words = IsTaken words ⊎ IsDenied words
 
 other_way : (a b : Text) → bytes_eq a b ≡ false → bytes_eq b a ≡ false
 other_way a b e = by (bytes_eq b a) refl
@@ -24,54 +42,107 @@ other_way a b e = by (bytes_eq b a) refl
     by false t = refl
     by true t = absurd (cc (sym ((bytes_eq-Decides a b).1 (sym ((bytes_eq-Decides b a).0 t))) ∙ e))
 
-module _ (program name : Text) (ws : List Text) (plain : IsPlainWord name) (rest : ArePlain ws) where
-  -- words whose command has a name that is known
-  known : (text : Text) → bytes_eq name text ≡ true → IsJudged (program ∷ text ∷ ws) → IsJudged (program ∷ name ∷ ws)
-  known text e judged = subst (λ n. IsJudged (program ∷ n ∷ ws)) (sym ((bytes_eq-Decides name text).0 e)) judged
-
-  by_name : (c i s p v a : Bool) → bytes_eq name (codes "check") ≡ c → bytes_eq name (codes "init") ≡ i → bytes_eq name (codes "shallow") ≡ s
-      → bytes_eq name (codes "prove") ≡ p → bytes_eq name (codes "verify") ≡ v → bytes_eq name (codes "audit") ≡ a → bytes_eq name (codes "help") ≡ false
-      → IsJudged (program ∷ name ∷ ws)
-  by_name true i s p v a is_c is_i is_s is_p is_v is_a help = known (codes "check") is_c (check_judged program ws rest)
-  by_name false true s p v a is_c is_i is_s is_p is_v is_a help = known (codes "init") is_i (init_judged program ws rest)
-  by_name false false true p v a is_c is_i is_s is_p is_v is_a help = known (codes "shallow") is_s (shallow_judged program ws rest)
-  by_name false false false true v a is_c is_i is_s is_p is_v is_a help = known (codes "prove") is_p (prove_judged program ws rest)
-  by_name false false false false true a is_c is_i is_s is_p is_v is_a help = known (codes "verify") is_v (verify_judged program ws rest)
-  by_name false false false false false true is_c is_i is_s is_p is_v is_a help = known (codes "audit") is_a (audit_judged program ws rest)
-  by_name false false false false false false is_c is_i is_s is_p is_v is_a help = inr (record {
-    fails = unknown_refused program name ws plain (record {
-      check = other_way name (codes "check") is_c;
-      init = other_way name (codes "init") is_i;
-      shallow = other_way name (codes "shallow") is_s;
-      prove = other_way name (codes "prove") is_p;
-      verify = other_way name (codes "verify") is_v;
-      audit = other_way name (codes "audit") is_a;
-      help = other_way name (codes "help") help;
-    });
-    uncalled = rw (is_c, is_i, is_s, is_p, is_v, is_a) refl;
-  })
-
-pub judged : (words : List Text) → is_refused words ≡ false → IsJudged words
-judged [] e = inr (record { fails = no_words_refused; uncalled = refl })
-judged (program ∷ []) e = inr (record { fails = no_name_refused program; uncalled = refl })
-judged (program ∷ name ∷ ws) e =
-    let help = either_false (bytes_eq name (codes "help")) (is_refused_word name || list_any is_refused_word ws) e in
-    let words = either_false (is_refused_word name) (list_any is_refused_word ws) help.1 in
-    by_name program name ws (plain_word name words.0) (plain_words ws words.1) _ _ _ _ _ _ refl refl refl refl refl refl help.0
-
--- what the own test lets through and clap takes calls a command
-pub taken : (words : List Text) → is_refused words ≡ false → fault_of command_line words ≡ [] → IsTaken words
-taken words own passes = by (judged words own)
-  where
-    by : IsJudged words → IsTaken words
-    by (inl given) = given
-    by (inr denied) = absurd (denied.fails passes)
-
-not_both : (o : Option Invocation) (i : Invocation) → o ≡ Some i → o ≡ None → ⊥
-not_both o i some none = absurd (cc)
+not_both : {A : Type 0} (o : Option A) (x : A) → o ≡ Some x → o ≡ None → ⊥
+not_both o x some none = absurd (cc)
 
 not_true : {b : Bool} → b ≡ false → b ≡ true → ⊥
 not_true off on = absurd (cc)
+
+-- ---- what is found in the table
+
+module _ {A : Type 0} (p : A → Bool) (x : A) where
+  found_passes : (xs : List A) → find p xs ≡ Some x → p x ≡ true
+  found_passes [] e = absurd (cc)
+  found_passes (y ∷ ys) e = go (p y) refl e (found_passes ys)
+    where
+      go : (b : Bool) → p y ≡ b → (if b then Some y else find p ys) ≡ Some x → (find p ys ≡ Some x → p x ≡ true) → p x ≡ true
+      go true is here later = let same : y ≡ x = cc in ap p (sym same) ∙ is
+      go false is here later = later here
+
+  found_holds : (q : A → Bool) (xs : List A) → list_all q xs ≡ true → find p xs ≡ Some x → q x ≡ true
+  found_holds q [] all e = absurd (cc)
+  found_holds q (y ∷ ys) all e = go (p y) (q y) refl all e (found_holds q ys)
+    where
+      go : (b d : Bool) → q y ≡ d → (d && list_all q ys) ≡ true → (if b then Some y else find p ys) ≡ Some x → (list_all q ys ≡ true → find p ys ≡ Some x → q x ≡ true) → q x ≡ true
+      go b false is all here later = absurd (cc)
+      go true true is all here later = let same : y ≡ x = cc in ap q (sym same) ∙ is
+      go false true is all here later = later all here
+
+-- texts that are as many as the row has arguments are so many for its command
+among : (p : Row → Bool) (row : Row) (texts : List Text) → length texts ≡ length row.arguments → (rows : List Row) → find p rows ≡ Some row
+    → IsOfOneOf row.command texts rows
+among p row texts as_many [] e = absurd (cc)
+among p row texts as_many (r ∷ rows) e = go (p r) e (among p row texts as_many rows)
+  where
+    go : (b : Bool) → (if b then Some r else find p rows) ≡ Some row → (find p rows ≡ Some row → IsOfOneOf row.command texts rows) → IsOfOneOf row.command texts (r ∷ rows)
+    go true here later = let same : r ≡ row = cc in inl (ap (λ (r : Row). r.command) same, as_many ∙ ap (λ (r : Row). length r.arguments) (sym same))
+    go false here later = inr (later here)
+
+-- ---- the verdict
+
+module _ (program name : Text) (ws : List Text) (plain : IsPlainWord name) (rest : ArePlain ws) (help : bytes_eq name (codes "help") ≡ false) where
+  other : bytes_eq (codes "help") name ≡ false
+  other = other_way name (codes "help") help
+
+  unnamed : row_named name ≡ None → IsDecided (program ∷ name ∷ ws)
+  unnamed is = inr (record {
+    fails = unknown_refused program name ws plain (meets name other ∙ ap (option_map (λ row. row.name)) is);
+    uncalled = ap (option_and_then (called ws)) is;
+  })
+
+  module _ (row : Row) (is : row_named name ≡ Some row) where
+    same : row.name ≡ name
+    unfolding row_named
+    same = (bytes_eq-Decides row.name name).0 (found_passes (λ r. bytes_eq r.name name) row commands is)
+
+    some : 1 ≤ length row.arguments
+    unfolding row_named
+    some = ltb-true 0 (length row.arguments) (found_holds (λ r. bytes_eq r.name name) row (λ r. nat_lt 0 (length r.arguments)) commands refl is)
+
+    met : subcommand_met names idle name ≡ Some name
+    met = meets name other ∙ ap (option_map (λ row. row.name)) is ∙ ap (λ n. Some n) same
+
+    faults : fault_of command_line (program ∷ name ∷ ws) ≡ refused row.name (length row.arguments) ws
+    faults = faults_behind name (leaf_of row) met help (finds name other ∙ ap (option_map leaf_of) is) program ws
+
+    texts_counted : length ws ≡ length row.arguments → IsOfCommand row.command ws
+    unfolding row_named
+    texts_counted as_many = among (λ r. bytes_eq r.name name) row ws as_many commands is
+
+    by_count : IsCounted row.name (length row.arguments) ws → IsDecided (program ∷ name ∷ ws)
+    by_count (inl (as_many, passes)) = inl (record {
+      invocation = calls row.command ws;
+      passes = faults ∙ passes;
+      behind = ap (option_and_then (called ws)) is ∙ ap (λ b. if b then Some (calls row.command ws) else None) (eq-eqb _ _ as_many);
+      counted = texts_counted as_many;
+    })
+    by_count (inr (not_so_many, fails)) = inr (record {
+      fails = λ none. fails (sym faults ∙ none);
+      uncalled = ap (option_and_then (called ws)) is ∙ ap (λ b. if b then Some (calls row.command ws) else None) not_so_many;
+    })
+
+    named : IsDecided (program ∷ name ∷ ws)
+    named = by_count (counted row.name (length row.arguments) some ws rest)
+
+  by_row : (o : Option Row) → row_named name ≡ o → IsDecided (program ∷ name ∷ ws)
+  by_row None is = unnamed is
+  by_row (Some row) is = named row is
+
+decided : (words : List Text) → is_refused words ≡ false → IsDecided words
+decided [] e = inr (record { fails = no_words_refused; uncalled = refl })
+decided (program ∷ []) e = inr (record { fails = no_name_refused program; uncalled = refl })
+decided (program ∷ name ∷ ws) e =
+    let help = either_false (bytes_eq name (codes "help")) (is_refused_word name || list_any is_refused_word ws) e in
+    let words = either_false (is_refused_word name) (list_any is_refused_word ws) help.1 in
+    by_row program name ws (plain_word name words.0) (plain_words ws words.1) help.0 (row_named name) refl
+
+-- what the own test lets through and clap takes calls a command
+pub taken : (words : List Text) → is_refused words ≡ false → fault_of command_line words ≡ [] → IsTaken words
+taken words own passes = by (decided words own)
+  where
+    by : IsDecided words → IsTaken words
+    by (inl given) = given
+    by (inr denied) = absurd (denied.fails passes)
 
 -- the words that call nothing are those that are refused
 pub refused_exactly : (words : List Text) → (invocation_of words ≡ None) ↔ AreRefused words
@@ -80,8 +151,8 @@ refused_exactly words = by (is_refused words) refl
     shown : is_refused words ≡ false → invocation_behind words ≡ invocation_of words
     shown own = rw own refl
 
-    judges : is_refused words ≡ false → IsJudged words → (invocation_of words ≡ None) ↔ AreRefused words
-    judges own (inl given) = (λ none. absurd (not_both (invocation_behind words) given.invocation given.called (shown own ∙ none)), λ refused. absurd (refuses refused))
+    judges : is_refused words ≡ false → IsDecided words → (invocation_of words ≡ None) ↔ AreRefused words
+    judges own (inl given) = (λ none. absurd (not_both (invocation_behind words) given.invocation given.behind (shown own ∙ none)), λ refused. absurd (refuses refused))
       where
         refuses : AreRefused words → ⊥
         refuses (inl other) = not_true own other
@@ -90,22 +161,55 @@ refused_exactly words = by (is_refused words) refl
 
     by : (b : Bool) → is_refused words ≡ b → (invocation_of words ≡ None) ↔ AreRefused words
     by true own = (λ none. inl own, λ refused. rw own refl)
-    by false own = judges own (judged words own)
+    by false own = judges own (decided words own)
 
 -- words that clap refuses call nothing
-pub halted : (words : List Text) (f : WordsFault) → Matches words (Err f) → Reads words (Err f)
-halted words fault.Refused fails = (refused_exactly words).1 (inr fails)
-halted words fault.NoMemory fails = tt
+pub halted : (A : Type 0) (words : List Text) (f : WordsFault) → IsJudged {A = A} words (Err f) → Reads words (Err f)
+halted A words fault.Refused fails = (refused_exactly words).1 (inr fails)
+halted A words fault.NoMemory fails = tt
 
--- what clap's matches tell is what the words call
-module _ (words : List Text) (own : is_refused words ≡ false) (matches : ArgMatches) (is : Matches words (Ok matches)) where
-  told : (o : Option Command) → option_map invoked o ≡ invocation_matched (subcommand_rows_of matches) → (i : Invocation) × (invocation_of words ≡ Some i) × (option_map invoked o ≡ Some i)
-  told o tells =
-      let given = taken words own is.0 in
-      (given.invocation, rw own given.called, tells ∙ ap invocation_matched is.1 ∙ given.matched)
+-- ---- words that are taken, as the code takes them apart
 
-  pub called : (command : Command) → Some (invoked command) ≡ invocation_matched (subcommand_rows_of matches) → invocation_of words ≡ Some (invoked command)
-  called command tells = let is = told (Some command) tells in is.1 ∙ sym is.2
+-- there are at least two
+pub two_words : (words : List (Bor Text)) → IsTaken (texts words) → 2 ≤ length words
+two_words [] given = absurd (not_both None given.invocation given.behind refl)
+two_words (program ∷ []) given = absurd (not_both None given.invocation given.behind refl)
+two_words (program ∷ name ∷ ws) given = omega arith
 
-  pub some_called : None ≡ invocation_matched (subcommand_rows_of matches) → ⊥
-  some_called tells = let is = told None tells in not_both None is.0 is.2 refl
+abbrev no_word : Bor Text
+no_word = record { ref_ptr = (0, 0); now = [] }
+
+-- what is called has the command of the row, and these texts
+of_row : (name : Text) (ws : List Text) (i : Invocation) → option_and_then (called ws) (row_named name) ≡ Some i → (option_map (λ row. row.command) (row_named name) ≡ Some i.command) × (ws ≡ i.texts)
+of_row name ws i is = by (row_named name) is
+  where
+    by_count : (row : Row) (b : Bool) → (if b then Some (calls row.command ws) else None) ≡ Some i → (Some row.command ≡ Some i.command) × (ws ≡ i.texts)
+    by_count row true e = let same : calls row.command ws ≡ i = cc in (ap (λ (i : Invocation). Some i.command) same, ap (λ (i : Invocation). i.texts) same)
+    by_count row false e = absurd (cc)
+
+    by : (o : Option Row) → option_and_then (called ws) o ≡ Some i → (option_map (λ row. row.command) o ≡ Some i.command) × (ws ≡ i.texts)
+    by None e = absurd (cc)
+    by (Some row) e = by_count row (length ws == length row.arguments) e
+
+named_second : (words : List (Bor Text)) (given : IsTaken (texts words)) → (option_map (λ row. row.command) (row_named (get_or words 1 no_word).now) ≡ Some given.invocation.command)
+    × (texts (drop 2 words) ≡ given.invocation.texts)
+named_second [] given = absurd (not_both None given.invocation given.behind refl)
+named_second (program ∷ []) given = absurd (not_both None given.invocation given.behind refl)
+named_second (program ∷ name ∷ ws) given = of_row name.now (texts ws) given.invocation given.behind
+
+-- the second word names a command
+pub some_named : (words : List (Bor Text)) → IsTaken (texts words) → option_map (λ row. row.command) (row_named (get_or words 1 no_word).now) ≡ None → ⊥
+some_named words given none = not_both _ given.invocation.command (named_second words given).0 none
+
+-- it is called, with the words behind it
+pub called_with : (words : List (Bor Text)) → is_refused (texts words) ≡ false → IsTaken (texts words) → (command : Command)
+    → Some command ≡ option_map (λ row. row.command) (row_named (get_or words 1 no_word).now)
+    → (invocation_of (texts words) ≡ Some (calls command (texts (take (length words - 2) (drop 2 words))))) × IsOfCommand command (texts (take (length words - 2) (drop 2 words)))
+called_with words own given command is =
+    let second = named_second words given in
+    let same : given.invocation.command ≡ command = some_same _ _ (sym second.0 ∙ sym is) in
+    let behind : texts (take (length words - 2) (drop 2 words)) ≡ given.invocation.texts = ap texts (take_rest words 2) ∙ second.1 in
+    (rw (← same, behind) (rw own given.behind), rw (← same, behind) given.counted)
+  where
+    some_same : (a b : Command) → Some a ≡ Some b → a ≡ b
+    some_same a b e = cc

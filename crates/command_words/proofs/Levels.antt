@@ -1,61 +1,86 @@
--- What clap makes of a command's name and arguments that don't begin with `-`.
-use Rattle.std.proofs.Common.{◌≡◌, List, [], ◌∷◌, Option, Some, false, sym, ◌∙◌, ap, ap₂, is_some, find, fold, option_map}
+-- What clap makes of a command's name, and of a name that no command has.
+use Rattle.std.proofs.Common.{◌≡◌, ◌≢◌, ℕ, List, [], ◌∷◌, Option, Some, None, false, refl, sym, ◌∙◌, ap, ap₂, codes, is_some, find, fold, option_map}
 use Rattle.std.specs.Option.{option_map_or}
-use Rattle.clap.specs.Words.{App, Text, Kinds, fault_of, built, subcommand_of}
-use Rattle.clap.specs.Walk.{Names, Walk, answers_to, settled, finished, nothing_held, idle, rows_after, walk_from, walked}
-use Rattle.clap.specs.Simple.{Shape, names_of, entered, label_of, rows_at}
+use Rattle.std.specs.Str.{bytes_eq}
+use Rattle.clap.specs.Words.{Kinds, Text, fault_of}
+use Rattle.clap.specs.Walk.{Held, Names, Walk, answers_to, finished, idle, nothing_held, settled, subcommand_met, value, walk, walk_from, walked, word_met}
+use Rattle.clap.specs.Simple.{Shape, entered, label_of, rows_at}
 use Rattle.clap.specs.Kinds.{or_else}
-use Rattle.clap.specs.Faults.{level_fault, settle_fault, defaults_fault, check_fault, entered_fault, turn_fault, walk_fault}
+use Rattle.clap.specs.Faults.{check_fault, defaults_fault, entered_fault, level_fault, settle_fault, step_fault, turn_fault, walk_fault}
+use Rattle.clap.specs.declared.error.kind.ErrorKind.TheVariants as kind
 use Rattle.clap.proofs.WalkLemmas.{walk_stopped}
 use Rattle.clap.proofs.FaultLemmas.{stopped_fault}
 use Rattle.clap.proofs.OnLiterals.{clap_on_literals}
-use Rattle.command_words.proofs.PlainWords.{ArePlain, level_plain, rows_plain}
+use Rattle.command_words.proofs.Leaves.{line, names}
+use Rattle.command_words.proofs.PlainWords.{IsPlainWord}
 use Rattle.command_words.specs.CommandLine.{command_line}
-
-abbrev pub line : App
-line = built command_line
-
-abbrev pub names : Names
-names = names_of line
 
 -- the walk once it has met a command's name, and behind it these words
 abbrev pub at_name : Text → List Text → Walk
 at_name name ws = record { held = nothing_held; waiting = idle; position = 1; is_trailing = false; stopped = Some (name, ws) }
 
--- clap meets the name of this command, and takes it
-pub record Meets (name : Text) (s : Shape) : Type 0 where
-  pub walks : walked line.top.rules names (walk_from nothing_held) name ≡ at_name name []
-  pub passes : turn_fault line.top names (walk_from nothing_held) name ≡ []
-  pub finds : find (λ s. answers_to name (label_of s)) line.subs ≡ Some s
+-- a word that names a command, and isn't `help`
+module _ (s : Shape) (names : Names) (w : Text) (met : subcommand_met names idle w ≡ Some w) where
+  pub enters : walked s.rules names (walk_from nothing_held) w ≡ at_name w []
+  unfolding walked
+  enters = rw met refl
 
--- the kinds of a parse, from what the walk over the words refuses and where it ends
-abbrev parse : Kinds → Walk → Kinds
-parse f v = or_else f (or_else (entered_fault line v.stopped) (or_else (settle_fault line.top.rules line.top.args_override_self v.held)
-    (or_else (defaults_fault (settled line.top.rules v.held).rows line.top.rules) (check_fault line.top (finished line.top.rules v.held) (is_some (entered line v.stopped))))))
+  pub passes : bytes_eq w (codes "help") ≡ false → turn_fault s names (walk_from nothing_held) w ≡ []
+  passes other = rw (met, other) refl
+
+-- a word that names no command, and isn't a flag, goes to a positional
+module _ (s : Shape) (names : Names) (i : ℕ) (w : Text) (h : Held) (none : subcommand_met names idle w ≡ None) (p : IsPlainWord w) where
+  meets_none : word_met s.rules names false idle i w h ≡ (h, value)
+  meets_none = rw (none, p.1, p.0, p.0) refl
+
+  goes_on : turn_fault s names (record { held = h; waiting = idle; position = i; is_trailing = false; stopped = None }) w ≡ step_fault s i h value
+  goes_on = rw (meets_none, none, p.1, p.0, p.0) refl
+
+-- what a parse refuses behind its walk over the words
+abbrev after : Walk → Kinds
+after v = or_else (entered_fault line v.stopped) (or_else (settle_fault line.top.rules line.top.args_override_self v.held)
+    (or_else (defaults_fault (settled line.top.rules v.held).rows line.top.rules) (check_fault line.top (finished line.top.rules v.held) (is_some (entered line v.stopped)))))
 
 -- the same of a walk that met a command's name, by the command that was found
 abbrev parse_at : List Text → Option Shape → Kinds
 parse_at ws found = or_else (option_map_or (λ s. level_fault s [] nothing_held ws false []) found [])
     (or_else (defaults_fault [] line.top.rules) (check_fault line.top (finished line.top.rules nothing_held) (is_some (option_map (λ s. rows_at s ws) found))))
 
-module _ (name : Text) (s : Shape) (m : Meets name s) where
+or_nothing : (k : Kinds) → or_else k [] ≡ k
+or_nothing [] = refl
+or_nothing (x ∷ xs) = refl
+
+-- a name that clap finds to be that of this command
+module _ (name : Text) (s : Shape) (met : subcommand_met names idle name ≡ Some name) (other : bytes_eq name (codes "help") ≡ false)
+    (finds : find (λ s. answers_to name (label_of s)) line.subs ≡ Some s) where
   by_walk : (ws : List Text) → walk_fault line.top names (walk_from nothing_held) (name ∷ ws) ≡ []
   unfolding walk_fault
-  by_walk ws = rw (m.passes, m.walks) (stopped_fault line.top names (at_name name []) (name, []) ws)
+  by_walk ws = rw (passes line.top names name met other, enters line.top names name met) (stopped_fault line.top names (at_name name []) (name, []) ws)
 
   stands : (ws : List Text) → at_name name ws ≡ fold (walked line.top.rules names) (walked line.top.rules names (walk_from nothing_held) name) ws
-  stands ws = rw m.walks (walk_stopped line.top.rules names (at_name name []) name [] ws)
+  stands ws = rw (enters line.top names name met) (walk_stopped line.top.rules names (at_name name []) name [] ws)
 
-  by_parse : (program : Text) (ws : List Text) → fault_of command_line (program ∷ name ∷ ws) ≡ parse [] (at_name name ws)
-  by_parse program ws = ap₂ parse (by_walk ws) (sym (stands ws))
-
-  -- the faults are those of the arguments, as behind `--`
-  pub faults_behind : (program : Text) (ws : List Text) → ArePlain ws
-      → fault_of command_line (program ∷ name ∷ ws) ≡ or_else (level_fault s [] nothing_held ((45 ∷ 45 ∷ []) ∷ ws) false []) []
+  -- the faults are those of the texts behind it
+  pub faults_behind : (program : Text) (ws : List Text) → fault_of command_line (program ∷ name ∷ ws) ≡ level_fault s [] nothing_held ws false []
   unfolding clap_on_literals
-  faults_behind program ws p = by_parse program ws ∙ ap (parse_at ws) m.finds ∙ ap (λ (k : Kinds). or_else k []) (level_plain s nothing_held ws [] p)
+  faults_behind program ws =
+      ap₂ (λ f v. or_else f (after v)) (by_walk ws) (sym (stands ws)) ∙ ap (parse_at ws) finds ∙ or_nothing (level_fault s [] nothing_held ws false [])
 
-  -- and so are the matches
-  pub rows_behind : (program : Text) (ws : List Text) → ArePlain ws
-      → subcommand_of command_line (program ∷ name ∷ ws) ≡ Some (s.name, rows_after s.rules [] ((45 ∷ 45 ∷ []) ∷ ws))
-  rows_behind program ws p = sym (ap (λ (v : Walk). entered line v.stopped) (stands ws)) ∙ ap (option_map (λ (sub : Shape). rows_at sub ws)) m.finds ∙ ap (λ rows. Some (s.name, rows)) (rows_plain s.rules ws p)
+-- a name that no command has
+pub unknown_refused : (program name : Text) (ws : List Text) → IsPlainWord name → subcommand_met names idle name ≡ None → fault_of command_line (program ∷ name ∷ ws) ≢ []
+unfolding clap_on_literals
+unknown_refused program name ws p none h = cc (sym (ap (λ k. or_else (or_else k rest) (after (walk line.top.rules names nothing_held (name ∷ ws)))) strays) ∙ h)
+  where
+    rest : Kinds
+    rest = walk_fault line.top names (walked line.top.rules names (walk_from nothing_held) name) ws
+
+    strays : turn_fault line.top names (walk_from nothing_held) name ≡ kind.UnknownArgument ∷ kind.InvalidSubcommand ∷ []
+    strays = goes_on line.top names 1 name nothing_held none p
+
+pub no_words_refused : fault_of command_line [] ≢ []
+unfolding clap_on_literals
+no_words_refused h = cc h
+
+pub no_name_refused : (program : Text) → fault_of command_line (program ∷ []) ≢ []
+unfolding clap_on_literals
+no_name_refused program h = cc h

@@ -1,34 +1,21 @@
 -- What the words of a command line call, without a word of clap.
-use Rattle.std.specs.Prelude.{ℕ, List, [], ◌∷◌, map, Bool, true, false, ◌||◌, bytes_eq, codes, Option, Some, None, if◌then◌else◌}
-use Rattle.std.specs.Borrow.{Bor}
+use Rattle.std.specs.Prelude.{List, [], ◌∷◌, length, Bool, true, false, ◌||◌, ◌==◌, bytes_eq, codes, Option, Some, None, if◌then◌else◌, option_and_then}
 use Rattle.std.specs.List.{list_any}
+use Rattle.command_words.specs.Commands.{Row, Text, row_named, texts}
 use Rattle.command_words.specs.declared.command.Command.{Command}
-use Rattle.command_words.specs.declared.command.Command.TheVariants as command
+use Rattle.command_words.specs.declared.command.Invocation.{Invocation as CodeInvocation}
 
-abbrev pub Text : Type 0
-Text = List ℕ
+-- a command with the texts of its arguments
+pub record Invocation : Type 0 where
+  pub command : Command
+  pub texts : List Text
 
--- the words' bytes
-abbrev pub texts : List (Bor Text) → List Text
-texts words = map (λ word. word.now) words
+abbrev pub calls : Command → List Text → Invocation
+calls command texts = record { command = command; texts = texts }
 
--- a command with its arguments
-pub data Invocation : Type 0 where
-  Check : (program : Text) → Invocation
-  Init : (program role argument fuel out : Text) → Invocation
-  Shallow : (program image out : Text) → Invocation
-  Prove : (program role image argument fuel kept out : Text) → Invocation
-  Verify : (program role state argument fuel proof : Text) → Invocation
-  Audit : (program role image argument fuel proof : Text) → Invocation
-
--- the same of a command that was read
-abbrev pub invoked : Command → Invocation
-invoked (command.Check a) = Check a.program.now
-invoked (command.Init a) = Init a.program.now a.role.now a.argument.now a.fuel.now a.out.now
-invoked (command.Shallow a) = Shallow a.program.now a.image.now a.out.now
-invoked (command.Prove a) = Prove a.program.now a.role.now a.image.now a.argument.now a.fuel.now a.kept.now a.out.now
-invoked (command.Verify a) = Verify a.program.now a.role.now a.state.now a.argument.now a.fuel.now a.proof.now
-invoked (command.Audit a) = Audit a.program.now a.role.now a.image.now a.argument.now a.fuel.now a.proof.now
+-- the same of what was read
+abbrev pub invoked : CodeInvocation → Invocation
+invoked invocation = calls invocation.command (texts invocation.texts.now)
 
 -- a word that is empty or begins with `-`
 abbrev pub is_refused_word : Text → Bool
@@ -41,45 +28,13 @@ is_refused [] = false
 is_refused (program ∷ []) = false
 is_refused (program ∷ name ∷ arguments) = bytes_eq name (codes "help") || (is_refused_word name || list_any is_refused_word arguments)
 
--- each command with its arguments, where there are as many as it has
-abbrev pub check_of : List Text → Option Invocation
-check_of (program ∷ []) = Some (Check program)
-check_of arguments = None
+-- the command of a row with these texts, where they are as many as its arguments
+abbrev pub called : List Text → Row → Option Invocation
+called texts row = if length texts == length row.arguments then Some (calls row.command texts) else None
 
-abbrev pub init_of : List Text → Option Invocation
-init_of (program ∷ role ∷ argument ∷ fuel ∷ out ∷ []) = Some (Init program role argument fuel out)
-init_of arguments = None
-
-abbrev pub shallow_of : List Text → Option Invocation
-shallow_of (program ∷ image ∷ out ∷ []) = Some (Shallow program image out)
-shallow_of arguments = None
-
-abbrev pub prove_of : List Text → Option Invocation
-prove_of (program ∷ role ∷ image ∷ argument ∷ fuel ∷ kept ∷ out ∷ []) = Some (Prove program role image argument fuel kept out)
-prove_of arguments = None
-
-abbrev pub verify_of : List Text → Option Invocation
-verify_of (program ∷ role ∷ state ∷ argument ∷ fuel ∷ proof ∷ []) = Some (Verify program role state argument fuel proof)
-verify_of arguments = None
-
-abbrev pub audit_of : List Text → Option Invocation
-audit_of (program ∷ role ∷ image ∷ argument ∷ fuel ∷ proof ∷ []) = Some (Audit program role image argument fuel proof)
-audit_of arguments = None
-
--- the command of this name
-abbrev pub invocation_named : Text → List Text → Option Invocation
-invocation_named name arguments =
-    if bytes_eq name (codes "check") then check_of arguments else
-    if bytes_eq name (codes "init") then init_of arguments else
-    if bytes_eq name (codes "shallow") then shallow_of arguments else
-    if bytes_eq name (codes "prove") then prove_of arguments else
-    if bytes_eq name (codes "verify") then verify_of arguments else
-    if bytes_eq name (codes "audit") then audit_of arguments else
-    None
-
--- what words call that are behind the program's name
+-- what words call that are behind the program's name: a command's name, and the texts of its arguments
 abbrev pub invocation_behind : List Text → Option Invocation
-invocation_behind (program ∷ name ∷ arguments) = invocation_named name arguments
+invocation_behind (program ∷ name ∷ texts) = option_and_then (called texts) (row_named name)
 invocation_behind words = None
 
 -- what the words of a command line call, the program's name first

@@ -1,5 +1,6 @@
+pub mod Commands
+pub mod Rows
 pub mod Invocations
 pub mod CommandLine
 pub mod Faults
-pub mod Matched
 pub mod Reading

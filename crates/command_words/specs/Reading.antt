@@ -1,21 +1,21 @@
 -- What reading the words of a command line gives.
 use Rattle.std.specs.Prelude.{◌≡◌, ◌≢◌, List, [], Some, None, Result, Ok, Err, ⊤}
-use Rattle.clap.specs.Words.{fault_of, subcommand_of, subcommand_rows_of}
-use Rattle.clap.specs.declared.parser.matches.ArgMatches.{ArgMatches}
+use Rattle.clap.specs.Words.{fault_of}
 use Rattle.command_words.specs.CommandLine.{command_line}
-use Rattle.command_words.specs.Invocations.{Text, invocation_of, invoked}
-use Rattle.command_words.specs.declared.command.Command.{Command}
+use Rattle.command_words.specs.Commands.{Text}
+use Rattle.command_words.specs.Invocations.{invocation_of, invoked}
+use Rattle.command_words.specs.declared.command.Invocation.{Invocation}
 use Rattle.command_words.specs.declared.fault.WordsFault.{WordsFault}
 use Rattle.command_words.specs.declared.fault.WordsFault.TheVariants.{Refused, NoMemory}
 
--- what clap matches in the words, or that it refuses them; want of memory aside
-abbrev pub Matches : List Text → Result ArgMatches WordsFault → Type 0
-Matches words (Ok matches) = (fault_of command_line words ≡ []) × (subcommand_rows_of matches ≡ subcommand_of command_line words)
-Matches words (Err Refused) = fault_of command_line words ≢ []
-Matches words (Err NoMemory) = ⊤
+-- clap takes the words, or refuses them; want of memory aside
+abbrev pub IsJudged : {A : Type 0} → List Text → Result A WordsFault → Type 0
+IsJudged words (Ok taken) = fault_of command_line words ≡ []
+IsJudged words (Err Refused) = fault_of command_line words ≢ []
+IsJudged words (Err NoMemory) = ⊤
 
--- the command that the words call, or that they call none; want of memory aside
-abbrev pub Reads : List Text → Result Command WordsFault → Type 0
-Reads words (Ok command) = invocation_of words ≡ Some (invoked command)
+-- what the words call, or that they call nothing; want of memory aside
+abbrev pub Reads : List Text → Result Invocation WordsFault → Type 0
+Reads words (Ok invocation) = invocation_of words ≡ Some (invoked invocation)
 Reads words (Err Refused) = invocation_of words ≡ None
 Reads words (Err NoMemory) = ⊤

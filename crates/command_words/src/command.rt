@@ -1,79 +1,64 @@
 // The program's commands.
+ghost use Rattle.std.specs.Prelude.{◌≡◌, find, map, option_map, bytes_eq};
+ghost use Rattle.command_words.specs.Commands.{commands, row_named};
+ghost use Rattle.command_words.specs.Rows.{row_of};
 
-/// A command with its arguments.
-#[derive(Clone, Copy, Debug, PartialEq, Eq)]
-pub enum Command<'a> {
-    /// `check P`
-    Check(CheckArguments<'a>),
-    /// `init P ROLE ARG FUEL OUT`
-    Init(InitArguments<'a>),
-    /// `shallow P IMG OUT`
-    Shallow(ShallowArguments<'a>),
-    /// `prove P ROLE IMG ARG FUEL N OUT`
-    Prove(ProveArguments<'a>),
-    /// `verify P ROLE STATE ARG FUEL PROOF`
-    Verify(VerifyArguments<'a>),
-    /// `audit P ROLE IMG ARG FUEL PROOF`
-    Audit(AuditArguments<'a>),
+/// A command.
+#[derive(Clone, Copy)]
+pub enum Command {
+    Check,
+    Init,
+    Shallow,
+    Prove,
+    Verify,
+    Audit,
 }
 
-/// The argument of `check`: the name of the program's file.
-#[derive(Clone, Copy, Debug, PartialEq, Eq)]
-pub struct CheckArguments<'a> {
-    pub program: &'a str,
+/// A command that words call, with the texts of its arguments.
+#[derive(Clone, Copy)]
+pub struct Invocation<'a> {
+    pub command: Command,
+    /// As many as the command has arguments, and in their order.
+    pub texts: &'a [&'a str],
 }
 
-/// The arguments of `init`: the names of the program's file, of a role and of the file that is stored, a literal, and a number.
-#[derive(Clone, Copy, Debug, PartialEq, Eq)]
-pub struct InitArguments<'a> {
-    pub program: &'a str,
-    pub role: &'a str,
-    pub argument: &'a str,
-    pub fuel: &'a str,
-    pub out: &'a str,
+/// A command in the table: its name, and the names of its arguments, at least one.
+#[derive(Clone, Copy)]
+pub struct Row {
+    pub command: Command,
+    pub name: &'static str,
+    pub arguments: &'static [&'static str],
 }
 
-/// The arguments of `shallow`: the names of the program's file, of an image and of the file that is stored.
-#[derive(Clone, Copy, Debug, PartialEq, Eq)]
-pub struct ShallowArguments<'a> {
-    pub program: &'a str,
-    pub image: &'a str,
-    pub out: &'a str,
+/// The commands.
+#[rattlefmt::skip]
+static COMMANDS: [Row; 6] = [
+    Row { command: Command::Check, name: "check", arguments: &["P"] },
+    Row { command: Command::Init, name: "init", arguments: &["P", "ROLE", "ARG", "FUEL", "OUT"] },
+    Row { command: Command::Shallow, name: "shallow", arguments: &["P", "IMG", "OUT"] },
+    Row { command: Command::Prove, name: "prove", arguments: &["P", "ROLE", "IMG", "ARG", "FUEL", "N", "OUT"] },
+    Row { command: Command::Verify, name: "verify", arguments: &["P", "ROLE", "STATE", "ARG", "FUEL", "PROOF"] },
+    Row { command: Command::Audit, name: "audit", arguments: &["P", "ROLE", "IMG", "ARG", "FUEL", "PROOF"] },
+];
+
+/// The table of the commands.
+pub fn commands() -> &'static [Row]
+    ensures { map row_of result.now ≡ commands }
+{
+    &COMMANDS
 }
 
-/// The arguments of `prove`: the names of the program's file, of a role, of an image and of the file that is stored, a literal,
-/// and two numbers.
-#[derive(Clone, Copy, Debug, PartialEq, Eq)]
-pub struct ProveArguments<'a> {
-    pub program: &'a str,
-    pub role: &'a str,
-    pub image: &'a str,
-    pub argument: &'a str,
-    pub fuel: &'a str,
-    /// The number of pieces that are kept.
-    pub kept: &'a str,
-    pub out: &'a str,
+/// The command of this name.
+pub fn command_named(name: &str) -> Option<Command>
+    ensures { result ≡ option_map (λ row. row.command) (row_named name.now) }
+{
+    let row = row_named(commands(), name)?;
+    Some(row.command)
 }
 
-/// The arguments of `verify`: the names of the program's file, of a role, of a state's spelling and of a proof, a literal, and a
-/// number.
-#[derive(Clone, Copy, Debug, PartialEq, Eq)]
-pub struct VerifyArguments<'a> {
-    pub program: &'a str,
-    pub role: &'a str,
-    pub state: &'a str,
-    pub argument: &'a str,
-    pub fuel: &'a str,
-    pub proof: &'a str,
-}
-
-/// The arguments of `audit`: the names of the program's file, of a role, of an image and of a proof, a literal, and a number.
-#[derive(Clone, Copy, Debug, PartialEq, Eq)]
-pub struct AuditArguments<'a> {
-    pub program: &'a str,
-    pub role: &'a str,
-    pub image: &'a str,
-    pub argument: &'a str,
-    pub fuel: &'a str,
-    pub proof: &'a str,
+/// The row of this name.
+fn row_named<'a>(rows: &'a [Row], name: &str) -> Option<&'a Row>
+    ensures { option_map (λ row. row.now) result ≡ find (λ row. bytes_eq row.name.now name.now) rows.now }
+{
+    rows.iter().find(|row| row.name == name)
 }

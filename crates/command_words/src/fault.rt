@@ -8,7 +8,7 @@ use clap::error::ErrorKind;
 use std::alloc::AllocError;
 
 /// Why the words of a command line are not read.
-#[derive(Clone, Copy, Debug, PartialEq, Eq)]
+#[derive(Clone, Copy)]
 pub enum WordsFault {
     /// They call no command.
     Refused,

@@ -5,12 +5,8 @@ mod command;
 mod fault;
 pub mod laws;
 mod line;
-mod matched;
 mod reading;
 
-pub use command::{
-    AuditArguments, CheckArguments, Command, InitArguments, ProveArguments, ShallowArguments,
-    VerifyArguments,
-};
+pub use command::{Command, Invocation};
 pub use fault::WordsFault;
 pub use reading::read;

@@ -2,46 +2,29 @@
 ghost use Rattle.std.specs.Prelude.{◌≡◌, IfOk, map, false};
 ghost use Rattle.clap.specs.Words.{app_of, rule_of, with_subcommand};
 ghost use Rattle.clap.specs.declared.builder.command.Command.TheViews.{out-Command};
-ghost use Rattle.command_words.specs.CommandLine.{command, command_line, naming_one, required_text};
+ghost use Rattle.command_words.specs.CommandLine.{command, command_line, naming_one, required_texts};
+ghost use Rattle.command_words.specs.Rows.{row_of};
 
+use crate::command::{Row, commands};
 use clap::{Arg, Command};
 use std::alloc::{AllocError, Global};
-
-static CHECK: [&str; 1] = ["P"];
-
-static INIT: [&str; 5] = ["P", "ROLE", "ARG", "FUEL", "OUT"];
-
-static SHALLOW: [&str; 3] = ["P", "IMG", "OUT"];
-
-static PROVE: [&str; 7] = ["P", "ROLE", "IMG", "ARG", "FUEL", "N", "OUT"];
-
-static VERIFY: [&str; 6] = ["P", "ROLE", "STATE", "ARG", "FUEL", "PROOF"];
-
-static AUDIT: [&str; 6] = ["P", "ROLE", "IMG", "ARG", "FUEL", "PROOF"];
 
 /// The command line: one level of commands, one of which has to be named.
 pub fn command_line<'a>(alloc: Global) -> Result<Command<'a>, AllocError>
     ensures { IfOk result (λ line. app_of line ≡ command_line) }
 {
-    let line = naming_one(alloc);
-    let line = with_command(alloc, line, "check", CHECK.as_slice())?;
-    let line = with_command(alloc, line, "init", INIT.as_slice())?;
-    let line = with_command(alloc, line, "shallow", SHALLOW.as_slice())?;
-    let line = with_command(alloc, line, "prove", PROVE.as_slice())?;
-    let line = with_command(alloc, line, "verify", VERIFY.as_slice())?;
-    with_command(alloc, line, "audit", AUDIT.as_slice())
+    let mut line = naming_one(alloc);
+    for row in commands() {
+        line = with_command(alloc, line, row)?;
+    }
+    Ok(line)
 }
 
-/// A command line with one command more, whose arguments have these names.
-fn with_command<'a>(
-    alloc: Global,
-    line: Command<'a>,
-    name: &'a str,
-    ids: &'a [&'a str],
-) -> Result<Command<'a>, AllocError>
-    ensures { IfOk result (λ made. app_of made ≡ with_subcommand (app_of line.entry) (command name.entry.now (map (λ id. id.now) ids.entry.now)).top) }
+/// A command line with one command more.
+fn with_command<'a>(alloc: Global, line: Command<'a>, row: &Row) -> Result<Command<'a>, AllocError>
+    ensures { IfOk result (λ made. app_of made ≡ with_subcommand (app_of line.entry) (command (row_of row.now)).top) }
 {
-    let command = command(alloc, name, ids)?;
+    let command = command(alloc, row)?;
     line.subcommand(command)
 }
 
@@ -52,22 +35,20 @@ fn naming_one<'a>(alloc: Global) -> Command<'a>
     Command::new(alloc, "lamauth").subcommand_required(true)
 }
 
-/// A command whose arguments have these names.
-fn command<'a>(alloc: Global, name: &'a str, ids: &'a [&'a str]) -> Result<Command<'a>, AllocError>
+/// The command of a row.
+fn command<'a>(alloc: Global, row: &Row) -> Result<Command<'a>, AllocError>
     ensures local { IfOk result (λ command. (out-Command command).has_globals ≡ false) }
-    ensures shape { IfOk result (λ made. app_of made ≡ command name.entry.now (map (λ id. id.now) ids.entry.now)) }
+    ensures shape { IfOk result (λ made. app_of made ≡ command (row_of row.now)) }
 {
-    let mut made = Command::new(alloc, name);
-    for id in ids {
-        made = made.arg(required_text(alloc, id))?;
-    }
-    Ok(made)
+    Command::new(alloc, row.name).arg(required_texts(alloc, row.arguments))
 }
 
-/// An argument that has to be there.
-fn required_text<'a>(alloc: Global, id: &'a str) -> Arg<'a>
-    ensures rule { rule_of result ≡ required_text id.entry.now }
+/// The argument that takes the texts of a command, one for each of these names.
+fn required_texts<'a>(alloc: Global, names: &'a [&'a str]) -> Arg<'a>
+    ensures rule { rule_of result ≡ required_texts (map (λ name. name.now) names.entry.now) }
     ensures local { result.global ≡ false }
 {
-    Arg::new(alloc, id).required(true)
+    Arg::new(alloc, "ARGUMENTS")
+        .value_names(names)
+        .required(true)
 }

@@ -1,36 +1,41 @@
 // The words of a command line, read.
-ghost use Rattle.std.specs.Prelude.{◌≡◌};
+ghost use Rattle.std.specs.Prelude.{◌≡◌, IfOk};
 ghost use Rattle.std.specs.List.{list_any};
-ghost use Rattle.command_words.specs.Invocations.{is_refused, is_refused_word, texts};
-ghost use Rattle.command_words.specs.Reading.{Matches, Reads};
+ghost use Rattle.command_words.specs.Commands.{IsOfCommand, texts};
+ghost use Rattle.command_words.specs.Invocations.{is_refused, is_refused_word};
+ghost use Rattle.command_words.specs.Reading.{IsJudged, Reads};
 
+use crate::command::command_named;
 use crate::line::command_line;
-use crate::matched::command_matched;
-use crate::{Command, WordsFault};
-use clap::ArgMatches;
+use crate::{Invocation, WordsFault};
 use std::alloc::Global;
 
-/// The command that the words call, the program's name first.
+/// What the words call, the program's name first.
 ///
 /// `Refused` exactly where the program's own test or clap refuses the words.
-pub fn read<'a>(alloc: Global, words: &'a [&'a str]) -> Result<Command<'a>, WordsFault>
-    ensures { Reads (texts words.entry.now) result }
+pub fn read<'a>(alloc: Global, words: &'a [&'a str]) -> Result<Invocation<'a>, WordsFault>
+    ensures reads { Reads (texts words.entry.now) result }
+    ensures counted { IfOk result (λ invocation. IsOfCommand invocation.command (texts invocation.texts.now)) }
 {
     if is_refused(words) {
         return Err(WordsFault::Refused);
     }
-    let matches = matches_of(alloc, words)?;
-    let Some(command) = command_matched(&matches) else {
+    judge(alloc, words)?;
+    let [_, name, texts @ ..] = words else {
         unreachable!()
     };
-    Ok(command)
+    let Some(command) = command_named(name) else {
+        unreachable!()
+    };
+    Ok(Invocation { command, texts })
 }
 
-/// What clap matches in the words. `Refused` exactly where it refuses them for another cause than memory.
-fn matches_of<'a>(alloc: Global, words: &'a [&'a str]) -> Result<ArgMatches<'a>, WordsFault>
-    ensures { Matches (texts words.entry.now) result }
+/// Judges the words by clap. `Refused` exactly where it refuses them for another cause than memory.
+fn judge(alloc: Global, words: &[&str]) -> Result<(), WordsFault>
+    ensures { IsJudged (texts words.now) result }
 {
-    Ok(command_line(alloc)?.try_get_matches_from(words)?)
+    command_line(alloc)?.try_get_matches_from(words)?;
+    Ok(())
 }
 
 /// Whether the program's own test refuses the words: one behind its name is empty or begins with `-`, or the command is `help`.

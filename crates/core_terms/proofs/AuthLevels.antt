@@ -70,7 +70,8 @@ some_same p q same (x ∷ xs) = ap₂ (λ a b. a || b) (same x) (some_same p q s
 next_same : (table : Table) (j k : ℕ) → ((n : ℕ) → has_auth_within table j (NamedTy n) ≡ has_auth_within table k (NamedTy n))
     → (n : ℕ) → has_auth_within table (suc j) (NamedTy n) ≡ has_auth_within table (suc k) (NamedTy n)
 next_same table j k same n =
-    some_same (some_passes (has_auth_within table j)) (some_passes (has_auth_within table k)) (some_same (has_auth_within table j) (has_auth_within table k) (same_level table j k same)) (unwrap_or (slice_get table n) [])
+    some_same (some_passes (has_auth_within table j)) (some_passes (has_auth_within table k))
+    (some_same (has_auth_within table j) (has_auth_within table k) (same_level table j k same)) (unwrap_or (slice_get table n) [])
 
 -- a level that is like the next one is like all that follow
 later_same : (table : Table) (k : ℕ) → ((n : ℕ) → has_auth_within table k (NamedTy n) ≡ has_auth_within table (suc k) (NamedTy n))
@@ -80,7 +81,8 @@ later_same table k same (suc more) n =
     same n ∙ next_same table k (more + k) (later_same table k same more) n
     ∙ ap (λ m. has_auth_within table m (NamedTy n)) (let e : suc (more + k) ≡ suc more + k = omega arith in e)
 
-pub last_level : (table : Table) (k last : ℕ) (marks next : List Bool) → AreOpenedMarks table k marks → AreOpenedMarks table (k + 1) next → next ≡ marks → k < last → AreOpenedMarks table last marks
+pub last_level : (table : Table) (k last : ℕ) (marks next : List Bool) → AreOpenedMarks table k marks → AreOpenedMarks table (k + 1) next → next ≡ marks
+    → k < last → AreOpenedMarks table last marks
 last_level table k last marks next now after same h n =
     let step : k + 1 ≡ suc k = omega arith in
     let e : (last - k) + k ≡ last = omega (arith, h) in
@@ -96,7 +98,8 @@ form_mark types IntForm count marks opened_marks s right table opened named = in
 form_mark types TextForm count marks opened_marks s right table opened named = text_has_none table opened
 form_mark types (AuthForm part) count marks opened_marks s right table opened named = auth_has_one table opened (type_at types part)
 form_mark types (PairForm first second) count marks opened_marks s right table opened named =
-    ap₂ (λ a b. a || b) (right table opened named first.0 (ltb-true first.0 count (first_of _ _ s))) (right table opened named second.0 (ltb-true second.0 count (second_of (nat_lt first.0 count) _ s)))
+    ap₂ (λ a b. a || b) (right table opened named first.0 (ltb-true first.0 count (first_of _ _ s)))
+    (right table opened named second.0 (ltb-true second.0 count (second_of (nat_lt first.0 count) _ s)))
     ∙ pair_has table opened (type_at types first) (type_at types second)
 form_mark types (NamedForm n) count marks opened_marks s right table opened named = named n.0
 
@@ -133,7 +136,8 @@ pub next_opened : (types : List Ty) (named : List NamedType) (opened : ℕ) (ope
     → length marks ≡ length types → AreLevelMarks types opened_marks (length types) marks → next ≡ map (is_marked_type marks) named → AreOpenedMarks (table_of types named) (opened + 1) next
 next_opened types named opened opened_marks marks next now same right is n =
     let e : suc opened ≡ opened + 1 = omega arith in
-    ap (λ l. slice_index_or l n false) is ∙ next_marks types (table_of types named) opened marks (all_marks types marks opened_marks same right (table_of types named) opened now) named n
+    ap (λ l. slice_index_or l n false) is ∙ next_marks types (table_of types named) opened marks
+    (all_marks types marks opened_marks same right (table_of types named) opened now) named n
     ∙ ap (λ m. has_auth_within (table_of types named) m (NamedTy n)) e
 
 -- at the last level the marks say where an `auth` stands

@@ -11,7 +11,7 @@ use Rattle.std.proofs.lemmas.List.Quantifiers.{position-Some}
 use Rattle.std.proofs.lemmas.List.Folds.{list_any_at}
 use Rattle.indexmap.specs.IndexSet.{insert_key}
 use Rattle.core_terms.specs.contracts.language.types.TyFormPartialEq.TheImpl.{eq-value}
-use Rattle.core_terms.specs.Types.{Ty, UnitTy}
+use Rattle.core_terms.specs.Types.{Ty, UnitTy, BoolTy, IntTy, TextTy, PairTy, NamedTy, AuthTy}
 use Rattle.core_terms.specs.TypeTables.{HasOneNumber}
 use Rattle.core_terms.specs.LanguageTypes.{type_of_form, types_behind, types_of_forms, HasNoNumber, IsWithForm, stands_behind, is_in_order}
 use Rattle.core_terms.specs.declared.language.types.TyForm.{TyForm}
@@ -20,7 +20,11 @@ use Rattle.core_terms.proofs.LanguageTypeTables.{length-types_behind, form_means
 use Rattle.core_terms.proofs.TypingSound.{first_of, second_of}
 use Rattle.core_terms.proofs.TypingComplete.{both}
 
-types_behind-push : (before : List Ty) (forms : List TyForm) (form : TyForm) → types_behind before (forms ++ form ∷ []) ≡ types_behind before forms ++ type_of_form (types_behind before forms) form ∷ []
+no_truth : false ≡ true → ⊥
+no_truth e = absurd (cc)
+
+types_behind-push : (before : List Ty) (forms : List TyForm) (form : TyForm)
+    → types_behind before (forms ++ form ∷ []) ≡ types_behind before forms ++ type_of_form (types_behind before forms) form ∷ []
 types_behind-push before [] form = refl
 types_behind-push before (f ∷ fs) form = types_behind-push (before ++ type_of_form before f ∷ []) fs form
 
@@ -60,8 +64,23 @@ stands_at n (f ∷ fs) (suc i) form h at =
     let e : (n + 1) + i ≡ n + suc i = omega arith in
     subst (λ m. stands_behind m form ≡ true) e (stands_at (n + 1) fs i form (second_of (stands_behind n f) _ h) at)
 
+-- types of two kinds are two
+kind_of : Ty → ℕ
+kind_of UnitTy = 0
+kind_of BoolTy = 1
+kind_of IntTy = 2
+kind_of TextTy = 3
+kind_of (PairTy a b) = 4
+kind_of (NamedTy n) = 5
+kind_of (AuthTy a) = 6
+
+apart : (s t : Ty) → nat_eq (kind_of s) (kind_of t) ≡ false → s ≡ t → ⊥
+apart s t differ e = let same : nat_eq (kind_of s) (kind_of t) ≡ true = eq-eqb (kind_of s) (kind_of t) (ap kind_of e) in no_truth (sym differ ∙ same)
+
 -- two forms of one type are one, where types have one number
-one_form : (types : List Ty) → HasOneNumber types → (f g : TyForm) → stands_behind (length types) f ≡ true → stands_behind (length types) g ≡ true → type_of_form types f ≡ type_of_form types g → f ≡ g
+one_form : (types : List Ty) → HasOneNumber types → (f g : TyForm) → stands_behind (length types) f ≡ true → stands_behind (length types) g ≡ true
+    → type_of_form types f ≡ type_of_form types g → f ≡ g
+unfolding kind_of
 one_form types one UnitForm UnitForm s t e = refl
 one_form types one BoolForm BoolForm s t e = refl
 one_form types one IntForm IntForm s t e = refl
@@ -80,10 +99,11 @@ one_form types one (PairForm p p') (PairForm q q') s t e =
 one_form types one (NamedForm p) (NamedForm q) s t e =
     let same : p.0 ≡ q.0 = cc in
     ap (λ n. NamedForm (record { 0 = n })) same
-one_form types one f g s t e = absurd (cc)
+one_form types one f g s t e = absurd (apart (type_of_form types f) (type_of_form types g) refl e)
 
 -- the number of a form that is there is that of its type
-pub type_there : (forms : List TyForm) (i : ℕ) (form : TyForm) → is_in_order 0 forms ≡ true → slice_get forms i ≡ Some form → slice_get (types_of_forms forms) i ≡ Some (type_of_form (types_of_forms forms) form)
+pub type_there : (forms : List TyForm) (i : ℕ) (form : TyForm) → is_in_order 0 forms ≡ true → slice_get forms i ≡ Some form
+    → slice_get (types_of_forms forms) i ≡ Some (type_of_form (types_of_forms forms) form)
 type_there forms i form h at =
     let inside : i < length (types_of_forms forms) = rw (length-types forms) (slice_get_within forms i form at) in
     let means = form_means forms i h in
@@ -106,7 +126,8 @@ no_type forms form h one new s i at =
     let types = types_of_forms forms in
     let inside : i < length types = slice_get_within types i (type_of_form types form) at in
     let there : slice_get forms i ≡ Some (slice_index_or forms i UnitForm) = slice_get-get_or forms i UnitForm (rw (← length-types forms) inside) in
-    let behind : stands_behind (length types) (slice_index_or forms i UnitForm) ≡ true = stands_later (0 + i) (length types) (slice_index_or forms i UnitForm) (omega (arith, inside)) (stands_at 0 forms i (slice_index_or forms i UnitForm) h there) in
+    let behind : stands_behind (length types) (slice_index_or forms i UnitForm) ≡ true =
+    stands_later (0 + i) (length types) (slice_index_or forms i UnitForm) (omega (arith, inside)) (stands_at 0 forms i (slice_index_or forms i UnitForm) h there) in
     new i (there ∙ ap Some (one_form types one (slice_index_or forms i UnitForm) form behind s (form_means forms i h ∙ get_or_from_slice_get types i (type_of_form types form) UnitTy at)))
 
 -- a form that isn't there brings a new type
@@ -123,14 +144,18 @@ one_number_push forms form h one s new = subst HasOneNumber (sym (types_push for
     differs : (i : ℕ) → i < length (types_of_forms forms) → slice_index_or (types_of_forms forms) i UnitTy ≢ type_of_form (types_of_forms forms) form
     differs i inside e = no_type forms form h one new s i (slice_get-get_or (types_of_forms forms) i UnitTy inside ∙ ap Some e)
 
-    front : (i : ℕ) → i < length (types_of_forms forms) → slice_index_or (types_of_forms forms ++ type_of_form (types_of_forms forms) form ∷ []) i UnitTy ≡ slice_index_or (types_of_forms forms) i UnitTy
+    front : (i : ℕ) → i < length (types_of_forms forms)
+        → slice_index_or (types_of_forms forms ++ type_of_form (types_of_forms forms) form ∷ []) i UnitTy ≡ slice_index_or (types_of_forms forms) i UnitTy
     front i inside = get_or-append (types_of_forms forms) (type_of_form (types_of_forms forms) form ∷ []) UnitTy i inside
 
     last : (i : ℕ) → i < length (types_of_forms forms ++ type_of_form (types_of_forms forms) form ∷ []) → nat_lt i (length (types_of_forms forms)) ≡ false → i ≡ length (types_of_forms forms)
     last i inside q = omega (arith, inside, ltb-false i (length (types_of_forms forms)) q, length-append (types_of_forms forms) (type_of_form (types_of_forms forms) form ∷ []))
 
-    at_last : (i : ℕ) → i ≡ length (types_of_forms forms) → slice_index_or (types_of_forms forms ++ type_of_form (types_of_forms forms) form ∷ []) i UnitTy ≡ type_of_form (types_of_forms forms) form
-    at_last i e = ap (λ i. slice_index_or (types_of_forms forms ++ type_of_form (types_of_forms forms) form ∷ []) i UnitTy) e ∙ get_or-append_seam (types_of_forms forms) (type_of_form (types_of_forms forms) form) [] UnitTy
+    at_last : (i : ℕ) → i ≡ length (types_of_forms forms)
+        → slice_index_or (types_of_forms forms ++ type_of_form (types_of_forms forms) form ∷ []) i UnitTy ≡ type_of_form (types_of_forms forms) form
+    at_last i e =
+        ap (λ i. slice_index_or (types_of_forms forms ++ type_of_form (types_of_forms forms) form ∷ []) i UnitTy) e
+        ∙ get_or-append_seam (types_of_forms forms) (type_of_form (types_of_forms forms) form) [] UnitTy
 
     pushed : HasOneNumber (types_of_forms forms ++ type_of_form (types_of_forms forms) form ∷ [])
     pushed i j a b e = by (nat_lt i (length (types_of_forms forms))) refl (nat_lt j (length (types_of_forms forms))) refl
@@ -142,11 +167,13 @@ one_number_push forms form h one s new = subst HasOneNumber (sym (types_push for
         by false p false q = last i a p ∙ sym (last j b q)
 
 -- the same of a table to which a form was added or wasn't
-pub in_order_either : (old new : List TyForm) (form : TyForm) → IsWithForm old form new → is_in_order 0 old ≡ true → stands_behind (length (types_of_forms old)) form ≡ true → is_in_order 0 new ≡ true
+pub in_order_either : (old new : List TyForm) (form : TyForm) → IsWithForm old form new → is_in_order 0 old ≡ true
+    → stands_behind (length (types_of_forms old)) form ≡ true → is_in_order 0 new ≡ true
 in_order_either old new form (inl e) h s = subst (λ l. is_in_order 0 l ≡ true) (sym e) h
 in_order_either old new form (inr e) h s = subst (λ l. is_in_order 0 l ≡ true) (sym e.0) (in_order_push old form h s)
 
-pub one_number_either : (old new : List TyForm) (form : TyForm) → IsWithForm old form new → is_in_order 0 old ≡ true → HasOneNumber (types_of_forms old) → stands_behind (length (types_of_forms old)) form ≡ true
+pub one_number_either : (old new : List TyForm) (form : TyForm) → IsWithForm old form new → is_in_order 0 old ≡ true → HasOneNumber (types_of_forms old)
+    → stands_behind (length (types_of_forms old)) form ≡ true
     → HasOneNumber (types_of_forms new)
 one_number_either old new form (inl e) h one s = subst (λ l. HasOneNumber (types_of_forms l)) (sym e) one
 one_number_either old new form (inr e) h one s = subst (λ l. HasOneNumber (types_of_forms l)) (sym e.0) (one_number_push old form h one s e.1)
@@ -156,13 +183,17 @@ pub parts_before : (forms : List TyForm) (i : ℕ) → is_in_order 0 forms ≡ t
 parts_before forms i h = by (nat_lt i (length forms)) refl
   where
     by : (b : Bool) → nat_lt i (length forms) ≡ b → stands_behind i (slice_index_or forms i UnitForm) ≡ true
-    by true e = subst (λ n. stands_behind n (slice_index_or forms i UnitForm) ≡ true) (zero-add i) (stands_at 0 forms i (slice_index_or forms i UnitForm) h (slice_get-get_or forms i UnitForm (ltb-true i (length forms) e)))
+    by true e =
+        subst (λ n. stands_behind n (slice_index_or forms i UnitForm) ≡ true) (zero-add i)
+        (stands_at 0 forms i (slice_index_or forms i UnitForm) h (slice_get-get_or forms i UnitForm (ltb-true i (length forms) e)))
     by false e = subst (λ f. stands_behind i f ≡ true) (sym (get_or_past forms i UnitForm (ltb-false i (length forms) e))) refl
 
 -- a form that is equal to none of these is none of them
-pub absent : (eq : TyForm → TyForm → Bool) → ((f : TyForm) → eq f f ≡ true) → (forms : List TyForm) (form : TyForm) → list_any (eq form) forms ≡ false → (i : ℕ) → slice_get forms i ≢ Some form
+pub absent : (eq : TyForm → TyForm → Bool) → ((f : TyForm) → eq f f ≡ true) → (forms : List TyForm) (form : TyForm) → list_any (eq form) forms ≡ false
+    → (i : ℕ) → slice_get forms i ≢ Some form
 absent eq own forms form none i at =
-    let found : list_any (eq form) forms ≡ true = list_any_at (eq form) forms i UnitForm (slice_get_within forms i form at) (subst (λ f. eq form f ≡ true) (sym (get_or_from_slice_get forms i form UnitForm at)) (own form)) in
+    let found : list_any (eq form) forms ≡ true =
+    list_any_at (eq form) forms i UnitForm (slice_get_within forms i form at) (subst (λ f. eq form f ≡ true) (sym (get_or_from_slice_get forms i form UnitForm at)) (own form)) in
     absurd (cc)
 
 pub with_form : (eq : TyForm → TyForm → Bool) → ((f : TyForm) → eq f f ≡ true) → (forms : List TyForm) (form : TyForm) → IsWithForm forms form (insert_key eq forms form)
@@ -199,7 +230,8 @@ pub grows_either : (old new : List TyForm) (form : TyForm) → IsWithForm old fo
 grows_either old new form (inl e) = let same : length (types_of_forms old) ≡ length (types_of_forms new) = ap (λ l. length (types_of_forms l)) (sym e) in omega (arith, same)
 grows_either old new form (inr e) =
     let more : length (types_of_forms new) ≡ length (types_of_forms old ++ type_of_form (types_of_forms old) form ∷ []) = ap length (ap types_of_forms e.0 ∙ types_push old form) in
-    let one : length (types_of_forms old ++ type_of_form (types_of_forms old) form ∷ []) ≡ length (types_of_forms old) + 1 = length-append (types_of_forms old) (type_of_form (types_of_forms old) form ∷ []) in
+    let one : length (types_of_forms old ++ type_of_form (types_of_forms old) form ∷ []) ≡ length (types_of_forms old) + 1 =
+    length-append (types_of_forms old) (type_of_form (types_of_forms old) form ∷ []) in
     omega (arith, more, one)
 
 -- it says yes of no other
@@ -213,7 +245,7 @@ same_form (PairForm p p') (PairForm q q') e =
     ap (λ n. PairForm (record { 0 = n }) p') (eqb-true p.0 q.0 (first_of _ _ e))
     ∙ ap (λ n. PairForm q (record { 0 = n })) (eqb-true p'.0 q'.0 (second_of (nat_eq p.0 q.0) _ e))
 same_form (NamedForm p) (NamedForm q) e = ap (λ n. NamedForm (record { 0 = n })) (eqb-true p.0 q.0 e)
-same_form f g e = absurd (cc)
+same_form f g e = absurd (no_truth e)
 
 -- the form at the first place where the test says yes
 placed_form : (forms : List TyForm) (form : TyForm) (place : ℕ) → position (eq-value.it form) forms ≡ Some place → slice_get forms place ≡ Some form

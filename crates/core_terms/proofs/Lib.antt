@@ -1,22 +1,32 @@
-pub mod TypeTables
-pub mod Roles
+-- Which functions the files serve. The law `spelling`:
 pub mod Numbers
 pub mod Fields
-pub mod Projection
 pub mod Spelled
 pub mod ReadOnly
-pub mod TypingSound
-pub mod TypingComplete
+-- the law `projection`
+pub mod Projection
 pub mod ReadBack
 pub mod Plain
-pub mod TypePushing
-pub mod Shapes
-pub mod LawProofs
-pub mod CodePrograms
+-- the law `typing`: types, then shapes of roles
+pub mod TypingSound
+pub mod TypingComplete
 pub mod Reach
+pub mod Shapes
+-- the four laws, from these
+pub mod LawProofs
+-- what other crates know of every program
+pub mod CodePrograms
+-- language::types: the table of types
 pub mod LanguageTypeTables
 pub mod LanguageTypePushing
-pub mod LanguageRoles
+-- language::marks
 pub mod AuthLevels
+-- language::roles, and Program's role
+pub mod Roles
+pub mod LanguageRoles
+-- Program's new and roles, then its constructor
 pub mod RoleShapes
 pub mod LanguageConstructors
+-- the fragment's table of types
+pub mod TypeTables
+pub mod TypePushing

@@ -42,7 +42,8 @@ module _ (digest : Ty → List ℕ → List ℕ) (types : Table) where
     own (NamedTy number) (ConV tag vs) p h = ap (λ vs. ConV tag vs) (owns (fields_at types number tag) vs (λ ts at n. fields_none types n tag (slice_get types number) ts (p (suc n)) at) h)
     own t v p h = elim h [ ]
 
-    owns : (o : Option (List Ty)) (vs : Values) → ((ts : List Ty) → o ≡ Some ts → ArePlain types ts) → OnFields o (λ ts. AreIdeal types ts vs) → shallow_all digest types (unwrap_or o []) vs ≡ vs
+    owns : (o : Option (List Ty)) (vs : Values) → ((ts : List Ty) → o ≡ Some ts → ArePlain types ts) → OnFields o (λ ts. AreIdeal types ts vs)
+        → shallow_all digest types (unwrap_or o []) vs ≡ vs
     owns (Some []) NoV p h = refl
     owns (Some (t ∷ ts)) (AndV v vs) p h =
         ap₂ AndV (own t v (λ n. first_no (has_auth_within types n t) _ (p (t ∷ ts) refl n)) h.0)

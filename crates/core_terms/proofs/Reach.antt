@@ -128,7 +128,8 @@ module _ (types : Table) where
       before : found_of (suc n) m ≡ found_of n m
       before = omega (arith, e, one_more _ _ (found_later n (NamedTy m)), found_grows n m)
 
-      by : (b : Bool) → nat_eq i m ≡ b → (i < m → has_auth_within types (suc n) (NamedTy i) ≡ has_auth_within types n (NamedTy i)) → has_auth_within types (suc n) (NamedTy i) ≡ has_auth_within types n (NamedTy i)
+      by : (b : Bool) → nat_eq i m ≡ b → (i < m → has_auth_within types (suc n) (NamedTy i) ≡ has_auth_within types n (NamedTy i))
+          → has_auth_within types (suc n) (NamedTy i) ≡ has_auth_within types n (NamedTy i)
       by true q earlier = subst (λ j. has_auth_within types (suc n) (NamedTy j) ≡ has_auth_within types n (NamedTy j)) (sym (eqb-true i m q)) (one_same _ _ now)
       by false q earlier = earlier (grind (arith, h, eqb-false i m q))
 
@@ -149,7 +150,8 @@ module _ (types : Table) where
   climbs zero = inr (omega arith)
   climbs (suc n) = by (climbs n) (stable_or_more n)
     where
-      by : IsStable n ⊎ (n ≤ found_of n (length types)) → IsStable n ⊎ (suc (found_of n (length types)) ≤ found_of (suc n) (length types)) → IsStable (suc n) ⊎ (suc n ≤ found_of (suc n) (length types))
+      by : IsStable n ⊎ (n ≤ found_of n (length types)) → IsStable n ⊎ (suc (found_of n (length types)) ≤ found_of (suc n) (length types))
+          → IsStable (suc n) ⊎ (suc n ≤ found_of (suc n) (length types))
       by (inl s) o = inl (stable_later n s)
       by (inr h) (inl s) = inl (stable_later n s)
       by (inr h) (inr o) = inr (omega (arith, h, o))
@@ -158,7 +160,8 @@ module _ (types : Table) where
   stable_at_length : IsStable (length types)
   stable_at_length = by (climbs (length types)) (stable_or_more (length types))
     where
-      by : IsStable (length types) ⊎ (length types ≤ found_of (length types) (length types)) → IsStable (length types) ⊎ (suc (found_of (length types) (length types)) ≤ found_of (suc (length types)) (length types)) → IsStable (length types)
+      by : IsStable (length types) ⊎ (length types ≤ found_of (length types) (length types))
+          → IsStable (length types) ⊎ (suc (found_of (length types) (length types)) ≤ found_of (suc (length types)) (length types)) → IsStable (length types)
       by (inl s) o = s
       by (inr h) (inl s) = s
       by (inr h) (inr o) = absurd (omega (arith, h, o, found_at_most (suc (length types)) (length types)))

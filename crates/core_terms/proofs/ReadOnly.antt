@@ -39,7 +39,8 @@ pub be_low_2 : (bs : List ℕ) → ((i : ℕ) → get_or bs i 0 < 256) → from_
 be_low_2 bs h = omega (arith, h 0, h 1)
 
 -- what went before a good reading
-then_good : {A B : Type 0} (r : Read A) (go : A → List ℕ → ℕ → Read B) (v : B) (rest : List ℕ) (q : ℕ) → then_read r go ≡ Good v rest q → (u : A) × (mid : List ℕ) × (m : ℕ) × (r ≡ Good u mid m) × (go u mid m ≡ Good v rest q)
+then_good : {A B : Type 0} (r : Read A) (go : A → List ℕ → ℕ → Read B) (v : B) (rest : List ℕ) (q : ℕ) → then_read r go ≡ Good v rest q
+    → (u : A) × (mid : List ℕ) × (m : ℕ) × (r ≡ Good u mid m) × (go u mid m ≡ Good v rest q)
 then_good (Good u mid m) go v rest q e = (u, mid, m, refl, e)
 then_good (BadAt o) go v rest q e = absurd (cc)
 
@@ -48,7 +49,8 @@ if_good true r p v rest q e = (refl, e)
 if_good false r p v rest q e = absurd (cc)
 
 -- n bytes as they stand
-front_good : (n : ℕ) (make : List ℕ → Value) (bytes : List ℕ) (p : ℕ) (v : Value) (rest : List ℕ) (q : ℕ) → read_bytes n make bytes p ≡ Good v rest q → (front : List ℕ) × (bytes ≡ front ++ rest) × (length front ≡ n) × (v ≡ make front) × (front ≡ take n bytes) × (rest ≡ drop n bytes)
+front_good : (n : ℕ) (make : List ℕ → Value) (bytes : List ℕ) (p : ℕ) (v : Value) (rest : List ℕ) (q : ℕ) → read_bytes n make bytes p ≡ Good v rest q
+    → (front : List ℕ) × (bytes ≡ front ++ rest) × (length front ≡ n) × (v ≡ make front) × (front ≡ take n bytes) × (rest ≡ drop n bytes)
 front_good n make bytes p v rest q e =
     let r = if_good (nat_le n (length bytes)) _ p v rest q e in
     let fits : n ≤ length bytes = leb-true n (length bytes) r.0 in
@@ -70,12 +72,14 @@ record OnlyEach (types : Table) (n : ℕ) (ts : List Ty) (bytes : List ℕ) (vs 
   after : AreBytes rest
 
 module _ (types : Table) where
-  only_int : (n : ℕ) (bytes : List ℕ) (p : ℕ) (s : Value) (rest : List ℕ) (q : ℕ) → AreBytes bytes → read_bytes 8 (λ bs. IntV (cast_signed w64 (from_be_bytes w64 bs))) bytes p ≡ Good s rest q → Only types (suc n) IntTy bytes s rest
+  only_int : (n : ℕ) (bytes : List ℕ) (p : ℕ) (s : Value) (rest : List ℕ) (q : ℕ) → AreBytes bytes
+      → read_bytes 8 (λ bs. IntV (cast_signed w64 (from_be_bytes w64 bs))) bytes p ≡ Good s rest q → Only types (suc n) IntTy bytes s rest
   only_int n bytes p s rest q h e =
       let r = front_good 8 (λ bs. IntV (cast_signed w64 (from_be_bytes w64 bs))) bytes p s rest q e in
       let fh : AreBytes r.0 = subst AreBytes (sym r.4) (bytes_take 8 bytes h) in
       let low = be_low_8 r.0 (byte_at r.0 fh) in
-      let spelled : to_be_bytes w64 (cast_unsigned w64 (cast_signed w64 (from_be_bytes w64 r.0))) ≡ r.0 = ap (to_be_bytes w64) (of_z-to_z w64 (from_be_bytes w64 r.0) low) ∙ be_bytes_8 r.0 (from_be_bytes w64 r.0) r.2 (byte_at r.0 fh) refl in
+      let spelled : to_be_bytes w64 (cast_unsigned w64 (cast_signed w64 (from_be_bytes w64 r.0))) ≡ r.0 =
+      ap (to_be_bytes w64) (of_z-to_z w64 (from_be_bytes w64 r.0) low) ∙ be_bytes_8 r.0 (from_be_bytes w64 r.0) r.2 (byte_at r.0 fh) refl in
       let signed : FitsSigned w64 (cast_signed w64 (from_be_bytes w64 r.0)) = sfits_to_z (record { fits = low }) in
       let fits : int_fits (cast_signed w64 (from_be_bytes w64 r.0)) ≡ true = of_mag (cast_signed w64 (from_be_bytes w64 r.0)) (signed.sfits) in
       subst (λ s. Only types (suc n) IntTy bytes s rest) (sym r.3)
@@ -92,7 +96,9 @@ module _ (types : Table) where
       let spelled : to_be_bytes w32 (length text) ≡ take 4 bytes = ap (to_be_bytes w32) long ∙ be_bytes_4 (take 4 bytes) len four (byte_at (take 4 bytes) (bytes_take 4 bytes h)) refl in
       let same : TextV text ≡ s = cc (u.1) in
       let left : drop len (drop 4 bytes) ≡ rest = cc (u.1) in
-      let whole_is : bytes ≡ (to_be_bytes w32 (length text) ++ text) ++ rest = sym (take-append-drop 4 bytes) ∙ ap₂ (λ a b. a ++ b) (sym spelled) (sym (take-append-drop len (drop 4 bytes)) ∙ ap (λ l. text ++ l) left) ∙ sym (append_assoc (to_be_bytes w32 (length text)) text rest) in
+      let whole_is : bytes ≡ (to_be_bytes w32 (length text) ++ text) ++ rest =
+      sym (take-append-drop 4 bytes) ∙ ap₂ (λ a b. a ++ b) (sym spelled) (sym (take-append-drop len (drop 4 bytes)) ∙ ap (λ l. text ++ l) left)
+      ∙ sym (append_assoc (to_be_bytes w32 (length text)) text rest) in
       subst (λ s. Only types (suc n) TextTy bytes s rest) same
       (record { shape = IsUtf8-from_is_utf8 text u.0; is = whole_is; deep = omega arith; after = subst AreBytes left (bytes_drop len (drop 4 bytes) (bytes_drop 4 bytes h)) })
     where
@@ -111,16 +117,19 @@ module _ (types : Table) where
   only_bool n (suc zero ∷ bytes) p s rest q h e =
       let same : BoolV true ≡ s = cc in
       let left : bytes ≡ rest = cc in
-      subst (λ s. Only types (suc n) BoolTy (suc zero ∷ bytes) s rest) same (record { shape = tt; is = ap (λ l. suc zero ∷ l) left; deep = omega arith; after = subst AreBytes left h.1 })
+      subst (λ s. Only types (suc n) BoolTy (suc zero ∷ bytes) s rest) same
+      (record { shape = tt; is = ap (λ l. suc zero ∷ l) left; deep = omega arith; after = subst AreBytes left h.1 })
   only_bool n (suc (suc b) ∷ bytes) p s rest q h e = absurd (cc)
 
-  only_digest : (n : ℕ) (t : Ty) (bytes : List ℕ) (p : ℕ) (s : Value) (rest : List ℕ) (q : ℕ) → AreBytes bytes → read_bytes 32 DigestV bytes p ≡ Good s rest q → Only types (suc n) (AuthTy t) bytes s rest
+  only_digest : (n : ℕ) (t : Ty) (bytes : List ℕ) (p : ℕ) (s : Value) (rest : List ℕ) (q : ℕ) → AreBytes bytes → read_bytes 32 DigestV bytes p ≡ Good s rest q
+      → Only types (suc n) (AuthTy t) bytes s rest
   only_digest n t bytes p s rest q h e =
       let r = front_good 32 DigestV bytes p s rest q e in
       subst (λ s. Only types (suc n) (AuthTy t) bytes s rest) (sym r.3) (record { shape = r.2; is = r.1; deep = omega arith; after = subst AreBytes (sym r.5) (bytes_drop 32 bytes h) })
 
   only_each : (n : ℕ) → ((t : Ty) (bytes : List ℕ) (p : ℕ) (s : Value) (rest : List ℕ) (q : ℕ) → AreBytes bytes → read_value types n t bytes p ≡ Good s rest q → Only types n t bytes s rest)
-      → (ts : List Ty) (bytes : List ℕ) (p : ℕ) (vs : Values) (rest : List ℕ) (q : ℕ) → AreBytes bytes → read_each (read_value types n) ts bytes p ≡ Good vs rest q → OnlyEach types n ts bytes vs rest
+      → (ts : List Ty) (bytes : List ℕ) (p : ℕ) (vs : Values) (rest : List ℕ) (q : ℕ) → AreBytes bytes
+      → read_each (read_value types n) ts bytes p ≡ Good vs rest q → OnlyEach types n ts bytes vs rest
   only_each n one [] bytes p vs rest q h e =
       let same : NoV ≡ vs = cc in
       let left : bytes ≡ rest = cc in
@@ -135,12 +144,15 @@ module _ (types : Table) where
       subst (λ vs. OnlyEach types n (t ∷ ts) bytes vs rest) same
       (record { shape = (v.shape, w.shape); is = v.is ∙ ap (λ b. spelling r.0 ++ b) (w.is ∙ ap (λ b. spellings l.0 ++ b) left) ∙ sym (append_assoc (spelling r.0) (spellings l.0) rest); deep = omega (arith, v.deep, w.deep); after = subst AreBytes left w.after })
 
-  only_con : (n number : ℕ) → ((t : Ty) (bytes : List ℕ) (p : ℕ) (s : Value) (rest : List ℕ) (q : ℕ) → AreBytes bytes → read_value types n t bytes p ≡ Good s rest q → Only types n t bytes s rest)
-      → (bytes : List ℕ) (p : ℕ) (s : Value) (rest : List ℕ) (q : ℕ) → AreBytes bytes → read_con types (read_value types n) number bytes p ≡ Good s rest q → Only types (suc n) (NamedTy number) bytes s rest
+  only_con : (n number : ℕ)
+      → ((t : Ty) (bytes : List ℕ) (p : ℕ) (s : Value) (rest : List ℕ) (q : ℕ) → AreBytes bytes → read_value types n t bytes p ≡ Good s rest q → Only types n t bytes s rest)
+      → (bytes : List ℕ) (p : ℕ) (s : Value) (rest : List ℕ) (q : ℕ) → AreBytes bytes → read_con types (read_value types n) number bytes p ≡ Good s rest q
+      → Only types (suc n) (NamedTy number) bytes s rest
   only_con n number one [] p s rest q h e = absurd (cc)
   only_con n number one (tag ∷ bytes) p s rest q h e = by (fields_at types number tag) refl e
     where
-      by : (o : Option (List Ty)) → fields_at types number tag ≡ o → read_fields types (read_value types n) tag p o bytes (p + 1) ≡ Good s rest q → Only types (suc n) (NamedTy number) (tag ∷ bytes) s rest
+      by : (o : Option (List Ty)) → fields_at types number tag ≡ o → read_fields types (read_value types n) tag p o bytes (p + 1) ≡ Good s rest q
+          → Only types (suc n) (NamedTy number) (tag ∷ bytes) s rest
       by None f e = absurd (cc)
       by (Some ts) f e =
           let r = then_good (read_each (read_value types n) ts bytes (p + 1)) _ s rest q e in

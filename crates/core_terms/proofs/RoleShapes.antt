@@ -33,7 +33,8 @@ one_shape P e f g at n =
     let same : r.2.function ≡ g = cc (r.2.there, at) in
     let parameters : g.parameters ≡ role_parameters g.kind P.state r.0 = sym (ap (λ (g : tree.Function). g.parameters) same) ∙ r.2.parameters in
     let result : g.result ≡ role_result g.kind P.state r.1 = sym (ap (λ (g : tree.Function). g.result) same) ∙ r.2.result in
-    let argument : r.0 ≡ slice_index_or g.parameters (argument_place g.kind) UnitTy = sym (ap (λ ts. slice_index_or ts (argument_place g.kind) UnitTy) parameters ∙ at_its_place g.kind P.state r.0 n) in
+    let argument : r.0 ≡ slice_index_or g.parameters (argument_place g.kind) UnitTy =
+    sym (ap (λ ts. slice_index_or ts (argument_place g.kind) UnitTy) parameters ∙ at_its_place g.kind P.state r.0 n) in
     (r.1, subst (λ (t : Ty). IsRole P f g.kind t r.1) argument r.2, result)
 
 -- so have those among functions of the program
@@ -61,7 +62,8 @@ role_shapes P e = shapes_among P e 0 P.functions (λ i g at. ap (slice_get P.fun
 pub arguments_there : (P : Program) (types : List Ty) (functions : List Function) → P.functions ≡ map (function_of types) functions → is_shaped P ≡ true → HaveArguments functions
 arguments_there P types functions same e i f at n =
     let g = function_of types f in
-    let there : slice_get P.functions i ≡ Some g = ap (λ (gs : List tree.Function). slice_get gs i) same ∙ slice_get-map (function_of types) functions i ∙ ap (option_map (function_of types)) at in
+    let there : slice_get P.functions i ≡ Some g =
+    ap (λ (gs : List tree.Function). slice_get gs i) same ∙ slice_get-map (function_of types) functions i ∙ ap (option_map (function_of types)) at in
     let r = roles_sound P e i g there n in
     let own : r.2.function ≡ g = cc (r.2.there, there) in
     let parameters : g.parameters ≡ role_parameters g.kind P.state r.0 = sym (ap (λ (g : tree.Function). g.parameters) own) ∙ r.2.parameters in

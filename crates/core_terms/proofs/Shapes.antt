@@ -45,8 +45,10 @@ module _ (P : Program) where
   shape_sound kind ts r n e = absurd (cc)
 
   -- and the other way round
-  shape_complete : (kind : Kind) (parameters : List Ty) (result a answer : Ty) → parameters ≡ role_parameters kind P.state a → result ≡ role_result kind P.state answer → IsPlain P.types a → shape_test P kind parameters result ≡ true
-  shape_complete kind ts r a answer p q plain = subst (λ ts. shape_test P kind ts r ≡ true) (sym p) (subst (λ r. shape_test P kind (role_parameters kind P.state a) r ≡ true) (sym q) (at kind))
+  shape_complete : (kind : Kind) (parameters : List Ty) (result a answer : Ty) → parameters ≡ role_parameters kind P.state a
+      → result ≡ role_result kind P.state answer → IsPlain P.types a → shape_test P kind parameters result ≡ true
+  shape_complete kind ts r a answer p q plain =
+      subst (λ ts. shape_test P kind ts r ≡ true) (sym p) (subst (λ r. shape_test P kind (role_parameters kind P.state a) r ≡ true) (sym q) (at kind))
     where
       bare : not (has_auth P.types a) ≡ true
       bare = not_false _ (plain _)
@@ -68,7 +70,8 @@ module _ (P : Program) where
   all_complete (g ∷ gs) h = both _ _ (h 0 g refl) (all_complete gs (λ f. h (suc f)))
 
   -- each function that is entered has the shape of its role, where the test says yes
-  pub roles_sound : is_shaped P ≡ true → (f : ℕ) (g : Function) → slice_get P.functions f ≡ Some g → is_entered g.kind ≡ true → (argument : Ty) × (answer : Ty) × IsRole P f g.kind argument answer
+  pub roles_sound : is_shaped P ≡ true → (f : ℕ) (g : Function) → slice_get P.functions f ≡ Some g → is_entered g.kind ≡ true
+      → (argument : Ty) × (answer : Ty) × IsRole P f g.kind argument answer
   roles_sound e f g at n =
       let h = shape_sound g.kind g.parameters g.result n (all_sound P.functions e f g at) in
       (h.argument, h.answer, record { function = g; there = at; entered = n; of_kind = refl; parameters = h.parameters_are; result = h.result_is; plain = h.plain })

@@ -19,23 +19,29 @@ read_front : (make : List ℕ → Value) (xs rest : List ℕ) (n p : ℕ) → le
 read_front make xs rest n p e =
     let F : ℕ → Type 0 = λ n. read_bytes n make (xs ++ rest) p ≡ Good (make xs) rest (p + n) in
     let fits : length xs ≤ length (xs ++ rest) = omega (arith, length-append xs rest) in
-    let at : F (length xs) = ap (λ b. if b then Good (make (take (length xs) (xs ++ rest))) (drop (length xs) (xs ++ rest)) (p + length xs) else BadAt p) (le-leb (length xs) (length (xs ++ rest)) fits) ∙ ap₂ (λ ys zs. Good (make ys) zs (p + length xs)) (take-append_seam xs rest) (drop-append_seam xs rest) in
+    let at : F (length xs) =
+    ap (λ b. if b then Good (make (take (length xs) (xs ++ rest))) (drop (length xs) (xs ++ rest)) (p + length xs) else BadAt p)
+    (le-leb (length xs) (length (xs ++ rest)) fits) ∙ ap₂ (λ ys zs. Good (make ys) zs (p + length xs)) (take-append_seam xs rest) (drop-append_seam xs rest) in
     subst F e at
 
 -- a text with its length is read back
-read_text_back : (bytes rest : List ℕ) (p : ℕ) → IsUtf8 bytes → length bytes < 2 ^ 32 → read_text ((to_be_bytes w32 (length bytes) ++ bytes) ++ rest) p ≡ Good (TextV bytes) rest (p + (4 + length bytes))
+read_text_back : (bytes rest : List ℕ) (p : ℕ) → IsUtf8 bytes → length bytes < 2 ^ 32
+    → read_text ((to_be_bytes w32 (length bytes) ++ bytes) ++ rest) p ≡ Good (TextV bytes) rest (p + (4 + length bytes))
 read_text_back bytes rest p u h =
     let F : ℕ → Type 0 = λ n. body n ≡ Good (TextV bytes) rest (p + (4 + length bytes)) in
     subst F (sym (from_be_bytes-to_be_bytes_4 (length bytes) h)) at
   where
     body : ℕ → Read Value
-    body n = if nat_le (4 + n) (length ((to_be_bytes w32 (length bytes) ++ bytes) ++ rest)) then (if is_utf8 (take n (bytes ++ rest)) then Good (TextV (take n (bytes ++ rest))) (drop n (bytes ++ rest)) (p + (4 + n)) else BadAt p) else BadAt p
+    body n =
+        if nat_le (4 + n) (length ((to_be_bytes w32 (length bytes) ++ bytes) ++ rest)) then
+        (if is_utf8 (take n (bytes ++ rest)) then Good (TextV (take n (bytes ++ rest))) (drop n (bytes ++ rest)) (p + (4 + n)) else BadAt p) else BadAt p
 
     fits : 4 + length bytes ≤ length ((to_be_bytes w32 (length bytes) ++ bytes) ++ rest)
     fits = omega (arith, length-append bytes rest)
 
     at : body (length bytes) ≡ Good (TextV bytes) rest (p + (4 + length bytes))
-    at = ap (λ b. if b then (if is_utf8 (take (length bytes) (bytes ++ rest)) then Good (TextV (take (length bytes) (bytes ++ rest))) (drop (length bytes) (bytes ++ rest)) (p + (4 + length bytes)) else BadAt p) else BadAt p) (le-leb _ _ fits)
+    at =
+        ap (λ b. if b then (if is_utf8 (take (length bytes) (bytes ++ rest)) then Good (TextV (take (length bytes) (bytes ++ rest))) (drop (length bytes) (bytes ++ rest)) (p + (4 + length bytes)) else BadAt p) else BadAt p) (le-leb _ _ fits)
         ∙ ap₂ (λ xs ys. if is_utf8 xs then Good (TextV xs) ys (p + (4 + length bytes)) else BadAt p) (take-append_seam bytes rest) (drop-append_seam bytes rest)
         ∙ ap (λ b. if b then Good (TextV bytes) rest (p + (4 + length bytes)) else BadAt p) (is_utf8-from_IsUtf8 bytes u)
 
@@ -82,7 +88,8 @@ module _ (types : Table) where
       ⊎ ((n < depths types ts vs) × ((o : ℕ) × (read_each (read_value types n) ts (spellings vs ++ rest) p ≡ BadAt o)))
 
   -- the two parts of a pair, one after the other
-  reads_pair : (n : ℕ) (a b : Ty) (x y : Value) (rest : List ℕ) (p : ℕ) → ReadsAt n a x (spelling y ++ rest) p → ((q : ℕ) → ReadsAt n b y rest q) → ReadsAt (suc n) (PairTy a b) (PairV x y) rest p
+  reads_pair : (n : ℕ) (a b : Ty) (x y : Value) (rest : List ℕ) (p : ℕ) → ReadsAt n a x (spelling y ++ rest) p → ((q : ℕ) → ReadsAt n b y rest q)
+      → ReadsAt (suc n) (PairTy a b) (PairV x y) rest p
   reads_pair n a b x y rest p (inr h) hy =
       inr (omega (arith, h.0), (h.1.0, ap (λ bs. read_value types (suc n) (PairTy a b) bs p) (append_assoc (spelling x) (spelling y) rest) ∙ ap (λ r. then_read r (λ u bytes place. then_read (read_value types n b bytes place) (λ v bytes place. Good (PairV u v) bytes place))) h.1.1))
   reads_pair n a b x y rest p (inl h) hy = by (hy h.1.0)
@@ -99,7 +106,8 @@ module _ (types : Table) where
 
   module _ (limit : ℕ) (limit_fits : limit < 2 ^ 32) where
     -- fields, one after another
-    reads_each : (n : ℕ) → ((t : Ty) (v : Value) (rest : List ℕ) (p : ℕ) → IsShallow types t v → size types t v ≤ limit → ReadsAt n t v rest p) → (ts : List Ty) (vs : Values) (rest : List ℕ) (p : ℕ) → AreShallow types ts vs → sizes types ts vs ≤ limit → ReadsEach n ts vs rest p
+    reads_each : (n : ℕ) → ((t : Ty) (v : Value) (rest : List ℕ) (p : ℕ) → IsShallow types t v → size types t v ≤ limit → ReadsAt n t v rest p)
+        → (ts : List Ty) (vs : Values) (rest : List ℕ) (p : ℕ) → AreShallow types ts vs → sizes types ts vs ≤ limit → ReadsEach n ts vs rest p
     reads_each n one [] NoV rest p h s = inl (omega arith, (p, refl))
     reads_each n one (t ∷ ts) NoV rest p h s = elim h [ ]
     reads_each n one [] (AndV v vs) rest p h s = elim h [ ]
@@ -119,7 +127,8 @@ module _ (types : Table) where
             last (inr l) = inr (omega (arith, l.0), (l.1.0, flat ∙ ap (λ r. then_read r go) j.1.1 ∙ ap (λ r. then_read r (λ vs bytes place. Good (AndV v vs) bytes place)) l.1.1))
             last (inl l) = inl (omega (arith, j.0, l.0), (l.1.0, flat ∙ ap (λ r. then_read r go) j.1.1 ∙ ap (λ r. then_read r (λ vs bytes place. Good (AndV v vs) bytes place)) l.1.1))
 
-    reads_con : (n number tag : ℕ) (ts : List Ty) (vs : Values) (rest : List ℕ) (p : ℕ) → fields_at types number tag ≡ Some ts → ReadsEach n ts vs rest (p + 1) → ReadsAt (suc n) (NamedTy number) (ConV tag vs) rest p
+    reads_con : (n number tag : ℕ) (ts : List Ty) (vs : Values) (rest : List ℕ) (p : ℕ) → fields_at types number tag ≡ Some ts → ReadsEach n ts vs rest (p + 1)
+        → ReadsAt (suc n) (NamedTy number) (ConV tag vs) rest p
     reads_con n number tag ts vs rest p e h = subst G (sym e) (by h)
       where
         -- the goal, where the constructor's field types are o

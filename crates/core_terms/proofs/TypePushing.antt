@@ -14,7 +14,8 @@ use Rattle.core_terms.proofs.TypeTables.{length-types_behind, form_means}
 use Rattle.core_terms.proofs.TypingSound.{first_of, second_of}
 use Rattle.core_terms.proofs.TypingComplete.{both}
 
-types_behind-push : (before : List Ty) (forms : List TyForm) (form : TyForm) → types_behind before (forms ++ form ∷ []) ≡ types_behind before forms ++ type_of_form (types_behind before forms) form ∷ []
+types_behind-push : (before : List Ty) (forms : List TyForm) (form : TyForm)
+    → types_behind before (forms ++ form ∷ []) ≡ types_behind before forms ++ type_of_form (types_behind before forms) form ∷ []
 types_behind-push before [] form = refl
 types_behind-push before (f ∷ fs) form = types_behind-push (before ++ type_of_form before f ∷ []) fs form
 
@@ -52,7 +53,8 @@ stands_at n (f ∷ fs) (suc i) form h at =
     subst (λ m. stands_behind m form ≡ true) e (stands_at (n + 1) fs i form (second_of (stands_behind n f) _ h) at)
 
 -- two forms of one type are one, where types have one number
-one_form : (types : List Ty) → HasOneNumber types → (f g : TyForm) → stands_behind (length types) f ≡ true → stands_behind (length types) g ≡ true → type_of_form types f ≡ type_of_form types g → f ≡ g
+one_form : (types : List Ty) → HasOneNumber types → (f g : TyForm) → stands_behind (length types) f ≡ true → stands_behind (length types) g ≡ true
+    → type_of_form types f ≡ type_of_form types g → f ≡ g
 one_form types one UnitForm UnitForm s t e = refl
 one_form types one UnitForm BoolForm s t e = absurd (cc)
 one_form types one UnitForm IntForm s t e = absurd (cc)
@@ -83,7 +85,8 @@ one_form types one (AuthForm p) (AuthForm q) s t e =
     ap (λ n. AuthForm (record { 0 = n })) same
 
 -- the number of a form that is there is that of its type
-pub type_there : (forms : List TyForm) (i : ℕ) (form : TyForm) → is_in_order 0 forms ≡ true → slice_get forms i ≡ Some form → slice_get (types_of_forms forms) i ≡ Some (type_of_form (types_of_forms forms) form)
+pub type_there : (forms : List TyForm) (i : ℕ) (form : TyForm) → is_in_order 0 forms ≡ true → slice_get forms i ≡ Some form
+    → slice_get (types_of_forms forms) i ≡ Some (type_of_form (types_of_forms forms) form)
 type_there forms i form h at =
     let inside : i < length (types_of_forms forms) = rw (length-types forms) (slice_get_within forms i form at) in
     let means = form_means forms i h in
@@ -113,17 +116,22 @@ one_number_push forms form h one s new = subst HasOneNumber (sym (types_push for
     differs : (i : ℕ) → i < length (types_of_forms forms) → slice_index_or (types_of_forms forms) i UnitTy ≢ type_of_form (types_of_forms forms) form
     differs i inside e =
         let there : slice_get forms i ≡ Some (slice_index_or forms i UnitForm) = slice_get-get_or forms i UnitForm (rw (← length-types forms) inside) in
-        let behind : stands_behind (length (types_of_forms forms)) (slice_index_or forms i UnitForm) ≡ true = stands_later (0 + i) (length (types_of_forms forms)) (slice_index_or forms i UnitForm) (omega (arith, inside)) (stands_at 0 forms i (slice_index_or forms i UnitForm) h there) in
+        let behind : stands_behind (length (types_of_forms forms)) (slice_index_or forms i UnitForm) ≡ true =
+        stands_later (0 + i) (length (types_of_forms forms)) (slice_index_or forms i UnitForm) (omega (arith, inside)) (stands_at 0 forms i (slice_index_or forms i UnitForm) h there) in
         new i (there ∙ ap Some (one_form (types_of_forms forms) one (slice_index_or forms i UnitForm) form behind s (form_means forms i h ∙ e)))
 
-    front : (i : ℕ) → i < length (types_of_forms forms) → slice_index_or (types_of_forms forms ++ type_of_form (types_of_forms forms) form ∷ []) i UnitTy ≡ slice_index_or (types_of_forms forms) i UnitTy
+    front : (i : ℕ) → i < length (types_of_forms forms)
+        → slice_index_or (types_of_forms forms ++ type_of_form (types_of_forms forms) form ∷ []) i UnitTy ≡ slice_index_or (types_of_forms forms) i UnitTy
     front i inside = get_or-append (types_of_forms forms) (type_of_form (types_of_forms forms) form ∷ []) UnitTy i inside
 
     last : (i : ℕ) → i < length (types_of_forms forms ++ type_of_form (types_of_forms forms) form ∷ []) → nat_lt i (length (types_of_forms forms)) ≡ false → i ≡ length (types_of_forms forms)
     last i inside q = omega (arith, inside, ltb-false i (length (types_of_forms forms)) q, length-append (types_of_forms forms) (type_of_form (types_of_forms forms) form ∷ []))
 
-    at_last : (i : ℕ) → i ≡ length (types_of_forms forms) → slice_index_or (types_of_forms forms ++ type_of_form (types_of_forms forms) form ∷ []) i UnitTy ≡ type_of_form (types_of_forms forms) form
-    at_last i e = ap (λ i. slice_index_or (types_of_forms forms ++ type_of_form (types_of_forms forms) form ∷ []) i UnitTy) e ∙ get_or-append_seam (types_of_forms forms) (type_of_form (types_of_forms forms) form) [] UnitTy
+    at_last : (i : ℕ) → i ≡ length (types_of_forms forms)
+        → slice_index_or (types_of_forms forms ++ type_of_form (types_of_forms forms) form ∷ []) i UnitTy ≡ type_of_form (types_of_forms forms) form
+    at_last i e =
+        ap (λ i. slice_index_or (types_of_forms forms ++ type_of_form (types_of_forms forms) form ∷ []) i UnitTy) e
+        ∙ get_or-append_seam (types_of_forms forms) (type_of_form (types_of_forms forms) form) [] UnitTy
 
     pushed : HasOneNumber (types_of_forms forms ++ type_of_form (types_of_forms forms) form ∷ [])
     pushed i j a b e = by (nat_lt i (length (types_of_forms forms))) refl (nat_lt j (length (types_of_forms forms))) refl
@@ -135,11 +143,13 @@ one_number_push forms form h one s new = subst HasOneNumber (sym (types_push for
         by false p false q = last i a p ∙ sym (last j b q)
 
 -- the same of a table to which a form was added or wasn't
-pub in_order_either : (old new : List TyForm) (form : TyForm) → (new ≡ old) ⊎ (new ≡ old ++ form ∷ []) → is_in_order 0 old ≡ true → stands_behind (length (types_of_forms old)) form ≡ true → is_in_order 0 new ≡ true
+pub in_order_either : (old new : List TyForm) (form : TyForm) → (new ≡ old) ⊎ (new ≡ old ++ form ∷ []) → is_in_order 0 old ≡ true
+    → stands_behind (length (types_of_forms old)) form ≡ true → is_in_order 0 new ≡ true
 in_order_either old new form (inl e) h s = subst (λ l. is_in_order 0 l ≡ true) (sym e) h
 in_order_either old new form (inr e) h s = subst (λ l. is_in_order 0 l ≡ true) (sym e) (in_order_push old form h s)
 
-pub one_number_either : (old new : List TyForm) (form : TyForm) → (new ≡ old) ⊎ (new ≡ old ++ form ∷ []) → is_in_order 0 old ≡ true → HasOneNumber (types_of_forms old) → stands_behind (length (types_of_forms old)) form ≡ true
+pub one_number_either : (old new : List TyForm) (form : TyForm) → (new ≡ old) ⊎ (new ≡ old ++ form ∷ []) → is_in_order 0 old ≡ true
+    → HasOneNumber (types_of_forms old) → stands_behind (length (types_of_forms old)) form ≡ true
     → ((i : ℕ) → slice_get old i ≢ Some form) → HasOneNumber (types_of_forms new)
 one_number_either old new form (inl e) h one s absent = subst (λ l. HasOneNumber (types_of_forms l)) (sym e) one
 one_number_either old new form (inr e) h one s absent = subst (λ l. HasOneNumber (types_of_forms l)) (sym e) (one_number_push old form h one s absent)
@@ -149,5 +159,7 @@ pub parts_before : (forms : List TyForm) (i : ℕ) → is_in_order 0 forms ≡ t
 parts_before forms i h = by (nat_lt i (length forms)) refl
   where
     by : (b : Bool) → nat_lt i (length forms) ≡ b → stands_behind i (slice_index_or forms i UnitForm) ≡ true
-    by true e = subst (λ n. stands_behind n (slice_index_or forms i UnitForm) ≡ true) (zero-add i) (stands_at 0 forms i (slice_index_or forms i UnitForm) h (slice_get-get_or forms i UnitForm (ltb-true i (length forms) e)))
+    by true e =
+        subst (λ n. stands_behind n (slice_index_or forms i UnitForm) ≡ true) (zero-add i)
+        (stands_at 0 forms i (slice_index_or forms i UnitForm) h (slice_get-get_or forms i UnitForm (ltb-true i (length forms) e)))
     by false e = subst (λ f. stands_behind i f ≡ true) (sym (get_or_past forms i UnitForm (ltb-false i (length forms) e))) refl

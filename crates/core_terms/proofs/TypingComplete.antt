@@ -48,7 +48,8 @@ module _ (P : Program) where
     type_complete env (AuthE a x) t h = both _ _ (same_complete (AuthTy a) t h.0) (type_complete env x a h.1)
     type_complete env (UnauthE a x) t h = both _ _ (same_complete a t h.0) (type_complete env x (AuthTy a) h.1)
     type_complete env (ConE number tag xs) t h =
-        both _ _ (same_complete (NamedTy number) t h.0) (on_fields_complete (fields_at P.types number tag) (λ ts. have_types P env xs ts) (λ ts. HaveTypes P env xs ts) (λ ts h. types_complete env xs ts h) h.1)
+        both _ _ (same_complete (NamedTy number) t h.0)
+        (on_fields_complete (fields_at P.types number tag) (λ ts. have_types P env xs ts) (λ ts. HaveTypes P env xs ts) (λ ts h. types_complete env xs ts h) h.1)
     type_complete env (ArithE op x y) t h = both _ _ (same_complete IntTy t h.0) (both _ _ (type_complete env x IntTy h.1) (type_complete env y IntTy h.2))
     type_complete env (CompareE op x y) t h = both _ _ (same_complete BoolTy t h.0) (both _ _ (type_complete env x IntTy h.1) (type_complete env y IntTy h.2))
     type_complete env (TextCompareE op x y) t h = both _ _ (same_complete BoolTy t h.0) (both _ _ (type_complete env x TextTy h.1) (type_complete env y TextTy h.2))

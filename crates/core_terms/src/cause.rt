@@ -3,7 +3,7 @@
 use crate::Digest;
 
 /// Why a verifier rejects a proof. A piece goes by its place: pieces are numbered from 0, as they are asked for.
-#[derive(Clone, Copy, Debug, PartialEq, Eq)]
+#[derive(Clone, Copy, PartialEq)]
 pub enum Cause {
     /// The first 6 bytes of the proof aren't whole, don't begin with the format's magic, or ask for more pieces to be kept
     /// than the format allows.

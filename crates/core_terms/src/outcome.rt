@@ -1,7 +1,7 @@
 // How a run ends.
 
 /// Why a run ends without a value, by the program's own doing.
-#[derive(Clone, Copy, Debug, PartialEq, Eq)]
+#[derive(Clone, Copy)]
 pub enum Trap {
     /// An exact result is no int of 64 bits.
     Overflow,
@@ -14,7 +14,7 @@ pub enum Trap {
 }
 
 /// How a run ends.
-#[derive(Clone, Copy, Debug, PartialEq, Eq)]
+#[derive(Clone, Copy)]
 pub enum Outcome<V> {
     /// With a value.
     Done(V),

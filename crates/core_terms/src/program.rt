@@ -10,7 +10,7 @@ ghost use Rattle.core_terms.specs.Typing.{is_shaped, is_typed};
 use crate::{Digest, Function, Hash32, TyForm, TyId, TyTable};
 
 /// The number of a function in its program, in the order of declarations. A role goes by the number of its function.
-#[derive(Clone, Copy, Debug, PartialEq, Eq)]
+#[derive(Clone, Copy)]
 pub struct FunctionId(pub usize);
 
 /// A program: its types, the type of its state and its functions. It is well-typed, and its roles have their shapes.

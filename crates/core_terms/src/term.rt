@@ -83,7 +83,7 @@ impl Text {
 }
 
 /// The number of a local, the outermost being 0: parameters come first.
-#[derive(Clone, Copy, Debug, PartialEq, Eq)]
+#[derive(Clone, Copy)]
 pub struct LocalId(pub usize);
 
 /// An expression. Types stand where those of the parts don't follow.
@@ -103,7 +103,7 @@ pub enum Term {
 }
 
 /// How a function may be entered from outside: every function of the fragment is a role.
-#[derive(Clone, Copy, Debug, PartialEq, Eq)]
+#[derive(Clone, Copy)]
 pub enum Kind {
     /// Makes a state.
     Init,

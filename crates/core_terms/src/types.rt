@@ -7,11 +7,11 @@ ghost use Rattle.core_terms.specs.declared.types.TyForm.{TyForm};
 use std::alloc::{AllocError, Global};
 
 /// The number of a type in the table of its program. A number that isn't in the table stands for `unit`.
-#[derive(Clone, Copy, Debug, PartialEq, Eq, Hash)]
+#[derive(Clone, Copy, PartialEq, Eq, Hash)]
 pub struct TyId(pub usize);
 
 /// The form of a type, with the numbers of its parts.
-#[derive(Clone, Copy, Debug, PartialEq, Eq)]
+#[derive(Clone, Copy, PartialEq)]
 pub enum TyForm {
     UnitForm,
     BoolForm,

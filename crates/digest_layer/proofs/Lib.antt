@@ -1,1 +1,2 @@
+-- The lemmas that serve read_hex.
 pub mod ReadDigits

@@ -1,12 +1,55 @@
 -- Honest frames leave as bytes the new pieces that they leave as frames.
-use Rattle.std.proofs.Common.{◌≡◌, ℕ, zero, suc, ◌+◌, ◌<◌, ◌≤◌, ◌^◌, false, List, [], ◌∷◌, ◌++◌, length, take, drop, Option, Some, None, slice_get, nat_lt, if◌then◌else◌, refl, sym, ap₂, ◌∙◌, subst, arith, length-append, length-take, le-ltb}
-use Rattle.std.specs.Int.{w16, w32, to_be_bytes}
+use Rattle.std.proofs.Common.{◌≡◌, ℕ, zero, suc, ◌+◌, ◌<◌, ◌≤◌, ◌^◌, false, List, [], ◌∷◌, ◌++◌, length, take, drop, Option, Some, None, slice_get, nat_lt, if◌then◌else◌, refl, sym, ap, ap₂, ◌∙◌, subst, arith, length-append, length-take, length-drop, le-ltb, le_refl}
+use Rattle.std.specs.Int.{w16, w32, to_be_bytes, from_be_bytes}
 use Rattle.std.proofs.lemmas.Nat.{from_be_bytes-to_be_bytes_2, from_be_bytes-to_be_bytes_4}
 use Rattle.std.proofs.lemmas.Option.{slice_get_within}
 use Rattle.std.proofs.Math.Seq.{take-append_seam, drop-append_seam}
 use Rattle.ideal_meaning.specs.Frames.{place_of, frame_at, honest_frames, frame_bytes}
-use Rattle.ideal_meaning.specs.Following.{after_frames, after_new, after_used, after_use, after_within, after_bytes, NewPiecesAreReadBack}
+use Rattle.ideal_meaning.specs.Following.{after_frames, after_new, after_used, after_use, after_within, after_bytes, NewPieceBoundIsEnough, NewPiecesAreReadBack}
 use Rattle.ideal_meaning.proofs.FramesBack.{AllShort, place_found, all_short}
+
+-- What follows a frame is asked for on no more bytes than stand behind its kind.
+abbrev AreAlike : ℕ → (f g : List (List ℕ) → List ℕ → List (List ℕ)) → Type 0
+AreAlike most f g = (later : List (List ℕ)) (left : List ℕ) → length left ≤ most → f later left ≡ g later left
+
+new_alike : (limit : ℕ) (recent : List (List ℕ)) (rest : List ℕ) (f g : List (List ℕ) → List ℕ → List (List ℕ)) → AreAlike (length rest) f g
+    → after_new limit recent rest f ≡ after_new limit recent rest g
+new_alike limit recent rest f g h =
+    let len = from_be_bytes w32 (take 4 rest) in
+    let left = drop len (drop 4 rest) in
+    let fewer : length left ≤ length rest = omega (arith, length-drop len (drop 4 rest), length-drop 4 rest) in
+    ap (λ more. if nat_lt (length rest) 4 then recent
+    else (if nat_lt limit len then recent
+    else (if nat_lt (length rest) (4 + len) then recent else more))) (h (take len (drop 4 rest) ∷ recent) left fewer)
+
+used_alike : (o : Option (List ℕ)) (recent : List (List ℕ)) (left : List ℕ) (f g : List (List ℕ) → List ℕ → List (List ℕ)) → f recent left ≡ g recent left
+    → after_used o recent left f ≡ after_used o recent left g
+used_alike None recent left f g h = refl
+used_alike (Some bytes) recent left f g h = h
+
+use_alike : (n : ℕ) (recent : List (List ℕ)) (rest : List ℕ) (f g : List (List ℕ) → List ℕ → List (List ℕ)) → AreAlike (length rest) f g
+    → after_use n recent rest f ≡ after_use n recent rest g
+use_alike n recent rest f g h =
+    let k = from_be_bytes w16 (take 2 rest) in
+    let fewer : length (drop 2 rest) ≤ length rest = omega (arith, length-drop 2 rest) in
+    ap (λ used. if nat_lt (length rest) 2 then recent else used)
+    (used_alike (slice_get (take n recent) k) recent (drop 2 rest) f g (h recent (drop 2 rest) fewer))
+
+within_alike : (limit n a b : ℕ) (recent : List (List ℕ)) (bytes : List ℕ) → length bytes ≤ a → length bytes ≤ b → after_within limit a n recent bytes ≡ after_within limit b n recent bytes
+within_alike limit n zero zero recent bytes h j = refl
+within_alike limit n zero (suc b) recent [] h j = refl
+within_alike limit n zero (suc b) recent (x ∷ rest) h j = absurd (omega arith)
+within_alike limit n (suc a) zero recent [] h j = refl
+within_alike limit n (suc a) zero recent (x ∷ rest) h j = absurd (omega arith)
+within_alike limit n (suc a) (suc b) recent [] h j = refl
+within_alike limit n (suc a) (suc b) recent (zero ∷ rest) h j =
+    new_alike limit recent rest (after_within limit a n) (after_within limit b n) (λ later left l. within_alike limit n a b later left (omega (arith, l)) (omega (arith, l)))
+within_alike limit n (suc a) (suc b) recent (suc zero ∷ rest) h j =
+    use_alike n recent rest (after_within limit a n) (after_within limit b n) (λ later left l. within_alike limit n a b later left (omega (arith, l)) (omega (arith, l)))
+within_alike limit n (suc a) (suc b) recent (suc (suc x) ∷ rest) h j = refl
+
+pub new_piece_bound_is_enough : NewPieceBoundIsEnough
+new_piece_bound_is_enough limit most n recent bytes h = within_alike limit n most (length bytes) recent bytes h (le_refl (length bytes))
 
 -- a new frame and a used one are passed
 new_passed : (limit : ℕ) (p rest : List ℕ) (recent : List (List ℕ)) (more : List (List ℕ) → List ℕ → List (List ℕ)) → limit < 2 ^ 32 → length p ≤ limit

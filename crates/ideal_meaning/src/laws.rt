@@ -1,7 +1,7 @@
 //! Laws over the definitions alone, each the contract of a function that does nothing.
 
 ghost use Rattle.ideal_meaning.specs.Headline.{HeadlineOfFrames, Headline, Companion};
-ghost use Rattle.ideal_meaning.specs.Following.{CompanionOfFrames, NewPiecesAreReadBack, VerdictIsOnFrames};
+ghost use Rattle.ideal_meaning.specs.Following.{CompanionOfFrames, NewPieceBoundIsEnough, NewPiecesAreReadBack, VerdictIsOnFrames};
 ghost use Rattle.ideal_meaning.specs.Agreement.{Agreement};
 ghost use Rattle.ideal_meaning.specs.Laws.{BoundIsEnough, FrameBoundIsEnough, OneSplit, ProofFileIsReadBack};
 ghost use Rattle.ideal_meaning.specs.Ring.{RingOfProver, RingOfVerifier};
@@ -31,11 +31,13 @@ pub fn companion()
 /// Proofs that follow one another without headers, each over the new pieces of those before it.
 ///
 /// `verdict` says that a file is judged as its frames are, before which nothing came. `accepted` is the companion of frames
-/// alone, over whatever pieces came before; and `pieces` says that honest frames leave on both sides the same new pieces.
+/// alone, over whatever pieces came before; `pieces` says that honest frames leave on both sides the same new pieces, and
+/// `bound` that the bound on the number of frames ends none of them.
 pub fn following_proofs()
     ensures verdict { VerdictIsOnFrames }
     ensures accepted { CompanionOfFrames }
     ensures pieces { NewPiecesAreReadBack }
+    ensures bound { NewPieceBoundIsEnough }
 {}
 
 /// The relation behind both: called on ideal values and on their projections, with the same fuel and whatever pieces are

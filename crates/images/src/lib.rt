@@ -17,6 +17,3 @@ pub use fault::{ImageFault, SaveFault};
 pub use load::load_image;
 pub use plain_meaning::Plain;
 pub use save::save_image;
-
-#[cfg(test)]
-mod tests;

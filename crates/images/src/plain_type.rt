@@ -10,7 +10,7 @@ ghost use Rattle.images.specs.PlainTypes.{type_of, type_of_leaf};
 use core_terms::{Program, TyForm, TyId};
 
 /// A type without parts.
-#[derive(Clone, Copy, Debug, PartialEq, Eq)]
+#[derive(Clone, Copy, PartialEq)]
 pub(crate) enum LeafType {
     UnitLeaf,
     BoolLeaf,
@@ -19,7 +19,7 @@ pub(crate) enum LeafType {
 }
 
 /// A type of the fragment: `auth` so many times around a type without parts.
-#[derive(Clone, Copy, Debug, PartialEq, Eq)]
+#[derive(Clone, Copy, PartialEq)]
 pub(crate) struct PlainType {
     pub leaf: LeafType,
     pub layers: usize,

@@ -26,7 +26,7 @@ pub struct Front<'a> {
 }
 
 /// Why no record stands at the front of some bytes.
-#[derive(Clone, Copy, Debug, PartialEq, Eq)]
+#[derive(Clone, Copy)]
 pub enum RecordFault {
     /// The bytes end inside it.
     Cut,

@@ -11,8 +11,6 @@ mod mem_net;
 mod mem_sink;
 mod net;
 mod plan;
-#[cfg(test)]
-mod tests;
 mod traits;
 
 pub use load::{Load, load_all};

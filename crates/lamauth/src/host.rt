@@ -126,8 +126,8 @@ impl Sink for HostSink<'_> {
 
 #[cfg(test)]
 mod tests {
-    use super::HostFiles;
-    use lam_outside::{Failed, Files, load_all};
+    use super::{HostFiles, HostSink};
+    use lam_outside::{Failed, Files, Sink, load_all};
     use std::fs;
     use std::test::Fail;
 
@@ -141,6 +141,14 @@ mod tests {
         let _ = fs::remove_file(&rt, name);
         assert!(rt; files.start(name) == Err(Failed));
         assert!(rt; files.store("/no such folder/file", b"abc") == Err(Failed));
+        Ok(())
+    }
+
+    #[test]
+    fn standard_output_takes_what_is_written(rt: HostRuntime) -> Result<(), Fail> {
+        let mut out = HostSink::new(&rt);
+        assert!(rt; out.write(b"") == Ok(0));
+        assert!(rt; out.write(b"done ()\n").is_ok_and(|count| count > 0));
         Ok(())
     }
 }

@@ -35,3 +35,36 @@ fn run_words(rt: &HostRuntime, words: &[String]) -> Result<u8, Halt> {
     let mut out = HostSink::new(rt);
     Ok(run(rt.alloc(), &words, &mut files, &mut out))
 }
+
+#[cfg(test)]
+mod tests {
+    use super::run_words;
+    use crate::host::HostFiles;
+    use lam_outside::Files;
+    use std::alloc::{AllocError, Global};
+    use std::fs;
+    use std::test::Fail;
+
+    fn words(alloc: Global, all: &[&str]) -> Result<Vec<String>, AllocError> {
+        let mut words = Vec::new(alloc);
+        for word in all {
+            words.push(String::from_str(alloc, word)?)?;
+        }
+        Ok(words)
+    }
+
+    #[test]
+    fn a_run_ends_with_its_status(rt: HostRuntime) -> Result<(), Fail> {
+        let alloc = rt.alloc();
+        let name = "/tmp/lamauth_program_of_a_test";
+        let text =
+            b"state int; init make(x: int): int = x; query more(s: int, x: int): int = add(s, x);";
+        assert!(rt; HostFiles::new(&rt).store(name, text).is_ok());
+        let checked = run_words(&rt, &words(alloc, &["lamauth", "check", name])?);
+        assert!(rt; checked.is_ok_and(|status| status == 0));
+        let _ = fs::remove_file(&rt, name);
+        let missing = run_words(&rt, &words(alloc, &["lamauth", "check", name])?);
+        assert!(rt; missing.is_ok_and(|status| status == 8));
+        Ok(())
+    }
+}

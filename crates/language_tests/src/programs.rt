@@ -1,132 +1,162 @@
-// Types with and without `auth`, and what a program tells of itself.
-ghost use Rattle.std.specs.Prelude.{◌≡◌, ◌<◌, ℕ, true, List, length, IfOk};
-ghost use Rattle.std.specs.List.{list_all};
-ghost use Rattle.core_terms.specs.LanguagePrograms.{types_in};
-ghost use Rattle.core_terms.specs.LanguageTrees.{are_below, has_fields_below, table_of};
-ghost use Rattle.core_terms.specs.Types.{Ty, has_numbers, has_tags};
-
-use core_terms::language::{Constructor, NamedId, NamedType, Program, TyForm, TyTable};
-use core_terms::{Digest, Name, TyId};
+// Texts that are programs, and what a program tells of itself.
+use crate::answers::{Repeated, misfit_of, program_of, tree_of};
+use core_terms::TyId;
+use core_terms::language::{Program, RoleId, RoleKind};
+use program_texts::{BST, LOG, MERKLE};
 use std::alloc::{AllocError, Global};
 use std::test::Fail;
 
-/// A name of these bytes.
-fn name(alloc: Global, text: &str) -> Result<Name, AllocError> {
-    let mut bytes = Vec::new(alloc);
-    bytes.extend_from_slice(text.as_bytes())?;
-    Ok(Name::new(bytes))
+/// Programs, large and small.
+const PROGRAMS: [&[u8]; 16] = [
+    BST,
+    MERKLE,
+    LOG,
+    // spaces of names are apart, eight parts may stand, and a type may name a later one
+    b"type a = A(a) | B; state a; fun a(a: a): a = A(a(a)); fun b(a: a): a = a;",
+    b"type a = A(int, int, int, int, int, int, int, int); state unit; fun f(a: int, b: int, c: int, d: int, e: int, f: int, g: int, h: int): int = a;",
+    b"state a; type a = A(b); type b = B;",
+    // roles of their shapes
+    b"type a = A; state a; init f(x: int): a = A; query g(s: a, x: text): bool = true; update h(s: a, x: (int, a)): (a, int) = (s, 1);",
+    b"type a = A | B(int, b); type b = C(a) | D(int); type c = E(auth c); state unit; init f(x: (int, a)): unit = ();",
+    b"state auth int; fun f(x: auth int): auth int = x; query q(s: auth int, x: int): auth int = s;",
+    // locals that hide others, calls of later functions, and patterns with the same names
+    b"state unit; fun f(x: int): bool = let x = lt(x, 1) in let x = not(x) in x;",
+    b"type a = A(bool, a) | B; state unit; fun f(x: a): bool = match x with | A(y, x) -> y | B -> false end;",
+    b"state unit; fun f(x: int): int = add(if let x = lt(x, 1) in x then 1 else 2, x);",
+    b"state unit; fun f(x: unit): int = g((), x); query g(s: unit, x: unit): int = add(f(s), g(s, x));",
+    b"type a = A(int) | B(int, a); state unit; fun f(x: a): int = match x with | A(y) -> y | B(y, z) -> match z with | A(y) -> y | B(z, y) -> z end end;",
+    // each operation on operands of its types
+    b"state unit; fun f(x: unit): (text, (int, (bool, (bool, unit)))) = (\"a\", (-1, (true, (false, ()))));",
+    b"state unit; fun f(x: int, t: text, b: bool): (auth int, (bool, text)) = (auth(add(sub(x, 1), mul(div(x, 2), rem(x, 3)))), (if eq(x, 1) then not(lt(x, 1)) else if le(len(t), 1) then teq(t, t) else tlt(t, t), cat(t, t))); fun g(x: auth (int, bool)): bool = snd((fst(unauth(x)), snd(unauth(x))));",
+];
+
+#[test]
+fn programs_are_taken(rt: HostRuntime) -> Result<(), Fail> {
+    for (number, text) in PROGRAMS.iter().enumerate() {
+        if misfit_of(rt.alloc(), text)?.is_some() {
+            return Err(Fail::new(format_args!("row {number}")));
+        }
+    }
+    Ok(())
 }
 
-/// A named type with one constructor, of these fields.
-fn one_constructor(alloc: Global, of: &str, fields: Vec<TyId>) -> Result<NamedType, AllocError>
-    ensures within { IfOk result (λ declared. (count : ℕ) → are_below count fields.items ≡ true → has_fields_below count declared ≡ true) }
-    ensures one { IfOk result (λ declared. length declared.constructors.items ≡ 1) }
-{
-    let constructor = Constructor {
-        name: name(alloc, "Only")?,
-        fields,
-    };
-    Ok(NamedType {
-        name: name(alloc, of)?,
-        constructors: vec![in alloc; constructor]?,
-    })
+#[test]
+fn programs_of_some_size_are_parsed(rt: HostRuntime) -> Result<(), Fail> {
+    assert!(rt; tree_of(rt.alloc(), BST)?.declarations.len() == 8);
+    assert!(rt; tree_of(rt.alloc(), MERKLE)?.declarations.len() == 10);
+    Ok(())
 }
 
-/// A program without functions, of these types.
-fn of_types(
-    alloc: Global,
-    types: TyTable,
-    named: Vec<NamedType>,
-    state: TyId,
-) -> Result<Program, AllocError>
-    requires state { state.0 < length (types_in types) }
-    requires named { list_all (has_fields_below (length (types_in types))) named.items ≡ true }
-    requires numbers { has_numbers (table_of (types_in types) named.items) ≡ true }
-    requires tags { has_tags (table_of (types_in types) named.items) ≡ true }
-{
-    Program::new(types, named, state, Vec::new(alloc), Digest([7; 32]), alloc)
+/// The program of three named types and a state of a type.
+fn of_state(alloc: Global, state: &str) -> Result<Program, AllocError> {
+    let text = format!(in alloc;
+        "type outer = Outer(int, inner); type inner = Inner(auth int); type plain = Plain(int, plain); state {state};"
+    )?;
+    program_of(alloc, text.as_bytes())
 }
 
-/// Named types of which the first has the second in a field, the second an authenticated value, and the third itself.
-fn three_types(
-    alloc: Global,
-    int: TyId,
-    held: TyId,
-    holder: TyId,
-    plain: TyId,
-) -> Result<Vec<NamedType>, AllocError>
-    ensures within { IfOk result (λ named. (count : ℕ) → int.0 < count → held.0 < count → holder.0 < count → plain.0 < count → list_all (has_fields_below count) named.items ≡ true) }
-    ensures numbers { IfOk result (λ named. (types : List Ty) → has_numbers (table_of types named.items) ≡ true) }
-    ensures tags { IfOk result (λ named. (types : List Ty) → has_tags (table_of types named.items) ≡ true) }
-{
-    let mut named = Vec::new(alloc);
-    named.push(one_constructor(alloc, "outer", vec![in alloc; int, holder]?)?)?;
-    named.push(one_constructor(alloc, "inner", vec![in alloc; held]?)?)?;
-    named.push(one_constructor(alloc, "plain", vec![in alloc; int, plain]?)?)?;
-    Ok(named)
+/// Types, and whether an `auth` stands in them.
+const STATES: [(&str, bool); 5] = [
+    ("outer", true),
+    ("inner", true),
+    ("auth int", true),
+    ("plain", false),
+    ("int", false),
+];
+
+/// Whether the program has the three named types, and a state in which an `auth` stands if it is to.
+fn is_of_state(program: &Program, has_auth: bool) -> bool {
+    program.named_types().len() == 3 && program.has_auth(program.state_type()) == has_auth
 }
 
 #[test]
 fn an_auth_is_found_through_named_types(rt: HostRuntime) -> Result<(), Fail> {
-    let alloc = rt.alloc();
-    let mut types = TyTable::new(alloc);
-    let int = types.intern(TyForm::IntForm)?;
-    let held = types.intern(TyForm::AuthForm(int))?;
-    let holder = types.intern(TyForm::NamedForm(NamedId(1)))?;
-    let plain = types.intern(TyForm::NamedForm(NamedId(2)))?;
-    let named = three_types(alloc, int, held, holder, plain)?;
-    let outer = types.intern(TyForm::NamedForm(NamedId(0)))?;
-    let program = of_types(alloc, types, named, outer)?;
-    assert!(rt; program.has_auth(outer));
-    assert!(rt; program.has_auth(holder));
-    assert!(rt; program.has_auth(held));
-    assert!(rt; !program.has_auth(plain));
-    assert!(rt; !program.has_auth(int));
-    assert!(rt; program.state_type() == outer);
-    assert!(rt; program.role("make").is_none());
-    assert_eq!(rt; program.named_types().len(), 3);
-    assert_eq!(rt; program.text_digest().0, [7; 32]);
-    Ok(())
-}
-
-/// Adds pairs of a type with itself, each of the one before, so many times.
-fn nested_pairs(types: &mut TyTable, inner: TyId, levels: usize) -> Result<TyId, AllocError>
-    requires { inner.0 < length (types_in types.old) }
-    ensures { IfOk result (λ ty. ty.0 < length (types_in types.new)) }
-{
-    let mut ty = inner;
-    for _level in 0..levels {
-        ty = types.intern(TyForm::PairForm(ty, ty))?;
+    for (state, has_auth) in &STATES {
+        if !is_of_state(&of_state(rt.alloc(), state)?, *has_auth) {
+            return Err(Fail::new(*state));
+        }
     }
-    Ok(ty)
-}
-
-/// A program whose only named type has no fields.
-fn of_one_name(alloc: Global, types: TyTable, state: TyId) -> Result<Program, AllocError>
-    requires { state.0 < length (types_in types) }
-{
-    let mut named = Vec::new(alloc);
-    named.push(one_constructor(alloc, "item", Vec::new(alloc))?)?;
-    of_types(alloc, types, named, state)
-}
-
-#[test]
-fn a_long_type_is_plain(rt: HostRuntime) -> Result<(), Fail> {
-    let mut types = TyTable::new(rt.alloc());
-    let item = types.intern(TyForm::NamedForm(NamedId(0)))?;
-    let long = nested_pairs(&mut types, item, 100)?;
-    let program = of_one_name(rt.alloc(), types, long)?;
-    assert!(rt; !program.has_auth(long));
     Ok(())
 }
 
+/// How many types of a program an `auth` stands in.
+fn count_of_auths(program: &Program) -> usize {
+    (0..program.type_count())
+        .filter(|number| program.has_auth(TyId(*number)))
+        .count()
+}
+
+/// The beginning of a function, and in how many types an `auth` stands where 90 lets each bind a pair of the last one, from the parameter
+/// on.
+const LONG: [(&[u8], usize); 2] = [
+    (b"type item = Only; state unit; fun f(x: item): int =\n", 0),
+    (
+        b"type item = Only; state unit; fun f(x: auth item): int =\n",
+        91,
+    ),
+];
+
 #[test]
-fn a_long_type_has_an_auth(rt: HostRuntime) -> Result<(), Fail> {
-    let mut types = TyTable::new(rt.alloc());
-    let item = types.intern(TyForm::NamedForm(NamedId(0)))?;
-    let held = types.intern(TyForm::AuthForm(item))?;
-    let long = nested_pairs(&mut types, held, 100)?;
-    let program = of_one_name(rt.alloc(), types, long)?;
-    assert!(rt; program.has_auth(long));
+fn an_auth_is_found_in_long_types(rt: HostRuntime) -> Result<(), Fail> {
+    for (number, (beginning, count)) in LONG.iter().enumerate() {
+        let lets = Repeated {
+            beginning,
+            part: b"let x = (x, x) in\n",
+            count: 90,
+            middle: b"0;",
+            closing: b"",
+            end: b"",
+        };
+        let text = lets.text(rt.alloc())?;
+        if count_of_auths(&program_of(rt.alloc(), &text)?) != *count {
+            return Err(Fail::new(format_args!("row {number}")));
+        }
+    }
+    Ok(())
+}
+
+/// A program with a function of each kind.
+const KINDS: &[u8] =
+    b"state unit; fun same(x: unit): unit = x; init make(x: unit): unit = x; query look(s: unit, x: unit): unit = x; update put(s: unit, x: unit): (unit, unit) = (s, x);";
+
+/// Its roles: their kinds, the numbers of their functions and their names.
+const ROLES: [(RoleKind, usize, &str); 3] = [
+    (RoleKind::Init, 1, "make"),
+    (RoleKind::Query, 2, "look"),
+    (RoleKind::Update, 3, "put"),
+];
+
+/// Whether the program tells of these roles.
+fn tells_roles(program: &Program) -> bool {
+    for (place, (kind, function, name)) in ROLES.iter().enumerate() {
+        let is_told = match program.roles().get(place) {
+            Some(role) => {
+                role.kind == *kind
+                    && role.function.0 == *function
+                    && role.argument == program.state_type()
+            }
+            None => false,
+        };
+        if !is_told || program.role(name) != Some(RoleId(place)) {
+            return false;
+        }
+    }
+    true
+}
+
+/// Whether it tells of nothing else.
+fn tells_nothing_else(program: &Program) -> bool {
+    program.roles().len() == 3
+        && program.functions().len() == 4
+        && program.role("same").is_none()
+        && program.role("mak").is_none()
+        && program.spelling_limit() == 65_536
+        && program.text_digest().0 == [7; 32]
+}
+
+#[test]
+fn roles_are_told(rt: HostRuntime) -> Result<(), Fail> {
+    let program = program_of(rt.alloc(), KINDS)?;
+    assert!(rt; tells_roles(&program) && tells_nothing_else(&program));
     Ok(())
 }

@@ -12,6 +12,3 @@ mod values;
 pub use calls::{IdealRun, ideal_run, plain_run};
 pub use running::Opened;
 pub use values::{InHand, Plain};
-
-#[cfg(test)]
-mod tests;

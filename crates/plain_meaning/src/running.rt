@@ -16,7 +16,7 @@ use core_terms::{Program, Term, Trap, TyId};
 use std::alloc::AllocFailed;
 
 /// A value that was opened.
-#[derive(Clone, Copy, Debug, PartialEq, Eq)]
+#[derive(Clone, Copy)]
 pub struct Opened<'a> {
     /// The type of the value: it was opened as an authenticated one of this type.
     pub ty: TyId,
@@ -25,7 +25,7 @@ pub struct Opened<'a> {
 }
 
 /// What ends a run before its value.
-#[derive(Clone, Copy, Debug, PartialEq, Eq)]
+#[derive(Clone, Copy)]
 pub enum Stop {
     /// A trap of the program.
     Trapped(Trap),

@@ -19,7 +19,7 @@ pub enum Plain {
 }
 
 /// An ideal value of the fragment, whose text is lent by a value or by the program.
-#[derive(Clone, Copy, Debug, PartialEq, Eq)]
+#[derive(Clone, Copy)]
 pub enum InHand<'a> {
     /// The value `()`.
     UnitValue,

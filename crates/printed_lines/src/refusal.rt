@@ -5,7 +5,7 @@ use auth_types::fault::TypeKind;
 use core_terms::Cause;
 
 /// Why a text is no program.
-#[derive(Clone, Copy, Debug, PartialEq, Eq)]
+#[derive(Clone, Copy)]
 pub enum ProgramKind {
     /// A token that is faulty or not allowed where it stands.
     Syntax(SyntaxKind),
@@ -14,7 +14,7 @@ pub enum ProgramKind {
 }
 
 /// An argument of a command, which a refusal names.
-#[derive(Clone, Copy, Debug, PartialEq, Eq)]
+#[derive(Clone, Copy)]
 pub enum Argument {
     /// `P`, the file of a program.
     Program,
@@ -33,7 +33,7 @@ pub enum Argument {
 }
 
 /// Why bytes are no image of a program: the first fault. Records are numbered from 0.
-#[derive(Clone, Copy, Debug, PartialEq, Eq)]
+#[derive(Clone, Copy)]
 pub enum ImageKind {
     /// They don't begin as an image.
     Magic,
@@ -54,7 +54,7 @@ pub enum ImageKind {
 }
 
 /// Why an input is refused.
-#[derive(Clone, Copy, Debug, PartialEq, Eq)]
+#[derive(Clone, Copy)]
 pub enum InputFault {
     /// The file has more bytes than it may have.
     TooLong(Argument),
@@ -73,7 +73,7 @@ pub enum InputFault {
 }
 
 /// What a command refuses, once its words are in order.
-#[derive(Clone, Copy, Debug, PartialEq, Eq)]
+#[derive(Clone, Copy)]
 pub enum Refusal {
     /// The text is no program: the first fault with its line and column.
     Program(ProgramKind, usize, usize),

@@ -1,7 +1,11 @@
-//! Tests of the top call: what it says of the texts of programs.
+//! Tests of the top call: the words of a command line, what it says of the texts of programs, and the states that it makes and keeps.
 #![tactic(auto)]
 
 #[cfg(test)]
-mod language;
+mod endless;
 #[cfg(test)]
 mod programs;
+#[cfg(test)]
+mod states;
+#[cfg(test)]
+mod words;

@@ -1,10 +1,15 @@
-// What `check` says of the texts of programs.
-use cli_stage::stage::{OPEN, PROOF, STATE, check, staged, verdict};
+// What `check` says of the texts of programs, and where the fragment ends that the commands take which run a program.
+use cli_stage::runs::{check, opening, run_words, verified};
+use cli_stage::stage::{PROOF, STATE, staged};
+use program_texts::{BST, FIRST, LOG, MERKLE, SUM};
 use std::alloc::{AllocError, Global};
 use std::test::Fail;
 
+/// A text and the line that `check` tells of it.
+type Row = (&'static [u8], &'static str);
+
 /// Texts that the grammar refuses, each with its line: places by bytes, from 1.
-const FAULTY_TEXTS: [(&[u8], &str); 43] = [
+const FAULTY_TEXTS: [Row; 43] = [
     // bytes that begin no token
     (b"@", "program refused: Char 1 1\n"),
     (
@@ -171,7 +176,7 @@ const FAULTY_TEXTS: [(&[u8], &str); 43] = [
 ];
 
 /// Trees that the rules refuse.
-const FAULTY_TREES: [(&[u8], &str); 30] = [
+const FAULTY_TREES: [Row; 30] = [
     // names that stand twice
     (
         b"state unit;\nquery q(s: unit, x: unit): unit = ();\nquery q(s: unit, x: unit): unit = ();",
@@ -294,62 +299,176 @@ const FAULTY_TREES: [(&[u8], &str); 30] = [
     ),
 ];
 
-#[test]
-fn texts_are_refused_at_their_first_fault(rt: HostRuntime) -> Result<(), Fail> {
-    for (text, line) in FAULTY_TEXTS {
-        let told = check(rt.alloc(), text)?;
-        assert!(rt; told.is(6, line), "{line}");
-    }
-    Ok(())
-}
-
-#[test]
-fn trees_are_refused_at_their_first_fault(rt: HostRuntime) -> Result<(), Fail> {
-    for (text, line) in FAULTY_TREES {
-        let told = check(rt.alloc(), text)?;
-        assert!(rt; told.is(6, line), "{line}");
-    }
-    Ok(())
-}
-
-// The digests are those that `sha256sum` prints.
-#[test]
-fn programs_are_told_with_their_digest(rt: HostRuntime) -> Result<(), Fail> {
-    let small = check(
-        rt.alloc(),
+/// Programs, told with the digests that `sha256sum` prints.
+const PROGRAMS: [Row; 6] = [
+    (
         b"state unit; query q(s: unit, x: unit): unit = ();",
-    )?;
-    assert!(rt;
-        small.is(
-            0,
-            "ok c300da19f6eca2d18965d4993074c78146ae35588a704bd3f2a7fbcf39420bcc\n"
-        )
-    );
-    let open = check(rt.alloc(), OPEN)?;
-    assert!(rt;
-        open.is(
-            0,
-            "ok 623fa167c544da92b740cffee7c6a150c0fd6c1f376374887adbefc82433b3a7\n"
-        )
-    );
-    Ok(())
+        "ok c300da19f6eca2d18965d4993074c78146ae35588a704bd3f2a7fbcf39420bcc\n",
+    ),
+    (
+        FIRST,
+        "ok 32b0f8ad41d9993c579696d89030fe5e5c277936ddcdb813c532f1657967c4a3\n",
+    ),
+    (
+        SUM,
+        "ok 6b7d989d6739abb6b771ae853c26e21955d50fb72a2b442fbe52e3b73814604f\n",
+    ),
+    (
+        BST,
+        "ok e9767d8b3b52930f1ba4ec36bfdfcb922c8f60815223f512ad5b52ebe8bd6bf7\n",
+    ),
+    (
+        MERKLE,
+        "ok 32e8e54c0e029969240872419e95482fc86010da8e092ae8bc7a3bb0a4763b41\n",
+    ),
+    (
+        LOG,
+        "ok fdca26004f045645a344641333f1a92bca0ba044bdda30f5391abd2a523e6544\n",
+    ),
+];
+
+/// The number of the first row, from 0, of which `check` tells another line, or another status.
+fn wrong_row(alloc: Global, status: u8, rows: &[Row]) -> Result<Option<usize>, AllocError> {
+    for (number, (text, line)) in rows.iter().enumerate() {
+        if !check(alloc, text)?.only_tells(status, line) {
+            return Ok(Some(number));
+        }
+    }
+    Ok(None)
 }
 
 #[test]
-fn programs_are_taken(rt: HostRuntime) -> Result<(), Fail> {
-    let programs: [&[u8]; 8] = [
-        b"query open(s: auth unit, x: unit): unit = unauth(s); state auth unit;",
-        b"# \xff\xfe\"\nstate\tauth\r\nunit;query open(s:auth unit,x:unit):unit=unauth(s);#",
-        b"state auth unit; query open(s: auth unit, x: unit): unit = unauth(s); # no newline",
-        b"state auth unit; query open(x: auth unit, s: unit): unit = unauth(x);",
-        b"state auth unit; query open(s_1A: auth unit, x: unit): unit = unauth(s_1A);",
-        b"state auth unit; query a234567890123456789012345678901234567890123456789012345678901234(s: auth unit, x: unit): unit = (); query open(s: auth unit, x: unit): unit = unauth(s);",
-        b"state auth unit; query n(s: auth unit, x: int): int = add(-0, add(-9223372036854775808, 9223372036854775807)); query open(s: auth unit, x: unit): unit = unauth(s);",
-        b"state auth unit; query n(s: auth unit, x: bool): text = \"\\\"\\\\\\n\\t\\x7f\\x00 \xc3\xa9 # no comment\"; query open(s: auth unit, x: unit): unit = unauth(s);",
+fn texts_are_told(rt: HostRuntime) -> Result<(), Fail> {
+    let tables: [(&str, u8, &[Row]); 3] = [
+        ("faulty texts", 6, &FAULTY_TEXTS),
+        ("faulty trees", 6, &FAULTY_TREES),
+        ("programs", 0, &PROGRAMS),
     ];
-    for program in programs {
-        let told = verdict(rt.alloc(), &staged(program, &STATE, PROOF), "1")?;
-        assert!(rt; told.is(0, "done ()\n"));
+    for (table, status, rows) in tables {
+        if let Some(number) = wrong_row(rt.alloc(), status, rows)? {
+            return Err(Fail::new(format_args!("{table}: row {number}")));
+        }
+    }
+    Ok(())
+}
+
+/// A query, up to its body.
+const QUERY: &[u8] = b"state unit;\nquery q(s: unit, x: unit): unit = ";
+
+/// A query of a text, up to the first byte of a literal.
+const LITERAL: &[u8] = b"state unit;\nquery q(s: unit, x: unit): text =\n  \"";
+
+/// A beginning, a part, how often it stands, and an end, with the status and the line that `check` tells of this text. An expression or a
+/// type on level 100 is taken, one on level 101 isn't: at its first token. A token there that begins neither is not expected. A literal has
+/// at most 65,532 bytes, a text at most 262,144.
+const LONG: [(&[u8], &[u8], usize, &[u8], u8, &str); 11] = [
+    // on level 100 a parenthesis that isn't closed yet
+    (
+        QUERY,
+        b"auth(",
+        99,
+        b"x",
+        6,
+        "program refused: Expected 2 531\n",
+    ),
+    (
+        QUERY,
+        b"auth(",
+        100,
+        b"x",
+        6,
+        "program refused: TooNested 2 535\n",
+    ),
+    (
+        QUERY,
+        b"auth(",
+        100,
+        b")",
+        6,
+        "program refused: Expected 2 535\n",
+    ),
+    (
+        QUERY,
+        b"add(1, ",
+        100,
+        b"2",
+        6,
+        "program refused: TooNested 2 732\n",
+    ),
+    (
+        b"state ",
+        b"auth ",
+        99,
+        b"unit",
+        6,
+        "program refused: Expected 1 506\n",
+    ),
+    (
+        b"state ",
+        b"auth ",
+        100,
+        b"unit;",
+        6,
+        "program refused: TooNested 1 507\n",
+    ),
+    (
+        b"state ",
+        b"auth ",
+        100,
+        b";",
+        6,
+        "program refused: Expected 1 507\n",
+    ),
+    (
+        LITERAL,
+        b"a",
+        65_532,
+        b"\";",
+        0,
+        "ok 3b80cedf63c1b97964812f7a861a537bd1700362140f7e4586f4e41855b4ce9a\n",
+    ),
+    (
+        LITERAL,
+        b"a",
+        65_533,
+        b"\";",
+        6,
+        "program refused: TextLong 3 3\n",
+    ),
+    (
+        FIRST,
+        b" ",
+        262033,
+        b"",
+        0,
+        "ok 989eab22a5a8929e8f5d60494b44cf3a2e4df847d3d10b48afc89c43b2695a7d\n",
+    ),
+    (FIRST, b" ", 262034, b"", 7, "input refused: too long P\n"),
+];
+
+/// A beginning, a part so many times, and an end.
+pub fn repeated(
+    alloc: Global,
+    beginning: &[u8],
+    part: &[u8],
+    count: usize,
+    end: &[u8],
+) -> Result<Vec<u8>, AllocError> {
+    let mut text = Vec::from_slice(alloc, beginning)?;
+    for _ in 0..count {
+        text.extend_from_slice(part)?;
+    }
+    text.extend_from_slice(end)?;
+    Ok(text)
+}
+
+#[test]
+fn long_texts_are_told(rt: HostRuntime) -> Result<(), Fail> {
+    for (beginning, part, count, end, status, line) in &LONG {
+        let text = repeated(rt.alloc(), beginning, part, *count, end)?;
+        if !check(rt.alloc(), &text)?.only_tells(*status, line) {
+            return Err(Fail::new(*line));
+        }
     }
     Ok(())
 }
@@ -368,126 +487,141 @@ fn with_functions(alloc: Global, count: usize) -> Result<Vec<u8>, AllocError> {
 fn functions_have_a_greatest_number(rt: HostRuntime) -> Result<(), Fail> {
     let alloc = rt.alloc();
     let most = check(alloc, &with_functions(alloc, 1024)?)?;
-    assert_eq!(rt; most.status, 0);
+    assert!(rt; most.status == 0);
     let more = check(alloc, &with_functions(alloc, 1025)?)?;
-    assert!(rt; more.is(6, "program refused: Limit-functions 1026 7\n"));
+    assert!(rt; more.only_tells(6, "program refused: Limit-functions 1026 7\n"));
     Ok(())
 }
+
+/// Programs of the fragment that open a state `s` of `()`.
+const FRAGMENT: [&[u8]; 8] = [
+    b"query open(s: auth unit, x: unit): unit = unauth(s); state auth unit;",
+    b"# \xff\xfe\"\nstate\tauth\r\nunit;query open(s:auth unit,x:unit):unit=unauth(s);#",
+    b"state auth unit; query open(s: auth unit, x: unit): unit = unauth(s); # no newline",
+    b"state auth unit; query open(x: auth unit, s: unit): unit = unauth(x);",
+    b"state auth unit; query open(s_1A: auth unit, x: unit): unit = unauth(s_1A);",
+    b"state auth unit; query a234567890123456789012345678901234567890123456789012345678901234(s: auth unit, x: unit): unit = (); query open(s: auth unit, x: unit): unit = unauth(s);",
+    b"state auth unit; query n(s: auth unit, x: int): int = add(-0, add(-9223372036854775808, 9223372036854775807)); query open(s: auth unit, x: unit): unit = unauth(s);",
+    b"state auth unit; query n(s: auth unit, x: bool): text = \"\\\"\\\\\\n\\t\\x7f\\x00 \xc3\xa9 # no comment\"; query open(s: auth unit, x: unit): unit = unauth(s);",
+];
 
 #[test]
-fn a_text_has_a_greatest_length(rt: HostRuntime) -> Result<(), Fail> {
-    let mut text = Vec::from_slice(rt.alloc(), OPEN)?;
-    text.resize(262_144, b' ')?;
-    let longest = verdict(rt.alloc(), &staged(&text, &STATE, PROOF), "1")?;
-    assert!(rt; longest.is(0, "done ()\n"));
-    text.push(b' ')?;
-    let longer = verdict(rt.alloc(), &staged(&text, &STATE, PROOF), "1")?;
-    assert!(rt; longer.is(7, "input refused: too long P\n"));
-    let checked = check(rt.alloc(), &text)?;
-    assert!(rt; checked.is(7, "input refused: too long P\n"));
-    Ok(())
-}
-
-/// A text of a query that gives a text literal of so many bytes.
-fn with_literal(alloc: Global, len: usize) -> Result<Vec<u8>, AllocError> {
-    let mut text = Vec::from_slice(
-        alloc,
-        b"state unit;\nquery q(s: unit, x: unit): text =\n  \"",
-    )?;
-    for _ in 0..len {
-        text.push(b'a')?;
+fn programs_of_the_fragment_are_run(rt: HostRuntime) -> Result<(), Fail> {
+    for (number, program) in FRAGMENT.iter().enumerate() {
+        let run = verified(rt.alloc(), program, &STATE, PROOF, &opening("1"))?;
+        if !run.only_tells(0, "done ()\n") {
+            return Err(Fail::new(format_args!("row {number}")));
+        }
     }
-    text.extend_from_slice(b"\";")?;
-    Ok(text)
-}
-
-#[test]
-fn a_text_literal_has_a_greatest_length(rt: HostRuntime) -> Result<(), Fail> {
-    let alloc = rt.alloc();
-    let longest = check(alloc, &with_literal(alloc, 65_532)?)?;
-    assert_eq!(rt; longest.status, 0);
-    let longer = check(alloc, &with_literal(alloc, 65_533)?)?;
-    assert!(rt; longer.is(6, "program refused: TextLong 3 3\n"));
     Ok(())
 }
 
-/// A text with `auth(` so often, one within another, around a leaf: an expression, or a type.
-fn nested(
-    alloc: Global,
-    front: &[u8],
-    word: &[u8],
-    levels: usize,
-    behind: &[u8],
-) -> Result<Vec<u8>, AllocError> {
-    let mut text = Vec::from_slice(alloc, front)?;
-    for _ in 0..levels {
-        text.extend_from_slice(word)?;
+/// Texts of the whole language that the rules refuse, each with what `check` tells, and what `verify` tells: where the fragment ends.
+const BEYOND: [(&[u8], &str, &str); 14] = [
+    (
+        b"state unit;\nquery q(s: unit, x: unit): unit = (x, x);",
+        "program refused: WrongType 2 35\n",
+        "program refused: Expected 2 36\n",
+    ),
+    (
+        b"state unit;\nquery q(s: unit, x: unit): unit = x(x);",
+        "program refused: UnknownName 2 35\n",
+        "program refused: Expected 2 36\n",
+    ),
+    (
+        b"state unit;\nquery q(s: unit, x: unit): unit = fst(x);",
+        "program refused: NotPair 2 39\n",
+        "program refused: Expected 2 35\n",
+    ),
+    (
+        b"state unit;\nquery q(s: unit, x: unit): unit = Some;",
+        "program refused: UnknownName 2 35\n",
+        "program refused: Expected 2 35\n",
+    ),
+    (
+        b"state unit;\nquery q(s: (unit, unit), x: unit): unit = ();",
+        "program refused: RoleShape 2 7\n",
+        "program refused: Expected 2 12\n",
+    ),
+    (
+        b"state unit;\nquery q(s: tree, x: unit): unit = ();",
+        "program refused: UnknownName 2 12\n",
+        "program refused: Expected 2 12\n",
+    ),
+    (
+        b"state unit;\nfun f(x: int): int = unauth(5);",
+        "program refused: NotAuth 2 29\n",
+        "program refused: Expected 2 1\n",
+    ),
+    (
+        b"state unit;\nupdate q(s: unit, x: unit): unit = ();",
+        "program refused: RoleShape 2 8\n",
+        "program refused: Expected 2 1\n",
+    ),
+    (
+        b"type t = A;",
+        "program refused: NoState 1 12\n",
+        "program refused: Expected 1 1\n",
+    ),
+    (
+        b"type a = A; state unit; fun f(x: int): int = match x with | A -> 1 end;",
+        "program refused: NotSum 1 52\n",
+        "program refused: Expected 1 1\n",
+    ),
+    (
+        b"type a = A | B; state unit; fun f(x: a): int = match x with | B -> 1 | A -> 1 end;",
+        "program refused: ArmsWrong 1 48\n",
+        "program refused: Expected 1 1\n",
+    ),
+    (
+        b"state unit; fun f(x: int): int = f(x, y);",
+        "program refused: WrongCount 1 34\n",
+        "program refused: Expected 1 13\n",
+    ),
+    (
+        b"type a = A; type b = B | A; state unit;",
+        "program refused: Twice 1 26\n",
+        "program refused: Expected 1 1\n",
+    ),
+    (
+        b"state unit; query q(s: unit, x: unit): int = let y = 1 in add(x, y);",
+        "program refused: WrongType 1 63\n",
+        "program refused: Expected 1 46\n",
+    ),
+];
+
+#[test]
+fn the_fragment_ends_at_the_first_token_beyond_it(rt: HostRuntime) -> Result<(), Fail> {
+    for (text, line, beyond) in &BEYOND {
+        if !check(rt.alloc(), text)?.only_tells(6, line) {
+            return Err(Fail::new(*line));
+        }
+        let run = verified(rt.alloc(), text, &STATE, PROOF, &opening("1"))?;
+        if !run.only_tells(6, beyond) {
+            return Err(Fail::new(*beyond));
+        }
     }
-    text.extend_from_slice(behind)?;
-    Ok(text)
+    Ok(())
 }
 
-// An expression or a type on level 100 is taken, one on level 101 isn't: at its first token. A token there that begins neither is
-// not expected.
+/// A text that `check` takes and each command refuses that runs a program.
+const WHOLE: &[u8] = b"state unit; query q(s: unit, x: int): int = if lt(x, 0) then 0 else x;";
+
+const COMMANDS: [&[&str]; 4] = [
+    &["init", "p", "q", "()", "1", "o"],
+    &["prove", "p", "q", "q", "1", "1", "0", "o"],
+    &["verify", "p", "q", "s", "1", "1", "q"],
+    &["audit", "p", "q", "q", "1", "1", "q"],
+];
+
 #[test]
-fn nesting_has_a_greatest_depth(rt: HostRuntime) -> Result<(), Fail> {
-    let alloc = rt.alloc();
-    let query = b"state unit;\nquery q(s: unit, x: unit): unit = ";
-    let cases: [(&[u8], &[u8], usize, &[u8], &str); 7] = [
-        // on level 100 a parenthesis that isn't closed yet
-        (
-            query,
-            b"auth(",
-            99,
-            b"x",
-            "program refused: Expected 2 531\n",
-        ),
-        (
-            query,
-            b"auth(",
-            100,
-            b"x",
-            "program refused: TooNested 2 535\n",
-        ),
-        (
-            query,
-            b"auth(",
-            100,
-            b")",
-            "program refused: Expected 2 535\n",
-        ),
-        (
-            query,
-            b"add(1, ",
-            100,
-            b"2",
-            "program refused: TooNested 2 732\n",
-        ),
-        (
-            b"state ",
-            b"auth ",
-            99,
-            b"unit",
-            "program refused: Expected 1 506\n",
-        ),
-        (
-            b"state ",
-            b"auth ",
-            100,
-            b"unit;",
-            "program refused: TooNested 1 507\n",
-        ),
-        (
-            b"state ",
-            b"auth ",
-            100,
-            b";",
-            "program refused: Expected 1 507\n",
-        ),
-    ];
-    for (front, word, levels, behind, line) in cases {
-        let told = check(alloc, &nested(alloc, front, word, levels, behind)?)?;
-        assert!(rt; told.is(6, line), "{line}");
+fn commands_that_run_take_the_fragment(rt: HostRuntime) -> Result<(), Fail> {
+    assert!(rt; check(rt.alloc(), WHOLE)?.status == 0);
+    for words in COMMANDS {
+        let run = run_words(rt.alloc(), &staged(WHOLE, &[], PROOF), words)?;
+        if !run.only_tells(6, "program refused: Expected 1 45\n") {
+            return Err(Fail::new(words[0]));
+        }
     }
     Ok(())
 }

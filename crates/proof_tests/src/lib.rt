@@ -1,6 +1,14 @@
-//! Tests of the top call: what it says of proofs, and of the values that they open.
+//! Tests of the top call: the proofs that it makes, what it says of proofs and of the values that they open, and audits.
 #![tactic(auto)]
 
+#[cfg(test)]
+mod audits;
+#[cfg(test)]
+mod inputs;
+#[cfg(test)]
+mod proofs;
+#[cfg(test)]
+mod trips;
 #[cfg(test)]
 mod values;
 #[cfg(test)]

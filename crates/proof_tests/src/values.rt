@@ -1,8 +1,9 @@
 // Values: read from a state or an argument, computed, digested and printed.
-use cli_stage::stage::{MORE, run_words, staged, verdict};
+use cli_stage::runs::{Call, opening, verified};
+use cli_stage::stage::HEADER;
+use program_texts::SUM;
+use std::alloc::{AllocError, Global};
 use std::test::Fail;
-
-const HEADER: &[u8] = b"LAP1\0\0";
 
 /// States at their types, and how they are printed.
 const STATES: [(&str, &[u8], &str); 17] = [
@@ -49,20 +50,27 @@ const STATES: [(&str, &[u8], &str); 17] = [
     ),
 ];
 
+/// Whether a state of a type is printed so.
+fn is_printed(alloc: Global, ty: &str, state: &[u8], line: &str) -> Result<bool, AllocError> {
+    let text = format!(in alloc; "state {ty}; query open(s: {ty}, x: unit): {ty} = s;")?;
+    let run = verified(alloc, text.as_bytes(), state, HEADER, &opening("1"))?;
+    Ok(run.only_tells(0, line))
+}
+
 #[test]
 fn states_are_printed(rt: HostRuntime) -> Result<(), Fail> {
-    let alloc = rt.alloc();
-    for (ty, state, line) in STATES {
-        let text = format!(in alloc; "state {ty}; query open(s: {ty}, x: unit): {ty} = s;")?;
-        let told = verdict(alloc, &staged(text.as_bytes(), state, HEADER), "1")?;
-        assert!(rt; told.is(0, line), "{ty} {line}");
+    for (ty, state, line) in &STATES {
+        if !is_printed(rt.alloc(), ty, state, line)? {
+            return Err(Fail::new(format_args!("{ty} {line}")));
+        }
     }
     Ok(())
 }
 
 /// Literals at their types, and how their values are printed.
-const LITERALS: [(&str, &str, &str); 10] = [
+const LITERALS: [(&str, &str, &str); 11] = [
     ("unit", " ( ) ", "done ()\n"),
+    ("unit", " ( # a comment\n) ", "done ()\n"),
     ("bool", "true", "done true\n"),
     ("bool", " false # no", "done false\n"),
     ("int", " -0", "done 0\n"),
@@ -86,145 +94,163 @@ const LITERALS: [(&str, &str, &str); 10] = [
     ("text", "\t\"# no comment\"\r\n", "done \"# no comment\"\n"),
 ];
 
+/// Literals at their types, and the digests that `sha256sum` prints of their spellings.
+const DIGESTS: [(&str, &str, &str); 3] = [
+    (
+        "int",
+        "5",
+        "done #5dee4dd60ff8d0ba9900fe91e90e0dcf65f0570d42c431f727d0300dd70dc431\n",
+    ),
+    (
+        "bool",
+        "true",
+        "done #4bf5122f344554c53bde2ebb8cd2b7e3d1600ad631c385a5d7cce23c7785459a\n",
+    ),
+    (
+        "text",
+        "\"a\u{e9}\"",
+        "done #6fbb40b16b18dcf954951d0e5e96b071c8999b096cc3835cc6d6ee3466dc0a4b\n",
+    ),
+];
+
+/// What is told of a query that gives this of its argument `x` and has this type, at a literal of its type.
+fn is_given(
+    alloc: Global,
+    [ty, given, of_type]: [&str; 3],
+    literal: &str,
+    line: &str,
+) -> Result<bool, AllocError> {
+    let text = format!(in alloc; "state unit; query q(s: unit, x: {ty}): {of_type} = {given};")?;
+    let call = Call {
+        role: "q",
+        argument: literal,
+        fuel: "1",
+    };
+    Ok(verified(alloc, text.as_bytes(), b"", HEADER, &call)?.only_tells(0, line))
+}
+
 #[test]
 fn arguments_are_printed(rt: HostRuntime) -> Result<(), Fail> {
-    let alloc = rt.alloc();
-    for (ty, literal, line) in LITERALS {
-        let text = format!(in alloc; "state unit; query q(s: unit, x: {ty}): {ty} = x;")?;
-        let words = ["verify", "p", "q", "s", literal, "1", "q"];
-        let told = run_words(alloc, &staged(text.as_bytes(), b"", HEADER), &words)?;
-        assert!(rt; told.is(0, line), "{ty} {literal}");
+    for (ty, literal, line) in &LITERALS {
+        if !is_given(rt.alloc(), [ty, "x", ty], literal, line)? {
+            return Err(Fail::new(format_args!("{ty} {literal}")));
+        }
     }
     Ok(())
 }
 
-// The digests are those that `sha256sum` prints of the spellings.
 #[test]
 fn values_are_digested_by_their_spelling(rt: HostRuntime) -> Result<(), Fail> {
     let alloc = rt.alloc();
-    let values: [(&str, &str, &str); 3] = [
-        (
-            "int",
-            "5",
-            "done #5dee4dd60ff8d0ba9900fe91e90e0dcf65f0570d42c431f727d0300dd70dc431\n",
-        ),
-        (
-            "bool",
-            "true",
-            "done #4bf5122f344554c53bde2ebb8cd2b7e3d1600ad631c385a5d7cce23c7785459a\n",
-        ),
-        (
-            "text",
-            "\"a\u{e9}\"",
-            "done #6fbb40b16b18dcf954951d0e5e96b071c8999b096cc3835cc6d6ee3466dc0a4b\n",
-        ),
-    ];
-    for (ty, literal, line) in values {
-        let text = format!(in alloc;
-            "state unit; query q(s: unit, x: {ty}): auth {ty} = auth(x);"
-        )?;
-        let words = ["verify", "p", "q", "s", literal, "1", "q"];
-        let told = run_words(alloc, &staged(text.as_bytes(), b"", HEADER), &words)?;
-        assert!(rt; told.is(0, line), "{ty} {literal}");
+    for (ty, literal, line) in &DIGESTS {
+        let authenticated = format!(in alloc; "auth {ty}")?;
+        if !is_given(alloc, [ty, "auth(x)", &authenticated], literal, line)? {
+            return Err(Fail::new(format_args!("{ty} {literal}")));
+        }
     }
     Ok(())
 }
 
-// An opened piece is read at its type.
+/// The digest of the 8 bytes of 5.
+const FIVE: [u8; 32] = [
+    0x5d, 0xee, 0x4d, 0xd6, 0x0f, 0xf8, 0xd0, 0xba, 0x99, 0x00, 0xfe, 0x91, 0xe9, 0x0e, 0x0d, 0xcf,
+    0x65, 0xf0, 0x57, 0x0d, 0x42, 0xc4, 0x31, 0xf7, 0x27, 0xd0, 0x30, 0x0d, 0xd7, 0x0d, 0xc4, 0x31,
+];
+
+/// A proof whose piece is the 8 bytes of 5.
+const PIECE: &[u8] = b"LAP1\0\0\0\0\0\0\x08\0\0\0\0\0\0\0\x05";
+
+/// Types at which this piece is read, with the status and the line.
+const PIECES: [(&str, u8, &str); 4] = [
+    ("int", 0, "done 5\n"),
+    ("bool", 5, "rejected bad-piece 0 1\n"),
+    ("text", 5, "rejected bad-piece 0 4\n"),
+    ("unit", 5, "rejected bad-piece 0 0\n"),
+];
+
+/// Whether the piece is told so where it is opened at a type.
+fn is_opened(alloc: Global, ty: &str, status: u8, line: &str) -> Result<bool, AllocError> {
+    let text = format!(in alloc;
+        "state auth {ty}; query open(s: auth {ty}, x: unit): {ty} = unauth(s);"
+    )?;
+    let run = verified(alloc, text.as_bytes(), &FIVE, PIECE, &opening("1"))?;
+    Ok(run.only_tells(status, line))
+}
+
 #[test]
 fn pieces_are_read_at_their_type(rt: HostRuntime) -> Result<(), Fail> {
-    let alloc = rt.alloc();
-    let pieces: [(&str, &[u8], u8, &str); 4] = [
-        (
-            "int",
-            b"LAP1\0\0\0\0\0\0\x08\0\0\0\0\0\0\0\x05",
-            0,
-            "done 5\n",
-        ),
-        (
-            "bool",
-            b"LAP1\0\0\0\0\0\0\x08\0\0\0\0\0\0\0\x05",
-            5,
-            "rejected bad-piece 0 1\n",
-        ),
-        (
-            "text",
-            b"LAP1\0\0\0\0\0\0\x08\0\0\0\0\0\0\0\x05",
-            5,
-            "rejected bad-piece 0 4\n",
-        ),
-        (
-            "unit",
-            b"LAP1\0\0\0\0\0\0\x08\0\0\0\0\0\0\0\x05",
-            5,
-            "rejected bad-piece 0 0\n",
-        ),
-    ];
-    // the digest of the 8 bytes of 5
-    let state = [
-        0x5d, 0xee, 0x4d, 0xd6, 0x0f, 0xf8, 0xd0, 0xba, 0x99, 0x00, 0xfe, 0x91, 0xe9, 0x0e, 0x0d,
-        0xcf, 0x65, 0xf0, 0x57, 0x0d, 0x42, 0xc4, 0x31, 0xf7, 0x27, 0xd0, 0x30, 0x0d, 0xd7, 0x0d,
-        0xc4, 0x31,
-    ];
-    for (ty, proof, status, line) in pieces {
-        let text = format!(in alloc;
-            "state auth {ty}; query open(s: auth {ty}, x: unit): {ty} = unauth(s);"
-        )?;
-        let told = verdict(alloc, &staged(text.as_bytes(), &state, proof), "1")?;
-        assert!(rt; told.is(status, line), "{ty} {line}");
+    for (ty, status, line) in &PIECES {
+        if !is_opened(rt.alloc(), ty, *status, line)? {
+            return Err(Fail::new(format_args!("{ty} {line}")));
+        }
     }
     Ok(())
 }
+
+/// States and arguments, with the status and the line of their sum.
+const SUMS: [([u8; 8], &str, u8, &str); 6] = [
+    ([0, 0, 0, 0, 0, 0, 0, 5], "3", 0, "done 8\n"),
+    (
+        [0, 0, 0, 0, 0, 0, 0, 1],
+        "9223372036854775807",
+        3,
+        "trap overflow\n",
+    ),
+    ([0xff; 8], "1", 0, "done 0\n"),
+    ([0xff; 8], " -9223372036854775808", 3, "trap overflow\n"),
+    (
+        [0x80, 0, 0, 0, 0, 0, 0, 0],
+        "9223372036854775807",
+        0,
+        "done -1\n",
+    ),
+    (
+        [0x7f, 0xff, 0xff, 0xff, 0xff, 0xff, 0xff, 0xff],
+        "0",
+        0,
+        "done 9223372036854775807\n",
+    ),
+];
 
 #[test]
 fn sums_are_exact_or_trap(rt: HostRuntime) -> Result<(), Fail> {
-    let sums: [([u8; 8], &str, u8, &str); 6] = [
-        ([0, 0, 0, 0, 0, 0, 0, 5], "3", 0, "done 8\n"),
-        (
-            [0, 0, 0, 0, 0, 0, 0, 1],
-            "9223372036854775807",
-            3,
-            "trap overflow\n",
-        ),
-        ([0xff; 8], "1", 0, "done 0\n"),
-        ([0xff; 8], " -9223372036854775808", 3, "trap overflow\n"),
-        (
-            [0x80, 0, 0, 0, 0, 0, 0, 0],
-            "9223372036854775807",
-            0,
-            "done -1\n",
-        ),
-        (
-            [0x7f, 0xff, 0xff, 0xff, 0xff, 0xff, 0xff, 0xff],
-            "0",
-            0,
-            "done 9223372036854775807\n",
-        ),
-    ];
-    for (state, argument, status, line) in sums {
-        let words = ["verify", "p", "more", "s", argument, "1", "q"];
-        let told = run_words(rt.alloc(), &staged(MORE, &state, HEADER), &words)?;
-        assert!(rt; told.is(status, line), "{line}");
+    for (state, argument, status, line) in &SUMS {
+        let call = Call {
+            role: "more",
+            argument,
+            fuel: "1",
+        };
+        if !verified(rt.alloc(), SUM, state, HEADER, &call)?.only_tells(*status, line) {
+            return Err(Fail::new(*line));
+        }
     }
     Ok(())
 }
 
-// A trap ends the run like an outcome: bytes left behind it are refused, and the first trap or rejection from the left ends it.
+/// A program that traps before it opens its state, and behind it.
+const TRAPS: &[u8] =
+    b"state auth int; query open(s: auth int, x: unit): int = add(add(9223372036854775807, 1), unauth(s)); query late(s: auth int, x: unit): int = add(unauth(s), add(9223372036854775807, 1));";
+
+/// The role and the proof, with the status and the line. A trap ends the run like an outcome: bytes left behind it are refused, and the first
+/// trap or rejection from the left ends it.
+const TRAPPED: [(&str, &[u8], u8, &str); 4] = [
+    ("open", HEADER, 3, "trap overflow\n"),
+    ("open", b"LAP1\0\0\0", 5, "rejected leftover 1\n"),
+    ("late", HEADER, 5, "rejected short 0\n"),
+    ("late", b"LAP1\0\0\x02", 5, "rejected bad-kind 0 2\n"),
+];
+
 #[test]
 fn a_trap_is_judged_like_a_value(rt: HostRuntime) -> Result<(), Fail> {
-    let text =
-        b"state auth int; query open(s: auth int, x: unit): int = add(add(9223372036854775807, 1), unauth(s)); query late(s: auth int, x: unit): int = add(unauth(s), add(9223372036854775807, 1));";
-    let state = [0; 32];
-    let cases: [(&str, &[u8], u8, &str); 4] = [
-        ("open", HEADER, 3, "trap overflow\n"),
-        ("open", b"LAP1\0\0\0", 5, "rejected leftover 1\n"),
-        ("late", HEADER, 5, "rejected short 0\n"),
-        ("late", b"LAP1\0\0\x02", 5, "rejected bad-kind 0 2\n"),
-    ];
-    for (role, proof, status, line) in cases {
-        let words = ["verify", "p", role, "s", "()", "1", "q"];
-        let told = run_words(rt.alloc(), &staged(text, &state, proof), &words)?;
-        assert!(rt; told.is(status, line), "{role} {line}");
+    for (role, proof, status, line) in &TRAPPED {
+        let call = Call {
+            role,
+            argument: "()",
+            fuel: "1",
+        };
+        if !verified(rt.alloc(), TRAPS, &[0; 32], proof, &call)?.only_tells(*status, line) {
+            return Err(Fail::new(format_args!("{role} {line}")));
+        }
     }
     Ok(())
 }

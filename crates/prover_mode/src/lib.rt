@@ -10,6 +10,3 @@ mod proving;
 
 pub use projection::project;
 pub use proving::{Proved, proof_file, prove};
-
-#[cfg(test)]
-mod tests;

@@ -12,6 +12,7 @@ ghost use Rattle.value_store.specs.Standing.{Grows};
 ghost use Rattle.value_store.specs.Stores.{nodes_in};
 
 use crate::UnspellFault;
+use crate::composites::{put_fields, put_parts};
 use crate::cursor::Cursor;
 use crate::fields::field_types;
 use crate::leaves::{known_nothing, put_bool, put_digest, put_int, put_text, put_unit};
@@ -127,11 +128,7 @@ impl Reader<'_> {
     {
         let first = self.value(store, nothings, parts.0, levels, at)?;
         let second = self.value(store, nothings, parts.1, levels, first.behind)?;
-        let value = store.put_pair(first.value, second.value)?;
-        Ok(Front {
-            value,
-            behind: second.behind,
-        })
+        put_parts(store, first, second)
     }
 
     /// A value of a named type: its tag, and then the fields of its constructor, which have at most so many levels.
@@ -159,11 +156,7 @@ impl Reader<'_> {
             return Err(at.bad());
         };
         let fields = self.fields(store, nothings, types, levels, behind)?;
-        let value = store.put_constructor(named, Tag(tag), &fields.values)?;
-        Ok(Front {
-            value,
-            behind: fields.behind,
-        })
+        put_fields(store, named, Tag(tag), fields)
     }
 
     /// Values of these types, one after another.

@@ -58,7 +58,8 @@ module _ (marking : Marking) (p : Program) (nodes : List Node) (records : List S
     pub second_entry : (e : Entry) × (slice_get entries second ≡ Some e) × IsStored marking (meaning p) (types_of p) nodes b e
     second_entry = entry_of second b at_second
 
-    pair_there : (go : Entry → Loading) → at_pair first second go ≡ within_limits (meaning p) file_size number (pair_from first_entry.0 second_entry.0) (go (pair_from first_entry.0 second_entry.0))
+    pair_there : (go : Entry → Loading)
+        → at_pair first second go ≡ within_limits (meaning p) file_size number (pair_from first_entry.0 second_entry.0) (go (pair_from first_entry.0 second_entry.0))
     pair_there go =
         ap (λ o. checked_entry (meaning p) file_size number (option_and_then (λ a. option_map (λ b. pair_from a b) (slice_get entries second)) o) go) first_entry.1
         ∙ ap (λ o. checked_entry (meaning p) file_size number (option_map (λ b. pair_from first_entry.0 b) o) go) second_entry.1
@@ -77,10 +78,14 @@ module _ (marking : Marking) (p : Program) (nodes : List Node) (records : List S
       pair_part = ap (λ t. is_part (meaning p).types t (meaning p).state) (sym pair_type) ∙ part
 
       pair_size : size_at nodes a.value.0 + size_at nodes b.value.0 ≡ size (meaning p).types (PairTy first_entry.0.of_type second_entry.0.of_type) (PairV first_entry.0.value second_entry.0.value)
-      pair_size = ap₂ (λ m n. m + n) (size_is marking (meaning p) (types_of p) nodes a first_entry.0 first_entry.2 sound) (size_is marking (meaning p) (types_of p) nodes b second_entry.0 second_entry.2 sound)
+      pair_size =
+          ap₂ (λ m n. m + n) (size_is marking (meaning p) (types_of p) nodes a first_entry.0 first_entry.2 sound)
+          (size_is marking (meaning p) (types_of p) nodes b second_entry.0 second_entry.2 sound)
 
       pair_depth : 1 + max (depth_at nodes a.value.0) (depth_at nodes b.value.0) ≡ depth (meaning p).types (PairTy first_entry.0.of_type second_entry.0.of_type) (PairV first_entry.0.value second_entry.0.value)
-      pair_depth = ap₂ (λ m n. 1 + max m n) (depth_is marking (meaning p) (types_of p) nodes a first_entry.0 first_entry.2 sound) (depth_is marking (meaning p) (types_of p) nodes b second_entry.0 second_entry.2 sound)
+      pair_depth =
+          ap₂ (λ m n. 1 + max m n) (depth_is marking (meaning p) (types_of p) nodes a first_entry.0 first_entry.2 sound)
+          (depth_is marking (meaning p) (types_of p) nodes b second_entry.0 second_entry.2 sound)
 
       pub pair_big : 65536 < size_at nodes a.value.0 + size_at nodes b.value.0 → (go : Entry → Loading) → at_pair first second go ≡ FaultyImage (TooBig number)
       pair_big big =
@@ -90,7 +95,8 @@ module _ (marking : Marking) (p : Program) (nodes : List Node) (records : List S
       module _ (small : size_at nodes a.value.0 + size_at nodes b.value.0 ≤ 65536) where
         pub pair_deep : 512 < 1 + max (depth_at nodes a.value.0) (depth_at nodes b.value.0) → (go : Entry → Loading) → at_pair first second go ≡ FaultyImage (TooDeep number)
         pair_deep deep =
-            too_deep p file_size number (PairTy first_entry.0.of_type second_entry.0.of_type) (PairV first_entry.0.value second_entry.0.value) (at_pair first second) pair_there pair_part
+            too_deep p file_size number (PairTy first_entry.0.of_type second_entry.0.of_type) (PairV first_entry.0.value second_entry.0.value)
+            (at_pair first second) pair_there pair_part
             (subst (λ (n : ℕ). n ≤ 65536) pair_size small) (subst (λ (n : ℕ). 512 < n) pair_depth deep)
 
         pub pair_loaded : 1 + max (depth_at nodes a.value.0) (depth_at nodes b.value.0) ≤ 512 → (new : List Node) (pair : StoredRecord)
@@ -110,7 +116,8 @@ module _ (marking : Marking) (p : Program) (nodes : List Node) (records : List S
     pub inner_entry : (e : Entry) × (slice_get entries inner ≡ Some e) × IsStored marking (meaning p) (types_of p) nodes a e
     inner_entry = entry_of inner a at
 
-    auth_there : (go : Entry → Loading) → at_auth inner go ≡ within_limits (meaning p) file_size number (entry (AuthTy inner_entry.0.of_type) inner_entry.0.value) (go (entry (AuthTy inner_entry.0.of_type) inner_entry.0.value))
+    auth_there : (go : Entry → Loading)
+        → at_auth inner go ≡ within_limits (meaning p) file_size number (entry (AuthTy inner_entry.0.of_type) inner_entry.0.value) (go (entry (AuthTy inner_entry.0.of_type) inner_entry.0.value))
     auth_there go = ap (λ o. checked_entry (meaning p) file_size number (option_map (λ a. entry (AuthTy a.of_type) a.value) o) go) inner_entry.1
 
     inner_type : type_at (types_of p) a.ty ≡ inner_entry.0.of_type
@@ -134,6 +141,7 @@ module _ (marking : Marking) (p : Program) (nodes : List Node) (records : List S
     auth_loaded part new auth of_type stands =
         loaded p file_size number (AuthTy inner_entry.0.of_type) inner_entry.0.value (at_auth inner) auth_there
         (ap (λ t. is_part (meaning p).types (AuthTy t) (meaning p).state) (sym inner_type) ∙ part) (lit≤ tt) (lit≤ tt) marking new auth
-        (authenticated marking (meaning p) inner_entry.0.of_type (seen_as marking (meaning p) inner_entry.0.of_type inner_entry.0.value)) (of_type ∙ ap (λ t. Some (AuthTy t)) inner_type)
+        (authenticated marking (meaning p) inner_entry.0.of_type (seen_as marking (meaning p) inner_entry.0.of_type inner_entry.0.value))
+        (of_type ∙ ap (λ t. Some (AuthTy t)) inner_type)
         (sym (authenticated_seen marking (meaning p) inner_entry.0.of_type inner_entry.0.value))
         (subst (λ t. StandsFor (kind_of marking (meaning p)) (meaning p).types new auth.value.0 (AuthTy t) (authenticated marking (meaning p) t (seen_as marking (meaning p) inner_entry.0.of_type inner_entry.0.value))) inner_type stands)

@@ -45,7 +45,9 @@ module _ (marking : Marking) (p : Program) (nodes : List Node) where
     one_more t ts r e is same refs vs h =
         subst (λ t. StandForFields (t ∷ ts) (r.value.0 ∷ refs) (AndV e.value vs)) same
         (record {
-          stand = subst (λ w. AllStandFor (kind_of marking (meaning p)) (meaning p).types nodes (r.value.0 ∷ refs) (e.of_type ∷ ts) w) (sym (fields_seen marking (meaning p) e.of_type ts e.value vs)) (is.stands, h.stand);
+          stand =
+              subst (λ w. AllStandFor (kind_of marking (meaning p)) (meaning p).types nodes (r.value.0 ∷ refs) (e.of_type ∷ ts) w)
+              (sym (fields_seen marking (meaning p) e.of_type ts e.value vs)) (is.stands, h.stand);
           there = both (nat_lt r.value.0 (length nodes)) _ (lt-ltb r.value.0 (length nodes) (node_there marking (meaning p) (types_of p) nodes r e is)) h.there;
           size = ap₂ (λ m n. m + n) (size_is marking (meaning p) (types_of p) nodes r e is sound) h.size;
           depth = ap₂ (λ m n. max m n) (depth_is marking (meaning p) (types_of p) nodes r e is sound) h.depth;

@@ -1,33 +1,41 @@
+-- Which functions the files serve. The parts of the state's type, with their marks:
+mod GrowingTests
 mod PartFields
 mod PartLevels
 mod PartMarking
 mod PartSpreading
 mod PartSteps
+mod ClosedParts
+-- read_record and its fields
 mod RecordFronts
+-- what a record stands for: entries, then field_refs
+pub mod TypeNumbers
 pub mod Checked
 pub mod Seen
 pub mod StoredLists
 pub mod StoredNodes
-pub mod TypeNumbers
 pub mod Composites
 pub mod FieldRefs
 pub mod FieldSteps
 pub mod Constructors
+-- stored, load_records, root, load_image
 pub mod AtRecords
 pub mod LoadedLists
 pub mod Roots
 pub mod LoadedImages
+-- the entries of a value, and the record of each: number_for and record_of
 mod SameEntries
 mod AmongEntries
 mod DistinctEntries
 mod NumberedEntries
+mod EntryParts
 mod SameRecords
 mod NumberedParts
-mod EntryParts
 mod RecordBytes
 mod RecordReading
 mod NodeEntries
 mod OneEntry
+-- records_of: the walk over nodes
 mod Weights
 mod WaitingFrames
 mod SavingLists
@@ -36,9 +44,8 @@ mod SavingWalk
 mod SavingAdd
 mod SavingSteps
 mod LoopFacts
+-- save_image, and that what it writes loads
 mod WholeImages
-mod GrowingTests
-mod ClosedParts
 mod FitEntries
 mod BehindParts
 mod WholeLast

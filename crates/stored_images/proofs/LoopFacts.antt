@@ -27,7 +27,8 @@ pub none_shown : (nodes : List Node) (r i : ℕ) (form : Form) (part : Option Re
     → part ≡ None → slice_get (refs_at nodes r) i ≡ None
 none_shown nodes r i form part at h e = ap (λ rs. slice_get rs i) (refs_shown nodes r form at) ∙ none_at (refs_in form) i part h e
 
-pub part_below : (r i : ℕ) (form : Form) (part : Option Ref) (p : Ref) → refers_below r form ≡ true → option_map (λ (r : Ref). r.0) part ≡ slice_get (refs_in form) i → part ≡ Some p → p.0 < r
+pub part_below : (r i : ℕ) (form : Form) (part : Option Ref) (p : Ref) → refers_below r form ≡ true
+    → option_map (λ (r : Ref). r.0) part ≡ slice_get (refs_in form) i → part ≡ Some p → p.0 < r
 part_below r i form part p below h e = below_at r (refs_in form) i p.0 below (shown_at (refs_in form) i part p h e)
 
 -- an error that is handed on

@@ -60,7 +60,8 @@ same_marked P R a b h to of =
     (h.0, h.1, λ i m. elim (h.2 i m) [ inl old ↦ inl old | inr p ↦ inr (of i p) ], λ i r. h.3 i (to i r))
 
 -- one number more is one of these
-pub among_step : (ids : List TyId) (n : ℕ) (id : TyId) (old now new : List Bool) → slice_get ids n ≡ Some id → AddsMarks (IsAmong ids n) old now → AddsMarks (λ i. id.0 ≡ i) now new → AddsMarks (IsAmong ids (n + 1)) old new
+pub among_step : (ids : List TyId) (n : ℕ) (id : TyId) (old now new : List Bool) → slice_get ids n ≡ Some id → AddsMarks (IsAmong ids n) old now
+    → AddsMarks (λ i. id.0 ≡ i) now new → AddsMarks (IsAmong ids (n + 1)) old new
 among_step ids n id old now new at before step =
     more_marks (IsAmong ids n) (λ i. id.0 ≡ i) (IsAmong ids (n + 1)) old now new before step
     cases

@@ -26,7 +26,8 @@ module _ (p : Program) where
   -- a part of a form is one of the form's type
   part_of_form : (form : TyForm) (i : ℕ) → IsPartOfForm form i → IsPart (meaning p).types 0 (type_of p i) (type_of_form (types_of p) form)
   part_of_form (AuthForm part) i e =
-      subst (λ i. IsPart (meaning p).types 0 (type_of p i) (AuthTy (type_of p part.0))) e (in_auth (meaning p).types 0 (type_of p part.0) (type_of p part.0) (itself (meaning p).types 0 (type_of p part.0)))
+      subst (λ i. IsPart (meaning p).types 0 (type_of p i) (AuthTy (type_of p part.0))) e
+      (in_auth (meaning p).types 0 (type_of p part.0) (type_of p part.0) (itself (meaning p).types 0 (type_of p part.0)))
   part_of_form (PairForm first second) i (inl e) =
       subst (λ i. IsPart (meaning p).types 0 (type_of p i) (PairTy (type_of p first.0) (type_of p second.0))) e
       (in_first (meaning p).types 0 (type_of p first.0) (type_of p first.0) (type_of p second.0) (itself (meaning p).types 0 (type_of p first.0)))
@@ -75,7 +76,8 @@ module _ (p : Program) where
       sound : (i : ℕ) → IsMarked new i → (j : ℕ) × IsMarked old j × IsPart (meaning p).types 0 (type_of p i) (type_of p j)
       sound i here = elim (step.2 i here) [ inl before ↦ h.2 i before | inr part ↦ of_part (h.2 m marked) part ]
         where
-          of_part : ((j : ℕ) × IsMarked old j × IsPart (meaning p).types 0 (type_of p m) (type_of p j)) → IsPartOfForm form i → (j : ℕ) × IsMarked old j × IsPart (meaning p).types 0 (type_of p i) (type_of p j)
+          of_part : ((j : ℕ) × IsMarked old j × IsPart (meaning p).types 0 (type_of p m) (type_of p j)) → IsPartOfForm form i
+              → (j : ℕ) × IsMarked old j × IsPart (meaning p).types 0 (type_of p i) (type_of p j)
           of_part whole part =
               (whole.0, whole.1, part_of_part (meaning p).types 0 (type_of p i) (type_of p m) (type_of p whole.0) whole.2 (subst (IsPart (meaning p).types 0 (type_of p i)) means (part_of_form form i part)))
 

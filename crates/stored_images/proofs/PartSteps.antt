@@ -130,7 +130,8 @@ module _ (p : Program) where
       tells : (i : ℕ) → i < length (types_of p) → slice_index_or marks i false ≡ is_part (meaning p).types (type_of p i) (meaning p).state
       tells i within = by (slice_index_or marks i false) (is_part (meaning p).types (type_of p i) (meaning p).state) refl refl
         where
-          by : (b c : Bool) → slice_index_or marks i false ≡ b → is_part (meaning p).types (type_of p i) (meaning p).state ≡ c → slice_index_or marks i false ≡ is_part (meaning p).types (type_of p i) (meaning p).state
+          by : (b c : Bool) → slice_index_or marks i false ≡ b → is_part (meaning p).types (type_of p i) (meaning p).state ≡ c
+              → slice_index_or marks i false ≡ is_part (meaning p).types (type_of p i) (meaning p).state
           by true c e f = e ∙ sym (at_last.1 i e)
           by false false e f = e ∙ sym f
           by false true e f =

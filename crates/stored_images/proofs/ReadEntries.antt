@@ -66,7 +66,8 @@ module _ (types : Table) (done : List Entry) where
   length-references ts vs i = elim i [ ]
 
   module _ (few : length done ≤ 4294967296) where
-    numbers_back : (ts : List Ty) (vs : Values) → AreIdeal types ts vs → AreAmong done (fields ts vs) → numbers_of (length ts) (references types done ts vs) ≡ numbers_among done (fields ts vs)
+    numbers_back : (ts : List Ty) (vs : Values) → AreIdeal types ts vs → AreAmong done (fields ts vs)
+        → numbers_of (length ts) (references types done ts vs) ≡ numbers_among done (fields ts vs)
     numbers_back [] NoV i h = refl
     numbers_back (t ∷ ts) (AndV v vs) i h = ap₂ (λ (n : ℕ) (ns : List ℕ). n ∷ ns) (number_again (entry t v) done few h.0) (numbers_back ts vs i.1 h.1)
     numbers_back ts vs i h = elim i [ ]

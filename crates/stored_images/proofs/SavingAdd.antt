@@ -120,7 +120,8 @@ module _ (types : Table) (few_types : length types ≤ 65536) (nodes : List Node
       }
 
   -- a new record is of an entry that isn't there
-  pub not_there : (done : List Entry) (old : Records) (found : List ℕ) (e : Entry) → records_in old ≡ map (record_of types done) done → found ≡ record_of types done e → IsNew found old → is_entry_of e done ≡ false
+  pub not_there : (done : List Entry) (old : Records) (found : List ℕ) (e : Entry) → records_in old ≡ map (record_of types done) done
+      → found ≡ record_of types done e → IsNew found old → is_entry_of e done ≡ false
   not_there done old found e keys is new = by (is_entry_of e done) refl
     where
       by : (b : Bool) → is_entry_of e done ≡ b → b ≡ false

@@ -64,7 +64,9 @@ module _ (types : Table) (nodes : List Node) where
         let same : (done ++ e ∷ []) ++ grown.0 ≡ wanted =
         sym grown.1 ∙ sym (distinct_new done e saving.are_left.1 fresh) ∙ ap (distinct done) (sym whole_left) ∙ saving.met in
         let all = ap (λ es. length (records_bytes types es es)) same in
-        let parted = ap length (records_append types ((done ++ e ∷ []) ++ grown.0) (done ++ e ∷ []) grown.0) ∙ length-append (records_bytes types ((done ++ e ∷ []) ++ grown.0) (done ++ e ∷ [])) _ in
+        let parted =
+        ap length (records_append types ((done ++ e ∷ []) ++ grown.0) (done ++ e ∷ []) grown.0)
+        ∙ length-append (records_bytes types ((done ++ e ∷ []) ++ grown.0) (done ++ e ∷ [])) _ in
         let front = length-records types ((done ++ e ∷ []) ++ grown.0) done (done ++ e ∷ []) in
         let last = ap length (records_append types done done (e ∷ [])) ∙ length-append (records_bytes types done done) (records_bytes types done (e ∷ [])) in
         let own = ap length (append-nil (record_bytes types done e.of_type e.value)) in

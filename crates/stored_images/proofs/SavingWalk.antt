@@ -95,7 +95,8 @@ module _ (types : Table) (nodes : List Node) where
         let q : Entry = left.part in
         let es = parts types q.of_type q.value in
         let whole : walk types q.of_type q.value ++ left.rest ≡ walks types (drop 0 es) ++ (q ∷ left.rest) =
-        ap (λ xs. xs ++ left.rest) (walk_parts types q.of_type q.value) ∙ append_assoc (walks types es) (q ∷ []) left.rest ∙ ap (λ es. walks types es ++ (q ∷ left.rest)) (sym (drop_zero es)) in
+        ap (λ xs. xs ++ left.rest) (walk_parts types q.of_type q.value) ∙ append_assoc (walks types es) (q ∷ []) left.rest
+        ∙ ap (λ es. walks types es ++ (q ∷ left.rest)) (sym (drop_zero es)) in
         record {
           done = h.done;
           numbered = h.numbered;

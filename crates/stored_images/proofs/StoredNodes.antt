@@ -39,7 +39,8 @@ node_at marking P types nodes records entries stored n r at =
     node_there marking P types nodes r there.0 there.2
 
 -- and so is its type
-pub type_at_number : (marking : Marking) (P : Program) (types : List Ty) (nodes : List Node) (records : List StoredRecord) (entries : List Entry) → AreStored marking P types nodes records entries
+pub type_at_number : (marking : Marking) (P : Program) (types : List Ty) (nodes : List Node) (records : List StoredRecord) (entries : List Entry)
+    → AreStored marking P types nodes records entries
     → (n : ℕ) (r : StoredRecord) → Some r ≡ slice_get records n → nat_lt r.ty.0 (length types) ≡ true
 type_at_number marking P types nodes records entries stored n r at =
     let there = stored_there marking P types nodes records entries stored n r (sym at) in

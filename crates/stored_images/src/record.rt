@@ -48,7 +48,7 @@ pub(crate) struct Front<'a> {
 }
 
 /// Why no record stands at the front of some bytes.
-#[derive(Clone, Copy, Debug, PartialEq, Eq)]
+#[derive(Clone, Copy)]
 pub(crate) enum RecordFault {
     /// The bytes end inside it.
     Cut,

@@ -42,12 +42,14 @@ module _ (nodes : List meant.Node) (refs : List Ref) (i : ℕ) (d : Ref) (below 
   pub total_further : (total size whole : ℕ) → size ≡ size_at nodes (slice_index_or refs i d).0
       → total + total_size nodes (numbers_of (drop i refs)) ≡ whole → (total + size) + total_size nodes (numbers_of (drop (i + 1) refs)) ≡ whole
   total_further total size whole is so_far =
-      let rest : total_size nodes (numbers_of (drop i refs)) ≡ size_at nodes (slice_index_or refs i d).0 + total_size nodes (numbers_of (drop (i + 1) refs)) = ap (total_size nodes) rest_is in
+      let rest : total_size nodes (numbers_of (drop i refs)) ≡ size_at nodes (slice_index_or refs i d).0 + total_size nodes (numbers_of (drop (i + 1) refs)) =
+      ap (total_size nodes) rest_is in
       omega (arith, is, so_far, rest)
 
   -- a greatest one so far
   pub greatest_further : (greatest depth whole : ℕ) → depth ≡ depth_at nodes (slice_index_or refs i d).0
       → max greatest (greatest_depth nodes (numbers_of (drop i refs))) ≡ whole → max (max greatest depth) (greatest_depth nodes (numbers_of (drop (i + 1) refs))) ≡ whole
   greatest_further greatest depth whole is so_far =
-      let rest : greatest_depth nodes (numbers_of (drop i refs)) ≡ max (depth_at nodes (slice_index_or refs i d).0) (greatest_depth nodes (numbers_of (drop (i + 1) refs))) = ap (greatest_depth nodes) rest_is in
+      let rest : greatest_depth nodes (numbers_of (drop i refs)) ≡ max (depth_at nodes (slice_index_or refs i d).0) (greatest_depth nodes (numbers_of (drop (i + 1) refs))) =
+      ap (greatest_depth nodes) rest_is in
       omega (arith, is, so_far, rest)

@@ -8,8 +8,6 @@ pub mod laws;
 pub mod marker;
 pub mod node;
 pub mod store;
-#[cfg(test)]
-mod tests;
 pub mod view;
 
 pub use marker::Marker;

@@ -4,11 +4,11 @@ use core_terms::Digest;
 use core_terms::language::{NamedId, Tag};
 
 /// The number of a node in its store.
-#[derive(Clone, Copy, Debug, PartialEq, Eq, Hash)]
+#[derive(Clone, Copy, PartialEq)]
 pub struct Ref(pub usize);
 
 /// What the node of an authenticated value holds.
-#[derive(Clone, Copy, Debug, PartialEq, Eq)]
+#[derive(Clone, Copy, PartialEq)]
 pub enum Held {
     /// The value alone, in ideal mode.
     Inner(Ref),

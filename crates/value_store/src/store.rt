@@ -32,7 +32,7 @@ const TEXT_LENGTH_SIZE: u32 = 4;
 const DIGEST_SIZE: u32 = 32;
 
 /// A place in a store: the number of nodes before it.
-#[derive(Clone, Copy, Debug, PartialEq, Eq)]
+#[derive(Clone, Copy, PartialEq)]
 pub struct Mark(usize);
 
 impl Store {

@@ -19,7 +19,7 @@ use core_terms::{Cause, Digest, Hash32, Program, Term, Trap, TyId};
 use std::alloc::{AllocError, Global};
 
 /// Why a call has no outcome.
-#[derive(Clone, Copy, Debug, PartialEq, Eq)]
+#[derive(Clone, Copy)]
 pub enum Refusal {
     /// The proof is rejected.
     Rejected(Cause),
@@ -28,7 +28,7 @@ pub enum Refusal {
 }
 
 /// What ends a run before its value.
-#[derive(Clone, Copy, Debug, PartialEq, Eq)]
+#[derive(Clone, Copy)]
 pub enum Stop {
     /// A trap of the program.
     Trapped(Trap),

@@ -20,7 +20,7 @@ use core_terms::{Cause, FunctionId, Hash32, Outcome, Program, Spelling};
 use std::alloc::{AllocError, Global};
 
 /// Why a call isn't accepted.
-#[derive(Clone, Copy, Debug, PartialEq, Eq)]
+#[derive(Clone, Copy)]
 pub enum Verdict {
     /// The proof is rejected, for this cause.
     Rejected(Cause),

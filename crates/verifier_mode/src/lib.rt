@@ -12,6 +12,3 @@ pub mod reading;
 
 pub use frames::Frames;
 pub use judge::{Verdict, verify};
-
-#[cfg(test)]
-mod tests;

@@ -16,7 +16,7 @@ use std::alloc::{AllocError, Global};
 use std::str::from_utf8;
 
 /// A shallow value of the fragment. A text is lent by what it was read from, or by the program.
-#[derive(Clone, Copy, Debug, PartialEq, Eq)]
+#[derive(Clone, Copy)]
 pub enum Shallow<'a> {
     /// The value `()`.
     UnitValue,

@@ -78,7 +78,7 @@ impl<'s, 'a> Elaborator<'s, 'a> {
     ghost use Rattle.auth_types.specs.Outcomes.{Finds};
     ghost use Rattle.auth_types.specs.Scopes.{scope_meant};
     ghost use Rattle.auth_types.specs.Locals.{names_of};
-    ghost use Rattle.auth_types.specs.Elaborators.{Keeps, found_at, locals_of, scope_of, typed_of, types_of, want_of};
+    ghost use Rattle.auth_types.specs.Elaborators.{Keeps, ShowsTerm, boxed_of, found_at, locals_of, scope_of, typed_of, types_of, want_of};
 
     /// Before a body, with no locals.
     pub(super) fn new(alloc: Global, types: TyTable, scope: &'s Scope<'a>) -> Self
@@ -127,10 +127,10 @@ impl<'s, 'a> Elaborator<'s, 'a> {
     }
 
     /// The term at this place, which has this type.
-    pub(super) fn wanted(&self, at: Place, ty: TyId, part: Typed) -> Result<Term, Fault>
+    pub(super) fn wanted(&self, at: Place, ty: TyId, part: Typed) -> Result<Box<Term>, Fault>
         requires wanted { ty.0 < length (types_of self.now) }
         requires part { part.ty.0 < length (types_of self.now) }
-        ensures { (found : Checking specified.Typed) → Shows (types_of self.now) typed_of found part → FindsOver (types_of self.now) expression_of (wanted at (type_at (types_of self.now) ty) found) result }
+        ensures { (found : Checking specified.Typed) → Shows (types_of self.now) typed_of found part → FindsOver (types_of self.now) boxed_of (wanted at (type_at (types_of self.now) ty) found) result }
     {
         if self.types.is_same(part.ty, ty) {
             Ok(part.term)
@@ -139,21 +139,31 @@ impl<'s, 'a> Elaborator<'s, 'a> {
         }
     }
 
-    /// A term whose type has this form, and no parts.
-    pub(super) fn plain(&mut self, term: Term, form: TyForm) -> Result<Typed, AllocError>
-        requires { stands_behind 0 form ≡ true }
-        ensures keeps { OnOk result (Keeps self.old self.new) }
-        ensures found { IfOk result (λ typed. (more : List Ty) → typed_of (types_of self.new ++ more) typed ≡ record { expression = expression_of (types_of self.new ++ more) term; of_type = type_of_form [] form }) }
-        ensures inside { IfOk result (λ typed. typed.ty.0 < length (types_of self.new)) }
+    /// A term of this type.
+    pub(super) fn typed(&self, term: Term, ty: TyId) -> Result<Typed, Fault>
+        requires { ty.0 < length (types_of self.now) }
+        ensures found { (found : Checking specified.Typed) → ShowsTerm (types_of self.now) found term ty → FindsOver (types_of self.now) typed_of found result }
+        ensures inside { IfOk result (λ typed. typed.ty.0 < length (types_of self.now)) }
     {
-        let ty = self.intern(form)?;
+        let term = Box::new(self.alloc, term)?;
         Ok(Typed { term, ty })
     }
 
-    /// A text, which is copied.
-    pub(super) fn text(&mut self, text: &Text) -> Result<Typed, AllocError>
+    /// A term whose type has this form, and no parts.
+    pub(super) fn plain(&mut self, term: Term, form: TyForm) -> Result<Typed, Fault>
+        requires { stands_behind 0 form ≡ true }
         ensures keeps { OnOk result (Keeps self.old self.new) }
-        ensures found { IfOk result (λ whole. Shows (types_of self.new) typed_of (typed (TextE (bytes_of text.now)) TextTy) whole) }
+        ensures found { (found : Checking specified.Typed) → (Keeps self.old self.new → (more : List Ty) → found ≡ typed (expression_of (types_of self.new ++ more) term) (type_of_form [] form)) → FindsOver (types_of self.new) typed_of found result }
+        ensures inside { IfOk result (λ typed. typed.ty.0 < length (types_of self.new)) }
+    {
+        let ty = self.intern(form)?;
+        self.typed(term, ty)
+    }
+
+    /// A text, which is copied.
+    pub(super) fn text(&mut self, text: &Text) -> Result<Typed, Fault>
+        ensures keeps { OnOk result (Keeps self.old self.new) }
+        ensures found { FindsOver (types_of self.new) typed_of (typed (TextE (bytes_of text.now)) TextTy) result }
         ensures inside { IfOk result (λ typed. typed.ty.0 < length (types_of self.new)) }
     {
         let text = Text::new(text.as_bytes().to_vec(self.alloc)?);
@@ -166,10 +176,7 @@ impl<'s, 'a> Elaborator<'s, 'a> {
         ensures inside { IfOk result (λ typed. typed.ty.0 < length (types_of self.now)) }
     {
         match innermost(&self.locals, name) {
-            Some(number) => Ok(Typed {
-                term: Term::Local(LocalId(number)),
-                ty: self.locals[number].ty,
-            }),
+            Some(number) => self.typed(Term::Local(LocalId(number)), self.locals[number].ty),
             None => Err(Fault::At(TypeKind::UnknownName, at)),
         }
     }

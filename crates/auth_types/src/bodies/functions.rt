@@ -49,19 +49,21 @@ fn copied(alloc: Global, name: &Name) -> Result<Name, AllocError>
 }
 
 /// The function of a head, with this body.
-fn with_body(alloc: Global, head: &Head<'_>, body: Term) -> Result<Function, AllocError>
+fn with_body(alloc: Global, head: &Head<'_>, body: Box<Term>) -> Result<Function, AllocError>
     ensures name { IfOk result (λ f. f.name ≡ head.now.function.now.name.name) }
     ensures kind { IfOk result (λ f. kind_of f.kind ≡ kind_meant (written.kind_of head.now.function.now.kind)) }
     ensures parameters { IfOk result (λ f. f.parameters.items ≡ head.now.parameters.items) }
     ensures gives { IfOk result (λ f. f.result ≡ head.now.result) }
-    ensures body { IfOk result (λ f. f.body ≡ body) }
+    ensures body { IfOk result (λ f. f.body ≡ body.value) }
 {
+    let name = copied(alloc, &head.function.name.name)?;
+    let parameters = head.parameters.to_vec(alloc)?;
     Ok(Function {
-        name: copied(alloc, &head.function.name.name)?,
+        name,
         kind: kind(head.function.kind),
-        parameters: head.parameters.to_vec(alloc)?,
+        parameters,
         result: head.result,
-        body,
+        body: Box::into_inner(body),
     })
 }
 

@@ -11,7 +11,7 @@ ghost use Rattle.auth_types.specs.Bodies as specified;
 ghost use Rattle.auth_types.specs.Bodies.{binary_expression, operand_type, pair, result_type, typed, unary};
 ghost use Rattle.auth_types.specs.Checking.{Checking, then_checked};
 ghost use Rattle.auth_types.specs.OverTypes.{FindsOver, Shows};
-ghost use Rattle.auth_types.specs.Elaborators.{Keeps, typed_of, types_of};
+ghost use Rattle.auth_types.specs.Elaborators.{Keeps, boxed_of, typed_of, types_of};
 
 use crate::bodies::Typed;
 use crate::bodies::elaborator::Elaborator;
@@ -20,7 +20,7 @@ use auth_syntax::place::Place;
 use auth_syntax::tree::{BinaryOperator, UnaryOperator};
 use core_terms::TyId;
 use core_terms::language::{Arith, Compare, Term, TextCompare, TyForm};
-use std::alloc::{AllocError, Global};
+use std::alloc::AllocError;
 
 /// The form of the type of the operands.
 fn operand_form(operator: BinaryOperator) -> TyForm
@@ -62,17 +62,10 @@ fn result_form(operator: BinaryOperator) -> TyForm
 
 /// The term of an operation on two terms.
 #[tactic(auto, using(crate::proofs::TermViews::operations_meant))]
-fn operation(
-    alloc: Global,
-    operator: BinaryOperator,
-    first: Term,
-    second: Term,
-) -> Result<Term, AllocError>
-    ensures { IfOk result (λ term. (types : List Ty) → expression_of types term ≡ binary_expression (written.binary_of operator) (expression_of types first) (expression_of types second)) }
+fn operation(operator: BinaryOperator, first: Box<Term>, second: Box<Term>) -> Term
+    ensures { (types : List Ty) → expression_of types result ≡ binary_expression (written.binary_of operator) (expression_of types first.value) (expression_of types second.value) }
 {
-    let first = Box::new(alloc, first)?;
-    let second = Box::new(alloc, second)?;
-    Ok(match operator {
+    match operator {
         BinaryOperator::Add => Term::Arith(Arith::Add, first, second),
         BinaryOperator::Sub => Term::Arith(Arith::Sub, first, second),
         BinaryOperator::Mul => Term::Arith(Arith::Mul, first, second),
@@ -84,26 +77,21 @@ fn operation(
         BinaryOperator::Teq => Term::TextCompare(TextCompare::Eq, first, second),
         BinaryOperator::Tlt => Term::TextCompare(TextCompare::Lt, first, second),
         BinaryOperator::Cat => Term::Cat(first, second),
-    })
+    }
 }
 
 impl<'s, 'a> Elaborator<'s, 'a> {
     /// A pair.
-    pub(super) fn paired(&mut self, first: Typed, second: Typed) -> Result<Typed, AllocError>
+    pub(super) fn paired(&mut self, first: Typed, second: Typed) -> Result<Typed, Fault>
         requires first { first.ty.0 < length (types_of self.old) }
         requires second { second.ty.0 < length (types_of self.old) }
         ensures keeps { OnOk result (Keeps self.old self.new) }
-        ensures found { IfOk result (λ whole. (x y : Checking specified.Typed) → Shows (types_of self.old) typed_of x first → Shows (types_of self.old) typed_of y second → Shows (types_of self.new) typed_of (pair x y) whole) }
+        ensures found { (x y : Checking specified.Typed) → Shows (types_of self.old) typed_of x first → Shows (types_of self.old) typed_of y second → FindsOver (types_of self.new) typed_of (pair x y) result }
         ensures inside { IfOk result (λ typed. typed.ty.0 < length (types_of self.new)) }
     {
         let ty = self.intern(TyForm::PairForm(first.ty, second.ty))?;
-        let term = Term::Pair(
-            first.ty,
-            second.ty,
-            Box::new(self.alloc, first.term)?,
-            Box::new(self.alloc, second.term)?,
-        );
-        Ok(Typed { term, ty })
+        let term = Term::Pair(first.ty, second.ty, first.term, second.term);
+        self.typed(term, ty)
     }
 
     /// An operation on a term at this place.
@@ -121,7 +109,7 @@ impl<'s, 'a> Elaborator<'s, 'a> {
         match operator {
             UnaryOperator::Fst => self.first(at, operand),
             UnaryOperator::Snd => self.second(at, operand),
-            UnaryOperator::Auth => Ok(self.authenticated(operand)?),
+            UnaryOperator::Auth => self.authenticated(operand),
             UnaryOperator::Unauth => self.opened(at, operand),
             UnaryOperator::Len => self.text_length(at, operand),
             UnaryOperator::Not => self.negated(at, operand),
@@ -135,10 +123,9 @@ impl<'s, 'a> Elaborator<'s, 'a> {
         ensures inside { IfOk result (λ typed. typed.ty.0 < length (types_of self.now)) }
     {
         match self.form(operand.ty) {
-            TyForm::PairForm(first, second) => Ok(Typed {
-                term: Term::Fst(first, second, Box::new(self.alloc, operand.term)?),
-                ty: first,
-            }),
+            TyForm::PairForm(first, second) => {
+                self.typed(Term::Fst(first, second, operand.term), first)
+            }
             _ => Err(Fault::At(TypeKind::NotPair, at)),
         }
     }
@@ -150,24 +137,22 @@ impl<'s, 'a> Elaborator<'s, 'a> {
         ensures inside { IfOk result (λ typed. typed.ty.0 < length (types_of self.now)) }
     {
         match self.form(operand.ty) {
-            TyForm::PairForm(first, second) => Ok(Typed {
-                term: Term::Snd(first, second, Box::new(self.alloc, operand.term)?),
-                ty: second,
-            }),
+            TyForm::PairForm(first, second) => {
+                self.typed(Term::Snd(first, second, operand.term), second)
+            }
             _ => Err(Fault::At(TypeKind::NotPair, at)),
         }
     }
 
     /// `auth` of a term.
-    fn authenticated(&mut self, operand: Typed) -> Result<Typed, AllocError>
+    fn authenticated(&mut self, operand: Typed) -> Result<Typed, Fault>
         requires { operand.ty.0 < length (types_of self.old) }
         ensures keeps { OnOk result (Keeps self.old self.new) }
-        ensures found { IfOk result (λ typed. (at : Place) (found : Checking specified.Typed) → Shows (types_of self.old) typed_of found operand → Shows (types_of self.new) typed_of (unary syntax.AuthOperation at found) typed) }
+        ensures found { (at : Place) (found : Checking specified.Typed) → Shows (types_of self.old) typed_of found operand → FindsOver (types_of self.new) typed_of (unary syntax.AuthOperation at found) result }
         ensures inside { IfOk result (λ typed. typed.ty.0 < length (types_of self.new)) }
     {
         let ty = self.intern(TyForm::AuthForm(operand.ty))?;
-        let term = Term::Auth(operand.ty, Box::new(self.alloc, operand.term)?);
-        Ok(Typed { term, ty })
+        self.typed(Term::Auth(operand.ty, operand.term), ty)
     }
 
     /// `unauth` of a term at this place, which has a type of authenticated values.
@@ -177,10 +162,7 @@ impl<'s, 'a> Elaborator<'s, 'a> {
         ensures inside { IfOk result (λ typed. typed.ty.0 < length (types_of self.now)) }
     {
         match self.form(operand.ty) {
-            TyForm::AuthForm(ty) => Ok(Typed {
-                term: Term::Unauth(ty, Box::new(self.alloc, operand.term)?),
-                ty,
-            }),
+            TyForm::AuthForm(ty) => self.typed(Term::Unauth(ty, operand.term), ty),
             _ => Err(Fault::At(TypeKind::NotAuth, at)),
         }
     }
@@ -194,8 +176,7 @@ impl<'s, 'a> Elaborator<'s, 'a> {
     {
         let text = self.intern(TyForm::TextForm)?;
         let operand = self.wanted(at, text, operand)?;
-        let length = Term::Len(Box::new(self.alloc, operand)?);
-        Ok(self.plain(length, TyForm::IntForm)?)
+        self.plain(Term::Len(operand), TyForm::IntForm)
     }
 
     /// `not` of a term at this place, which is a truth value.
@@ -207,10 +188,7 @@ impl<'s, 'a> Elaborator<'s, 'a> {
     {
         let truth = self.intern(TyForm::BoolForm)?;
         let operand = self.wanted(at, truth, operand)?;
-        Ok(Typed {
-            term: Term::Not(Box::new(self.alloc, operand)?),
-            ty: truth,
-        })
+        self.typed(Term::Not(operand), truth)
     }
 
     /// The type that an operation wants of its operands.
@@ -226,14 +204,14 @@ impl<'s, 'a> Elaborator<'s, 'a> {
     pub(super) fn combined(
         &mut self,
         operator: BinaryOperator,
-        first: Term,
-        second: Term,
+        first: Box<Term>,
+        second: Box<Term>,
     ) -> Result<Typed, Fault>
         ensures keeps { OnOk result (Keeps self.old self.new) }
-        ensures found { (x y : Checking Expression) → Shows (types_of self.old) expression_of x first → Shows (types_of self.old) expression_of y second → FindsOver (types_of self.new) typed_of (then_checked x (λ x. then_checked y (λ y. typed (binary_expression (written.binary_of operator) x y) (result_type (written.binary_of operator))))) result }
+        ensures found { (x y : Checking Expression) → Shows (types_of self.old) boxed_of x first → Shows (types_of self.old) boxed_of y second → FindsOver (types_of self.new) typed_of (then_checked x (λ x. then_checked y (λ y. typed (binary_expression (written.binary_of operator) x y) (result_type (written.binary_of operator))))) result }
         ensures inside { IfOk result (λ whole. whole.ty.0 < length (types_of self.new)) }
     {
-        let term = operation(self.alloc, operator, first, second)?;
-        Ok(self.plain(term, result_form(operator))?)
+        let term = operation(operator, first, second);
+        self.plain(term, result_form(operator))
     }
 }

@@ -12,11 +12,11 @@ use crate::{Name, TyId};
 use std::alloc::{AllocError, Global};
 
 /// The number of a role among the roles of its program, in the order of declarations.
-#[derive(Clone, Copy, Debug, PartialEq, Eq)]
+#[derive(Clone, Copy, PartialEq)]
 pub struct RoleId(pub usize);
 
 /// How a role is entered.
-#[derive(Clone, Copy, Debug, PartialEq, Eq)]
+#[derive(Clone, Copy, PartialEq)]
 pub enum RoleKind {
     /// To make a state.
     Init,

@@ -8,15 +8,15 @@ use indexmap::IndexSet;
 use std::alloc::{AllocError, Global};
 
 /// The number of a named type, in the order of declarations.
-#[derive(Clone, Copy, Debug, PartialEq, Eq, Hash)]
+#[derive(Clone, Copy, PartialEq, Eq, Hash)]
 pub struct NamedId(pub usize);
 
 /// The number of a constructor in its type, in the order of declaration.
-#[derive(Clone, Copy, Debug, PartialEq, Eq, Hash)]
+#[derive(Clone, Copy, PartialEq)]
 pub struct Tag(pub u8);
 
 /// The form of a type, with the numbers of its parts. A named type is one by its name alone.
-#[derive(Clone, Copy, Debug, PartialEq, Eq, Hash)]
+#[derive(Clone, Copy, PartialEq, Eq, Hash)]
 pub enum TyForm {
     UnitForm,
     BoolForm,

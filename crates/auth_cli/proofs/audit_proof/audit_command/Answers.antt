@@ -1,18 +1,29 @@
-use Rattle.command_words.specs.Invocations.{Audit}
+use Rattle.std.proofs.Common.{sym, subst}
+use Rattle.command_words.specs.Invocations.{calls}
+use Rattle.command_words.specs.declared.command.Command.TheVariants.{Audit}
 use Rattle.auth_cli.specs.Answer.{audited_answer}
+use Rattle.auth_cli.specs.AuditedCalls.{MeansAudit}
 use Rattle.auth_cli.proofs.AuditedRuns.{audited_ends, told_judged}
 use Rattle.auth_cli.proofs.Ends.{ends_as}
+use Rattle.auth_cli.proofs.Possible.{judged_possible, told_possible}
+use Rattle.auth_cli.proofs.Words.{apart, ends_apart, text_at}
 use Rattle.auth_cli.proofs.audit_proof.audit_command.Goals as goal
 
 pub returns-clause-ends : goal.returns-clause-ends
 returns-clause-ends g c =
-    let words = c.args.words.now in
+    let text = text_at c.args.words.now in
     let found = c.find_audit-found in
-    ends_as (audited_answer words.program.now words.role.now words.image.now words.argument.now words.fuel.now words.proof.now) _ _ found.result c.tell.result
-    found.ensures.finds found.ensures.cause found.ensures.stores found.ensures.store_faults c.tell.ensures
+    ends_apart Audit c.args.words.now 6 _ _ c.tell.result c.requires
+    (ends_as (audited_answer (text 0) (text 1) (text 2) (text 3) (text 4) (text 5)) _ _ found.result c.tell.result
+    found.ensures.finds found.ensures.cause found.ensures.stores found.ensures.store_faults c.tell.ensures)
+
+pub returns-clause-possible : goal.returns-clause-possible
+returns-clause-possible g c =
+    let found = c.find_audit-found in
+    told_possible Audit found.result c.tell.result _ _ _ _ c.tell.ensures (judged_possible Audit tt _ _ found.result found.ensures.cause found.ensures.ending)
 
 pub returns-clause-audited : goal.returns-clause-audited
 returns-clause-audited g c = λ told known of_audit.
     let words = c.args.words.now in
-    audited_ends (Audit words.program.now words.role.now words.image.now words.argument.now words.fuel.now words.proof.now) told _ _ c.tell.result of_audit (returns-clause-ends g c) known
-    (told_judged c.find_audit-found.result c.tell.result _ _ _ _ c.tell.ensures (c.find_audit-found.ensures.means told known) of_audit)
+    let means = told_judged c.find_audit-found.result c.tell.result _ _ _ _ c.tell.ensures (c.find_audit-found.ensures.means told known) of_audit in
+    audited_ends _ told _ _ c.tell.result of_audit (returns-clause-ends g c) known (subst (λ ts. MeansAudit (calls Audit ts) told) (sym (apart words 6 c.requires)) means)

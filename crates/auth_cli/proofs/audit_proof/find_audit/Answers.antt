@@ -1,7 +1,8 @@
 use Rattle.std.proofs.Common.{◌≡◌, ◌∙◌, refl, sym, subst}
 use Rattle.std.proofs.lemmas.Result.{err_from_is_err_and}
 use Rattle.std.specs.Prelude.{ℕ, List, Option, Some}
-use Rattle.command_words.specs.Invocations.{Audit}
+use Rattle.command_words.specs.Invocations.{calls}
+use Rattle.command_words.specs.declared.command.Command.TheVariants.{Audit}
 use Rattle.lam_outside.specs.Told.{Contents}
 use Rattle.printed_lines.specs.declared.refusal.Argument.TheVariants.{Proof}
 use Rattle.auth_cli.specs.Answer.{Answer, call_audit_answer, max_file, with_file, with_fueled_query, with_ideal_call}
@@ -11,10 +12,9 @@ use Rattle.auth_cli.specs.FueledQueries.{FueledQuery}
 use Rattle.auth_cli.specs.Halting.{Finds}
 use Rattle.auth_cli.specs.IdealCalls.{IdealCall}
 use Rattle.auth_cli.specs.NamedCalls.{NamesQuery}
-use Rattle.auth_cli.proofs.AuditedRuns.{if_judged}
+use Rattle.auth_cli.proofs.AuditedRuns.{if_judged, unjudged}
 use Rattle.auth_cli.proofs.Steps.{finds_halt, halts_behind, report_found}
 use Rattle.auth_cli.proofs.TrueAudits.{true_audit}
-use Rattle.auth_cli.proofs.Unjudged.{inputs_stop, proof_stops, query_stops, unjudged, unjudged_halt}
 use Rattle.auth_cli.proofs.audit_proof.find_audit.Goals as goal
 
 -- what stands behind the proof, the inputs and the query
@@ -27,38 +27,19 @@ behind_inputs proof files call = with_file max_file Proof (files proof) (behind_
 abbrev behind_query : (image argument proof : List ℕ) → Contents → FueledQuery → Option Answer
 behind_query image argument proof files q = with_ideal_call q image argument files (behind_inputs proof files)
 
--- what the words mean
-abbrev meant : (program role image argument fuel proof : List ℕ) → Contents → Type 0
-meant program role image argument fuel proof files = MeansAudit (Audit program role image argument fuel proof) files
-
 pub returns-in_err-query-clause-finds : goal.returns-in_err-query-clause-finds
 returns-in_err-query-clause-finds g c = λ told known.
     let words = c.args.words.now in
     let err = err_from_is_err_and c.from_residual.result c.from_residual.ensures.1 in
-    finds_halt _ c.from_residual.result _ (cc) (c.in_err-query.ensures.goes told known (behind_query words.image.now words.argument.now c.args.words.now.proof.now told))
-
-pub returns-in_err-query-clause-means : goal.returns-in_err-query-clause-means
-returns-in_err-query-clause-means g c = λ told known.
-    let words = c.args.words.now in
-    let err = err_from_is_err_and c.from_residual.result c.from_residual.ensures.1 in
-    unjudged_halt (meant words.program.now words.role.now words.image.now words.argument.now words.fuel.now c.args.words.now.proof.now told) (with_fueled_query words.program.now words.role.now words.fuel.now told) (query_stops words.program.now words.role.now words.fuel.now told) c.from_residual.result _ (cc)
-    (c.in_err-query.ensures.goes told known (λ (q : FueledQuery). unjudged))
+    finds_halt _ c.from_residual.result _ (cc) (c.in_err-query.ensures.goes told known (behind_query c.args.image.now words.argument.now c.args.proof.now told))
 
 pub returns-in_err-call-clause-finds : goal.returns-in_err-call-clause-finds
 returns-in_err-call-clause-finds g c = λ told known.
     let words = c.args.words.now in
     let err = err_from_is_err_and c.from_residual-in_err-call.result c.from_residual-in_err-call.ensures.1 in
     finds_halt _ c.from_residual-in_err-call.result _ (cc)
-    (halts_behind _ _ _ (c.in_ok-query.ensures.goes told known (behind_query words.image.now words.argument.now c.args.words.now.proof.now told))
-    (c.in_err-call.ensures.goes told (c.in_ok-query.ensures.contents ∙ known) (behind_inputs c.args.words.now.proof.now told)))
-
-pub returns-in_err-call-clause-means : goal.returns-in_err-call-clause-means
-returns-in_err-call-clause-means g c = λ told known.
-    let words = c.args.words.now in
-    let q = query_of c.in_ok-query.query in
-    let err = err_from_is_err_and c.from_residual-in_err-call.result c.from_residual-in_err-call.ensures.1 in
-    unjudged_halt (meant words.program.now words.role.now words.image.now words.argument.now words.fuel.now c.args.words.now.proof.now told) (with_ideal_call q words.image.now words.argument.now told) (inputs_stop q words.image.now words.argument.now told) c.from_residual-in_err-call.result _ (cc)
-    (c.in_err-call.ensures.goes told (c.in_ok-query.ensures.contents ∙ known) (λ (call : IdealCall). unjudged))
+    (halts_behind _ _ _ (c.in_ok-query.ensures.goes told known (behind_query c.args.image.now words.argument.now c.args.proof.now told))
+    (c.in_err-call.ensures.goes told (c.in_ok-query.ensures.contents ∙ known) (behind_inputs c.args.proof.now told)))
 
 pub returns-in_err-proof-clause-finds : goal.returns-in_err-proof-clause-finds
 returns-in_err-proof-clause-finds g c = λ told known.
@@ -66,26 +47,34 @@ returns-in_err-proof-clause-finds g c = λ told known.
     let err = err_from_is_err_and c.from_residual-in_err-proof.result c.from_residual-in_err-proof.ensures.1 in
     finds_halt _ c.from_residual-in_err-proof.result _ (cc)
     (halts_behind _ _ _
-    (c.in_ok-query.ensures.goes told known (behind_query words.image.now words.argument.now c.args.words.now.proof.now told)
-    ∙ c.in_ok-call.ensures.goes told (c.in_ok-query.ensures.contents ∙ known) (behind_inputs c.args.words.now.proof.now told))
+    (c.in_ok-query.ensures.goes told known (behind_query c.args.image.now words.argument.now c.args.proof.now told)
+    ∙ c.in_ok-call.ensures.goes told (c.in_ok-query.ensures.contents ∙ known) (behind_inputs c.args.proof.now told))
     (c.in_err-proof.ensures.goes told (c.in_ok-call.ensures.contents ∙ (c.in_ok-query.ensures.contents ∙ known)) (behind_proof (ideal_call_of c.in_ok-call.call))))
+
+pub returns-in_err-query-clause-means : goal.returns-in_err-query-clause-means
+returns-in_err-query-clause-means g c = λ told known.
+    let err = err_from_is_err_and c.from_residual.result c.from_residual.ensures.1 in
+    unjudged _ _ _ c.from_residual.result _ (cc) c.in_err-query.ensures.cause
+
+pub returns-in_err-call-clause-means : goal.returns-in_err-call-clause-means
+returns-in_err-call-clause-means g c = λ told known.
+    let err = err_from_is_err_and c.from_residual-in_err-call.result c.from_residual-in_err-call.ensures.1 in
+    unjudged _ _ _ c.from_residual-in_err-call.result _ (cc) c.in_err-call.ensures.cause
 
 pub returns-in_err-proof-clause-means : goal.returns-in_err-proof-clause-means
 returns-in_err-proof-clause-means g c = λ told known.
-    let words = c.args.words.now in
     let err = err_from_is_err_and c.from_residual-in_err-proof.result c.from_residual-in_err-proof.ensures.1 in
-    unjudged_halt (meant words.program.now words.role.now words.image.now words.argument.now words.fuel.now c.args.words.now.proof.now told) (with_file max_file Proof (told c.args.words.now.proof.now)) (proof_stops (told c.args.words.now.proof.now)) c.from_residual-in_err-proof.result _ (cc)
-    (c.in_err-proof.ensures.goes told (c.in_ok-call.ensures.contents ∙ (c.in_ok-query.ensures.contents ∙ known)) (λ (bytes : List ℕ). unjudged))
+    unjudged _ _ _ c.from_residual-in_err-proof.result _ (cc) c.in_err-proof.ensures.cause
 
 pub returns-clause-finds : goal.returns-clause-finds
 returns-clause-finds g c = λ told known.
     let words = c.args.words.now in
     let call = ideal_call_of c.in_ok-call.call in
     let answer =
-    c.in_ok-query.ensures.goes told known (behind_query words.image.now words.argument.now c.args.words.now.proof.now told)
-    ∙ (c.in_ok-call.ensures.goes told (c.in_ok-query.ensures.contents ∙ known) (behind_inputs c.args.words.now.proof.now told)
+    c.in_ok-query.ensures.goes told known (behind_query c.args.image.now words.argument.now c.args.proof.now told)
+    ∙ (c.in_ok-call.ensures.goes told (c.in_ok-query.ensures.contents ∙ known) (behind_inputs c.args.proof.now told)
     ∙ c.in_ok-proof.ensures.goes told (c.in_ok-call.ensures.contents ∙ (c.in_ok-query.ensures.contents ∙ known)) (behind_proof call)) in
-    let found = subst (λ bytes. Finds (Some (call_audit_answer call bytes)) c.judge.result) c.deref.ensures.value (report_found (call_audit_answer call c.deref.result.now) c.judge.result c.judge.ensures) in
+    let found = subst (λ bytes. Finds (Some (call_audit_answer call bytes)) c.judge.result) c.deref.ensures.value (report_found (call_audit_answer call c.deref.result.now) c.judge.result c.judge.ensures.finds) in
     subst (λ answer. Finds answer c.judge.result) (sym answer) found
 
 pub returns-clause-means : goal.returns-clause-means
@@ -102,17 +91,18 @@ returns-clause-means g c = λ told known.
       calls = record {
         program_name = words.program.now;
         role_name = words.role.now;
-        image_name = words.image.now;
+        image_name = c.args.image.now;
         argument_text = words.argument.now;
         fuel_text = words.fuel.now;
-        proof_name = c.args.words.now.proof.now;
+        proof_name = c.args.proof.now;
         words = refl;
         query = subst (NamesQuery words.program.now words.role.now words.fuel.now told) same (c.in_ok-query.ensures.named told known);
         inputs = c.in_ok-call.ensures.inputs told behind;
         proof_file = c.in_ok-proof.ensures.holds told (c.in_ok-call.ensures.contents ∙ behind);
+        proof_fits = c.in_ok-proof.ensures.fits;
       };
-      answered = c.in_ok-query.ensures.goes told known (behind_query words.image.now words.argument.now c.args.words.now.proof.now told)
-          ∙ (c.in_ok-call.ensures.goes told behind (behind_inputs c.args.words.now.proof.now told)
+      answered = c.in_ok-query.ensures.goes told known (behind_query c.args.image.now words.argument.now c.args.proof.now told)
+          ∙ (c.in_ok-call.ensures.goes told behind (behind_inputs c.args.proof.now told)
           ∙ c.in_ok-proof.ensures.goes told (c.in_ok-call.ensures.contents ∙ behind) (behind_proof (ideal_call_of call)));
       is_so = true_audit call proof c.in_ok-call.ensures.valid;
     })

@@ -19,13 +19,13 @@ pub returns-in_err-query-clause-goes : goal.returns-in_err-query-clause-goes
 returns-in_err-query-clause-goes g c = λ told known.
     let words = c.args.words.now in
     let err = err_from_is_err_and c.from_residual.result c.from_residual.ensures.1 in
-    halts_first (with_fueled_query words.program.now words.role.now words.fuel.now told) (behind_query words.state.now words.argument.now told) call_of c.from_residual.result _ (cc)
+    halts_first (with_fueled_query words.program.now words.role.now words.fuel.now told) (behind_query c.args.state.now words.argument.now told) call_of c.from_residual.result _ (cc)
     (c.in_err-query.ensures.goes told known)
 
 pub returns-in_err-state-clause-goes : goal.returns-in_err-state-clause-goes
 returns-in_err-state-clause-goes g c = λ told known.
     let words = c.args.words.now in
     let err = err_from_is_err_and c.from_residual-in_err-state.result c.from_residual-in_err-state.ensures.1 in
-    halted (with_call words.program.now words.role.now words.state.now words.argument.now words.fuel.now told) call_of c.from_residual-in_err-state.result _ (cc)
-    (λ go. halts_behind _ _ _ (c.in_ok-query.ensures.goes told known (λ q. behind_query words.state.now words.argument.now told q go))
+    halted (with_call words.program.now words.role.now c.args.state.now words.argument.now words.fuel.now told) call_of c.from_residual-in_err-state.result _ (cc)
+    (λ go. halts_behind _ _ _ (c.in_ok-query.ensures.goes told known (λ q. behind_query c.args.state.now words.argument.now told q go))
     (c.in_err-state.ensures.goes told (c.in_ok-query.ensures.contents ∙ known) _))

@@ -1,9 +1,17 @@
+use Rattle.command_words.specs.declared.command.Command.TheVariants.{Check}
 use Rattle.auth_cli.specs.Answer.{checked_answer}
-use Rattle.auth_cli.proofs.Ends.{ends_as}
+use Rattle.auth_cli.proofs.Ends.{ends_as, judging}
+use Rattle.auth_cli.proofs.Possible.{found_possible, told_possible}
+use Rattle.auth_cli.proofs.Words.{ends_apart, text_at}
 use Rattle.auth_cli.proofs.check_program.check_command.Goals as goal
 
-pub returns : goal.returns
-returns g c =
+pub returns-clause-ends : goal.returns-clause-ends
+returns-clause-ends g c =
     let found = c.find_digest-found in
-    ends_as (checked_answer c.args.words.now.program.now) _ _ found.result c.tell.result
-    found.ensures.finds found.ensures.cause found.ensures.stores found.ensures.store_faults c.tell.ensures
+    ends_apart Check c.args.words.now 1 _ _ c.tell.result c.requires
+    (ends_as (checked_answer (text_at c.args.words.now 0)) _ _ found.result c.tell.result found.ensures.finds (judging _ _ found.result found.ensures.cause) found.ensures.stores found.ensures.store_faults c.tell.ensures)
+
+pub returns-clause-possible : goal.returns-clause-possible
+returns-clause-possible g c =
+    let found = c.find_digest-found in
+    told_possible Check found.result c.tell.result _ _ _ _ c.tell.ensures (found_possible Check _ _ found.result found.ensures.cause found.ensures.ending)

@@ -10,12 +10,12 @@ use Rattle.auth_cli.specs.ReadPrograms.{digested}
 use Rattle.auth_cli.proofs.MadeStates.{made_refused, made_told}
 use Rattle.auth_cli.proofs.init_state.made_output.Goals as goal
 
-pub returns-in_err-image : goal.returns-in_err-image
-returns-in_err-image c =
+pub returns-in_err-image-clause-finds : goal.returns-in_err-image-clause-finds
+returns-in_err-image-clause-finds c =
     made_refused (digested c.args.program.now) (plain_of c.args.state.now) c.in_err-image.field-0.0 c.from_residual.result c.from_residual.ensures.1 c.in_err-image.ensures.saved
 
-pub returns : goal.returns
-returns c =
+pub returns-clause-finds : goal.returns-clause-finds
+returns-clause-finds c =
     let t = type_at (types_of c.args.program.now) c.state_type-ty.result in
     let spelled = c.in_ok-spelled.ensures.bytes ∙ ap (λ v. spelling (projection sha256 (meaning c.args.program.now) t v)) c.lent.ensures.value in
     made_told (digested c.args.program.now) (is_format c.args.program.now) t (plain_of c.args.state.now) c.in_ok-spelled.spelled c.in_ok-text.text c.in_ok-image.image c.requires c.state_type-ty.ensures spelled

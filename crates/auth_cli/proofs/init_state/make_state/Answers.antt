@@ -22,27 +22,27 @@ behind_fuel p f argument name k = with_value p.program (init_type p.program f) a
 abbrev behind_role : DigestedProgram → List ℕ → List ℕ → List ℕ → ℕ → Option Answer
 behind_role p argument fuel name f = with_fuel fuel (behind_fuel p f argument name)
 
-pub returns-in_err-role : goal.returns-in_err-role
-returns-in_err-role c = λ name.
+pub returns-in_err-role-clause-finds : goal.returns-in_err-role-clause-finds
+returns-in_err-role-clause-finds c = λ name.
     let err = err_from_is_err_and c.from_residual.result c.from_residual.ensures.1 in
-    hand_halt name (with_init (meaning c.args.program.now) c.args.role.now) (λ (id : FunctionId). id.0) (behind_role (digested c.args.program.now) c.args.argument.now c.args.fuel.now name)
+    hand_halt name (with_init (meaning c.args.program.now) c.args.words.now.role.now) (λ (id : FunctionId). id.0) (behind_role (digested c.args.program.now) c.args.words.now.argument.now c.args.words.now.fuel.now name)
     c.from_residual.result _ (cc) c.in_err-role.ensures.goes
 
-pub returns-in_err-argument : goal.returns-in_err-argument
-returns-in_err-argument c = λ name.
+pub returns-in_err-argument-clause-finds : goal.returns-in_err-argument-clause-finds
+returns-in_err-argument-clause-finds c = λ name.
     let p = digested c.args.program.now in
     let f = c.in_ok-role.role.0 in
     let k = c.in_ok-fuel.fuel in
     let err = err_from_is_err_and c.from_residual-in_err-argument.result c.from_residual-in_err-argument.ensures.1 in
-    let same = c.in_ok-role.ensures.goes (behind_role p c.args.argument.now c.args.fuel.now name) ∙ c.in_ok-fuel.ensures.goes (behind_fuel p f c.args.argument.now name) in
+    let same = c.in_ok-role.ensures.goes (behind_role p c.args.words.now.argument.now c.args.words.now.fuel.now name) ∙ c.in_ok-fuel.ensures.goes (behind_fuel p f c.args.words.now.argument.now name) in
     subst (λ answer. FindsOutputInHand name answer c.from_residual-in_err-argument.result) (sym same)
-    (hand_halt name (with_value p.program (init_type p.program f) c.args.argument.now) plain_of (behind_argument p f k name) c.from_residual-in_err-argument.result _ (cc) c.in_err-argument.ensures.goes)
+    (hand_halt name (with_value p.program (init_type p.program f) c.args.words.now.argument.now) plain_of (behind_argument p f k name) c.from_residual-in_err-argument.result _ (cc) c.in_err-argument.ensures.goes)
 
-pub returns : goal.returns
-returns c = λ name.
+pub returns-clause-finds : goal.returns-clause-finds
+returns-clause-finds c = λ name.
     let p = digested c.args.program.now in
     let f = c.in_ok-role.role.0 in
     let k = c.in_ok-fuel.fuel in
-    let same = c.in_ok-role.ensures.goes (behind_role p c.args.argument.now c.args.fuel.now name) ∙ c.in_ok-fuel.ensures.goes (behind_fuel p f c.args.argument.now name)
+    let same = c.in_ok-role.ensures.goes (behind_role p c.args.words.now.argument.now c.args.words.now.fuel.now name) ∙ c.in_ok-fuel.ensures.goes (behind_fuel p f c.args.words.now.argument.now name)
     ∙ c.in_ok-argument.ensures.goes (behind_argument p f k name) ∙ ap (λ o. Some (init_answer_of p o name)) (sym c.in_ok-outcome.ensures.outcome) in
-    subst (λ answer. FindsOutputInHand name answer c.init_output.result) (sym same) (c.init_output.ensures name)
+    subst (λ answer. FindsOutputInHand name answer c.init_output.result) (sym same) (c.init_output.ensures.finds name)

@@ -24,51 +24,46 @@ abbrev behind_query : (image argument kept : List ℕ) → Contents → List ℕ
 behind_query image argument kept files name q = with_kept q.program.program kept (behind_kept q image argument files name)
 
 pub returns-in_err-query-clause-finds : goal.returns-in_err-query-clause-finds
-returns-in_err-query-clause-finds g c = λ told known.
+returns-in_err-query-clause-finds g c = λ name told known.
     let words = c.args.words.now in
-    let name = words.out.now in
     let err = err_from_is_err_and c.from_residual.result c.from_residual.ensures.1 in
-    output_halt name _ c.from_residual.result _ (cc) (c.in_err-query.ensures.goes told known (behind_query words.image.now words.argument.now c.args.words.now.kept.now told name))
+    output_halt name _ c.from_residual.result _ (cc) (c.in_err-query.ensures.goes told known (behind_query c.args.image.now words.argument.now c.args.kept.now told name))
 
 pub returns-in_err-kept-clause-finds : goal.returns-in_err-kept-clause-finds
-returns-in_err-kept-clause-finds g c = λ told known.
+returns-in_err-kept-clause-finds g c = λ name told known.
     let words = c.args.words.now in
-    let name = words.out.now in
     let q = query_of c.in_ok-query.query in
     let err = err_from_is_err_and c.from_residual-in_err-kept.result c.from_residual-in_err-kept.ensures.1 in
     output_halt name _ c.from_residual-in_err-kept.result _ (cc)
-    (halts_behind _ _ _ (c.in_ok-query.ensures.goes told known (behind_query words.image.now words.argument.now c.args.words.now.kept.now told name))
-    (hand_halts (with_kept q.program.program c.args.words.now.kept.now) (λ (n : ℕ). n) _ c.in_err-kept.ensures.goes (behind_kept q words.image.now words.argument.now told name)))
+    (halts_behind _ _ _ (c.in_ok-query.ensures.goes told known (behind_query c.args.image.now words.argument.now c.args.kept.now told name))
+    (hand_halts (with_kept q.program.program c.args.kept.now) (λ (n : ℕ). n) _ c.in_err-kept.ensures.goes (behind_kept q c.args.image.now words.argument.now told name)))
 
 pub returns-in_err-call-clause-finds : goal.returns-in_err-call-clause-finds
-returns-in_err-call-clause-finds g c = λ told known.
+returns-in_err-call-clause-finds g c = λ name told known.
     let words = c.args.words.now in
-    let name = words.out.now in
     let q = query_of c.in_ok-query.query in
     let err = err_from_is_err_and c.from_residual-in_err-call.result c.from_residual-in_err-call.ensures.1 in
     output_halt name _ c.from_residual-in_err-call.result _ (cc)
     (halts_behind _ _ _
-    (c.in_ok-query.ensures.goes told known (behind_query words.image.now words.argument.now c.args.words.now.kept.now told name)
-    ∙ c.in_ok-kept.ensures.goes (behind_kept q words.image.now words.argument.now told name))
+    (c.in_ok-query.ensures.goes told known (behind_query c.args.image.now words.argument.now c.args.kept.now told name)
+    ∙ c.in_ok-kept.ensures.goes (behind_kept q c.args.image.now words.argument.now told name))
     (c.in_err-call.ensures.goes told (c.in_ok-query.ensures.contents ∙ known) (behind_inputs c.in_ok-kept.kept name)))
 
 pub returns-clause-finds : goal.returns-clause-finds
-returns-clause-finds g c = λ told known.
+returns-clause-finds g c = λ name told known.
     let words = c.args.words.now in
-    let name = words.out.now in
     let q = query_of c.in_ok-query.query in (
       proof_answer (ideal_call_of c.in_ok-call.call) c.in_ok-kept.kept name,
-      c.in_ok-query.ensures.goes told known (behind_query words.image.now words.argument.now c.args.words.now.kept.now told name)
-          ∙ c.in_ok-kept.ensures.goes (behind_kept q words.image.now words.argument.now told name)
+      c.in_ok-query.ensures.goes told known (behind_query c.args.image.now words.argument.now c.args.kept.now told name)
+          ∙ c.in_ok-kept.ensures.goes (behind_kept q c.args.image.now words.argument.now told name)
           ∙ c.in_ok-call.ensures.goes told (c.in_ok-query.ensures.contents ∙ known) (behind_inputs c.in_ok-kept.kept name),
-      c.in_ok-make_proof.ensures name,
+      c.in_ok-make_proof.ensures.output name,
     )
 
 pub returns-clause-means : goal.returns-clause-means
 unfolding returns-clause-finds
-returns-clause-means g c = λ told known.
+returns-clause-means g c = λ name told known.
     let words = c.args.words.now in
-    let name = words.out.now in
     let q = query_of c.in_ok-query.query in
     let n = c.in_ok-kept.kept in
     let call = c.in_ok-call.call in
@@ -83,16 +78,16 @@ returns-clause-means g c = λ told known.
       calls = record {
         program_name = words.program.now;
         role_name = words.role.now;
-        image_name = words.image.now;
+        image_name = c.args.image.now;
         argument_text = words.argument.now;
         fuel_text = words.fuel.now;
-        kept_text = c.args.words.now.kept.now;
+        kept_text = c.args.kept.now;
         words = refl;
         query = query;
-        kept = subst (λ (q : FueledQuery). number_within q.program.program.format.most_kept c.args.words.now.kept.now ≡ Some n) same c.in_ok-kept.ensures.tells;
+        kept = subst (λ (q : FueledQuery). number_within q.program.program.format.most_kept c.args.kept.now ≡ Some n) same c.in_ok-kept.ensures.tells;
         inputs = inputs;
       };
-      answered = (returns-clause-finds g c told known).1;
+      answered = (returns-clause-finds g c name told known).1;
       accepted = accepted;
-      verified = verified_call call n words.program.now words.role.now words.image.now words.argument.now words.fuel.now told c.in_ok-call.ensures.valid accepted query inputs;
+      verified = verified_call call n words.program.now words.role.now c.args.image.now words.argument.now words.fuel.now told c.in_ok-call.ensures.valid accepted query inputs;
     }

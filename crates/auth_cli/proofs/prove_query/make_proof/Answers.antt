@@ -8,8 +8,8 @@ use Rattle.auth_cli.specs.Calls.{ideal_call_of}
 use Rattle.auth_cli.proofs.ProofOutputs.{proof_output}
 use Rattle.auth_cli.proofs.prove_query.make_proof.Goals as goal
 
-pub returns : goal.returns
-returns c =
+pub returns-clause-output : goal.returns-clause-output
+returns-clause-output c =
     let p = c.args.call.now.query.program in
     let proved = c.in_ok-proved.ensures in
     let file = c.in_ok-file.file in
@@ -19,4 +19,4 @@ returns c =
     let none : c.args.kept ≡ 0 = omega arith in
     let bytes : c.len.result ≡ length file.items = omega (arith, c.len.ensures, file.ok) in
     proof_output (ideal_call_of c.args.call.now) (is_format p) c.in_ok-proved.proved c.in_ok-report.report file c.args.kept c.len.result t none of_type
-    proved.ideal proved.outcome proved.frames proved.fresh proved.again (c.in_ok-file.ensures ∙ ap (file_of (meaning p).format c.args.kept) c.deref.ensures.value) bytes c.in_ok-report.ensures
+    proved.ideal proved.outcome proved.frames proved.fresh proved.again (c.in_ok-file.ensures ∙ ap (file_of (meaning p).format c.args.kept) c.deref.ensures.value) bytes c.in_ok-report.ensures.reports

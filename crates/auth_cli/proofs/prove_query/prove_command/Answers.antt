@@ -1,19 +1,32 @@
-use Rattle.command_words.specs.Invocations.{Prove}
+use Rattle.std.proofs.Common.{sym, subst}
+use Rattle.std.proofs.lemmas.Result.{IfOk-weaker}
+use Rattle.command_words.specs.Invocations.{calls}
+use Rattle.command_words.specs.declared.command.Command.TheVariants.{Prove}
 use Rattle.auth_cli.specs.Answer.{proved_answer}
+use Rattle.auth_cli.specs.ProvedCalls.{MeansProof}
 use Rattle.auth_cli.proofs.EndsStored.{ends_stored}
+use Rattle.auth_cli.proofs.Possible.{outcome_possible, output_possible, stored_possible}
 use Rattle.auth_cli.proofs.ProvedRuns.{proved_ends}
 use Rattle.auth_cli.proofs.Told.{stored_outcome}
+use Rattle.auth_cli.proofs.Words.{apart, ends_apart, text_at}
 use Rattle.auth_cli.proofs.prove_query.prove_command.Goals as goal
 
 pub returns-clause-ends : goal.returns-clause-ends
 returns-clause-ends g c =
-    let words = c.args.words.now in
+    let text = text_at c.args.words.now in
     let found = c.find_proof-found in
-    ends_stored (proved_answer words.program.now words.role.now words.image.now words.argument.now words.fuel.now words.kept.now words.out.now) _ _ _ found.result c.store_and_tell.result _ _ _
-    found.ensures.finds found.ensures.cause found.ensures.stores found.ensures.store_faults c.store_and_tell.ensures.faults c.store_and_tell.ensures.ends
+    ends_apart Prove c.args.words.now 7 _ _ c.store_and_tell.result c.requires
+    (ends_stored (proved_answer (text 0) (text 1) (text 2) (text 3) (text 4) (text 5) (text 6)) _ _ _ found.result c.store_and_tell.result _ _ _
+    (found.ensures.finds (text 6)) found.ensures.cause found.ensures.stores found.ensures.store_faults c.store_and_tell.ensures.faults c.store_and_tell.ensures.ends)
+
+pub returns-clause-possible : goal.returns-clause-possible
+returns-clause-possible g c =
+    let found = c.find_proof-found in
+    stored_possible Prove _ found.result c.store_and_tell.result _ _ _ _ _ _ _ _ c.store_and_tell.ensures.ends
+    (output_possible Prove _ _ found.result found.ensures.cause (IfOk-weaker found.result _ _ (λ output is. outcome_possible Prove tt _ is) found.ensures.ending))
 
 pub returns-clause-proved : goal.returns-clause-proved
 returns-clause-proved g c = λ told known outcome.
     let words = c.args.words.now in
-    proved_ends (Prove words.program.now words.role.now words.image.now words.argument.now words.fuel.now words.kept.now words.out.now) told _ _ c.store_and_tell.result outcome (returns-clause-ends g c) known
-    (stored_outcome _ c.find_proof-found.result c.store_and_tell.result _ _ _ _ _ _ _ _ c.store_and_tell.ensures.ends (c.find_proof-found.ensures.means told known) outcome)
+    let means = stored_outcome _ c.find_proof-found.result c.store_and_tell.result _ _ _ _ _ _ _ _ c.store_and_tell.ensures.ends (c.find_proof-found.ensures.means (text_at words 6) told known) outcome in
+    proved_ends _ told _ _ c.store_and_tell.result outcome (returns-clause-ends g c) known (subst (λ ts. MeansProof (calls Prove ts) told) (sym (apart words 7 c.requires)) means)

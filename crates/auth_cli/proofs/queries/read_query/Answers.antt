@@ -13,7 +13,7 @@ behind_program role fuel p go = with_query p.program role (λ f. with_fuel fuel 
 pub returns-in_err-program-clause-goes : goal.returns-in_err-program-clause-goes
 returns-in_err-program-clause-goes g c = λ told known.
     let err = err_from_is_err_and c.from_residual.result c.from_residual.ensures.1 in
-    halts_first (with_program_file (told c.args.program.now)) (behind_program c.args.role.now c.args.fuel.now) query_of c.from_residual.result _ (cc) (c.in_err-program.ensures.goes told known)
+    halts_first (with_program_file (told c.args.words.now.program.now)) (behind_program c.args.words.now.role.now c.args.words.now.fuel.now) query_of c.from_residual.result _ (cc) (c.in_err-program.ensures.goes told known)
 
 pub returns-clause-named : goal.returns-clause-named
 returns-clause-named g c = λ told known.

@@ -25,5 +25,5 @@ returns-clause-finds g c = λ name told known.
       state_answer (language_named c.in_ok-program.program) state.0 name,
       c.in_ok-program.ensures.goes told known (λ p. with_image_file p.digested (told c.args.image.now) (λ v. Some (state_answer p v name)))
           ∙ state.1 (λ v. Some (state_answer (language_named c.in_ok-program.program) v name)),
-      c.in_ok-spell_state.ensures name state.0 state.2,
+      c.in_ok-spell_state.ensures.output name state.0 state.2,
     )

@@ -1,10 +1,19 @@
+use Rattle.command_words.specs.declared.command.Command.TheVariants.{Shallow}
 use Rattle.auth_cli.specs.Answer.{spelled_answer}
 use Rattle.auth_cli.proofs.EndsStored.{ends_stored}
+use Rattle.auth_cli.proofs.Possible.{output_possible, stored_possible}
+use Rattle.auth_cli.proofs.Words.{ends_apart, text_at}
 use Rattle.auth_cli.proofs.shallow_state.shallow_command.Goals as goal
 
-pub returns : goal.returns
-returns g c =
-    let words = c.args.words.now in
+pub returns-clause-ends : goal.returns-clause-ends
+returns-clause-ends g c =
+    let text = text_at c.args.words.now in
     let found = c.find_state-found in
-    ends_stored (spelled_answer words.program.now words.image.now words.out.now) _ _ _ found.result c.store_and_tell.result _ _ _
-    (found.ensures.finds words.out.now) found.ensures.cause found.ensures.stores found.ensures.store_faults c.store_and_tell.ensures.faults c.store_and_tell.ensures.ends
+    ends_apart Shallow c.args.words.now 3 _ _ c.store_and_tell.result c.requires
+    (ends_stored (spelled_answer (text 0) (text 1) (text 2)) _ _ _ found.result c.store_and_tell.result _ _ _
+    (found.ensures.finds (text 2)) found.ensures.cause found.ensures.stores found.ensures.store_faults c.store_and_tell.ensures.faults c.store_and_tell.ensures.ends)
+
+pub returns-clause-possible : goal.returns-clause-possible
+returns-clause-possible g c =
+    let found = c.find_state-found in
+    stored_possible Shallow _ found.result c.store_and_tell.result _ _ _ _ _ _ _ _ c.store_and_tell.ensures.ends (output_possible Shallow _ _ found.result found.ensures.cause found.ensures.ending)

@@ -23,8 +23,8 @@ spell-requires c =
     let stands = subst (λ t. StandsFor (ProverNodes (digest_at sha256 P)) P.types nodes root t c.requires.0) (sym c.state_type-ty.ensures.state) c.requires.1 in
     (projection sha256 P t c.requires.0, projected p nodes t c.requires.0 root stands)
 
-pub returns : goal.returns
-returns c = λ name v h.
+pub returns-clause-output : goal.returns-clause-output
+returns-clause-output c = λ name v h.
     let p = c.args.program.now in
     let P = meaning p in
     let kind = ProverNodes (digest_at sha256 P) in

@@ -1,46 +1,36 @@
 use Rattle.std.proofs.Common.{Err, refl}
-use Rattle.command_words.specs.Invocations.{invocation_of, texts}
+use Rattle.command_words.specs.Commands.{texts}
+use Rattle.command_words.specs.Invocations.{invoked}
 use Rattle.auth_cli.specs.Answer.{answer}
 use Rattle.auth_cli.specs.declared.report.Halt.TheVariants.{NoMemory}
-use Rattle.auth_cli.proofs.Called.{ends_called, memory_told, none_refused, nothing_audited, nothing_proved, usage_told}
+use Rattle.auth_cli.proofs.Called.{ends_called, memory_told, none_called, none_refused, audited_called, nothing_audited, nothing_proved, possible_called, proved_called, usage_told}
 use Rattle.auth_cli.proofs.Ends.{ends_as}
+use Rattle.auth_cli.proofs.Possible.{memory_possible}
 use Rattle.auth_cli.proofs.top.ended.Goals as goal
 
-pub returns-in-Ok-Check-clause-ends : goal.returns-in-Ok-Check-clause-ends
-returns-in-Ok-Check-clause-ends g c = ends_called (texts c.args.words.now) _ _ _ c.check_command.result (rw c.in-Ok-Check.field-0-is at c.in-Ok-Check.ensures) c.check_command.ensures
+pub returns-in-Ok-clause-ends : goal.returns-in-Ok-clause-ends
+returns-in-Ok-clause-ends g c = ends_called (texts c.args.words.now) _ _ _ c.carry_out.result c.in-Ok.ensures.reads c.carry_out.ensures.ends
 
-pub returns-in-Ok-Init-clause-ends : goal.returns-in-Ok-Init-clause-ends
-returns-in-Ok-Init-clause-ends g c = ends_called (texts c.args.words.now) _ _ _ c.init_command.result (rw c.in-Ok-Init.field-0-is at c.in-Ok-Init.ensures) c.init_command.ensures
+pub returns-in-Ok-clause-possible : goal.returns-in-Ok-clause-possible
+returns-in-Ok-clause-possible g c = λ called is. possible_called (texts c.args.words.now) (invoked c.in-Ok.called) called c.in-Ok.ensures.reads is c.carry_out.result c.carry_out.ensures.possible
 
-pub returns-in-Ok-Shallow-clause-ends : goal.returns-in-Ok-Shallow-clause-ends
-returns-in-Ok-Shallow-clause-ends g c = ends_called (texts c.args.words.now) _ _ _ c.shallow_command.result (rw c.in-Ok-Shallow.field-0-is at c.in-Ok-Shallow.ensures) c.shallow_command.ensures
+pub returns-in-Ok-clause-proved : goal.returns-in-Ok-clause-proved
+returns-in-Ok-clause-proved g c = λ called is. proved_called (texts c.args.words.now) (invoked c.in-Ok.called) called c.in-Ok.ensures.reads is c.carry_out.result _ _ _ c.carry_out.ensures.proved
 
-pub returns-in-Ok-Prove-clause-ends : goal.returns-in-Ok-Prove-clause-ends
-returns-in-Ok-Prove-clause-ends g c = ends_called (texts c.args.words.now) _ _ _ c.prove_command.result (rw c.in-Ok-Prove.field-0-is at c.in-Ok-Prove.ensures) c.prove_command.ensures.ends
+pub returns-in-Ok-clause-audited : goal.returns-in-Ok-clause-audited
+returns-in-Ok-clause-audited g c = λ called is. audited_called (texts c.args.words.now) (invoked c.in-Ok.called) called c.in-Ok.ensures.reads is c.carry_out.result _ _ _ c.carry_out.ensures.audited
 
-pub returns-in-Ok-Verify-clause-ends : goal.returns-in-Ok-Verify-clause-ends
-returns-in-Ok-Verify-clause-ends g c = ends_called (texts c.args.words.now) _ _ _ c.verify_command.result (rw c.in-Ok-Verify.field-0-is at c.in-Ok-Verify.ensures) c.verify_command.ensures
+pub returns-in-Ok-clause-refused : goal.returns-in-Ok-clause-refused
+returns-in-Ok-clause-refused g c = none_refused (texts c.args.words.now) _ c.carry_out.result c.in-Ok.ensures.reads
 
-pub returns-in-Ok-Audit-clause-ends : goal.returns-in-Ok-Audit-clause-ends
-returns-in-Ok-Audit-clause-ends g c = ends_called (texts c.args.words.now) _ _ _ c.audit_command.result (rw c.in-Ok-Audit.field-0-is at c.in-Ok-Audit.ensures) c.audit_command.ensures.ends
+pub returns-in-Err-Refused-clause-possible : goal.returns-in-Err-Refused-clause-possible
+returns-in-Err-Refused-clause-possible g c = λ called is. none_called (texts c.args.words.now) called (rw c.in-Err-Refused.field-0-is at c.in-Err-Refused.ensures.reads) is
 
-pub returns-in-Ok-Check-clause-refused : goal.returns-in-Ok-Check-clause-refused
-returns-in-Ok-Check-clause-refused g c = none_refused (texts c.args.words.now) _ c.check_command.result (rw c.in-Ok-Check.field-0-is at c.in-Ok-Check.ensures)
+pub returns-in-Err-Refused-clause-proved : goal.returns-in-Err-Refused-clause-proved
+returns-in-Err-Refused-clause-proved g c = λ called is. none_called (texts c.args.words.now) called (rw c.in-Err-Refused.field-0-is at c.in-Err-Refused.ensures.reads) is
 
-pub returns-in-Ok-Init-clause-refused : goal.returns-in-Ok-Init-clause-refused
-returns-in-Ok-Init-clause-refused g c = none_refused (texts c.args.words.now) _ c.init_command.result (rw c.in-Ok-Init.field-0-is at c.in-Ok-Init.ensures)
-
-pub returns-in-Ok-Shallow-clause-refused : goal.returns-in-Ok-Shallow-clause-refused
-returns-in-Ok-Shallow-clause-refused g c = none_refused (texts c.args.words.now) _ c.shallow_command.result (rw c.in-Ok-Shallow.field-0-is at c.in-Ok-Shallow.ensures)
-
-pub returns-in-Ok-Prove-clause-refused : goal.returns-in-Ok-Prove-clause-refused
-returns-in-Ok-Prove-clause-refused g c = none_refused (texts c.args.words.now) _ c.prove_command.result (rw c.in-Ok-Prove.field-0-is at c.in-Ok-Prove.ensures)
-
-pub returns-in-Ok-Verify-clause-refused : goal.returns-in-Ok-Verify-clause-refused
-returns-in-Ok-Verify-clause-refused g c = none_refused (texts c.args.words.now) _ c.verify_command.result (rw c.in-Ok-Verify.field-0-is at c.in-Ok-Verify.ensures)
-
-pub returns-in-Ok-Audit-clause-refused : goal.returns-in-Ok-Audit-clause-refused
-returns-in-Ok-Audit-clause-refused g c = none_refused (texts c.args.words.now) _ c.audit_command.result (rw c.in-Ok-Audit.field-0-is at c.in-Ok-Audit.ensures)
+pub returns-in-Err-Refused-clause-audited : goal.returns-in-Err-Refused-clause-audited
+returns-in-Err-Refused-clause-audited g c = λ called is. none_called (texts c.args.words.now) called (rw c.in-Err-Refused.field-0-is at c.in-Err-Refused.ensures.reads) is
 
 pub returns-in-Err-Refused-clause-refused : goal.returns-in-Err-Refused-clause-refused
 returns-in-Err-Refused-clause-refused g c = λ none. usage_told c.tell.result _ _ _ _ c.tell.ensures
@@ -48,11 +38,14 @@ returns-in-Err-Refused-clause-refused g c = λ none. usage_told c.tell.result _ 
 pub returns-in-Err-NoMemory-clause-ends : goal.returns-in-Err-NoMemory-clause-ends
 returns-in-Err-NoMemory-clause-ends g c = ends_as (answer (texts c.args.words.now)) _ _ (Err NoMemory) c.tell-in-Err-NoMemory.result (λ told known. tt) refl refl refl c.tell-in-Err-NoMemory.ensures
 
+pub returns-in-Err-NoMemory-clause-possible : goal.returns-in-Err-NoMemory-clause-possible
+returns-in-Err-NoMemory-clause-possible g c = λ called is. memory_possible called.command c.tell-in-Err-NoMemory.result _ _ _ _ c.tell-in-Err-NoMemory.ensures
+
 pub returns-in-Err-NoMemory-clause-proved : goal.returns-in-Err-NoMemory-clause-proved
-returns-in-Err-NoMemory-clause-proved g c = λ told known. nothing_proved (invocation_of (texts c.args.words.now)) told _ _ c.tell-in-Err-NoMemory.result (memory_told c.tell-in-Err-NoMemory.result _ _ _ _ c.tell-in-Err-NoMemory.ensures)
+returns-in-Err-NoMemory-clause-proved g c = λ called is. nothing_proved called _ _ _ c.tell-in-Err-NoMemory.result (memory_told c.tell-in-Err-NoMemory.result _ _ _ _ c.tell-in-Err-NoMemory.ensures)
 
 pub returns-in-Err-NoMemory-clause-audited : goal.returns-in-Err-NoMemory-clause-audited
-returns-in-Err-NoMemory-clause-audited g c = λ told known. nothing_audited (invocation_of (texts c.args.words.now)) told _ _ c.tell-in-Err-NoMemory.result (memory_told c.tell-in-Err-NoMemory.result _ _ _ _ c.tell-in-Err-NoMemory.ensures)
+returns-in-Err-NoMemory-clause-audited g c = λ called is. nothing_audited called _ _ _ c.tell-in-Err-NoMemory.result (memory_told c.tell-in-Err-NoMemory.result _ _ _ _ c.tell-in-Err-NoMemory.ensures)
 
 pub returns-in-Err-NoMemory-clause-refused : goal.returns-in-Err-NoMemory-clause-refused
 returns-in-Err-NoMemory-clause-refused g c = λ none. memory_told c.tell-in-Err-NoMemory.result _ _ _ _ c.tell-in-Err-NoMemory.ensures

@@ -1,11 +1,14 @@
-use Rattle.std.proofs.Common.{sym, ◌∙◌}
-use Rattle.command_words.specs.Invocations.{texts}
+use Rattle.std.proofs.Common.{◌≡◌, ◌⊎◌, ℕ, ap, sym, subst, ◌∙◌}
+use Rattle.command_words.specs.Commands.{texts}
 use Rattle.command_words.proofs.Judging.{refused_exactly}
 use Rattle.auth_cli.specs.Answer.{answer}
-use Rattle.auth_cli.proofs.Answered.{answered, stored}
+use Rattle.auth_cli.specs.Ending.{IsOfFault}
+use Rattle.auth_cli.specs.TrueLines.{TellsOutcome}
+use Rattle.auth_cli.proofs.Answered.{answered, part_written, stored, stored_first}
 use Rattle.auth_cli.proofs.AuditedRuns.{audited_run}
-use Rattle.auth_cli.proofs.RunStatuses.{only_audit, only_refused}
 use Rattle.auth_cli.proofs.Called.{refused_code}
+use Rattle.auth_cli.proofs.MeantCalls.{proved_run_tells, split_run}
+use Rattle.auth_cli.proofs.Possible.{collision_alone, usage_alone}
 use Rattle.auth_cli.proofs.ProvedRuns.{proved_run}
 use Rattle.auth_cli.proofs.TrueLine.{true_line}
 use Rattle.auth_cli.proofs.top.run.Goals as goal
@@ -17,22 +20,32 @@ pub returns-clause-companion : goal.returns-clause-companion
 returns-clause-companion g c = λ called is is_prove tells told known. (
   c.ended.result,
   c.code.ensures,
-  proved_run _ called told _ _ c.ended.result _ is is_prove c.code.ensures tells (c.ended.ensures.proved told known),
+  proved_run called _ _ _ c.ended.result _ is_prove c.code.ensures tells (c.ended.ensures.proved called is) told known,
 )
+
+pub returns-clause-proves : goal.returns-clause-proves
+returns-clause-proves g c = λ called is told known call n name calls.
+    subst (λ number. TellsOutcome number ⊎ IsOfFault number) (sym c.code.ensures) (proved_run_tells (texts c.args.words.now) called told _ _ c.ended.result is known c.ended.ensures.ends call n name calls)
 
 pub returns-clause-audited : goal.returns-clause-audited
 returns-clause-audited g c = λ called is is_audit tells told known. (
   c.ended.result,
   c.code.ensures,
-  audited_run _ called told _ _ c.ended.result _ is is_audit c.code.ensures tells (c.ended.ensures.audited told known),
+  audited_run called _ _ _ c.ended.result _ is_audit c.code.ensures tells (c.ended.ensures.audited called is) told known,
 )
 
+pub returns-clause-split : goal.returns-clause-split
+returns-clause-split g c = λ called is told known call proof calls split at.
+    subst (λ (number : ℕ). (number ≡ 11) ⊎ IsOfFault number) (sym c.code.ensures) (split_run (texts c.args.words.now) called told _ _ c.ended.result is known c.ended.ensures.ends call proof calls split at)
+
+pub returns-clause-possible : goal.returns-clause-possible
+returns-clause-possible g c = λ called is. (c.ended.result, c.code.ensures, c.ended.ensures.possible called is)
+
 pub returns-clause-collision : goal.returns-clause-collision
-returns-clause-collision g c = λ is told known. only_audit (texts c.args.words.now) told _ _ c.ended.result c.ended.ensures.ends known (sym c.code.ensures ∙ is)
+returns-clause-collision g c = λ is. collision_alone _ c.ended.result c.ended.ensures.possible c.ended.ensures.refused (sym c.code.ensures ∙ is)
 
 pub returns-clause-usage : goal.returns-clause-usage
-returns-clause-usage g c = λ is told known.
-    (refused_exactly (texts c.args.words.now)).0 (only_refused (texts c.args.words.now) told _ _ c.ended.result c.ended.ensures.ends known (sym c.code.ensures ∙ is))
+returns-clause-usage g c = λ is. (refused_exactly (texts c.args.words.now)).0 (usage_alone _ c.ended.result c.ended.ensures.possible (sym c.code.ensures ∙ is))
 
 pub returns-clause-refused : goal.returns-clause-refused
 returns-clause-refused g c = λ refused.
@@ -41,6 +54,12 @@ returns-clause-refused g c = λ refused.
 pub returns-clause-answered : goal.returns-clause-answered
 returns-clause-answered g c = λ none other.
     rw c.code.ensures (answered (answer (texts c.args.words.now)) _ _ c.ended.result c.ended.ensures.ends none (λ is. other (c.code.ensures ∙ is)))
+
+pub returns-clause-write_part : goal.returns-clause-write_part
+returns-clause-write_part g c = λ is. part_written (answer (texts c.args.words.now)) _ _ c.ended.result c.ended.ensures.ends (sym c.code.ensures ∙ is)
+
+pub returns-clause-stored_first : goal.returns-clause-stored_first
+returns-clause-stored_first g c = λ rose. stored_first (answer (texts c.args.words.now)) _ _ c.requires.stores_below c.ended.result c.ended.ensures.ends rose
 
 pub returns-clause-stored : goal.returns-clause-stored
 returns-clause-stored g c = stored (answer (texts c.args.words.now)) _ _ c.ended.result c.ended.ensures.ends

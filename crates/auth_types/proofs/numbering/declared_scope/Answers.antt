@@ -1,7 +1,11 @@
-use Rattle.std.proofs.Common.{map, sym, ap, ◌∙◌}
+use Rattle.std.proofs.Common.{length, map, sym, ap, ◌∙◌, subst}
+use Rattle.core_terms.specs.LanguagePrograms.{type_names, types_in}
 use Rattle.auth_syntax.specs.Trees.{declaration_of}
 use Rattle.auth_types.specs.OverTypes.{functions_written}
 use Rattle.auth_types.specs.ScopeNames.{joined, names_in}
+use Rattle.auth_types.specs.Scopes.{IsWithin, functions_meant, scope_meant}
+use Rattle.auth_types.specs.declared.declarations.Declared.{Declared}
+use Rattle.auth_types.specs.declared.scope.Scope.{Scope}
 use Rattle.auth_types.proofs.NamesOfDeclarations.{constructors_named, functions_named, types_named}
 use Rattle.auth_types.proofs.NumberedParts.{all_named_grow}
 use Rattle.auth_types.proofs.NumberedScopes.{heads_functions, heads_names, named_constructors, named_few, named_names, scope_is, scope_within}
@@ -19,33 +23,41 @@ returns-clause-grows c = grows_on _ _ _ c.named_types.ensures.grows c.heads.ensu
 
 pub constructor_ids-requires : goal.constructor_ids-requires
 constructor_ids-requires c =
-    rw c.deref.ensures.value (named_few (names_in c.args.declared.types.keys) _ c.args.declared (map declaration_of c.args.declarations.now) c.in_ok-named.named.items c.in_ok-named.ensures.found c.requires)
+    rw c.deref-3.ensures.value (named_few (names_in c.args.declared.value.types.keys) _ c.args.declared.value (map declaration_of c.args.declarations.now) c.in_ok-named.named.items (rw c.deref.ensures at c.in_ok-named.ensures.found) c.requires)
 
-pub invariant_of-result-clause-constructors_named : goal.invariant_of-result-clause-constructors_named
-invariant_of-result-clause-constructors_named c =
-    constructors_named c.args.declared (map declaration_of c.args.declarations.now) c.requires
-    ∙ ap joined (sym (named_constructors (names_in c.args.declared.types.keys) _ (map declaration_of c.args.declarations.now) c.in_ok-named.named.items c.in_ok-named.ensures.found))
+pub invariant_of-scope-clause-constructors_named : goal.invariant_of-scope-clause-constructors_named
+invariant_of-scope-clause-constructors_named c =
+    ap (λ (d : Declared). names_in d.constructors.keys) c.into_inner-constructor_names.ensures ∙
+    constructors_named c.args.declared.value (map declaration_of c.args.declarations.now) c.requires
+    ∙ ap joined (sym (named_constructors (names_in c.args.declared.value.types.keys) _ (map declaration_of c.args.declarations.now) c.in_ok-named.named.items (rw c.deref.ensures at c.in_ok-named.ensures.found)))
 
-pub invariant_of-result-clause-constructors_numbered : goal.invariant_of-result-clause-constructors_numbered
-invariant_of-result-clause-constructors_numbered c = rw c.deref.ensures.value at c.in_ok-constructor_ids.ensures
+pub invariant_of-scope-clause-constructors_numbered : goal.invariant_of-scope-clause-constructors_numbered
+invariant_of-scope-clause-constructors_numbered c = rw c.deref-3.ensures.value at c.in_ok-constructor_ids.ensures
 
-pub invariant_of-result-clause-functions_named : goal.invariant_of-result-clause-functions_named
-invariant_of-result-clause-functions_named c =
-    functions_named c.args.declared (map declaration_of c.args.declarations.now) c.requires
-    ∙ sym (heads_names (names_in c.args.declared.types.keys) _ (functions_written c.args.declarations.now) c.in_ok-heads.heads.items c.in_ok-heads.ensures.found)
+pub invariant_of-scope-clause-functions_named : goal.invariant_of-scope-clause-functions_named
+invariant_of-scope-clause-functions_named c =
+    ap (λ (d : Declared). names_in d.functions.keys) c.into_inner-constructor_names.ensures ∙
+    functions_named c.args.declared.value (map declaration_of c.args.declarations.now) c.requires
+    ∙ sym (heads_names (names_in c.args.declared.value.types.keys) _ (functions_written c.args.declarations.now) c.in_ok-heads.heads.items (rw c.deref-2.ensures at c.in_ok-heads.ensures.found))
 
 pub returns-clause-scope : goal.returns-clause-scope
 returns-clause-scope c =
-    scope_is (names_in c.args.declared.types.keys) _ (map declaration_of c.args.declarations.now) c.in_ok-named.named.items c.in_ok-heads.heads.items (types_named c.args.declared (map declaration_of c.args.declarations.now) c.requires)
-    (all_named_grow (names_in c.args.declared.types.keys) _ _ c.heads.ensures.grows (map declaration_of c.args.declarations.now) c.in_ok-named.named.items c.in_ok-named.ensures.found) c.in_ok-heads.ensures.found
+    ap (scope_meant _) c.in_ok-new.ensures.ok
+    ∙ scope_is (names_in c.args.declared.value.types.keys) _ (map declaration_of c.args.declarations.now) c.in_ok-named.named.items c.in_ok-heads.heads.items (types_named c.args.declared.value (map declaration_of c.args.declarations.now) c.requires)
+    (all_named_grow (names_in c.args.declared.value.types.keys) _ _ c.heads.ensures.grows (map declaration_of c.args.declarations.now) c.in_ok-named.named.items (rw c.deref.ensures at c.in_ok-named.ensures.found)) (rw c.deref-2.ensures at c.in_ok-heads.ensures.found)
 
 pub returns-clause-functions : goal.returns-clause-functions
-returns-clause-functions c = heads_functions (names_in c.args.declared.types.keys) _ (functions_written c.args.declarations.now) c.in_ok-heads.heads.items c.in_ok-heads.ensures.found
+returns-clause-functions c =
+    ap functions_meant c.in_ok-new.ensures.ok
+    ∙ heads_functions (names_in c.args.declared.value.types.keys) _ (functions_written c.args.declarations.now) c.in_ok-heads.heads.items (rw c.deref-2.ensures at c.in_ok-heads.ensures.found)
 
 pub returns-clause-names : goal.returns-clause-names
-returns-clause-names c = named_names (names_in c.args.declared.types.keys) _ (map declaration_of c.args.declarations.now) c.in_ok-named.named.items c.in_ok-named.ensures.found
+returns-clause-names c =
+    ap (λ (s : Scope). type_names s.named.items) c.in_ok-new.ensures.ok
+    ∙ named_names (names_in c.args.declared.value.types.keys) _ (map declaration_of c.args.declarations.now) c.in_ok-named.named.items (rw c.deref.ensures at c.in_ok-named.ensures.found)
 
 pub returns-clause-within : goal.returns-clause-within
 returns-clause-within c =
-    scope_within (names_in c.args.declared.types.keys) _ (map declaration_of c.args.declarations.now) _
-    (all_named_grow (names_in c.args.declared.types.keys) _ _ c.heads.ensures.grows (map declaration_of c.args.declarations.now) c.in_ok-named.named.items c.in_ok-named.ensures.found) c.in_ok-heads.ensures.found
+    subst (IsWithin (length (types_in c.heads.new.types))) (sym c.in_ok-new.ensures.ok)
+    (scope_within (names_in c.args.declared.value.types.keys) _ (map declaration_of c.args.declarations.now) _
+    (all_named_grow (names_in c.args.declared.value.types.keys) _ _ c.heads.ensures.grows (map declaration_of c.args.declarations.now) c.in_ok-named.named.items (rw c.deref.ensures at c.in_ok-named.ensures.found)) (rw c.deref-2.ensures at c.in_ok-heads.ensures.found))

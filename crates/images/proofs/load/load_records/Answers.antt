@@ -9,8 +9,10 @@ use Rattle.images.proofs.load.load_records.Goals as goal
 
 pub returns-in_err-next : goal.returns-in_err-next
 returns-in_err-next c = λ p is.
-    let fault = subst (λ kept. IsNext (next_of p c.args.size c.loop-number.number (entries_of kept) c.loop-number.rest.now) (Err c.in_err-next.field-0.0)) c.deref.ensures.value (c.in_err-next.ensures p is) in
-    let told = with_fault p c.args.size c.args.count c.loop-number.number c.loop-number.kept.items c.loop-number.rest.now c.loop-number.invariant.counted c.loop-number-test.true c.in_err-next.field-0.0 fault in
+    let fault =
+    subst (λ kept. IsNext (next_of p c.args.size c.loop-number.number (entries_of kept) c.loop-number.rest.now) (Err c.in_err-next.field-0.0)) c.deref.ensures.value (c.in_err-next.ensures p is) in
+    let told =
+    with_fault p c.args.size c.args.count c.loop-number.number c.loop-number.kept.items c.loop-number.rest.now c.loop-number.invariant.counted c.loop-number-test.true c.in_err-next.field-0.0 fault in
     let err = err_from_is_err_and c.from_residual.result c.from_residual.ensures.1 in
     let same : c.from_residual.result ≡ Err c.in_err-next.field-0.0 = cc in
     subst (λ r. AreLoaded (load_records (meaning p) c.args.size c.args.count [] c.args.bytes.now) r) (sym same)

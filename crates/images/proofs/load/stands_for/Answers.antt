@@ -16,7 +16,8 @@ pub returns-in-UnitRecord : goal.returns-in-UnitRecord
 returns-in-UnitRecord c = λ p is size. at_record p c.args.state is size c.args.number (entries_of c.args.kept.now) c.args.found UnitRecord _ c.in-UnitRecord.is (c.leaf.ensures p is size)
 
 pub returns-in-BoolRecord : goal.returns-in-BoolRecord
-returns-in-BoolRecord c = λ p is size. at_record p c.args.state is size c.args.number (entries_of c.args.kept.now) c.args.found (BoolRecord c.in-BoolRecord.value) _ c.in-BoolRecord.is (c.leaf-in-BoolRecord.ensures p is size)
+returns-in-BoolRecord c =
+    λ p is size. at_record p c.args.state is size c.args.number (entries_of c.args.kept.now) c.args.found (BoolRecord c.in-BoolRecord.value) _ c.in-BoolRecord.is (c.leaf-in-BoolRecord.ensures p is size)
 
 pub returns-in-IntRecord : goal.returns-in-IntRecord
 returns-in-IntRecord c = λ p is size.
@@ -26,10 +27,12 @@ returns-in-IntRecord c = λ p is size.
     (subst (λ z. StandsFor (λ go. checked_entry (meaning p) size c.args.number (Some (entry IntTy (IntV z))) go) c.leaf-in-IntRecord.result) same (c.leaf-in-IntRecord.ensures p is size))
 
 pub returns-in-TextRecord : goal.returns-in-TextRecord
-returns-in-TextRecord c = λ p is size. at_record p c.args.state is size c.args.number (entries_of c.args.kept.now) c.args.found (TextRecord c.in-TextRecord.bytes) _ c.in-TextRecord.is (c.text.ensures p is size)
+returns-in-TextRecord c =
+    λ p is size. at_record p c.args.state is size c.args.number (entries_of c.args.kept.now) c.args.found (TextRecord c.in-TextRecord.bytes) _ c.in-TextRecord.is (c.text.ensures p is size)
 
 pub returns-in-AuthRecord : goal.returns-in-AuthRecord
-returns-in-AuthRecord c = λ p is size. at_record p c.args.state is size c.args.number (entries_of c.args.kept.now) c.args.found (AuthRecord c.in-AuthRecord.inner) _ c.in-AuthRecord.is (c.authenticated.ensures p is size)
+returns-in-AuthRecord c =
+    λ p is size. at_record p c.args.state is size c.args.number (entries_of c.args.kept.now) c.args.found (AuthRecord c.in-AuthRecord.inner) _ c.in-AuthRecord.is (c.authenticated.ensures p is size)
 
 pub returns-in-PairRecord : goal.returns-in-PairRecord
 returns-in-PairRecord c = λ p is size go.

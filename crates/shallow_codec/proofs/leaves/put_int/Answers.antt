@@ -16,4 +16,5 @@ returns-clause-read c = λ types levels.
     let z : ℤ = cast_signed w64 (cast_unsigned w64 c.in-Some.value) in
     let same : z ≡ c.in-Some.value = to_z-of_z w64 c.in-Some.value (record { sfits = mag_of c.in-Some.value c.in-Some.ensures.fits }) in
     leaf_read types levels c.args.at c.in-Some.behind _ (nodes_in c.args.store.now) (nodes_in c.put_int.new.self) (IntNode z) c.in_ok-value.value.0 IntTy (IntV z) 8
-    (c.in-Some.ensures.value.0 ∙ ap (λ z. Good (IntV z) c.in-Some.behind.rest.now c.in-Some.behind.offset) (sym same)) c.in-Some.ensures.value.1 refl (omega arith) refl c.in_ok-value.ensures.put (c.in_ok-value.ensures.stands VerifierNodes types)
+    (c.in-Some.ensures.value.0 ∙ ap (λ z. Good (IntV z) c.in-Some.behind.rest.now c.in-Some.behind.offset) (sym same)) c.in-Some.ensures.value.1 refl
+    (omega arith) refl c.in_ok-value.ensures.put (c.in_ok-value.ensures.stands VerifierNodes types)

@@ -9,5 +9,6 @@ use Rattle.shallow_codec.proofs.leaves.put_text.Goals as goal
 
 pub returns-clause-read : goal.returns-clause-read
 returns-clause-read c = λ types levels.
-    leaf_read types levels c.args.at c.in-Some.behind _ (nodes_in c.args.store.now) (nodes_in c.put_text.new.self) (TextNode c.in-Some.text.now) c.in_ok-value.value.0 TextTy (TextV c.in-Some.text.now) (4 + length c.in-Some.text.now)
+    leaf_read types levels c.args.at c.in-Some.behind _ (nodes_in c.args.store.now) (nodes_in c.put_text.new.self) (TextNode c.in-Some.text.now)
+    c.in_ok-value.value.0 TextTy (TextV c.in-Some.text.now) (4 + length c.in-Some.text.now)
     c.in-Some.ensures.0 c.in-Some.ensures.1 refl (omega arith) refl c.in_ok-value.ensures.put (c.in_ok-value.ensures.stands VerifierNodes types)

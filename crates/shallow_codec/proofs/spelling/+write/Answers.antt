@@ -8,7 +8,8 @@ pub shallow_size-requires : goal.shallow_size-requires
 shallow_size-requires t c = shown_below (nodes_in c.args.store.now) c.args.r.0 c.requires
 
 pub returns-then-shallow_size-eq0 : goal.returns-then-shallow_size-eq0
-returns-then-shallow_size-eq0 t c = nothing_behind (nodes_in c.args.store.now) c.args.store.now.sound c.args.r.0 c.args.bytes.now.items (sym c.shallow_size.ensures.kept ∙ c.if-shallow_size-eq0.true)
+returns-then-shallow_size-eq0 t c =
+    nothing_behind (nodes_in c.args.store.now) c.args.store.now.sound c.args.r.0 c.args.bytes.now.items (sym c.shallow_size.ensures.kept ∙ c.if-shallow_size-eq0.true)
 
 pub view-requires : goal.view-requires
 view-requires t c = shown_below (nodes_in c.args.store.now) c.args.r.0 c.requires
@@ -20,7 +21,9 @@ write-requires-in-Pair t c =
 
 pub write-requires-in-loop-field : goal.write-requires-in-loop-field
 write-requires-in-loop-field t c =
-    let below = field_below (nodes_in c.args.store.now) c.args.r.0 c.in-Constructor.field-0.0 c.in-Constructor.tag.0 c.in-Constructor.fields.now c.loop-field.field-index (record { 0 = 0 }) c.in-Constructor.ensures.refers (omega arith) in
+    let below =
+    field_below (nodes_in c.args.store.now) c.args.r.0 c.in-Constructor.field-0.0 c.in-Constructor.tag.0 c.in-Constructor.fields.now c.loop-field.field-index
+    (record { 0 = 0 }) c.in-Constructor.ensures.refers (omega arith) in
     (search (rules, below), field_shown (nodes_in c.args.store.now) c.args.r.0 c.in-Constructor.field-0.0 c.in-Constructor.tag.0 c.in-Constructor.fields.now c.loop-field.field-index (record { 0 = 0 }) c.in-Constructor.ensures.form c.requires (omega arith))
 
 pub loop-field-init : goal.loop-field-init
@@ -28,9 +31,11 @@ loop-field-init t c = none_spelled (nodes_in c.args.store.now) c.in-Constructor.
 
 pub loop-field-preserved : goal.loop-field-preserved
 loop-field-preserved t c =
-    more_spelled (nodes_in c.args.store.now) c.in-Constructor.fields.now c.loop-field.field-index (record { 0 = 0 }) _ c.loop-field.bytes.items _ (omega arith) c.loop-field.invariant c.in_ok-write-in-Constructor.ensures
+    more_spelled (nodes_in c.args.store.now) c.in-Constructor.fields.now c.loop-field.field-index (record { 0 = 0 }) _ c.loop-field.bytes.items _ (omega arith)
+    c.loop-field.invariant c.in_ok-write-in-Constructor.ensures
 
 pub returns-after-loop-field : goal.returns-after-loop-field
 returns-after-loop-field t c =
-    con_spelled (nodes_in c.args.store.now) c.args.r.0 c.in-Constructor.field-0.0 c.in-Constructor.tag.0 c.in-Constructor.fields.now c.loop-field.field-index c.args.bytes.now.items _ c.loop-field.bytes.items
+    con_spelled (nodes_in c.args.store.now) c.args.r.0 c.in-Constructor.field-0.0 c.in-Constructor.tag.0 c.in-Constructor.fields.now c.loop-field.field-index
+    c.args.bytes.now.items _ c.loop-field.bytes.items
     c.in-Constructor.ensures.form (omega arith) c.in_ok-push-in-Constructor.ensures.items c.loop-field.invariant

@@ -14,6 +14,8 @@ use Rattle.stored_images.proofs.entries.bool.Goals as goal
 pub returns-clause-loaded : goal.returns-clause-loaded
 returns-clause-loaded c marking size =
     let p = c.args.types.now.program.now in
-    loaded p size c.args.number BoolTy (BoolV c.args.value) (λ go. checked_entry (meaning p) size c.args.number (Some (entry BoolTy (BoolV c.args.value))) go) (λ go. refl) c.in-Some.ensures.0
-    (lit≤ tt) (lit≤ tt) marking (nodes_in c.put_bool.new.self) (record { ty = c.in-Some.ty; value = c.in_ok-value.value }) (BoolV c.args.value) (numbered c.args.types.now.program.now BoolForm c.in-Some.ty c.in-Some.ensures) (bool_seen marking (meaning p) c.args.value)
+    loaded p size c.args.number BoolTy (BoolV c.args.value) (λ go. checked_entry (meaning p) size c.args.number (Some (entry BoolTy (BoolV c.args.value))) go)
+    (λ go. refl) c.in-Some.ensures.0
+    (lit≤ tt) (lit≤ tt) marking (nodes_in c.put_bool.new.self) (record { ty = c.in-Some.ty; value = c.in_ok-value.value }) (BoolV c.args.value)
+    (numbered c.args.types.now.program.now BoolForm c.in-Some.ty c.in-Some.ensures) (bool_seen marking (meaning p) c.args.value)
     (c.in_ok-value.ensures.stands (kind_of marking (meaning p)) (meaning p).types)

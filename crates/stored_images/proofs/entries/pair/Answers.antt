@@ -16,7 +16,8 @@ returns-in_default-clause-loaded c marking entries stored size =
 
 pub returns-in_default-earlier-clause-loaded : goal.returns-in_default-earlier-clause-loaded
 returns-in_default-earlier-clause-loaded c marking entries stored size =
-    no_second marking c.args.types.now.program.now (nodes_in c.args.store.now) c.args.loaded.now entries stored size c.args.number c.args.first c.args.second c.in_default-earlier.ensures
+    no_second marking c.args.types.now.program.now (nodes_in c.args.store.now) c.args.loaded.now entries stored size c.args.number c.args.first c.args.second
+    c.in_default-earlier.ensures
 
 pub part-requires-clause-behind : goal.part-requires-clause-behind
 part-requires-clause-behind c =
@@ -32,50 +33,66 @@ returns-in_default-part-clause-loaded c marking entries stored size =
 pub shallow_size-requires : goal.shallow_size-requires
 shallow_size-requires c =
     let p = c.args.types.now.program.now in
-    node_at c.requires.stored.0 (meaning p) (types_of p) (nodes_in c.args.store.now) c.args.loaded.now c.requires.stored.1 c.requires.stored.2 c.args.first c.in-Some.first c.in-Some.ensures
+    node_at c.requires.stored.0 (meaning p) (types_of p) (nodes_in c.args.store.now) c.args.loaded.now c.requires.stored.1 c.requires.stored.2 c.args.first
+    c.in-Some.first c.in-Some.ensures
 
 pub shallow_size-requires-2 : goal.shallow_size-requires-2
 shallow_size-requires-2 c =
     let p = c.args.types.now.program.now in
-    node_at c.requires.stored.0 (meaning p) (types_of p) (nodes_in c.args.store.now) c.args.loaded.now c.requires.stored.1 c.requires.stored.2 c.args.second c.in-Some-earlier.second c.in-Some-earlier.ensures
+    node_at c.requires.stored.0 (meaning p) (types_of p) (nodes_in c.args.store.now) c.args.loaded.now c.requires.stored.1 c.requires.stored.2 c.args.second
+    c.in-Some-earlier.second c.in-Some-earlier.ensures
 
 pub shallow_depth-requires : goal.shallow_depth-requires
 shallow_depth-requires c =
     let p = c.args.types.now.program.now in
-    node_at c.requires.stored.0 (meaning p) (types_of p) (nodes_in c.args.store.now) c.args.loaded.now c.requires.stored.1 c.requires.stored.2 c.args.first c.in-Some.first c.in-Some.ensures
+    node_at c.requires.stored.0 (meaning p) (types_of p) (nodes_in c.args.store.now) c.args.loaded.now c.requires.stored.1 c.requires.stored.2 c.args.first
+    c.in-Some.first c.in-Some.ensures
 
 pub shallow_depth-requires-2 : goal.shallow_depth-requires-2
 shallow_depth-requires-2 c =
     let p = c.args.types.now.program.now in
-    node_at c.requires.stored.0 (meaning p) (types_of p) (nodes_in c.args.store.now) c.args.loaded.now c.requires.stored.1 c.requires.stored.2 c.args.second c.in-Some-earlier.second c.in-Some-earlier.ensures
+    node_at c.requires.stored.0 (meaning p) (types_of p) (nodes_in c.args.store.now) c.args.loaded.now c.requires.stored.1 c.requires.stored.2 c.args.second
+    c.in-Some-earlier.second c.in-Some-earlier.ensures
 
 pub put_pair-requires-clause-first : goal.put_pair-requires-clause-first
 put_pair-requires-clause-first c =
     let p = c.args.types.now.program.now in
-    node_at c.requires.stored.0 (meaning p) (types_of p) (nodes_in c.args.store.now) c.args.loaded.now c.requires.stored.1 c.requires.stored.2 c.args.first c.in-Some.first c.in-Some.ensures
+    node_at c.requires.stored.0 (meaning p) (types_of p) (nodes_in c.args.store.now) c.args.loaded.now c.requires.stored.1 c.requires.stored.2 c.args.first
+    c.in-Some.first c.in-Some.ensures
 
 pub put_pair-requires-clause-second : goal.put_pair-requires-clause-second
 put_pair-requires-clause-second c =
     let p = c.args.types.now.program.now in
-    node_at c.requires.stored.0 (meaning p) (types_of p) (nodes_in c.args.store.now) c.args.loaded.now c.requires.stored.1 c.requires.stored.2 c.args.second c.in-Some-earlier.second c.in-Some-earlier.ensures
+    node_at c.requires.stored.0 (meaning p) (types_of p) (nodes_in c.args.store.now) c.args.loaded.now c.requires.stored.1 c.requires.stored.2 c.args.second
+    c.in-Some-earlier.second c.in-Some-earlier.ensures
 
 pub returns-then-shallow_size-size_limit-clause-loaded : goal.returns-then-shallow_size-size_limit-clause-loaded
 returns-then-shallow_size-size_limit-clause-loaded c marking entries stored size =
     let p = c.args.types.now.program.now in
-    let big : 65536 < size_at (nodes_in c.args.store.now) c.in-Some.first.value.0 + size_at (nodes_in c.args.store.now) c.in-Some-earlier.second.value.0 = omega (arith, c.size_limit.ensures, c.shallow_size.ensures.kept, c.shallow_size-2.ensures.kept) in
-    pair_big marking p (nodes_in c.args.store.now) c.args.loaded.now entries stored size c.args.number c.args.first c.args.second c.in-Some.first c.in-Some-earlier.second c.in-Some.ensures c.in-Some-earlier.ensures c.in-Some-part.ensures.0 c.args.store.now.sound big
+    let big : 65536 < size_at (nodes_in c.args.store.now) c.in-Some.first.value.0 + size_at (nodes_in c.args.store.now) c.in-Some-earlier.second.value.0 =
+    omega (arith, c.size_limit.ensures, c.shallow_size.ensures.kept, c.shallow_size-2.ensures.kept) in
+    pair_big marking p (nodes_in c.args.store.now) c.args.loaded.now entries stored size c.args.number c.args.first c.args.second c.in-Some.first
+    c.in-Some-earlier.second c.in-Some.ensures c.in-Some-earlier.ensures c.in-Some-part.ensures.0 c.args.store.now.sound big
 
 pub returns-then-max-ge-MOST_DEPTH-clause-loaded : goal.returns-then-max-ge-MOST_DEPTH-clause-loaded
 returns-then-max-ge-MOST_DEPTH-clause-loaded c marking entries stored size =
     let p = c.args.types.now.program.now in
-    let small : size_at (nodes_in c.args.store.now) c.in-Some.first.value.0 + size_at (nodes_in c.args.store.now) c.in-Some-earlier.second.value.0 ≤ 65536 = omega (arith, c.size_limit.ensures, c.shallow_size.ensures.kept, c.shallow_size-2.ensures.kept) in
-    let deep : 512 < 1 + max (depth_at (nodes_in c.args.store.now) c.in-Some.first.value.0) (depth_at (nodes_in c.args.store.now) c.in-Some-earlier.second.value.0) = omega (arith, c.max.ensures, c.shallow_depth.ensures.kept, c.shallow_depth-2.ensures.kept) in
-    pair_deep marking p (nodes_in c.args.store.now) c.args.loaded.now entries stored size c.args.number c.args.first c.args.second c.in-Some.first c.in-Some-earlier.second c.in-Some.ensures c.in-Some-earlier.ensures c.in-Some-part.ensures.0 c.args.store.now.sound small deep
+    let small : size_at (nodes_in c.args.store.now) c.in-Some.first.value.0 + size_at (nodes_in c.args.store.now) c.in-Some-earlier.second.value.0 ≤ 65536 =
+    omega (arith, c.size_limit.ensures, c.shallow_size.ensures.kept, c.shallow_size-2.ensures.kept) in
+    let deep : 512 < 1 + max (depth_at (nodes_in c.args.store.now) c.in-Some.first.value.0) (depth_at (nodes_in c.args.store.now) c.in-Some-earlier.second.value.0) =
+    omega (arith, c.max.ensures, c.shallow_depth.ensures.kept, c.shallow_depth-2.ensures.kept) in
+    pair_deep marking p (nodes_in c.args.store.now) c.args.loaded.now entries stored size c.args.number c.args.first c.args.second c.in-Some.first
+    c.in-Some-earlier.second c.in-Some.ensures c.in-Some-earlier.ensures c.in-Some-part.ensures.0 c.args.store.now.sound small deep
 
 pub returns-clause-loaded : goal.returns-clause-loaded
 returns-clause-loaded c marking entries stored size =
     let p = c.args.types.now.program.now in
-    let small : size_at (nodes_in c.args.store.now) c.in-Some.first.value.0 + size_at (nodes_in c.args.store.now) c.in-Some-earlier.second.value.0 ≤ 65536 = omega (arith, c.size_limit.ensures, c.shallow_size.ensures.kept, c.shallow_size-2.ensures.kept) in
-    let shallow : 1 + max (depth_at (nodes_in c.args.store.now) c.in-Some.first.value.0) (depth_at (nodes_in c.args.store.now) c.in-Some-earlier.second.value.0) ≤ 512 = omega (arith, c.max.ensures, c.shallow_depth.ensures.kept, c.shallow_depth-2.ensures.kept) in
-    pair_loaded marking p (nodes_in c.args.store.now) c.args.loaded.now entries stored size c.args.number c.args.first c.args.second c.in-Some.first c.in-Some-earlier.second c.in-Some.ensures c.in-Some-earlier.ensures c.in-Some-part.ensures.0 c.args.store.now.sound small shallow (nodes_in c.put_pair.new.self) (record { ty = c.in-Some-part.ty; value = c.in_ok-value.value }) (numbered c.args.types.now.program.now (PairForm c.in-Some.first.ty c.in-Some-earlier.second.ty) c.in-Some-part.ty c.in-Some-part.ensures)
+    let small : size_at (nodes_in c.args.store.now) c.in-Some.first.value.0 + size_at (nodes_in c.args.store.now) c.in-Some-earlier.second.value.0 ≤ 65536 =
+    omega (arith, c.size_limit.ensures, c.shallow_size.ensures.kept, c.shallow_size-2.ensures.kept) in
+    let shallow : 1 + max (depth_at (nodes_in c.args.store.now) c.in-Some.first.value.0) (depth_at (nodes_in c.args.store.now) c.in-Some-earlier.second.value.0) ≤ 512 =
+    omega (arith, c.max.ensures, c.shallow_depth.ensures.kept, c.shallow_depth-2.ensures.kept) in
+    pair_loaded marking p (nodes_in c.args.store.now) c.args.loaded.now entries stored size c.args.number c.args.first c.args.second c.in-Some.first
+    c.in-Some-earlier.second c.in-Some.ensures c.in-Some-earlier.ensures c.in-Some-part.ensures.0 c.args.store.now.sound small shallow
+    (nodes_in c.put_pair.new.self) (record { ty = c.in-Some-part.ty; value = c.in_ok-value.value })
+    (numbered c.args.types.now.program.now (PairForm c.in-Some.first.ty c.in-Some-earlier.second.ty) c.in-Some-part.ty c.in-Some-part.ensures)
     (c.in_ok-value.ensures.stands (kind_of marking (meaning p)) (meaning p).types _ _ _ _)

@@ -28,6 +28,7 @@ returns-in_err-stored g c =
 
 pub loop-number-preserved : goal.loop-number-preserved
 loop-number-preserved g c =
-    loaded_more g.M.Marker.marking c.args.types.now.program.now c.args.size c.args.header.count c.args.header.records.now c.loop-number.number (nodes_in c.loop-number.store) c.loop-number.loaded.items c.loop-number.rest.now c.loop-number.invariant c.loop-number-test.true
+    loaded_more g.M.Marker.marking c.args.types.now.program.now c.args.size c.args.header.count c.args.header.records.now c.loop-number.number
+    (nodes_in c.loop-number.store) c.loop-number.loaded.items c.loop-number.rest.now c.loop-number.invariant c.loop-number-test.true
     c.in_ok-front.front c.in_ok-front.ensures.front c.deref.result.now c.deref.ensures.value (nodes_in c.stored.new.store) c.stored.result c.stored.ensures.loaded
     c.in_ok-stored.stored c.in_ok-stored.was c.stored.ensures.keeps c.push.new.self.items c.in_ok-push.ensures.items

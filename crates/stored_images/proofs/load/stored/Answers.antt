@@ -38,15 +38,18 @@ returns-in-Text-clause-loaded g c entries stored size =
 
 pub returns-in-Pair-clause-loaded : goal.returns-in-Pair-clause-loaded
 returns-in-Pair-clause-loaded g c entries stored size =
-    at_record g.M.Marker.marking c.args.types.now.program.now (nodes_in c.pair.new.store) entries size c.args.number c.args.found (Pair c.in-Pair.first c.in-Pair.second) c.pair.result c.in-Pair.is
+    at_record g.M.Marker.marking c.args.types.now.program.now (nodes_in c.pair.new.store) entries size c.args.number c.args.found
+    (Pair c.in-Pair.first c.in-Pair.second) c.pair.result c.in-Pair.is
     (c.pair.ensures.loaded g.M.Marker.marking entries stored size)
 
 pub returns-in-Constructor-clause-loaded : goal.returns-in-Constructor-clause-loaded
 returns-in-Constructor-clause-loaded g c entries stored size =
-    at_record g.M.Marker.marking c.args.types.now.program.now (nodes_in c.constructor.new.store) entries size c.args.number c.args.found (Constructor c.in-Constructor.found) c.constructor.result c.in-Constructor.is
+    at_record g.M.Marker.marking c.args.types.now.program.now (nodes_in c.constructor.new.store) entries size c.args.number c.args.found
+    (Constructor c.in-Constructor.found) c.constructor.result c.in-Constructor.is
     (c.constructor.ensures.loaded g.M.Marker.marking entries stored size)
 
 pub returns-in-Auth-clause-loaded : goal.returns-in-Auth-clause-loaded
 returns-in-Auth-clause-loaded g c entries stored size =
-    at_record g.M.Marker.marking c.args.types.now.program.now (nodes_in c.authenticated.new.store) entries size c.args.number c.args.found (Auth c.in-Auth.inner) c.authenticated.result c.in-Auth.is
+    at_record g.M.Marker.marking c.args.types.now.program.now (nodes_in c.authenticated.new.store) entries size c.args.number c.args.found
+    (Auth c.in-Auth.inner) c.authenticated.result c.in-Auth.is
     (c.authenticated.ensures.loaded entries stored size)

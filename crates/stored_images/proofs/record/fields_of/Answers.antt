@@ -15,7 +15,8 @@ returns c =
     record {
       fields = (
         c.in_ok-part_of.ensures.0,
-        rw c.deref-2.ensures.value (constructor_fields (types_of p) p.named.items c.args.named.0 c.args.tag.0 c.in_ok-declared.declared.now c.in_ok-constructor.constructor.now there at),
+        rw c.deref-2.ensures.value
+            (constructor_fields (types_of p) p.named.items c.args.named.0 c.args.tag.0 c.in_ok-declared.declared.now c.in_ok-constructor.constructor.now there at),
         rw c.deref-2.ensures.value (fields_below (length (types_of p)) p.named.items c.args.named.0 c.args.tag.0 c.in_ok-declared.declared.now c.in_ok-constructor.constructor.now
             (rw c.named_types.ensures.named at c.named_types.ensures.within) there at),
       );

@@ -156,9 +156,11 @@ returns-in_err-add-in-None c =
     let have = subst (HaveRecords records) (refs_shown nodes f.node.0 form c.view-view.ensures.form) (waiting_whole nodes records (reverse rest) f over waited) in
     record {
       saved = λ (types : Table) (t : Ty) (v : Value) numbers h.
-          subst (AreSaved types (distinct [] (walk types t v))) (sym (same_error c.from_residual-in_err-add-in-None.result c.in_err-add-in-None.field-0.0 c.from_residual-in_err-add-in-None.ensures))
+          subst (AreSaved types (distinct [] (walk types t v)))
+          (sym (same_error c.from_residual-in_err-add-in-None.result c.in_err-add-in-None.field-0.0 c.from_residual-in_err-add-in-None.ensures))
           (saving_refused types nodes (few_types types numbers) (distinct [] (walk types t v)) records form f (reverse rest) c.view-view.ensures.form over have
-          (subst (Saving types nodes (distinct [] (walk types t v)) records) was (c.loop-frame.invariant.saving types t v numbers h)) c.in_err-add-in-None.field-0.0 c.in_err-add-in-None.ensures.long);
+          (subst (Saving types nodes (distinct [] (walk types t v)) records) was (c.loop-frame.invariant.saving types t v numbers h))
+          c.in_err-add-in-None.field-0.0 c.in_err-add-in-None.ensures.long);
     }
 
 pub returns : goal.returns

@@ -19,5 +19,6 @@ pub returns-then-eq : goal.returns-then-eq
 returns-then-eq c =
     let next = next_opened (types_in c.args.types.now) c.args.named.now c.loop-level._level c.loop-level.opened.items c.in_ok-marks.marks.items c.in_ok-next.next.items c.loop-level.invariant
     c.in_ok-marks.ensures.length (rw c.deref.ensures.value at c.in_ok-marks.ensures.marks) (rw c.deref-in-loop-level.ensures.value at c.in_ok-next.ensures) in
-    last_level (table_of (types_in c.args.types.now) c.args.named.now) c.loop-level._level (length c.args.named.now) c.loop-level.opened.items c.in_ok-next.next.items c.loop-level.invariant
+    last_level (table_of (types_in c.args.types.now) c.args.named.now) c.loop-level._level (length c.args.named.now) c.loop-level.opened.items
+    c.in_ok-next.next.items c.loop-level.invariant
     next (same_marks _ _ (rw (c.as_slice.ensures.value, c.as_slice-in-loop-level.ensures.value) at c.if-eq.ensures)) c.loop-level-test.true

@@ -14,9 +14,11 @@ loop-number-preserved c =
           let entered = kind_entered (kind_of f.kind) _ (ap (option_map role_kind_of) (sym w.in-Some.is) ∙ c.of_role.ensures) in
           rw w.roles-is (rw w.in_ok-push.ensures.items (
             (λ types.
-                one_role_more types c.args.functions.now c.loop-number.number f so_far w.in_ok-role.role (c.loop-number.invariant.0 types) c.index-functions-number.is c.loop-number-test.true entered (w.in_ok-role.ensures.role types)),
+                one_role_more types c.args.functions.now c.loop-number.number f so_far w.in_ok-role.role (c.loop-number.invariant.0 types)
+                c.index-functions-number.is c.loop-number-test.true entered (w.in_ok-role.ensures.role types)),
             (λ count all.
-                types_below_more count c.args.functions.now c.loop-number.number f so_far w.in_ok-role.role c.index-functions-number.is c.loop-number-test.true all (c.loop-number.invariant.1 count all)
+                types_below_more count c.args.functions.now c.loop-number.number f so_far w.in_ok-role.role c.index-functions-number.is c.loop-number-test.true
+                all (c.loop-number.invariant.1 count all)
                 (w.in_ok-role.ensures.within count)),
           ))
       | in_default w ↦

@@ -8,7 +8,9 @@ returns-in-Some-clause-number c = type_there c.args.self.now.forms.items c.in-So
 pub invariant_of-self : goal.invariant_of-self
 invariant_of-self c = record {
   in_order = in_order_either c.args.self.now.forms.items _ c.args.form c.add.ensures.either c.args.self.now.in_order c.requires.parts;
-  one_number = one_number_either c.args.self.now.forms.items _ c.args.form c.add.ensures.either c.args.self.now.in_order c.args.self.now.one_number c.requires.parts (rw c.deref.ensures.value at (c.in_default.ensures.none refl));
+  one_number =
+      one_number_either c.args.self.now.forms.items _ c.args.form c.add.ensures.either c.args.self.now.in_order c.args.self.now.one_number c.requires.parts
+      (rw c.deref.ensures.value at (c.in_default.ensures.none refl));
 }
 
 pub returns-clause-number : goal.returns-clause-number

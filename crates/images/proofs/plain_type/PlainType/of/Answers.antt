@@ -21,6 +21,8 @@ loop-form-smaller c =
 
 pub loop-form-preserved : goal.loop-form-preserved
 loop-form-preserved c = record {
-  reached = one_off (types_of c.args.program.now) c.loop-form.form c.form-form-in-AuthForm.result c.in-AuthForm.part c.in-AuthForm.is c.form-form-in-AuthForm.ensures c.loop-form.layers _ c.loop-form.invariant.reached;
-  bounded = omega (arith, c.loop-form.invariant.bounded, one_less (types_of c.args.program.now) c.loop-form.form c.form-form-in-AuthForm.result c.in-AuthForm.part c.in-AuthForm.is c.form-form-in-AuthForm.ensures);
+  reached =
+      one_off (types_of c.args.program.now) c.loop-form.form c.form-form-in-AuthForm.result c.in-AuthForm.part c.in-AuthForm.is c.form-form-in-AuthForm.ensures c.loop-form.layers _ c.loop-form.invariant.reached;
+  bounded =
+      omega (arith, c.loop-form.invariant.bounded, one_less (types_of c.args.program.now) c.loop-form.form c.form-form-in-AuthForm.result c.in-AuthForm.part c.in-AuthForm.is c.form-form-in-AuthForm.ensures);
 }

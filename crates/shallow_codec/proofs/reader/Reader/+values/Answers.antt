@@ -1,77 +1,75 @@
-use Rattle.std.proofs.Common.{◌≡◌, ◌-◌, ◌∙◌, Some, List, Err, arith, subst, sym, add-one}
+use Rattle.std.proofs.Common.{◌∙◌, List, Err, arith, subst, sym, add-one}
 use Rattle.core_terms.specs.LanguagePrograms.{types_of}
 use Rattle.core_terms.specs.Reading.{read_value}
-use Rattle.core_terms.specs.Types.{fields_at}
 use Rattle.core_terms.specs.TypeTables.{type_at}
 use Rattle.core_terms.specs.declared.language.types.TyForm.TheVariants.{UnitForm, BoolForm, IntForm, TextForm}
 use Rattle.value_store.specs.CodeNodes.{numbers_of}
-use Rattle.value_store.specs.Nodes.{ConNode, PairNode}
 use Rattle.value_store.specs.declared.node.Ref.{Ref}
 use Rattle.std.proofs.lemmas.Result.{err_from_is_err_and}
-use Rattle.value_store.specs.Standing.{VerifierNodes}
 use Rattle.value_store.specs.Stores.{nodes_in}
 use Rattle.shallow_codec.specs.ProgramTypes.{table, ty_of, tys_of}
-use Rattle.shallow_codec.specs.PutNodes.{AreThere, IsThere}
-use Rattle.shallow_codec.specs.KnownNothings.{AreKnown}
+use Rattle.shallow_codec.specs.PutNodes.{IsThere}
 use Rattle.shallow_codec.proofs.FieldLoops.{IsPutSoFar}
-use Rattle.shallow_codec.proofs.GrownNodes.{grows_put, grows_refl, grows_then}
-use Rattle.shallow_codec.specs.PutValues.{IsRead}
-use Rattle.shallow_codec.proofs.ReadNodes.{IsFront, at_form, con_is_read, if_ok, known_later, length_types, on_level, pair_is_read, so_far_all, so_far_fault, so_far_more, so_far_none, ty_at}
+use Rattle.shallow_codec.proofs.GrownNodes.{grows_refl, grows_then}
+use Rattle.shallow_codec.specs.PutValues.{IsFront, IsRead}
+use Rattle.shallow_codec.proofs.ReadNodes.{at_form, fields_fit, leaf_is_read, length_types, on_level, pair_fits, so_far_all, so_far_fault, so_far_more, so_far_none, still_known, ty_at}
 use Rattle.shallow_codec.proofs.reader.Reader.+values.Goals as goal
 
 pub value-returns-in-UnitForm-clause-read : goal.value-returns-in-UnitForm-clause-read
 value-returns-in-UnitForm-clause-read t c =
-    at_form (table c.args.self.now.program.now) (nodes_in c.put_unit.new.store) c.args.levels (ty_of c.args.self.now.program.now c.args.ty) c.args.at c.put_unit.result
-    (types_of c.args.self.now.program.now) c.form.result UnitForm c.in-UnitForm.is c.form.ensures.form (omega arith) (c.put_unit.ensures.read (table c.args.self.now.program.now) (c.args.levels - 1))
+    leaf_is_read c.args.self.now.program.now (nodes_in c.args.store.now) (nodes_in c.put_unit.new.store) c.put_unit.result
+    c.args.levels c.args.ty c.args.at c.form.result UnitForm c.in-UnitForm.is c.form.ensures.form (omega arith) c.put_unit.ensures.read
 
 pub value-returns-in-UnitForm-clause-known : goal.value-returns-in-UnitForm-clause-known
 value-returns-in-UnitForm-clause-known t c =
-    if_ok c.put_unit.result (AreKnown (table c.args.self.now.program.now) (types_of c.args.self.now.program.now) (nodes_in c.put_unit.new.store) c.args.nothings.now)
-    (known_later (table c.args.self.now.program.now) (types_of c.args.self.now.program.now) (nodes_in c.args.store.now) (nodes_in c.put_unit.new.store) c.args.nothings.now c.put_unit.ensures.grows c.requires.known)
+    still_known c.args.self.now.program.now (nodes_in c.args.store.now) (nodes_in c.put_unit.new.store) c.put_unit.result
+    c.args.nothings.now c.put_unit.ensures.grows c.requires.known
 
 pub value-returns-in-BoolForm-clause-read : goal.value-returns-in-BoolForm-clause-read
 value-returns-in-BoolForm-clause-read t c =
-    at_form (table c.args.self.now.program.now) (nodes_in c.put_bool.new.store) c.args.levels (ty_of c.args.self.now.program.now c.args.ty) c.args.at c.put_bool.result
-    (types_of c.args.self.now.program.now) c.form.result BoolForm c.in-BoolForm.is c.form.ensures.form (omega arith) (c.put_bool.ensures.read (table c.args.self.now.program.now) (c.args.levels - 1))
+    leaf_is_read c.args.self.now.program.now (nodes_in c.args.store.now) (nodes_in c.put_bool.new.store) c.put_bool.result
+    c.args.levels c.args.ty c.args.at c.form.result BoolForm c.in-BoolForm.is c.form.ensures.form (omega arith) c.put_bool.ensures.read
 
 pub value-returns-in-BoolForm-clause-known : goal.value-returns-in-BoolForm-clause-known
 value-returns-in-BoolForm-clause-known t c =
-    if_ok c.put_bool.result (AreKnown (table c.args.self.now.program.now) (types_of c.args.self.now.program.now) (nodes_in c.put_bool.new.store) c.args.nothings.now)
-    (known_later (table c.args.self.now.program.now) (types_of c.args.self.now.program.now) (nodes_in c.args.store.now) (nodes_in c.put_bool.new.store) c.args.nothings.now c.put_bool.ensures.grows c.requires.known)
+    still_known c.args.self.now.program.now (nodes_in c.args.store.now) (nodes_in c.put_bool.new.store) c.put_bool.result
+    c.args.nothings.now c.put_bool.ensures.grows c.requires.known
 
 pub value-returns-in-IntForm-clause-read : goal.value-returns-in-IntForm-clause-read
 value-returns-in-IntForm-clause-read t c =
-    at_form (table c.args.self.now.program.now) (nodes_in c.put_int.new.store) c.args.levels (ty_of c.args.self.now.program.now c.args.ty) c.args.at c.put_int.result
-    (types_of c.args.self.now.program.now) c.form.result IntForm c.in-IntForm.is c.form.ensures.form (omega arith) (c.put_int.ensures.read (table c.args.self.now.program.now) (c.args.levels - 1))
+    leaf_is_read c.args.self.now.program.now (nodes_in c.args.store.now) (nodes_in c.put_int.new.store) c.put_int.result
+    c.args.levels c.args.ty c.args.at c.form.result IntForm c.in-IntForm.is c.form.ensures.form (omega arith) c.put_int.ensures.read
 
 pub value-returns-in-IntForm-clause-known : goal.value-returns-in-IntForm-clause-known
 value-returns-in-IntForm-clause-known t c =
-    if_ok c.put_int.result (AreKnown (table c.args.self.now.program.now) (types_of c.args.self.now.program.now) (nodes_in c.put_int.new.store) c.args.nothings.now)
-    (known_later (table c.args.self.now.program.now) (types_of c.args.self.now.program.now) (nodes_in c.args.store.now) (nodes_in c.put_int.new.store) c.args.nothings.now c.put_int.ensures.grows c.requires.known)
+    still_known c.args.self.now.program.now (nodes_in c.args.store.now) (nodes_in c.put_int.new.store) c.put_int.result
+    c.args.nothings.now c.put_int.ensures.grows c.requires.known
 
 pub value-returns-in-TextForm-clause-read : goal.value-returns-in-TextForm-clause-read
 value-returns-in-TextForm-clause-read t c =
-    at_form (table c.args.self.now.program.now) (nodes_in c.put_text.new.store) c.args.levels (ty_of c.args.self.now.program.now c.args.ty) c.args.at c.put_text.result
-    (types_of c.args.self.now.program.now) c.form.result TextForm c.in-TextForm.is c.form.ensures.form (omega arith) (c.put_text.ensures.read (table c.args.self.now.program.now) (c.args.levels - 1))
+    leaf_is_read c.args.self.now.program.now (nodes_in c.args.store.now) (nodes_in c.put_text.new.store) c.put_text.result
+    c.args.levels c.args.ty c.args.at c.form.result TextForm c.in-TextForm.is c.form.ensures.form (omega arith) c.put_text.ensures.read
 
 pub value-returns-in-TextForm-clause-known : goal.value-returns-in-TextForm-clause-known
 value-returns-in-TextForm-clause-known t c =
-    if_ok c.put_text.result (AreKnown (table c.args.self.now.program.now) (types_of c.args.self.now.program.now) (nodes_in c.put_text.new.store) c.args.nothings.now)
-    (known_later (table c.args.self.now.program.now) (types_of c.args.self.now.program.now) (nodes_in c.args.store.now) (nodes_in c.put_text.new.store) c.args.nothings.now c.put_text.ensures.grows c.requires.known)
+    still_known c.args.self.now.program.now (nodes_in c.args.store.now) (nodes_in c.put_text.new.store) c.put_text.result
+    c.args.nothings.now c.put_text.ensures.grows c.requires.known
 
 pub value-returns-in-AuthForm-clause-read : goal.value-returns-in-AuthForm-clause-read
 value-returns-in-AuthForm-clause-read t c =
-    at_form (table c.args.self.now.program.now) (nodes_in c.put_digest.new.store) c.args.levels (ty_of c.args.self.now.program.now c.args.ty) c.args.at c.put_digest.result
-    (types_of c.args.self.now.program.now) c.form.result _ c.in-AuthForm.is c.form.ensures.form (omega arith) (c.put_digest.ensures.read (table c.args.self.now.program.now) (c.args.levels - 1) (type_at (types_of c.args.self.now.program.now) c.in-AuthForm.field-0))
+    leaf_is_read c.args.self.now.program.now (nodes_in c.args.store.now) (nodes_in c.put_digest.new.store) c.put_digest.result
+    c.args.levels c.args.ty c.args.at c.form.result _ c.in-AuthForm.is c.form.ensures.form (omega arith)
+    (λ types n. c.put_digest.ensures.read types n (type_at (types_of c.args.self.now.program.now) c.in-AuthForm.field-0))
 
 pub value-returns-in-AuthForm-clause-known : goal.value-returns-in-AuthForm-clause-known
 value-returns-in-AuthForm-clause-known t c =
-    if_ok c.put_digest.result (AreKnown (table c.args.self.now.program.now) (types_of c.args.self.now.program.now) (nodes_in c.put_digest.new.store) c.args.nothings.now)
-    (known_later (table c.args.self.now.program.now) (types_of c.args.self.now.program.now) (nodes_in c.args.store.now) (nodes_in c.put_digest.new.store) c.args.nothings.now c.put_digest.ensures.grows c.requires.known)
+    still_known c.args.self.now.program.now (nodes_in c.args.store.now) (nodes_in c.put_digest.new.store) c.put_digest.result
+    c.args.nothings.now c.put_digest.ensures.grows c.requires.known
 
 pub value-returns-in-PairForm-clause-read : goal.value-returns-in-PairForm-clause-read
 value-returns-in-PairForm-clause-read t c =
-    on_level (table c.args.self.now.program.now) (nodes_in c.pair.new.store) c.args.levels (ty_of c.args.self.now.program.now c.args.ty) c.args.at c.pair.result (omega arith) c.pair.ensures.read
+    on_level (table c.args.self.now.program.now) (nodes_in c.pair.new.store) c.args.levels (ty_of c.args.self.now.program.now c.args.ty) c.args.at
+    c.pair.result (omega arith) c.pair.ensures.read
 
 pub value-returns-in-NamedForm-clause-read : goal.value-returns-in-NamedForm-clause-read
 value-returns-in-NamedForm-clause-read t c =
@@ -93,44 +91,49 @@ pair-returns-clause-known t c =
     c.in_ok-note.ensures.known types tys read.0 c.in_ok-front.ensures.known
     (subst (λ a. IsThere types (nodes_in c.parts.new.store) c.in_ok-front.front.value.0 a read.0) (sym c.requires.ty) read.2)
 
+pub parts-put_parts-requires-clause-fits : goal.parts-put_parts-requires-clause-fits
+parts-put_parts-requires-clause-fits t c =
+    let p = c.args.self.now.program.now in
+    let a = ty_of p c.args.parts.0 in
+    let b = ty_of p c.args.parts.1 in
+    let mid = c.in_ok-first.first.behind in
+    pair_fits (table p) c.args.levels c.args.at mid c.in_ok-second.second.behind (nodes_in c.value.new.store) (nodes_in c.value-2.new.store)
+    c.in_ok-first.first.value.0 c.in_ok-second.second.value.0 a b
+    (read_value (table p) c.args.levels a c.args.at.rest.now c.args.at.offset) (read_value (table p) c.args.levels b mid.rest.now mid.offset)
+    c.in_ok-second.ensures.grows c.requires.short c.requires.levels c.in_ok-first.ensures.read c.in_ok-second.ensures.read
+
 pub parts-returns-clause-read : goal.parts-returns-clause-read
 parts-returns-clause-read t c =
-    let types = table c.args.self.now.program.now in
-    let a = ty_of c.args.self.now.program.now c.args.parts.0 in
-    let b = ty_of c.args.self.now.program.now c.args.parts.1 in
-    pair_is_read types c.args.levels c.args.at c.in_ok-first.first.behind c.in_ok-second.second.behind (nodes_in c.value.new.store) (nodes_in c.value-2.new.store) (nodes_in c.put_pair.new.self)
-    c.in_ok-first.first.value.0 c.in_ok-second.second.value.0 c.in_ok-value.value.0 a b c.in_ok-second.ensures.grows c.in_ok-first.ensures.read c.in_ok-second.ensures.read c.in_ok-value.ensures.put
-    (λ x y h j. c.in_ok-value.ensures.stands VerifierNodes types a b x y h j)
+    c.put_parts.ensures.read (table c.args.self.now.program.now) c.args.levels (ty_of c.args.self.now.program.now c.args.parts.0) (ty_of c.args.self.now.program.now c.args.parts.1)
+    c.args.at (nodes_in c.value.new.store) c.in_ok-second.ensures.grows c.in_ok-first.ensures.read c.in_ok-second.ensures.read
 
 pub parts-returns-clause-known : goal.parts-returns-clause-known
 parts-returns-clause-known t c =
-    let old = nodes_in c.value-2.new.store in
-    let new = nodes_in c.put_pair.new.self in
-    known_later (table c.args.self.now.program.now) (types_of c.args.self.now.program.now) old new c.value-2.new.nothings
-    (grows_put old old new (PairNode c.in_ok-first.first.value.0 c.in_ok-second.second.value.0) (grows_refl old) c.in_ok-value.ensures.put.1) c.in_ok-second.ensures.known
+    still_known c.args.self.now.program.now (nodes_in c.value-2.new.store) (nodes_in c.put_parts.new.store) c.put_parts.result
+    c.value-2.new.nothings c.put_parts.ensures.grows c.in_ok-second.ensures.known
+
+pub constructor-put_fields-requires-clause-fits : goal.constructor-put_fields-requires-clause-fits
+constructor-put_fields-requires-clause-fits t c =
+    let p = c.args.self.now.program.now in
+    let read = c.in_ok-fields.ensures.read in
+    fields_fit (table p) c.args.levels c.args.named.0 c.in-Some.tag read.1 (tys_of p c.in-Some-field_types.types.now) c.args.at c.in-Some.behind
+    c.in_ok-fields.fields.behind (nodes_in c.fields.new.store) (numbers_of c.in_ok-fields.fields.values.items) read.0
+    c.requires.short c.requires.levels c.in-Some.ensures.1 read.3 read.4
 
 pub constructor-returns-clause-read : goal.constructor-returns-clause-read
 constructor-returns-clause-read t c =
-    let types = table c.args.self.now.program.now in
-    let ts = tys_of c.args.self.now.program.now c.in-Some-field_types.types.now in
-    let old = nodes_in c.fields.new.store in
-    let read = c.in_ok-fields.ensures.read in
-    let fields : fields_at types c.args.named.0 c.in-Some.tag ≡ Some ts = sym c.in-Some-field_types.ensures in
-    let there = subst (λ rs. AreThere types old c.args.levels read.1 (numbers_of rs) ts read.0) (sym c.deref.ensures.value) read.3 in
-    con_is_read types c.args.levels c.args.named.0 c.in-Some.tag ts c.args.at c.in-Some.behind c.in_ok-fields.fields.behind old (nodes_in c.put_constructor.new.self)
-    (numbers_of c.deref.result.now) c.in_ok-value.value.0 read.1 read.0 fields c.in-Some.ensures.0 c.in-Some.ensures.1 read.2 there read.4 c.in_ok-value.ensures.put
-    (c.in_ok-value.ensures.stands VerifierNodes types ts read.0 fields there.stand)
+    c.put_fields.ensures.read (table c.args.self.now.program.now) c.args.levels (tys_of c.args.self.now.program.now c.in-Some-field_types.types.now) c.args.at c.in-Some.behind
+    (sym c.in-Some-field_types.ensures) c.in-Some.ensures.0 c.in-Some.ensures.1 c.in_ok-fields.ensures.read
 
 pub constructor-returns-clause-known : goal.constructor-returns-clause-known
 constructor-returns-clause-known t c =
-    let old = nodes_in c.fields.new.store in
-    let new = nodes_in c.put_constructor.new.self in
-    known_later (table c.args.self.now.program.now) (types_of c.args.self.now.program.now) old new c.fields.new.nothings
-    (grows_put old old new (ConNode c.args.named.0 c.in-Some.tag (numbers_of c.deref.result.now)) (grows_refl old) c.in_ok-value.ensures.put.1) c.in_ok-fields.ensures.known
+    still_known c.args.self.now.program.now (nodes_in c.fields.new.store) (nodes_in c.put_fields.new.store) c.put_fields.result
+    c.fields.new.nothings c.put_fields.ensures.grows c.in_ok-fields.ensures.known
 
 pub fields-loop-ty-init : goal.fields-loop-ty-init
 fields-loop-ty-init t c = record {
-  so_far = subst (λ (values : List Ref). IsPutSoFar (table c.args.self.now.program.now) c.args.levels (tys_of c.args.self.now.program.now c.args.types.now) c.args.at 0 (nodes_in c.args.store.now) values c.args.at) (sym c.new-values.ensures.items)
+  so_far =
+      subst (λ (values : List Ref). IsPutSoFar (table c.args.self.now.program.now) c.args.levels (tys_of c.args.self.now.program.now c.args.types.now) c.args.at 0 (nodes_in c.args.store.now) values c.args.at) (sym c.new-values.ensures.items)
       (so_far_none (table c.args.self.now.program.now) c.args.levels (tys_of c.args.self.now.program.now c.args.types.now) c.args.at (nodes_in c.args.store.now));
   known = c.requires.known;
   grows = grows_refl (nodes_in c.args.store.now);
@@ -169,5 +172,6 @@ fields-loop-ty-preserved t c =
 
 pub fields-returns-clause-read : goal.fields-returns-clause-read
 fields-returns-clause-read t c =
-    so_far_all (table c.args.self.now.program.now) c.args.levels (tys_of c.args.self.now.program.now c.args.types.now) c.args.at c.loop-ty.ty-index (nodes_in c.loop-ty.store) c.loop-ty.values.items c.loop-ty.behind
+    so_far_all (table c.args.self.now.program.now) c.args.levels (tys_of c.args.self.now.program.now c.args.types.now) c.args.at c.loop-ty.ty-index
+    (nodes_in c.loop-ty.store) c.loop-ty.values.items c.loop-ty.behind
     (omega (arith, length_types (types_of c.args.self.now.program.now) c.args.types.now)) c.loop-ty.invariant.so_far

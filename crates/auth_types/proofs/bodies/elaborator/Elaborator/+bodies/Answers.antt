@@ -7,7 +7,7 @@ use Rattle.std.proofs.lemmas.Str.{IsUtf8-from_is_utf8}
 use Rattle.core_terms.specs.Types.{Ty, UnitTy, BoolTy}
 use Rattle.core_terms.specs.Terms.{UnitE, BoolE}
 use Rattle.core_terms.specs.TypeTables.{type_at}
-use Rattle.core_terms.specs.LanguageTrees.{expression_of as term_of, types_at}
+use Rattle.core_terms.specs.LanguageTrees.{types_at}
 use Rattle.core_terms.specs.declared.types.TyId.{TyId}
 use Rattle.core_terms.specs.declared.language.term.Constructor.{Constructor}
 use Rattle.core_terms.specs.declared.language.term.Term as term
@@ -22,7 +22,7 @@ use Rattle.auth_syntax.specs.declared.tree.Arm.{Arm}
 use Rattle.auth_types.specs.Outcomes.{Finds}
 use Rattle.auth_types.specs.Bodies.{Local, Scope, arm_names, bound_names, elaborated, elaborated_arms, operand_type, unary, wanted, wanted_arm}
 use Rattle.auth_types.specs.Checking.{Sound}
-use Rattle.auth_types.specs.Elaborators.{Keeps, Matches, arms_found, arms_of, fields_of, found_at, found_in, locals_of, row_found, row_of, scope_of, typed_of, types_of, want_of}
+use Rattle.auth_types.specs.Elaborators.{Keeps, Matches, arms_found, arms_of, boxed_of, fields_of, found_at, found_in, locals_of, row_found, row_of, scope_of, typed_of, types_of, want_of}
 use Rattle.auth_types.specs.OverTypes.{FindsOver, Grows}
 use Rattle.auth_types.specs.Scopes.{AreWithin, function_meant}
 use Rattle.auth_types.proofs.ArmSteps.{arm_finds, arm_kept, arm_miscounted, arm_refused, names_bound, names_refused, next_fields}
@@ -30,7 +30,7 @@ use Rattle.auth_types.proofs.BoundNames.{with_local, with_local_is}
 use Rattle.auth_types.proofs.CallSteps.{constructors_count, parameters_count, types_count}
 use Rattle.auth_types.proofs.ElaboratorSteps.{found_kept, keeps_closed, keeps_on, keeps_self, one_outer, scope_is, wanted_kept}
 use Rattle.auth_types.proofs.ExpressionSteps.{call_found, call_refused, constructor_found, constructor_refused, count_row, if_shows, let_shows}
-use Rattle.auth_types.proofs.FindingSteps.{fault_first, finds_is, refused_at, refused_by, shows_is}
+use Rattle.auth_types.proofs.FindingSteps.{fault_first, finds_is, on_more, on_ok, refused_at, refused_by, shows_is}
 use Rattle.auth_types.proofs.LiteralSteps.{arms_good, arms_good_last, row_good, row_good_last}
 use Rattle.auth_types.proofs.LocalSteps.{int_shows, literal_shows}
 use Rattle.auth_types.proofs.MatchSteps.{match_arms_refused, match_found, match_refused}
@@ -43,27 +43,30 @@ use Rattle.auth_types.proofs.TypeNumbers.{grows_on, grows_self, shows_grow}
 use Rattle.auth_types.proofs.bodies.elaborator.Elaborator.+bodies.Goals as goal
 
 -- the forms of expressions
-pub term-returns-in_ok-plain-in-UnitLiteral-clause-found : goal.term-returns-in_ok-plain-in-UnitLiteral-clause-found
-term-returns-in_ok-plain-in-UnitLiteral-clause-found t c =
-    literal_shows (types_of c.plain.new.self) _ term.UnitLiteral UnitE UnitTy c.in_ok-plain-in-UnitLiteral.field-0
-    (ap (found_at c.args.self.now) (ap expression_of c.in-UnitLiteral.is ∙ expression-UnitLiteral _)) (λ types. terms.expression-UnitLiteral types) c.in_ok-plain-in-UnitLiteral.ensures.found
+pub term-returns-in-UnitLiteral-clause-found : goal.term-returns-in-UnitLiteral-clause-found
+term-returns-in-UnitLiteral-clause-found t c =
+    c.plain.ensures.found _
+    (λ _. literal_shows (types_of c.plain.new.self) _ term.UnitLiteral UnitE UnitTy
+    (ap (found_at c.args.self.now) (ap expression_of c.in-UnitLiteral.is ∙ expression-UnitLiteral _)) (λ types. terms.expression-UnitLiteral types))
 
-pub term-returns-in_ok-plain-in-BoolLiteral-clause-found : goal.term-returns-in_ok-plain-in-BoolLiteral-clause-found
-term-returns-in_ok-plain-in-BoolLiteral-clause-found t c =
-    literal_shows (types_of c.plain-in-BoolLiteral.new.self) _ (term.BoolLiteral c.in-BoolLiteral.value) (BoolE c.in-BoolLiteral.value) BoolTy c.in_ok-plain-in-BoolLiteral.field-0
-    (ap (found_at c.args.self.now) (ap expression_of c.in-BoolLiteral.is ∙ expression-BoolLiteral _ _)) (λ types. terms.expression-BoolLiteral types c.in-BoolLiteral.value) c.in_ok-plain-in-BoolLiteral.ensures.found
+pub term-returns-in-BoolLiteral-clause-found : goal.term-returns-in-BoolLiteral-clause-found
+term-returns-in-BoolLiteral-clause-found t c =
+    c.plain-in-BoolLiteral.ensures.found _
+    (λ _. literal_shows (types_of c.plain-in-BoolLiteral.new.self) _ (term.BoolLiteral c.in-BoolLiteral.value) (BoolE c.in-BoolLiteral.value) BoolTy
+    (ap (found_at c.args.self.now) (ap expression_of c.in-BoolLiteral.is ∙ expression-BoolLiteral _ _)) (λ types. terms.expression-BoolLiteral types c.in-BoolLiteral.value))
 
-pub term-returns-in_ok-plain-in-IntLiteral-clause-found : goal.term-returns-in_ok-plain-in-IntLiteral-clause-found
-term-returns-in_ok-plain-in-IntLiteral-clause-found t c =
-    int_shows (types_of c.plain-in-IntLiteral.new.self) _ c.in-IntLiteral.value _ c.in_ok-plain-in-IntLiteral.field-0
-    (ap (found_at c.args.self.now) (ap expression_of c.in-IntLiteral.is ∙ expression-IntLiteral _ _)) c.in_ok-plain-in-IntLiteral.ensures.found (search rules)
+pub term-returns-in-IntLiteral-clause-found : goal.term-returns-in-IntLiteral-clause-found
+term-returns-in-IntLiteral-clause-found t c =
+    c.plain-in-IntLiteral.ensures.found _
+    (λ _. int_shows (types_of c.plain-in-IntLiteral.new.self) _ c.in-IntLiteral.value _
+    (ap (found_at c.args.self.now) (ap expression_of c.in-IntLiteral.is ∙ expression-IntLiteral _ _)) (search rules))
 
-pub term-returns-in_ok-text-in-TextLiteral-clause-found : goal.term-returns-in_ok-text-in-TextLiteral-clause-found
-term-returns-in_ok-text-in-TextLiteral-clause-found t c = rw (c.in-TextLiteral.is, expression-TextLiteral) c.in_ok-text-in-TextLiteral.ensures.found
+pub term-returns-in-TextLiteral-clause-found : goal.term-returns-in-TextLiteral-clause-found
+term-returns-in-TextLiteral-clause-found t c = rw (c.in-TextLiteral.is, expression-TextLiteral) c.text.ensures.found
 
-pub term-returns-in_ok-text-in-TextLiteral-clause-literals : goal.term-returns-in_ok-text-in-TextLiteral-clause-literals
-term-returns-in_ok-text-in-TextLiteral-clause-literals t c =
-    rw (c.in-TextLiteral.is, expression-TextLiteral) (IsUtf8-from_is_utf8 c.in-TextLiteral.text.bytes.items c.in-TextLiteral.text.utf8, c.in-TextLiteral.text.fits)
+pub term-returns-in-TextLiteral-clause-literals : goal.term-returns-in-TextLiteral-clause-literals
+term-returns-in-TextLiteral-clause-literals t c =
+    rw (c.in-TextLiteral.is, expression-TextLiteral) (on_ok c.text.result (IsUtf8-from_is_utf8 c.in-TextLiteral.text.bytes.items c.in-TextLiteral.text.utf8, c.in-TextLiteral.text.fits))
 
 pub term-returns-in-Local-clause-found : goal.term-returns-in-Local-clause-found
 term-returns-in-Local-clause-found t c = rw (c.in-Local.is, expression-Local) c.local.ensures.found
@@ -73,7 +76,7 @@ term-returns-in-Pair-clause-found t c = rw (c.in-Pair.is, expression-Pair) (rw (
 
 pub term-returns-in_err-operand-in-Unary-clause-found : goal.term-returns-in_err-operand-in-Unary-clause-found
 term-returns-in_err-operand-in-Unary-clause-found t c =
-    let p = err_from_is_err_and c.from_residual-in_err-operand-in-Unary.result c.from_residual-in_err-operand-in-Unary.ensures.1 in
+    let p = err_from_is_err_and c.from_residual.result c.from_residual.ensures.1 in
     rw (c.in-Unary.is, expression-Unary)
     (unary_refused (unary_of c.in-Unary.operator) (place_of (expression_of c.in-Unary.operand.value)) (types_of c.term.new.self) _ (found_in c.args.self.now c.in-Unary.operand.value) _ _ (p.1 ∙ ap Err p.2)
     (finds_is (types_of c.term.new.self) typed_of _ _ (Err c.in_err-operand-in-Unary.field-0.0) (ap (found_in c.args.self.now) c.deref-in-Unary-2.ensures) c.in_err-operand-in-Unary.ensures.found))
@@ -112,7 +115,7 @@ pub part-returns-clause-found : goal.part-returns-clause-found
 part-returns-clause-found t c =
     let types = types_of c.term.new.self in
     let found = found_in c.args.self.now c.args.tree.now in
-    finds_is types term_of _ _ c.wanted.result
+    finds_is types boxed_of _ _ c.wanted.result
     (ap (λ at. wanted at (type_at types c.args.ty) found) c.place.ensures
     ∙ ap (λ t. wanted (place_of (expression_of c.args.tree.now)) t found) (type_stays_at (types_of c.args.self.now) types c.in_ok-part.ensures.keeps.grows c.args.ty c.requires))
     (c.wanted.ensures found c.in_ok-part.ensures.found)
@@ -124,11 +127,15 @@ pair-returns-in_err-second-clause-found t c =
     pair_refused (types_of c.term.new.self) (types_of c.term-2.new.self) _ (found_in c.args.self.now c.args.first.now) (found_in c.args.self.now c.args.second.now) c.in_ok-first.first _ _ (p.1 ∙ ap Err p.2) c.in_ok-first.ensures.found
     (finds_is (types_of c.term-2.new.self) typed_of _ _ (Err c.in_err-second.field-0.0) (found_kept c.args.self.now c.term.new.self c.in_ok-first.ensures.keeps (expression_of c.args.second.now)) c.in_err-second.ensures.found)
 
+pub pair-returns-clause-keeps : goal.pair-returns-clause-keeps
+pair-returns-clause-keeps t c =
+    on_more c.paired.result (λ keeps. keeps_on (keeps_on c.in_ok-first.ensures.keeps c.in_ok-second.ensures.keeps) keeps) c.paired.ensures.keeps
+
 pub pair-returns-clause-found : goal.pair-returns-clause-found
 pair-returns-clause-found t c =
     let first = found_in c.args.self.now c.args.first.now in
     let second = found_in c.args.self.now c.args.second.now in
-    c.in_ok-paired.ensures.found first second
+    c.paired.ensures.found first second
     (shows_grow (types_of c.term.new.self) (types_of c.term-2.new.self) typed_of first c.in_ok-first.first c.in_ok-second.ensures.keeps.grows c.in_ok-first.ensures.found)
     (shows_is (types_of c.term-2.new.self) typed_of _ second c.in_ok-second.second (found_kept c.args.self.now c.term.new.self c.in_ok-first.ensures.keeps (expression_of c.args.second.now)) c.in_ok-second.ensures.found)
 
@@ -205,12 +212,13 @@ call-returns-clause-found t c =
     let each = row_found c.args.self.now (in_a_row xs) in
     let v = (function_meant types c.args.self.now.scope.now c.in_ok-function.function).value in
     let within = c.head-head.ensures.within (length types) c.args.self.now.scope_within in
-    call_found types c.args.at (in_a_row xs) (length c.args.operands.now) (sym (count_row xs ∙ length-map c.args.operands.now expression_of)) _ each v c.head-head.result.now c.in_ok-function.function
+    c.typed.ensures.found _
+    (call_found types c.args.at (in_a_row xs) (length c.args.operands.now) (sym (count_row xs ∙ length-map c.args.operands.now expression_of)) _ each v c.head-head.result.now c.in_ok-function.function
     (c.in_ok-function.ensures.found each) (c.head-head.ensures.signature types) (types_of c.operands.new.self) c.in_ok-arguments.arguments c.in_ok-arguments.ensures.keeps.grows within.result
-    (rw c.deref.ensures.value at c.in_ok-arguments.ensures.found)
+    (rw c.deref.ensures.value at c.in_ok-arguments.ensures.found))
 
-pub call-returns-clause-inside : goal.call-returns-clause-inside
-call-returns-clause-inside t c =
+pub call-typed-requires : goal.call-typed-requires
+call-typed-requires t c =
     let types = types_of c.args.self.now in
     let within = c.head-head.ensures.within (length types) c.args.self.now.scope_within in
     let longer = grows_length types (types_of c.operands.new.self) c.in_ok-arguments.ensures.keeps.grows in
@@ -248,9 +256,10 @@ constructor-returns-clause-found t c =
     let types = types_of c.args.self.now in
     let xs = map expression_of c.args.operands.now in
     let each = row_found c.args.self.now (in_a_row xs) in
-    constructor_found types c.args.at (in_a_row xs) (length c.args.operands.now) (sym (count_row xs ∙ length-map c.args.operands.now expression_of)) _ _ each c.in_ok-id.id.named c.in_ok-id.id.tag c.fields-types.result.now
+    c.typed.ensures.found _
+    (constructor_found types c.args.at (in_a_row xs) (length c.args.operands.now) (sym (count_row xs ∙ length-map c.args.operands.now expression_of)) _ _ each c.in_ok-id.id.named c.in_ok-id.id.tag c.fields-types.result.now
     (c.in_ok-id.ensures.found each) (c.fields-types.ensures.fields types) (types_of c.operands.new.self) (types_of c.intern.new.self) c.in_ok-fields.fields c.in_ok-ty.ty c.in_ok-ty.ensures.keeps.grows c.in_ok-ty.ensures.number
-    c.in_ok-fields.ensures.found
+    c.in_ok-fields.ensures.found)
 
 -- expressions in a row
 pub operands-loop-index-init : goal.operands-loop-index-init
@@ -279,7 +288,7 @@ operands-returns-in_err-part-clause-found t c =
     let types = types_of c.loop-index.self in
     let x = expression_of c.index-operands-index.result in
     let inside : c.loop-index.index < length c.args.types.now = omega (arith, c.requires.count, c.loop-index-test.true) in
-    refused_by (types_of c.part.new.self) _ term_of row_of (wanted (place_of x) (type_at types v) (found_at c.loop-index.self x)) _ _ _ (p.1 ∙ ap Err p.2)
+    refused_by (types_of c.part.new.self) _ boxed_of row_of (wanted (place_of x) (type_at types v) (found_at c.loop-index.self x)) _ _ _ (p.1 ∙ ap Err p.2)
     (λ kind at is. row_refused (scope_of c.args.self.now) (locals_of c.args.self.now) (map expression_of c.args.operands.now) (types_at old c.args.types.now) c.loop-index.index x (type_at old v)
     (next_mapped expression_of c.args.operands.now c.loop-index.index c.index-operands-index.result c.index-operands-index.result c.loop-index-test.true c.index-operands-index.is)
     (next_mapped (type_at old) c.args.types.now c.loop-index.index v d inside refl) c.loop-index.terms.items _ types kind at c.loop-index.invariant.found
@@ -298,10 +307,10 @@ operands-loop-index-preserved t c =
     let here = next_mapped expression_of c.args.operands.now c.loop-index.index c.index-operands-index.result c.index-operands-index.result c.loop-index-test.true c.index-operands-index.is in
     record {
       keeps = keeps_on c.loop-index.invariant.keeps c.in_ok-part.ensures.keeps;
-      found = rw c.in_ok-push.ensures.items
+      found = rw (c.in_ok-push.ensures.items, c.into_inner.ensures)
           (row_more (scope_of c.args.self.now) (locals_of c.args.self.now) (map expression_of c.args.operands.now) (types_at old c.args.types.now) c.loop-index.index x (type_at old v) here
-          (next_mapped (type_at old) c.args.types.now c.loop-index.index v d inside refl) c.loop-index.terms.items _ types (types_of c.part.new.self) c.in_ok-part.field-0 c.in_ok-part.ensures.keeps.grows c.loop-index.invariant.found
-          (shows_is (types_of c.part.new.self) term_of (wanted (place_of x) (type_at types v) (found_at c.loop-index.self x)) _ c.in_ok-part.field-0
+          (next_mapped (type_at old) c.args.types.now c.loop-index.index v d inside refl) c.loop-index.terms.items _ types (types_of c.part.new.self) c.in_ok-part.part.value c.in_ok-part.ensures.keeps.grows c.loop-index.invariant.found
+          (shows_is (types_of c.part.new.self) boxed_of (wanted (place_of x) (type_at types v) (found_at c.loop-index.self x)) _ c.in_ok-part.part
           (wanted_kept c.args.self.now c.loop-index.self c.loop-index.invariant.keeps (place_of x) (type_at types v) (type_at old v) x
           (type_stays_at old types c.loop-index.invariant.keeps.grows v (c.requires.within c.loop-index.index d inside))) c.in_ok-part.ensures.found));
       literals = row_good (map expression_of c.args.operands.now) c.loop-index.index x here c.in_ok-part.ensures.literals c.loop-index.invariant.literals;
@@ -335,20 +344,21 @@ let_in-returns-in_err-body-clause-found t c =
 pub let_in-returns-clause-keeps : goal.let_in-returns-clause-keeps
 let_in-returns-clause-keeps t c =
     let there : with_local (locals_of c.args.self.now) (name_of c.args.name.now) (type_at (types_of c.term.new.self) c.in_ok-bound.bound.ty) ≡ Sound (locals_of c.bind.new.self) = rw c.in_ok-bound.ensures.keeps.locals at c.in_ok-bind.ensures.found in
-    keeps_closed c.args.self.now c.bind.new.self c.term-2.new.self c.close.new.self c.depth-outer.result
+    on_ok c.typed.result
+    (keeps_closed c.args.self.now c.bind.new.self c.term-2.new.self c.close.new.self c.depth-outer.result
     (subst (Grows (types_of c.args.self.now)) (sym c.in_ok-bind.ensures.types) c.in_ok-bound.ensures.keeps.grows) (c.in_ok-bind.ensures.scope ∙ c.in_ok-bound.ensures.keeps.scope)
     (one_outer (locals_of c.args.self.now) (locals_of c.bind.new.self) _ (with_local_is (locals_of c.args.self.now) (locals_of c.bind.new.self) (name_of c.args.name.now) _ there))
-    c.in_ok-body.ensures.keeps c.close.ensures.types c.close.ensures.scope c.close.ensures.locals c.depth-outer.ensures
+    c.in_ok-body.ensures.keeps c.close.ensures.types c.close.ensures.scope c.close.ensures.locals c.depth-outer.ensures)
 
 pub let_in-returns-clause-found : goal.let_in-returns-clause-found
 let_in-returns-clause-found t c =
     let there : with_local (locals_of c.args.self.now) (name_of c.args.name.now) (type_at (types_of c.term.new.self) c.in_ok-bound.bound.ty) ≡ Sound (locals_of c.bind.new.self) = rw c.in_ok-bound.ensures.keeps.locals at c.in_ok-bind.ensures.found in
     let grows : Grows (types_of c.term.new.self) (types_of c.term-2.new.self) = subst (λ (l : List Ty). Grows l (types_of c.term-2.new.self)) c.in_ok-bind.ensures.types c.in_ok-body.ensures.keeps.grows in
-    rw c.close.ensures.types
+    c.typed.ensures.found _
+    (rw c.close.ensures.types
     (let_shows (scope_of c.args.self.now) (locals_of c.args.self.now) start (name_of c.args.name.now) (expression_of c.args.bound.now) (expression_of c.args.body.now) (types_of c.term.new.self) (types_of c.term-2.new.self)
-    c.in_ok-bound.bound c.in_ok-body.body c.in_ok-new.field-0 c.in_ok-new-2.field-0 (locals_of c.bind.new.self) grows c.in_ok-bound.ensures.found there
-    (shows_is (types_of c.term-2.new.self) typed_of _ _ c.in_ok-body.body (ap (λ s. elaborated s (locals_of c.bind.new.self) (expression_of c.args.body.now)) (c.in_ok-bind.ensures.scope ∙ c.in_ok-bound.ensures.keeps.scope)) c.in_ok-body.ensures.found)
-    c.in_ok-new.ensures.ok c.in_ok-new-2.ensures.ok)
+    c.in_ok-bound.bound c.in_ok-body.body (locals_of c.bind.new.self) grows c.in_ok-bound.ensures.found there
+    (shows_is (types_of c.term-2.new.self) typed_of _ _ c.in_ok-body.body (ap (λ s. elaborated s (locals_of c.bind.new.self) (expression_of c.args.body.now)) (c.in_ok-bind.ensures.scope ∙ c.in_ok-bound.ensures.keeps.scope)) c.in_ok-body.ensures.found)))
 
 -- conditions
 pub condition-returns-in_err-test-clause-found : goal.condition-returns-in_err-test-clause-found
@@ -359,7 +369,7 @@ condition-returns-in_err-test-clause-found t c =
     let truth = type_at (types_of c.intern.new.self) c.in_ok-truth.truth in
     test_refused (scope_of e) (locals_of e) start _ _ _ (p.1 ∙ ap Err p.2) test (expression_of c.args.first.now) (expression_of c.args.other.now) (types_of c.part.new.self) truth
     (get_or_from_slice_get (types_of c.intern.new.self) c.in_ok-truth.truth.0 BoolTy UnitTy c.in_ok-truth.ensures.number)
-    (finds_is (types_of c.part.new.self) term_of _ _ (Err c.in_err-test.field-0.0) (wanted_kept e c.intern.new.self c.in_ok-truth.ensures.keeps (place_of test) truth truth test refl) c.in_err-test.ensures.found)
+    (finds_is (types_of c.part.new.self) boxed_of _ _ (Err c.in_err-test.field-0.0) (wanted_kept e c.intern.new.self c.in_ok-truth.ensures.keeps (place_of test) truth truth test refl) c.in_err-test.ensures.found)
 
 pub condition-returns-in_err-first-clause-found : goal.condition-returns-in_err-first-clause-found
 condition-returns-in_err-first-clause-found t c =
@@ -369,7 +379,7 @@ condition-returns-in_err-first-clause-found t c =
     let truth = type_at (types_of c.intern.new.self) c.in_ok-truth.truth in
     first_refused (scope_of e) (locals_of e) start _ _ _ (p.1 ∙ ap Err p.2) test (expression_of c.args.first.now) (expression_of c.args.other.now) (types_of c.part.new.self) truth c.in_ok-test.test
     (get_or_from_slice_get (types_of c.intern.new.self) c.in_ok-truth.truth.0 BoolTy UnitTy c.in_ok-truth.ensures.number)
-    (shows_is (types_of c.part.new.self) term_of _ _ c.in_ok-test.test (wanted_kept e c.intern.new.self c.in_ok-truth.ensures.keeps (place_of test) truth truth test refl) c.in_ok-test.ensures.found)
+    (shows_is (types_of c.part.new.self) boxed_of _ _ c.in_ok-test.test (wanted_kept e c.intern.new.self c.in_ok-truth.ensures.keeps (place_of test) truth truth test refl) c.in_ok-test.ensures.found)
     (types_of c.term.new.self)
     (finds_is (types_of c.term.new.self) typed_of _ _ (Err c.in_err-first.field-0.0) (found_kept e c.part.new.self (keeps_on c.in_ok-truth.ensures.keeps c.in_ok-test.ensures.keeps) (expression_of c.args.first.now)) c.in_err-first.ensures.found)
 
@@ -385,10 +395,10 @@ condition-returns-in_err-other-clause-found t c =
     let u = type_at (types_of c.term.new.self) c.in_ok-first.first.ty in
     other_refused (scope_of e) (locals_of e) start _ _ _ (p.1 ∙ ap Err p.2) test first other (types_of c.part.new.self) truth c.in_ok-test.test
     (get_or_from_slice_get (types_of c.intern.new.self) c.in_ok-truth.truth.0 BoolTy UnitTy c.in_ok-truth.ensures.number)
-    (shows_is (types_of c.part.new.self) term_of _ _ c.in_ok-test.test (wanted_kept e c.intern.new.self c.in_ok-truth.ensures.keeps (place_of test) truth truth test refl) c.in_ok-test.ensures.found)
+    (shows_is (types_of c.part.new.self) boxed_of _ _ c.in_ok-test.test (wanted_kept e c.intern.new.self c.in_ok-truth.ensures.keeps (place_of test) truth truth test refl) c.in_ok-test.ensures.found)
     (types_of c.term.new.self) (types_of c.part-2.new.self) c.in_ok-first.first u refl
     (shows_is (types_of c.term.new.self) typed_of _ _ c.in_ok-first.first (found_kept e c.part.new.self kept first) c.in_ok-first.ensures.found)
-    (finds_is (types_of c.part-2.new.self) term_of _ _ (Err c.in_err-other.field-0.0) (wanted_kept e c.term.new.self (keeps_on kept c.in_ok-first.ensures.keeps) (place_of other) u u other refl) c.in_err-other.ensures.found)
+    (finds_is (types_of c.part-2.new.self) boxed_of _ _ (Err c.in_err-other.field-0.0) (wanted_kept e c.term.new.self (keeps_on kept c.in_ok-first.ensures.keeps) (place_of other) u u other refl) c.in_err-other.ensures.found)
 
 pub condition-returns-clause-found : goal.condition-returns-clause-found
 condition-returns-clause-found t c =
@@ -399,14 +409,13 @@ condition-returns-clause-found t c =
     let truth = type_at (types_of c.intern.new.self) c.in_ok-truth.truth in
     let kept : Keeps e c.part.new.self = keeps_on c.in_ok-truth.ensures.keeps c.in_ok-test.ensures.keeps in
     let u = type_at (types_of c.term.new.self) c.in_ok-first.first.ty in
-    if_shows (scope_of e) (locals_of e) start test first other (types_of c.part.new.self) (types_of c.term.new.self) (types_of c.part-2.new.self) truth u c.in_ok-test.test c.in_ok-first.first c.in_ok-other.other
-    c.in_ok-new.field-0 c.in_ok-new-2.field-0 c.in_ok-new-3.field-0
+    c.typed.ensures.found _
+    (if_shows (scope_of e) (locals_of e) start test first other (types_of c.part.new.self) (types_of c.term.new.self) (types_of c.part-2.new.self) truth u c.in_ok-test.test c.in_ok-first.first c.in_ok-other.other
     (grows_on (types_of c.part.new.self) (types_of c.term.new.self) (types_of c.part-2.new.self) c.in_ok-first.ensures.keeps.grows c.in_ok-other.ensures.keeps.grows) c.in_ok-other.ensures.keeps.grows
     (get_or_from_slice_get (types_of c.intern.new.self) c.in_ok-truth.truth.0 BoolTy UnitTy c.in_ok-truth.ensures.number) refl
-    (shows_is (types_of c.part.new.self) term_of _ _ c.in_ok-test.test (wanted_kept e c.intern.new.self c.in_ok-truth.ensures.keeps (place_of test) truth truth test refl) c.in_ok-test.ensures.found)
+    (shows_is (types_of c.part.new.self) boxed_of _ _ c.in_ok-test.test (wanted_kept e c.intern.new.self c.in_ok-truth.ensures.keeps (place_of test) truth truth test refl) c.in_ok-test.ensures.found)
     (shows_is (types_of c.term.new.self) typed_of _ _ c.in_ok-first.first (found_kept e c.part.new.self kept first) c.in_ok-first.ensures.found)
-    (shows_is (types_of c.part-2.new.self) term_of _ _ c.in_ok-other.other (wanted_kept e c.term.new.self (keeps_on kept c.in_ok-first.ensures.keeps) (place_of other) u u other refl) c.in_ok-other.ensures.found)
-    c.in_ok-new.ensures.ok c.in_ok-new-2.ensures.ok c.in_ok-new-3.ensures.ok
+    (shows_is (types_of c.part-2.new.self) boxed_of _ _ c.in_ok-other.other (wanted_kept e c.term.new.self (keeps_on kept c.in_ok-first.ensures.keeps) (place_of other) u u other refl) c.in_ok-other.ensures.found))
 
 -- matches
 pub match_with-arms-requires : goal.match_with-arms-requires
@@ -447,10 +456,11 @@ match_with-returns-clause-found t c =
     let scope = c.in_ok-subject.ensures.keeps.scope in
     let locals = c.in_ok-subject.ensures.keeps.locals in
     let arms = arms_in_a_row (map arm_of c.args.arms.now) in
-    match_found (scope_of e) (locals_of e) c.args.at c.place-place.result (expression_of c.args.subject.now) arms c.place-place.ensures types c.in_ok-subject.subject
+    c.typed.ensures.found _
+    (match_found (scope_of e) (locals_of e) c.args.at c.place-place.result (expression_of c.args.subject.now) arms c.place-place.ensures types c.in_ok-subject.subject
     c.in_ok-subject.ensures.found c.in_ok-named.named tss (rw scope at c.in_ok-named.ensures.found)
-    (c.constructors-constructors.ensures.fields types ∙ ap (λ (s : Scope). unwrap_or (slice_get s.table c.in_ok-named.named.0) []) (sym (scope_is c.term.new.self) ∙ scope)) (types_of c.arms.new.self) c.in_ok-arms.arms c.in_ok-new.field-0
-    c.in_ok-arms.ensures.keeps.grows c.in_ok-subject.ensures.inside c.in_ok-new.ensures.ok (rw (scope, locals) at c.in_ok-arms.ensures.found)
+    (c.constructors-constructors.ensures.fields types ∙ ap (λ (s : Scope). unwrap_or (slice_get s.table c.in_ok-named.named.0) []) (sym (scope_is c.term.new.self) ∙ scope)) (types_of c.arms.new.self) c.in_ok-arms.arms
+    c.in_ok-arms.ensures.keeps.grows c.in_ok-subject.ensures.inside (rw (scope, locals) at c.in_ok-arms.ensures.found))
 
 -- the arms of a match
 pub arms-loop-index-init : goal.arms-loop-index-init
@@ -505,7 +515,7 @@ arms-loop-index-preserved t c =
     let here = next_mapped arm_of c.args.arms.now c.loop-index.index c.index-arms-index.result c.index-arms-index.result c.loop-index-test.true c.index-arms-index.is in
     record {
       keeps = keeps_on keeps c.in_ok-body.ensures.keeps;
-      found = rw c.in_ok-push.ensures.items
+      found = rw (c.in_ok-push.ensures.items, c.into_inner.ensures)
           (arms_more (scope_of e) (locals_of e) (map arm_of c.args.arms.now) (fields_of old c.args.constructors.now) c.loop-index.index arm (types_at old ids) here
           (next_fields old c.args.constructors.now c.loop-index.index c.index-constructors-index.result ids inside c.index-constructors-index.is fields)
           c.loop-index.wanted c.loop-index.bodies.items _ types (types_of c.arm.new.self) c.in_ok-body.body c.in_ok-body.ensures.keeps.grows c.loop-index.invariant.inside c.loop-index.invariant.found
@@ -582,7 +592,7 @@ pub body-returns-in_err-term-in-Some-clause-found : goal.body-returns-in_err-ter
 body-returns-in_err-term-in-Some-clause-found t c =
     let p = err_from_is_err_and c.from_residual.result c.from_residual.ensures.1 in
     rw c.in-Some.is
-    (fault_first (types_of c.part.new.self) _ term_of typed_of (wanted (place_of (expression_of c.args.tree.now)) (type_at (types_of c.args.self.now) c.in-Some.ty) (found_in c.args.self.now c.args.tree.now))
+    (fault_first (types_of c.part.new.self) _ boxed_of typed_of (wanted (place_of (expression_of c.args.tree.now)) (type_at (types_of c.args.self.now) c.in-Some.ty) (found_in c.args.self.now c.args.tree.now))
     (λ e. Sound (record { expression = e; of_type = type_at (types_of c.args.self.now) c.in-Some.ty })) _ _ (p.1 ∙ ap Err p.2) c.in_err-term-in-Some.ensures.found)
 
 pub body-returns-in_ok-term-in-Some-clause-found : goal.body-returns-in_ok-term-in-Some-clause-found

@@ -3,4 +3,5 @@ use Rattle.auth_types.proofs.OperationSteps.{authenticated_shows}
 use Rattle.auth_types.proofs.bodies.elaborator.Elaborator.authenticated.Goals as goal
 
 pub returns-clause-found : goal.returns-clause-found
-returns-clause-found c = λ at found h. authenticated_shows (types_of c.args.self.now) _ c.args.operand c.in_ok-ty.ty c.in_ok-new.field-0 at found c.in_ok-ty.ensures.keeps.grows c.in_ok-ty.ensures.number c.requires c.in_ok-new.ensures.ok h
+returns-clause-found c = λ at found h.
+    c.typed.ensures.found _ (authenticated_shows (types_of c.args.self.now) _ c.args.operand c.in_ok-ty.ty at found c.in_ok-ty.ensures.keeps.grows c.in_ok-ty.ensures.number c.requires h)

@@ -13,5 +13,6 @@ returns-in_err-operand-clause-found c =
 
 pub returns-clause-found : goal.returns-clause-found
 returns-clause-found c = λ found h.
-    negated_shows (types_of c.intern.new.self) c.in_ok-operand.operand c.in_ok-new.field-0 c.in_ok-truth.truth c.args.at found c.in_ok-truth.ensures.number c.in_ok-new.ensures.ok
-    (c.in_ok-operand.ensures found (shows_grow (types_of c.args.self.now) (types_of c.intern.new.self) typed_of found c.args.operand c.in_ok-truth.ensures.keeps.grows h))
+    c.typed.ensures.found _
+    (negated_shows (types_of c.intern.new.self) c.in_ok-operand.operand c.in_ok-truth.truth c.args.at found c.in_ok-truth.ensures.number
+    (c.in_ok-operand.ensures found (shows_grow (types_of c.args.self.now) (types_of c.intern.new.self) typed_of found c.args.operand c.in_ok-truth.ensures.keeps.grows h)))

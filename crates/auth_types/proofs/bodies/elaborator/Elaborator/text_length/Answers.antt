@@ -16,6 +16,8 @@ returns-in_err-operand-clause-found c =
 
 pub returns-clause-found : goal.returns-clause-found
 returns-clause-found c = λ found h.
-    length_shows (types_of c.intern.new.self) _ c.in_ok-operand.operand c.in_ok-new.field-0 c.in_ok-plain.field-0 (type_at (types_of c.intern.new.self) c.in_ok-text.text) c.args.at found c.in_ok-plain.ensures.keeps.grows
-    (get_or_from_slice_get (types_of c.intern.new.self) c.in_ok-text.text.0 TextTy UnitTy c.in_ok-text.ensures.number) c.in_ok-new.ensures.ok c.in_ok-plain.ensures.found
-    (c.in_ok-operand.ensures found (shows_grow (types_of c.args.self.now) (types_of c.intern.new.self) typed_of found c.args.operand c.in_ok-text.ensures.keeps.grows h))
+    let types = types_of c.intern.new.self in
+    c.plain.ensures.found _
+    (λ keeps. length_shows types (types_of c.plain.new.self) c.in_ok-operand.operand (type_at types c.in_ok-text.text) c.args.at found keeps.grows
+    (get_or_from_slice_get types c.in_ok-text.text.0 TextTy UnitTy c.in_ok-text.ensures.number)
+    (c.in_ok-operand.ensures found (shows_grow (types_of c.args.self.now) (types_of c.intern.new.self) typed_of found c.args.operand c.in_ok-text.ensures.keeps.grows h)))

@@ -19,7 +19,8 @@ returns-clause-grows c = grows_either c.args.self.now.forms.keys _ c.args.form c
 pub returns-clause-within : goal.returns-clause-within
 returns-clause-within c =
     let order = in_order_either c.args.self.now.forms.keys c.add.new.forms.keys c.args.form c.add.ensures.either c.args.self.now.in_order c.requires.parts in
-    slice_get_within (types_of_forms c.add.new.forms.keys) c.in_ok-number.number _ (type_there c.add.new.forms.keys c.in_ok-number.number c.args.form order c.in_ok-number.ensures.number)
+    slice_get_within (types_of_forms c.add.new.forms.keys) c.in_ok-number.number _
+    (type_there c.add.new.forms.keys c.in_ok-number.number c.args.form order c.in_ok-number.ensures.number)
 
 pub returns-clause-number : goal.returns-clause-number
 returns-clause-number c =

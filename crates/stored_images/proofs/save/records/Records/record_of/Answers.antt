@@ -28,7 +28,9 @@ loop-part-preserved c =
     let at = shown_at rs c.loop-part.index c.part.result c.in-Some.part c.part.ensures.part c.in-Some.is in
     let inside : c.loop-part.index < length rs = within_at rs c.loop-part.index c.in-Some.part.0 at in
     let number : number_at c.args.self.now c.in-Some.part.0 ≡ Some c.in-Some-number_of.number = sym c.number_of.ensures ∙ c.in-Some-number_of.is in
-    let next = numbered_next (number_or_first c.args.self.now) (head_of (form_shown c.args.view)) rs c.loop-part.bytes.items c.loop-part.index (c.loop-part.index + 1) c.in-Some.part.0 c.in-Some-number_of.number refl at (ap (λ o. unwrap_or o 0) number) c.loop-part.invariant.bytes in
+    let next =
+    numbered_next (number_or_first c.args.self.now) (head_of (form_shown c.args.view)) rs c.loop-part.bytes.items c.loop-part.index (c.loop-part.index + 1)
+    c.in-Some.part.0 c.in-Some-number_of.number refl at (ap (λ o. unwrap_or o 0) number) c.loop-part.invariant.bytes in
     record { index = omega (arith, inside); bytes = c.in_ok-extend_from_slice.ensures.items ∙ ap (λ bs. c.loop-part.bytes.items ++ bs) c.to_be_bytes.ensures ∙ next }
 
 pub returns : goal.returns

@@ -1,0 +1,58 @@
+-- The words behind a command, taken apart by their places.
+use Rattle.std.proofs.Common.{◌≡◌, ◌+◌, ℕ, zero, suc, List, [], ◌∷◌, length, drop, get_or, ap, sym, ◌∙◌, subst, refl, inl, inr, arith, drop-cons, drop_of_length-le}
+use Rattle.std.specs.Borrow.{Bor}
+use Rattle.std.proofs.lemmas.List.{length-map}
+use Rattle.command_words.specs.Commands.{IsOfCommand, texts}
+use Rattle.command_words.specs.declared.command.Command.{Command}
+use Rattle.command_words.specs.declared.command.Command.TheVariants.{Check, Init, Shallow, Prove, Verify, Audit}
+use Rattle.auth_cli.specs.Answer.{answer_with}
+use Rattle.auth_cli.specs.Ending.{EndsAs, Outside}
+use Rattle.auth_cli.specs.declared.status.Status.{Status}
+
+abbrev no_word : Bor (List ℕ)
+no_word = record { ref_ptr = (0, 0); now = [] }
+
+-- the text of the i-th word, and those of n words from the i-th on
+abbrev pub text_at : List (Bor (List ℕ)) → ℕ → List ℕ
+text_at words i = (get_or words i no_word).now
+
+abbrev pub texts_from : List (Bor (List ℕ)) → ℕ → ℕ → List (List ℕ)
+texts_from words zero i = []
+texts_from words (suc n) i = text_at words i ∷ texts_from words n (suc i)
+
+apart_from : (words : List (Bor (List ℕ))) (n i : ℕ) → length words ≡ i + n → texts (drop i words) ≡ texts_from words n i
+apart_from words zero i is = ap texts (drop_of_length-le words (omega arith))
+apart_from words (suc n) i is = ap texts (drop-cons words i no_word (omega arith)) ∙ ap (λ ts. text_at words i ∷ ts) (apart_from words n (suc i) (omega arith))
+
+pub apart : (words : List (Bor (List ℕ))) (n : ℕ) → length words ≡ n → texts words ≡ texts_from words n 0
+apart words n is = apart_from words n 0 (is ∙ omega arith)
+
+-- a run on them ends as one on the texts of the words
+pub ends_apart : (command : Command) (words : List (Bor (List ℕ))) (n : ℕ) (old new : Outside) (status : Status) → length words ≡ n
+    → EndsAs (answer_with command (texts_from words n 0)) old new status → EndsAs (answer_with command (texts words)) old new status
+ends_apart command words n old new status is ends = subst (λ ts. EndsAs (answer_with command ts) old new status) (sym (apart words n is)) ends
+
+-- a run of a command that is known
+pub ends_known : (command known : Command) (ts : List (List ℕ)) (old new : Outside) (status : Status) → command ≡ known → EndsAs (answer_with known ts) old new status → EndsAs (answer_with command ts) old new status
+ends_known command known ts old new status is ends = subst (λ c. EndsAs (answer_with c ts) old new status) (sym is) ends
+
+-- how many words each command has
+abbrev pub count_of : Command → ℕ
+count_of Check = 1
+count_of Init = 5
+count_of Shallow = 3
+count_of Prove = 7
+count_of Verify = 6
+count_of Audit = 6
+
+pub counted : (command : Command) (words : List (Bor (List ℕ))) → IsOfCommand command (texts words) → length words ≡ count_of command
+counted command words of = sym (length-map words (λ word. word.now)) ∙ by of
+  where
+    by : IsOfCommand command (texts words) → length (texts words) ≡ count_of command
+    by (inl is) = is.1 ∙ ap count_of is.0
+    by (inr (inl is)) = is.1 ∙ ap count_of is.0
+    by (inr (inr (inl is))) = is.1 ∙ ap count_of is.0
+    by (inr (inr (inr (inl is)))) = is.1 ∙ ap count_of is.0
+    by (inr (inr (inr (inr (inl is))))) = is.1 ∙ ap count_of is.0
+    by (inr (inr (inr (inr (inr (inl is)))))) = is.1 ∙ ap count_of is.0
+    by (inr (inr (inr (inr (inr (inr is)))))) = absurd is

@@ -1,0 +1,58 @@
+-- The commands of the line as clap builds them, and how it finds one by its name.
+use Rattle.std.proofs.Common.{◌≡◌, ℕ, List, [], ◌∷◌, ◌++◌, map, length, Option, Some, None, Bool, true, false, ◌||◌, refl, sym, ◌∙◌, ap, codes, find, if◌then◌else◌, option_map}
+use Rattle.std.specs.Str.{bytes_eq}
+use Rattle.clap.specs.Words.{App, Rule, Text, built, new_app, new_rule, with_rule}
+use Rattle.clap.specs.Walk.{Names, answers_to, idle, subcommand_met}
+use Rattle.clap.specs.Simple.{Shape, built_leaf, filled, help_shape, inherited, label_of, marked_built, names_of, on_top, with_index, with_leaf_noted}
+use Rattle.clap.proofs.WalkLemmas.{find-map}
+use Rattle.command_words.specs.CommandLine.{command_line}
+use Rattle.command_words.specs.Commands.{Row, commands, row_named}
+
+abbrev pub line : App
+line = built command_line
+
+abbrev pub names : Names
+names = names_of line
+
+-- the argument of a command with n names of arguments, as given and as built
+abbrev pub text_argument : ℕ → Rule
+text_argument n = record (new_rule (codes "ARGUMENTS")) { required = true; value_names = n }
+
+abbrev pub built_argument : ℕ → Rule
+built_argument n = with_index 1 (filled (text_argument n))
+
+-- a command of this name with so many, as built
+abbrev pub leaf : Text → ℕ → Shape
+leaf name n = built_leaf (inherited (on_top with_leaf_noted (on_top marked_built command_line)).top (with_rule (new_app name) (text_argument n)).top)
+
+abbrev pub leaf_of : Row → Shape
+leaf_of row = leaf row.name (length row.arguments)
+
+leaves : line.subs ≡ map leaf_of commands ++ built_leaf help_shape ∷ []
+leaves = refl
+
+-- a name other than `help` is that of a row's command, or of none
+by_name : (name : Text) → bytes_eq (codes "help") name ≡ false → (rows : List Row)
+    → find (λ s. answers_to name (label_of s)) (map leaf_of rows ++ built_leaf help_shape ∷ []) ≡ option_map leaf_of (find (λ row. bytes_eq row.name name) rows)
+by_name name other [] = rw other refl
+by_name name other (row ∷ rows) = go (bytes_eq row.name name) (by_name name other rows)
+  where
+    others : Option Shape
+    others = find (λ s. answers_to name (label_of s)) (map leaf_of rows ++ built_leaf help_shape ∷ [])
+
+    go : (b : Bool) → others ≡ option_map leaf_of (find (λ row. bytes_eq row.name name) rows)
+        → (if b || false then Some (leaf_of row) else others) ≡ option_map leaf_of (if b then Some row else find (λ row. bytes_eq row.name name) rows)
+    go true rest = refl
+    go false rest = rest
+
+pub finds : (name : Text) → bytes_eq (codes "help") name ≡ false → find (λ s. answers_to name (label_of s)) line.subs ≡ option_map leaf_of (row_named name)
+unfolding row_named
+finds name other = ap (find (λ s. answers_to name (label_of s))) leaves ∙ by_name name other commands
+
+pub meets : (name : Text) → bytes_eq (codes "help") name ≡ false → subcommand_met names idle name ≡ option_map (λ row. row.name) (row_named name)
+meets name other =
+    ap (option_map (λ s. s.0)) (sym (find-map (answers_to name) label_of line.subs) ∙ ap (option_map label_of) (finds name other)) ∙ named (row_named name)
+  where
+    named : (o : Option Row) → option_map (λ s. s.0) (option_map label_of (option_map leaf_of o)) ≡ option_map (λ row. row.name) o
+    named None = refl
+    named (Some row) = refl

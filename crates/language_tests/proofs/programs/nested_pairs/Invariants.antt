@@ -1,7 +1,0 @@
-use Rattle.std.proofs.Common.{◌<◌, length}
-use Rattle.core_terms.specs.LanguagePrograms.{types_in}
-use Rattle.language_tests.proofs.programs.nested_pairs.Given as goal
-
--- the type is in the table
-abbrev pub invariant-loop-level : goal.invariant-loop-level
-invariant-loop-level l = l.ty.0 < length (types_in l.types)

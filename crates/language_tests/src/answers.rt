@@ -1,0 +1,141 @@
+// What the parser and the checker say of a text, and texts in which a part stands many times.
+use auth_syntax::fault::{SyntaxFault, SyntaxKind};
+use auth_syntax::parser::{parse, parse_fragment};
+use auth_syntax::print::print;
+use auth_syntax::tree::Ast;
+use auth_types::check::check;
+use auth_types::fault::{TypeFault, TypeKind};
+use core_terms::Digest;
+use core_terms::language::Program;
+use std::alloc::{AllocError, Global};
+
+/// The longest text of a program, in bytes.
+const MAX_PROGRAM: usize = 262_144;
+
+/// A fault of a text's syntax: its kind, its line and its column.
+pub type Fault = (SyntaxKind, usize, usize);
+
+/// The first fault of a text's syntax; none where the grammar takes it.
+///
+/// # Errors
+///
+/// `AllocError` where memory runs out, or where the text is too long.
+pub fn fault_of(alloc: Global, text: &[u8]) -> Result<Option<Fault>, AllocError> {
+    if text.len() > MAX_PROGRAM {
+        return Err(AllocError);
+    }
+    fault(parse(alloc, text))
+}
+
+/// The same in the fragment.
+///
+/// # Errors
+///
+/// As `fault_of`.
+pub fn fault_in_fragment(alloc: Global, text: &[u8]) -> Result<Option<Fault>, AllocError> {
+    if text.len() > MAX_PROGRAM {
+        return Err(AllocError);
+    }
+    fault(parse_fragment(alloc, text))
+}
+
+fn fault(parsed: Result<Ast, SyntaxFault>) -> Result<Option<Fault>, AllocError> {
+    match parsed {
+        Ok(_) => Ok(None),
+        Err(SyntaxFault::At(kind, line, column)) => Ok(Some((kind, line, column))),
+        Err(SyntaxFault::NoMemory) => Err(AllocError),
+    }
+}
+
+/// A text as it is printed once it is parsed; none where the grammar refuses it.
+///
+/// # Errors
+///
+/// As `fault_of`.
+pub fn printed(alloc: Global, text: &[u8]) -> Result<Option<Vec<u8>>, AllocError> {
+    if text.len() > MAX_PROGRAM {
+        return Err(AllocError);
+    }
+    match parse(alloc, text) {
+        Ok(ast) => Ok(Some(print(alloc, &ast)?)),
+        Err(SyntaxFault::At(_, _, _)) => Ok(None),
+        Err(SyntaxFault::NoMemory) => Err(AllocError),
+    }
+}
+
+/// The tree of a text.
+///
+/// # Errors
+///
+/// `AllocError` where memory runs out, or where the text is too long or the grammar refuses it.
+pub fn tree_of(alloc: Global, text: &[u8]) -> Result<Ast, AllocError> {
+    if text.len() > MAX_PROGRAM {
+        return Err(AllocError);
+    }
+    match parse(alloc, text) {
+        Ok(ast) => Ok(ast),
+        Err(_) => Err(AllocError),
+    }
+}
+
+/// A fault of a text's types: its kind, its line and its column.
+pub type Misfit = (TypeKind, usize, usize);
+
+/// The first fault of a text's types; none where it is a program.
+///
+/// # Errors
+///
+/// As `tree_of`.
+pub fn misfit_of(alloc: Global, text: &[u8]) -> Result<Option<Misfit>, AllocError> {
+    match check(alloc, tree_of(alloc, text)?, Digest([7; 32])) {
+        Ok(_) => Ok(None),
+        Err(TypeFault::At(kind, line, column)) => Ok(Some((kind, line, column))),
+        Err(TypeFault::NoMemory) => Err(AllocError),
+    }
+}
+
+/// The program of a text, with a digest of bytes 7 in the place of the text's.
+///
+/// # Errors
+///
+/// `AllocError` where memory runs out, or where the text is no program.
+pub fn program_of(alloc: Global, text: &[u8]) -> Result<Program, AllocError> {
+    match check(alloc, tree_of(alloc, text)?, Digest([7; 32])) {
+        Ok(program) => Ok(program),
+        Err(_) => Err(AllocError),
+    }
+}
+
+/// A text in which a part stands many times, and what closes it as often.
+#[derive(Clone, Copy)]
+pub struct Repeated {
+    pub beginning: &'static [u8],
+    pub part: &'static [u8],
+    pub count: usize,
+    pub middle: &'static [u8],
+    pub closing: &'static [u8],
+    pub end: &'static [u8],
+}
+
+impl Repeated {
+    /// The text.
+    ///
+    /// # Errors
+    ///
+    /// `AllocError` where memory runs out.
+    pub fn text(&self, alloc: Global) -> Result<Vec<u8>, AllocError> {
+        let mut text = Vec::from_slice(alloc, self.beginning)?;
+        add_often(&mut text, self.part, self.count)?;
+        text.extend_from_slice(self.middle)?;
+        add_often(&mut text, self.closing, self.count)?;
+        text.extend_from_slice(self.end)?;
+        Ok(text)
+    }
+}
+
+fn add_often(text: &mut Vec<u8>, part: &[u8], count: usize) -> Result<(), AllocError> {
+    for _ in 0..count {
+        text.extend_from_slice(part)?;
+    }
+    Ok(())
+}

@@ -1,0 +1,19 @@
+//! Tests of values in a store: how they are put and viewed, spelled and read, and kept in images.
+#![tactic(auto)]
+
+#[cfg(test)]
+mod codec;
+#[cfg(test)]
+mod faults;
+#[cfg(test)]
+mod fragment;
+#[cfg(test)]
+mod large;
+#[cfg(test)]
+mod nodes;
+#[cfg(test)]
+mod saved;
+#[cfg(test)]
+mod spelled;
+#[cfg(test)]
+mod stage;
