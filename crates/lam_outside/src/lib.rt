@@ -14,6 +14,7 @@ mod plan;
 #[cfg(test)]
 mod tests;
 mod traits;
+mod whole;
 
 pub use load::{Load, load_all};
 pub use mem_files::{MemFile, MemFiles};
@@ -23,3 +24,4 @@ pub use mem_sink::MemSink;
 pub use net::{Link, Net};
 pub use plan::Plan;
 pub use traits::{Failed, Files, Sink, Source};
+pub use whole::{fill, send_all};
