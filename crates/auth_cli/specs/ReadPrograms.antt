@@ -7,8 +7,8 @@ use Rattle.core_terms.specs.declared.language.program.Program.{Program as Langua
 use Rattle.core_terms.specs.declared.program.Program.{Program}
 use Rattle.lexemes.specs.Readings.{SyntaxFault}
 use Rattle.core_terms.specs.declared.fault.Fault.TheVariants as syntax_fault
-use Rattle.auth_types.specs.declared.fault.TypeFault.{TypeFault}
-use Rattle.auth_types.specs.declared.fault.TypeFault.TheVariants as type_fault
+use Rattle.core_terms.specs.declared.fault.Fault.TheVariants as type_fault
+use Rattle.auth_types.specs.Outcomes.{TypeFault}
 use Rattle.printed_lines.specs.declared.refusal.ProgramKind.TheVariants.{Syntax, Typing}
 use Rattle.auth_cli.specs.FueledQueries.{DigestedProgram, NamedProgram}
 use Rattle.auth_cli.specs.TextPrograms.{TextProgram, IsProgram, IsRefused}
@@ -28,7 +28,7 @@ of_syntax_fault syntax_fault.NoMemory = NoMemory
 
 -- why a text is no program, where its tree gives none
 abbrev pub of_type_fault : TypeFault → ProgramFault
-of_type_fault (type_fault.At kind line column) = At (Typing kind) line column
+of_type_fault (type_fault.At kind at) = At (Typing kind) at.line at.column
 of_type_fault type_fault.NoMemory = NoMemory
 
 -- a program with the digest that it holds

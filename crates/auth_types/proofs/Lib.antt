@@ -46,7 +46,7 @@ pub mod SoundTypes
 pub mod SoundLimits
 pub mod SoundLiterals
 pub mod SoundPrograms
--- the law of expressions: the typing rules, and what breaks them first
+-- the laws of expressions and of programs: what passes by the rules, and what breaks them first
 pub mod Judging
 pub mod NamedParts
 pub mod JudgedNames
@@ -60,12 +60,6 @@ pub mod RuledTypeNames
 pub mod RuledRoles
 pub mod RuledPrograms
 pub mod RuledTypes
--- the functions of fragment/
-pub mod FragmentForms
-pub mod FragmentElaborating
-pub mod FragmentFunctions
-pub mod FragmentTyping
-pub mod FragmentPasses
 -- the definitions, computed: no function cites these rows
 pub mod Rows
 pub mod RowsOfLimits

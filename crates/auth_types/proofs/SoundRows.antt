@@ -32,7 +32,8 @@ record HasTypedProgram (text : List ℕ) : Type 0 where
 by_law : (text : List ℕ) → passes (parsed whole_language text) ≡ true → HasTypedProgram text
 by_law text passed = of_tree (parsed whole_language text) refl passed
   where
-    of_program : (program : Program) (found : Checked) → parsed whole_language text ≡ Tree program → checked program ≡ found → gives_program found ≡ true → HasTypedProgram text
+    of_program : (program : Program) (found : Checked) → parsed whole_language text ≡ Tree program → checked program ≡ found
+        → gives_program found ≡ true → HasTypedProgram text
     of_program program (IsProgram P) tree given is =
         let (typed, shaped) = parsed_is_typed whole_language text program P tree given in
         record { program = program; P = P; has_tree = tree; has_program = given; typed = typed; shaped = shaped }

@@ -8,7 +8,6 @@ pub mod Outcomes
 pub mod ScopeNames
 pub mod DeclaredNames
 pub mod OverTypes
-pub mod FragmentBodies
 pub mod Scopes
 pub mod Numbering
 pub mod Passes

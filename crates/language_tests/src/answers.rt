@@ -89,7 +89,7 @@ pub type Misfit = (TypeKind, usize, usize);
 pub fn misfit_of(alloc: Global, text: &[u8]) -> Result<Option<Misfit>, AllocError> {
     match check(alloc, tree_of(alloc, text)?, Digest([7; 32])) {
         Ok(_) => Ok(None),
-        Err(TypeFault::At(kind, line, column)) => Ok(Some((kind, line, column))),
+        Err(TypeFault::At(kind, at)) => Ok(Some((kind, at.line, at.column))),
         Err(TypeFault::NoMemory) => Err(AllocError),
     }
 }

@@ -15,7 +15,7 @@ ghost use Rattle.auth_types.specs.Elaborators.{Keeps, boxed_of, typed_of, types_
 
 use crate::bodies::Typed;
 use crate::bodies::elaborator::Elaborator;
-use crate::fault::{Fault, TypeKind};
+use crate::fault::{TypeFault, TypeKind};
 use auth_syntax::tree::UnaryOperator;
 use core_terms::TyId;
 use core_terms::language::{BinaryOperator, Term, TyForm};
@@ -60,7 +60,7 @@ fn operation(operator: BinaryOperator, first: Box<Term>, second: Box<Term>) -> T
 
 impl<'s, 'a> Elaborator<'s, 'a> {
     /// A pair.
-    pub(super) fn paired(&mut self, first: Typed, second: Typed) -> Result<Typed, Fault>
+    pub(super) fn paired(&mut self, first: Typed, second: Typed) -> Result<Typed, TypeFault>
         requires first { first.ty.0 < length (types_of self.old) }
         requires second { second.ty.0 < length (types_of self.old) }
         ensures keeps { OnOk result (Keeps self.old self.new) }
@@ -78,7 +78,7 @@ impl<'s, 'a> Elaborator<'s, 'a> {
         operator: UnaryOperator,
         at: Place,
         operand: Typed,
-    ) -> Result<Typed, Fault>
+    ) -> Result<Typed, TypeFault>
         requires { operand.ty.0 < length (types_of self.old) }
         ensures keeps { OnOk result (Keeps self.old self.new) }
         ensures found { (found : Checking specified.Typed) → Shows (types_of self.old) typed_of found operand → FindsOver (types_of self.new) typed_of (unary (written.unary_of operator) at found) result }
@@ -95,7 +95,7 @@ impl<'s, 'a> Elaborator<'s, 'a> {
     }
 
     /// `fst` of a term at this place, which has a type of pairs.
-    fn first(&self, at: Place, operand: Typed) -> Result<Typed, Fault>
+    fn first(&self, at: Place, operand: Typed) -> Result<Typed, TypeFault>
         requires { operand.ty.0 < length (types_of self.now) }
         ensures found { (found : Checking specified.Typed) → Shows (types_of self.now) typed_of found operand → FindsOver (types_of self.now) typed_of (unary syntax.FstOperation at found) result }
         ensures inside { IfOk result (λ typed. typed.ty.0 < length (types_of self.now)) }
@@ -104,12 +104,12 @@ impl<'s, 'a> Elaborator<'s, 'a> {
             TyForm::PairForm(first, second) => {
                 self.typed(Term::Fst(first, second, operand.term), first)
             }
-            _ => Err(Fault::At(TypeKind::NotPair, at)),
+            _ => Err(TypeFault::At(TypeKind::NotPair, at)),
         }
     }
 
     /// `snd` of a term at this place, which has a type of pairs.
-    fn second(&self, at: Place, operand: Typed) -> Result<Typed, Fault>
+    fn second(&self, at: Place, operand: Typed) -> Result<Typed, TypeFault>
         requires { operand.ty.0 < length (types_of self.now) }
         ensures found { (found : Checking specified.Typed) → Shows (types_of self.now) typed_of found operand → FindsOver (types_of self.now) typed_of (unary syntax.SndOperation at found) result }
         ensures inside { IfOk result (λ typed. typed.ty.0 < length (types_of self.now)) }
@@ -118,12 +118,12 @@ impl<'s, 'a> Elaborator<'s, 'a> {
             TyForm::PairForm(first, second) => {
                 self.typed(Term::Snd(first, second, operand.term), second)
             }
-            _ => Err(Fault::At(TypeKind::NotPair, at)),
+            _ => Err(TypeFault::At(TypeKind::NotPair, at)),
         }
     }
 
     /// `auth` of a term.
-    fn authenticated(&mut self, operand: Typed) -> Result<Typed, Fault>
+    fn authenticated(&mut self, operand: Typed) -> Result<Typed, TypeFault>
         requires { operand.ty.0 < length (types_of self.old) }
         ensures keeps { OnOk result (Keeps self.old self.new) }
         ensures found { (at : Place) (found : Checking specified.Typed) → Shows (types_of self.old) typed_of found operand → FindsOver (types_of self.new) typed_of (unary syntax.AuthOperation at found) result }
@@ -134,19 +134,19 @@ impl<'s, 'a> Elaborator<'s, 'a> {
     }
 
     /// `unauth` of a term at this place, which has a type of authenticated values.
-    fn opened(&self, at: Place, operand: Typed) -> Result<Typed, Fault>
+    fn opened(&self, at: Place, operand: Typed) -> Result<Typed, TypeFault>
         requires { operand.ty.0 < length (types_of self.now) }
         ensures found { (found : Checking specified.Typed) → Shows (types_of self.now) typed_of found operand → FindsOver (types_of self.now) typed_of (unary syntax.UnauthOperation at found) result }
         ensures inside { IfOk result (λ typed. typed.ty.0 < length (types_of self.now)) }
     {
         match self.form(operand.ty) {
             TyForm::AuthForm(ty) => self.typed(Term::Unauth(ty, operand.term), ty),
-            _ => Err(Fault::At(TypeKind::NotAuth, at)),
+            _ => Err(TypeFault::At(TypeKind::NotAuth, at)),
         }
     }
 
     /// `len` of a term at this place, which is a text.
-    fn text_length(&mut self, at: Place, operand: Typed) -> Result<Typed, Fault>
+    fn text_length(&mut self, at: Place, operand: Typed) -> Result<Typed, TypeFault>
         requires { operand.ty.0 < length (types_of self.old) }
         ensures keeps { OnOk result (Keeps self.old self.new) }
         ensures found { (found : Checking specified.Typed) → Shows (types_of self.old) typed_of found operand → FindsOver (types_of self.new) typed_of (unary syntax.LenOperation at found) result }
@@ -158,7 +158,7 @@ impl<'s, 'a> Elaborator<'s, 'a> {
     }
 
     /// `not` of a term at this place, which is a truth value.
-    fn negated(&mut self, at: Place, operand: Typed) -> Result<Typed, Fault>
+    fn negated(&mut self, at: Place, operand: Typed) -> Result<Typed, TypeFault>
         requires { operand.ty.0 < length (types_of self.old) }
         ensures keeps { OnOk result (Keeps self.old self.new) }
         ensures found { (found : Checking specified.Typed) → Shows (types_of self.old) typed_of found operand → FindsOver (types_of self.new) typed_of (unary syntax.NotOperation at found) result }
@@ -184,7 +184,7 @@ impl<'s, 'a> Elaborator<'s, 'a> {
         operator: BinaryOperator,
         first: Box<Term>,
         second: Box<Term>,
-    ) -> Result<Typed, Fault>
+    ) -> Result<Typed, TypeFault>
         ensures keeps { OnOk result (Keeps self.old self.new) }
         ensures found { (x y : Checking Expression) → Shows (types_of self.old) boxed_of x first → Shows (types_of self.old) boxed_of y second → FindsOver (types_of self.new) typed_of (then_checked x (λ x. then_checked y (λ y. typed (binary_expression operator x y) (result_type operator)))) result }
         ensures inside { IfOk result (λ whole. whole.ty.0 < length (types_of self.new)) }
