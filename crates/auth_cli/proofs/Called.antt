@@ -1,11 +1,12 @@
 -- A run of words, from the command that they call.
 use Rattle.std.proofs.Common.{◌≡◌, ◌⊎◌, inl, inr, ℕ, List, Option, Some, None, Err, refl, sym, ◌∙◌, subst}
 use Rattle.command_words.specs.Invocations.{Invocation, invocation_of}
-use Rattle.lam_outside.specs.Told.{Contents}
+use Rattle.lam_outside.specs.Told.{Contents, Names}
 use Rattle.auth_cli.specs.Answer.{answer, called_answer, command_answer}
 use Rattle.auth_cli.specs.Codes.{code}
 use Rattle.auth_cli.specs.Ending.{EndsAs, IsOfRefused, Outside}
 use Rattle.auth_cli.specs.AuditedCalls.{IsAuditedBy, IsOfAudit}
+use Rattle.auth_cli.specs.Reaching.{IsReached}
 use Rattle.auth_cli.specs.ProvedCalls.{IsProvedBy}
 use Rattle.auth_cli.specs.SoundPrograms.{IsOutcome}
 use Rattle.auth_cli.specs.Statuses.{MayAnswer}
@@ -108,3 +109,9 @@ none_called words called none is = absurd (by (invocation_of words) none is)
   where
     by : (found : Option Invocation) → found ≡ None → found ≡ Some called → ⊥
     by found none is = absurd (cc)
+
+-- what the command that is called says of a read fault
+pub reached_called : (words : List (List ℕ)) (called : Invocation) (contents : Option Contents) (asked : Option Names) → invocation_of words ≡ Some called
+    → IsReached (command_answer called) contents asked → IsReached (answer words) contents asked
+unfolding answer
+reached_called words called contents asked is reached = subst (λ found. IsReached (called_answer found) contents asked) (sym is) reached

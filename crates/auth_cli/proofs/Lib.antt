@@ -1,5 +1,6 @@
 -- Each file of lemmas, and the functions whose proofs cite it.
 pub mod Steps  -- the readers (`read_..`, `load_..`) and finders (`find_..`): steps put together
+pub mod Reached  -- `load`, the finders and the commands: the file of a read fault
 pub mod Words  -- the commands and `carry_out`: the words behind a command
 pub mod Possible  -- the commands and `run`: the statuses that may be answered
 pub mod Ends  -- `check_command`, `verify_command`, `audit_command`, `ended`

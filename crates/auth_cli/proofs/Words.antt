@@ -1,12 +1,14 @@
 -- The words behind a command, taken apart by their places.
-use Rattle.std.proofs.Common.{◌≡◌, ◌+◌, ℕ, zero, suc, List, [], ◌∷◌, length, drop, get_or, ap, sym, ◌∙◌, subst, refl, inl, inr, arith, drop-cons, drop_of_length-le}
+use Rattle.std.proofs.Common.{◌≡◌, ◌+◌, ℕ, zero, suc, List, [], ◌∷◌, length, Option, drop, get_or, ap, sym, ◌∙◌, subst, refl, inl, inr, arith, drop-cons, drop_of_length-le}
 use Rattle.std.specs.Borrow.{Bor}
 use Rattle.std.proofs.lemmas.List.{length-map}
 use Rattle.command_words.specs.Commands.{IsOfCommand, texts}
 use Rattle.command_words.specs.declared.command.Command.{Command}
 use Rattle.command_words.specs.declared.command.Command.TheVariants.{Check, Init, Shallow, Prove, Verify, Audit}
 use Rattle.auth_cli.specs.Answer.{answer_with}
+use Rattle.lam_outside.specs.Told.{Contents, Names}
 use Rattle.auth_cli.specs.Ending.{EndsAs, Outside}
+use Rattle.auth_cli.specs.Reaching.{IsReached}
 use Rattle.auth_cli.specs.declared.status.Status.{Status}
 
 abbrev no_word : Bor (List ℕ)
@@ -32,9 +34,19 @@ pub ends_apart : (command : Command) (words : List (Bor (List ℕ))) (n : ℕ) (
     → EndsAs (answer_with command (texts_from words n 0)) old new status → EndsAs (answer_with command (texts words)) old new status
 ends_apart command words n old new status is ends = subst (λ ts. EndsAs (answer_with command ts) old new status) (sym (apart words n is)) ends
 
+-- and what it says of a read fault is so of the texts of the words
+pub reached_apart : (command : Command) (words : List (Bor (List ℕ))) (n : ℕ) (contents : Option Contents) (asked later : Option Names) → length words ≡ n → later ≡ asked
+    → IsReached (answer_with command (texts_from words n 0)) contents asked → IsReached (answer_with command (texts words)) contents later
+reached_apart command words n contents asked later is same reached =
+    subst (λ names. IsReached (answer_with command (texts words)) contents names) (sym same) (subst (λ ts. IsReached (answer_with command ts) contents asked) (sym (apart words n is)) reached)
+
 -- a run of a command that is known
 pub ends_known : (command known : Command) (ts : List (List ℕ)) (old new : Outside) (status : Status) → command ≡ known → EndsAs (answer_with known ts) old new status → EndsAs (answer_with command ts) old new status
 ends_known command known ts old new status is ends = subst (λ c. EndsAs (answer_with c ts) old new status) (sym is) ends
+
+pub reached_known : (command known : Command) (ts : List (List ℕ)) (contents : Option Contents) (asked : Option Names) → command ≡ known → IsReached (answer_with known ts) contents asked
+    → IsReached (answer_with command ts) contents asked
+reached_known command known ts contents asked is reached = subst (λ c. IsReached (answer_with c ts) contents asked) (sym is) reached
 
 -- how many words each command has
 abbrev pub count_of : Command → ℕ

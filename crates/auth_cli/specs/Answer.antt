@@ -12,8 +12,8 @@ use Rattle.core_terms.specs.Terms.{Program, function_at}
 use Rattle.core_terms.specs.Roles.{role_named}
 use Rattle.core_terms.specs.Spelling.{spelling}
 use Rattle.core_terms.specs.Projection.{projection, read_at}
-use Rattle.auth_syntax.specs.Literals.{Literal, IsValue, FirstFault, literal}
-use Rattle.auth_syntax.specs.declared.fault.LiteralKind.TheVariants.{Mismatch}
+use Rattle.printed_syntax.specs.Literals.{Literal, IsValue, FirstFault, literal}
+use Rattle.printed_syntax.specs.declared.fault.LiteralKind.TheVariants.{Mismatch}
 use Rattle.ideal_meaning.specs.Ideal as ideal
 use Rattle.ideal_meaning.specs.Checked as checked
 use Rattle.images.specs.Images as images
@@ -203,13 +203,12 @@ pub record Call : Type 0 where
   pub state : List ℕ
   pub argument : List ℕ
 
--- goes on with the call that these words name: the query, the state and the argument, in this order
-abbrev pub with_call : (program role state argument fuel : List ℕ) → Contents → (Call → Option Answer) → Option Answer
-with_call program role state argument fuel files go =
-    with_fueled_query program role fuel files (λ q.
+-- goes on with the call of a query on the state that a file spells, and then on the argument
+abbrev pub with_call : FueledQuery → (state argument : List ℕ) → Contents → (Call → Option Answer) → Option Answer
+with_call q state argument files go =
     with_state_file q.program.program (files state) (λ s.
     with_argument q.program.program q.role argument (λ a.
-    go (record { program = q.program.program; role = q.role; fuel = q.fuel; state = s; argument = a }))))
+    go (record { program = q.program.program; role = q.role; fuel = q.fuel; state = s; argument = a })))
 
 -- the verdict on a proof of a call
 unfoldable pub call_verdict : Call → List ℕ → checked.Verdict
@@ -223,8 +222,9 @@ call_answer call proof = verdict_answer (function_at call.program call.role).res
 -- the verdict on a proof file, which is opened when all else is well-formed
 abbrev pub judged_answer : (program role state argument fuel proof : List ℕ) → Contents → Option Answer
 judged_answer program role state argument fuel proof files =
-    with_call program role state argument fuel files (λ call.
-    with_file max_file named.Proof (files proof) (λ bytes. Some (call_answer call bytes)))
+    with_fueled_query program role fuel files (λ q.
+    with_call q state argument files (λ call.
+    with_file max_file named.Proof (files proof) (λ bytes. Some (call_answer call bytes))))
 
 -- `check P`: the digest of the program's text, which is one of the whole language
 abbrev pub checked_answer : List ℕ → Contents → Option Answer

@@ -10,6 +10,7 @@ pub mod NamedCalls
 pub mod PlainArguments
 pub mod ProvedCalls
 pub mod AuditedCalls
+pub mod Reaching
 pub mod ReadPrograms
 pub mod Reporting
 pub mod ShallowLaws

@@ -5,8 +5,8 @@ use Rattle.core_terms.specs.Programs.{meaning}
 use Rattle.core_terms.specs.Terms as tree
 use Rattle.core_terms.specs.declared.language.program.Program.{Program as LanguageProgram}
 use Rattle.core_terms.specs.declared.program.Program.{Program}
-use Rattle.auth_syntax.specs.declared.fault.SyntaxFault.{SyntaxFault}
-use Rattle.auth_syntax.specs.declared.fault.SyntaxFault.TheVariants as syntax_fault
+use Rattle.lexemes.specs.Readings.{SyntaxFault}
+use Rattle.core_terms.specs.declared.fault.Fault.TheVariants as syntax_fault
 use Rattle.auth_types.specs.declared.fault.TypeFault.{TypeFault}
 use Rattle.auth_types.specs.declared.fault.TypeFault.TheVariants as type_fault
 use Rattle.printed_lines.specs.declared.refusal.ProgramKind.TheVariants.{Syntax, Typing}
@@ -23,7 +23,7 @@ ReadsProgram means found (Err NoMemory) = ⊤
 
 -- why a text is no program, where it has no tree
 abbrev pub of_syntax_fault : SyntaxFault → ProgramFault
-of_syntax_fault (syntax_fault.At kind line column) = At (Syntax kind) line column
+of_syntax_fault (syntax_fault.At kind at) = At (Syntax kind) at.line at.column
 of_syntax_fault syntax_fault.NoMemory = NoMemory
 
 -- why a text is no program, where its tree gives none

@@ -9,6 +9,7 @@ ghost use Rattle.core_terms.specs.TypeTables.{type_at};
 ghost use Rattle.collision_audit.specs.AuditAnswers.{TellsAudit};
 ghost use Rattle.collision_audit.specs.Audits as audits;
 ghost use Rattle.printed_lines.specs.Lines as lines;
+ghost use Rattle.auth_cli.specs.Reaching.{FaultsAtReached, ReachedAt};
 ghost use Rattle.auth_cli.specs.Answer.{answer_with, audit_told, audited_answer, call_audit_answer};
 ghost use Rattle.auth_cli.specs.AuditedCalls.{IfJudged, IsAudited, IsOfAudit, MeansAudit};
 ghost use Rattle.auth_cli.specs.Calls.{IsIdealCall, ideal_call_of};
@@ -44,6 +45,7 @@ pub fn audit_command<F: Files, O: Sink>(
     requires { length words.now ≡ 6 }
     ensures ends { let seen = outside F.contents F.stores F.faults F.store_faults O.written O.faults in
         EndsAs (answer_with Audit (texts words.now)) (seen files.old out.old) (seen files.new out.new) result }
+    ensures reached { ReachedAt result (answer_with Audit (texts words.now)) (F.contents files.old) (F.asked files.new) }
     ensures possible { MayAnswer Audit result }
     ensures audited { let seen = outside F.contents F.stores F.faults F.store_faults O.written O.faults in
         ForSome (F.contents files.old) (λ told. IsOfAudit result → IsAudited (calls Audit (texts words.now)) told (seen files.old out.old) (seen files.new out.new) result) }
@@ -74,6 +76,7 @@ fn find_audit<F: Files>(
     ensures means { let words = words.now in ForSome (F.contents files.old) (λ told. IfJudged result
         (MeansAudit (calls Audit (words.program.now ∷ words.role.now ∷ image.now ∷ words.argument.now ∷ words.fuel.now ∷ proof.now ∷ [])) told)) }
     ensures ending { IfOk result (λ report. MayAnswer Audit (ending_status report.ending)) }
+    ensures reached { let words = words.now in FaultsAtReached (audited_answer words.program.now words.role.now image.now words.argument.now words.fuel.now proof.now) (F.contents files.old) (F.asked files.new) result }
     ensures cause { JudgementCause (F.faults files.old) (F.faults files.new) result }
     ensures stores { F.stores files.new ≡ F.stores files.old }
     ensures store_faults { F.store_faults files.new ≡ F.store_faults files.old }

@@ -1,14 +1,15 @@
-// Calls of a query, as the words of a command line name them.
+// Calls of a query on the spelling of a state, as the words of a command line name them.
 ghost use Rattle.std.specs.Prelude.{◌≡◌, IfOk};
 ghost use Rattle.std.specs.Option.{ForSome};
 ghost use Rattle.core_terms.specs.Programs.{meaning};
+ghost use Rattle.auth_cli.specs.Reaching.{FaultsAt};
 ghost use Rattle.auth_cli.specs.Answer.{with_call, with_state, with_state_file};
-ghost use Rattle.auth_cli.specs.Calls.{IsQueryCall, call_of};
+ghost use Rattle.auth_cli.specs.Calls.{IsQuery, IsQueryCall, call_of, query_of};
 ghost use Rattle.auth_cli.specs.Halting.{GoesOn, GoesOnInHand, HaltCause};
 
 use crate::Halt;
 use crate::arguments::read_argument;
-use crate::queries::{CallWords, FueledQuery, read_query};
+use crate::queries::FueledQuery;
 use crate::report::load;
 use core_terms::{Program, Spelling};
 use lam_outside::Files;
@@ -28,24 +29,25 @@ pub struct Call {
 /// The most bytes of a file that is no text of a program.
 pub const MAX_FILE: usize = 67_108_864;
 
-/// The call that the words name. What is refused first in this order halts it: the query, the state, the argument.
+/// The call of a query on the state that a file spells, and on an argument. The state is judged first.
 pub fn read_call<F: Files>(
     alloc: Global,
-    words: &CallWords<'_>,
-    state: &str,
     files: &mut F,
+    query: FueledQuery,
+    state: &str,
+    argument: &str,
 ) -> Result<Call, Halt>
-    ensures goes { let words = words.now in ForSome (F.contents files.old) (λ told.
-        GoesOn (with_call words.program.now words.role.now state.now words.argument.now words.fuel.now told) call_of result) }
+    requires { IsQuery (query_of query) }
+    ensures goes { ForSome (F.contents files.old) (λ told. GoesOn (with_call (query_of query) state.now argument.now told) call_of result) }
     ensures valid { IfOk result (λ call. IsQueryCall (call_of call)) }
+    ensures asked { FaultsAt state.now (F.asked files.new) result }
     ensures cause { HaltCause (F.faults files.old) (F.faults files.new) result }
     ensures contents { F.contents files.new ≡ F.contents files.old }
     ensures stores { F.stores files.new ≡ F.stores files.old }
     ensures store_faults { F.store_faults files.new ≡ F.store_faults files.old }
 {
-    let query = read_query(alloc, files, words)?;
     let state = read_state_file(alloc, files, &query.program, state)?;
-    let argument = read_argument(alloc, &query.program, query.role, words.argument)?;
+    let argument = read_argument(alloc, &query.program, query.role, argument)?;
     Ok(Call {
         query,
         state,
@@ -62,6 +64,7 @@ fn read_state_file<F: Files>(
 ) -> Result<Vec<u8>, Halt>
     ensures goes { ForSome (F.contents files.old) (λ told.
         GoesOn (with_state_file (meaning program.now) (told name.now)) (λ bytes. bytes.items) result) }
+    ensures asked { FaultsAt name.now (F.asked files.new) result }
     ensures cause { HaltCause (F.faults files.old) (F.faults files.new) result }
     ensures contents { F.contents files.new ≡ F.contents files.old }
     ensures stores { F.stores files.new ≡ F.stores files.old }

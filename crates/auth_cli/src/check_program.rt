@@ -3,6 +3,7 @@ ghost use Rattle.std.specs.Prelude.{◌≡◌, IfOk, length};
 ghost use Rattle.std.specs.Option.{ForSome};
 ghost use Rattle.command_words.specs.Commands.{texts};
 ghost use Rattle.command_words.specs.declared.command.Command.TheVariants.{Check};
+ghost use Rattle.auth_cli.specs.Reaching.{FaultsAtReached, ReachedAt};
 ghost use Rattle.auth_cli.specs.Answer.{answer_with, checked_answer};
 ghost use Rattle.auth_cli.specs.Ending.{EndsAs, outside};
 ghost use Rattle.auth_cli.specs.Halting.{Finds, HaltCause, ending_status};
@@ -25,6 +26,7 @@ pub fn check_command<F: Files, O: Sink>(
     requires { length words.now ≡ 1 }
     ensures ends { let seen = outside F.contents F.stores F.faults F.store_faults O.written O.faults in
         EndsAs (answer_with Check (texts words.now)) (seen files.old out.old) (seen files.new out.new) result }
+    ensures reached { ReachedAt result (answer_with Check (texts words.now)) (F.contents files.old) (F.asked files.new) }
     ensures possible { MayAnswer Check result }
 {
     let [program] = words else { unreachable!() };
@@ -36,6 +38,7 @@ pub fn check_command<F: Files, O: Sink>(
 fn find_digest<F: Files>(alloc: Global, program: &str, files: &mut F) -> Result<Report, Halt>
     ensures finds { ForSome (F.contents files.old) (λ told. Finds (checked_answer program.now told) result) }
     ensures ending { IfOk result (λ report. MayAnswer Check (ending_status report.ending)) }
+    ensures reached { FaultsAtReached (checked_answer program.now) (F.contents files.old) (F.asked files.new) result }
     ensures cause { HaltCause (F.faults files.old) (F.faults files.new) result }
     ensures stores { F.stores files.new ≡ F.stores files.old }
     ensures store_faults { F.store_faults files.new ≡ F.store_faults files.old }

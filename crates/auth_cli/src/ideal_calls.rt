@@ -1,6 +1,7 @@
 // Calls of a query on an ideal state, as the words of a command line name them.
 ghost use Rattle.std.specs.Prelude.{◌≡◌, IfOk};
 ghost use Rattle.std.specs.Option.{ForSome};
+ghost use Rattle.auth_cli.specs.Reaching.{FaultsAt};
 ghost use Rattle.auth_cli.specs.Answer.{with_ideal_call};
 ghost use Rattle.auth_cli.specs.Calls.{IsIdealCall, IsQuery, ideal_call_of, query_of};
 ghost use Rattle.auth_cli.specs.Halting.{GoesOn, HaltCause};
@@ -35,6 +36,7 @@ pub fn read_ideal_call<F: Files>(
     ensures inputs { ForSome (F.contents files.old) (λ told. IfOk result (λ call. NamesInputs image.now argument.now told (ideal_call_of call))) }
     ensures query { IfOk result (λ call. query_of call.query ≡ query_of query) }
     ensures valid { IfOk result (λ call. IsIdealCall (ideal_call_of call)) }
+    ensures asked { FaultsAt image.now (F.asked files.new) result }
     ensures cause { HaltCause (F.faults files.old) (F.faults files.new) result }
     ensures contents { F.contents files.new ≡ F.contents files.old }
     ensures stores { F.stores files.new ≡ F.stores files.old }

@@ -9,6 +9,7 @@ ghost use Rattle.core_terms.specs.Terms as tree;
 ghost use Rattle.core_terms.specs.Values.{IsIdeal};
 ghost use Rattle.plain_meaning.specs.PlainValues.{plain_of};
 ghost use Rattle.plain_meaning.specs.Telling.{IsPlainOf, plain_outcome_of};
+ghost use Rattle.auth_cli.specs.Reaching.{FaultsAtReached, ReachedAt};
 ghost use Rattle.auth_cli.specs.Answer.{answer_with, init_answer_of, init_outcome, initial_answer, made_answer, made_by};
 ghost use Rattle.core_terms.specs.Roles.{init_type};
 ghost use Rattle.auth_cli.specs.Ending.{EndsAs, outside};
@@ -43,6 +44,7 @@ pub fn init_command<F: Files, O: Sink>(
     requires { length words.now ≡ 5 }
     ensures ends { let seen = outside F.contents F.stores F.faults F.store_faults O.written O.faults in
         EndsAs (answer_with Init (texts words.now)) (seen files.old out.old) (seen files.new out.new) result }
+    ensures reached { ReachedAt result (answer_with Init (texts words.now)) (F.contents files.old) (F.asked files.new) }
     ensures possible { MayAnswer Init result }
 {
     let [program, role, argument, fuel, name] = words else {
@@ -67,6 +69,7 @@ fn find_initial<F: Files>(
     ensures finds { let words = words.now in (name : List ℕ) → ForSome (F.contents files.old) (λ told.
         FindsOutput name (initial_answer words.program.now words.role.now words.argument.now words.fuel.now name told) result) }
     ensures ending { IfOk result (λ output. IsOutcome (ending_status output.report.ending)) }
+    ensures reached { let words = words.now in (name : List ℕ) → FaultsAtReached (initial_answer words.program.now words.role.now words.argument.now words.fuel.now name) (F.contents files.old) (F.asked files.new) result }
     ensures cause { HaltCause (F.faults files.old) (F.faults files.new) result }
     ensures stores { F.stores files.new ≡ F.stores files.old }
     ensures store_faults { F.store_faults files.new ≡ F.store_faults files.old }

@@ -4,6 +4,7 @@ ghost use Rattle.std.specs.Option.{ForSome};
 ghost use Rattle.sha2.specs.Sha256.{sha256};
 ghost use Rattle.core_terms.specs.LanguagePrograms as language;
 ghost use Rattle.core_terms.specs.Programs.{meaning};
+ghost use Rattle.auth_cli.specs.Reaching.{FaultsAt};
 ghost use Rattle.auth_cli.specs.Answer.{with_language_file, with_program_file};
 ghost use Rattle.auth_cli.specs.Halting.{GoesOn, HaltCause};
 ghost use Rattle.auth_cli.specs.NamedCalls.{KeepsProgram};
@@ -12,7 +13,6 @@ ghost use Rattle.auth_cli.specs.TextPrograms.{constructor_names_of_text, languag
 
 use crate::Halt;
 use crate::report::load;
-use auth_syntax::fault::SyntaxFault;
 use auth_syntax::parser::{parse, parse_fragment};
 use auth_types::check::check;
 use auth_types::fault::TypeFault;
@@ -20,6 +20,7 @@ use auth_types::fragment::check_fragment;
 use core_terms::{Hash32, Program, language};
 use digest_layer::Sha;
 use lam_outside::Files;
+use lexemes::fault::SyntaxFault;
 use printed_lines::refusal::{Argument, ProgramKind};
 use std::alloc::Global;
 
@@ -40,8 +41,8 @@ impl From<SyntaxFault> for ProgramFault {
 
     fn from(fault: SyntaxFault) -> ProgramFault {
         match fault {
-            SyntaxFault::At(kind, line, column) => {
-                ProgramFault::At(ProgramKind::Syntax(kind), line, column)
+            SyntaxFault::At(kind, at) => {
+                ProgramFault::At(ProgramKind::Syntax(kind), at.line, at.column)
             }
             SyntaxFault::NoMemory => ProgramFault::NoMemory,
         }
@@ -102,6 +103,7 @@ pub fn read_language_file<F: Files>(
     name: &str,
 ) -> Result<language::Program, Halt>
     ensures goes { ForSome (F.contents files.old) (λ told. GoesOn (with_language_file (told name.now)) language_named result) }
+    ensures asked { FaultsAt name.now (F.asked files.new) result }
     ensures cause { HaltCause (F.faults files.old) (F.faults files.new) result }
     ensures contents { F.contents files.new ≡ F.contents files.old }
     ensures stores { F.stores files.new ≡ F.stores files.old }
@@ -119,6 +121,7 @@ pub fn read_program_file<F: Files>(
 ) -> Result<Program, Halt>
     ensures goes { ForSome (F.contents files.old) (λ told. GoesOn (with_program_file (told name.now)) digested result) }
     ensures kept { ForSome (F.contents files.old) (λ told. IfOk result (λ program. KeepsProgram (told name.now) (digested program))) }
+    ensures asked { FaultsAt name.now (F.asked files.new) result }
     ensures cause { HaltCause (F.faults files.old) (F.faults files.new) result }
     ensures contents { F.contents files.new ≡ F.contents files.old }
     ensures stores { F.stores files.new ≡ F.stores files.old }

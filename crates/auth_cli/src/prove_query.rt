@@ -6,6 +6,7 @@ ghost use Rattle.command_words.specs.Invocations.{calls};
 ghost use Rattle.command_words.specs.declared.command.Command.TheVariants.{Prove};
 ghost use Rattle.core_terms.specs.Programs.{meaning, types_of};
 ghost use Rattle.core_terms.specs.TypeTables.{type_at};
+ghost use Rattle.auth_cli.specs.Reaching.{FaultsAtReached, ReachedAt};
 ghost use Rattle.auth_cli.specs.Answer.{answer_with, proof_answer, proved_answer};
 ghost use Rattle.auth_cli.specs.Calls.{IsIdealCall, ideal_call_of};
 ghost use Rattle.auth_cli.specs.Ending.{EndsAs, outside};
@@ -40,6 +41,7 @@ pub fn prove_command<F: Files, O: Sink>(
     requires { length words.now ≡ 7 }
     ensures ends { let seen = outside F.contents F.stores F.faults F.store_faults O.written O.faults in
         EndsAs (answer_with Prove (texts words.now)) (seen files.old out.old) (seen files.new out.new) result }
+    ensures reached { ReachedAt result (answer_with Prove (texts words.now)) (F.contents files.old) (F.asked files.new) }
     ensures possible { MayAnswer Prove result }
     ensures proved { let seen = outside F.contents F.stores F.faults F.store_faults O.written O.faults in
         ForSome (F.contents files.old) (λ told. IsOutcome result → IsProved (calls Prove (texts words.now)) told (seen files.old out.old) (seen files.new out.new) result) }
@@ -70,6 +72,7 @@ fn find_proof<F: Files>(
     ensures means { let words = words.now in (name : List ℕ) → ForSome (F.contents files.old) (λ told. IfOk result (λ _.
         MeansProof (calls Prove (words.program.now ∷ words.role.now ∷ image.now ∷ words.argument.now ∷ words.fuel.now ∷ kept.now ∷ name ∷ [])) told)) }
     ensures ending { IfOk result (λ output. IsOutcome (ending_status output.report.ending)) }
+    ensures reached { let words = words.now in (name : List ℕ) → FaultsAtReached (proved_answer words.program.now words.role.now image.now words.argument.now words.fuel.now kept.now name) (F.contents files.old) (F.asked files.new) result }
     ensures cause { HaltCause (F.faults files.old) (F.faults files.new) result }
     ensures stores { F.stores files.new ≡ F.stores files.old }
     ensures store_faults { F.store_faults files.new ≡ F.store_faults files.old }

@@ -1,6 +1,7 @@
 // Queries, as the words of a command line name them.
 ghost use Rattle.std.specs.Prelude.{◌≡◌, IfOk};
 ghost use Rattle.std.specs.Option.{ForSome};
+ghost use Rattle.auth_cli.specs.Reaching.{FaultsAt};
 ghost use Rattle.auth_cli.specs.Answer.{with_fueled_query};
 ghost use Rattle.auth_cli.specs.Calls.{IsQuery, query_of};
 ghost use Rattle.auth_cli.specs.Halting.{GoesOn, HaltCause};
@@ -39,6 +40,7 @@ pub fn read_query<F: Files>(
     ensures goes { ForSome (F.contents files.old) (λ told. GoesOn (with_fueled_query words.now.program.now words.now.role.now words.now.fuel.now told) query_of result) }
     ensures named { ForSome (F.contents files.old) (λ told. IfOk result (λ query. NamesQuery words.now.program.now words.now.role.now words.now.fuel.now told (query_of query))) }
     ensures valid { IfOk result (λ query. IsQuery (query_of query)) }
+    ensures asked { FaultsAt words.now.program.now (F.asked files.new) result }
     ensures cause { HaltCause (F.faults files.old) (F.faults files.new) result }
     ensures contents { F.contents files.new ≡ F.contents files.old }
     ensures stores { F.stores files.new ≡ F.stores files.old }

@@ -5,17 +5,18 @@ ghost use Rattle.std.specs.Io.KnownBytes.{append_known};
 ghost use Rattle.lam_outside.specs.Causes.{HasCause};
 ghost use Rattle.printed_lines.specs.declared.refusal.Refusal.TheVariants.{Input};
 ghost use Rattle.auth_cli.specs.declared.report.Halt.TheVariants.{NoMemory, Refused};
+ghost use Rattle.auth_cli.specs.Reaching.{FaultsAt};
 ghost use Rattle.auth_cli.specs.Answer.{refusal_status, with_file};
 ghost use Rattle.auth_cli.specs.Halting.{GoesOn, HaltCause, ending_status, of_image_fault, of_literal_fault, of_program_fault, of_save_fault, of_verdict};
 ghost use Rattle.auth_cli.specs.Telling.{Tells, TellsText};
 
 use crate::Status;
 use crate::programs::ProgramFault;
-use auth_syntax::fault::{LiteralFault, LiteralKind};
 use images::{ImageFault, SaveFault};
 use lam_outside::{Failed, Files, Load, Sink, load_all};
 use printed_lines::lines::refusal_line;
 use printed_lines::refusal::{Argument, ImageKind, InputFault, Refusal};
+use printed_syntax::fault::{LiteralFault, LiteralKind};
 use std::alloc::{AllocError, Global};
 use verifier_mode::Verdict;
 
@@ -171,6 +172,7 @@ pub fn load<F: Files>(
     ensures goes { ForSome (F.contents files.old) (λ told. GoesOn (with_file max argument (told name.now)) (λ bytes. bytes.items) result) }
     ensures holds { ForSome (F.contents files.old) (λ told. IfOk result (λ bytes. told name.now ≡ Some bytes.items)) }
     ensures fits { IfOk result (λ bytes. length bytes.items ≤ max) }
+    ensures asked { FaultsAt name.now (F.asked files.new) result }
     ensures cause { HaltCause (F.faults files.old) (F.faults files.new) result }
     ensures contents { F.contents files.new ≡ F.contents files.old }
     ensures stores { F.stores files.new ≡ F.stores files.old }

@@ -5,6 +5,7 @@ ghost use Rattle.command_words.specs.Commands.{texts};
 ghost use Rattle.command_words.specs.declared.command.Command.TheVariants.{Shallow};
 ghost use Rattle.core_terms.specs.LanguagePrograms.{meaning};
 ghost use Rattle.core_terms.specs.Values.{Value};
+ghost use Rattle.auth_cli.specs.Reaching.{FaultsAtReached, ReachedAt};
 ghost use Rattle.auth_cli.specs.Answer.{answer_with, spelled_answer, state_answer};
 ghost use Rattle.auth_cli.specs.Ending.{EndsAs, outside};
 ghost use Rattle.auth_cli.specs.Halting.{HaltCause, ending_status};
@@ -34,6 +35,7 @@ pub fn shallow_command<F: Files, O: Sink>(
     requires { length words.now ≡ 3 }
     ensures ends { let seen = outside F.contents F.stores F.faults F.store_faults O.written O.faults in
         EndsAs (answer_with Shallow (texts words.now)) (seen files.old out.old) (seen files.new out.new) result }
+    ensures reached { ReachedAt result (answer_with Shallow (texts words.now)) (F.contents files.old) (F.asked files.new) }
     ensures possible { MayAnswer Shallow result }
 {
     let [program, image, name] = words else {
@@ -52,6 +54,7 @@ fn find_state<F: Files>(
 ) -> Result<Output, Halt>
     ensures finds { (name : List ℕ) → ForSome (F.contents files.old) (λ told. FindsOutput name (spelled_answer program.now image.now name told) result) }
     ensures ending { IfOk result (λ output. MayAnswer Shallow (ending_status output.report.ending)) }
+    ensures reached { (name : List ℕ) → FaultsAtReached (spelled_answer program.now image.now name) (F.contents files.old) (F.asked files.new) result }
     ensures cause { HaltCause (F.faults files.old) (F.faults files.new) result }
     ensures stores { F.stores files.new ≡ F.stores files.old }
     ensures store_faults { F.store_faults files.new ≡ F.store_faults files.old }

@@ -5,6 +5,7 @@ ghost use Rattle.core_terms.specs.Programs.{meaning};
 ghost use Rattle.core_terms.specs.Values.{IsIdeal};
 ghost use Rattle.plain_meaning.specs.PlainValues.{plain_of};
 ghost use Rattle.images.specs.Images.{Root};
+ghost use Rattle.auth_cli.specs.Reaching.{FaultsAt};
 ghost use Rattle.auth_cli.specs.Answer.{image_read, with_image, with_image_file};
 ghost use Rattle.auth_cli.specs.Halting.{GoesOn, GoesOnInHand, HaltCause};
 ghost use Rattle.auth_cli.specs.NamedCalls.{KeepsState};
@@ -30,6 +31,7 @@ pub fn read_image_file<F: Files>(
     ensures goes { ForSome (F.contents files.old) (λ told. GoesOn (with_image_file (digested program.now) (told name.now)) plain_of result) }
     ensures kept { ForSome (F.contents files.old) (λ told. IfOk result (λ state. KeepsState (told name.now) (digested program.now) (plain_of state))) }
     ensures ideal { IfOk result (λ state. IsIdeal (meaning program.now).types (meaning program.now).state (plain_of state)) }
+    ensures asked { FaultsAt name.now (F.asked files.new) result }
     ensures cause { HaltCause (F.faults files.old) (F.faults files.new) result }
     ensures contents { F.contents files.new ≡ F.contents files.old }
     ensures stores { F.stores files.new ≡ F.stores files.old }

@@ -3,6 +3,7 @@ ghost use Rattle.std.specs.Prelude.{◌≡◌, IfOk};
 ghost use Rattle.std.specs.Option.{ForSome};
 ghost use Rattle.core_terms.specs.LanguagePrograms.{meaning};
 ghost use Rattle.core_terms.specs.Values.{Value};
+ghost use Rattle.auth_cli.specs.Reaching.{FaultsAt};
 ghost use Rattle.auth_cli.specs.Answer.{with_image, with_image_file};
 ghost use Rattle.auth_cli.specs.Halting.{GoesOnFor, GoesOnForInHand, HaltCause};
 ghost use Rattle.auth_cli.specs.ReadPrograms.{language_digested};
@@ -27,6 +28,7 @@ pub fn load_image_file<F: Files>(
 ) -> Result<Loaded, Halt>
     ensures goes { ForSome (F.contents files.old) (λ told. GoesOnFor (with_image_file (language_digested program.now) (told name.now)) (IsStoredState (meaning program.now)) result) }
     ensures stands { IfOk result (λ loaded. (v : Value) × IsStoredState (meaning program.now) loaded v) }
+    ensures asked { FaultsAt name.now (F.asked files.new) result }
     ensures cause { HaltCause (F.faults files.old) (F.faults files.new) result }
     ensures contents { F.contents files.new ≡ F.contents files.old }
     ensures stores { F.stores files.new ≡ F.stores files.old }

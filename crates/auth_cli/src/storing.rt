@@ -23,6 +23,7 @@ pub fn store_and_tell<F: Files, O: Sink>(
     ensures ends { StoresAndTells name.now found result (F.stores files.old) (F.stores files.new) (F.store_faults files.old) (F.store_faults files.new)
         (O.written out.old) (O.written out.new) (O.faults out.old) (O.faults out.new) }
     ensures faults { F.faults files.new ≡ F.faults files.old }
+    ensures asked { F.asked files.new ≡ F.asked files.old }
 {
     match found {
         Ok(output) => store_output(alloc, name, files, out, output),
@@ -41,6 +42,7 @@ fn store_output<F: Files, O: Sink>(
     ensures ends { StoresAndTells name.now (Ok output) result (F.stores files.old) (F.stores files.new) (F.store_faults files.old) (F.store_faults files.new)
         (O.written out.old) (O.written out.new) (O.faults out.old) (O.faults out.new) }
     ensures faults { F.faults files.new ≡ F.faults files.old }
+    ensures asked { F.asked files.new ≡ F.asked files.old }
 {
     match store_file(files, name, &output.file) {
         Ok(()) => tell(alloc, out, Ok(output.report)),
@@ -52,6 +54,7 @@ fn store_output<F: Files, O: Sink>(
 fn store_file<F: Files>(files: &mut F, name: &str, file: &Option<Vec<u8>>) -> Result<(), Failed>
     ensures listed { AddsStores (F.stores files.old) (F.stores files.new) (stored_as name.now file.now) }
     ensures faults { F.faults files.new ≡ F.faults files.old }
+    ensures asked { F.asked files.new ≡ F.asked files.old }
     ensures cause { HasCause (F.store_faults files.old) (F.store_faults files.new) result }
 {
     match file {

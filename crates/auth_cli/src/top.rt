@@ -14,6 +14,7 @@ ghost use Rattle.auth_cli.specs.Codes.{code};
 ghost use Rattle.auth_cli.specs.Ending.{outside, EndsAs, IsOfFault, IsOfRefused, IsToldByCode, MayWrite, NoneRose, StoresSome, WritesPart, no_memory_text};
 ghost use Rattle.auth_cli.specs.IdealCalls.{IdealCall};
 ghost use Rattle.auth_cli.specs.ProvedCalls.{CallsProve, IsProved, IsProvedBy};
+ghost use Rattle.auth_cli.specs.Reaching.{IsReached, ReachedAt};
 ghost use Rattle.auth_cli.specs.Statuses.{MayAnswer};
 ghost use Rattle.auth_cli.specs.TrueLines.{IsTrueLine, TellsOutcome};
 ghost use Rattle.auth_cli.specs.declared.status.Status.{Status};
@@ -80,7 +81,8 @@ use std::alloc::Global;
 ///
 /// The program's text has at most 262,144 bytes, each other file at most 67,108,864. What is refused first in this order
 /// ends the run: the words, the program, the role, the fuel, the number of pieces that are kept, the state or the image, the
-/// argument, the proof. A file is stored before any line is written.
+/// argument, the proof. A file is opened when all that stands before it is well-formed, so `read fault` comes only from a file
+/// that this order had reached. A file is stored before any line is written.
 pub fn run<F: Files, O: Sink>(alloc: Global, words: &[&str], files: &mut F, out: &mut O) -> u8
     requires reads_below { F.faults files.old < 2 ^ 64 - 1 }
     requires stores_below { F.store_faults files.old < 2 ^ 64 - 1 }
@@ -135,6 +137,10 @@ pub fn run<F: Files, O: Sink>(alloc: Global, words: &[&str], files: &mut F, out:
     ensures read_rose { Rose (F.faults files.old) (F.faults files.new) → (result ≡ 8) ⊎ ((result ≡ 9) ⊎ (result ≡ 10)) }
     ensures read_fault_line { result ≡ 8 → O.written out.new ≡ append_known (O.written out.old) (codes "read fault\n") }
 
+    // And 8 comes only from a file that the order of refusals had reached: the one that was asked for last, without which these words and
+    // the other files have no answer.
+    ensures reached { result ≡ 8 → IsReached (answer (texts words.now)) (F.contents files.old) (F.asked files.new) }
+
     // 9 exactly where the count of the sink or of `store` rose, and then a part of such a text was written.
     ensures write_fault { result ≡ 9
         ↔ (Rose (O.faults out.old) (O.faults out.new) ⊎ Rose (F.store_faults files.old) (F.store_faults files.new)) }
@@ -159,6 +165,7 @@ pub fn run<F: Files, O: Sink>(alloc: Global, words: &[&str], files: &mut F, out:
 fn ended<F: Files, O: Sink>(alloc: Global, words: &[&str], files: &mut F, out: &mut O) -> Status
     ensures ends { let seen = outside F.contents F.stores F.faults F.store_faults O.written O.faults in
         EndsAs (answer (texts words.now)) (seen files.old out.old) (seen files.new out.new) result }
+    ensures reached { ReachedAt result (answer (texts words.now)) (F.contents files.old) (F.asked files.new) }
     ensures possible { (called : Invocation) → invocation_of (texts words.now) ≡ Some called → MayAnswer called.command result }
     ensures proved { let seen = outside F.contents F.stores F.faults F.store_faults O.written O.faults in
         (called : Invocation) → invocation_of (texts words.now) ≡ Some called → IsProvedBy called (F.contents files.old) (seen files.old out.old) (seen files.new out.new) result }
@@ -184,6 +191,7 @@ fn carry_out<F: Files, O: Sink>(
     requires { IsOfCommand command (texts words.now) }
     ensures ends { let seen = outside F.contents F.stores F.faults F.store_faults O.written O.faults in
         EndsAs (answer_with command (texts words.now)) (seen files.old out.old) (seen files.new out.new) result }
+    ensures reached { ReachedAt result (answer_with command (texts words.now)) (F.contents files.old) (F.asked files.new) }
     ensures possible { MayAnswer command result }
     ensures proved { let seen = outside F.contents F.stores F.faults F.store_faults O.written O.faults in
         IsProvedBy (calls command (texts words.now)) (F.contents files.old) (seen files.old out.old) (seen files.new out.new) result }

@@ -4,6 +4,7 @@ ghost use Rattle.std.specs.Option.{ForSome};
 ghost use Rattle.command_words.specs.Commands.{texts};
 ghost use Rattle.command_words.specs.declared.command.Command.TheVariants.{Verify};
 ghost use Rattle.verifier_mode.specs.Verdicts.{Answers};
+ghost use Rattle.auth_cli.specs.Reaching.{FaultsAtReached, ReachedAt};
 ghost use Rattle.auth_cli.specs.Answer.{answer_with, call_answer, call_verdict, judged_answer};
 ghost use Rattle.auth_cli.specs.Calls.{IsQueryCall, call_of};
 ghost use Rattle.auth_cli.specs.Ending.{EndsAs, outside};
@@ -13,7 +14,7 @@ ghost use Rattle.auth_cli.specs.Statuses.{MayAnswer};
 
 use crate::calls::{Call, MAX_FILE, read_call};
 use crate::outcomes::report_of;
-use crate::queries::CallWords;
+use crate::queries::{CallWords, read_query};
 use crate::report::{load, tell};
 use crate::{Halt, Report, Status};
 use core_terms::{Outcome, Spelling};
@@ -33,6 +34,7 @@ pub fn verify_command<F: Files, O: Sink>(
     requires { length words.now ≡ 6 }
     ensures ends { let seen = outside F.contents F.stores F.faults F.store_faults O.written O.faults in
         EndsAs (answer_with Verify (texts words.now)) (seen files.old out.old) (seen files.new out.new) result }
+    ensures reached { ReachedAt result (answer_with Verify (texts words.now)) (F.contents files.old) (F.asked files.new) }
     ensures possible { MayAnswer Verify result }
 {
     let [program, role, state, argument, fuel, proof] = words else {
@@ -59,11 +61,13 @@ fn find_verdict<F: Files>(
     ensures finds { let words = words.now in ForSome (F.contents files.old) (λ told.
         Finds (judged_answer words.program.now words.role.now state.now words.argument.now words.fuel.now proof.now told) result) }
     ensures ending { IfOk result (λ report. IsOutcome (ending_status report.ending)) }
+    ensures reached { let words = words.now in FaultsAtReached (judged_answer words.program.now words.role.now state.now words.argument.now words.fuel.now proof.now) (F.contents files.old) (F.asked files.new) result }
     ensures cause { JudgementCause (F.faults files.old) (F.faults files.new) result }
     ensures stores { F.stores files.new ≡ F.stores files.old }
     ensures store_faults { F.store_faults files.new ≡ F.store_faults files.old }
 {
-    let call = read_call(alloc, words, state, files)?;
+    let query = read_query(alloc, files, words)?;
+    let call = read_call(alloc, files, query, state, words.argument)?;
     let proof = load(alloc, files, Argument::Proof, proof, MAX_FILE)?;
     judge(alloc, &call, &proof)
 }

@@ -10,7 +10,7 @@ use Rattle.auth_syntax.specs.Syntax.{place_of}
 use Rattle.core_terms.specs.declared.language.term.Constructor.{Constructor}
 use Rattle.auth_syntax.specs.Trees.{ArmSyntax, arm_of, expression_of, name_of}
 use Rattle.auth_syntax.specs.declared.tree.Arm.{Arm, out-Arm}
-use Rattle.auth_syntax.specs.declared.place.Place.{Place}
+use Rattle.lexemes.specs.declared.place.Place.{Place}
 use Rattle.auth_types.specs.Checking.{Checking, Sound, FaultAt, then_checked, unless_fault}
 use Rattle.auth_types.specs.Bodies.{Local, Scope, Typed, bound_names, elaborated, wanted_arm}
 use Rattle.auth_types.specs.Elaborators.{Keeps, fields_of, locals_of, scope_of, typed_of, types_of}

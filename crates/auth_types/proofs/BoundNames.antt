@@ -3,7 +3,7 @@ use Rattle.std.proofs.Common.{◌≡◌, ℕ, ◌+◌, ◌≤◌, Bool, true, fa
 use Rattle.std.proofs.lemmas.List.{drop-append-le, map-append, reverse-append}
 use Rattle.core_terms.specs.Types.{Ty}
 use Rattle.auth_syntax.specs.Syntax.{NameSyntax}
-use Rattle.auth_syntax.specs.declared.place.Place.{Place}
+use Rattle.lexemes.specs.declared.place.Place.{Place}
 use Rattle.auth_types.specs.Bodies.{Local, bound_names, most_locals}
 use Rattle.auth_types.specs.Checking.{Checking, Sound, FaultAt, is_among, unless_fault}
 use Rattle.auth_types.specs.Locals.{names_of}

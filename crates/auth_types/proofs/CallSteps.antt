@@ -15,7 +15,7 @@ use Rattle.core_terms.specs.declared.types.TyId.{TyId}
 use Rattle.core_terms.specs.declared.language.term.Constructor.{Constructor}
 use Rattle.auth_syntax.specs.Trees.{ArmSyntax, arm_of, arms_in_a_row}
 use Rattle.auth_syntax.specs.declared.tree.Arm.{Arm}
-use Rattle.auth_syntax.specs.declared.place.Place.{Place}
+use Rattle.lexemes.specs.declared.place.Place.{Place}
 use Rattle.auth_types.specs.Checking.{Checking, FaultAt, then_checked, unless_fault}
 use Rattle.auth_types.specs.Bodies.{Numbered, Scope, Signature, Typed, TypedArms, arm_names, called, constructed, matched, same_names, typed}
 use Rattle.auth_types.specs.Scopes.{signature_meant}

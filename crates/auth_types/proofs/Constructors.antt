@@ -9,7 +9,7 @@ use Rattle.auth_types.specs.declared.fault.Fault.TheVariants.{At, NoMemory}
 use Rattle.auth_types.specs.declared.fault.TypeKind.{TypeKind}
 use Rattle.auth_types.specs.declared.fault.TypeKind.TheVariants.{Twice, Limit}
 use Rattle.auth_types.specs.declared.fault.Limited.TheVariants.{Constructors}
-use Rattle.auth_syntax.specs.declared.place.Place.{Place}
+use Rattle.lexemes.specs.declared.place.Place.{Place}
 
 module _ {A : Type 0} (before : ℕ) (names : List (List ℕ)) (constructor : ConstructorDeclaration) (rest : Checking A) where
   -- what is found of a constructor whose name is new or not, of which so many are few enough or not, and whose fields are checked

@@ -1,7 +1,7 @@
 -- Lemmas of the first pass, one declaration after another.
 use Rattle.std.proofs.Common.{◌≡◌, ℕ, suc, ◌+◌, ◌<◌, List, ◌∷◌, length, map, drop, slice_index_or, Result, Err, sym, ap, ◌∙◌, subst, add-one, drop-cons}
 use Rattle.auth_syntax.specs.Trees.{declaration_of}
-use Rattle.auth_syntax.specs.declared.place.Place.{Place}
+use Rattle.lexemes.specs.declared.place.Place.{Place}
 use Rattle.auth_syntax.specs.declared.tree.Declaration.{Declaration}
 use Rattle.auth_types.specs.Checking.{Checking, then_checked, unless_fault, Sound}
 use Rattle.auth_types.specs.Declarations.{Declared, checked_declaration, checked_declarations, first_pass, nothing_declared}

@@ -7,7 +7,7 @@ use Rattle.core_terms.specs.Types.{Ty}
 use Rattle.core_terms.specs.LanguagePrograms.{types_in}
 use Rattle.core_terms.specs.declared.language.types.TyTable.{TyTable}
 use Rattle.auth_syntax.specs.Syntax.{ExpSyntax}
-use Rattle.auth_syntax.specs.declared.place.Place.{Place}
+use Rattle.lexemes.specs.declared.place.Place.{Place}
 use Rattle.std.proofs.Math.Seq.{take-append_seam}
 use Rattle.auth_types.specs.Bodies.{Local, elaborated, wanted}
 use Rattle.auth_types.specs.Elaborators.{Keeps, found_at, locals_of, scope_of, types_of}

@@ -14,7 +14,7 @@ use Rattle.core_terms.specs.declared.language.term.Term.{Term}
 use Rattle.core_terms.specs.declared.language.term.Term as term
 use Rattle.auth_syntax.specs.Syntax.{NameSyntax, ExpSyntax, ExpsSyntax, LetSyntax, IfSyntax, place_of}
 use Rattle.auth_syntax.specs.Parsing.{in_a_row}
-use Rattle.auth_syntax.specs.declared.place.Place.{Place}
+use Rattle.lexemes.specs.declared.place.Place.{Place}
 use Rattle.auth_types.specs.Checking.{Checking, Sound, FaultAt, then_checked, unless_fault}
 use Rattle.auth_types.specs.Bodies.{Local, Numbered, Scope, Signature, Typed, called, constructed, count_of, elaborated, most_locals, typed, wanted}
 use Rattle.auth_types.specs.Elaborators.{ShowsTerm, boxed_of, row_of, typed_of}

@@ -3,7 +3,7 @@ use Rattle.std.proofs.Common.{◌≡◌, List, ◌++◌, Result, Ok, Err, sym, a
 use Rattle.std.specs.Prelude.{OnOk}
 use Rattle.core_terms.specs.Types.{Ty}
 use Rattle.auth_types.specs.Checking.{Checking, FaultAt, then_checked}
-use Rattle.auth_syntax.specs.declared.place.Place.{Place}
+use Rattle.lexemes.specs.declared.place.Place.{Place}
 use Rattle.auth_types.specs.Outcomes.{Finds}
 use Rattle.auth_types.specs.declared.fault.TypeKind.{TypeKind}
 use Rattle.auth_types.specs.OverTypes.{FindsOver, Grows, Shows}

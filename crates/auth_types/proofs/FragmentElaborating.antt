@@ -1,6 +1,7 @@
 -- Lemmas of the terms of bodies.
 use Rattle.std.proofs.Common.{◌≡◌, ℕ, suc, ◌<◌, List, [], ◌∷◌, ◌++◌, length, map, take, ◌+◌, Option, Some, Result, Err, slice_get, slice_index_or, refl, sym, ap, ◌∙◌, subst, arith}
 use Rattle.std.proofs.lemmas.List.{map-append, take_more}
+use Rattle.core_terms.specs.declared.language.term.BinaryOperator.{BinaryOperator}
 use Rattle.core_terms.specs.Types.{Ty, UnitTy, IntTy, AuthTy}
 use Rattle.core_terms.specs.Terms.{Expression, AuthE, LocalE}
 use Rattle.core_terms.specs.Typing.{same_type}
@@ -10,9 +11,9 @@ use Rattle.core_terms.specs.declared.types.TyId.{TyId}
 use Rattle.core_terms.specs.declared.types.TyForm.{TyForm}
 use Rattle.core_terms.specs.declared.types.TyForm.TheVariants.{UnitForm, BoolForm, IntForm, TextForm, AuthForm}
 use Rattle.core_terms.specs.declared.term.Term.{Term}
-use Rattle.auth_syntax.specs.Syntax.{AuthOperation, UnauthOperation, BinaryOperation}
+use Rattle.auth_syntax.specs.Syntax.{AuthOperation, UnauthOperation}
 use Rattle.auth_syntax.specs.Trees as written
-use Rattle.auth_syntax.specs.declared.place.Place.{Place}
+use Rattle.lexemes.specs.declared.place.Place.{Place}
 use Rattle.auth_syntax.specs.declared.tree.Parameter.{Parameter}
 use Rattle.auth_types.specs.Checking.{Checking, Sound, FaultAt, unless_fault, then_checked}
 use Rattle.auth_types.specs.WrittenTypes.{type_meant}
@@ -99,7 +100,7 @@ second_fault before types types' earlier view view' x value part rest (At kind a
     ap (λ x. then_checked x (λ f. then_checked part (rest f))) (shows_now before earlier x value shown) ∙ ap (λ part. then_checked part (rest (earlier before value))) h
 second_fault before types types' earlier view view' x value part rest NoMemory shown h = tt
 
-module _ (operation : BinaryOperation) where
+module _ (operation : BinaryOperator) where
   -- the second operand of an operation is refused, the first being found
   pub late_fault : (before types : List Ty) (at : Place) (x : Checking Expression) (y : Checking Typed) (value : Term) (fault : Fault) (r : Result TypedTerm Fault) → r ≡ Err fault
       → Shows before expression_of x value → FindsOver types expression_of (wanted at (operand_type operation) y) (Err fault)

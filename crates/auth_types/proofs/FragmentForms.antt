@@ -1,10 +1,12 @@
 -- Programs of the fragment: the parts that they have, and induction over their expressions.
 use Rattle.std.proofs.Common.{◌≡◌, ℕ, zero, suc, ◌<◌, ℤ, Bool, true, false, List, [], ◌∷◌, length, map, slice_index_or, sym, subst, arith}
-use Rattle.auth_syntax.specs.Syntax.{ExpSyntax, UnitSyntax, BoolSyntax, IntSyntax, TextSyntax, LocalSyntax, PairSyntax, UnarySyntax, BinarySyntax, CallSyntax, ConstructorSyntax, LetSyntax, IfSyntax, MatchSyntax, NoExp, AndExp, NoArmSyntax, AndArmSyntax, FstOperation, SndOperation, AuthOperation, UnauthOperation, LenOperation, NotOperation, AddOperation, SubOperation, MulOperation, DivOperation, RemOperation, EqOperation, LtOperation, LeOperation, TeqOperation, TltOperation, CatOperation}
+use Rattle.core_terms.specs.declared.language.term.Arith.TheVariants.{Add, Sub, Mul, Div, Rem}
+use Rattle.core_terms.specs.declared.language.term.BinaryOperator.TheVariants.{Arith, Compare, TextCompare, Cat}
+use Rattle.auth_syntax.specs.Syntax.{ExpSyntax, UnitSyntax, BoolSyntax, IntSyntax, TextSyntax, LocalSyntax, PairSyntax, UnarySyntax, BinarySyntax, CallSyntax, ConstructorSyntax, LetSyntax, IfSyntax, MatchSyntax, NoExp, AndExp, NoArmSyntax, AndArmSyntax, FstOperation, SndOperation, AuthOperation, UnauthOperation, LenOperation, NotOperation}
 use Rattle.auth_syntax.specs.Trees.{declaration_of, parameter_of, type_of}
 use Rattle.auth_syntax.specs.Grammar.{AreDeclarations, AreParameters, HasForms, HasTypeForms, IsDeclaration, nesting_limit}
 use Rattle.auth_syntax.specs.Vocabulary.{fragment}
-use Rattle.auth_syntax.specs.declared.place.Place.{Place}
+use Rattle.lexemes.specs.declared.place.Place.{Place}
 use Rattle.auth_syntax.specs.declared.tree.Declaration.{Declaration}
 use Rattle.auth_syntax.specs.declared.tree.Parameter.{Parameter}
 
@@ -15,7 +17,7 @@ lacks is = absurd (cc)
 module _ (Q : ExpSyntax → Type 0) (unit : (at : Place) → Q (UnitSyntax at)) (bool : (at : Place) (b : Bool) → Q (BoolSyntax at b)) (int : (at : Place) (z : ℤ) → Q (IntSyntax at z))
     (text : (at : Place) (bytes : List ℕ) → Q (TextSyntax at bytes)) (local : (at : Place) (name : List ℕ) → Q (LocalSyntax at name))
     (auth : (at : Place) (x : ExpSyntax) → Q x → Q (UnarySyntax at AuthOperation x)) (unauth : (at : Place) (x : ExpSyntax) → Q x → Q (UnarySyntax at UnauthOperation x))
-    (add : (at : Place) (x y : ExpSyntax) → Q x → Q y → Q (BinarySyntax at AddOperation x y)) where
+    (add : (at : Place) (x y : ExpSyntax) → Q x → Q y → Q (BinarySyntax at (Arith Add) x y)) where
   pub by_form : (x : ExpSyntax) → HasForms fragment x → Q x
   by_form (UnitSyntax at) h = unit at
   by_form (BoolSyntax at b) h = bool at b
@@ -29,17 +31,14 @@ module _ (Q : ExpSyntax → Type 0) (unit : (at : Place) → Q (UnitSyntax at)) 
   by_form (UnarySyntax at SndOperation x) h = lacks h.0
   by_form (UnarySyntax at LenOperation x) h = lacks h.0
   by_form (UnarySyntax at NotOperation x) h = lacks h.0
-  by_form (BinarySyntax at AddOperation x y) h = add at x y (by_form x h.1) (by_form y h.2)
-  by_form (BinarySyntax at SubOperation x y) h = lacks h.0
-  by_form (BinarySyntax at MulOperation x y) h = lacks h.0
-  by_form (BinarySyntax at DivOperation x y) h = lacks h.0
-  by_form (BinarySyntax at RemOperation x y) h = lacks h.0
-  by_form (BinarySyntax at EqOperation x y) h = lacks h.0
-  by_form (BinarySyntax at LtOperation x y) h = lacks h.0
-  by_form (BinarySyntax at LeOperation x y) h = lacks h.0
-  by_form (BinarySyntax at TeqOperation x y) h = lacks h.0
-  by_form (BinarySyntax at TltOperation x y) h = lacks h.0
-  by_form (BinarySyntax at CatOperation x y) h = lacks h.0
+  by_form (BinarySyntax at (Arith Add) x y) h = add at x y (by_form x h.1) (by_form y h.2)
+  by_form (BinarySyntax at (Arith Sub) x y) h = lacks h.0
+  by_form (BinarySyntax at (Arith Mul) x y) h = lacks h.0
+  by_form (BinarySyntax at (Arith Div) x y) h = lacks h.0
+  by_form (BinarySyntax at (Arith Rem) x y) h = lacks h.0
+  by_form (BinarySyntax at (Compare operation) x y) h = lacks h.0
+  by_form (BinarySyntax at (TextCompare operation) x y) h = lacks h.0
+  by_form (BinarySyntax at Cat x y) h = lacks h.0
   by_form (CallSyntax at name NoExp) h = absurd h
   by_form (CallSyntax at name (AndExp x rest)) h = lacks h.0
   by_form (ConstructorSyntax at name operands) h = lacks h.0

@@ -13,7 +13,7 @@ use Rattle.core_terms.proofs.TypingSound.{same_sound}
 use Rattle.core_terms.proofs.TypingComplete.{same_self}
 use Rattle.auth_syntax.specs.Syntax.{place_of, ParameterSyntax}
 use Rattle.auth_syntax.specs.Trees as written
-use Rattle.auth_syntax.specs.declared.place.Place.{Place}
+use Rattle.lexemes.specs.declared.place.Place.{Place}
 use Rattle.auth_syntax.specs.declared.tree.Parameter.{Parameter}
 use Rattle.auth_syntax.specs.declared.tree.Function.{Function as FunctionTree}
 use Rattle.auth_syntax.specs.declared.tree.Declaration.{Declaration}

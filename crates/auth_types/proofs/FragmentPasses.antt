@@ -1,6 +1,8 @@
 -- The passes on a tree, one after another.
 use Rattle.std.proofs.Common.{◌≡◌, ℕ, Vec, Bool, true, false, List, [], ◌∷◌, length, map, Some, Result, Err, slice_get, nat_lt, if◌then◌else◌, refl, sym, ap, ◌∙◌, subst}
 use Rattle.std.specs.Global.{Global}
+use Rattle.core_terms.specs.declared.language.term.BinaryOperator.TheVariants.{Arith}
+use Rattle.core_terms.specs.declared.language.term.Arith.TheVariants.{Add}
 use Rattle.core_terms.specs.Types.{Ty}
 use Rattle.core_terms.specs.Terms as tree
 use Rattle.core_terms.specs.Typing.{is_shaped, is_typed}
@@ -11,10 +13,10 @@ use Rattle.core_terms.specs.declared.types.TyId.{TyId}
 use Rattle.core_terms.specs.declared.types.TyForm.{TyForm}
 use Rattle.core_terms.specs.declared.program.Program.{Program}
 use Rattle.core_terms.specs.declared.term.Function.{Function}
-use Rattle.auth_syntax.specs.Syntax.{TypeSyntax, UnitTypeSyntax, BoolTypeSyntax, IntTypeSyntax, TextTypeSyntax, NamedTypeSyntax, AuthTypeSyntax, PairTypeSyntax, ParameterSyntax, ExpSyntax, AuthOperation, UnauthOperation, AddOperation, place_of}
+use Rattle.auth_syntax.specs.Syntax.{TypeSyntax, UnitTypeSyntax, BoolTypeSyntax, IntTypeSyntax, TextTypeSyntax, NamedTypeSyntax, AuthTypeSyntax, PairTypeSyntax, ParameterSyntax, ExpSyntax, AuthOperation, UnauthOperation, place_of}
 use Rattle.auth_syntax.specs.Syntax as syntax
 use Rattle.auth_syntax.specs.Trees as written
-use Rattle.auth_syntax.specs.declared.place.Place.{Place}
+use Rattle.lexemes.specs.declared.place.Place.{Place}
 use Rattle.auth_syntax.specs.declared.tree.Declaration.{Declaration}
 use Rattle.auth_syntax.specs.declared.tree.Declaration.TheVariants.{«Type» as TypeVariant, State, Function as FunctionVariant}
 use Rattle.auth_syntax.specs.Grammar.{AreDeclarations, AreParameters, HasForms, HasTypeForms, nesting_limit}
@@ -87,8 +89,8 @@ module _ (scope : Scope) (locals : List LocalName) where
   same_expression : (x : ExpSyntax) → HasForms fragment x → IsSame x
   same_expression = by_form IsSame (λ at. refl) (λ at b. refl) (λ at z. refl) (λ at bytes. refl) (λ at name. refl)
       (λ at x h. ap (unary AuthOperation (place_of x)) h) (λ at x h. ap (unary UnauthOperation (place_of x)) h)
-      (λ at x y h k. ap (λ found. binary AddOperation (place_of x) found (place_of y) (elaborated scope locals y)) h
-      ∙ ap (λ found. binary AddOperation (place_of x) (elaborated fragment_scope locals x) (place_of y) found) k)
+      (λ at x y h k. ap (λ found. binary (Arith Add) (place_of x) found (place_of y) (elaborated scope locals y)) h
+      ∙ ap (λ found. binary (Arith Add) (place_of x) (elaborated fragment_scope locals x) (place_of y) found) k)
 
 same_functions : (scope : Scope) (ds : List Declaration) → Known ds → checked_functions [] scope (functions_written ds) ≡ found_in ds
 same_functions scope [] known = refl

@@ -1,6 +1,7 @@
 -- What passes the third and the fourth pass is well-typed, and its roles have their shapes.
 use Rattle.std.proofs.Common.{◌≡◌, ℕ, suc, ◌+◌, ◌<◌, Bool, true, false, not, ◌&&◌, List, [], ◌∷◌, length, map, Option, Some, None, slice_get, slice_index_or, bytes_eq, if◌then◌else◌, refl, sym, ap, ◌∙◌, subst, arith}
 use Rattle.std.proofs.lemmas.Option.{slice_get-get_or}
+use Rattle.core_terms.specs.declared.language.term.BinaryOperator.TheVariants.{Arith}
 use Rattle.core_terms.specs.Types.{Ty, UnitTy, BoolTy, IntTy, TextTy, PairTy, NamedTy, AuthTy}
 use Rattle.core_terms.specs.Terms.{Expression, UnitE, BoolE, IntE, TextE, LocalE, AuthE, UnauthE, ArithE}
 use Rattle.core_terms.specs.declared.language.term.Arith.TheVariants.{Add}
@@ -10,9 +11,9 @@ use Rattle.core_terms.specs.Roles.{has_auth}
 use Rattle.core_terms.specs.ProgramTrees.{program_format}
 use Rattle.core_terms.proofs.TypingSound.{same_sound}
 use Rattle.core_terms.proofs.TypingComplete.{same_self}
-use Rattle.auth_syntax.specs.Syntax.{ExpSyntax, UnarySyntax, BinarySyntax, AuthOperation, UnauthOperation, AddOperation, ParameterSyntax, KindSyntax, InnerSyntax, InitSyntax, QuerySyntax, UpdateSyntax, FunctionSyntax, place_of, place_of_type}
+use Rattle.auth_syntax.specs.Syntax.{ExpSyntax, UnarySyntax, BinarySyntax, AuthOperation, UnauthOperation, ParameterSyntax, KindSyntax, InnerSyntax, InitSyntax, QuerySyntax, UpdateSyntax, FunctionSyntax, place_of, place_of_type}
 use Rattle.auth_syntax.specs.Trees as written
-use Rattle.auth_syntax.specs.declared.place.Place.{Place}
+use Rattle.lexemes.specs.declared.place.Place.{Place}
 use Rattle.auth_syntax.specs.declared.tree.Parameter.{Parameter}
 use Rattle.auth_syntax.specs.declared.tree.Function.{Function as FunctionTree}
 use Rattle.auth_syntax.specs.declared.tree.Declaration.{Declaration}
@@ -110,7 +111,7 @@ module _ (P : tree.Program) (ps : List Parameter) where
       let inner = then_sound (elaborated fragment_scope (locals_of ps) x) (λ e. opened (place_of x) e.expression e.of_type) e is in
       opened_fits (place_of x) inner.0.expression inner.0.of_type e (typed literals inner.0 inner.1) inner.2
 
-  add_typed : (at : Place) (x y : ExpSyntax) → AreTyped x → AreTyped y → AreTyped (BinarySyntax at AddOperation x y)
+  add_typed : (at : Place) (x y : ExpSyntax) → AreTyped x → AreTyped y → AreTyped (BinarySyntax at (Arith Add) x y)
   add_typed at x y typed typed' literals e is =
       let second : Expression → Checking Typed = λ a. then_checked (wanted (place_of y) IntTy (elaborated fragment_scope (locals_of ps) y)) (λ b. body.typed (ArithE Add a b) IntTy) in
       let one = then_sound (wanted (place_of x) IntTy (elaborated fragment_scope (locals_of ps) x)) second e is in

@@ -9,7 +9,7 @@ use Rattle.core_terms.specs.declared.language.term.Term.{Term}
 use Rattle.core_terms.specs.declared.language.term.Function.{Function}
 use Rattle.auth_syntax.specs.Syntax.{ExpSyntax, FunctionSyntax, ParameterSyntax, place_of}
 use Rattle.auth_syntax.specs.Trees as written
-use Rattle.auth_syntax.specs.declared.place.Place.{Place}
+use Rattle.lexemes.specs.declared.place.Place.{Place}
 use Rattle.auth_syntax.specs.declared.tree.Parameter.{Parameter}
 use Rattle.auth_types.specs.Checking.{Checking, Sound, FaultAt, then_checked}
 use Rattle.auth_types.specs.Bodies.{Local, Scope, Signature, checked_function, checked_functions, elaborated, parameter_locals, wanted}

@@ -7,7 +7,7 @@ use Rattle.core_terms.specs.declared.language.term.Term.{Term}
 use Rattle.core_terms.specs.TypeTables.{type_at}
 use Rattle.core_terms.specs.declared.term.LocalId.{LocalId}
 use Rattle.core_terms.specs.declared.language.term.Term as term
-use Rattle.auth_syntax.specs.declared.place.Place.{Place}
+use Rattle.lexemes.specs.declared.place.Place.{Place}
 use Rattle.auth_syntax.specs.Syntax.{LocalSyntax}
 use Rattle.auth_types.specs.Checking.{Checking, Sound, FaultAt}
 use Rattle.auth_types.specs.Bodies.{Local, Typed, last_named, local_at, typed}

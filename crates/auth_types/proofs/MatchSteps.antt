@@ -9,7 +9,7 @@ use Rattle.core_terms.specs.declared.language.types.NamedId.{NamedId}
 use Rattle.core_terms.specs.declared.language.term.Term.{Term}
 use Rattle.core_terms.specs.declared.language.term.Term as term
 use Rattle.auth_syntax.specs.Syntax.{ArmsSyntax, ExpSyntax, MatchSyntax, place_of}
-use Rattle.auth_syntax.specs.declared.place.Place.{Place}
+use Rattle.lexemes.specs.declared.place.Place.{Place}
 use Rattle.auth_types.specs.Checking.{Checking, then_checked}
 use Rattle.auth_types.specs.Bodies.{Local, Scope, Typed, TypedArms, arm_names, elaborated, elaborated_arms, matched, typed}
 use Rattle.auth_types.specs.Elaborators.{Matches, ShowsTerm, arms_of, boxed_of, typed_of}

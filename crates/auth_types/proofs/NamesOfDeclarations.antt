@@ -2,7 +2,7 @@
 use Rattle.std.proofs.Common.{◌≡◌, ℕ, ◌+◌, not, List, [], ◌∷◌, ◌++◌, map, reverse, nat_lt, sym, ap, ◌∙◌, append_assoc}
 use Rattle.std.proofs.lemmas.List.{append-nil, reverse-append, reverse-reverse}
 use Rattle.auth_syntax.specs.Syntax.{ConstructorDeclaration, DeclarationSyntax, FunctionDeclaration, FunctionSyntax, NameSyntax, StateDeclaration, TypeDeclaration, TypeSyntax}
-use Rattle.auth_syntax.specs.declared.place.Place.{Place}
+use Rattle.lexemes.specs.declared.place.Place.{Place}
 use Rattle.auth_types.specs.Checking.{Sound, is_among}
 use Rattle.auth_types.specs.CheckedPrograms.{constructors_in}
 use Rattle.auth_types.specs.Declarations.{Declared, checked_constructors, checked_declaration, checked_declarations, checked_fields, checked_parameters, most_constructors, most_functions, most_types, nothing_declared}

@@ -8,7 +8,7 @@ use Rattle.core_terms.specs.declared.language.term.Constructor.{Constructor}
 use Rattle.core_terms.specs.declared.language.term.NamedType.{NamedType}
 use Rattle.auth_syntax.specs.Syntax.{ConstructorDeclaration, DeclarationSyntax, FunctionDeclaration, FunctionSyntax, StateDeclaration, TypeDeclaration}
 use Rattle.auth_syntax.specs.Trees.{constructor_of, constructors_of, declaration_of, function_of, name_of}
-use Rattle.auth_syntax.specs.declared.place.Place.{Place}
+use Rattle.lexemes.specs.declared.place.Place.{Place}
 use Rattle.auth_syntax.specs.declared.tree.ConstructorDeclaration.{ConstructorDeclaration as ConstructorTree}
 use Rattle.auth_syntax.specs.declared.tree.Declaration.{Declaration}
 use Rattle.auth_syntax.specs.declared.tree.Declaration.TheVariants.{«Type» as TypeVariant, State, Function as FunctionVariant}

@@ -4,6 +4,7 @@ use borrow.Author.Tests.{ltb-true}
 use Rattle.std.specs.declared.alloc.Global.{Global}
 use Rattle.std.specs.declared.boxed.Box.{Box}
 use Rattle.std.proofs.lemmas.Option.{get_or_from_slice_get}
+use Rattle.core_terms.specs.declared.language.term.BinaryOperator.{BinaryOperator}
 use Rattle.core_terms.specs.Types.{Ty, UnitTy, BoolTy, IntTy, TextTy, PairTy, AuthTy}
 use Rattle.core_terms.specs.Terms.{Expression, LenE, NotE}
 use Rattle.core_terms.specs.Typing.{same_type}
@@ -17,8 +18,8 @@ use Rattle.core_terms.specs.declared.language.term.Term.{Term}
 use Rattle.core_terms.specs.declared.language.term.Term as term
 use Rattle.core_terms.proofs.TypingSound.{same_sound}
 use Rattle.core_terms.proofs.TypingComplete.{same_self}
-use Rattle.auth_syntax.specs.Syntax.{FstOperation, SndOperation, AuthOperation, UnauthOperation, LenOperation, NotOperation, BinaryOperation}
-use Rattle.auth_syntax.specs.declared.place.Place.{Place}
+use Rattle.auth_syntax.specs.Syntax.{FstOperation, SndOperation, AuthOperation, UnauthOperation, LenOperation, NotOperation}
+use Rattle.lexemes.specs.declared.place.Place.{Place}
 use Rattle.auth_types.specs.Checking.{Checking, Sound, FaultAt, unless_fault, then_checked}
 use Rattle.auth_types.specs.Bodies.{Typed, binary_expression, first_of, opened, pair, result_type, second_of, typed, unary, wanted}
 use Rattle.auth_types.specs.Elaborators.{ShowsTerm, boxed_of, typed_of}
@@ -160,7 +161,7 @@ negated_shows types operand truth at found there shown = λ more.
     ∙ ap (λ part. then_checked part (λ e. typed (NotE e) BoolTy)) (shown more) ∙ cc
 
 -- an operation on two terms
-pub combined_shows : (operation : BinaryOperation) (old new : List Ty) (first second : Box Term Global) (whole : Term) (t : Ty) (x y : Checking Expression) → Grows old new
+pub combined_shows : (operation : BinaryOperator) (old new : List Ty) (first second : Box Term Global) (whole : Term) (t : Ty) (x y : Checking Expression) → Grows old new
     → ((types : List Ty) → expression_of types whole ≡ binary_expression operation (boxed_of types first) (boxed_of types second)) → t ≡ result_type operation
     → Shows old boxed_of x first → Shows old boxed_of y second
     → (more : List Ty) → then_checked x (λ x. then_checked y (λ y. typed (binary_expression operation x y) (result_type operation))) ≡ typed (expression_of (new ++ more) whole) t

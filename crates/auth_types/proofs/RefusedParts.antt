@@ -2,13 +2,14 @@
 use Rattle.std.proofs.Common.{◌≡◌, ℕ, Option, List, Result, Err, refl, sym, ap, ◌∙◌, subst}
 use Rattle.std.specs.declared.alloc.Global.{Global}
 use Rattle.std.specs.declared.boxed.Box.{Box}
+use Rattle.core_terms.specs.declared.language.term.BinaryOperator.{BinaryOperator}
 use Rattle.core_terms.specs.Types.{Ty, BoolTy, PairTy, Table}
 use Rattle.core_terms.specs.Terms.{Expression, Expressions, IfE, LetE, PairE}
 use Rattle.core_terms.specs.TypeTables.{type_at}
 use Rattle.core_terms.specs.declared.program.FunctionId.{FunctionId}
 use Rattle.core_terms.specs.declared.language.term.Term.{Term}
-use Rattle.auth_syntax.specs.Syntax.{BinaryOperation, UnaryOperation, FstOperation, SndOperation, AuthOperation, UnauthOperation, LenOperation, NotOperation, ExpSyntax, ExpsSyntax, IfSyntax, LetSyntax, NameSyntax, place_of}
-use Rattle.auth_syntax.specs.declared.place.Place.{Place}
+use Rattle.auth_syntax.specs.Syntax.{UnaryOperation, FstOperation, SndOperation, AuthOperation, UnauthOperation, LenOperation, NotOperation, ExpSyntax, ExpsSyntax, IfSyntax, LetSyntax, NameSyntax, place_of}
+use Rattle.lexemes.specs.declared.place.Place.{Place}
 use Rattle.auth_types.specs.Checking.{Checking, Sound, FaultAt, then_checked}
 use Rattle.auth_types.specs.Bodies.{Local, Numbered, Scope, Signature, Typed, binary, binary_expression, called, constructed, count_of, elaborated, operand_type, pair, result_type, typed, unary, wanted}
 use Rattle.auth_types.specs.Elaborators.{Calls, Constructs, boxed_of, typed_of}
@@ -29,7 +30,7 @@ pub pair_refused : (before types new : List Ty) (x y : Checking Typed) (value : 
 pair_refused before types new x y value fault r is shown h =
     fault_second before types new typed_of typed_of typed_of x value y (λ x y. typed (PairE x.of_type y.of_type x.expression y.expression) (PairTy x.of_type y.of_type)) fault r is shown h
 
-module _ (operation : BinaryOperation) (new : List Ty) (at place : Place) (u v : Ty) (x x' y y' : Checking Typed) (one : u ≡ operand_type operation) (other : v ≡ operand_type operation) (same : x' ≡ x) (same' : y' ≡ y) where
+module _ (operation : BinaryOperator) (new : List Ty) (at place : Place) (u v : Ty) (x x' y y' : Checking Typed) (one : u ≡ operand_type operation) (other : v ≡ operand_type operation) (same : x' ≡ x) (same' : y' ≡ y) where
   abbrev of_operands : Expression → Expression → Checking Typed
   of_operands a b = typed (binary_expression operation a b) (result_type operation)
 

@@ -14,7 +14,7 @@ use Rattle.core_terms.specs.declared.language.term.Term.{Term}
 use Rattle.auth_syntax.specs.Parsing.{in_a_row as written_row}
 use Rattle.auth_syntax.specs.Syntax.{ExpSyntax, ExpsSyntax, AndExp, ArmsSyntax, AndArmSyntax, place_of}
 use Rattle.auth_syntax.specs.Trees.{ArmSyntax, arms_in_a_row as written_arms}
-use Rattle.auth_syntax.specs.declared.place.Place.{Place}
+use Rattle.lexemes.specs.declared.place.Place.{Place}
 use Rattle.auth_types.specs.Checking.{Checking, Sound, FaultAt, then_checked, unless_fault}
 use Rattle.auth_types.specs.Bodies.{Local, Scope, Typed, TypedArms, bound_names, elaborated, elaborated_arms, elaborated_each, wanted, wanted_arm}
 use Rattle.auth_types.specs.Elaborators.{arms_of, boxed_of, row_of, typed_of, want_of}

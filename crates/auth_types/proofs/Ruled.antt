@@ -2,7 +2,7 @@
 -- and for things in a row.
 use Rattle.std.proofs.Common.{◌≡◌, ℕ, Bool, true, false, List, [], ◌∷◌, ◌++◌, ◌⊎◌, inl, inr, refl, sym, ap, ◌∙◌, subst}
 use Rattle.std.specs.Bool.{Decides}
-use Rattle.auth_syntax.specs.declared.place.Place.{Place}
+use Rattle.lexemes.specs.declared.place.Place.{Place}
 use Rattle.auth_types.specs.Checking.{Checking, Sound, FaultAt, then_checked, unless_fault}
 use Rattle.auth_types.specs.InOrder.{EachMeets, NoMore, AndMore, OneBreaks, ThisBreaks, LaterBreaks}
 use Rattle.auth_types.specs.declared.fault.TypeKind.{TypeKind}

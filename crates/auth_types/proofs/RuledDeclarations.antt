@@ -2,7 +2,7 @@
 use Rattle.std.proofs.Common.{◌≡◌, ℕ, suc, ◌+◌, Bool, true, false, not, List, [], ◌∷◌, ◌++◌, ◌⊎◌, inl, inr, length, map, reverse, refl, sym, ap, ◌∙◌, subst, append_assoc, arith}
 use Rattle.std.specs.Bool.{Decides}
 use Rattle.std.proofs.lemmas.List.{reverse-append, map-append, append-nil}
-use Rattle.auth_syntax.specs.declared.place.Place.{Place}
+use Rattle.lexemes.specs.declared.place.Place.{Place}
 use Rattle.auth_syntax.specs.Syntax.{NameSyntax, TypeSyntax, ConstructorDeclaration, DeclarationSyntax, TypeDeclaration, StateDeclaration, FunctionDeclaration, FunctionSyntax, Program}
 use Rattle.auth_types.specs.Checking.{Checking, Sound, FaultAt, new_name, then_checked, unless_fault}
 use Rattle.auth_types.specs.CheckedPrograms.{constructors_in}

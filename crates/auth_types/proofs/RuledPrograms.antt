@@ -6,7 +6,7 @@ use Rattle.core_terms.specs.Types.{Ty}
 use Rattle.core_terms.specs.Terms.{Expression, Function}
 use Rattle.core_terms.specs.Terms as tree
 use Rattle.core_terms.specs.ProgramTrees.{program_format}
-use Rattle.auth_syntax.specs.declared.place.Place.{Place}
+use Rattle.lexemes.specs.declared.place.Place.{Place}
 use Rattle.auth_syntax.specs.Syntax.{ExpSyntax, ConstructorDeclaration, DeclarationSyntax, TypeDeclaration, StateDeclaration, FunctionDeclaration, FunctionSyntax, ParameterSyntax, Program, place_of}
 use Rattle.auth_types.specs.Checking.{Checking, Sound, FaultAt, then_checked}
 use Rattle.auth_types.specs.Declarations.{first_pass}

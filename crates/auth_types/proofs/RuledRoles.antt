@@ -9,7 +9,7 @@ use Rattle.core_terms.specs.Roles.{some_passes, has_auth, has_auth_within}
 use Rattle.core_terms.proofs.Reach.{plain_by_test}
 use Rattle.core_terms.proofs.TypingSound.{same_sound}
 use Rattle.core_terms.proofs.TypingComplete.{same_complete}
-use Rattle.auth_syntax.specs.declared.place.Place.{Place}
+use Rattle.lexemes.specs.declared.place.Place.{Place}
 use Rattle.auth_syntax.specs.Syntax.{TypeSyntax, ParameterSyntax, KindSyntax, InnerSyntax, InitSyntax, QuerySyntax, UpdateSyntax, FunctionSyntax, place_of_type}
 use Rattle.auth_types.specs.Checking.{Checking, Sound, FaultAt, then_checked, unless_fault}
 use Rattle.auth_types.specs.RoleRules.{checked_role, checked_roles, is_new_state, plain_argument}

@@ -4,7 +4,7 @@ use Rattle.std.specs.Bool.{Decides}
 use Rattle.std.specs.List.{Contains}
 use Rattle.std.proofs.lemmas.Bool.Decides.{Decides-not}
 use Rattle.std.proofs.lemmas.List.{length-reverse, reverse-append, map-append, append-nil}
-use Rattle.auth_syntax.specs.declared.place.Place.{Place}
+use Rattle.lexemes.specs.declared.place.Place.{Place}
 use Rattle.auth_syntax.specs.Syntax.{NameSyntax, TypeSyntax, ParameterSyntax, ConstructorDeclaration, place_of_type}
 use Rattle.auth_types.specs.Checking.{Checking, Sound, FaultAt, is_among, new_name, then_checked, unless_fault}
 use Rattle.auth_types.specs.Declarations.{checked_constructor, checked_constructors, checked_fields, checked_parameters, most_constructors, most_fields, most_parameters}

@@ -2,7 +2,7 @@
 use Rattle.std.proofs.Common.{◌≡◌, ℕ, Bool, true, false, List, unwrap_or, refl, sym, ap, ap₂, ◌∙◌, subst}
 use Rattle.std.specs.List.{Contains}
 use Rattle.core_terms.specs.Types.{Ty, NamedTy, PairTy, AuthTy}
-use Rattle.auth_syntax.specs.declared.place.Place.{Place}
+use Rattle.lexemes.specs.declared.place.Place.{Place}
 use Rattle.auth_syntax.specs.Syntax.{TypeSyntax, UnitTypeSyntax, BoolTypeSyntax, IntTypeSyntax, TextTypeSyntax, NamedTypeSyntax, AuthTypeSyntax, PairTypeSyntax}
 use Rattle.auth_types.specs.Checking.{Checking, Sound, FaultAt, is_among, then_checked, unless_fault}
 use Rattle.auth_types.specs.WrittenTypes.{known_type, number_of, type_meant}

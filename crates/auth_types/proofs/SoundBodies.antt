@@ -2,13 +2,15 @@
 use Rattle.std.proofs.Common.{◌≡◌, ℕ, suc, Bool, true, false, List, [], ◌∷◌, ◌++◌, length, map, Option, Some, None, option_map, slice_get, unwrap_or, bytes_eq, if◌then◌else◌, nat_eq, nat_lt, eqb-true, refl, sym, ap, ◌∙◌, subst, append_assoc, arith}
 use Rattle.std.proofs.lemmas.Option.{slice_get-get_or, slice_get-map}
 use Rattle.std.proofs.lemmas.List.{append-nil, length-map, map-append}
+use Rattle.core_terms.specs.declared.language.term.BinaryOperator.TheVariants.{Arith, Compare, TextCompare, Cat}
+use Rattle.core_terms.specs.declared.language.term.BinaryOperator.{BinaryOperator}
 use Rattle.core_terms.specs.Types.{Ty, UnitTy, BoolTy, TextTy, PairTy, NamedTy, AuthTy, Table, OnFields, fields_at}
 use Rattle.core_terms.specs.Terms.{Expression, AuthE, CallE, ConE, Expressions, Function, HasType, HaveArms, HaveTypes, OnFunction}
 use Rattle.core_terms.specs.Terms as tree
 use Rattle.core_terms.specs.Typing.{same_type}
 use Rattle.core_terms.proofs.TypingSound.{same_sound}
-use Rattle.auth_syntax.specs.Syntax.{NameSyntax, ExpSyntax, UnitSyntax, BoolSyntax, IntSyntax, TextSyntax, LocalSyntax, PairSyntax, UnarySyntax, BinarySyntax, CallSyntax, ConstructorSyntax, LetSyntax, IfSyntax, MatchSyntax, ExpsSyntax, NoExp, AndExp, ArmsSyntax, NoArmSyntax, AndArmSyntax, UnaryOperation, FstOperation, SndOperation, AuthOperation, UnauthOperation, LenOperation, NotOperation, BinaryOperation, AddOperation, SubOperation, MulOperation, DivOperation, RemOperation, EqOperation, LtOperation, LeOperation, TeqOperation, TltOperation, CatOperation, place_of}
-use Rattle.auth_syntax.specs.declared.place.Place.{Place}
+use Rattle.auth_syntax.specs.Syntax.{NameSyntax, ExpSyntax, UnitSyntax, BoolSyntax, IntSyntax, TextSyntax, LocalSyntax, PairSyntax, UnarySyntax, BinarySyntax, CallSyntax, ConstructorSyntax, LetSyntax, IfSyntax, MatchSyntax, ExpsSyntax, NoExp, AndExp, ArmsSyntax, NoArmSyntax, AndArmSyntax, UnaryOperation, FstOperation, SndOperation, AuthOperation, UnauthOperation, LenOperation, NotOperation, place_of}
+use Rattle.lexemes.specs.declared.place.Place.{Place}
 use Rattle.auth_types.specs.Checking.{Checking, Sound, FaultAt, is_among, unless_fault}
 use Rattle.auth_types.specs.Bodies.{Local, Numbered, Scope, Signature, Typed, TypedArms, arm_names, binary, binary_expression, bound_names, called, constructed, constructor_named, count_of, elaborated, elaborated_arms, elaborated_each, first_of, function_named, last_named, local_at, matched, most_locals, opened, operand_type, pair, result_type, same_names, second_of, typed, unary, wanted, wanted_arm}
 use Rattle.auth_types.specs.CheckedLaws.{ArmsHaveGoodLiterals, ElaboratedHasType, HasGoodLiterals, HaveGoodLiterals, IsScopeOf, signature, types_of_locals}
@@ -95,21 +97,14 @@ module _ (P : tree.Program) where
   unary_fits locals NotOperation at operand h = gives_then (λ x. HasType P (types_of_locals locals) x BoolTy) (Fits locals) (wanted at BoolTy operand) _ (wanted_fits locals at BoolTy operand h) (λ e h. (refl, h))
 
   -- an operation on two operands
-  operated : (env : List Ty) (operation : BinaryOperation) (x y : Expression) → HasType P env x (operand_type operation) → HasType P env y (operand_type operation)
+  operated : (env : List Ty) (operation : BinaryOperator) (x y : Expression) → HasType P env x (operand_type operation) → HasType P env y (operand_type operation)
       → HasType P env (binary_expression operation x y) (result_type operation)
-  operated env AddOperation x y h j = (refl, h, j)
-  operated env SubOperation x y h j = (refl, h, j)
-  operated env MulOperation x y h j = (refl, h, j)
-  operated env DivOperation x y h j = (refl, h, j)
-  operated env RemOperation x y h j = (refl, h, j)
-  operated env EqOperation x y h j = (refl, h, j)
-  operated env LtOperation x y h j = (refl, h, j)
-  operated env LeOperation x y h j = (refl, h, j)
-  operated env TeqOperation x y h j = (refl, h, j)
-  operated env TltOperation x y h j = (refl, h, j)
-  operated env CatOperation x y h j = (refl, h, j)
+  operated env (Arith operation) x y h j = (refl, h, j)
+  operated env (Compare operation) x y h j = (refl, h, j)
+  operated env (TextCompare operation) x y h j = (refl, h, j)
+  operated env Cat x y h j = (refl, h, j)
 
-  binary_fits : (locals : List Local) (operation : BinaryOperation) (at : Place) (first : Checking Typed) (place : Place) (second : Checking Typed)
+  binary_fits : (locals : List Local) (operation : BinaryOperator) (at : Place) (first : Checking Typed) (place : Place) (second : Checking Typed)
       → Gives (Fits locals) first → Gives (Fits locals) second → Gives (Fits locals) (binary operation at first place second)
   binary_fits locals operation at first place second h j =
       gives_then (λ x. HasType P (types_of_locals locals) x (operand_type operation)) (Fits locals) (wanted at (operand_type operation) first) _ (wanted_fits locals at (operand_type operation) first h)

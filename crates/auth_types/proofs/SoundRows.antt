@@ -18,7 +18,7 @@ gives_program (CheckFault kind line column) = false
 
 abbrev passes : Parsed → Bool
 passes (Tree program) = gives_program (checked program)
-passes (FirstFault kind line column) = false
+passes (FirstFault kind at) = false
 
 -- the program of a text, which is well-typed
 record HasTypedProgram (text : List ℕ) : Type 0 where
@@ -40,7 +40,7 @@ by_law text passed = of_tree (parsed whole_language text) refl passed
 
     of_tree : (found : Parsed) → parsed whole_language text ≡ found → passes found ≡ true → HasTypedProgram text
     of_tree (Tree program) tree is = of_program program (checked program) tree refl is
-    of_tree (FirstFault kind line column) tree is = absurd (cc)
+    of_tree (FirstFault kind at) tree is = absurd (cc)
 
 -- a list of named ints, newest first
 abbrev ledger : List ℕ

@@ -7,11 +7,11 @@ use Rattle.core_terms.specs.declared.term.Name.{Name}
 use Rattle.core_terms.specs.declared.term.Text.{Text}
 use Rattle.auth_syntax.specs.Parsing.{in_a_row}
 use Rattle.auth_syntax.specs.Syntax.{UnitSyntax, BoolSyntax, IntSyntax, TextSyntax, LocalSyntax, PairSyntax, UnarySyntax, BinarySyntax, CallSyntax, ConstructorSyntax, LetSyntax, IfSyntax, MatchSyntax}
-use Rattle.auth_syntax.specs.Trees.{ArmSyntax, expression_of, arm_of, arm_from_parts, expression_from_parts, arms_in_a_row, name_of, names_of, unary_of, binary_of}
-use Rattle.auth_syntax.specs.declared.place.Place.{Place}
+use Rattle.auth_syntax.specs.Trees.{ArmSyntax, expression_of, arm_of, arm_from_parts, expression_from_parts, arms_in_a_row, name_of, names_of, unary_of}
+use Rattle.lexemes.specs.declared.place.Place.{Place}
 use Rattle.auth_syntax.specs.declared.tree.PlacedName.{PlacedName}
 use Rattle.auth_syntax.specs.declared.tree.UnaryOperator.{UnaryOperator}
-use Rattle.auth_syntax.specs.declared.tree.BinaryOperator.{BinaryOperator}
+use Rattle.core_terms.specs.declared.language.term.BinaryOperator.{BinaryOperator}
 use Rattle.auth_syntax.specs.declared.tree.Arm.{Arm, out-Arm}
 use Rattle.auth_syntax.specs.declared.tree.ExpTree.{ExpTree}
 use Rattle.auth_syntax.specs.declared.tree.ExpTree as tree
@@ -40,7 +40,7 @@ expression-Pair at first second = ap expression_of (sym (rolls-Pair at first sec
 pub expression-Unary : (at : Place) (operation : UnaryOperator) (operand : Box ExpTree Global) → expression_of (tree.Unary at operation operand) ≡ UnarySyntax at (unary_of operation) (expression_of operand.value)
 expression-Unary at operation operand = ap expression_of (sym (rolls-Unary at operation operand)) ∙ fold-roll-ExpTree _ _ _ _ _
 
-pub expression-Binary : (at : Place) (operation : BinaryOperator) (first second : Box ExpTree Global) → expression_of (tree.Binary at operation first second) ≡ BinarySyntax at (binary_of operation) (expression_of first.value) (expression_of second.value)
+pub expression-Binary : (at : Place) (operation : BinaryOperator) (first second : Box ExpTree Global) → expression_of (tree.Binary at operation first second) ≡ BinarySyntax at operation (expression_of first.value) (expression_of second.value)
 expression-Binary at operation first second = ap expression_of (sym (rolls-Binary at operation first second)) ∙ fold-roll-ExpTree _ _ _ _ _
 
 pub expression-Call : (at : Place) (name : Name) (operands : Vec ExpTree Global) → expression_of (tree.Call at name operands) ≡ CallSyntax at name (in_a_row (map expression_of operands.items))

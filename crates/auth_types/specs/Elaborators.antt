@@ -15,7 +15,7 @@ use Rattle.core_terms.specs.declared.language.term.Constructor.{Constructor}
 use Rattle.core_terms.specs.declared.language.term.Function.{Function}
 use Rattle.auth_syntax.specs.Syntax.{ExpSyntax, ExpsSyntax, ArmsSyntax, place_of}
 use Rattle.auth_syntax.specs.Trees as written
-use Rattle.auth_syntax.specs.declared.place.Place.{Place}
+use Rattle.lexemes.specs.declared.place.Place.{Place}
 use Rattle.auth_syntax.specs.declared.tree.ExpTree.{ExpTree}
 use Rattle.auth_types.specs.Checking.{Checking, Sound, FaultAt, then_checked, unless_fault}
 use Rattle.auth_types.specs.Bodies.{Local, Numbered, Scope, Signature, Typed, TypedArms, bound_names, called, constructed, elaborated, elaborated_arms, elaborated_each, matched, typed, wanted_arm}

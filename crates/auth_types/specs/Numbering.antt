@@ -6,7 +6,7 @@ use Rattle.core_terms.specs.declared.language.term.Constructor.{Constructor}
 use Rattle.core_terms.specs.declared.language.term.NamedType.{NamedType}
 use Rattle.auth_syntax.specs.Syntax.{FunctionSyntax, ConstructorDeclaration, DeclarationSyntax, NameSyntax, TypeDeclaration, TypeSyntax}
 use Rattle.auth_syntax.specs.Trees as written
-use Rattle.auth_syntax.specs.declared.place.Place.{Place}
+use Rattle.lexemes.specs.declared.place.Place.{Place}
 use Rattle.auth_types.specs.Checking.{Checking, Sound, FaultAt}
 use Rattle.auth_types.specs.OverTypes.{AreNumbers}
 use Rattle.auth_types.specs.WrittenTypes.{type_meant}

@@ -5,7 +5,7 @@ use Rattle.core_terms.specs.Types.{Ty, Table}
 use Rattle.core_terms.specs.Terms.{Kind, Function}
 use Rattle.core_terms.specs.Terms as tree
 use Rattle.core_terms.specs.ProgramTrees.{program_format}
-use Rattle.auth_syntax.specs.declared.place.Place.{Place}
+use Rattle.lexemes.specs.declared.place.Place.{Place}
 use Rattle.auth_syntax.specs.Syntax.{ParameterSyntax, FunctionSyntax, Program}
 use Rattle.auth_types.specs.Bodies.{Scope, parameter_locals}
 use Rattle.auth_types.specs.CheckedPrograms.{names_of, scope_of, state_of, table_of_program}

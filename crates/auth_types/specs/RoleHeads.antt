@@ -3,7 +3,7 @@ use Rattle.std.specs.Prelude.{◌≡◌, ℕ, Bool, not, List, [], ◌∷◌, Re
 use Rattle.core_terms.specs.Types.{Ty, Table}
 use Rattle.auth_syntax.specs.Syntax.{FunctionSyntax, KindSyntax, ParameterSyntax, place_of_type}
 use Rattle.auth_syntax.specs.Trees as written
-use Rattle.auth_syntax.specs.declared.place.Place.{Place}
+use Rattle.lexemes.specs.declared.place.Place.{Place}
 use Rattle.auth_types.specs.Checking.{Checking, Sound, unless_fault}
 use Rattle.auth_types.specs.CheckedPrograms.{signature_of}
 use Rattle.auth_types.specs.Outcomes.{Finds}

@@ -2,7 +2,7 @@
 use Rattle.std.specs.Prelude.{◌≡◌, ℕ, List, [], ◌∷◌, slice_get, Some}
 use Rattle.std.specs.List.{Contains}
 use Rattle.core_terms.specs.Types.{Ty, PairTy, NamedTy, AuthTy, Table}
-use Rattle.auth_syntax.specs.declared.place.Place.{Place}
+use Rattle.lexemes.specs.declared.place.Place.{Place}
 use Rattle.auth_syntax.specs.Syntax.{TypeSyntax, place_of_type, ParameterSyntax, KindSyntax, InnerSyntax, InitSyntax, QuerySyntax, UpdateSyntax, FunctionSyntax}
 use Rattle.auth_types.specs.WrittenTypes.{type_meant}
 use Rattle.auth_types.specs.declared.fault.TypeKind.{TypeKind}

@@ -4,7 +4,7 @@ use Rattle.core_terms.specs.Types.{Ty}
 use Rattle.core_terms.specs.Terms.{Expression}
 use Rattle.core_terms.specs.Terms as tree
 use Rattle.auth_syntax.specs.Syntax.{ExpSyntax, Program}
-use Rattle.auth_syntax.specs.declared.place.Place.{Place}
+use Rattle.lexemes.specs.declared.place.Place.{Place}
 use Rattle.auth_types.specs.Checking.{Sound, FaultAt}
 use Rattle.auth_types.specs.Bodies.{Local, Scope, elaborated}
 use Rattle.auth_types.specs.TypingRules.{Elaborates}

@@ -12,7 +12,7 @@ ghost use Rattle.std.specs.Prelude.{◌≡◌, ◌<◌, length, map, All, IfOk, 
 ghost use Rattle.core_terms.specs.LanguageTrees.{types_at};
 ghost use Rattle.core_terms.specs.TypeTables.{type_at};
 ghost use Rattle.auth_syntax.specs.Parsing.{in_a_row};
-ghost use Rattle.auth_syntax.specs.Places.{start};
+ghost use Rattle.lexemes.specs.Places.{start};
 ghost use Rattle.auth_syntax.specs.Syntax as syntax;
 ghost use Rattle.auth_syntax.specs.Trees as written;
 ghost use Rattle.auth_types.specs.Bodies as specified;
@@ -23,11 +23,11 @@ ghost use Rattle.auth_types.specs.Scopes.{AreWithin, IsConstructorWithin};
 
 use crate::bodies::elaborator::Elaborator;
 use crate::fault::{Fault, TypeKind};
-use auth_syntax::place::Place;
-use auth_syntax::tree::{Arm, BinaryOperator, ExpTree, PlacedName};
-use core_terms::language::{Constructor, Term, TyForm};
+use auth_syntax::tree::{Arm, ExpTree, PlacedName};
+use core_terms::language::{BinaryOperator, Constructor, Term, TyForm};
 use core_terms::{Name, TyId};
 pub(crate) use functions::{Bodies, fourth_pass};
+use lexemes::place::Place;
 
 /// A term with the number of its type.
 #[derive(Drop)]
@@ -140,7 +140,7 @@ impl<'s, 'a> Elaborator<'s, 'a> {
         second: &'a ExpTree,
     ) -> Result<Typed, Fault>
         ensures keeps { OnOk result (Keeps self.old self.new) }
-        ensures found { FindsOver (types_of self.new) typed_of (specified.binary (written.binary_of operator) (syntax.place_of (written.expression_of first.now)) (found_in self.old first.now) (syntax.place_of (written.expression_of second.now)) (found_in self.old second.now)) result }
+        ensures found { FindsOver (types_of self.new) typed_of (specified.binary operator (syntax.place_of (written.expression_of first.now)) (found_in self.old first.now) (syntax.place_of (written.expression_of second.now)) (found_in self.old second.now)) result }
         ensures inside { IfOk result (λ typed. typed.ty.0 < length (types_of self.new)) }
         ensures literals { OnOk result (HasGoodLiterals (written.expression_of first.now) × HasGoodLiterals (written.expression_of second.now)) }
     {

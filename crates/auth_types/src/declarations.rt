@@ -11,9 +11,9 @@ ghost use Rattle.auth_types.specs.declared.fault.Limited.TheVariants.{Functions,
 
 use crate::fault::{Fault, Limited, TypeKind};
 use crate::written_types::first_token;
-use auth_syntax::place::Place;
 use auth_syntax::tree::{ConstructorDeclaration, Declaration, Parameter, PlacedName, TypeTree};
 use indexmap::IndexSet;
+use lexemes::place::Place;
 use std::alloc::Global;
 
 // How many named types a program has at most.

@@ -1,6 +1,6 @@
 // How a program's tree breaks the rules of the language.
 
-use auth_syntax::place::Place;
+use lexemes::place::Place;
 use std::alloc::{AllocError, AllocFailed};
 
 /// What a program may have only so many of.

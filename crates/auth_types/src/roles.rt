@@ -15,10 +15,10 @@ ghost use Rattle.auth_types.specs.Scopes.{AreHeadsOf, IsHeadWithin, IsWithin, fu
 use crate::fault::{Fault, TypeKind};
 use crate::scope::{Head, Scope};
 use crate::written_types::first_token;
-use auth_syntax::place::Place;
 use auth_syntax::tree::{Function, FunctionKind};
 use core_terms::TyId;
 use core_terms::language::{TyForm, TyTable, auth_marks};
+use lexemes::place::Place;
 use std::alloc::Global;
 
 /// The third pass over the functions of a scope, where the state has this type. Types are compared by number, and whether an `auth`

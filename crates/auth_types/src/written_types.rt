@@ -7,10 +7,10 @@ ghost use Rattle.auth_types.specs.ScopeNames.{names_in};
 ghost use Rattle.auth_types.specs.WrittenTypes as spec;
 
 use crate::fault::{Fault, TypeKind};
-use auth_syntax::place::Place;
 use auth_syntax::tree::{ConstructorDeclaration, Declaration, Function, Parameter, TypeTree};
 use core_terms::Name;
 use indexmap::IndexSet;
+use lexemes::place::Place;
 
 /// The place of a type.
 pub(crate) fn first_token(tree: &TypeTree) -> Place

@@ -3,7 +3,7 @@ use Rattle.std.specs.Prelude.{◌≡◌, ℕ, zero, suc, List, [], ◌∷◌, �
 use Rattle.std.specs.Str.{is_utf8, chars}
 use lib.Utf8.{encode}
 use Rattle.core_terms.specs.Types.{Ty, UnitTy, BoolTy, IntTy, TextTy, PairTy, NamedTy, AuthTy}
-use Rattle.core_terms.specs.Values.{Value, UnitV, BoolV, IntV, TextV, PairV, ConV, DigestV, NoV, AndV}
+use Rattle.core_terms.specs.Values.{Value, BoolV, IntV, PairV, ConV, DigestV, NoV, AndV}
 use Rattle.core_terms.specs.Reading.{Good, BadAt, Read, read}
 use Rattle.core_terms.specs.ValueRows.{two_types}
 

@@ -2,13 +2,13 @@
 use Rattle.std.specs.Prelude.{◌≡◌, List, [], ◌∷◌, Bool, true, false, pos, negsuc, replicate, refl}
 use Rattle.std.specs.Str.{is_utf8, chars}
 use lib.Utf8.{encode}
-use Rattle.core_terms.specs.Types.{Ty, UnitTy, BoolTy, IntTy, TextTy, PairTy, NamedTy, AuthTy, Table}
+use Rattle.core_terms.specs.Types.{Ty, UnitTy, BoolTy, IntTy, TextTy, PairTy, NamedTy, AuthTy}
 use Rattle.core_terms.specs.Formats.{first_format}
-use Rattle.core_terms.specs.Terms.{Expression, UnitE, BoolE, IntE, TextE, LocalE, PairE, FstE, SndE, NotE, LenE, AuthE, UnauthE, ConE, ArithE, CompareE, TextCompareE, CatE, LetE, IfE, MatchE, CallE, Expressions, NoE, AndE, NoArm, AndArm, Inner, Init, Query, Update, Function, Kind, Program}
+use Rattle.core_terms.specs.Terms.{Expression, UnitE, BoolE, IntE, TextE, LocalE, PairE, FstE, SndE, NotE, LenE, AuthE, UnauthE, ConE, ArithE, CompareE, TextCompareE, CatE, LetE, IfE, MatchE, CallE, NoE, AndE, NoArm, AndArm, Inner, Init, Query, Update, Function, Kind, Program}
 use Rattle.core_terms.specs.declared.language.term.Arith.TheVariants.{Rem}
 use Rattle.core_terms.specs.declared.language.term.Compare.TheVariants.{Lt}
 use Rattle.core_terms.specs.declared.language.term.TextCompare.TheVariants.{Lt as TLt}
-use Rattle.core_terms.specs.Typing.{has_type, is_shaped, is_typed, shape_test}
+use Rattle.core_terms.specs.Typing.{has_type, is_typed, shape_test}
 
 -- a program with one named type of two constructors, of no field, and of an int and a text; and a function from an int and a bool to a text
 abbrev pub small : Program

@@ -1,7 +1,7 @@
 -- Ints, sizes, depths and limits of small values. Each equation holds by computing both sides.
-use Rattle.std.specs.Prelude.{◌≡◌, ℕ, zero, suc, ◌^◌, ◌-◌, List, [], ◌∷◌, length, pos, negsuc, true, false, replicate, refl}
+use Rattle.std.specs.Prelude.{◌≡◌, ℕ, List, [], ◌∷◌, length, pos, negsuc, true, false, replicate, refl}
 use Rattle.core_terms.specs.Types.{Ty, UnitTy, BoolTy, IntTy, TextTy, PairTy, NamedTy, AuthTy, Table, has_numbers, has_tags}
-use Rattle.core_terms.specs.Values.{Value, UnitV, BoolV, IntV, TextV, PairV, ConV, DigestV, Values, NoV, AndV, int_fits, size, depth}
+use Rattle.core_terms.specs.Values.{Value, UnitV, BoolV, IntV, TextV, PairV, ConV, DigestV, NoV, AndV, int_fits, size, depth}
 use Rattle.core_terms.specs.Spelling.{spelling, shallow}
 
 -- from -2^63 to 2^63 - 1

@@ -15,6 +15,7 @@ pub mod ExampleSpellings
 pub mod ExampleRuns
 pub mod ExampleProofs
 pub mod RingRows
+pub mod OperationRows
 pub mod ToldRows
 pub mod Library
 pub mod LibraryRuns

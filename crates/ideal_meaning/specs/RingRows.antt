@@ -1,5 +1,5 @@
 -- The ring of kept pieces, on small proofs. Each equation holds by computing both sides.
-use Rattle.std.specs.Prelude.{◌≡◌, ℕ, List, [], ◌∷◌, ◌++◌, length, replicate, true, false, refl}
+use Rattle.std.specs.Prelude.{◌≡◌, ℕ, List, [], ◌∷◌, ◌++◌, length, replicate, true, refl}
 use Rattle.core_terms.specs.Types.{UnitTy}
 use Rattle.core_terms.specs.Formats.{first_format}
 use Rattle.core_terms.specs.Values.{BoolV, PairV}

@@ -67,6 +67,10 @@ impl Files for HostFiles<'_> {
 
     ghost rest_has_store_faults = { λ old new same. same };
 
+    ghost asked = { λ _. None };
+
+    ghost rest_has_asked = { λ old new same. refl };
+
     fn start(&mut self, name: &str) -> Result<(), Failed> {
         match fs::open(self.rt, name) {
             Ok(file) => {

@@ -55,6 +55,10 @@ impl Files for Endless {
 
     ghost rest_has_store_faults = { λ old new same. same };
 
+    ghost asked = { λ _. None };
+
+    ghost rest_has_asked = { λ old new same. refl };
+
     fn start(&mut self, _name: &str) -> Result<(), Failed> {
         Ok(())
     }

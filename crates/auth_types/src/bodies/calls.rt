@@ -10,10 +10,10 @@ ghost use Rattle.auth_types.specs.Elaborators.{Calls, Constructs, Matches, scope
 use crate::bodies::elaborator::Elaborator;
 use crate::fault::{Fault, TypeKind};
 use crate::scope::ConstructorId;
-use auth_syntax::place::Place;
 use auth_syntax::tree::Arm;
 use core_terms::language::{Constructor, NamedId, TyForm};
 use core_terms::{FunctionId, Name, TyId};
+use lexemes::place::Place;
 
 /// Whether the arms are of these constructors, in order.
 fn are_of(arms: &[Arm], constructors: &[Constructor]) -> bool

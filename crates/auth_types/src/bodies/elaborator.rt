@@ -10,10 +10,10 @@ ghost use Rattle.auth_types.specs.Scopes.{IsWithin};
 use crate::bodies::Typed;
 use crate::fault::{Fault, Limited, TypeKind};
 use crate::scope::Scope;
-use auth_syntax::place::Place;
 use auth_syntax::tree::PlacedName;
 use core_terms::language::{Term, TyForm, TyTable};
 use core_terms::{LocalId, Name, Text, TyId};
+use lexemes::place::Place;
 use std::alloc::{AllocError, Global};
 
 /// How many locals there may be at one place.

@@ -19,11 +19,12 @@ ghost use Rattle.auth_types.specs.RoleRules.{kind_meant};
 ghost use Rattle.auth_types.specs.WrittenTypes.{type_meant};
 
 use crate::fault::{Fault, TypeKind};
-use auth_syntax::place::Place;
 use auth_syntax::tree::{
-    self, BinaryOperator, Declaration, ExpTree, FunctionKind, Parameter, TypeTree, UnaryOperator,
+    self, Declaration, ExpTree, FunctionKind, Parameter, TypeTree, UnaryOperator,
 };
+use core_terms::language::{Arith, BinaryOperator};
 use core_terms::{Function, Kind, LocalId, Name, Term, TyForm, TyId, TyTable};
+use lexemes::place::Place;
 use std::alloc::{AllocError, Global};
 
 /// A term with the number of its type.
@@ -181,12 +182,12 @@ fn operand(
     at: Place,
     operand: Typed,
 ) -> Result<Term, Fault>
-    requires known { fragment (Binary (written.binary_of operator)) ≡ true }
+    requires known { fragment (Binary operator) ≡ true }
     requires inside { operand.ty.0 < length (types_in types.now) }
-    ensures { (found : Checking specified.Typed) → Shows (types_in types.now) typed_of found operand → FindsOver (types_in types.now) expression_of (wanted at (operand_type (written.binary_of operator)) found) result }
+    ensures { (found : Checking specified.Typed) → Shows (types_in types.now) typed_of found operand → FindsOver (types_in types.now) expression_of (wanted at (operand_type operator) found) result }
 {
     match operator {
-        BinaryOperator::Add => int(types, at, operand),
+        BinaryOperator::Arith(Arith::Add) => int(types, at, operand),
         _ => unreachable!(),
     }
 }
@@ -199,13 +200,13 @@ fn combined(
     first: Term,
     second: Term,
 ) -> Result<Typed, AllocError>
-    requires { fragment (Binary (written.binary_of operator)) ≡ true }
+    requires { fragment (Binary operator) ≡ true }
     ensures grows { Grows (types_in types.old) (types_in types.new) }
-    ensures found { IfOk result (λ whole. (x y : Checking Expression) → Shows (types_in types.old) expression_of x first → Shows (types_in types.old) expression_of y second → Shows (types_in types.new) typed_of (then_checked x (λ x. then_checked y (λ y. typed (binary_expression (written.binary_of operator) x y) (result_type (written.binary_of operator))))) whole) }
+    ensures found { IfOk result (λ whole. (x y : Checking Expression) → Shows (types_in types.old) expression_of x first → Shows (types_in types.old) expression_of y second → Shows (types_in types.new) typed_of (then_checked x (λ x. then_checked y (λ y. typed (binary_expression operator x y) (result_type operator)))) whole) }
     ensures inside { IfOk result (λ whole. whole.ty.0 < length (types_in types.new)) }
 {
     match operator {
-        BinaryOperator::Add => {
+        BinaryOperator::Arith(Arith::Add) => {
             let sum = Term::Add(Box::new(alloc, first)?, Box::new(alloc, second)?);
             plain(types, sum, TyForm::IntForm)
         }
@@ -222,10 +223,10 @@ fn binary_term(
     at: Place,
     second: Typed,
 ) -> Result<Typed, Fault>
-    requires known { fragment (Binary (written.binary_of operator)) ≡ true }
+    requires known { fragment (Binary operator) ≡ true }
     requires inside { second.ty.0 < length (types_in types.old) }
     ensures grows { Grows (types_in types.old) (types_in types.new) }
-    ensures found { (x : Checking Expression) (y : Checking specified.Typed) → Shows (types_in types.old) expression_of x first → Shows (types_in types.old) typed_of y second → FindsOver (types_in types.new) typed_of (then_checked x (λ x. then_checked (wanted at (operand_type (written.binary_of operator)) y) (λ y. typed (binary_expression (written.binary_of operator) x y) (result_type (written.binary_of operator))))) result }
+    ensures found { (x : Checking Expression) (y : Checking specified.Typed) → Shows (types_in types.old) expression_of x first → Shows (types_in types.old) typed_of y second → FindsOver (types_in types.new) typed_of (then_checked x (λ x. then_checked (wanted at (operand_type operator) y) (λ y. typed (binary_expression operator x y) (result_type operator)))) result }
     ensures inside { IfOk result (λ whole. whole.ty.0 < length (types_in types.new)) }
 {
     let second = operand(types, operator, at, second)?;

@@ -20,9 +20,9 @@ use crate::fault::{Fault, TypeFault, TypeKind};
 use crate::fragment::bodies::{fourth_pass, number};
 use crate::fragment::roles::third_pass;
 use crate::written_types::second_pass;
-use auth_syntax::place::Place;
 use auth_syntax::tree::{Ast, Declaration, TypeTree};
 use core_terms::{Digest, Program, TyTable};
+use lexemes::place::Place;
 use std::alloc::Global;
 
 /// The first and the second pass.

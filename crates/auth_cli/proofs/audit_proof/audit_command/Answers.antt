@@ -7,6 +7,9 @@ use Rattle.auth_cli.proofs.AuditedRuns.{audited_ends, told_judged}
 use Rattle.auth_cli.proofs.Ends.{ends_as}
 use Rattle.auth_cli.proofs.Possible.{judged_possible, told_possible}
 use Rattle.auth_cli.proofs.Words.{apart, ends_apart, text_at}
+use Rattle.std.proofs.Common.{refl}
+use Rattle.auth_cli.proofs.Reached.{told_reached}
+use Rattle.auth_cli.proofs.Words.{reached_apart}
 use Rattle.auth_cli.proofs.audit_proof.audit_command.Goals as goal
 
 pub returns-clause-ends : goal.returns-clause-ends
@@ -27,3 +30,10 @@ returns-clause-audited g c = λ told known of_audit.
     let words = c.args.words.now in
     let means = told_judged c.find_audit-found.result c.tell.result _ _ _ _ c.tell.ensures (c.find_audit-found.ensures.means told known) of_audit in
     audited_ends _ told _ _ c.tell.result of_audit (returns-clause-ends g c) known (subst (λ ts. MeansAudit (calls Audit ts) told) (sym (apart words 6 c.requires)) means)
+
+pub returns-clause-reached : goal.returns-clause-reached
+returns-clause-reached g c = λ is.
+    let text = text_at c.args.words.now in
+    let found = c.find_audit-found in
+    reached_apart Audit c.args.words.now 6 _ _ _ c.requires refl
+    (told_reached (audited_answer (text 0) (text 1) (text 2) (text 3) (text 4) (text 5)) _ _ found.result c.tell.result _ _ _ _ c.tell.ensures found.ensures.reached is)

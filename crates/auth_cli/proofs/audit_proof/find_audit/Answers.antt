@@ -15,6 +15,10 @@ use Rattle.auth_cli.specs.NamedCalls.{NamesQuery}
 use Rattle.auth_cli.proofs.AuditedRuns.{if_judged, unjudged}
 use Rattle.auth_cli.proofs.Steps.{finds_halt, halts_behind, report_found}
 use Rattle.auth_cli.proofs.TrueAudits.{true_audit}
+use Rattle.std.proofs.Common.{ap}
+use Rattle.auth_cli.specs.Answer.{audited_answer}
+use Rattle.auth_cli.specs.Reaching.{without}
+use Rattle.auth_cli.proofs.Reached.{behind, faults_reached, found_reached, inputs_step, is_missing, query_step}
 use Rattle.auth_cli.proofs.audit_proof.find_audit.Goals as goal
 
 -- what stands behind the proof, the inputs and the query
@@ -106,3 +110,46 @@ returns-clause-means g c = λ told known.
           ∙ c.in_ok-proof.ensures.goes told (c.in_ok-call.ensures.contents ∙ behind) (behind_proof (ideal_call_of call)));
       is_so = true_audit call proof c.in_ok-call.ensures.valid;
     })
+
+-- ---- read faults
+
+pub returns-in_err-query-clause-reached : goal.returns-in_err-query-clause-reached
+returns-in_err-query-clause-reached g c =
+    let words = c.args.words.now in
+    let program = words.program.now in
+    let err = err_from_is_err_and c.from_residual.result c.from_residual.ensures.1 in
+    faults_reached (audited_answer program words.role.now c.args.image.now words.argument.now words.fuel.now c.args.proof.now) program _ _ _ c.from_residual.result (cc)
+    (λ files known. ap (λ file. query_step words.role.now words.fuel.now file (behind_query c.args.image.now words.argument.now c.args.proof.now (without program files))) (is_missing program files))
+    c.in_err-query.ensures.asked
+
+pub returns-in_err-call-clause-reached : goal.returns-in_err-call-clause-reached
+returns-in_err-call-clause-reached g c =
+    let words = c.args.words.now in
+    let program = words.program.now in
+    let image = c.args.image.now in
+    let q = query_of c.in_ok-query.query in
+    let err = err_from_is_err_and c.from_residual-in_err-call.result c.from_residual-in_err-call.ensures.1 in
+    faults_reached (audited_answer program words.role.now image words.argument.now words.fuel.now c.args.proof.now) image _ _ _ c.from_residual-in_err-call.result (cc)
+    (λ files known. behind (query_step words.role.now words.fuel.now) program image files q (behind_query image words.argument.now c.args.proof.now (without image files)) refl
+    (c.in_ok-query.ensures.goes files known) (ap (λ file. inputs_step q words.argument.now file (behind_inputs c.args.proof.now (without image files))) (is_missing image files)))
+    c.in_err-call.ensures.asked
+
+pub returns-in_err-proof-clause-reached : goal.returns-in_err-proof-clause-reached
+returns-in_err-proof-clause-reached g c =
+    let words = c.args.words.now in
+    let program = words.program.now in
+    let image = c.args.image.now in
+    let proof = c.args.proof.now in
+    let q = query_of c.in_ok-query.query in
+    let call = ideal_call_of c.in_ok-call.call in
+    let err = err_from_is_err_and c.from_residual-in_err-proof.result c.from_residual-in_err-proof.ensures.1 in
+    faults_reached (audited_answer program words.role.now image words.argument.now words.fuel.now proof) proof _ _ _ c.from_residual-in_err-proof.result (cc)
+    (λ files known. behind (query_step words.role.now words.fuel.now) program proof files q (behind_query image words.argument.now proof (without proof files)) refl (c.in_ok-query.ensures.goes files known)
+    (behind (inputs_step q words.argument.now) image proof files call (behind_inputs proof (without proof files)) refl (c.in_ok-call.ensures.goes files (c.in_ok-query.ensures.contents ∙ known))
+    (ap (λ file. with_file max_file Proof file (behind_proof call)) (is_missing proof files))))
+    c.in_err-proof.ensures.asked
+
+pub returns-clause-reached : goal.returns-clause-reached
+returns-clause-reached g c =
+    let words = c.args.words.now in
+    found_reached _ (audited_answer words.program.now words.role.now c.args.image.now words.argument.now words.fuel.now c.args.proof.now) _ _ c.judge.result c.judge.ensures.finds

@@ -3,6 +3,9 @@ use Rattle.auth_cli.specs.Answer.{checked_answer}
 use Rattle.auth_cli.proofs.Ends.{ends_as, judging}
 use Rattle.auth_cli.proofs.Possible.{found_possible, told_possible}
 use Rattle.auth_cli.proofs.Words.{ends_apart, text_at}
+use Rattle.std.proofs.Common.{refl}
+use Rattle.auth_cli.proofs.Reached.{told_reached}
+use Rattle.auth_cli.proofs.Words.{reached_apart}
 use Rattle.auth_cli.proofs.check_program.check_command.Goals as goal
 
 pub returns-clause-ends : goal.returns-clause-ends
@@ -15,3 +18,10 @@ pub returns-clause-possible : goal.returns-clause-possible
 returns-clause-possible g c =
     let found = c.find_digest-found in
     told_possible Check found.result c.tell.result _ _ _ _ c.tell.ensures (found_possible Check _ _ found.result found.ensures.cause found.ensures.ending)
+
+pub returns-clause-reached : goal.returns-clause-reached
+returns-clause-reached g c = λ is.
+    let text = text_at c.args.words.now in
+    let found = c.find_digest-found in
+    reached_apart Check c.args.words.now 1 _ _ _ c.requires refl
+    (told_reached (checked_answer (text 0)) _ _ found.result c.tell.result _ _ _ _ c.tell.ensures found.ensures.reached is)

@@ -4,6 +4,8 @@ use Rattle.auth_cli.specs.Answer.{initial_answer}
 use Rattle.auth_cli.proofs.EndsStored.{ends_stored}
 use Rattle.auth_cli.proofs.Possible.{outcome_possible, output_possible, stored_possible}
 use Rattle.auth_cli.proofs.Words.{ends_apart, text_at}
+use Rattle.auth_cli.proofs.Reached.{stored_reached}
+use Rattle.auth_cli.proofs.Words.{reached_apart}
 use Rattle.auth_cli.proofs.init_state.init_command.Goals as goal
 
 pub returns-clause-ends : goal.returns-clause-ends
@@ -19,3 +21,10 @@ returns-clause-possible g c =
     let found = c.find_initial-found in
     stored_possible Init _ found.result c.store_and_tell.result _ _ _ _ _ _ _ _ c.store_and_tell.ensures.ends
     (output_possible Init _ _ found.result found.ensures.cause (IfOk-weaker found.result _ _ (λ output is. outcome_possible Init tt _ is) found.ensures.ending))
+
+pub returns-clause-reached : goal.returns-clause-reached
+returns-clause-reached g c = λ is.
+    let text = text_at c.args.words.now in
+    let found = c.find_initial-found in
+    reached_apart Init c.args.words.now 5 _ _ _ c.requires c.store_and_tell.ensures.asked
+    (stored_reached (initial_answer (text 0) (text 1) (text 2) (text 3) (text 4)) _ _ _ found.result c.store_and_tell.result _ _ _ _ _ _ _ _ c.store_and_tell.ensures.ends (found.ensures.reached (text 4)) is)

@@ -11,6 +11,10 @@ use Rattle.auth_cli.specs.NamedCalls.{NamesQuery}
 use Rattle.auth_cli.proofs.AcceptedCalls.{accepted_call}
 use Rattle.auth_cli.proofs.Steps.{hand_halts, halts_behind, output_halt}
 use Rattle.auth_cli.proofs.VerifiedCalls.{verified_call}
+use Rattle.std.proofs.Common.{ap}
+use Rattle.auth_cli.specs.Answer.{proved_answer}
+use Rattle.auth_cli.specs.Reaching.{without}
+use Rattle.auth_cli.proofs.Reached.{behind, faults_reached, hand_reached, inputs_step, is_missing, query_step}
 use Rattle.auth_cli.proofs.prove_query.find_proof.Goals as goal
 
 -- what stands behind the inputs, the number of pieces that are kept, and the query
@@ -91,3 +95,34 @@ returns-clause-means g c = λ name told known.
       accepted = accepted;
       verified = verified_call call n words.program.now words.role.now c.args.image.now words.argument.now words.fuel.now told c.in_ok-call.ensures.valid accepted query inputs;
     }
+
+pub returns-in_err-query-clause-reached : goal.returns-in_err-query-clause-reached
+returns-in_err-query-clause-reached g c = λ name.
+    let words = c.args.words.now in
+    let program = words.program.now in
+    let err = err_from_is_err_and c.from_residual.result c.from_residual.ensures.1 in
+    faults_reached (proved_answer program words.role.now c.args.image.now words.argument.now words.fuel.now c.args.kept.now name) program _ _ _ c.from_residual.result (cc)
+    (λ files known. ap (λ file. query_step words.role.now words.fuel.now file (behind_query c.args.image.now words.argument.now c.args.kept.now (without program files) name)) (is_missing program files))
+    c.in_err-query.ensures.asked
+
+pub returns-in_err-kept-clause-reached : goal.returns-in_err-kept-clause-reached
+returns-in_err-kept-clause-reached g c = λ name.
+    let words = c.args.words.now in
+    let q = query_of c.in_ok-query.query in
+    let err = err_from_is_err_and c.from_residual-in_err-kept.result c.from_residual-in_err-kept.ensures.1 in
+    hand_reached (with_kept q.program.program c.args.kept.now) (λ (n : ℕ). n)
+    (proved_answer words.program.now words.role.now c.args.image.now words.argument.now words.fuel.now c.args.kept.now name) _ _ _ c.from_residual-in_err-kept.result (cc) c.in_err-kept.ensures.goes
+
+pub returns-in_err-call-clause-reached : goal.returns-in_err-call-clause-reached
+returns-in_err-call-clause-reached g c = λ name.
+    let words = c.args.words.now in
+    let program = words.program.now in
+    let image = c.args.image.now in
+    let argument = words.argument.now in
+    let q = query_of c.in_ok-query.query in
+    let n = c.in_ok-kept.kept in
+    let err = err_from_is_err_and c.from_residual-in_err-call.result c.from_residual-in_err-call.ensures.1 in
+    faults_reached (proved_answer program words.role.now image argument words.fuel.now c.args.kept.now name) image _ _ _ c.from_residual-in_err-call.result (cc)
+    (λ files known. behind (query_step words.role.now words.fuel.now) program image files q (behind_query image argument c.args.kept.now (without image files) name) refl (c.in_ok-query.ensures.goes files known)
+    (c.in_ok-kept.ensures.goes (behind_kept q image argument (without image files) name) ∙ ap (λ file. inputs_step q argument file (behind_inputs n name)) (is_missing image files)))
+    c.in_err-call.ensures.asked

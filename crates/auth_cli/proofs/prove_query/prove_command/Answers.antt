@@ -9,6 +9,8 @@ use Rattle.auth_cli.proofs.Possible.{outcome_possible, output_possible, stored_p
 use Rattle.auth_cli.proofs.ProvedRuns.{proved_ends}
 use Rattle.auth_cli.proofs.Told.{stored_outcome}
 use Rattle.auth_cli.proofs.Words.{apart, ends_apart, text_at}
+use Rattle.auth_cli.proofs.Reached.{stored_reached}
+use Rattle.auth_cli.proofs.Words.{reached_apart}
 use Rattle.auth_cli.proofs.prove_query.prove_command.Goals as goal
 
 pub returns-clause-ends : goal.returns-clause-ends
@@ -30,3 +32,10 @@ returns-clause-proved g c = λ told known outcome.
     let words = c.args.words.now in
     let means = stored_outcome _ c.find_proof-found.result c.store_and_tell.result _ _ _ _ _ _ _ _ c.store_and_tell.ensures.ends (c.find_proof-found.ensures.means (text_at words 6) told known) outcome in
     proved_ends _ told _ _ c.store_and_tell.result outcome (returns-clause-ends g c) known (subst (λ ts. MeansProof (calls Prove ts) told) (sym (apart words 7 c.requires)) means)
+
+pub returns-clause-reached : goal.returns-clause-reached
+returns-clause-reached g c = λ is.
+    let text = text_at c.args.words.now in
+    let found = c.find_proof-found in
+    reached_apart Prove c.args.words.now 7 _ _ _ c.requires c.store_and_tell.ensures.asked
+    (stored_reached (proved_answer (text 0) (text 1) (text 2) (text 3) (text 4) (text 5) (text 6)) _ _ _ found.result c.store_and_tell.result _ _ _ _ _ _ _ _ c.store_and_tell.ensures.ends (found.ensures.reached (text 6)) is)

@@ -3,6 +3,8 @@ use Rattle.auth_cli.specs.Answer.{spelled_answer}
 use Rattle.auth_cli.proofs.EndsStored.{ends_stored}
 use Rattle.auth_cli.proofs.Possible.{output_possible, stored_possible}
 use Rattle.auth_cli.proofs.Words.{ends_apart, text_at}
+use Rattle.auth_cli.proofs.Reached.{stored_reached}
+use Rattle.auth_cli.proofs.Words.{reached_apart}
 use Rattle.auth_cli.proofs.shallow_state.shallow_command.Goals as goal
 
 pub returns-clause-ends : goal.returns-clause-ends
@@ -17,3 +19,10 @@ pub returns-clause-possible : goal.returns-clause-possible
 returns-clause-possible g c =
     let found = c.find_state-found in
     stored_possible Shallow _ found.result c.store_and_tell.result _ _ _ _ _ _ _ _ c.store_and_tell.ensures.ends (output_possible Shallow _ _ found.result found.ensures.cause found.ensures.ending)
+
+pub returns-clause-reached : goal.returns-clause-reached
+returns-clause-reached g c = λ is.
+    let text = text_at c.args.words.now in
+    let found = c.find_state-found in
+    reached_apart Shallow c.args.words.now 3 _ _ _ c.requires c.store_and_tell.ensures.asked
+    (stored_reached (spelled_answer (text 0) (text 1) (text 2)) _ _ _ found.result c.store_and_tell.result _ _ _ _ _ _ _ _ c.store_and_tell.ensures.ends (found.ensures.reached (text 2)) is)

@@ -2,7 +2,7 @@ use Rattle.std.proofs.Common.{sym, subst}
 use Rattle.command_words.specs.Commands.{IsOfCommand, texts}
 use Rattle.command_words.specs.declared.command.Command.TheVariants.{Check, Init, Shallow, Prove, Verify, Audit}
 use Rattle.auth_cli.specs.Statuses.{MayAnswer}
-use Rattle.auth_cli.proofs.Words.{counted, ends_known}
+use Rattle.auth_cli.proofs.Words.{counted, ends_known, reached_known}
 use Rattle.auth_cli.proofs.top.carry_out.Goals as goal
 
 pub check_command-requires : goal.check_command-requires
@@ -58,3 +58,21 @@ returns-in-Audit-clause-ends g c = ends_known c.args.command Audit (texts c.args
 
 pub returns-in-Audit-clause-possible : goal.returns-in-Audit-clause-possible
 returns-in-Audit-clause-possible g c = subst (λ command. MayAnswer command c.audit_command.result) (sym c.in-Audit.is) c.audit_command.ensures.possible
+
+pub returns-in-Check-clause-reached : goal.returns-in-Check-clause-reached
+returns-in-Check-clause-reached g c = λ is. reached_known c.args.command Check (texts c.args.words.now) _ _ c.in-Check.is (c.check_command.ensures.reached is)
+
+pub returns-in-Init-clause-reached : goal.returns-in-Init-clause-reached
+returns-in-Init-clause-reached g c = λ is. reached_known c.args.command Init (texts c.args.words.now) _ _ c.in-Init.is (c.init_command.ensures.reached is)
+
+pub returns-in-Shallow-clause-reached : goal.returns-in-Shallow-clause-reached
+returns-in-Shallow-clause-reached g c = λ is. reached_known c.args.command Shallow (texts c.args.words.now) _ _ c.in-Shallow.is (c.shallow_command.ensures.reached is)
+
+pub returns-in-Prove-clause-reached : goal.returns-in-Prove-clause-reached
+returns-in-Prove-clause-reached g c = λ is. reached_known c.args.command Prove (texts c.args.words.now) _ _ c.in-Prove.is (c.prove_command.ensures.reached is)
+
+pub returns-in-Verify-clause-reached : goal.returns-in-Verify-clause-reached
+returns-in-Verify-clause-reached g c = λ is. reached_known c.args.command Verify (texts c.args.words.now) _ _ c.in-Verify.is (c.verify_command.ensures.reached is)
+
+pub returns-in-Audit-clause-reached : goal.returns-in-Audit-clause-reached
+returns-in-Audit-clause-reached g c = λ is. reached_known c.args.command Audit (texts c.args.words.now) _ _ c.in-Audit.is (c.audit_command.ensures.reached is)

@@ -6,6 +6,9 @@ use Rattle.auth_cli.specs.declared.report.Halt.TheVariants.{NoMemory}
 use Rattle.auth_cli.proofs.Called.{ends_called, memory_told, none_called, none_refused, audited_called, nothing_audited, nothing_proved, possible_called, proved_called, usage_told}
 use Rattle.auth_cli.proofs.Ends.{ends_as}
 use Rattle.auth_cli.proofs.Possible.{memory_possible}
+use Rattle.auth_cli.proofs.Called.{reached_called}
+use Rattle.auth_cli.proofs.Reached.{refused_reached}
+use Rattle.auth_cli.specs.declared.report.Halt.TheVariants.{Usage}
 use Rattle.auth_cli.proofs.top.ended.Goals as goal
 
 pub returns-in-Ok-clause-ends : goal.returns-in-Ok-clause-ends
@@ -49,3 +52,12 @@ returns-in-Err-NoMemory-clause-audited g c = λ called is. nothing_audited calle
 
 pub returns-in-Err-NoMemory-clause-refused : goal.returns-in-Err-NoMemory-clause-refused
 returns-in-Err-NoMemory-clause-refused g c = λ none. memory_told c.tell-in-Err-NoMemory.result _ _ _ _ c.tell-in-Err-NoMemory.ensures
+
+pub returns-in-Ok-clause-reached : goal.returns-in-Ok-clause-reached
+returns-in-Ok-clause-reached g c = λ is. reached_called (texts c.args.words.now) _ _ _ c.in-Ok.ensures.reads (c.carry_out.ensures.reached is)
+
+pub returns-in-Err-Refused-clause-reached : goal.returns-in-Err-Refused-clause-reached
+returns-in-Err-Refused-clause-reached g c = λ is. refused_reached (answer (texts c.args.words.now)) _ _ Usage c.tell.result _ _ _ _ tt c.tell.ensures is
+
+pub returns-in-Err-NoMemory-clause-reached : goal.returns-in-Err-NoMemory-clause-reached
+returns-in-Err-NoMemory-clause-reached g c = λ is. refused_reached (answer (texts c.args.words.now)) _ _ NoMemory c.tell-in-Err-NoMemory.result _ _ _ _ tt c.tell-in-Err-NoMemory.ensures is

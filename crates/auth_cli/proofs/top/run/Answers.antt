@@ -11,6 +11,7 @@ use Rattle.auth_cli.proofs.MeantCalls.{proved_run_tells, split_run}
 use Rattle.auth_cli.proofs.Possible.{collision_alone, usage_alone}
 use Rattle.auth_cli.proofs.ProvedRuns.{proved_run}
 use Rattle.auth_cli.proofs.TrueLine.{true_line}
+use Rattle.auth_cli.proofs.Reached.{read_fault_of_code}
 use Rattle.auth_cli.proofs.top.run.Goals as goal
 
 pub returns-clause-headline : goal.returns-clause-headline
@@ -63,3 +64,6 @@ returns-clause-stored_first g c = λ rose. stored_first (answer (texts c.args.wo
 
 pub returns-clause-stored : goal.returns-clause-stored
 returns-clause-stored g c = stored (answer (texts c.args.words.now)) _ _ c.ended.result c.ended.ensures.ends
+
+pub returns-clause-reached : goal.returns-clause-reached
+returns-clause-reached g c = λ is. c.ended.ensures.reached (read_fault_of_code c.ended.result (sym c.code.ensures ∙ is))

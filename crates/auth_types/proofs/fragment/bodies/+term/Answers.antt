@@ -5,7 +5,7 @@ use Rattle.core_terms.specs.Programs.{types_in}
 use Rattle.auth_syntax.specs.Grammar.{HasForms, expression_levels}
 use Rattle.auth_syntax.specs.Syntax.{place_of}
 use Rattle.auth_syntax.specs.Vocabulary.{fragment}
-use Rattle.auth_syntax.specs.Trees.{expression_of, unary_of, binary_of}
+use Rattle.auth_syntax.specs.Trees.{expression_of, unary_of}
 use Rattle.auth_types.specs.OverTypes.{FindsOver, Shows}
 use Rattle.auth_types.specs.FragmentBodies.{fragment_scope, locals_of, typed_of}
 use Rattle.auth_types.specs.Bodies.{elaborated, unary}
@@ -34,7 +34,7 @@ returns-in_err-first-in-Binary-2-clause-found t c =
     let first = elaborated fragment_scope (locals_of c.args.parameters.now) (expression_of c.in-Binary.first.value) in
     let shown : Shows (types_in c.term-in-Binary.new.types) typed_of first c.in_ok-first-in-Binary.first = rw c.into_inner-in-Binary.ensures at c.in_ok-first-in-Binary.ensures.found in
     rw (c.in-Binary.is, expression-Binary)
-    (first_operand_fault (binary_of c.in-Binary.operator) _ c.place-at-in-Binary.result _ (place_of (expression_of c.in-Binary.second.value)) first (elaborated fragment_scope (locals_of c.args.parameters.now) (expression_of c.in-Binary.second.value)) _ _
+    (first_operand_fault c.in-Binary.operator _ c.place-at-in-Binary.result _ (place_of (expression_of c.in-Binary.second.value)) first (elaborated fragment_scope (locals_of c.args.parameters.now) (expression_of c.in-Binary.second.value)) _ _
     (c.place-at-in-Binary.ensures ∙ ap (λ t. place_of (expression_of t)) c.deref-in-Binary.ensures) (p.1 ∙ ap Err p.2) (c.in_err-first-in-Binary-2.ensures first shown))
 
 pub term-requires : goal.term-requires
@@ -66,7 +66,7 @@ returns-in_err-second-in-Binary-clause-found t c =
     let first = elaborated fragment_scope (locals_of c.args.parameters.now) (expression_of c.in-Binary.first.value) in
     let shown : Shows (types_in c.term-in-Binary.new.types) typed_of first c.in_ok-first-in-Binary.first = rw c.into_inner-in-Binary.ensures at c.in_ok-first-in-Binary.ensures.found in
     rw (c.in-Binary.is, expression-Binary)
-    (second_operand_fault (binary_of c.in-Binary.operator) _ _ c.place-at-in-Binary.result _ (place_of (expression_of c.in-Binary.second.value)) first (elaborated fragment_scope (locals_of c.args.parameters.now) (expression_of c.in-Binary.second.value)) c.in_ok-first-in-Binary-2.first _ _
+    (second_operand_fault c.in-Binary.operator _ _ c.place-at-in-Binary.result _ (place_of (expression_of c.in-Binary.second.value)) first (elaborated fragment_scope (locals_of c.args.parameters.now) (expression_of c.in-Binary.second.value)) c.in_ok-first-in-Binary-2.first _ _
     (c.place-at-in-Binary.ensures ∙ ap (λ t. place_of (expression_of t)) c.deref-in-Binary.ensures) (p.1 ∙ ap Err p.2) (c.in_ok-first-in-Binary-2.ensures first shown) (subst (λ tree. FindsOver (types_in c.term-in-Binary-2.new.types) typed_of (elaborated fragment_scope (locals_of c.args.parameters.now) (expression_of tree)) (Err c.in_err-second-in-Binary.field-0.0)) c.into_inner-in-Binary-2.ensures c.in_err-second-in-Binary.ensures.found))
 
 pub returns-in-Binary-clause-found : goal.returns-in-Binary-clause-found
@@ -76,6 +76,6 @@ returns-in-Binary-clause-found t c =
     let shown : Shows (types_in c.term-in-Binary.new.types) typed_of first c.in_ok-first-in-Binary.first = rw c.into_inner-in-Binary.ensures at c.in_ok-first-in-Binary.ensures.found in
     let shown' : Shows (types_in c.term-in-Binary-2.new.types) typed_of second c.in_ok-second-in-Binary.second = rw c.into_inner-in-Binary-2.ensures at c.in_ok-second-in-Binary.ensures.found in
     rw (c.in-Binary.is, expression-Binary)
-    (binary_found (binary_of c.in-Binary.operator) _ _ _ c.place-at-in-Binary.result _ c.place-at-in-Binary-2.result _ first second c.in_ok-first-in-Binary-2.first c.in_ok-second-in-Binary.second _
+    (binary_found c.in-Binary.operator _ _ _ c.place-at-in-Binary.result _ c.place-at-in-Binary-2.result _ first second c.in_ok-first-in-Binary-2.first c.in_ok-second-in-Binary.second _
     (c.place-at-in-Binary.ensures ∙ ap (λ t. place_of (expression_of t)) c.deref-in-Binary.ensures) (c.place-at-in-Binary-2.ensures ∙ ap (λ t. place_of (expression_of t)) c.deref-in-Binary-2.ensures)
     c.term-in-Binary-2.ensures.grows (c.in_ok-first-in-Binary-2.ensures first shown) shown' c.binary_term.ensures.found)

@@ -12,9 +12,9 @@ use Rattle.core_terms.specs.declared.types.TyId.{TyId}
 use Rattle.core_terms.specs.declared.language.term.Constructor.{Constructor}
 use Rattle.core_terms.specs.declared.language.term.Term as term
 use Rattle.auth_syntax.specs.Parsing.{in_a_row}
-use Rattle.auth_syntax.specs.Places.{start}
+use Rattle.lexemes.specs.Places.{start}
 use Rattle.auth_syntax.specs.Syntax.{place_of}
-use Rattle.auth_syntax.specs.Trees.{arm_of, arms_in_a_row, binary_of, expression_of, name_of, unary_of}
+use Rattle.auth_syntax.specs.Trees.{arm_of, arms_in_a_row, expression_of, name_of, unary_of}
 use Rattle.auth_syntax.specs.declared.tree.PlacedName.{PlacedName}
 use Rattle.auth_syntax.specs.declared.tree.ExpTree.{ExpTree}
 use Rattle.auth_syntax.specs.declared.tree.ExpTree.TheViews.{size-ExpTree, size-Arm}
@@ -143,7 +143,7 @@ pair-returns-clause-found t c =
 pub binary-returns-in_err-first-clause-found : goal.binary-returns-in_err-first-clause-found
 binary-returns-in_err-first-clause-found t c =
     let p = err_from_is_err_and c.from_residual-in_err-first.result c.from_residual-in_err-first.ensures.1 in
-    let op = binary_of c.args.operator in
+    let op = c.args.operator in
     let types = types_of c.operand_type.new.self in
     let first = found_in c.args.self.now c.args.first.now in
     let second = found_in c.args.self.now c.args.second.now in
@@ -154,7 +154,7 @@ binary-returns-in_err-first-clause-found t c =
 pub binary-returns-in_err-second-clause-found : goal.binary-returns-in_err-second-clause-found
 binary-returns-in_err-second-clause-found t c =
     let p = err_from_is_err_and c.from_residual-in_err-second.result c.from_residual-in_err-second.ensures.1 in
-    let op = binary_of c.args.operator in
+    let op = c.args.operator in
     let types = types_of c.operand_type.new.self in
     let middle = types_of c.part.new.self in
     let one : type_at types c.in_ok-ty.ty ≡ operand_type op = get_or_from_slice_get types c.in_ok-ty.ty.0 (operand_type op) UnitTy c.in_ok-ty.ensures.found in
@@ -167,7 +167,7 @@ binary-returns-in_err-second-clause-found t c =
 
 pub binary-returns-clause-found : goal.binary-returns-clause-found
 binary-returns-clause-found t c =
-    let op = binary_of c.args.operator in
+    let op = c.args.operator in
     let types = types_of c.operand_type.new.self in
     let middle = types_of c.part.new.self in
     let one : type_at types c.in_ok-ty.ty ≡ operand_type op = get_or_from_slice_get types c.in_ok-ty.ty.0 (operand_type op) UnitTy c.in_ok-ty.ensures.found in
