@@ -13,7 +13,7 @@ use core_terms::Piece;
 use std::alloc::{AllocError, Global};
 
 /// Why a body gives no message.
-#[derive(Clone, Copy, Debug, PartialEq, Eq)]
+#[derive(Drop)]
 pub enum BodyFault {
     /// The offset behind the length field of the first field that is missing, not whole or not allowed, or of the first byte
     /// too many.

@@ -51,7 +51,7 @@ pub enum Reply {
 }
 
 /// Why no message was read.
-#[derive(Clone, Copy, Debug, PartialEq, Eq)]
+#[derive(Clone, Copy)]
 pub enum ReadStop {
     /// The bytes are no message: the kind byte, or 0 where there is none, and the offset behind the length field of the first
     /// field that is missing, not whole or not allowed, or of the first byte too many. The whole message was taken.
@@ -85,7 +85,7 @@ impl From<AllocError> for ReadStop {
 }
 
 /// Why a message was not written whole.
-#[derive(Clone, Copy, Debug, PartialEq, Eq)]
+#[derive(Clone, Copy)]
 pub enum WriteStop {
     /// The link failed, and its count of faults rose.
     LinkFault,
