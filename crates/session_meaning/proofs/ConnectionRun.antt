@@ -1,5 +1,5 @@
 -- What steps leave alone, and a connection as a list of heard messages.
-use Rattle.std.proofs.Common.{◌≡◌, ℕ, suc, Bool, true, false, List, [], ◌∷◌, ◌++◌, Option, Some, None, Result, Ok, Err, nat_lt, refl, sym, ap, ◌∙◌, append-nil, append_assoc}
+use Rattle.std.proofs.Common.{◌≡◌, ℕ, suc, Bool, true, false, List, [], ◌∷◌, ◌++◌, Option, Some, None, Result, Ok, Err, nat_lt, refl, sym, ap, ◌∙◌, append-nil}
 use Rattle.core_terms.specs.Formats.{Hash}
 use Rattle.core_terms.specs.Terms.{Program}
 use Rattle.session_meaning.specs.Messages.{Request, Hello, Call, Go, Bye, Refused, Stop, AtEnd, IsCut, TooLong, BadMessage, Messages, NoMore, Then}

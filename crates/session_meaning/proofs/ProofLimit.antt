@@ -1,5 +1,5 @@
 -- The limit of a proof, at new pieces of 65,536 bytes.
-use Rattle.std.proofs.Common.{◌≡◌, ℕ, zero, suc, ◌+◌, ◌*◌, ◌≤◌, ◌<◌, true, false, List, length, replicate, refl, arith, length-append, le-leb}
+use Rattle.std.proofs.Common.{◌≡◌, ℕ, zero, suc, ◌+◌, ◌*◌, true, false, List, length, replicate, refl, arith, length-append, le-leb}
 use Rattle.std.proofs.lemmas.Bool.{lt-leb}
 use Rattle.core_terms.specs.Formats.{message_limit}
 use Rattle.ideal_meaning.specs.Frames.{New, frame_bytes}

@@ -1,12 +1,12 @@
 -- Worked clients, and both sides against each other. Each equation holds by computing both sides.
-use Rattle.std.specs.Prelude.{◌≡◌, ℕ, Bool, true, false, List, [], ◌∷◌, ◌++◌, replicate, None, Option, Some, refl, pos}
+use Rattle.std.specs.Prelude.{◌≡◌, ℕ, Bool, true, false, List, [], ◌∷◌, ◌++◌, replicate, None, Option, Some, refl}
 use Rattle.core_terms.specs.Values.{UnitV, BoolV, PairV, DigestV}
 use Rattle.core_terms.specs.Terms.{Program}
 use Rattle.ideal_meaning.specs.Run.{Overflow}
 use Rattle.ideal_meaning.specs.Ideal.{Done, Trapped}
 use Rattle.ideal_meaning.specs.Checked.{Short, Leftover, BadUse}
 use Rattle.ideal_meaning.specs.Examples.{toy, unit_program, bool_program}
-use Rattle.session_meaning.specs.Messages.{Hello, Call, Bye, Reply, Welcome, Proof, Stale, Refused, Closed, Read, Got, Stops, AtEnd, NoMore, Then, request_bytes, Go, read_reply, reply_of, messages}
+use Rattle.session_meaning.specs.Messages.{Hello, Call, Bye, Reply, Welcome, Proof, Stale, Refused, Closed, Read, Got, Stops, AtEnd, NoMore, Then, request_bytes, read_reply, reply_of, messages}
 use Rattle.session_meaning.specs.Server.{last_turn}
 use Rattle.session_meaning.specs.Client.{Idle, Client, Event, Hellos, Calls, Byes, Hears, Forgets, Answer, Sends, TellsWelcome, Tells, TellsStale, TellsRefused, TellsEnded, StateFault, ArgumentFault, OutOfTurn, IsRejected, IsStranger, IsWrongReply, HasFailed, IsBroken, IsClosed, WantsMemory, waits, state_of, take_event, client_after, new_client}
 use Rattle.session_meaning.specs.ClientLaws.{told_calls}

@@ -1,6 +1,6 @@
 -- Worked servers. Each equation holds by computing both sides.
-use Rattle.std.specs.Prelude.{◌≡◌, ℕ, zero, suc, List, [], ◌∷◌, ◌++◌, replicate, map, None, Some, true, false, refl, pos}
-use Rattle.core_terms.specs.Values.{Value, UnitV, BoolV, IntV, PairV}
+use Rattle.std.specs.Prelude.{◌≡◌, ℕ, zero, suc, List, [], ◌∷◌, ◌++◌, replicate, map, None, true, false, refl, pos}
+use Rattle.core_terms.specs.Values.{UnitV, BoolV, IntV, PairV}
 use Rattle.ideal_meaning.specs.Examples.{toy, unit_program, bool_program, spin_program}
 use Rattle.session_meaning.specs.Messages.{Request, Hello, Call, Go, Bye, Reply, Welcome, Proof, Stale, Refused, Closed, AtEnd, NoMore, Then}
 use Rattle.session_meaning.specs.Server.{Server, Step, Hears, HearsBad, HearsEnd, last_turn, new_session, one_session, handle, new_server, server_after, replies_of}
