@@ -118,8 +118,9 @@ pub greeting : answers unit_program new_client (Hellos 1 0 (toy []) ∷ Hellos 1
 greeting = refl
 
 -- idle: a greeting is out of turn, a reply is a stranger's, an argument must be spelled, and nothing of these changes it
-pub idle : answers unit_program new_client (opened ++ Hellos 1 0 (toy []) ∷ Hears (Welcome 1) ∷ Calls 1 1 1 (0 ∷ []) ∷ Calls 1 0 1 [] ∷ Calls 1 1 1 [] ∷ [])
-    ≡ opened_answers ++ OutOfTurn ∷ IsStranger 1 ∷ ArgumentFault 0 ∷ OutOfTurn ∷ Sends (Call 1 1 1 []) ∷ []
+pub idle : answers unit_program new_client (opened ++ Hellos 1 0 (toy []) ∷ Hears (Welcome 1) ∷ Hears (Closed 1 0)
+    ∷ Calls 1 1 1 (0 ∷ []) ∷ Calls 1 0 1 [] ∷ Calls 1 1 1 [] ∷ [])
+    ≡ opened_answers ++ OutOfTurn ∷ IsStranger 1 ∷ IsStranger 1 ∷ ArgumentFault 0 ∷ OutOfTurn ∷ Sends (Call 1 1 1 []) ∷ []
 idle = refl
 
 -- calling: nothing is in turn; a refusal ends it for two causes, and else it is idle again; a query is never stale
@@ -135,16 +136,16 @@ pub query_is_not_stale : answers unit_program new_client (called ++ Hears (Stale
 query_is_not_stale = refl
 
 -- leaving: it ends for whatever cause, and may be greeted again; another reply is wrong
-pub leaving : answers unit_program new_client (opened ++ Byes 1 ∷ Byes 1 ∷ Hears (Closed 1 7) ∷ Hellos 1 0 (toy []) ∷ [])
-    ≡ opened_answers ++ Sends (Bye 1) ∷ OutOfTurn ∷ TellsEnded ∷ Sends (Hello 1 text_digest 0 (toy [])) ∷ []
+pub leaving : answers unit_program new_client (opened ++ Byes 1 ∷ Byes 1 ∷ Hellos 1 0 (toy []) ∷ Hears (Closed 1 7) ∷ Hellos 1 0 (toy []) ∷ [])
+    ≡ opened_answers ++ Sends (Bye 1) ∷ OutOfTurn ∷ OutOfTurn ∷ TellsEnded ∷ Sends (Hello 1 text_digest 0 (toy [])) ∷ []
 leaving = refl
 
 pub leaving_refused : answers unit_program new_client (opened ++ Byes 1 ∷ Hears (Refused 1 3) ∷ []) ≡ opened_answers ++ Sends (Bye 1) ∷ IsWrongReply 132 ∷ []
 leaving_refused = refl
 
 -- for want of memory the session is absent, and another is as before
-pub forgotten : answers unit_program new_client (called ++ Hellos 2 0 (toy []) ∷ Forgets 1 ∷ Byes 1 ∷ Hears (Welcome 2) ∷ [])
-    ≡ called_answers ++ Sends (Hello 2 text_digest 0 (toy [])) ∷ WantsMemory ∷ OutOfTurn ∷ TellsWelcome ∷ []
+pub forgotten : answers unit_program new_client (called ++ Hellos 2 0 (toy []) ∷ Forgets 1 ∷ Hellos 1 0 (toy []) ∷ Hears (Welcome 2) ∷ [])
+    ≡ called_answers ++ Sends (Hello 2 text_digest 0 (toy [])) ∷ WantsMemory ∷ Sends (Hello 1 text_digest 0 (toy [])) ∷ TellsWelcome ∷ []
 forgotten = refl
 
 -- what is waited for, and which state is known, of an absent session, a greeting, an idle, a calling, a leaving and a failed one
@@ -176,9 +177,9 @@ bool_events =
     Hellos 1 1 (toy (1 ∷ [])) ∷ Hears (Welcome 1) ∷ Calls 1 2 1 [] ∷ Hears (Proof 1 (0 ∷ 0 ∷ 0 ∷ 0 ∷ 1 ∷ 1 ∷ [])) ∷ Calls 1 3 1 [] ∷ Hears
     (Proof 1 (0 ∷ 0 ∷ 0 ∷ 0 ∷ 1 ∷ 0 ∷ [])) ∷ []
 
-pub flipped : answers bool_program new_client (bool_events ++ Calls 1 2 1 [] ∷ Hears (Stale 1 (toy (1 ∷ []))) ∷ Byes 1 ∷ [])
+pub flipped : answers bool_program new_client (bool_events ++ Calls 1 2 1 [] ∷ Hears (Stale 1 (toy (1 ∷ []))) ∷ Hellos 1 1 (toy (1 ∷ [])) ∷ [])
     ≡ Sends (Hello 1 text_digest 1 (toy (1 ∷ []))) ∷ TellsWelcome ∷ Sends (Call 1 2 1 []) ∷ Tells (Done (PairV (DigestV (toy (0 ∷ []))) (BoolV true)))
-    ∷ Sends (Call 1 3 1 []) ∷ Tells (Trapped Overflow) ∷ Sends (Call 1 2 1 []) ∷ TellsStale (toy (1 ∷ [])) ∷ OutOfTurn ∷ []
+    ∷ Sends (Call 1 3 1 []) ∷ Tells (Trapped Overflow) ∷ Sends (Call 1 2 1 []) ∷ TellsStale (toy (1 ∷ [])) ∷ Sends (Hello 1 text_digest 1 (toy (1 ∷ []))) ∷ []
 flipped = refl
 
 pub kept : client_after toy bool_program text_digest new_client bool_events

@@ -2,9 +2,9 @@
 use Rattle.std.specs.Prelude.{◌≡◌, ℕ, zero, suc, List, [], ◌∷◌, ◌++◌, replicate, map, None, Some, true, false, refl, pos}
 use Rattle.core_terms.specs.Values.{Value, UnitV, BoolV, IntV, PairV}
 use Rattle.ideal_meaning.specs.Examples.{toy, unit_program, bool_program, spin_program}
-use Rattle.session_meaning.specs.Messages.{Request, Hello, Call, Go, Bye, Reply, Welcome, Proof, Stale, Refused, Closed}
+use Rattle.session_meaning.specs.Messages.{Request, Hello, Call, Go, Bye, Reply, Welcome, Proof, Stale, Refused, Closed, AtEnd, NoMore, Then}
 use Rattle.session_meaning.specs.Server.{Server, Step, Hears, HearsBad, HearsEnd, last_turn, new_session, one_session, handle, new_server, server_after, replies_of}
-use Rattle.session_meaning.specs.Connections.{bytes_sent}
+use Rattle.session_meaning.specs.Connections.{served, bytes_sent}
 use Rattle.session_meaning.specs.MessageRows.{text_digest, hello_bytes, call_bytes, go_bytes, bye_bytes}
 
 -- ON A LINK
@@ -122,6 +122,11 @@ last_message = refl
 
 pub one_message_too_many : unit_step (counting 1000000) (Bye 2) ≡ record { server = new_server UnitV; replies = Closed 0 1 ∷ []; closing = true }
 one_message_too_many = refl
+
+-- behind which nothing is answered
+pub nothing_behind_it : served toy unit_program text_digest (last_turn 1) (counting 1000000) (Then (Bye 2) (Then (Bye 2) (NoMore AtEnd)))
+    ≡ record { server = new_server UnitV; replies = Closed 0 1 ∷ [] }
+nothing_behind_it = refl
 
 pub last_message_is_none : handle toy unit_program text_digest (last_turn 1) (counting 999999) HearsBad
     ≡ record { server = new_server UnitV; replies = Refused 0 11 ∷ []; closing = true }

@@ -62,7 +62,7 @@ abbrev pub hello_end : ℕ → List ℕ → ℕ → List ℕ → meant.Body Requ
 hello_end session program n state = meant.Says (meant.Hello session program n state)
 
 abbrev pub hello_number : ℕ → List ℕ → List ℕ → meant.Body Request
-hello_number session program rest = meant.field 2 meant.in_two 35 rest (hello_end session program)
+hello_number session program rest = meant.field 2 meant.u16_in 35 rest (hello_end session program)
 
 abbrev pub hello_program : ℕ → List ℕ → meant.Body Request
 hello_program session rest = meant.program_field rest (hello_number session)
@@ -71,16 +71,16 @@ abbrev pub call_end : ℕ → ℕ → ℕ → List ℕ → meant.Body Request
 call_end session role fuel argument = meant.Says (meant.Call session role fuel argument)
 
 abbrev pub call_fuel : ℕ → ℕ → List ℕ → meant.Body Request
-call_fuel session role rest = meant.field 8 meant.in_eight 5 rest (call_end session role)
+call_fuel session role rest = meant.field 8 meant.u64_in 5 rest (call_end session role)
 
 abbrev pub call_role : ℕ → List ℕ → meant.Body Request
-call_role session rest = meant.field 2 meant.in_two 3 rest (call_fuel session)
+call_role session rest = meant.field 2 meant.u16_in 3 rest (call_fuel session)
 
 abbrev pub go_end : ℕ → List ℕ → meant.Body Request
 go_end rounds rest = meant.ends_at 7 rest (meant.Go rounds)
 
 abbrev pub go_rounds : List ℕ → meant.Body Request
-go_rounds rest = meant.field 4 meant.in_four 3 rest go_end
+go_rounds rest = meant.field 4 meant.u32_in 3 rest go_end
 
 abbrev pub bye_end : ℕ → List ℕ → meant.Body Request
 bye_end session rest = meant.ends_at 3 rest (meant.Bye session)
@@ -93,4 +93,4 @@ abbrev pub cause_end : (ℕ → ℕ → Reply) → ℕ → ℕ → List ℕ → 
 cause_end make session cause rest = meant.ends_at 4 rest (make session cause)
 
 abbrev pub cause_number : (ℕ → ℕ → Reply) → ℕ → List ℕ → meant.Body Reply
-cause_number make session rest = meant.field 1 meant.in_one 3 rest (cause_end make session)
+cause_number make session rest = meant.field 1 meant.u8_in 3 rest (cause_end make session)

@@ -6,7 +6,7 @@ use Rattle.std.proofs.lemmas.List.{drop-drop}
 use Rattle.std.specs.Io.KnownBytes.{prepend_known}
 use Rattle.std.specs.declared.alloc.Global.{Global}
 use Rattle.session_meaning.specs.Messages as meant
-use Rattle.session_meaning.specs.Messages.{in_four, message_limit}
+use Rattle.session_meaning.specs.Messages.{u32_in, message_limit}
 use Rattle.wire_form.specs.Incoming.{BodyCame, TookAtMost, WholeCame, length_field}
 use Rattle.wire_form.specs.ReadMessages.{ReadsMessage, SaysWhole}
 use Rattle.wire_form.specs.declared.message.ReadStop.{ReadStop}

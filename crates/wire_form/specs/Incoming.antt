@@ -2,7 +2,7 @@
 use Rattle.std.specs.Prelude.{◌≡◌, ◌⊎◌, ℕ, ◌<◌, ◌≤◌, ◌+◌, List, [], length, take, drop, Option, Some, Result, Ok, Err, Vec}
 use Rattle.std.specs.declared.alloc.Global.{Global}
 use Rattle.lam_outside.specs.Causes.{Rose}
-use Rattle.session_meaning.specs.Messages.{in_four, message_limit}
+use Rattle.session_meaning.specs.Messages.{u32_in, message_limit}
 use Rattle.wire_form.specs.declared.message.ReadStop.{ReadStop}
 use Rattle.wire_form.specs.declared.message.ReadStop.TheVariants.{BadMessage, TooLong, End, Cut, LinkFault, NoMemory}
 
@@ -12,11 +12,11 @@ TookAtMost n bytes left' = (taken : ℕ) × (taken ≤ n) × (left' ≡ Some (dr
 
 -- there are bytes, and they end inside the message with which they begin
 abbrev pub IsCutOff : List ℕ → Type 0
-IsCutOff bytes = (0 < length bytes) × ((length bytes < 4) ⊎ ((4 ≤ length bytes) × (in_four (take 4 bytes) ≤ message_limit) × (length (drop 4 bytes) < in_four (take 4 bytes))))
+IsCutOff bytes = (0 < length bytes) × ((length bytes < 4) ⊎ ((4 ≤ length bytes) × (u32_in (take 4 bytes) ≤ message_limit) × (length (drop 4 bytes) < u32_in (take 4 bytes))))
 
 -- the length field of the message with which the bytes begin
 abbrev pub length_field : List ℕ → ℕ
-length_field bytes = in_four (take 4 bytes)
+length_field bytes = u32_in (take 4 bytes)
 
 -- The length field was read, and is within the limit; or there is no byte, or fewer than 4; or it says too much; or the link
 -- failed, or memory was wanting, before the 4 bytes had come.

@@ -10,8 +10,8 @@ use core_terms::Digest;
 
 /// A number of two bytes, and the bytes behind it; the fault stands at the offset.
 pub fn number_of_two(body: &[u8], offset: u32) -> Result<(u16, &[u8]), BodyFault>
-    ensures requests { Takes {A = Request} (λ taken. taken.0) (λ taken. taken.1.now) (meant.field 2 meant.in_two offset body.now) result }
-    ensures replies { Takes {A = Reply} (λ taken. taken.0) (λ taken. taken.1.now) (meant.field 2 meant.in_two offset body.now) result }
+    ensures requests { Takes {A = Request} (λ taken. taken.0) (λ taken. taken.1.now) (meant.field 2 meant.u16_in offset body.now) result }
+    ensures replies { Takes {A = Reply} (λ taken. taken.0) (λ taken. taken.1.now) (meant.field 2 meant.u16_in offset body.now) result }
 {
     match body.split_at_checked(2) {
         Some((number, behind)) => Ok((BigEndian::read_u16(number), behind)),
@@ -21,7 +21,7 @@ pub fn number_of_two(body: &[u8], offset: u32) -> Result<(u16, &[u8]), BodyFault
 
 /// A number of eight bytes, and the bytes behind it.
 pub fn number_of_eight(body: &[u8], offset: u32) -> Result<(u64, &[u8]), BodyFault>
-    ensures { Takes {A = Request} (λ taken. taken.0) (λ taken. taken.1.now) (meant.field 8 meant.in_eight offset body.now) result }
+    ensures { Takes {A = Request} (λ taken. taken.0) (λ taken. taken.1.now) (meant.field 8 meant.u64_in offset body.now) result }
 {
     match body.split_at_checked(8) {
         Some((number, behind)) => Ok((BigEndian::read_u64(number), behind)),
@@ -31,7 +31,7 @@ pub fn number_of_eight(body: &[u8], offset: u32) -> Result<(u64, &[u8]), BodyFau
 
 /// The number of rounds, and the bytes behind it.
 pub fn rounds_field(body: &[u8]) -> Result<(u32, &[u8]), BodyFault>
-    ensures { Takes {A = Request} (λ taken. taken.0) (λ taken. taken.1.now) (meant.field 4 meant.in_four 3 body.now) result }
+    ensures { Takes {A = Request} (λ taken. taken.0) (λ taken. taken.1.now) (meant.field 4 meant.u32_in 3 body.now) result }
 {
     match body.split_at_checked(4) {
         Some((number, behind)) => Ok((BigEndian::read_u32(number), behind)),
@@ -41,7 +41,7 @@ pub fn rounds_field(body: &[u8]) -> Result<(u32, &[u8]), BodyFault>
 
 /// The cause of a refusal, and the bytes behind it.
 pub fn cause_field(body: &[u8]) -> Result<(u8, &[u8]), BodyFault>
-    ensures { Takes {A = Reply} (λ taken. taken.0) (λ taken. taken.1.now) (meant.field 1 meant.in_one 3 body.now) result }
+    ensures { Takes {A = Reply} (λ taken. taken.0) (λ taken. taken.1.now) (meant.field 1 meant.u8_in 3 body.now) result }
 {
     match body.split_first() {
         Some((cause, behind)) => Ok((*cause, behind)),
@@ -63,7 +63,7 @@ pub fn session_field(body: &[u8]) -> Result<(u16, &[u8]), BodyFault>
 
 /// The session of a message that is for none, and so 0; the bytes behind it.
 pub fn zero_field(body: &[u8]) -> Result<&[u8], BodyFault>
-    ensures { TakesNothing {A = Request} (λ behind. behind.now) (λ go. meant.field 2 meant.in_two 1 body.now (λ session rest. if nat_eq session 0 then go rest else meant.FaultAt 1)) result }
+    ensures { TakesNothing {A = Request} (λ behind. behind.now) (λ go. meant.field 2 meant.u16_in 1 body.now (λ session rest. if nat_eq session 0 then go rest else meant.FaultAt 1)) result }
 {
     let (session, behind) = number_of_two(body, 1)?;
     if session != 0 {

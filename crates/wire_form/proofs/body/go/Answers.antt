@@ -6,11 +6,11 @@ use Rattle.wire_form.proofs.body.go.Goals as goal
 
 pub returns-in_err-behind : goal.returns-in_err-behind
 returns-in_err-behind c =
-    handed_on request_meant _ c.in_err-behind.field-0.0 c.from_residual.result c.from_residual.ensures.1 (of_field (λ go. meant.field 2 meant.in_two 1 c.args.body.now (where_zero go)) _ _ (go_rounds) (refl) c.in_err-behind.ensures)
+    handed_on request_meant _ c.in_err-behind.field-0.0 c.from_residual.result c.from_residual.ensures.1 (of_field (λ go. meant.field 2 meant.u16_in 1 c.args.body.now (where_zero go)) _ _ (go_rounds) (refl) c.in_err-behind.ensures)
 
 pub returns-in_err-rounds : goal.returns-in_err-rounds
 returns-in_err-rounds c =
-    handed_on request_meant _ c.in_err-rounds.field-0.0 c.from_residual-in_err-rounds.result c.from_residual-in_err-rounds.ensures.1 (of_field (meant.field 4 meant.in_four 3 c.in_ok-behind.behind.now) _ _ (go_end) (c.in_ok-behind.ensures go_rounds) c.in_err-rounds.ensures)
+    handed_on request_meant _ c.in_err-rounds.field-0.0 c.from_residual-in_err-rounds.result c.from_residual-in_err-rounds.ensures.1 (of_field (meant.field 4 meant.u32_in 3 c.in_ok-behind.behind.now) _ _ (go_end) (c.in_ok-behind.ensures go_rounds) c.in_err-rounds.ensures)
 
 pub returns-in_err-end : goal.returns-in_err-end
 returns-in_err-end c =

@@ -14,7 +14,7 @@ returns-in_err-program c =
 
 pub returns-in_err-kept : goal.returns-in_err-kept
 returns-in_err-kept c =
-    handed_on request_meant _ c.in_err-kept.field-0.0 c.from_residual-in_err-kept.result c.from_residual-in_err-kept.ensures.1 (of_field (meant.field 2 meant.in_two 35 c.in_ok-program.behind.now) _ _ (hello_end c.in_ok-session.session c.in_ok-program.program.0) (c.in_ok-session.ensures.requests hello_program ∙ c.in_ok-program.ensures (hello_number c.in_ok-session.session)) c.in_err-kept.ensures.requests)
+    handed_on request_meant _ c.in_err-kept.field-0.0 c.from_residual-in_err-kept.result c.from_residual-in_err-kept.ensures.1 (of_field (meant.field 2 meant.u16_in 35 c.in_ok-program.behind.now) _ _ (hello_end c.in_ok-session.session c.in_ok-program.program.0) (c.in_ok-session.ensures.requests hello_program ∙ c.in_ok-program.ensures (hello_number c.in_ok-session.session)) c.in_err-kept.ensures.requests)
 
 pub returns : goal.returns
 returns c =

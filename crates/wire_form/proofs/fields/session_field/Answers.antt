@@ -5,7 +5,7 @@ use Rattle.wire_form.proofs.fields.session_field.Goals as goal
 
 pub returns-in_err-session-clause-requests : goal.returns-in_err-session-clause-requests
 returns-in_err-session-clause-requests c =
-    handed_field _ _ _ (meant.field 2 meant.in_two 1 c.args.body.now) unless_zero c.in_err-session.field-0.0 c.from_residual.result (λ go. refl) c.from_residual.ensures.1 c.in_err-session.ensures.requests
+    handed_field _ _ _ (meant.field 2 meant.u16_in 1 c.args.body.now) unless_zero c.in_err-session.field-0.0 c.from_residual.result (λ go. refl) c.from_residual.ensures.1 c.in_err-session.ensures.requests
 
 pub returns-then-session-eq0-clause-requests : goal.returns-then-session-eq0-clause-requests
 returns-then-session-eq0-clause-requests c =
@@ -17,7 +17,7 @@ returns-clause-requests c =
 
 pub returns-in_err-session-clause-replies : goal.returns-in_err-session-clause-replies
 returns-in_err-session-clause-replies c =
-    handed_field _ _ _ (meant.field 2 meant.in_two 1 c.args.body.now) unless_zero c.in_err-session.field-0.0 c.from_residual.result (λ go. refl) c.from_residual.ensures.1 c.in_err-session.ensures.replies
+    handed_field _ _ _ (meant.field 2 meant.u16_in 1 c.args.body.now) unless_zero c.in_err-session.field-0.0 c.from_residual.result (λ go. refl) c.from_residual.ensures.1 c.in_err-session.ensures.replies
 
 pub returns-then-session-eq0-clause-replies : goal.returns-then-session-eq0-clause-replies
 returns-then-session-eq0-clause-replies c =

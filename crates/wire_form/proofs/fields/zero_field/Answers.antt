@@ -5,7 +5,7 @@ use Rattle.wire_form.proofs.fields.zero_field.Goals as goal
 
 pub returns-in_err-session : goal.returns-in_err-session
 returns-in_err-session c =
-    handed_nothing _ _ (meant.field 2 meant.in_two 1 c.args.body.now) where_zero c.in_err-session.field-0.0 c.from_residual.result (λ go. refl) c.from_residual.ensures.1 c.in_err-session.ensures.requests
+    handed_nothing _ _ (meant.field 2 meant.u16_in 1 c.args.body.now) where_zero c.in_err-session.field-0.0 c.from_residual.result (λ go. refl) c.from_residual.ensures.1 c.in_err-session.ensures.requests
 
 pub returns-then-session-ne0 : goal.returns-then-session-ne0
 returns-then-session-ne0 c =
