@@ -617,10 +617,10 @@ const COMMANDS: [&[&str]; 4] = [
 #[test]
 fn commands_that_run_take_the_fragment(rt: HostRuntime) -> Result<(), Fail> {
     assert!(rt; check(rt.alloc(), WHOLE)?.status == 0);
-    for words in COMMANDS {
+    for (number, words) in COMMANDS.iter().enumerate() {
         let run = run_words(rt.alloc(), &staged(WHOLE, &[], PROOF), words)?;
         if !run.only_tells(6, "program refused: Expected 1 45\n") {
-            return Err(Fail::new(words[0]));
+            return Err(Fail::new(format_args!("row {number}")));
         }
     }
     Ok(())
