@@ -12,7 +12,7 @@ use Rattle.core_terms.specs.Reading.{Read, Good, BadAt}
 use Rattle.core_terms.specs.Spelling.{spelling}
 use Rattle.core_terms.specs.Terms.{Kind, Query, Inner, Init, Update, Program, function_at}
 use Rattle.core_terms.specs.Roles.{role_named}
-use Rattle.auth_syntax.specs.Literals.{Literal, IsValue, literal}
+use Rattle.printed_syntax.specs.Literals.{Literal, IsValue, literal}
 use Rattle.printed_lines.specs.declared.refusal.Argument.{Argument}
 use Rattle.printed_lines.specs.declared.refusal.Argument.TheVariants as named
 use Rattle.printed_lines.specs.declared.refusal.InputFault.{InputFault}

@@ -5,10 +5,10 @@ use Rattle.core_terms.specs.Values.{Value}
 use Rattle.core_terms.specs.Terms.{Program}
 use Rattle.core_terms.specs.Reading.{Good}
 use Rattle.core_terms.specs.Projection.{read_at}
-use Rattle.auth_syntax.specs.Literals.{IsValue, literal, no_constructors}
-use Rattle.auth_syntax.specs.LiteralAnswers.{SpellsLiteral}
-use Rattle.auth_syntax.specs.LiteralLaws.{IsLiteralValue}
-use Rattle.auth_syntax.proofs.LiteralsReadBack.{literals_are_read_back}
+use Rattle.printed_syntax.specs.Literals.{IsValue, literal, no_constructors}
+use Rattle.printed_syntax.specs.LiteralAnswers.{SpellsLiteral}
+use Rattle.printed_syntax.specs.LiteralLaws.{IsLiteralValue}
+use Rattle.printed_syntax.proofs.LiteralsReadBack.{literals_are_read_back}
 use Rattle.auth_cli.specs.Answer.{Answer, literal_at, with_literal, with_value}
 use Rattle.auth_cli.specs.PlainArguments.{IsSpelling, SpellsAlone}
 

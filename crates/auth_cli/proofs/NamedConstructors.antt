@@ -27,7 +27,7 @@ named_as_many : (text : List ℕ) (P : Program) (found : Parsed) → parsed whol
     → map length (constructors_of_parsed found) ≡ map length P.types
 unfolding checked
 named_as_many text P (Tree tree) is e = as_many tree P (all_passes tree) refl e
-named_as_many text P (FirstFault kind line column) is e = absurd (cc)
+named_as_many text P (FirstFault kind at) is e = absurd (cc)
 
 pub constructors_named : (text : List ℕ) (P : Program) → language_program_of_text text ≡ IsProgram P
     → (n : ℕ) → length (constructor_names_of_text text n) ≡ length (unwrap_or (slice_get P.types n) [])

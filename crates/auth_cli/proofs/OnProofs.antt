@@ -9,9 +9,9 @@ use Rattle.core_terms.specs.Spelling.{spelling}
 use Rattle.core_terms.specs.Terms.{Program}
 use Rattle.core_terms.specs.Types.{Ty}
 use Rattle.core_terms.specs.Values.{Value, NoV, AndV}
-use Rattle.auth_syntax.specs.Literals.{no_constructors}
-use Rattle.auth_syntax.specs.LiteralLaws.{IsLiteralValue}
-use Rattle.auth_syntax.proofs.LiteralsReadBack.{literals_are_read_back}
+use Rattle.printed_syntax.specs.Literals.{no_constructors}
+use Rattle.printed_syntax.specs.LiteralLaws.{IsLiteralValue}
+use Rattle.printed_syntax.proofs.LiteralsReadBack.{literals_are_read_back}
 use Rattle.ideal_meaning.specs.Checked.{verdict, with_argument, with_state}
 use Rattle.ideal_meaning.specs.Frames.{header}
 use Rattle.collision_audit.specs.Audits.{IsOnProof}

@@ -22,7 +22,7 @@ parsed_sound words text P e = by (parsed words text) refl e
     by (Tree program) is e =
         let typed = parsed_is_typed words text program P is (checked_is (checked program) P e) in
         record { typed = typed.0; shaped = typed.1; format = parsed_format (Tree program) P e }
-    by (FirstFault kind line column) is e = absurd (cc)
+    by (FirstFault kind at) is e = absurd (cc)
 
 pub language_text_sound : (text : List ℕ) (P : Program) → language_program_of_text text ≡ IsProgram P → IsSound P
 unfolding language_program_of_text

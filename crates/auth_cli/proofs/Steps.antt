@@ -4,10 +4,10 @@ use Rattle.core_terms.specs.Types.{Ty}
 use Rattle.core_terms.specs.Values.{Value}
 use Rattle.core_terms.specs.Spelling.{spelling}
 use Rattle.core_terms.specs.Terms as tree
-use Rattle.auth_syntax.specs.Literals.{literal}
-use Rattle.auth_syntax.specs.LiteralAnswers.{ReadsLiteral, SpellsLiteral}
-use Rattle.auth_syntax.specs.declared.fault.LiteralFault.{LiteralFault}
-use Rattle.auth_syntax.specs.declared.fault.LiteralFault.TheVariants as literal_fault
+use Rattle.printed_syntax.specs.Literals.{literal}
+use Rattle.printed_syntax.specs.LiteralAnswers.{ReadsLiteral, SpellsLiteral}
+use Rattle.printed_syntax.specs.LiteralAnswers.{LiteralFault}
+use Rattle.core_terms.specs.declared.fault.Fault.TheVariants as literal_fault
 use Rattle.images.specs.Images.{Root, image_of}
 use Rattle.images.specs.Images as images
 use Rattle.images.specs.Loads.{Tells}

@@ -33,7 +33,7 @@ checked_format (FaultAt kind at) P h e = absurd (cc)
 pub parsed_format : (found : Parsed) (P : Program) → of_parsed found ≡ IsProgram P → P.format ≡ program_format
 unfolding checked
 parsed_format (Tree program) P e = checked_format (all_passes program) P (passes_format program) e
-parsed_format (FirstFault kind line column) P e = absurd (cc)
+parsed_format (FirstFault kind at) P e = absurd (cc)
 
 pub text_format : (text : List ℕ) (P : Program) → program_of_text text ≡ IsProgram P → P.format ≡ program_format
 unfolding program_of_text

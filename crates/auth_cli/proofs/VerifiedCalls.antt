@@ -16,7 +16,7 @@ use Rattle.core_terms.specs.Programs.{meaning}
 use Rattle.core_terms.proofs.CodePrograms.{is_format}
 use Rattle.core_terms.proofs.LawProofs.{projection_is_read_back, projection_keeps_limits, size_is_length}
 use Rattle.plain_meaning.proofs.Within.{plain_is_within}
-use Rattle.auth_syntax.specs.Literals.{IsValue}
+use Rattle.printed_syntax.specs.Literals.{IsValue}
 use Rattle.printed_lines.specs.declared.refusal.Argument.{Argument}
 use Rattle.printed_lines.specs.declared.refusal.Argument.TheVariants as named
 use Rattle.auth_cli.specs.Answer.{Answer, Call, call_answer, literal_at, max_file, max_program, state_projection, state_read, verdict_answer, with_argument, with_file, with_fuel, with_literal, with_number, with_program, with_program_file, with_query, with_query_at, with_state, with_state_file, with_state_read}

@@ -91,7 +91,7 @@ module _ (words : Vocabulary) where
     where
       by : (found : Parsed) → parsed words text ≡ found → of_parsed found ≡ IsProgram P → of_parsed (parsed whole_language text) ≡ IsProgram P
       by (Tree tree) is e = ap of_parsed (same_tree text tree is) ∙ e
-      by (FirstFault kind line column) is e = absurd (cc)
+      by (FirstFault kind at) is e = absurd (cc)
 
 pub read_alike : (text : List ℕ) (P : Program) → program_of_text text ≡ IsProgram P → language_program_of_text text ≡ IsProgram P
 unfolding program_of_text language_program_of_text

@@ -12,8 +12,8 @@ use Rattle.core_terms.specs.Terms.{Program, function_at}
 use Rattle.core_terms.specs.Roles.{role_named}
 use Rattle.core_terms.specs.Spelling.{spelling}
 use Rattle.core_terms.specs.Projection.{projection, read_at}
-use Rattle.auth_syntax.specs.Literals.{Literal, IsValue, FirstFault, literal}
-use Rattle.auth_syntax.specs.declared.fault.LiteralKind.TheVariants.{Mismatch}
+use Rattle.printed_syntax.specs.Literals.{Literal, IsValue, FirstFault, literal}
+use Rattle.printed_syntax.specs.declared.fault.LiteralKind.TheVariants.{Mismatch}
 use Rattle.ideal_meaning.specs.Ideal as ideal
 use Rattle.ideal_meaning.specs.Checked as checked
 use Rattle.images.specs.Images as images

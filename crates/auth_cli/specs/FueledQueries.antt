@@ -1,7 +1,7 @@
 -- A program with the digest and the names of its text, and a query of it with the fuel that it is called with.
 use Rattle.std.specs.Prelude.{ℕ, List}
 use Rattle.core_terms.specs.Terms.{Program}
-use Rattle.auth_syntax.specs.Literals.{ConstructorNames}
+use Rattle.printed_syntax.specs.Literals.{ConstructorNames}
 
 -- a program with the digest of its text
 pub record DigestedProgram : Type 0 where

@@ -1,9 +1,9 @@
 -- What a command's work found, before it is told.
 use Rattle.std.specs.Prelude.{◌≡◌, ℕ, List, codes, Option, Some, Result, Ok, Err, ⊤}
 use Rattle.lam_outside.specs.Causes.{Rose}
-use Rattle.auth_syntax.specs.declared.fault.LiteralFault.{LiteralFault}
-use Rattle.auth_syntax.specs.declared.fault.LiteralFault.TheVariants as literal_fault
-use Rattle.auth_syntax.specs.declared.fault.LiteralKind.TheVariants.{Mismatch}
+use Rattle.printed_syntax.specs.LiteralAnswers.{LiteralFault}
+use Rattle.core_terms.specs.declared.fault.Fault.TheVariants as literal_fault
+use Rattle.printed_syntax.specs.declared.fault.LiteralKind.TheVariants.{Mismatch}
 use Rattle.images.specs.declared.fault.ImageFault.{ImageFault}
 use Rattle.images.specs.declared.fault.ImageFault.TheVariants as image_fault
 use Rattle.images.specs.declared.fault.SaveFault.{SaveFault}

@@ -3,7 +3,7 @@ use Rattle.std.specs.Prelude.{◌≡◌, ◌≤◌, ℕ, List, length, Option, S
 use Rattle.sha2.specs.Sha256.{sha256}
 use Rattle.lam_outside.specs.Told.{Contents}
 use Rattle.core_terms.specs.Values.{Value}
-use Rattle.auth_syntax.specs.Literals.{IsValue}
+use Rattle.printed_syntax.specs.Literals.{IsValue}
 use Rattle.images.specs.Images.{Root}
 use Rattle.core_terms.specs.Roles.{argument_type}
 use Rattle.auth_cli.specs.Answer.{image_read, literal_at, max_file, max_program}

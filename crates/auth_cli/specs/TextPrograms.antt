@@ -1,7 +1,7 @@
 -- A text as a program.
 use Rattle.std.specs.Prelude.{ℕ, List, [], slice_get, unwrap_or}
 use Rattle.core_terms.specs.Terms.{Program}
-use Rattle.auth_syntax.specs.Literals.{ConstructorNames}
+use Rattle.printed_syntax.specs.Literals.{ConstructorNames}
 use Rattle.auth_syntax.specs.Vocabulary.{fragment, whole_language}
 use Rattle.auth_syntax.specs.Parsing.{Parsed, parsed}
 use Rattle.auth_syntax.specs.Parsing as parsing
@@ -21,7 +21,7 @@ of_checked (checking.FirstFault kind line column) = IsRefused (Typing kind) line
 
 abbrev pub of_parsed : Parsed → TextProgram
 of_parsed (parsing.Tree program) = of_checked (checked program)
-of_parsed (parsing.FirstFault kind line column) = IsRefused (Syntax kind) line column
+of_parsed (parsing.FirstFault kind at) = IsRefused (Syntax kind) at.line at.column
 
 -- A text as a program of the whole language, and of the fragment that runs so far. A fault of its syntax comes before all faults of its typing.
 unfoldable pub language_program_of_text : List ℕ → TextProgram
@@ -33,7 +33,7 @@ program_of_text text = of_parsed (parsed fragment text)
 -- the names of the constructors of each type that a tree declares, in the order of its declarations
 abbrev pub constructors_of_parsed : Parsed → List (List (List ℕ))
 constructors_of_parsed (parsing.Tree program) = constructors_in program.declarations
-constructors_of_parsed (parsing.FirstFault kind line column) = []
+constructors_of_parsed (parsing.FirstFault kind at) = []
 
 -- The names of the constructors of the n-th type that a text declares, from 0, in the order in which it declares them: by tag.
 unfoldable pub constructor_names_of_text : List ℕ → ConstructorNames

@@ -10,7 +10,7 @@ use Rattle.core_terms.specs.Values.{Value, IsIdeal}
 use Rattle.core_terms.specs.Spelling.{spelling}
 use Rattle.core_terms.specs.Terms.{Program, function_at}
 use Rattle.core_terms.specs.Projection.{projection}
-use Rattle.auth_syntax.specs.Literals.{IsValue, literal}
+use Rattle.printed_syntax.specs.Literals.{IsValue, literal}
 use Rattle.ideal_meaning.specs.Ideal.{Outcome}
 use Rattle.ideal_meaning.specs.Frames.{offered, offered_pieces, header}
 use Rattle.ideal_meaning.specs.Headline.{TrueOrSplit, call_of}

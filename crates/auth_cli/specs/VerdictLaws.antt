@@ -5,7 +5,7 @@ use Rattle.core_terms.specs.Roles.{argument_type}
 use Rattle.core_terms.specs.Spelling.{spelling}
 use Rattle.core_terms.specs.Terms.{Program}
 use Rattle.core_terms.specs.Values.{Value}
-use Rattle.auth_syntax.specs.Literals.{IsValue}
+use Rattle.printed_syntax.specs.Literals.{IsValue}
 use Rattle.collision_audit.specs.Audits.{IsOnProof}
 use Rattle.auth_cli.specs.Answer.{call_verdict, literal_at, state_read}
 use Rattle.auth_cli.specs.TextPrograms.{IsProgram, program_of_text}

@@ -6,7 +6,7 @@ ghost use Rattle.core_terms.specs.Terms.{function_at};
 ghost use Rattle.core_terms.specs.Terms as tree;
 ghost use Rattle.core_terms.specs.Values.{IsIdeal};
 ghost use Rattle.plain_meaning.specs.PlainValues.{plain_of};
-ghost use Rattle.auth_syntax.specs.Literals.{IsValue};
+ghost use Rattle.printed_syntax.specs.Literals.{IsValue};
 ghost use Rattle.core_terms.specs.Roles.{argument_type, init_type};
 ghost use Rattle.auth_cli.specs.Answer.{literal_at, with_argument, with_fuel, with_init, with_kept, with_query, with_value};
 ghost use Rattle.auth_cli.specs.Arguments.{fuel_of, is_number, number_within, query_named};
@@ -14,10 +14,10 @@ ghost use Rattle.auth_cli.specs.Halting.{GoesOnInHand};
 
 use crate::Halt;
 use crate::values::read_value;
-use auth_syntax::literal::parse_fragment_literal;
 use core_terms::{FunctionId, Kind, Program, Spelling};
 use plain_meaning::Plain;
 use printed_lines::refusal::{Argument, InputFault};
+use printed_syntax::literal::parse_fragment_literal;
 use std::alloc::Global;
 
 /// The role of this name, which has to be a query.

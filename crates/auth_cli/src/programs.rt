@@ -13,14 +13,14 @@ ghost use Rattle.auth_cli.specs.TextPrograms.{constructor_names_of_text, languag
 
 use crate::Halt;
 use crate::report::load;
-use auth_syntax::fault::SyntaxFault;
 use auth_syntax::parser::{parse, parse_fragment};
 use auth_types::check::check;
 use auth_types::fault::TypeFault;
-use auth_types::fragment::check_fragment;
 use core_terms::{Hash32, Program, language};
 use digest_layer::Sha;
+use fragment_types::check_fragment;
 use lam_outside::Files;
+use lexemes::fault::SyntaxFault;
 use printed_lines::refusal::{Argument, ProgramKind};
 use std::alloc::Global;
 
@@ -41,8 +41,8 @@ impl From<SyntaxFault> for ProgramFault {
 
     fn from(fault: SyntaxFault) -> ProgramFault {
         match fault {
-            SyntaxFault::At(kind, line, column) => {
-                ProgramFault::At(ProgramKind::Syntax(kind), line, column)
+            SyntaxFault::At(kind, at) => {
+                ProgramFault::At(ProgramKind::Syntax(kind), at.line, at.column)
             }
             SyntaxFault::NoMemory => ProgramFault::NoMemory,
         }
@@ -57,8 +57,8 @@ impl From<TypeFault> for ProgramFault {
 
     fn from(fault: TypeFault) -> ProgramFault {
         match fault {
-            TypeFault::At(kind, line, column) => {
-                ProgramFault::At(ProgramKind::Typing(kind), line, column)
+            TypeFault::At(kind, at) => {
+                ProgramFault::At(ProgramKind::Typing(kind), at.line, at.column)
             }
             TypeFault::NoMemory => ProgramFault::NoMemory,
         }

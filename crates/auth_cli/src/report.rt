@@ -12,11 +12,11 @@ ghost use Rattle.auth_cli.specs.Telling.{Tells, TellsText};
 
 use crate::Status;
 use crate::programs::ProgramFault;
-use auth_syntax::fault::{LiteralFault, LiteralKind};
 use images::{ImageFault, SaveFault};
 use lam_outside::{Failed, Files, Load, Sink, load_all};
 use printed_lines::lines::refusal_line;
 use printed_lines::refusal::{Argument, ImageKind, InputFault, Refusal};
+use printed_syntax::fault::{LiteralFault, LiteralKind};
 use std::alloc::{AllocError, Global};
 use verifier_mode::Verdict;
 

@@ -5,16 +5,16 @@ ghost use Rattle.core_terms.specs.Roles.{IsPlain};
 ghost use Rattle.core_terms.specs.TypeTables.{type_at};
 ghost use Rattle.core_terms.specs.Values.{IsIdeal};
 ghost use Rattle.plain_meaning.specs.PlainValues.{plain_of};
-ghost use Rattle.auth_syntax.specs.Literals.{IsValue};
+ghost use Rattle.printed_syntax.specs.Literals.{IsValue};
 ghost use Rattle.verifier_mode.specs.Shallow.{IsInHand, value_of};
 ghost use Rattle.auth_cli.specs.Answer.{literal_at, with_value};
 ghost use Rattle.auth_cli.specs.Halting.{GoesOnInHand};
 ghost use Rattle.auth_cli.specs.PlainArguments.{IsPlainValue, IsSpelling, SpellsAlone};
 
 use crate::Halt;
-use auth_syntax::literal::parse_fragment_literal;
 use core_terms::{Program, Text, TyId};
 use plain_meaning::Plain;
+use printed_syntax::literal::parse_fragment_literal;
 use std::alloc::{AllocError, Global};
 use verifier_mode::reading::Shallow;
 

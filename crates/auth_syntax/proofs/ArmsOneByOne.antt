@@ -1,9 +1,10 @@
 -- Arms are read one by one.
 use Rattle.std.proofs.Common.{◌≡◌, ℕ, zero, suc, Bool, true, false, List, ◌∷◌, refl, ap, ◌∙◌}
-use Rattle.auth_syntax.specs.declared.token.Mark.TheVariants.{Arrow}
-use Rattle.auth_syntax.specs.Tokens.{Tokens, Next, End, Faulty}
+use Rattle.lexemes.specs.declared.token.Mark.TheVariants.{Arrow}
+use Rattle.lexemes.specs.Tokens.{Tokens, Next, End, Faulty}
 use Rattle.auth_syntax.specs.Syntax.{NameSyntax, ExpSyntax, ArmsSyntax, AndArmSyntax}
-use Rattle.auth_syntax.specs.Parsing.{Reading, Found, FaultAt, then_read, refused, read_mark, read_lower, read_upper, read_optional_list, read_arm_separator, read_other_arms, read_others, read_arms}
+use Rattle.lexemes.specs.Readings.{Reading, Found, FaultAt, then_read, refused, read_mark}
+use Rattle.auth_syntax.specs.Parsing.{read_lower, read_upper, read_optional_list, read_arm_separator, read_other_arms, read_others, read_arms}
 use Rattle.auth_syntax.specs.Trees.{ArmSyntax, arms_in_a_row}
 use Rattle.auth_syntax.specs.Arms.{read_arm}
 use Rattle.auth_syntax.proofs.Lists.{read_separated}

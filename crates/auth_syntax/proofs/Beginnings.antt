@@ -1,7 +1,7 @@
 -- Tokens that begin with those of a tree.
 use Rattle.std.proofs.Common.{◌≡◌, List, [], ◌∷◌, ◌++◌, refl, sym, subst}
-use Rattle.auth_syntax.specs.declared.place.Place.{Place}
-use Rattle.auth_syntax.specs.Tokens.{Token, Tokens, Next, End, Faulty}
+use Rattle.lexemes.specs.declared.place.Place.{Place}
+use Rattle.lexemes.specs.Tokens.{Token, Tokens, Next, End, Faulty}
 use Rattle.auth_syntax.specs.Grammar.{Written, IsKept, AreWritten}
 
 abbrev pub Begins : Tokens → List Written → Tokens → Type 0

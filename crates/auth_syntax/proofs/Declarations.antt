@@ -1,13 +1,14 @@
 -- The readers of declarations and of programs.
 use Rattle.std.proofs.Common.{◌≡◌, ℕ, List, [], ◌∷◌, ◌++◌, refl, sym, ap, subst, ◌∙◌, arith, append_assoc}
-use Rattle.auth_syntax.specs.declared.place.Place.{Place}
-use Rattle.auth_syntax.specs.declared.token.Keyword.TheVariants.{«Type» as TypeWord, State as StateWord, Fun as FunWord, Init as InitWord, Query as QueryWord, Update as UpdateWord}
-use Rattle.auth_syntax.specs.declared.token.Mark.TheVariants.{LeftParenthesis, RightParenthesis, Comma, Semicolon, Colon, EqualsSign, Bar}
-use Rattle.auth_syntax.specs.Tokens.{Token, KeywordToken, Tokens, Next}
+use Rattle.lexemes.specs.declared.place.Place.{Place}
+use Rattle.lexemes.specs.declared.token.Keyword.TheVariants.{«Type» as TypeWord, State as StateWord, Fun as FunWord, Init as InitWord, Query as QueryWord, Update as UpdateWord}
+use Rattle.lexemes.specs.declared.token.Mark.TheVariants.{LeftParenthesis, RightParenthesis, Comma, Semicolon, Colon, EqualsSign, Bar}
+use Rattle.lexemes.specs.Tokens.{Token, KeywordToken, Tokens, Next}
 use Rattle.auth_syntax.specs.Syntax.{ParameterSyntax, KindSyntax, InnerSyntax, InitSyntax, QuerySyntax, UpdateSyntax, FunctionSyntax, ConstructorDeclaration, DeclarationSyntax, TypeDeclaration, StateDeclaration, FunctionDeclaration}
 use Rattle.auth_syntax.specs.Vocabulary.{Vocabulary, NamedTypes, InnerFunctions, Updates}
 use Rattle.auth_syntax.specs.Grammar.{Written, standing, mark, lower, type_tokens, expression_tokens, parameter_tokens, parameters_tokens, types_tokens, constructor_tokens, constructors_tokens, kind_keyword, declaration_tokens, IsType, IsExpression, AreTypes, AreParameters, AreConstructors, IsSome, HasKind, IsDeclaration}
-use Rattle.auth_syntax.specs.Parsing.{Reading, Found, refused, allowed, read_bar}
+use Rattle.lexemes.specs.Readings.{Reading, Found, refused}
+use Rattle.auth_syntax.specs.Parsing.{allowed, read_bar}
 use Rattle.auth_syntax.proofs.Beginnings.{Begin, First, begin-next, begin-first, begin-as}
 use Rattle.auth_syntax.proofs.Readers.{IsClear, IsReader, Reader, Row, Done, ThenMark, ThenLower, ThenUpper, Then, Last, read_row, row_sound, row_complete}
 use Rattle.auth_syntax.proofs.Lists.{IsListed, list, optional, counted, bars, refused_found}

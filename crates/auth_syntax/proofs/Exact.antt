@@ -1,15 +1,16 @@
 -- Parsing finds exactly the program that the grammar gives a text.
 use Rattle.std.proofs.Common.{◌≡◌, ℕ, zero, suc, ◌<◌, ◌≤◌, List, [], ◌∷◌, length, refl, sym, ap, ap₂, subst, ◌∙◌, arith, length-append}
 use mathlib.Core.Path.{fun_ext}
-use Rattle.auth_syntax.specs.declared.place.Place.{Place}
-use Rattle.auth_syntax.specs.declared.token.Keyword.{Keyword}
-use Rattle.auth_syntax.specs.declared.token.Keyword.TheVariants.{«Type» as TypeWord}
-use Rattle.auth_syntax.specs.Tokens.{Token, KeywordToken, Tokens, Next, End, Faulty, tokens, count}
+use Rattle.lexemes.specs.declared.place.Place.{Place}
+use Rattle.lexemes.specs.declared.token.Keyword.{Keyword}
+use Rattle.lexemes.specs.declared.token.Keyword.TheVariants.{«Type» as TypeWord}
+use Rattle.lexemes.specs.Tokens.{Token, KeywordToken, Tokens, Next, End, Faulty, tokens, count}
 use Rattle.auth_syntax.specs.Syntax.{ConstructorDeclaration, DeclarationSyntax, TypeDeclaration, StateDeclaration, FunctionDeclaration, Program}
 use Rattle.auth_syntax.specs.Vocabulary.{Vocabulary, NamedTypes}
 use Rattle.auth_syntax.specs.Grammar.{Written, declaration_tokens, declarations_tokens, nesting_limit, AreDeclarations, AreWritten, IsProgramText}
-use Rattle.auth_syntax.specs.Parsing.{Reading, Found, FaultAt, then_read, refused, allowed, read_bar, read_others, read_lower, read_mark, read_constructor_declaration, read_constructors, read_type_declaration, read_declaration, read_declarations, Tree, end_of, as_program, parsed}
-use Rattle.auth_syntax.specs.declared.token.Mark.TheVariants.{EqualsSign}
+use Rattle.lexemes.specs.Readings.{Reading, Found, FaultAt, then_read, refused, read_mark}
+use Rattle.auth_syntax.specs.Parsing.{allowed, read_bar, read_others, read_lower, read_constructor_declaration, read_constructors, read_type_declaration, read_declaration, read_declarations, Tree, end_of, as_program, parsed}
+use Rattle.lexemes.specs.declared.token.Mark.TheVariants.{EqualsSign}
 use Rattle.auth_syntax.specs.Laws.{ParsingIsExact, OneIsWritten}
 use Rattle.auth_syntax.proofs.Beginnings.{written-append, written-parted}
 use Rattle.auth_syntax.proofs.Readers.{IsClear, found_thing, found_left, gone_on, then_found, read_row}

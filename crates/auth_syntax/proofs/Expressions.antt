@@ -1,14 +1,16 @@
 -- The reader of expressions.
 use Rattle.std.proofs.Common.{◌≡◌, ℕ, zero, suc, ◌<◌, ◌≤◌, Bool, true, false, cond, List, [], ◌∷◌, ◌++◌, length, Option, Some, None, refl, sym, ap, subst, ◌∙◌, arith, append_assoc, length-append}
-use Rattle.auth_syntax.specs.declared.place.Place.{Place}
-use Rattle.auth_syntax.specs.declared.token.Keyword.{Keyword}
-use Rattle.auth_syntax.specs.declared.token.Keyword.TheVariants.{Let as LetWord, In as InWord, Match as MatchWord, With as WithWord, End as EndWord, If as IfWord, Then as ThenWord', Else as ElseWord, True as TrueWord, False as FalseWord, Auth as AuthWord, Unauth as UnauthWord, Fst as FstWord, Snd as SndWord, Add as AddWord, Sub as SubWord, Mul as MulWord, Div as DivWord, Rem as RemWord, Eq as EqWord, Lt as LtWord, Le as LeWord, Teq as TeqWord, Tlt as TltWord, Cat as CatWord, Len as LenWord, Not as NotWord}
-use Rattle.auth_syntax.specs.declared.token.Mark.TheVariants.{LeftParenthesis, RightParenthesis, Comma, EqualsSign, Bar, Arrow}
-use Rattle.auth_syntax.specs.Tokens.{Token, KeywordToken, MarkToken, LowerToken, UpperToken, IntToken, TextToken, Tokens, Next, End, Faulty, count}
-use Rattle.auth_syntax.specs.Syntax.{NameSyntax, UnaryOperation, FstOperation, SndOperation, AuthOperation, UnauthOperation, LenOperation, NotOperation, BinaryOperation, AddOperation, SubOperation, MulOperation, DivOperation, RemOperation, EqOperation, LtOperation, LeOperation, TeqOperation, TltOperation, CatOperation, ExpSyntax, UnitSyntax, BoolSyntax, IntSyntax, TextSyntax, LocalSyntax, PairSyntax, UnarySyntax, BinarySyntax, CallSyntax, ConstructorSyntax, LetSyntax, IfSyntax, MatchSyntax, ExpsSyntax, NoExp, AndExp, ArmsSyntax, NoArmSyntax, AndArmSyntax}
+use Rattle.core_terms.specs.declared.language.term.BinaryOperator.{BinaryOperator}
+use Rattle.lexemes.specs.declared.place.Place.{Place}
+use Rattle.lexemes.specs.declared.token.Keyword.{Keyword}
+use Rattle.lexemes.specs.declared.token.Keyword.TheVariants.{Let as LetWord, In as InWord, Match as MatchWord, With as WithWord, End as EndWord, If as IfWord, Then as ThenWord', Else as ElseWord, True as TrueWord, False as FalseWord, Auth as AuthWord, Unauth as UnauthWord, Fst as FstWord, Snd as SndWord, Len as LenWord, Not as NotWord, Binary as BinaryWord}
+use Rattle.lexemes.specs.declared.token.Mark.TheVariants.{LeftParenthesis, RightParenthesis, Comma, EqualsSign, Bar, Arrow}
+use Rattle.lexemes.specs.Tokens.{Token, KeywordToken, MarkToken, LowerToken, UpperToken, IntToken, TextToken, Tokens, Next, End, Faulty, count}
+use Rattle.auth_syntax.specs.Syntax.{NameSyntax, UnaryOperation, FstOperation, SndOperation, AuthOperation, UnauthOperation, LenOperation, NotOperation, ExpSyntax, UnitSyntax, BoolSyntax, IntSyntax, TextSyntax, LocalSyntax, PairSyntax, UnarySyntax, BinarySyntax, CallSyntax, ConstructorSyntax, LetSyntax, IfSyntax, MatchSyntax, ExpsSyntax, NoExp, AndExp, ArmsSyntax, NoArmSyntax, AndArmSyntax}
 use Rattle.auth_syntax.specs.Vocabulary.{Vocabulary, Bools, Ints, Texts, Pairs, Unary, Binary, Calls, Constructors, Lets, Conditions, Matches}
-use Rattle.auth_syntax.specs.Grammar.{Written, standing, mark, word, lower, upper, unary_word, binary_word, bool_word, names_tokens, in_parentheses, expression_tokens, expressions_tokens, arms_tokens, expression_levels, expressions_levels, arms_levels, HasForms, HaveForms, ArmsHaveForms, IsExpression, IsSome}
-use Rattle.auth_syntax.specs.Parsing.{Reading, Found, allowed, unary_of, binary_of, in_a_row, read_lower, read_pair, pair_or_refused, read_call, read_unit_or_pair, read_arm_separator, read_other_arms, read_arms, operation_from, word_from, expression_from, read_expression}
+use Rattle.auth_syntax.specs.Grammar.{Written, standing, mark, word, lower, upper, unary_word, bool_word, names_tokens, in_parentheses, expression_tokens, expressions_tokens, arms_tokens, expression_levels, expressions_levels, arms_levels, HasForms, HaveForms, ArmsHaveForms, IsExpression, IsSome}
+use Rattle.lexemes.specs.Readings.{Reading, Found}
+use Rattle.auth_syntax.specs.Parsing.{allowed, unary_of, binary_of, in_a_row, read_lower, read_pair, pair_or_refused, read_call, read_unit_or_pair, read_arm_separator, read_other_arms, read_arms, operation_from, word_from, expression_from, read_expression}
 use Rattle.auth_syntax.proofs.Beginnings.{Begin, First, begin-none, begin-next, begin-first, begin-parted, begin-as, none-begin}
 use Rattle.auth_syntax.proofs.Readers.{IsClear, IsReader, Reader, Row, Done, ThenMark, ThenWord, ThenLower, ThenUpper, Then, Last, Things, made, row_written, row_within, read_row, row_sound, row_complete, lower_found, lower_reads, clear_first}
 use Rattle.auth_syntax.proofs.Lists.{IsListed, list, optional, refused_found, begins_fit}
@@ -115,18 +117,8 @@ unary_of-word LenWord operation h = ap unary_word (some_is h)
 unary_of-word NotWord operation h = ap unary_word (some_is h)
 unary_of-word keyword operation h = absurd (cc)
 
-pub binary_of-word : (keyword : Keyword) (operation : BinaryOperation) → binary_of keyword ≡ Some operation → keyword ≡ binary_word operation
-binary_of-word AddWord operation h = ap binary_word (some_is h)
-binary_of-word SubWord operation h = ap binary_word (some_is h)
-binary_of-word MulWord operation h = ap binary_word (some_is h)
-binary_of-word DivWord operation h = ap binary_word (some_is h)
-binary_of-word RemWord operation h = ap binary_word (some_is h)
-binary_of-word EqWord operation h = ap binary_word (some_is h)
-binary_of-word LtWord operation h = ap binary_word (some_is h)
-binary_of-word LeWord operation h = ap binary_word (some_is h)
-binary_of-word TeqWord operation h = ap binary_word (some_is h)
-binary_of-word TltWord operation h = ap binary_word (some_is h)
-binary_of-word CatWord operation h = ap binary_word (some_is h)
+pub binary_of-word : (keyword : Keyword) (operation : BinaryOperator) → binary_of keyword ≡ Some operation → keyword ≡ BinaryWord operation
+binary_of-word (BinaryWord found) operation h = ap BinaryWord (some_is h)
 binary_of-word keyword operation h = absurd (cc)
 
 -- the arms behind their first bar, with the `end` that ends them, as they are read
@@ -331,7 +323,7 @@ module _ (words : Vocabulary) where
     unary_row at operation =
         ThenMark LeftParenthesis (Then (parts_of levels parts) (λ operand. ThenMark RightParenthesis (Done (UnarySyntax at operation operand))))
 
-    abbrev pub binary_row : Place → BinaryOperation → Row levels ExpSyntax
+    abbrev pub binary_row : Place → BinaryOperator → Row levels ExpSyntax
     binary_row at operation =
         ThenMark LeftParenthesis (Then (parts_of levels parts) (λ first. ThenMark Comma
         (Then (parts_of levels parts) (λ second. ThenMark RightParenthesis (Done (BinarySyntax at operation first second))))))
@@ -381,8 +373,8 @@ module _ (words : Vocabulary) where
         ≡ expression_tokens (PairSyntax at first second)
     pair_written at first second = simp append_assoc
 
-    pub binary_written : (at : Place) (operation : BinaryOperation) (first second : ExpSyntax)
-        → standing at (KeywordToken (binary_word operation))
+    pub binary_written : (at : Place) (operation : BinaryOperator) (first second : ExpSyntax)
+        → standing at (KeywordToken (BinaryWord operation))
         ∷ (mark LeftParenthesis ∷ (expression_tokens first ++ (mark Comma ∷ (expression_tokens second ++ (mark RightParenthesis ∷ [])))))
         ≡ expression_tokens (BinarySyntax at operation first second)
     binary_written at operation first second = simp append_assoc
@@ -450,7 +442,7 @@ module _ (words : Vocabulary) where
     call_found calls h at name rest found left e = local_found at name rest found left e
 
     -- behind a keyword
-    operation_found : (at : Place) (keyword : Keyword) (unary : Option UnaryOperation) (binary : Option BinaryOperation)
+    operation_found : (at : Place) (keyword : Keyword) (unary : Option UnaryOperation) (binary : Option BinaryOperator)
         → unary_of keyword ≡ unary → binary_of keyword ≡ binary → (rest : Tokens) (found : ExpSyntax) (left : Tokens)
         → operation_from words (read_expression words levels) at unary binary rest ≡ Found found left → IsFrom at (KeywordToken keyword) rest found left
     operation_found at keyword (Some operation) binary h h' rest found left e =
@@ -460,7 +452,7 @@ module _ (words : Vocabulary) where
     operation_found at keyword None (Some operation) h h' rest found left e =
         let a = allowed_found (words (Binary operation)) at _ found left e in
         subst (λ (k : Keyword). IsFrom at (KeywordToken k) rest found left) (sym (binary_of-word keyword operation h'))
-        (row_from at (KeywordToken (binary_word operation)) (binary_row at operation)
+        (row_from at (KeywordToken (BinaryWord operation)) (binary_row at operation)
         (λ t w. (binary_written at operation t.0 t.1.0, ((a.0, w.0.0, w.1.0.0), omega (arith, w.0.1, w.1.0.1)))) rest found left a.1)
     operation_found at keyword None None h h' rest found left e = absurd (cc)
 
@@ -537,20 +529,10 @@ module _ (words : Vocabulary) where
     unary_from at LenOperation rest = refl
     unary_from at NotOperation rest = refl
 
-    binary_from : (at : Place) (operation : BinaryOperation) (rest : Tokens)
-        → word_from words (read_expression words levels) at (binary_word operation) rest
+    binary_from : (at : Place) (operation : BinaryOperator) (rest : Tokens)
+        → word_from words (read_expression words levels) at (BinaryWord operation) rest
         ≡ allowed (words (Binary operation)) at (read_row (binary_row at operation) levels rest)
-    binary_from at AddOperation rest = refl
-    binary_from at SubOperation rest = refl
-    binary_from at MulOperation rest = refl
-    binary_from at DivOperation rest = refl
-    binary_from at RemOperation rest = refl
-    binary_from at EqOperation rest = refl
-    binary_from at LtOperation rest = refl
-    binary_from at LeOperation rest = refl
-    binary_from at TeqOperation rest = refl
-    binary_from at TltOperation rest = refl
-    binary_from at CatOperation rest = refl
+    binary_from at operation rest = refl
 
     bool_from : (at : Place) (b : Bool) (rest : Tokens)
         → word_from words (read_expression words levels) at (bool_word b) rest ≡ allowed (words Bools) at (Found (BoolSyntax at b) rest)

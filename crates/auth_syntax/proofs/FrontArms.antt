@@ -1,14 +1,15 @@
 -- The readers of arms, on tokens that only begin alike: arms are a list with bars that `end` ends.
 use Rattle.std.proofs.Common.{◌≡◌, ℕ, zero, suc, ◌≤◌, Bool, true, false, List, [], ◌∷◌, ◌++◌, refl, sym, ap, subst, ◌∙◌, arith, append_assoc}
-use Rattle.auth_syntax.specs.declared.place.Place.{Place}
-use Rattle.auth_syntax.specs.declared.fault.SyntaxKind.{SyntaxKind}
-use Rattle.auth_syntax.specs.declared.token.Keyword.TheVariants.{End as EndWord}
-use Rattle.auth_syntax.specs.declared.token.Mark.TheVariants.{Arrow, Bar}
-use Rattle.auth_syntax.specs.Tokens.{KeywordToken, MarkToken, Tokens, Next, End, Faulty, count}
+use Rattle.lexemes.specs.declared.place.Place.{Place}
+use Rattle.lexemes.specs.declared.fault.SyntaxKind.{SyntaxKind}
+use Rattle.lexemes.specs.declared.token.Keyword.TheVariants.{End as EndWord}
+use Rattle.lexemes.specs.declared.token.Mark.TheVariants.{Arrow, Bar}
+use Rattle.lexemes.specs.Tokens.{KeywordToken, MarkToken, Tokens, Next, End, Faulty, count}
 use Rattle.auth_syntax.specs.Syntax.{NameSyntax, ExpSyntax, ArmsSyntax, NoArmSyntax, AndArmSyntax}
 use Rattle.auth_syntax.specs.Vocabulary.{Vocabulary}
 use Rattle.auth_syntax.specs.Grammar.{Written, mark, word, upper, names_tokens, in_parentheses, expression_tokens, arms_tokens, arms_levels, ArmsHaveForms, IsExpression, IsSome}
-use Rattle.auth_syntax.specs.Parsing.{Reading, Found, FaultAt, then_read, read_upper, read_lower, read_mark, read_optional_list, read_others, read_arm_separator, read_other_arms, read_arms, read_expression}
+use Rattle.lexemes.specs.Readings.{Reading, Found, FaultAt, then_read, read_mark}
+use Rattle.auth_syntax.specs.Parsing.{read_upper, read_lower, read_optional_list, read_others, read_arm_separator, read_other_arms, read_arms, read_expression}
 use Rattle.auth_syntax.specs.FirstFaults.{joined, AreFirst}
 use Rattle.auth_syntax.proofs.Beginnings.{Begin, First, begin-none, begin-next}
 use Rattle.auth_syntax.proofs.Readers.{IsClear, IsReader, Reader, Row, ThenMark, ThenUpper, Then, Last, read_row, row_sound, row_complete, found_thing, found_left}

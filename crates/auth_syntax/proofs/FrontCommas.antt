@@ -1,13 +1,14 @@
 -- Lists with commas in parentheses, and lists that may be lacking, on tokens that only begin alike.
 use Rattle.std.proofs.Common.{◌≡◌, ℕ, suc, ◌≤◌, ◌⊎◌, inl, inr, Bool, true, false, List, [], ◌∷◌, ◌++◌, refl, sym, ap, subst, ◌∙◌}
-use Rattle.auth_syntax.specs.declared.place.Place.{Place}
-use Rattle.auth_syntax.specs.declared.fault.SyntaxKind.{SyntaxKind}
-use Rattle.auth_syntax.specs.declared.fault.SyntaxKind.TheVariants.{Expected}
-use Rattle.auth_syntax.specs.declared.token.Keyword.TheVariants.{End as EndWord}
-use Rattle.auth_syntax.specs.declared.token.Mark.TheVariants.{LeftParenthesis, RightParenthesis, Comma, Semicolon, Bar}
-use Rattle.auth_syntax.specs.Tokens.{Token, KeywordToken, MarkToken, Tokens, Next, End, Faulty, count}
+use Rattle.lexemes.specs.declared.place.Place.{Place}
+use Rattle.lexemes.specs.declared.fault.SyntaxKind.{SyntaxKind}
+use Rattle.lexemes.specs.declared.fault.SyntaxKind.TheVariants.{Expected}
+use Rattle.lexemes.specs.declared.token.Keyword.TheVariants.{End as EndWord}
+use Rattle.lexemes.specs.declared.token.Mark.TheVariants.{LeftParenthesis, RightParenthesis, Comma, Semicolon, Bar}
+use Rattle.lexemes.specs.Tokens.{Token, KeywordToken, MarkToken, Tokens, Next, End, Faulty, count}
 use Rattle.auth_syntax.specs.Grammar.{Written, mark, in_parentheses, IsSome}
-use Rattle.auth_syntax.specs.Parsing.{Reading, Found, FaultAt, read_separator, read_bar, read_arm_separator, read_list, read_optional_list}
+use Rattle.lexemes.specs.Readings.{Reading, Found, FaultAt, read_separator}
+use Rattle.auth_syntax.specs.Parsing.{read_bar, read_arm_separator, read_list, read_optional_list}
 use Rattle.auth_syntax.specs.FirstFaults.{placed, joined, AreFirst}
 use Rattle.auth_syntax.proofs.Readers.{IsClear, Reader, found_thing, found_left}
 use Rattle.auth_syntax.proofs.Lists.{IsListed, commas, read_separated, read_list-is, in_parentheses-some}

@@ -1,14 +1,15 @@
 -- The readers of declarations, on tokens that only begin alike.
 use Rattle.std.proofs.Common.{◌≡◌, ℕ, ◌≤◌, Bool, true, List, [], ◌∷◌, refl, ap, subst, ◌∙◌, arith}
-use Rattle.auth_syntax.specs.declared.place.Place.{Place}
-use Rattle.auth_syntax.specs.declared.fault.SyntaxKind.{SyntaxKind}
-use Rattle.auth_syntax.specs.declared.token.Keyword.TheVariants.{«Type» as TypeWord, State as StateWord, Fun as FunWord, Init as InitWord, Query as QueryWord, Update as UpdateWord}
-use Rattle.auth_syntax.specs.declared.token.Mark.TheVariants.{Semicolon, Bar}
-use Rattle.auth_syntax.specs.Tokens.{Token, KeywordToken, Tokens, Next, End, Faulty}
+use Rattle.lexemes.specs.declared.place.Place.{Place}
+use Rattle.lexemes.specs.declared.fault.SyntaxKind.{SyntaxKind}
+use Rattle.lexemes.specs.declared.token.Keyword.TheVariants.{«Type» as TypeWord, State as StateWord, Fun as FunWord, Init as InitWord, Query as QueryWord, Update as UpdateWord}
+use Rattle.lexemes.specs.declared.token.Mark.TheVariants.{Semicolon, Bar}
+use Rattle.lexemes.specs.Tokens.{Token, KeywordToken, Tokens, Next, End, Faulty}
 use Rattle.auth_syntax.specs.Syntax.{TypeSyntax, UnitTypeSyntax, LocalSyntax, ParameterSyntax, KindSyntax, InnerSyntax, InitSyntax, QuerySyntax, UpdateSyntax, FunctionSyntax, ConstructorDeclaration, DeclarationSyntax, TypeDeclaration, StateDeclaration, FunctionDeclaration}
 use Rattle.auth_syntax.specs.Vocabulary.{Vocabulary, NamedTypes, InnerFunctions, Updates}
 use Rattle.auth_syntax.specs.Grammar.{standing, mark, types_tokens, parameter_tokens, parameters_tokens, constructor_tokens, constructors_tokens, kind_keyword, declaration_tokens, AreTypes, AreParameters, AreConstructors, HasKind, IsDeclaration}
-use Rattle.auth_syntax.specs.Parsing.{Reading, Found, FaultAt, allowed, read_bar}
+use Rattle.lexemes.specs.Readings.{Reading, Found, FaultAt}
+use Rattle.auth_syntax.specs.Parsing.{allowed, read_bar}
 use Rattle.auth_syntax.proofs.Readers.{Row, read_row}
 use Rattle.auth_syntax.proofs.Lists.{bars}
 use Rattle.auth_syntax.proofs.Types.{types}

@@ -1,16 +1,18 @@
 -- The reader of expressions, on tokens that only begin alike.
 use Rattle.std.proofs.Common.{◌≡◌, ℕ, zero, suc, ◌≤◌, ◌⊎◌, inl, inr, Bool, true, false, List, [], ◌∷◌, ◌++◌, Option, Some, None, ℤ, refl, sym, ap, ap₂, subst, ◌∙◌, arith}
-use Rattle.auth_syntax.specs.declared.place.Place.{Place}
-use Rattle.auth_syntax.specs.declared.fault.SyntaxKind.{SyntaxKind}
-use Rattle.auth_syntax.specs.declared.fault.SyntaxKind.TheVariants.{Expected}
-use Rattle.auth_syntax.specs.declared.token.Keyword.{Keyword}
-use Rattle.auth_syntax.specs.declared.token.Keyword.TheVariants.{Let as LetWord, In as InWord, Match as MatchWord, With as WithWord, End as EndWord, If as IfWord, Then as ThenWord', Else as ElseWord, True as TrueWord, False as FalseWord}
-use Rattle.auth_syntax.specs.declared.token.Mark.TheVariants.{LeftParenthesis, RightParenthesis, Comma, EqualsSign}
-use Rattle.auth_syntax.specs.Tokens.{Token, KeywordToken, MarkToken, LowerToken, UpperToken, IntToken, TextToken, Tokens, Next, End, Faulty}
-use Rattle.auth_syntax.specs.Syntax.{UnaryOperation, BinaryOperation, ExpSyntax, UnitSyntax, BoolSyntax, IntSyntax, TextSyntax, LocalSyntax, UnarySyntax, BinarySyntax, ConstructorSyntax, LetSyntax, IfSyntax, MatchSyntax, NoExp, NoArmSyntax, AndArmSyntax}
+use Rattle.core_terms.specs.declared.language.term.BinaryOperator.{BinaryOperator}
+use Rattle.lexemes.specs.declared.place.Place.{Place}
+use Rattle.lexemes.specs.declared.fault.SyntaxKind.{SyntaxKind}
+use Rattle.lexemes.specs.declared.fault.SyntaxKind.TheVariants.{Expected}
+use Rattle.lexemes.specs.declared.token.Keyword.{Keyword}
+use Rattle.lexemes.specs.declared.token.Keyword.TheVariants.{Let as LetWord, In as InWord, Match as MatchWord, With as WithWord, End as EndWord, If as IfWord, Then as ThenWord', Else as ElseWord, True as TrueWord, False as FalseWord}
+use Rattle.lexemes.specs.declared.token.Mark.TheVariants.{LeftParenthesis, RightParenthesis, Comma, EqualsSign}
+use Rattle.lexemes.specs.Tokens.{Token, KeywordToken, MarkToken, LowerToken, UpperToken, IntToken, TextToken, Tokens, Next, End, Faulty}
+use Rattle.auth_syntax.specs.Syntax.{UnaryOperation, ExpSyntax, UnitSyntax, BoolSyntax, IntSyntax, TextSyntax, LocalSyntax, UnarySyntax, BinarySyntax, ConstructorSyntax, LetSyntax, IfSyntax, MatchSyntax, NoExp, NoArmSyntax, AndArmSyntax}
 use Rattle.auth_syntax.specs.Vocabulary.{Vocabulary, Bools, Ints, Texts, Pairs, Unary, Binary, Calls, Constructors, Lets, Conditions, Matches}
 use Rattle.auth_syntax.specs.Grammar.{Written, standing, mark, word, lower, expression_tokens, arms_tokens, IsExpression}
-use Rattle.auth_syntax.specs.Parsing.{Reading, Found, FaultAt, refused, allowed, unary_of, binary_of, pair_or_refused, read_call, operation_from, read_expression, begins_expression, operation_begins, word_begins}
+use Rattle.lexemes.specs.Readings.{Reading, Found, FaultAt, refused}
+use Rattle.auth_syntax.specs.Parsing.{allowed, unary_of, binary_of, pair_or_refused, read_call, operation_from, read_expression, begins_expression, operation_begins, word_begins}
 use Rattle.auth_syntax.specs.FirstFaults.{Placed, placed}
 use Rattle.auth_syntax.proofs.Readers.{IsClear, Row, Done, read_row, row_written, found_thing, found_left}
 use Rattle.auth_syntax.proofs.Expressions.{AreExpressionsRead, expressions_are, expressions_listed, row_tokens, row_forms, pair_row, unary_row, binary_row, call_row, constructor_row, let_row, if_row, match_row, pair_written, binary_written, let_written, if_written, match_written, match_forms, call_forms, unary_of-word, binary_of-word, IsNotClosing, parts_of}
@@ -137,7 +139,7 @@ module _ (words : Vocabulary) where
           reads wider rest ∙ ap (λ unary. operation_from words (read_expression words wider) at unary (binary_of keyword) rest) h;
     }
 
-    binary_is : (at : Place) (keyword : Keyword) (operation : BinaryOperation) → unary_of keyword ≡ None → binary_of keyword ≡ Some operation
+    binary_is : (at : Place) (keyword : Keyword) (operation : BinaryOperator) → unary_of keyword ≡ None → binary_of keyword ≡ Some operation
         → ReadsOperation at keyword
         → Allowed at (KeywordToken keyword) (words (Binary operation)) (binary_row words levels parts at operation)
     binary_is at keyword operation h h' reads = record {
@@ -151,7 +153,7 @@ module _ (words : Vocabulary) where
           reads wider rest ∙ ap₂ (λ unary binary. operation_from words (read_expression words wider) at unary binary rest) h h';
     }
 
-    operation_taken : (at : Place) (keyword : Keyword) → ReadsOperation at keyword → (unary : Option UnaryOperation) (binary : Option BinaryOperation)
+    operation_taken : (at : Place) (keyword : Keyword) → ReadsOperation at keyword → (unary : Option UnaryOperation) (binary : Option BinaryOperator)
         → unary_of keyword ≡ unary → binary_of keyword ≡ binary → (rest : Tokens) (found : ExpSyntax) (left : Tokens)
         → outer levels (Next at (KeywordToken keyword) rest) ≡ Found found left → IsTakenAs (Next at (KeywordToken keyword) rest) found left
     operation_taken at keyword reads (Some operation) binary h h' rest found left e =
@@ -162,7 +164,7 @@ module _ (words : Vocabulary) where
         absurd (let e' : FaultAt Expected at ≡ Found found left =
         sym (reads levels rest ∙ ap₂ (λ unary binary. operation_from words (read_expression words levels) at unary binary rest) h h') ∙ e in cc)
 
-    operation_stuck : (at : Place) (keyword : Keyword) → ReadsOperation at keyword → (unary : Option UnaryOperation) (binary : Option BinaryOperation)
+    operation_stuck : (at : Place) (keyword : Keyword) → ReadsOperation at keyword → (unary : Option UnaryOperation) (binary : Option BinaryOperator)
         → unary_of keyword ≡ unary → binary_of keyword ≡ binary → (rest : Tokens) (kind : SyntaxKind) (place : Place)
         → outer levels (Next at (KeywordToken keyword) rest) ≡ FaultAt kind place → IsStuckAt (Next at (KeywordToken keyword) rest) kind place
     operation_stuck at keyword reads (Some operation) binary h h' rest kind place e =
@@ -442,7 +444,7 @@ module _ (words : Vocabulary) where
   abbrev Starts : Place → Token → Type 0
   Starts at token = CanBegin expression_tokens (IsExpression words) 2 (placed at token ∷ [])
 
-  operation_started : (at : Place) (keyword : Keyword) (unary : Option UnaryOperation) (binary : Option BinaryOperation) → unary_of keyword ≡ unary
+  operation_started : (at : Place) (keyword : Keyword) (unary : Option UnaryOperation) (binary : Option BinaryOperator) → unary_of keyword ≡ unary
       → binary_of keyword ≡ binary → operation_begins words unary binary ≡ true → Starts at (KeywordToken keyword)
   operation_started at keyword (Some operation) binary h h' b = record {
     thing = UnarySyntax at operation some_expression;
@@ -495,7 +497,7 @@ module _ (words : Vocabulary) where
   never_allowed true at reading h = absurd (cc)
   never_allowed false at reading h = refl
 
-  never_operation : (at : Place) (wider : ℕ) (rest : Tokens) (unary : Option UnaryOperation) (binary : Option BinaryOperation)
+  never_operation : (at : Place) (wider : ℕ) (rest : Tokens) (unary : Option UnaryOperation) (binary : Option BinaryOperator)
       → operation_begins words unary binary ≡ false → operation_from words (read_expression words wider) at unary binary rest ≡ FaultAt Expected at
   never_operation at wider rest (Some operation) binary h = never_allowed (words (Unary operation)) at _ h
   never_operation at wider rest None (Some operation) h = never_allowed (words (Binary operation)) at _ h

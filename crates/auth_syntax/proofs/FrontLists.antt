@@ -1,10 +1,11 @@
 -- The readers of lists, on tokens that only begin alike.
 use Rattle.std.proofs.Common.{◌≡◌, ℕ, zero, suc, ◌+◌, ◌<◌, ◌≤◌, inl, inr, Bool, true, false, cond, List, [], ◌∷◌, ◌++◌, length, refl, sym, ap, subst, ◌∙◌, arith, append_assoc, length-append}
-use Rattle.auth_syntax.specs.declared.place.Place.{Place}
-use Rattle.auth_syntax.specs.declared.fault.SyntaxKind.{SyntaxKind}
-use Rattle.auth_syntax.specs.Tokens.{Token, Tokens, Next, End, Faulty, count}
+use Rattle.lexemes.specs.declared.place.Place.{Place}
+use Rattle.lexemes.specs.declared.fault.SyntaxKind.{SyntaxKind}
+use Rattle.lexemes.specs.Tokens.{Token, Tokens, Next, End, Faulty, count}
 use Rattle.auth_syntax.specs.Grammar.{Written, IsSome}
-use Rattle.auth_syntax.specs.Parsing.{Reading, Found, FaultAt, then_read, read_others}
+use Rattle.lexemes.specs.Readings.{Reading, Found, FaultAt, then_read}
+use Rattle.auth_syntax.specs.Parsing.{read_others}
 use Rattle.auth_syntax.specs.FirstFaults.{Placed, placed, joined, AreFirst}
 use Rattle.auth_syntax.proofs.Readers.{Reader, gone_on, found_thing, found_left}
 use Rattle.auth_syntax.proofs.Lists.{IsListed, IsSeparator, sign, read_separated, refused_found, behind_first}

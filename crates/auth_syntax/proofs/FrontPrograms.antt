@@ -1,14 +1,15 @@
 -- The reader of programs, on tokens that only begin alike; and so the first fault in the words of the grammar.
 use Rattle.std.proofs.Common.{◌≡◌, ℕ, zero, suc, ◌+◌, ◌<◌, ◌≤◌, inl, inr, List, [], ◌∷◌, ◌++◌, length, Option, Some, None, refl, sym, ap, subst, ◌∙◌, arith}
-use Rattle.auth_syntax.specs.declared.place.Place.{Place}
-use Rattle.auth_syntax.specs.declared.fault.SyntaxKind.{SyntaxKind}
-use Rattle.auth_syntax.specs.declared.fault.SyntaxKind.TheVariants.{Lexical, Expected, TooNested}
-use Rattle.auth_syntax.specs.declared.token.Keyword.TheVariants.{«Type» as TypeWord, State as StateWord, Fun as FunWord, Init as InitWord, Query as QueryWord, Update as UpdateWord}
-use Rattle.auth_syntax.specs.Tokens.{Token, KeywordToken, Tokens, Next, End, Faulty, tokens, count}
+use Rattle.lexemes.specs.declared.place.Place.{Place}
+use Rattle.lexemes.specs.declared.fault.SyntaxKind.{SyntaxKind}
+use Rattle.lexemes.specs.declared.fault.SyntaxKind.TheVariants.{Lexical, Expected, TooNested}
+use Rattle.lexemes.specs.declared.token.Keyword.TheVariants.{«Type» as TypeWord, State as StateWord, Fun as FunWord, Init as InitWord, Query as QueryWord, Update as UpdateWord}
+use Rattle.lexemes.specs.Tokens.{Token, KeywordToken, Tokens, Next, End, Faulty, tokens, count}
 use Rattle.auth_syntax.specs.Syntax.{DeclarationSyntax, Program}
 use Rattle.auth_syntax.specs.Vocabulary.{Vocabulary}
 use Rattle.auth_syntax.specs.Grammar.{Written, IsKept, declaration_tokens, declarations_tokens, nesting_limit, IsDeclaration, AreDeclarations, AreWritten}
-use Rattle.auth_syntax.specs.Parsing.{Reading, Found, FaultAt, then_read, read_declarations, as_program, Tree, FirstFault, parsed}
+use Rattle.lexemes.specs.Readings.{Reading, Found, FaultAt, then_read}
+use Rattle.auth_syntax.specs.Parsing.{read_declarations, as_program, Tree, FirstFault, parsed}
 use Rattle.auth_syntax.specs.FirstFaults.{Placed, placed, joined, AreFirst, CanGoOn, IsRefused}
 use Rattle.auth_syntax.specs.Laws.{FirstFaultIsFirst}
 use Rattle.auth_syntax.proofs.Declarations.{read_declaration_at}
@@ -164,11 +165,11 @@ module _ (words : Vocabulary) where
     well_formed = declarations_widen words n wider c.declarations h c.well_formed;
   }
 
-  refused_so : (text : List ℕ) (front : List Placed) (rest : Tokens) (kind : SyntaxKind) (at : Place) (line column : ℕ) → tokens text ≡ joined front rest
-      → parsed words text ≡ FirstFault kind line column → BlockedBy nesting_limit (AllFail words) (AllBegin words) front rest kind at
+  refused_so : (text : List ℕ) (front : List Placed) (rest : Tokens) (kind : SyntaxKind) (at : Place) → tokens text ≡ joined front rest
+      → parsed words text ≡ FirstFault kind at → BlockedBy nesting_limit (AllFail words) (AllBegin words) front rest kind at
       → IsRefused words front rest kind at
-  refused_so text front (Faulty place fault) kind at line column is e b = b
-  refused_so text front (End place) kind at line column is e b = (b.0, b.1, whole) where
+  refused_so text front (Faulty place fault) kind at is e b = b
+  refused_so text front (End place) kind at is e b = (b.0, b.1, whole) where
     whole : (declarations : List DeclarationSyntax) → AreFirst front (declarations_tokens declarations) [] → AreDeclarations words nesting_limit declarations → ⊥
     whole declarations are fit =
         let program : Program = record { declarations = declarations; end = place } in
@@ -177,52 +178,35 @@ module _ (words : Vocabulary) where
               (first_written front (declarations_tokens declarations) [] (End place) place are refl);
           well_formed = fit;
         }) in cc
-  refused_so text front (Next place token rest) Expected at line column is e b = (
+  refused_so text front (Next place token rest) Expected at is e b = (
     b.0,
     λ limit c. none_begins (nesting_limit + limit) front place token Expected (b.1 (nesting_limit + limit) (omega arith))
         (widened limit (nesting_limit + limit) (front ++ placed place token ∷ []) (omega arith) c),
   )
-  refused_so text front (Next place token rest) TooNested at line column is e b =
+  refused_so text front (Next place token rest) TooNested at is e b =
       (b.0, as_go_on (suc (suc nesting_limit)) (front ++ placed place token ∷ []) b.1, λ c. none_begins nesting_limit front place token TooNested b.2 c)
-  refused_so text front (Next place token rest) (Lexical fault) at line column is e b = absurd b
+  refused_so text front (Next place token rest) (Lexical fault) at is e b = absurd b
 
--- a fault and its place
-record IsFaultOf (reading : Reading (List DeclarationSyntax)) (kind : SyntaxKind) (line column : ℕ) : Type 0 where
-  pub at : Place
-  pub is : reading ≡ FaultAt kind at
-  pub line_is : at.line ≡ line
-  pub column_is : at.column ≡ column
+-- what gives a first fault reads it
+fault_of : (reading : Reading (List DeclarationSyntax)) (kind : SyntaxKind) (at : Place) → as_program reading ≡ FirstFault kind at → reading ≡ FaultAt kind at
+fault_of (Found declarations left) kind at e = absurd (cc)
+fault_of (FaultAt kind' at') kind at e =
+    ap (λ (kind : SyntaxKind). FaultAt kind at') (same kind' at' kind at e) ∙ ap (λ (at : Place). FaultAt kind at) (same_place kind' at' kind at e) where
+      same : (kind : SyntaxKind) (at : Place) (kind' : SyntaxKind) (at' : Place) → FirstFault kind at ≡ FirstFault kind' at' → kind ≡ kind'
+      same kind at kind' at' h = cc
 
-fault_of : (reading : Reading (List DeclarationSyntax)) (kind : SyntaxKind) (line column : ℕ) → as_program reading ≡ FirstFault kind line column
-    → IsFaultOf reading kind line column
-fault_of (Found declarations left) kind line column e = absurd (cc)
-fault_of (FaultAt kind' at) kind line column e = record {
-  at = at;
-  is = ap (λ (kind : SyntaxKind). FaultAt kind at) (same kind' at.line at.column kind line column e);
-  line_is = same_line kind' at.line at.column kind line column e;
-  column_is = same_column kind' at.line at.column kind line column e;
-} where
-  same : (kind : SyntaxKind) (line column : ℕ) (kind' : SyntaxKind) (line' column' : ℕ) → FirstFault kind line column ≡ FirstFault kind' line' column' → kind ≡ kind'
-  same kind line column kind' line' column' h = cc
-
-  same_line : (kind : SyntaxKind) (line column : ℕ) (kind' : SyntaxKind) (line' column' : ℕ) → FirstFault kind line column ≡ FirstFault kind' line' column' → line ≡ line'
-  same_line kind line column kind' line' column' h = cc
-
-  same_column : (kind : SyntaxKind) (line column : ℕ) (kind' : SyntaxKind) (line' column' : ℕ) → FirstFault kind line column ≡ FirstFault kind' line' column' → column ≡ column'
-  same_column kind line column kind' line' column' h = cc
+      same_place : (kind : SyntaxKind) (at : Place) (kind' : SyntaxKind) (at' : Place) → FirstFault kind at ≡ FirstFault kind' at' → at ≡ at'
+      same_place kind at kind' at' h = cc
 
 pub first_fault_is_first : FirstFaultIsFirst
-first_fault_is_first words text kind line column e =
+first_fault_is_first words text kind at e =
     let ts : Tokens = tokens text in
-    let f = fault_of (read_declarations words (count ts) ts) kind line column e in
-    let s = all_stuck words nesting_limit (count ts) ts (omega arith) kind f.at (sym (read_declarations-is words (count ts) ts) ∙ f.is) in
+    let f = fault_of (read_declarations words (count ts) ts) kind at e in
+    let s = all_stuck words nesting_limit (count ts) ts (omega arith) kind at (sym (read_declarations-is words (count ts) ts) ∙ f) in
     record {
       front = s.front;
       rest = s.rest;
-      at = f.at;
       begin = s.is;
       can_go_on = as_go_on words (suc nesting_limit) s.front s.can_go_on;
-      refused = refused_so words text s.front s.rest kind f.at line column s.is e s.blocked;
-      line_is = f.line_is;
-      column_is = f.column_is;
+      refused = refused_so words text s.front s.rest kind at s.is e s.blocked;
     }

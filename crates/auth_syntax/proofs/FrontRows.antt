@@ -1,14 +1,15 @@
 -- What a row of readers says of tokens that only begin alike.
 use Rattle.std.proofs.Common.{◌≡◌, ℕ, suc, ◌⊎◌, inl, inr, Bool, true, false, cond, List, [], ◌∷◌, ◌++◌, refl, sym, ap, subst, ◌∙◌, arith}
-use Rattle.auth_syntax.specs.declared.place.Place.{Place}
-use Rattle.auth_syntax.specs.declared.fault.SyntaxKind.{SyntaxKind}
-use Rattle.auth_syntax.specs.declared.fault.SyntaxKind.TheVariants.{Expected}
-use Rattle.auth_syntax.specs.declared.token.Mark.{Mark}
-use Rattle.auth_syntax.specs.declared.token.Keyword.{Keyword}
-use Rattle.auth_syntax.specs.Tokens.{Token, KeywordToken, MarkToken, LowerToken, UpperToken, Tokens, Next}
+use Rattle.lexemes.specs.declared.place.Place.{Place}
+use Rattle.lexemes.specs.declared.fault.SyntaxKind.{SyntaxKind}
+use Rattle.lexemes.specs.declared.fault.SyntaxKind.TheVariants.{Expected}
+use Rattle.lexemes.specs.declared.token.Mark.{Mark}
+use Rattle.lexemes.specs.declared.token.Keyword.{Keyword}
+use Rattle.lexemes.specs.Tokens.{Token, KeywordToken, MarkToken, LowerToken, UpperToken, Tokens, Next}
 use Rattle.auth_syntax.specs.Syntax.{NameSyntax}
 use Rattle.auth_syntax.specs.Grammar.{Written, IsKept}
-use Rattle.auth_syntax.specs.Parsing.{Reading, Found, FaultAt, then_read, is_mark, is_keyword, read_mark, read_keyword, read_lower, read_upper}
+use Rattle.lexemes.specs.Readings.{Reading, Found, FaultAt, then_read, is_mark, is_keyword, read_mark, read_keyword}
+use Rattle.auth_syntax.specs.Parsing.{read_lower, read_upper}
 use Rattle.auth_syntax.specs.FirstFaults.{Placed, placed, joined, AreFirst}
 use Rattle.auth_syntax.proofs.Beginnings.{Begin, begin-first}
 use Rattle.auth_syntax.proofs.Readers.{Row, Done, ThenMark, ThenWord, ThenLower, ThenUpper, Then, Last, Things, made, row_written, row_within, read_row, gone_on, found_thing, found_left, mark_found, word_found, lower_found, upper_found}

@@ -1,15 +1,16 @@
 -- The reader of types, on tokens that only begin alike.
 use Rattle.std.proofs.Common.{◌≡◌, ℕ, zero, suc, ◌≤◌, Bool, true, false, [], ◌∷◌, ◌++◌, refl, arith}
-use Rattle.auth_syntax.specs.declared.place.Place.{Place}
-use Rattle.auth_syntax.specs.declared.fault.SyntaxKind.{SyntaxKind}
-use Rattle.auth_syntax.specs.declared.fault.SyntaxKind.TheVariants.{Expected}
-use Rattle.auth_syntax.specs.declared.token.Keyword.TheVariants.{Auth as AuthWord, Unit as UnitWord, Bool as BoolWord, Int as IntWord, Text as TextWord}
-use Rattle.auth_syntax.specs.declared.token.Mark.TheVariants.{LeftParenthesis, RightParenthesis, Comma}
-use Rattle.auth_syntax.specs.Tokens.{Token, KeywordToken, MarkToken, LowerToken, Tokens, Next, End, Faulty}
+use Rattle.lexemes.specs.declared.place.Place.{Place}
+use Rattle.lexemes.specs.declared.fault.SyntaxKind.{SyntaxKind}
+use Rattle.lexemes.specs.declared.fault.SyntaxKind.TheVariants.{Expected}
+use Rattle.lexemes.specs.declared.token.Keyword.TheVariants.{Auth as AuthWord, Unit as UnitWord, Bool as BoolWord, Int as IntWord, Text as TextWord}
+use Rattle.lexemes.specs.declared.token.Mark.TheVariants.{LeftParenthesis, RightParenthesis, Comma}
+use Rattle.lexemes.specs.Tokens.{Token, KeywordToken, MarkToken, LowerToken, Tokens, Next, End, Faulty}
 use Rattle.auth_syntax.specs.Syntax.{TypeSyntax, UnitTypeSyntax, BoolTypeSyntax, IntTypeSyntax, TextTypeSyntax, NamedTypeSyntax, AuthTypeSyntax, PairTypeSyntax}
 use Rattle.auth_syntax.specs.Vocabulary.{Vocabulary, NamedTypes, Bools, Ints, Texts, AuthTypes, Pairs}
 use Rattle.auth_syntax.specs.Grammar.{standing, mark, type_tokens, IsType}
-use Rattle.auth_syntax.specs.Parsing.{Reading, Found, FaultAt, allowed, read_type, begins_type}
+use Rattle.lexemes.specs.Readings.{Reading, Found, FaultAt}
+use Rattle.auth_syntax.specs.Parsing.{allowed, read_type, begins_type}
 use Rattle.auth_syntax.specs.FirstFaults.{placed}
 use Rattle.auth_syntax.proofs.Readers.{Row, Done}
 use Rattle.auth_syntax.proofs.Types.{types_are, auth_row, pair_row, pair_written}

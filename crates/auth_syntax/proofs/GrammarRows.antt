@@ -1,16 +1,22 @@
 -- The definitions, computed on texts.
 use Rattle.std.proofs.Common.{◌≡◌, refl}
-use Rattle.std.specs.Prelude.{ℕ, zero, suc, Bool, true, false, List, [], ◌∷◌, ◌++◌, codes}
+use Rattle.std.specs.Prelude.{ℕ, zero, suc, Bool, true, false, List, [], ◌∷◌, ◌++◌, Option, Some, None, codes}
 use Rattle.std.specs.Str.{is_utf8, chars}
 use lib.Utf8.{encode}
 use Rattle.auth_syntax.specs.Parsing.{Parsed, Tree, FirstFault, parsed}
 use Rattle.auth_syntax.specs.Vocabulary.{fragment, whole_language}
-use Rattle.auth_syntax.specs.declared.fault.SyntaxKind.TheVariants.{Lexical, Expected, TooNested}
-use Rattle.auth_syntax.specs.declared.fault.LexicalFault.TheVariants as lexical
+use Rattle.lexemes.specs.declared.fault.SyntaxKind.{SyntaxKind}
+use Rattle.lexemes.specs.declared.fault.SyntaxKind.TheVariants.{Lexical, Expected, TooNested}
+use Rattle.lexemes.specs.declared.fault.LexicalFault.TheVariants as lexical
 
 abbrev is_tree : Parsed → Bool
 is_tree (Tree program) = true
-is_tree (FirstFault kind line column) = false
+is_tree (FirstFault kind at) = false
+
+-- a first fault, by its line and column
+abbrev fault_of : Parsed → Option (SyntaxKind × ℕ × ℕ)
+fault_of (Tree program) = None
+fault_of (FirstFault kind at) = Some (kind, at.line, at.column)
 
 -- a text so many times
 abbrev repeated : ℕ → List ℕ → List ℕ
@@ -69,120 +75,120 @@ let_if_and_match = refl
 auths_100 : is_tree (parsed whole_language (codes "query f(x: t): t = " ++ repeated 99 (codes "auth(") ++ codes "x" ++ repeated 99 (codes ")") ++ codes ";")) ≡ true
 auths_100 = refl
 
-auths_101 : parsed whole_language (codes "query f(x: t): t = " ++ repeated 100 (codes "auth(") ++ codes "x" ++ repeated 100 (codes ")") ++ codes ";") ≡ FirstFault TooNested 1 520
+auths_101 : fault_of (parsed whole_language (codes "query f(x: t): t = " ++ repeated 100 (codes "auth(") ++ codes "x" ++ repeated 100 (codes ")") ++ codes ";")) ≡ Some (TooNested, 1, 520)
 auths_101 = refl
 
 auth_types_100 : is_tree (parsed whole_language (codes "state " ++ repeated 99 (codes "auth ") ++ codes "unit" ++ repeated 99 (codes "") ++ codes ";")) ≡ true
 auth_types_100 = refl
 
-auth_types_101 : parsed whole_language (codes "state " ++ repeated 100 (codes "auth ") ++ codes "unit" ++ repeated 100 (codes "") ++ codes ";") ≡ FirstFault TooNested 1 507
+auth_types_101 : fault_of (parsed whole_language (codes "state " ++ repeated 100 (codes "auth ") ++ codes "unit" ++ repeated 100 (codes "") ++ codes ";")) ≡ Some (TooNested, 1, 507)
 auth_types_101 = refl
 
 pair_types_100 : is_tree (parsed whole_language (codes "state " ++ repeated 99 (codes "(int, ") ++ codes "unit" ++ repeated 99 (codes ")") ++ codes ";")) ≡ true
 pair_types_100 = refl
 
-pair_types_101 : parsed whole_language (codes "state " ++ repeated 100 (codes "(int, ") ++ codes "unit" ++ repeated 100 (codes ")") ++ codes ";") ≡ FirstFault TooNested 1 602
+pair_types_101 : fault_of (parsed whole_language (codes "state " ++ repeated 100 (codes "(int, ") ++ codes "unit" ++ repeated 100 (codes ")") ++ codes ";")) ≡ Some (TooNested, 1, 602)
 pair_types_101 = refl
 
 pairs_100 : is_tree (parsed whole_language (codes "query f(x: t): t = " ++ repeated 99 (codes "((), ") ++ codes "x" ++ repeated 99 (codes ")") ++ codes ";")) ≡ true
 pairs_100 = refl
 
-pairs_101 : parsed whole_language (codes "query f(x: t): t = " ++ repeated 100 (codes "((), ") ++ codes "x" ++ repeated 100 (codes ")") ++ codes ";") ≡ FirstFault TooNested 1 516
+pairs_101 : fault_of (parsed whole_language (codes "query f(x: t): t = " ++ repeated 100 (codes "((), ") ++ codes "x" ++ repeated 100 (codes ")") ++ codes ";")) ≡ Some (TooNested, 1, 516)
 pairs_101 = refl
 
 lets_100 : is_tree (parsed whole_language (codes "query f(x: t): t = " ++ repeated 99 (codes "let y = x in ") ++ codes "x" ++ repeated 99 (codes "") ++ codes ";")) ≡ true
 lets_100 = refl
 
-lets_101 : parsed whole_language (codes "query f(x: t): t = " ++ repeated 100 (codes "let y = x in ") ++ codes "x" ++ repeated 100 (codes "") ++ codes ";") ≡ FirstFault TooNested 1 1315
+lets_101 : fault_of (parsed whole_language (codes "query f(x: t): t = " ++ repeated 100 (codes "let y = x in ") ++ codes "x" ++ repeated 100 (codes "") ++ codes ";")) ≡ Some (TooNested, 1, 1315)
 lets_101 = refl
 
 matches_100 : is_tree (parsed whole_language (codes "query f(x: t): t = " ++ repeated 99 (codes "match x with | A -> ") ++ codes "x" ++ repeated 99 (codes " end") ++ codes ";")) ≡ true
 matches_100 = refl
 
-matches_101 : parsed whole_language (codes "query f(x: t): t = " ++ repeated 100 (codes "match x with | A -> ") ++ codes "x" ++ repeated 100 (codes " end") ++ codes ";") ≡ FirstFault TooNested 1 2006
+matches_101 : fault_of (parsed whole_language (codes "query f(x: t): t = " ++ repeated 100 (codes "match x with | A -> ") ++ codes "x" ++ repeated 100 (codes " end") ++ codes ";")) ≡ Some (TooNested, 1, 2006)
 matches_101 = refl
 
-nothing_begins_at_level_101 : parsed whole_language (codes "state " ++ repeated 100 (codes "auth ") ++ codes ";") ≡ FirstFault Expected 1 507
+nothing_begins_at_level_101 : fault_of (parsed whole_language (codes "state " ++ repeated 100 (codes "auth ") ++ codes ";")) ≡ Some (Expected, 1, 507)
 nothing_begins_at_level_101 = refl
 
-no_expression_begins_at_level_101 : parsed whole_language (codes "query f(x: t): t = " ++ repeated 100 (codes "auth(") ++ codes ")") ≡ FirstFault Expected 1 520
+no_expression_begins_at_level_101 : fault_of (parsed whole_language (codes "query f(x: t): t = " ++ repeated 100 (codes "auth(") ++ codes ")")) ≡ Some (Expected, 1, 520)
 no_expression_begins_at_level_101 = refl
 
-char_at_the_first_line : parsed whole_language (on_first (codes "$")) ≡ FirstFault (Lexical lexical.Char) 1 1
+char_at_the_first_line : fault_of (parsed whole_language (on_first (codes "$"))) ≡ Some ((Lexical lexical.Char), 1, 1)
 char_at_the_first_line = refl
 
-char_at_a_middle_line : parsed whole_language (on_middle (codes "$")) ≡ FirstFault (Lexical lexical.Char) 2 3
+char_at_a_middle_line : fault_of (parsed whole_language (on_middle (codes "$"))) ≡ Some ((Lexical lexical.Char), 2, 3)
 char_at_a_middle_line = refl
 
-char_at_the_last_line : parsed whole_language (on_last (codes "$")) ≡ FirstFault (Lexical lexical.Char) 3 2
+char_at_the_last_line : fault_of (parsed whole_language (on_last (codes "$"))) ≡ Some ((Lexical lexical.Char), 3, 2)
 char_at_the_last_line = refl
 
-bad_escape_at_the_first_line : parsed whole_language (on_first (codes "\"a\\q\"")) ≡ FirstFault (Lexical lexical.BadEscape) 1 3
+bad_escape_at_the_first_line : fault_of (parsed whole_language (on_first (codes "\"a\\q\""))) ≡ Some ((Lexical lexical.BadEscape), 1, 3)
 bad_escape_at_the_first_line = refl
 
-bad_escape_at_a_middle_line : parsed whole_language (on_middle (codes "\"a\\q\"")) ≡ FirstFault (Lexical lexical.BadEscape) 2 5
+bad_escape_at_a_middle_line : fault_of (parsed whole_language (on_middle (codes "\"a\\q\""))) ≡ Some ((Lexical lexical.BadEscape), 2, 5)
 bad_escape_at_a_middle_line = refl
 
-bad_escape_at_the_last_line : parsed whole_language (on_last (codes "\"a\\q\"")) ≡ FirstFault (Lexical lexical.BadEscape) 3 4
+bad_escape_at_the_last_line : fault_of (parsed whole_language (on_last (codes "\"a\\q\""))) ≡ Some ((Lexical lexical.BadEscape), 3, 4)
 bad_escape_at_the_last_line = refl
 
-utf8_at_the_first_line : parsed whole_language (on_first (codes "\"" ++ 255 ∷ codes "\"")) ≡ FirstFault (Lexical lexical.Utf8) 1 1
+utf8_at_the_first_line : fault_of (parsed whole_language (on_first (codes "\"" ++ 255 ∷ codes "\""))) ≡ Some ((Lexical lexical.Utf8), 1, 1)
 unfolding is_utf8 chars encode
 utf8_at_the_first_line = refl
 
-utf8_at_a_middle_line : parsed whole_language (on_middle (codes "\"" ++ 255 ∷ codes "\"")) ≡ FirstFault (Lexical lexical.Utf8) 2 3
+utf8_at_a_middle_line : fault_of (parsed whole_language (on_middle (codes "\"" ++ 255 ∷ codes "\""))) ≡ Some ((Lexical lexical.Utf8), 2, 3)
 unfolding is_utf8 chars encode
 utf8_at_a_middle_line = refl
 
-utf8_at_the_last_line : parsed whole_language (on_last (codes "\"" ++ 255 ∷ codes "\"")) ≡ FirstFault (Lexical lexical.Utf8) 3 2
+utf8_at_the_last_line : fault_of (parsed whole_language (on_last (codes "\"" ++ 255 ∷ codes "\""))) ≡ Some ((Lexical lexical.Utf8), 3, 2)
 unfolding is_utf8 chars encode
 utf8_at_the_last_line = refl
 
-number_range_at_the_first_line : parsed whole_language (on_first (codes "9223372036854775808")) ≡ FirstFault (Lexical lexical.NumberRange) 1 1
+number_range_at_the_first_line : fault_of (parsed whole_language (on_first (codes "9223372036854775808"))) ≡ Some ((Lexical lexical.NumberRange), 1, 1)
 number_range_at_the_first_line = refl
 
-number_range_at_a_middle_line : parsed whole_language (on_middle (codes "9223372036854775808")) ≡ FirstFault (Lexical lexical.NumberRange) 2 3
+number_range_at_a_middle_line : fault_of (parsed whole_language (on_middle (codes "9223372036854775808"))) ≡ Some ((Lexical lexical.NumberRange), 2, 3)
 number_range_at_a_middle_line = refl
 
-number_range_at_the_last_line : parsed whole_language (on_last (codes "9223372036854775808")) ≡ FirstFault (Lexical lexical.NumberRange) 3 2
+number_range_at_the_last_line : fault_of (parsed whole_language (on_last (codes "9223372036854775808"))) ≡ Some ((Lexical lexical.NumberRange), 3, 2)
 number_range_at_the_last_line = refl
 
-name_long_at_the_first_line : parsed whole_language (on_first (repeated 65 (codes "a"))) ≡ FirstFault (Lexical lexical.NameLong) 1 1
+name_long_at_the_first_line : fault_of (parsed whole_language (on_first (repeated 65 (codes "a")))) ≡ Some ((Lexical lexical.NameLong), 1, 1)
 name_long_at_the_first_line = refl
 
-name_long_at_a_middle_line : parsed whole_language (on_middle (repeated 65 (codes "a"))) ≡ FirstFault (Lexical lexical.NameLong) 2 3
+name_long_at_a_middle_line : fault_of (parsed whole_language (on_middle (repeated 65 (codes "a")))) ≡ Some ((Lexical lexical.NameLong), 2, 3)
 name_long_at_a_middle_line = refl
 
-name_long_at_the_last_line : parsed whole_language (on_last (repeated 65 (codes "a"))) ≡ FirstFault (Lexical lexical.NameLong) 3 2
+name_long_at_the_last_line : fault_of (parsed whole_language (on_last (repeated 65 (codes "a")))) ≡ Some ((Lexical lexical.NameLong), 3, 2)
 name_long_at_the_last_line = refl
 
-expected_at_the_first_line : parsed whole_language (on_first (codes ";")) ≡ FirstFault Expected 1 1
+expected_at_the_first_line : fault_of (parsed whole_language (on_first (codes ";"))) ≡ Some (Expected, 1, 1)
 expected_at_the_first_line = refl
 
-expected_at_a_middle_line : parsed whole_language (on_middle (codes ";")) ≡ FirstFault Expected 2 3
+expected_at_a_middle_line : fault_of (parsed whole_language (on_middle (codes ";"))) ≡ Some (Expected, 2, 3)
 expected_at_a_middle_line = refl
 
-expected_at_the_last_line : parsed whole_language (on_last (codes ";")) ≡ FirstFault Expected 3 2
+expected_at_the_last_line : fault_of (parsed whole_language (on_last (codes ";"))) ≡ Some (Expected, 3, 2)
 expected_at_the_last_line = refl
 
-too_nested_at_the_first_line : parsed whole_language (on_first (codes "state " ++ repeated 100 (codes "auth ") ++ codes "unit;")) ≡ FirstFault TooNested 1 507
+too_nested_at_the_first_line : fault_of (parsed whole_language (on_first (codes "state " ++ repeated 100 (codes "auth ") ++ codes "unit;"))) ≡ Some (TooNested, 1, 507)
 too_nested_at_the_first_line = refl
 
-too_nested_at_a_middle_line : parsed whole_language (on_middle (codes "state " ++ repeated 100 (codes "auth ") ++ codes "unit;")) ≡ FirstFault TooNested 2 509
+too_nested_at_a_middle_line : fault_of (parsed whole_language (on_middle (codes "state " ++ repeated 100 (codes "auth ") ++ codes "unit;"))) ≡ Some (TooNested, 2, 509)
 too_nested_at_a_middle_line = refl
 
-too_nested_at_the_last_line : parsed whole_language (on_last (codes "state " ++ repeated 100 (codes "auth ") ++ codes "unit;")) ≡ FirstFault TooNested 3 508
+too_nested_at_the_last_line : fault_of (parsed whole_language (on_last (codes "state " ++ repeated 100 (codes "auth ") ++ codes "unit;"))) ≡ Some (TooNested, 3, 508)
 too_nested_at_the_last_line = refl
 
-text_long_at_the_first_line : parsed whole_language (on_first (codes "\"" ++ repeated 65533 (codes "a") ++ codes "\"")) ≡ FirstFault (Lexical lexical.TextLong) 1 1
+text_long_at_the_first_line : fault_of (parsed whole_language (on_first (codes "\"" ++ repeated 65533 (codes "a") ++ codes "\""))) ≡ Some ((Lexical lexical.TextLong), 1, 1)
 unfolding is_utf8 chars encode
 text_long_at_the_first_line = refl
 
-text_long_at_a_middle_line : parsed whole_language (on_middle (codes "\"" ++ repeated 65533 (codes "a") ++ codes "\"")) ≡ FirstFault (Lexical lexical.TextLong) 2 3
+text_long_at_a_middle_line : fault_of (parsed whole_language (on_middle (codes "\"" ++ repeated 65533 (codes "a") ++ codes "\""))) ≡ Some ((Lexical lexical.TextLong), 2, 3)
 unfolding is_utf8 chars encode
 text_long_at_a_middle_line = refl
 
-text_long_at_the_last_line : parsed whole_language (on_last (codes "\"" ++ repeated 65533 (codes "a") ++ codes "\"")) ≡ FirstFault (Lexical lexical.TextLong) 3 2
+text_long_at_the_last_line : fault_of (parsed whole_language (on_last (codes "\"" ++ repeated 65533 (codes "a") ++ codes "\""))) ≡ Some ((Lexical lexical.TextLong), 3, 2)
 unfolding is_utf8 chars encode
 text_long_at_the_last_line = refl
 
@@ -190,46 +196,46 @@ longest_text : is_tree (parsed whole_language (codes "query f(x: int): text = \"
 unfolding is_utf8 chars encode
 longest_text = refl
 
-unclosed_at_the_only_line : parsed whole_language (codes "\"abc") ≡ FirstFault (Lexical lexical.Unclosed) 1 1
+unclosed_at_the_only_line : fault_of (parsed whole_language (codes "\"abc")) ≡ Some ((Lexical lexical.Unclosed), 1, 1)
 unclosed_at_the_only_line = refl
 
-unclosed_at_the_last_line : parsed whole_language (on_last (codes "\"abc")) ≡ FirstFault (Lexical lexical.Unclosed) 3 2
+unclosed_at_the_last_line : fault_of (parsed whole_language (on_last (codes "\"abc"))) ≡ Some ((Lexical lexical.Unclosed), 3, 2)
 unclosed_at_the_last_line = refl
 
-a_text_ends_on_its_line : parsed whole_language (on_middle (codes "\"abc")) ≡ FirstFault (Lexical lexical.Char) 2 7
+a_text_ends_on_its_line : fault_of (parsed whole_language (on_middle (codes "\"abc"))) ≡ Some ((Lexical lexical.Char), 2, 7)
 a_text_ends_on_its_line = refl
 
-escape_is_cut_by_the_end : parsed whole_language (on_last (codes "\"a\\")) ≡ FirstFault (Lexical lexical.BadEscape) 3 4
+escape_is_cut_by_the_end : fault_of (parsed whole_language (on_last (codes "\"a\\"))) ≡ Some ((Lexical lexical.BadEscape), 3, 4)
 escape_is_cut_by_the_end = refl
 
-end_is_expected : parsed whole_language (codes "state unit") ≡ FirstFault Expected 1 11
+end_is_expected : fault_of (parsed whole_language (codes "state unit")) ≡ Some (Expected, 1, 11)
 end_is_expected = refl
 
-a_name_is_no_declaration : parsed whole_language (codes "abc") ≡ FirstFault Expected 1 1
+a_name_is_no_declaration : fault_of (parsed whole_language (codes "abc")) ≡ Some (Expected, 1, 1)
 a_name_is_no_declaration = refl
 
-let_is_no_declaration : parsed whole_language (codes "let") ≡ FirstFault Expected 1 1
+let_is_no_declaration : fault_of (parsed whole_language (codes "let")) ≡ Some (Expected, 1, 1)
 let_is_no_declaration = refl
 
-fun_is_beyond_the_fragment : parsed fragment (codes "state unit; fun f(x: int): int = unauth(5);") ≡ FirstFault Expected 1 13
+fun_is_beyond_the_fragment : fault_of (parsed fragment (codes "state unit; fun f(x: int): int = unauth(5);")) ≡ Some (Expected, 1, 13)
 fun_is_beyond_the_fragment = refl
 
-pairs_are_beyond_the_fragment : parsed fragment (codes "state (int, int);") ≡ FirstFault Expected 1 7
+pairs_are_beyond_the_fragment : fault_of (parsed fragment (codes "state (int, int);")) ≡ Some (Expected, 1, 7)
 pairs_are_beyond_the_fragment = refl
 
-calls_are_beyond_the_fragment : parsed fragment (codes "query f(x: int): int = f(x);") ≡ FirstFault Expected 1 25
+calls_are_beyond_the_fragment : fault_of (parsed fragment (codes "query f(x: int): int = f(x);")) ≡ Some (Expected, 1, 25)
 calls_are_beyond_the_fragment = refl
 
-a_call_has_an_argument : parsed whole_language (codes "query f(x: int): int = f();") ≡ FirstFault Expected 1 26
+a_call_has_an_argument : fault_of (parsed whole_language (codes "query f(x: int): int = f();")) ≡ Some (Expected, 1, 26)
 a_call_has_an_argument = refl
 
-a_match_has_an_arm : parsed whole_language (codes "query f(x: int): int = match x with end;") ≡ FirstFault Expected 1 37
+a_match_has_an_arm : fault_of (parsed whole_language (codes "query f(x: int): int = match x with end;")) ≡ Some (Expected, 1, 37)
 a_match_has_an_arm = refl
 
-a_function_has_a_parameter : parsed whole_language (codes "query f(): int = 1;") ≡ FirstFault Expected 1 9
+a_function_has_a_parameter : fault_of (parsed whole_language (codes "query f(): int = 1;")) ≡ Some (Expected, 1, 9)
 a_function_has_a_parameter = refl
 
-no_grouping : parsed whole_language (codes "query f(x: int): int = (x);") ≡ FirstFault Expected 1 26
+no_grouping : fault_of (parsed whole_language (codes "query f(x: int): int = (x);")) ≡ Some (Expected, 1, 26)
 no_grouping = refl
 
 -- an authenticated search tree

@@ -1,9 +1,10 @@
 -- The token at the head, which says what is read.
 use Rattle.std.proofs.Common.{◌≡◌, Bool, true, false, List, [], ◌∷◌, refl, sym, ap, subst, ◌∙◌}
-use Rattle.auth_syntax.specs.declared.place.Place.{Place}
-use Rattle.auth_syntax.specs.Tokens.{Token, Tokens, Next}
+use Rattle.lexemes.specs.declared.place.Place.{Place}
+use Rattle.lexemes.specs.Tokens.{Token, Tokens, Next}
 use Rattle.auth_syntax.specs.Grammar.{Written, standing}
-use Rattle.auth_syntax.specs.Parsing.{Reading, Found, allowed}
+use Rattle.lexemes.specs.Readings.{Reading, Found}
+use Rattle.auth_syntax.specs.Parsing.{allowed}
 use Rattle.auth_syntax.proofs.Beginnings.{Begin, First, begin-none, begin-next}
 use Rattle.auth_syntax.proofs.Readers.{found_thing, found_left}
 

@@ -1,14 +1,16 @@
 -- What is read on a level, by the token at the head: where it begins nothing, where no level is left, and where one is.
 use Rattle.std.proofs.Common.{◌≡◌, ◌≢◌, ℕ, zero, suc, ◌-◌, Bool, true, false, Option, Some, None, cond, arith, refl, ap, ◌∙◌}
-use Rattle.auth_syntax.specs.declared.place.Place.{Place}
-use Rattle.auth_syntax.specs.declared.fault.SyntaxKind.TheVariants.{Expected, TooNested}
-use Rattle.auth_syntax.specs.declared.token.Keyword.{Keyword}
-use Rattle.auth_syntax.specs.declared.token.Keyword.TheVariants.{Let as LetWord, Match as MatchWord, If as IfWord, Auth as AuthWord, Unit as UnitWord, Bool as BoolWord, Int as IntWord, Text as TextWord, True as TrueWord, False as FalseWord}
-use Rattle.auth_syntax.specs.declared.token.Mark.TheVariants.{LeftParenthesis}
-use Rattle.auth_syntax.specs.Tokens.{Token, KeywordToken, MarkToken, LowerToken, UpperToken, IntToken, TextToken, Tokens, Next}
-use Rattle.auth_syntax.specs.Syntax.{TypeSyntax, ExpSyntax, UnaryOperation, BinaryOperation}
+use Rattle.core_terms.specs.declared.language.term.BinaryOperator.{BinaryOperator}
+use Rattle.lexemes.specs.declared.place.Place.{Place}
+use Rattle.lexemes.specs.declared.fault.SyntaxKind.TheVariants.{Expected, TooNested}
+use Rattle.lexemes.specs.declared.token.Keyword.{Keyword}
+use Rattle.lexemes.specs.declared.token.Keyword.TheVariants.{Let as LetWord, Match as MatchWord, If as IfWord, Auth as AuthWord, Unit as UnitWord, Bool as BoolWord, Int as IntWord, Text as TextWord, True as TrueWord, False as FalseWord}
+use Rattle.lexemes.specs.declared.token.Mark.TheVariants.{LeftParenthesis}
+use Rattle.lexemes.specs.Tokens.{Token, KeywordToken, MarkToken, LowerToken, UpperToken, IntToken, TextToken, Tokens, Next}
+use Rattle.auth_syntax.specs.Syntax.{TypeSyntax, ExpSyntax, UnaryOperation}
 use Rattle.auth_syntax.specs.Vocabulary.{Vocabulary, NamedTypes, Bools, Ints, Texts, AuthTypes, Pairs, Unary, Binary, Constructors, Lets, Conditions, Matches, whole_language}
-use Rattle.auth_syntax.specs.Parsing.{Reading, FaultAt, allowed, begins_type, type_from, read_type, begins_expression, word_begins, operation_begins, unary_of, binary_of, expression_from, word_from, operation_from, read_expression}
+use Rattle.lexemes.specs.Readings.{Reading, FaultAt}
+use Rattle.auth_syntax.specs.Parsing.{allowed, begins_type, type_from, read_type, begins_expression, word_begins, operation_begins, unary_of, binary_of, expression_from, word_from, operation_from, read_expression}
 use Rattle.auth_syntax.specs.LanguageViews.{once_begun}
 
 -- what is allowed, and what isn't
@@ -65,7 +67,7 @@ module _ (words : Vocabulary) where
       ∙ ap (λ n. type_from whole_language (read_type words n) at token rest) (less-one levels)
 
   -- a keyword that begins no expression
-  operation_from-none : (part : Tokens → Reading ExpSyntax) (at : Place) (unary : Option UnaryOperation) (binary : Option BinaryOperation) (rest : Tokens)
+  operation_from-none : (part : Tokens → Reading ExpSyntax) (at : Place) (unary : Option UnaryOperation) (binary : Option BinaryOperator) (rest : Tokens)
       → operation_begins words unary binary ≡ false → operation_from words part at unary binary rest ≡ FaultAt Expected at
   operation_from-none part at (Some operation) binary rest h = allowed-none (words (Unary operation)) at _ h
   operation_from-none part at None (Some operation) rest h = allowed-none (words (Binary operation)) at _ h
@@ -100,7 +102,7 @@ module _ (words : Vocabulary) where
   read_expression-nested at token rest h = ap (λ begins. FaultAt (cond begins TooNested Expected) at) h
 
   -- of a token that begins an expression pairs and calls alone still matter
-  operation_from-begun : (part : Tokens → Reading ExpSyntax) (at : Place) (unary : Option UnaryOperation) (binary : Option BinaryOperation) (rest : Tokens)
+  operation_from-begun : (part : Tokens → Reading ExpSyntax) (at : Place) (unary : Option UnaryOperation) (binary : Option BinaryOperator) (rest : Tokens)
       → operation_begins words unary binary ≡ true
       → operation_from words part at unary binary rest ≡ operation_from (once_begun words) part at unary binary rest
   operation_from-begun part at (Some operation) binary rest h = allowed-begun (words (Unary operation)) at _ h

@@ -1,11 +1,12 @@
 -- Readers that count levels down, on tokens that only begin alike.
 use Rattle.std.proofs.Common.{◌≡◌, ℕ, zero, suc, ◌≤◌, Bool, true, false, cond, List, [], ◌∷◌, ◌++◌, refl, sym, ap, subst, ◌∙◌, arith}
-use Rattle.auth_syntax.specs.declared.place.Place.{Place}
-use Rattle.auth_syntax.specs.declared.fault.SyntaxKind.{SyntaxKind}
-use Rattle.auth_syntax.specs.declared.fault.SyntaxKind.TheVariants.{Lexical, Expected, TooNested}
-use Rattle.auth_syntax.specs.Tokens.{Token, Tokens, Next, End, Faulty}
+use Rattle.lexemes.specs.declared.place.Place.{Place}
+use Rattle.lexemes.specs.declared.fault.SyntaxKind.{SyntaxKind}
+use Rattle.lexemes.specs.declared.fault.SyntaxKind.TheVariants.{Lexical, Expected, TooNested}
+use Rattle.lexemes.specs.Tokens.{Token, Tokens, Next, End, Faulty}
 use Rattle.auth_syntax.specs.Grammar.{Written}
-use Rattle.auth_syntax.specs.Parsing.{Reading, Found, FaultAt, too_nested}
+use Rattle.lexemes.specs.Readings.{Reading, Found, FaultAt}
+use Rattle.auth_syntax.specs.Parsing.{too_nested}
 use Rattle.auth_syntax.specs.FirstFaults.{Placed, placed, joined}
 use Rattle.auth_syntax.proofs.Fronts.{SameHead, CanBegin, Taken, Blocked, Stuck, kind_is, place_is}
 use Rattle.auth_syntax.proofs.Productions.{HasSome, rest_refused}

@@ -1,21 +1,4 @@
-pub mod PrintedTexts
-pub mod LineLemmas
-pub mod TreeTokens
-mod PrintedRows
-mod PrintedProgramRows
-mod TokenRows
-mod LiteralRows
-pub mod TextLemmas
-pub mod NumberLemmas
-pub mod PlaceLemmas
-pub mod TokenLemmas
-pub mod LevelSteps
-pub mod MadeOfTokens
-pub mod ArmsOneByOne
-pub mod Loops
-pub mod Faults
-mod GrammarRows
-pub mod Signs
+-- the laws parsing_is_exact and one_is_written: what is read is what the grammar writes, from the tokens of a tree upwards
 pub mod Beginnings
 pub mod Readers
 pub mod Lists
@@ -24,22 +7,14 @@ pub mod Types
 pub mod Expressions
 pub mod Declarations
 pub mod Exact
-mod PrintedTokens
-mod PrintedReadBack
-mod BeginAnywhere
-mod TokensOfTexts
-mod PrintedLines
-mod MovedTrees
-mod FormsWithoutPlaces
-mod PrintedProgramsRead
-pub mod PairDepths
-pub mod PrintedFronts
-mod PrintedValuesRead
-pub mod LiteralSpellings
-pub mod LiteralReadings
-pub mod TokenValues
-pub mod LiteralsReadBack
-pub mod Counted
+-- parser::types and parser::expressions, the cycles
+pub mod LevelSteps
+pub mod Faults
+-- the loops of the parser: lists, arms, constructors and declarations one by one
+pub mod MadeOfTokens
+pub mod ArmsOneByOne
+pub mod Loops
+-- the law first_fault_is_first: how the tokens before a fault can be gone on with, from rows of tokens upwards
 pub mod Fronts
 pub mod FrontRows
 pub mod Productions
@@ -51,4 +26,7 @@ pub mod FrontArms
 pub mod FrontExpressions
 pub mod FrontDeclarations
 pub mod FrontPrograms
+-- the law first_fault_is_told
 pub mod Told
+-- the definitions, computed on texts
+mod GrammarRows

@@ -1,10 +1,11 @@
 -- Readers of lists: things with a sign between them, and a sign that ends them.
 use Rattle.std.proofs.Common.{◌≡◌, ℕ, zero, suc, ◌<◌, ◌≤◌, Bool, true, false, List, [], ◌∷◌, ◌++◌, length, cond, refl, sym, ap, subst, ◌∙◌, arith, append_assoc, length-append}
-use Rattle.auth_syntax.specs.declared.place.Place.{Place}
-use Rattle.auth_syntax.specs.declared.token.Mark.TheVariants.{LeftParenthesis, RightParenthesis, Comma, Semicolon, Bar}
-use Rattle.auth_syntax.specs.Tokens.{MarkToken, Tokens, Next, End, Faulty, count}
+use Rattle.lexemes.specs.declared.place.Place.{Place}
+use Rattle.lexemes.specs.declared.token.Mark.TheVariants.{LeftParenthesis, RightParenthesis, Comma, Semicolon, Bar}
+use Rattle.lexemes.specs.Tokens.{MarkToken, Tokens, Next, End, Faulty, count}
 use Rattle.auth_syntax.specs.Grammar.{Written, mark, in_parentheses, IsSome}
-use Rattle.auth_syntax.specs.Parsing.{Reading, Found, then_read, refused, read_separator, read_others, read_list, read_optional_list, read_bar}
+use Rattle.lexemes.specs.Readings.{Reading, Found, then_read, refused, read_separator}
+use Rattle.auth_syntax.specs.Parsing.{read_others, read_list, read_optional_list, read_bar}
 use Rattle.auth_syntax.proofs.Beginnings.{Begins, Begin, First, begin-none, begin-next, begin-append, begin-first, none-begin}
 use Rattle.auth_syntax.proofs.Readers.{IsClear, IsReader, Reader, Row, Then, Last, read_row, row_sound, row_complete, found_thing, found_left, gone_on, then_found, clear_first}
 

@@ -1,16 +1,17 @@
 -- Lists and declarations one by one, as the code reads them.
 use Rattle.std.proofs.Common.{◌≡◌, ℕ, zero, suc, Bool, true, false, ◌<◌, ◌≤◌, List, [], ◌∷◌, ◌++◌, map, Err, refl, ap, sym, ◌∙◌, arith, append_assoc}
 use Rattle.std.proofs.lemmas.List.{map-append}
-use Rattle.auth_syntax.specs.declared.place.Place.{Place}
-use Rattle.auth_syntax.specs.declared.fault.SyntaxKind.{SyntaxKind}
-use Rattle.auth_syntax.specs.Tokens.{Token, Tokens, Next, End, Faulty, count}
-use Rattle.auth_syntax.specs.declared.fault.Fault.{Fault}
+use Rattle.lexemes.specs.declared.place.Place.{Place}
+use Rattle.lexemes.specs.declared.fault.SyntaxKind.{SyntaxKind}
+use Rattle.lexemes.specs.Tokens.{Token, Tokens, Next, End, Faulty, count}
+use Rattle.lexemes.specs.Readings.{SyntaxFault}
 use Rattle.auth_syntax.specs.Syntax.{ConstructorDeclaration, DeclarationSyntax}
 use Rattle.auth_syntax.specs.Vocabulary.{Vocabulary}
-use Rattle.auth_syntax.specs.Parsing.{Reading, Found, FaultAt, then_read, read_separator, read_bar, read_arm_separator, read_others, read_list, read_expression, read_arms, read_constructor_declaration, read_constructors, read_declaration, read_declarations}
+use Rattle.lexemes.specs.Readings.{Reading, Found, FaultAt, then_read, read_separator}
+use Rattle.auth_syntax.specs.Parsing.{read_bar, read_arm_separator, read_others, read_list, read_expression, read_arms, read_constructor_declaration, read_constructors, read_declaration, read_declarations}
 use Rattle.auth_syntax.specs.Trees.{arms_in_a_row}
 use Rattle.auth_syntax.specs.Arms.{read_arm}
-use Rattle.auth_syntax.specs.Outcomes.{Reads}
+use Rattle.lexemes.specs.Remaining.{Reads}
 use Rattle.auth_syntax.proofs.Faults.{Reads-err}
 use Rattle.auth_syntax.proofs.Lists.{read_separated, read_list-is}
 use Rattle.auth_syntax.proofs.Exact.{read_constructors-is}
@@ -109,14 +110,14 @@ module _ {A B : Type 0} (reads : Tokens → Reading Bool) (one : Tokens → Read
   no_more (suc most) rest kind at enough none = ap (from most) none
 
   -- no thing
-  pub read_so_far-none : {C D : Type 0} (view : C → A) (view_all : D → B) (left left' : Tokens) (fault : Fault) → Reads view (one rest) (Err fault) left
+  pub read_so_far-none : {C D : Type 0} (view : C → A) (view_all : D → B) (left left' : Tokens) (fault : SyntaxFault) → Reads view (one rest) (Err fault) left
       → Reads view_all (all whole) (Err fault) left'
   read_so_far-none view view_all left left' fault =
       Reads-err view view_all (one rest) (all whole) left left' fault
       (λ kind at none. by_one.all_is whole ∙ ap (seen see) (h.reading ∙ ap (followed so_far) (no_more h.most rest kind at h.enough none)))
 
   -- no sign stands behind a thing
-  pub read_so_far-other : {D : Type 0} (view_all : D → B) (after : Tokens) (thing : A) → one rest ≡ Found thing after → (left left' : Tokens) (fault : Fault)
+  pub read_so_far-other : {D : Type 0} (view_all : D → B) (after : Tokens) (thing : A) → one rest ≡ Found thing after → (left left' : Tokens) (fault : SyntaxFault)
       → Reads (λ follows. follows) (reads after) (Err fault) left → Reads view_all (all whole) (Err fault) left'
   read_so_far-other view_all after thing found left left' fault =
       let more = one_more h.most after thing found h.enough in

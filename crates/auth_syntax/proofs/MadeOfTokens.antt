@@ -1,15 +1,16 @@
 -- What is found is made of tokens: fewer are left behind it.
 use Rattle.std.proofs.Common.{◌≡◌, ℕ, zero, suc, ◌<◌, ◌+◌, refl, Bool, List, [], ◌∷◌, length, ap, sym, ◌∙◌, arith}
-use Rattle.auth_syntax.specs.declared.place.Place.{Place}
-use Rattle.auth_syntax.specs.declared.fault.LexicalFault.{LexicalFault}
-use Rattle.auth_syntax.specs.declared.fault.SyntaxKind.TheVariants.{Lexical, Expected}
-use Rattle.auth_syntax.specs.declared.token.Mark.TheVariants.{Bar, Arrow}
-use Rattle.auth_syntax.specs.declared.token.Keyword.TheVariants.{End as EndWord}
-use Rattle.auth_syntax.specs.Tokens.{KeywordToken, MarkToken, Tokens, Next, End, Faulty, count}
+use Rattle.lexemes.specs.declared.place.Place.{Place}
+use Rattle.lexemes.specs.declared.fault.LexicalFault.{LexicalFault}
+use Rattle.lexemes.specs.declared.fault.SyntaxKind.TheVariants.{Lexical, Expected}
+use Rattle.lexemes.specs.declared.token.Mark.TheVariants.{Bar, Arrow}
+use Rattle.lexemes.specs.declared.token.Keyword.TheVariants.{End as EndWord}
+use Rattle.lexemes.specs.Tokens.{KeywordToken, MarkToken, Tokens, Next, End, Faulty, count}
 use Rattle.auth_syntax.specs.Syntax.{DeclarationSyntax}
 use Rattle.auth_syntax.specs.Vocabulary.{Vocabulary}
 use Rattle.auth_syntax.specs.Grammar.{Written, nesting_limit, names_tokens, parameter_tokens, constructor_tokens, declaration_tokens}
-use Rattle.auth_syntax.specs.Parsing.{Reading, Found, FaultAt, read_lower, read_separator, read_bar, read_arm_separator, read_type, read_expression, read_parameter, read_constructor_declaration, read_declaration}
+use Rattle.lexemes.specs.Readings.{Reading, Found, FaultAt, read_separator}
+use Rattle.auth_syntax.specs.Parsing.{read_lower, read_bar, read_arm_separator, read_type, read_expression, read_parameter, read_constructor_declaration, read_declaration}
 use Rattle.auth_syntax.specs.Trees.{ArmSyntax}
 use Rattle.auth_syntax.specs.Arms.{read_arm}
 use Rattle.auth_syntax.proofs.Beginnings.{Begin, Begins}

@@ -1,12 +1,13 @@
 -- What is read behind the token at the head, by a row of readers.
 use Rattle.std.proofs.Common.{◌≡◌, ℕ, suc, ◌≤◌, Bool, true, false, List, [], ◌∷◌, ◌++◌, refl, sym, ap, subst, ◌∙◌}
-use Rattle.auth_syntax.specs.declared.place.Place.{Place}
-use Rattle.auth_syntax.specs.declared.fault.SyntaxKind.{SyntaxKind}
-use Rattle.auth_syntax.specs.declared.fault.SyntaxKind.TheVariants.{Expected}
-use Rattle.auth_syntax.specs.Tokens.{Token, Tokens, Next, End, Faulty}
+use Rattle.lexemes.specs.declared.place.Place.{Place}
+use Rattle.lexemes.specs.declared.fault.SyntaxKind.{SyntaxKind}
+use Rattle.lexemes.specs.declared.fault.SyntaxKind.TheVariants.{Expected}
+use Rattle.lexemes.specs.Tokens.{Token, Tokens, Next, End, Faulty}
 use Rattle.auth_syntax.specs.Syntax.{NameSyntax}
 use Rattle.auth_syntax.specs.Grammar.{Written, standing, lower}
-use Rattle.auth_syntax.specs.Parsing.{Reading, Found, FaultAt, refused, allowed, read_lower}
+use Rattle.lexemes.specs.Readings.{Reading, Found, FaultAt, refused}
+use Rattle.auth_syntax.specs.Parsing.{allowed, read_lower}
 use Rattle.auth_syntax.specs.FirstFaults.{Placed, placed, joined, AreFirst}
 use Rattle.auth_syntax.proofs.Readers.{Row, Things, made, row_written, row_within, read_row, lower_found}
 use Rattle.auth_syntax.proofs.Heads.{allowed_found, allowed_read}

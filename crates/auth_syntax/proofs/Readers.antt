@@ -1,16 +1,17 @@
 -- Readers: functions that read a thing at the head of some tokens, and readers that read one thing after another. What a reader finds is
 -- written with the tokens that it has taken, and what is written so is found.
 use Rattle.std.proofs.Common.{◌≡◌, ℕ, Bool, true, false, List, [], ◌∷◌, ◌++◌, cond, refl, sym, ap, subst, ◌∙◌}
-use Rattle.auth_syntax.specs.declared.place.Place.{Place}
-use Rattle.auth_syntax.specs.declared.token.Mark.{Mark}
-use Rattle.auth_syntax.specs.declared.token.Mark.TheVariants.{LeftParenthesis}
-use Rattle.auth_syntax.specs.declared.token.Keyword.{Keyword}
-use Rattle.auth_syntax.specs.Tokens.{Token, KeywordToken, MarkToken, LowerToken, UpperToken, Tokens, Next}
+use Rattle.lexemes.specs.declared.place.Place.{Place}
+use Rattle.lexemes.specs.declared.token.Mark.{Mark}
+use Rattle.lexemes.specs.declared.token.Mark.TheVariants.{LeftParenthesis}
+use Rattle.lexemes.specs.declared.token.Keyword.{Keyword}
+use Rattle.lexemes.specs.Tokens.{Token, KeywordToken, MarkToken, LowerToken, UpperToken, Tokens, Next}
 use Rattle.auth_syntax.specs.Syntax.{NameSyntax}
 use Rattle.auth_syntax.specs.Grammar.{Written, mark, word, lower, upper}
-use Rattle.auth_syntax.specs.Parsing.{Reading, Found, FaultAt, then_read, read_mark, read_keyword, read_lower, read_upper, is_mark, is_keyword}
-use Rattle.auth_syntax.specs.declared.fault.SyntaxKind.TheVariants.{Expected}
-use Rattle.auth_syntax.proofs.Signs.{is_mark-true, is_mark-same, is_keyword-true, is_keyword-same}
+use Rattle.lexemes.specs.Readings.{Reading, Found, FaultAt, then_read, read_mark, read_keyword, is_mark, is_keyword}
+use Rattle.auth_syntax.specs.Parsing.{read_lower, read_upper}
+use Rattle.lexemes.specs.declared.fault.SyntaxKind.TheVariants.{Expected}
+use Rattle.lexemes.proofs.Signs.{is_mark-true, is_mark-same, is_keyword-true, is_keyword-same}
 use Rattle.auth_syntax.proofs.Beginnings.{Begin, First, begin-none, begin-next, begin-append, begin-first, begin-parted, none-begin}
 
 -- no parenthesis opens there

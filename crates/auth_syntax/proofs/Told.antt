@@ -1,10 +1,10 @@
 -- Where the tokens before it can be gone on with within the limit, the first fault is told.
-use Rattle.std.proofs.Common.{◌≡◌, ℕ, suc, List, [], ◌∷◌, ◌++◌, refl, sym, ap, subst, ◌∙◌}
-use Rattle.auth_syntax.specs.declared.place.Place.{Place}
-use Rattle.auth_syntax.specs.declared.fault.LexicalFault.{LexicalFault}
-use Rattle.auth_syntax.specs.declared.fault.SyntaxKind.{SyntaxKind}
-use Rattle.auth_syntax.specs.declared.fault.SyntaxKind.TheVariants.{Lexical, Expected, TooNested}
-use Rattle.auth_syntax.specs.Tokens.{Token, Tokens, Next, End, Faulty, tokens}
+use Rattle.std.proofs.Common.{◌≡◌, ℕ, suc, List, [], ◌∷◌, ◌++◌, refl, sym, ap, ap₂, subst, ◌∙◌}
+use Rattle.lexemes.specs.declared.place.Place.{Place}
+use Rattle.lexemes.specs.declared.fault.LexicalFault.{LexicalFault}
+use Rattle.lexemes.specs.declared.fault.SyntaxKind.{SyntaxKind}
+use Rattle.lexemes.specs.declared.fault.SyntaxKind.TheVariants.{Lexical, Expected, TooNested}
+use Rattle.lexemes.specs.Tokens.{Token, Tokens, Next, End, Faulty, tokens}
 use Rattle.auth_syntax.specs.Syntax.{DeclarationSyntax}
 use Rattle.auth_syntax.specs.Vocabulary.{Vocabulary}
 use Rattle.auth_syntax.specs.Grammar.{Written, declarations_tokens, nesting_limit, AreDeclarations, AreWritten}
@@ -116,38 +116,32 @@ module _ (words : Vocabulary) where
     by_kind TooNested r c = r.2 c
     by_kind (Lexical fault) r c = r
 
-  module _ (text : List ℕ) (kind : SyntaxKind) (line column : ℕ) (fault : IsFirstFault words (tokens text) kind line column)
+  module _ (text : List ℕ) (kind : SyntaxKind) (at : Place) (fault : IsFirstFault words (tokens text) kind at)
       (within : CanGoOn words nesting_limit fault.front) (not_nested : kind ≡ TooNested → ⊥) where
-    equal : (kind' : SyntaxKind) (at' : Place) (line' column' : ℕ) → kind' ≡ kind → at' ≡ fault.at → at'.line ≡ line' → at'.column ≡ column'
-        → FirstFault kind' line' column' ≡ FirstFault kind line column
-    equal kind' at' line' column' k a l c =
-        let line_same : line' ≡ line = sym l ∙ (ap (λ (at : Place). at.line) a ∙ fault.line_is) in
-        let column_same : column' ≡ column = sym c ∙ (ap (λ (at : Place). at.column) a ∙ fault.column_is) in cc
-
-    one_fault : (kind' : SyntaxKind) (line' column' : ℕ) (other : IsFirstFault words (tokens text) kind' line' column')
-        → Compared fault.front fault.rest other.front other.rest → FirstFault kind' line' column' ≡ FirstFault kind line column
-    one_fault kind' line' column' other (Same fronts rests) =
-        let r : IsRefused words fault.front fault.rest kind' other.at =
-        subst (λ (front : List Placed). IsRefused words front fault.rest kind' other.at) (sym fronts)
-        (subst (λ (rest : Tokens). IsRefused words other.front rest kind' other.at) (sym rests) other.refused) in
-        let one = one_reason fault.front fault.rest kind kind' fault.at other.at fault.refused r not_nested in
-        equal kind' other.at line' column' one.0 one.1 other.line_is other.column_is
-    one_fault kind' line' column' other (Longer p more is rest_is) =
-        absurd (not_expected fault.front fault.rest kind fault.at p (joined more other.rest) rest_is fault.refused not_nested (suc nesting_limit)
+    one_fault : (kind' : SyntaxKind) (at' : Place) (other : IsFirstFault words (tokens text) kind' at')
+        → Compared fault.front fault.rest other.front other.rest → FirstFault kind' at' ≡ FirstFault kind at
+    one_fault kind' at' other (Same fronts rests) =
+        let r : IsRefused words fault.front fault.rest kind' at' =
+        subst (λ (front : List Placed). IsRefused words front fault.rest kind' at') (sym fronts)
+        (subst (λ (rest : Tokens). IsRefused words other.front rest kind' at') (sym rests) other.refused) in
+        let one = one_reason fault.front fault.rest kind kind' at at' fault.refused r not_nested in
+        ap₂ FirstFault one.0 one.1
+    one_fault kind' at' other (Longer p more is rest_is) =
+        absurd (not_expected fault.front fault.rest kind at p (joined more other.rest) rest_is fault.refused not_nested (suc nesting_limit)
         (shorter_goes_on words (suc nesting_limit) fault.front p more (subst (CanGoOn words (suc nesting_limit)) is other.can_go_on)))
-    one_fault kind' line' column' other (Shorter p more is rest_is) =
-        absurd (not_within other.front other.rest kind' other.at p (joined more fault.rest) rest_is other.refused
+    one_fault kind' at' other (Shorter p more is rest_is) =
+        absurd (not_within other.front other.rest kind' at' p (joined more fault.rest) rest_is other.refused
         (shorter_goes_on words nesting_limit other.front p more (subst (CanGoOn words nesting_limit) is within)))
 
-    told : (found : Parsed) → parsed words text ≡ found → found ≡ FirstFault kind line column
+    told : (found : Parsed) → parsed words text ≡ found → found ≡ FirstFault kind at
     told (Tree program) e =
         let w = parsed_is_written words text program e in
-        absurd (not_in_tree fault.front fault.rest kind fault.at program.declarations program.end
+        absurd (not_in_tree fault.front fault.rest kind at program.declarations program.end
         (subst (λ (ts : Tokens). AreWritten ts (declarations_tokens program.declarations) program.end) fault.begin w.written) w.well_formed fault.refused not_nested)
-    told (FirstFault kind' line' column') e =
-        let other = first_fault_is_first words text kind' line' column' e in
-        one_fault kind' line' column' other (compared fault.front fault.rest other.front other.rest (sym fault.begin ∙ other.begin))
+    told (FirstFault kind' at') e =
+        let other = first_fault_is_first words text kind' at' e in
+        one_fault kind' at' other (compared fault.front fault.rest other.front other.rest (sym fault.begin ∙ other.begin))
 
 pub first_fault_is_told : FirstFaultIsTold
-first_fault_is_told words text kind line column fault within not_nested =
-    told words text kind line column fault within not_nested (parsed words text) refl
+first_fault_is_told words text kind at fault within not_nested =
+    told words text kind at fault within not_nested (parsed words text) refl

@@ -1,13 +1,14 @@
 -- The reader of types.
 use Rattle.std.proofs.Common.{◌≡◌, ℕ, zero, suc, ◌<◌, List, [], ◌∷◌, ◌++◌, length, refl, sym, ap, subst, ◌∙◌, arith, append_assoc}
-use Rattle.auth_syntax.specs.declared.place.Place.{Place}
-use Rattle.auth_syntax.specs.declared.token.Keyword.TheVariants.{Auth as AuthWord, Unit as UnitWord, Bool as BoolWord, Int as IntWord, Text as TextWord}
-use Rattle.auth_syntax.specs.declared.token.Mark.TheVariants.{LeftParenthesis, RightParenthesis, Comma}
-use Rattle.auth_syntax.specs.Tokens.{Token, KeywordToken, MarkToken, LowerToken, Tokens, Next, End, Faulty}
+use Rattle.lexemes.specs.declared.place.Place.{Place}
+use Rattle.lexemes.specs.declared.token.Keyword.TheVariants.{Auth as AuthWord, Unit as UnitWord, Bool as BoolWord, Int as IntWord, Text as TextWord}
+use Rattle.lexemes.specs.declared.token.Mark.TheVariants.{LeftParenthesis, RightParenthesis, Comma}
+use Rattle.lexemes.specs.Tokens.{Token, KeywordToken, MarkToken, LowerToken, Tokens, Next, End, Faulty}
 use Rattle.auth_syntax.specs.Syntax.{TypeSyntax, UnitTypeSyntax, BoolTypeSyntax, IntTypeSyntax, TextTypeSyntax, NamedTypeSyntax, AuthTypeSyntax, PairTypeSyntax}
 use Rattle.auth_syntax.specs.Vocabulary.{Vocabulary, NamedTypes, Bools, Ints, Texts, AuthTypes, Pairs}
 use Rattle.auth_syntax.specs.Grammar.{Written, standing, mark, type_tokens, type_levels, IsType}
-use Rattle.auth_syntax.specs.Parsing.{Reading, Found, type_from, read_type}
+use Rattle.lexemes.specs.Readings.{Reading, Found}
+use Rattle.auth_syntax.specs.Parsing.{type_from, read_type}
 use Rattle.auth_syntax.proofs.Beginnings.{Begin, First, begin-next, begin-first, begin-as, none-begin}
 use Rattle.auth_syntax.proofs.Readers.{IsClear, IsReader, Reader, Row, Done, ThenMark, Then, Last, row_sound, row_complete}
 use Rattle.auth_syntax.proofs.Heads.{allowed_found, allowed_read, found_is, head_is, one_written}

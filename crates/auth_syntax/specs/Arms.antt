@@ -1,9 +1,10 @@
 -- Arms one by one: behind its bar, an arm is read by itself.
-use Rattle.auth_syntax.specs.declared.token.Mark.TheVariants.{Arrow}
-use Rattle.auth_syntax.specs.Tokens.{Tokens}
+use Rattle.lexemes.specs.declared.token.Mark.TheVariants.{Arrow}
+use Rattle.lexemes.specs.Tokens.{Tokens}
 use Rattle.auth_syntax.specs.Syntax.{ExpSyntax}
 use Rattle.auth_syntax.specs.Trees.{ArmSyntax}
-use Rattle.auth_syntax.specs.Parsing.{Reading, Found, then_read, read_mark, read_lower, read_upper, read_optional_list}
+use Rattle.lexemes.specs.Readings.{Reading, Found, then_read, read_mark}
+use Rattle.auth_syntax.specs.Parsing.{read_lower, read_upper, read_optional_list}
 
 abbrev pub read_arm : (Tokens → Reading ExpSyntax) → Tokens → Reading ArmSyntax
 read_arm part tokens =

@@ -1,10 +1,10 @@
 -- The first fault of a text in the words of the grammar, whatever reads it: the tokens before it can be gone on with to a program, and with
 -- the token that stands there they can't.
 use Rattle.std.specs.Prelude.{◌≡◌, ℕ, suc, List, [], ◌∷◌, ◌++◌}
-use Rattle.auth_syntax.specs.declared.place.Place.{Place}
-use Rattle.auth_syntax.specs.declared.fault.SyntaxKind.{SyntaxKind}
-use Rattle.auth_syntax.specs.declared.fault.SyntaxKind.TheVariants.{Lexical, Expected, TooNested}
-use Rattle.auth_syntax.specs.Tokens.{Token, Tokens, Next, End, Faulty}
+use Rattle.lexemes.specs.declared.place.Place.{Place}
+use Rattle.lexemes.specs.declared.fault.SyntaxKind.{SyntaxKind}
+use Rattle.lexemes.specs.declared.fault.SyntaxKind.TheVariants.{Lexical, Expected, TooNested}
+use Rattle.lexemes.specs.Tokens.{Token, Tokens, Next, End, Faulty}
 use Rattle.auth_syntax.specs.Syntax.{DeclarationSyntax}
 use Rattle.auth_syntax.specs.Vocabulary.{Vocabulary}
 use Rattle.auth_syntax.specs.Grammar.{Written, IsKept, declarations_tokens, nesting_limit, AreDeclarations}
@@ -52,12 +52,9 @@ IsRefused words front (Next place token rest) (Lexical fault) at = ⊥
 
 -- The first fault of some tokens. The tokens before it can be gone on with within one level more than the limit: it may be that what has
 -- to come next would begin on that level.
-pub record IsFirstFault (words : Vocabulary) (tokens : Tokens) (kind : SyntaxKind) (line column : ℕ) : Type 0 where
+pub record IsFirstFault (words : Vocabulary) (tokens : Tokens) (kind : SyntaxKind) (at : Place) : Type 0 where
   pub front : List Placed
   pub rest : Tokens
-  pub at : Place
   pub begin : tokens ≡ joined front rest
   pub can_go_on : CanGoOn words (suc nesting_limit) front
   pub refused : IsRefused words front rest kind at
-  pub line_is : at.line ≡ line
-  pub column_is : at.column ≡ column

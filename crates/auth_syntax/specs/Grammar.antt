@@ -1,12 +1,12 @@
 -- The grammar: the tokens with which each syntax tree is written, an equation for each production.
 use Rattle.std.specs.Prelude.{◌≡◌, ℕ, suc, max, ◌≤◌, Bool, true, false, List, [], ◌∷◌, ◌++◌, Option, Some, None}
-use Rattle.auth_syntax.specs.declared.place.Place.{Place}
-use Rattle.auth_syntax.specs.Tokens.{Token, KeywordToken, MarkToken, LowerToken, UpperToken, IntToken, TextToken, Tokens, Next, End, tokens}
-use Rattle.auth_syntax.specs.declared.token.Keyword.{Keyword}
-use Rattle.auth_syntax.specs.declared.token.Keyword.TheVariants.{«Type» as TypeWord, State as StateWord, Fun as FunWord, Init as InitWord, Query as QueryWord, Update as UpdateWord, Let as LetWord, In as InWord, Match as MatchWord, With as WithWord, End as EndWord, If as IfWord, Then as ThenWord, Else as ElseWord, Auth as AuthWord, Unauth as UnauthWord, Fst as FstWord, Snd as SndWord, Unit as UnitWord, Bool as BoolWord, Int as IntWord, Text as TextWord, True as TrueWord, False as FalseWord, Add as AddWord, Sub as SubWord, Mul as MulWord, Div as DivWord, Rem as RemWord, Eq as EqWord, Lt as LtWord, Le as LeWord, Teq as TeqWord, Tlt as TltWord, Cat as CatWord, Len as LenWord, Not as NotWord}
-use Rattle.auth_syntax.specs.declared.token.Mark.{Mark}
-use Rattle.auth_syntax.specs.declared.token.Mark.TheVariants.{LeftParenthesis, RightParenthesis, Comma, Semicolon, Colon, EqualsSign, Bar, Arrow}
-use Rattle.auth_syntax.specs.Syntax.{NameSyntax, TypeSyntax, UnitTypeSyntax, BoolTypeSyntax, IntTypeSyntax, TextTypeSyntax, NamedTypeSyntax, AuthTypeSyntax, PairTypeSyntax, UnaryOperation, FstOperation, SndOperation, AuthOperation, UnauthOperation, LenOperation, NotOperation, BinaryOperation, AddOperation, SubOperation, MulOperation, DivOperation, RemOperation, EqOperation, LtOperation, LeOperation, TeqOperation, TltOperation, CatOperation, ExpSyntax, UnitSyntax, BoolSyntax, IntSyntax, TextSyntax, LocalSyntax, PairSyntax, UnarySyntax, BinarySyntax, CallSyntax, ConstructorSyntax, LetSyntax, IfSyntax, MatchSyntax, ExpsSyntax, NoExp, AndExp, ArmsSyntax, NoArmSyntax, AndArmSyntax, ParameterSyntax, KindSyntax, InnerSyntax, InitSyntax, QuerySyntax, UpdateSyntax, FunctionSyntax, ConstructorDeclaration, DeclarationSyntax, TypeDeclaration, StateDeclaration, FunctionDeclaration, Program}
+use Rattle.lexemes.specs.declared.place.Place.{Place}
+use Rattle.lexemes.specs.Tokens.{Token, KeywordToken, MarkToken, LowerToken, UpperToken, IntToken, TextToken, Tokens, Next, End, tokens}
+use Rattle.lexemes.specs.declared.token.Keyword.{Keyword}
+use Rattle.lexemes.specs.declared.token.Keyword.TheVariants.{«Type» as TypeWord, State as StateWord, Fun as FunWord, Init as InitWord, Query as QueryWord, Update as UpdateWord, Let as LetWord, In as InWord, Match as MatchWord, With as WithWord, End as EndWord, If as IfWord, Then as ThenWord, Else as ElseWord, Auth as AuthWord, Unauth as UnauthWord, Fst as FstWord, Snd as SndWord, Unit as UnitWord, Bool as BoolWord, Int as IntWord, Text as TextWord, True as TrueWord, False as FalseWord, Len as LenWord, Not as NotWord, Binary as BinaryWord}
+use Rattle.lexemes.specs.declared.token.Mark.{Mark}
+use Rattle.lexemes.specs.declared.token.Mark.TheVariants.{LeftParenthesis, RightParenthesis, Comma, Semicolon, Colon, EqualsSign, Bar, Arrow}
+use Rattle.auth_syntax.specs.Syntax.{NameSyntax, TypeSyntax, UnitTypeSyntax, BoolTypeSyntax, IntTypeSyntax, TextTypeSyntax, NamedTypeSyntax, AuthTypeSyntax, PairTypeSyntax, UnaryOperation, FstOperation, SndOperation, AuthOperation, UnauthOperation, LenOperation, NotOperation, ExpSyntax, UnitSyntax, BoolSyntax, IntSyntax, TextSyntax, LocalSyntax, PairSyntax, UnarySyntax, BinarySyntax, CallSyntax, ConstructorSyntax, LetSyntax, IfSyntax, MatchSyntax, ExpsSyntax, NoExp, AndExp, ArmsSyntax, NoArmSyntax, AndArmSyntax, ParameterSyntax, KindSyntax, InnerSyntax, InitSyntax, QuerySyntax, UpdateSyntax, FunctionSyntax, ConstructorDeclaration, DeclarationSyntax, TypeDeclaration, StateDeclaration, FunctionDeclaration, Program}
 use Rattle.auth_syntax.specs.Vocabulary.{Vocabulary, NamedTypes, InnerFunctions, Updates, Bools, Ints, Texts, AuthTypes, Pairs, Unary, Binary, Calls, Constructors, Lets, Conditions, Matches}
 
 -- a token of a tree, with its place where the tree keeps it
@@ -34,7 +34,7 @@ lower name = standing name.at (LowerToken name.name)
 abbrev pub upper : NameSyntax → Written
 upper name = standing name.at (UpperToken name.name)
 
--- the words of the operations
+-- the word of an operation on one operand; that of an operator on two is its keyword
 abbrev pub unary_word : UnaryOperation → Keyword
 unary_word FstOperation = FstWord
 unary_word SndOperation = SndWord
@@ -42,19 +42,6 @@ unary_word AuthOperation = AuthWord
 unary_word UnauthOperation = UnauthWord
 unary_word LenOperation = LenWord
 unary_word NotOperation = NotWord
-
-abbrev pub binary_word : BinaryOperation → Keyword
-binary_word AddOperation = AddWord
-binary_word SubOperation = SubWord
-binary_word MulOperation = MulWord
-binary_word DivOperation = DivWord
-binary_word RemOperation = RemWord
-binary_word EqOperation = EqWord
-binary_word LtOperation = LtWord
-binary_word LeOperation = LeWord
-binary_word TeqOperation = TeqWord
-binary_word TltOperation = TltWord
-binary_word CatOperation = CatWord
 
 -- type  =  "unit" | "bool" | "int" | "text" | lower | "auth" type | "(" type "," type ")"
 abbrev pub type_tokens : TypeSyntax → List Written
@@ -101,7 +88,7 @@ abbrev mutual
   expression_tokens (UnarySyntax at operation operand) =
       standing at (KeywordToken (unary_word operation)) ∷ mark LeftParenthesis ∷ expression_tokens operand ++ mark RightParenthesis ∷ []
   expression_tokens (BinarySyntax at operation first second) =
-      standing at (KeywordToken (binary_word operation)) ∷ mark LeftParenthesis
+      standing at (KeywordToken (BinaryWord operation)) ∷ mark LeftParenthesis
       ∷ expression_tokens first ++ mark Comma ∷ expression_tokens second ++ mark RightParenthesis ∷ []
   expression_tokens (CallSyntax at name operands) =
       standing at (LowerToken name) ∷ mark LeftParenthesis ∷ expressions_tokens operands ++ mark RightParenthesis ∷ []

@@ -1,7 +1,7 @@
 -- The vocabularies of the languages of the code.
 use Rattle.std.specs.Prelude.{true}
 use Rattle.auth_syntax.specs.Vocabulary.{Form, NamedTypes, InnerFunctions, Updates, Bools, Ints, Texts, AuthTypes, Pairs, Unary, Binary, Calls, Constructors, Lets, Conditions, Matches, Vocabulary, whole_language, fragment}
-use Rattle.auth_syntax.specs.Trees.{unary_of, binary_of}
+use Rattle.auth_syntax.specs.Trees.{unary_of}
 use Rattle.auth_syntax.specs.declared.language.Language.{Language}
 use Rattle.auth_syntax.specs.declared.language.Language.TheVariants.{Whole, Fragment}
 use Rattle.auth_syntax.specs.declared.language.Form.{Form as FormCode}
@@ -23,7 +23,7 @@ form_of code.Texts = Texts
 form_of code.AuthTypes = AuthTypes
 form_of code.Pairs = Pairs
 form_of (code.Unary operation) = Unary (unary_of operation)
-form_of (code.Binary operation) = Binary (binary_of operation)
+form_of (code.Binary operation) = Binary operation
 form_of code.Calls = Calls
 form_of code.Constructors = Constructors
 form_of code.Lets = Lets

@@ -1,15 +1,14 @@
 -- The laws of the grammar, for each vocabulary and each text.
-use Rattle.std.specs.Prelude.{◌≡◌, ◌↔◌, ℕ, ◌+◌, ◌==◌, List, length, count_by}
-use Rattle.std.specs.List.{suffix_len}
-use Rattle.auth_syntax.specs.Places.{start, behind}
-use Rattle.auth_syntax.specs.Tokens.{is_in_line, tokens}
+use Rattle.std.specs.Prelude.{◌≡◌, ◌↔◌, ℕ, List}
+use Rattle.lexemes.specs.declared.place.Place.{Place}
+use Rattle.lexemes.specs.Tokens.{tokens}
 use Rattle.auth_syntax.specs.Syntax.{Program}
 use Rattle.auth_syntax.specs.Vocabulary.{Vocabulary}
 use Rattle.auth_syntax.specs.Grammar.{IsProgramText, nesting_limit}
 use Rattle.auth_syntax.specs.Parsing.{parsed, Tree, FirstFault}
 use Rattle.auth_syntax.specs.FirstFaults.{CanGoOn, IsFirstFault}
-use Rattle.auth_syntax.specs.declared.fault.SyntaxKind.{SyntaxKind}
-use Rattle.auth_syntax.specs.declared.fault.SyntaxKind.TheVariants.{TooNested}
+use Rattle.lexemes.specs.declared.fault.SyntaxKind.{SyntaxKind}
+use Rattle.lexemes.specs.declared.fault.SyntaxKind.TheVariants.{TooNested}
 
 -- Parsing finds exactly the program that the grammar gives a text.
 abbrev pub ParsingIsExact : Type 0
@@ -20,24 +19,15 @@ abbrev pub OneIsWritten : Type 0
 OneIsWritten =
     (words : Vocabulary) (text : List ℕ) (program other : Program) → IsProgramText words text program → IsProgramText words text other → program ≡ other
 
--- The place behind some bytes, at the beginning of a text: its offset is how many they are, its line is 1 and the number of 0a among
--- them, and its column is 1 and how many of them stand behind the last 0a.
-abbrev pub PlacesAreCounted : Type 0
-PlacesAreCounted =
-    (bytes : List ℕ)
-    → ((behind start bytes).offset ≡ length bytes)
-    × ((behind start bytes).line ≡ 1 + count_by (λ b. b == 10) bytes)
-    × ((behind start bytes).column ≡ 1 + suffix_len is_in_line bytes)
-
 -- The first fault that is told is a first one in the words of the grammar. Of a fault of nesting these words
 -- leave open at which token of what is nested it stands; parsing tells it at the one that begins the level too many.
 abbrev pub FirstFaultIsFirst : Type 0
 FirstFaultIsFirst =
-    (words : Vocabulary) (text : List ℕ) (kind : SyntaxKind) (line column : ℕ) → parsed words text ≡ FirstFault kind line column
-    → IsFirstFault words (tokens text) kind line column
+    (words : Vocabulary) (text : List ℕ) (kind : SyntaxKind) (at : Place) → parsed words text ≡ FirstFault kind at
+    → IsFirstFault words (tokens text) kind at
 
 -- Such a fault is told, where the tokens before it can be gone on with within the limit itself, and it isn't one of nesting.
 abbrev pub FirstFaultIsTold : Type 0
 FirstFaultIsTold =
-    (words : Vocabulary) (text : List ℕ) (kind : SyntaxKind) (line column : ℕ) (fault : IsFirstFault words (tokens text) kind line column)
-    → CanGoOn words nesting_limit fault.front → (kind ≡ TooNested → ⊥) → parsed words text ≡ FirstFault kind line column
+    (words : Vocabulary) (text : List ℕ) (kind : SyntaxKind) (at : Place) (fault : IsFirstFault words (tokens text) kind at)
+    → CanGoOn words nesting_limit fault.front → (kind ≡ TooNested → ⊥) → parsed words text ≡ FirstFault kind at

@@ -1,5 +1,3 @@
-pub mod Places
-pub mod Tokens
 pub mod Syntax
 pub mod Vocabulary
 pub mod Grammar
@@ -7,21 +5,6 @@ pub mod Parsing
 pub mod Trees
 pub mod Arms
 pub mod LanguageViews
-pub mod TokenViews
-pub mod PieceViews
 pub mod Outcomes
-pub mod Remaining
-pub mod Literals
-pub mod LiteralAnswers
-pub mod LiteralSteps
-pub mod PrintedValues
-pub mod PrintedPrograms
-pub mod LineViews
-pub mod WithoutPlaces
 pub mod Laws
-pub mod PrintedLaws
-pub mod PrintedProgramLaws
-pub mod LiteralLaws
 pub mod FirstFaults
-pub mod PrintedParts
-pub mod PrintedValueLaws

@@ -1,33 +1,18 @@
 -- Parsing as a function: the tree of a text, found from left to right with one token of lookahead, or the first fault: that of the first
 -- token that is faulty or is not allowed where it stands.
-use Rattle.std.specs.Prelude.{ℕ, zero, suc, Bool, true, false, List, [], ◌∷◌, Option, Some, None, bytes_eq, if◌then◌else◌}
-use Rattle.auth_syntax.specs.declared.place.Place.{Place}
-use Rattle.auth_syntax.specs.Tokens.{Token, KeywordToken, MarkToken, LowerToken, UpperToken, IntToken, TextToken, Tokens, Next, End, Faulty, tokens, count, keyword_text}
-use Rattle.auth_syntax.specs.declared.token.Keyword.{Keyword}
-use Rattle.auth_syntax.specs.declared.token.Keyword.TheVariants.{«Type» as TypeWord, State as StateWord, Fun as FunWord, Init as InitWord, Query as QueryWord, Update as UpdateWord, Let as LetWord, In as InWord, Match as MatchWord, With as WithWord, End as EndWord, If as IfWord, Then as ThenWord, Else as ElseWord, Auth as AuthWord, Unauth as UnauthWord, Fst as FstWord, Snd as SndWord, Unit as UnitWord, Bool as BoolWord, Int as IntWord, Text as TextWord, True as TrueWord, False as FalseWord, Add as AddWord, Sub as SubWord, Mul as MulWord, Div as DivWord, Rem as RemWord, Eq as EqWord, Lt as LtWord, Le as LeWord, Teq as TeqWord, Tlt as TltWord, Cat as CatWord, Len as LenWord, Not as NotWord}
-use Rattle.auth_syntax.specs.declared.token.Mark.{Mark}
-use Rattle.auth_syntax.specs.declared.token.Mark.TheVariants.{LeftParenthesis, RightParenthesis, Comma, Semicolon, Colon, EqualsSign, Bar, Arrow}
-use Rattle.auth_syntax.specs.declared.fault.SyntaxKind.{SyntaxKind}
-use Rattle.auth_syntax.specs.declared.fault.SyntaxKind.TheVariants.{Lexical, Expected, TooNested}
-use Rattle.auth_syntax.specs.Syntax.{NameSyntax, TypeSyntax, UnitTypeSyntax, BoolTypeSyntax, IntTypeSyntax, TextTypeSyntax, NamedTypeSyntax, AuthTypeSyntax, PairTypeSyntax, UnaryOperation, FstOperation, SndOperation, AuthOperation, UnauthOperation, LenOperation, NotOperation, BinaryOperation, AddOperation, SubOperation, MulOperation, DivOperation, RemOperation, EqOperation, LtOperation, LeOperation, TeqOperation, TltOperation, CatOperation, ExpSyntax, UnitSyntax, BoolSyntax, IntSyntax, TextSyntax, LocalSyntax, PairSyntax, UnarySyntax, BinarySyntax, CallSyntax, ConstructorSyntax, LetSyntax, IfSyntax, MatchSyntax, ExpsSyntax, NoExp, AndExp, ArmsSyntax, NoArmSyntax, AndArmSyntax, ParameterSyntax, KindSyntax, InnerSyntax, InitSyntax, QuerySyntax, UpdateSyntax, FunctionSyntax, ConstructorDeclaration, DeclarationSyntax, TypeDeclaration, StateDeclaration, FunctionDeclaration, Program}
+use Rattle.std.specs.Prelude.{ℕ, zero, suc, Bool, true, false, List, [], ◌∷◌, Option, Some, None, if◌then◌else◌}
+use Rattle.core_terms.specs.declared.language.term.BinaryOperator.{BinaryOperator}
+use Rattle.lexemes.specs.declared.place.Place.{Place}
+use Rattle.lexemes.specs.Tokens.{Token, KeywordToken, MarkToken, LowerToken, UpperToken, IntToken, TextToken, Tokens, Next, End, Faulty, tokens, count}
+use Rattle.lexemes.specs.declared.token.Keyword.{Keyword}
+use Rattle.lexemes.specs.declared.token.Keyword.TheVariants.{«Type» as TypeWord, State as StateWord, Fun as FunWord, Init as InitWord, Query as QueryWord, Update as UpdateWord, Let as LetWord, In as InWord, Match as MatchWord, With as WithWord, End as EndWord, If as IfWord, Then as ThenWord, Else as ElseWord, Auth as AuthWord, Unauth as UnauthWord, Fst as FstWord, Snd as SndWord, Unit as UnitWord, Bool as BoolWord, Int as IntWord, Text as TextWord, True as TrueWord, False as FalseWord, Len as LenWord, Not as NotWord, Binary as BinaryWord}
+use Rattle.lexemes.specs.declared.token.Mark.TheVariants.{LeftParenthesis, RightParenthesis, Comma, Semicolon, Colon, EqualsSign, Bar, Arrow}
+use Rattle.lexemes.specs.declared.fault.SyntaxKind.{SyntaxKind}
+use Rattle.lexemes.specs.declared.fault.SyntaxKind.TheVariants.{Expected, TooNested}
+use Rattle.lexemes.specs.Readings.{Reading, Found, FaultAt, then_read, refused, read_mark, read_keyword, read_separator}
+use Rattle.auth_syntax.specs.Syntax.{NameSyntax, TypeSyntax, UnitTypeSyntax, BoolTypeSyntax, IntTypeSyntax, TextTypeSyntax, NamedTypeSyntax, AuthTypeSyntax, PairTypeSyntax, UnaryOperation, FstOperation, SndOperation, AuthOperation, UnauthOperation, LenOperation, NotOperation, ExpSyntax, UnitSyntax, BoolSyntax, IntSyntax, TextSyntax, LocalSyntax, PairSyntax, UnarySyntax, BinarySyntax, CallSyntax, ConstructorSyntax, LetSyntax, IfSyntax, MatchSyntax, ExpsSyntax, NoExp, AndExp, ArmsSyntax, NoArmSyntax, AndArmSyntax, ParameterSyntax, KindSyntax, InnerSyntax, InitSyntax, QuerySyntax, UpdateSyntax, FunctionSyntax, ConstructorDeclaration, DeclarationSyntax, TypeDeclaration, StateDeclaration, FunctionDeclaration, Program}
 use Rattle.auth_syntax.specs.Vocabulary.{Vocabulary, NamedTypes, InnerFunctions, Updates, Bools, Ints, Texts, AuthTypes, Pairs, Unary, Binary, Calls, Constructors, Lets, Conditions, Matches}
 use Rattle.auth_syntax.specs.Grammar.{nesting_limit}
-
--- what stands at the head of some tokens, with the tokens behind it; or the first fault
-pub data Reading (A : Type 0) : Type 0 where
-  Found : (value : A) (rest : Tokens) → Reading A
-  FaultAt : (kind : SyntaxKind) (at : Place) → Reading A
-
--- reads on behind what was found
-abbrev pub then_read : {A B : Type 0} → Reading A → (A → Tokens → Reading B) → Reading B
-then_read (Found value rest) go = go value rest
-then_read (FaultAt kind at) go = FaultAt kind at
-
--- the token at the head is not allowed there
-abbrev pub refused : {A : Type 0} → Tokens → Reading A
-refused (Next at token rest) = FaultAt Expected at
-refused (End at) = FaultAt Expected at
-refused (Faulty at kind) = FaultAt (Lexical kind) at
 
 -- the token at this place is allowed, where the vocabulary has its form
 abbrev pub allowed : {A : Type 0} → Bool → Place → Reading A → Reading A
@@ -39,30 +24,6 @@ abbrev pub too_nested : {A : Type 0} → (Token → Bool) → Tokens → Reading
 too_nested begins (Next at token rest) = FaultAt (if begins token then TooNested else Expected) at
 too_nested begins tokens = refused tokens
 
--- the marks are the same, and the keywords are
-abbrev pub is_mark : Mark → Mark → Bool
-is_mark LeftParenthesis LeftParenthesis = true
-is_mark RightParenthesis RightParenthesis = true
-is_mark Comma Comma = true
-is_mark Semicolon Semicolon = true
-is_mark Colon Colon = true
-is_mark EqualsSign EqualsSign = true
-is_mark Bar Bar = true
-is_mark Arrow Arrow = true
-is_mark wanted found = false
-
-abbrev pub is_keyword : Keyword → Keyword → Bool
-is_keyword wanted found = bytes_eq (keyword_text wanted) (keyword_text found)
-
--- this mark, and this keyword
-abbrev pub read_mark : Mark → Tokens → Reading (Unit {0})
-read_mark wanted (Next at (MarkToken found) rest) = if is_mark wanted found then Found tt rest else FaultAt Expected at
-read_mark wanted tokens = refused tokens
-
-abbrev pub read_keyword : Keyword → Tokens → Reading (Unit {0})
-read_keyword wanted (Next at (KeywordToken found) rest) = if is_keyword wanted found then Found tt rest else FaultAt Expected at
-read_keyword wanted tokens = refused tokens
-
 -- a lower name, and an upper name
 abbrev pub read_lower : Tokens → Reading NameSyntax
 read_lower (Next at (LowerToken name) rest) = Found (record { at = at; name = name }) rest
@@ -71,12 +32,6 @@ read_lower tokens = refused tokens
 abbrev pub read_upper : Tokens → Reading NameSyntax
 read_upper (Next at (UpperToken name) rest) = Found (record { at = at; name = name }) rest
 read_upper tokens = refused tokens
-
--- what follows something in a list: a comma, so that another one follows, or the parenthesis that ends the list
-abbrev pub read_separator : Tokens → Reading Bool
-read_separator (Next at (MarkToken Comma) rest) = Found true rest
-read_separator (Next at (MarkToken RightParenthesis) rest) = Found false rest
-read_separator tokens = refused tokens
 
 -- the others of a list, behind its first: where the separator says so another one follows
 abbrev pub read_others : {A : Type 0} → Reading Bool → (Tokens → Reading (List A)) → Reading (List A)
@@ -116,18 +71,8 @@ unary_of LenWord = Some LenOperation
 unary_of NotWord = Some NotOperation
 unary_of keyword = None
 
-abbrev pub binary_of : Keyword → Option BinaryOperation
-binary_of AddWord = Some AddOperation
-binary_of SubWord = Some SubOperation
-binary_of MulWord = Some MulOperation
-binary_of DivWord = Some DivOperation
-binary_of RemWord = Some RemOperation
-binary_of EqWord = Some EqOperation
-binary_of LtWord = Some LtOperation
-binary_of LeWord = Some LeOperation
-binary_of TeqWord = Some TeqOperation
-binary_of TltWord = Some TltOperation
-binary_of CatWord = Some CatOperation
+abbrev pub binary_of : Keyword → Option BinaryOperator
+binary_of (BinaryWord operation) = Some operation
 binary_of keyword = None
 
 -- expressions in a row, from a list of them
@@ -166,7 +111,7 @@ read_unary part at operation tokens =
     then_read (part tokens) (λ operand tokens.
     then_read (read_mark RightParenthesis tokens) (λ _ tokens. Found (UnarySyntax at operation operand) tokens)))
 
-abbrev pub read_binary : (Tokens → Reading ExpSyntax) → Place → BinaryOperation → Tokens → Reading ExpSyntax
+abbrev pub read_binary : (Tokens → Reading ExpSyntax) → Place → BinaryOperator → Tokens → Reading ExpSyntax
 read_binary part at operation tokens =
     then_read (read_mark LeftParenthesis tokens) (λ _ tokens.
     then_read (part tokens) (λ first tokens.
@@ -258,7 +203,7 @@ module _ (words : Vocabulary) where
   read_whole_type tokens = read_type nesting_limit tokens
 
   -- whether a keyword begins an expression
-  abbrev pub operation_begins : Option UnaryOperation → Option BinaryOperation → Bool
+  abbrev pub operation_begins : Option UnaryOperation → Option BinaryOperator → Bool
   operation_begins (Some operation) binary = words (Unary operation)
   operation_begins None (Some operation) = words (Binary operation)
   operation_begins None None = false
@@ -285,7 +230,7 @@ module _ (words : Vocabulary) where
   read_unit_or_pair part at (Next next (MarkToken RightParenthesis) rest) = Found (UnitSyntax at) rest
   read_unit_or_pair part at tokens = pair_or_refused (words Pairs) part at tokens
 
-  abbrev pub operation_from : (Tokens → Reading ExpSyntax) → Place → Option UnaryOperation → Option BinaryOperation → Tokens → Reading ExpSyntax
+  abbrev pub operation_from : (Tokens → Reading ExpSyntax) → Place → Option UnaryOperation → Option BinaryOperator → Tokens → Reading ExpSyntax
   operation_from part at (Some operation) binary rest = allowed (words (Unary operation)) at (read_unary part at operation rest)
   operation_from part at None (Some operation) rest = allowed (words (Binary operation)) at (read_binary part at operation rest)
   operation_from part at None None rest = FaultAt Expected at
@@ -326,18 +271,22 @@ module _ (words : Vocabulary) where
       then_read (read_mark Colon tokens) (λ _ tokens.
       then_read (read_whole_type tokens) (λ of_type tokens. Found (record { name = name; of_type = of_type }) tokens)))
 
-  -- a function, behind the keyword of its kind
-  abbrev pub read_function : KindSyntax → Tokens → Reading FunctionSyntax
-  read_function kind tokens =
-      then_read (read_lower tokens) (λ name tokens.
-      then_read (read_mark LeftParenthesis tokens) (λ _ tokens.
-      then_read (read_list read_parameter (count tokens) tokens) (λ parameters tokens.
+  -- a function, from the colon behind its parameters on
+  abbrev pub read_behind_parameters : KindSyntax → NameSyntax → List ParameterSyntax → Tokens → Reading FunctionSyntax
+  read_behind_parameters kind name parameters tokens =
       then_read (read_mark Colon tokens) (λ _ tokens.
       then_read (read_whole_type tokens) (λ result_type tokens.
       then_read (read_mark EqualsSign tokens) (λ _ tokens.
       then_read (read_whole_expression tokens) (λ body tokens.
       then_read (read_mark Semicolon tokens) (λ _ tokens.
-      Found (record { kind = kind; name = name; parameters = parameters; result_type = result_type; body = body }) tokens))))))))
+      Found (record { kind = kind; name = name; parameters = parameters; result_type = result_type; body = body }) tokens)))))
+
+  -- a function, behind the keyword of its kind
+  abbrev pub read_function : KindSyntax → Tokens → Reading FunctionSyntax
+  read_function kind tokens =
+      then_read (read_lower tokens) (λ name tokens.
+      then_read (read_mark LeftParenthesis tokens) (λ _ tokens.
+      then_read (read_list read_parameter (count tokens) tokens) (λ parameters tokens. read_behind_parameters kind name parameters tokens)))
 
   abbrev pub read_function_declaration : Place → KindSyntax → Tokens → Reading DeclarationSyntax
   read_function_declaration at kind tokens =
@@ -387,10 +336,10 @@ module _ (words : Vocabulary) where
       then_read (read_declaration tokens) (λ declaration tokens.
       then_read (read_declarations most tokens) (λ rest tokens. Found (declaration ∷ rest) tokens))
 
--- what parsing a text gives: its tree, or its first fault with the line and column of its place
+-- what parsing a text gives: its tree, or its first fault with its place
 pub data Parsed : Type 0 where
   Tree : (program : Program) → Parsed
-  FirstFault : (kind : SyntaxKind) (line column : ℕ) → Parsed
+  FirstFault : (kind : SyntaxKind) (at : Place) → Parsed
 
 -- the place at which some tokens end
 abbrev pub end_of : Tokens → Place
@@ -400,7 +349,7 @@ end_of (Faulty at kind) = at
 
 abbrev pub as_program : Reading (List DeclarationSyntax) → Parsed
 as_program (Found declarations rest) = Tree (record { declarations = declarations; end = end_of rest })
-as_program (FaultAt kind at) = FirstFault kind at.line at.column
+as_program (FaultAt kind at) = FirstFault kind at
 
 -- the program that a text is one of, in a vocabulary, or the text's first fault
 abbrev pub parsed : Vocabulary → List ℕ → Parsed

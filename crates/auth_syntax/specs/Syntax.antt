@@ -1,6 +1,7 @@
 -- The syntax trees of programs: what a text says, without its blanks, comments and marks. Each node has the place of its first token.
 use Rattle.std.specs.Prelude.{ℕ, ℤ, Bool, List}
-use Rattle.auth_syntax.specs.declared.place.Place.{Place}
+use Rattle.core_terms.specs.declared.language.term.BinaryOperator.{BinaryOperator}
+use Rattle.lexemes.specs.declared.place.Place.{Place}
 
 -- a name where it stands: a list of bytes
 pub record NameSyntax : Type 0 where
@@ -14,13 +15,9 @@ pub data TypeSyntax : Type 0 where
   AuthTypeSyntax : (at : Place) (inner : TypeSyntax) → TypeSyntax
   PairTypeSyntax : (at : Place) (first second : TypeSyntax) → TypeSyntax
 
--- the operations on one operand, and on two
+-- the operations on one operand
 pub data UnaryOperation : Type 0 where
   FstOperation SndOperation AuthOperation UnauthOperation LenOperation NotOperation : UnaryOperation
-
-pub data BinaryOperation : Type 0 where
-  AddOperation SubOperation MulOperation DivOperation RemOperation : BinaryOperation
-  EqOperation LtOperation LeOperation TeqOperation TltOperation CatOperation : BinaryOperation
 
 mutual
   -- an expression; locals, functions and constructors go by their names
@@ -32,7 +29,7 @@ mutual
     LocalSyntax : (at : Place) (name : List ℕ) → ExpSyntax
     PairSyntax : (at : Place) (first second : ExpSyntax) → ExpSyntax
     UnarySyntax : (at : Place) (operation : UnaryOperation) (operand : ExpSyntax) → ExpSyntax
-    BinarySyntax : (at : Place) (operation : BinaryOperation) (first second : ExpSyntax) → ExpSyntax
+    BinarySyntax : (at : Place) (operation : BinaryOperator) (first second : ExpSyntax) → ExpSyntax
     -- a call, with its arguments; a constructor, which is written without parentheses where it has no fields
     CallSyntax ConstructorSyntax : (at : Place) (name : List ℕ) (operands : ExpsSyntax) → ExpSyntax
     LetSyntax : (at : Place) (name : NameSyntax) (bound body : ExpSyntax) → ExpSyntax

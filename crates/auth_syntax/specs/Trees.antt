@@ -2,16 +2,14 @@
 use Rattle.std.specs.Prelude.{List, [], ◌∷◌, map, Box, Vec}
 use Rattle.std.specs.declared.alloc.Global.{Global}
 use Rattle.core_terms.specs.Texts.{bytes_of}
-use Rattle.auth_syntax.specs.Syntax.{NameSyntax, TypeSyntax, UnitTypeSyntax, BoolTypeSyntax, IntTypeSyntax, TextTypeSyntax, NamedTypeSyntax, AuthTypeSyntax, PairTypeSyntax, UnaryOperation, FstOperation, SndOperation, AuthOperation, UnauthOperation, LenOperation, NotOperation, BinaryOperation, AddOperation, SubOperation, MulOperation, DivOperation, RemOperation, EqOperation, LtOperation, LeOperation, TeqOperation, TltOperation, CatOperation, ExpSyntax, UnitSyntax, BoolSyntax, IntSyntax, TextSyntax, LocalSyntax, PairSyntax, UnarySyntax, BinarySyntax, CallSyntax, ConstructorSyntax, LetSyntax, IfSyntax, MatchSyntax, ArmsSyntax, NoArmSyntax, AndArmSyntax, ParameterSyntax, KindSyntax, InnerSyntax, InitSyntax, QuerySyntax, UpdateSyntax, FunctionSyntax, ConstructorDeclaration, DeclarationSyntax, TypeDeclaration, StateDeclaration, FunctionDeclaration, Program}
+use Rattle.auth_syntax.specs.Syntax.{NameSyntax, TypeSyntax, UnitTypeSyntax, BoolTypeSyntax, IntTypeSyntax, TextTypeSyntax, NamedTypeSyntax, AuthTypeSyntax, PairTypeSyntax, UnaryOperation, FstOperation, SndOperation, AuthOperation, UnauthOperation, LenOperation, NotOperation, ExpSyntax, UnitSyntax, BoolSyntax, IntSyntax, TextSyntax, LocalSyntax, PairSyntax, UnarySyntax, BinarySyntax, CallSyntax, ConstructorSyntax, LetSyntax, IfSyntax, MatchSyntax, ArmsSyntax, NoArmSyntax, AndArmSyntax, ParameterSyntax, KindSyntax, InnerSyntax, InitSyntax, QuerySyntax, UpdateSyntax, FunctionSyntax, ConstructorDeclaration, DeclarationSyntax, TypeDeclaration, StateDeclaration, FunctionDeclaration, Program}
 use Rattle.auth_syntax.specs.Parsing.{in_a_row}
-use Rattle.auth_syntax.specs.declared.place.Place.{Place}
+use Rattle.lexemes.specs.declared.place.Place.{Place}
 use Rattle.auth_syntax.specs.declared.tree.PlacedName.{PlacedName}
 use Rattle.auth_syntax.specs.declared.tree.TypeTree.{TypeTree}
 use Rattle.auth_syntax.specs.declared.tree.TypeTree.TheVariants.{UnitType, BoolType, IntType, TextType, NamedType, AuthType', PairType'}
 use Rattle.auth_syntax.specs.declared.tree.UnaryOperator.{UnaryOperator}
 use Rattle.auth_syntax.specs.declared.tree.UnaryOperator.TheVariants.{Fst, Snd, Auth, Unauth, Len, Not}
-use Rattle.auth_syntax.specs.declared.tree.BinaryOperator.{BinaryOperator}
-use Rattle.auth_syntax.specs.declared.tree.BinaryOperator.TheVariants.{Add, Sub, Mul, Div, Rem, Eq, Lt, Le, Teq, Tlt, Cat}
 use Rattle.auth_syntax.specs.declared.tree.ExpTree.{ExpTree}
 use Rattle.auth_syntax.specs.declared.tree.ExpTree.TheOpen.{ExpTree-F, Arm-F}
 use Rattle.auth_syntax.specs.declared.tree.ExpTree.TheFolds.{fold-ExpTree, fold-Arm}
@@ -49,7 +47,7 @@ boxed_type_of tree = type_of tree.value
 abbrev pub types_of : Vec TypeTree Global → List TypeSyntax
 types_of types = map type_of types.items
 
--- the operations
+-- the operations on one operand
 abbrev pub unary_of : UnaryOperator → UnaryOperation
 unary_of Fst = FstOperation
 unary_of Snd = SndOperation
@@ -57,19 +55,6 @@ unary_of Auth = AuthOperation
 unary_of Unauth = UnauthOperation
 unary_of Len = LenOperation
 unary_of Not = NotOperation
-
-abbrev pub binary_of : BinaryOperator → BinaryOperation
-binary_of Add = AddOperation
-binary_of Sub = SubOperation
-binary_of Mul = MulOperation
-binary_of Div = DivOperation
-binary_of Rem = RemOperation
-binary_of Eq = EqOperation
-binary_of Lt = LtOperation
-binary_of Le = LeOperation
-binary_of Teq = TeqOperation
-binary_of Tlt = TltOperation
-binary_of Cat = CatOperation
 
 -- an arm of a match: its constructor, the names of its fields and its body
 pub record ArmSyntax : Type 0 where
@@ -91,7 +76,7 @@ expression_from_parts (ExpTree-F.TextLiteral at text) = TextSyntax at (bytes_of 
 expression_from_parts (ExpTree-F.Local at name) = LocalSyntax at name
 expression_from_parts (ExpTree-F.Pair at first second) = PairSyntax at first.value second.value
 expression_from_parts (ExpTree-F.Unary at operation operand) = UnarySyntax at (unary_of operation) operand.value
-expression_from_parts (ExpTree-F.Binary at operation first second) = BinarySyntax at (binary_of operation) first.value second.value
+expression_from_parts (ExpTree-F.Binary at operation first second) = BinarySyntax at operation first.value second.value
 expression_from_parts (ExpTree-F.Call at name operands) = CallSyntax at name (in_a_row operands.items)
 expression_from_parts (ExpTree-F.Constructor at name operands) = ConstructorSyntax at name (in_a_row operands.items)
 expression_from_parts (ExpTree-F.Let at name bound body) = LetSyntax at (name_of name) bound.value body.value

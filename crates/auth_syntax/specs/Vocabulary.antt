@@ -1,7 +1,10 @@
 -- Vocabularies: the language whole, and fragments of it that lack some of its forms. The grammar of a fragment is that of the language
 -- with fewer words; a token that begins or goes on with a form that is lacking is not allowed where it stands.
 use Rattle.std.specs.Prelude.{Bool, true, false}
-use Rattle.auth_syntax.specs.Syntax.{UnaryOperation, AuthOperation, UnauthOperation, BinaryOperation, AddOperation}
+use Rattle.core_terms.specs.declared.language.term.BinaryOperator.{BinaryOperator}
+use Rattle.core_terms.specs.declared.language.term.BinaryOperator.TheVariants.{Arith}
+use Rattle.core_terms.specs.declared.language.term.Arith.TheVariants.{Add}
+use Rattle.auth_syntax.specs.Syntax.{UnaryOperation, AuthOperation, UnauthOperation}
 
 -- What a fragment may lack. Every fragment has the declarations `state`, `init` and `query`, the type `unit`, `()` and names.
 -- NamedTypes: `type` and the names of types. InnerFunctions, Updates: `fun`, `update`. Bools: `bool`, `true`, `false`.
@@ -11,7 +14,7 @@ pub data Form : Type 0 where
   NamedTypes InnerFunctions Updates : Form
   Bools Ints Texts AuthTypes Pairs : Form
   Unary : (operation : UnaryOperation) → Form
-  Binary : (operation : BinaryOperation) → Form
+  Binary : (operation : BinaryOperator) → Form
   Calls Constructors Lets Conditions Matches : Form
 
 -- which forms there are
@@ -31,5 +34,5 @@ fragment Texts = true
 fragment AuthTypes = true
 fragment (Unary AuthOperation) = true
 fragment (Unary UnauthOperation) = true
-fragment (Binary AddOperation) = true
+fragment (Binary (Arith Add)) = true
 fragment form = false

@@ -3,17 +3,18 @@
 ghost use Rattle.std.specs.Prelude.{◌≡◌};
 ghost use Rattle.auth_syntax.specs.LanguageViews.{words_of, form_of};
 
-use crate::tree::{BinaryOperator, UnaryOperator};
+use crate::tree::UnaryOperator;
+use core_terms::language::{Arith, BinaryOperator};
 
 /// A language: the whole one, or a fragment of it.
-#[derive(Clone, Copy, Debug, PartialEq, Eq)]
+#[derive(Clone, Copy)]
 pub(crate) enum Language {
     Whole,
     Fragment,
 }
 
 /// What a language may lack: a way of declaring, a type with what is written of it, or a kind of expression.
-#[derive(Clone, Copy, Debug, PartialEq, Eq)]
+#[derive(Clone, Copy)]
 pub(crate) enum Form {
     NamedTypes,
     InnerFunctions,
@@ -46,7 +47,7 @@ impl Language {
                     | Form::Texts
                     | Form::AuthTypes
                     | Form::Unary(UnaryOperator::Auth | UnaryOperator::Unauth)
-                    | Form::Binary(BinaryOperator::Add)
+                    | Form::Binary(BinaryOperator::Arith(Arith::Add))
             ),
         }
     }

@@ -1,8 +1,9 @@
 // The trees that texts are parsed to. Those that `parse` gives have names of at most 64 bytes, texts of at most 65,532 bytes of UTF-8, and
 // no type or expression in them has more than 100 levels. Each node has the place of its first token.
 
-use crate::place::Place;
+use core_terms::language::BinaryOperator;
 use core_terms::{Name, Text};
+use lexemes::place::Place;
 
 /// A program: its declarations, in order, and the place behind the last byte of its text.
 #[derive(Drop)]
@@ -101,22 +102,6 @@ pub enum UnaryOperator {
     Unauth,
     Len,
     Not,
-}
-
-/// An operation on two operands.
-#[derive(Clone, Copy, Debug, PartialEq, Eq)]
-pub enum BinaryOperator {
-    Add,
-    Sub,
-    Mul,
-    Div,
-    Rem,
-    Eq,
-    Lt,
-    Le,
-    Teq,
-    Tlt,
-    Cat,
 }
 
 /// An expression, as it is written.

@@ -15,14 +15,14 @@ use Rattle.core_terms.specs.declared.types.TyId.{TyId}
 use Rattle.core_terms.specs.declared.language.term.Constructor.{Constructor}
 use Rattle.auth_syntax.specs.Trees.{ArmSyntax, arm_of, arms_in_a_row}
 use Rattle.auth_syntax.specs.declared.tree.Arm.{Arm}
-use Rattle.auth_syntax.specs.declared.place.Place.{Place}
+use Rattle.lexemes.specs.declared.place.Place.{Place}
 use Rattle.auth_types.specs.Checking.{Checking, FaultAt, then_checked, unless_fault}
 use Rattle.auth_types.specs.Bodies.{Numbered, Scope, Signature, Typed, TypedArms, arm_names, called, constructed, matched, same_names, typed}
 use Rattle.auth_types.specs.Scopes.{signature_meant}
 use Rattle.auth_types.specs.declared.scope.Head.{Head}
 use Rattle.auth_types.specs.Elaborators.{Calls, Constructs, Matches}
 use Rattle.auth_types.specs.declared.fault.TypeKind.TheVariants.{ArmsWrong, NotSum, UnknownName, WrongCount}
-use Rattle.auth_types.specs.declared.fault.Fault.TheVariants.{At}
+use Rattle.core_terms.specs.declared.fault.Fault.TheVariants.{At}
 use Rattle.auth_types.specs.declared.scope.ConstructorId.{ConstructorId}
 
 module _ (at : Place) (count : ℕ) (found : Option (Numbered Signature)) where
@@ -34,7 +34,8 @@ module _ (at : Place) (count : ℕ) (found : Option (Numbered Signature)) where
 
   module _ (meant : FunctionId → Numbered Signature) (id : FunctionId) (is : found ≡ Some (meant id)) where
     pub calls_miscounted : count ≢ length (meant id).value.parameters → Calls at count found meant (Err (At WrongCount at))
-    calls_miscounted other = λ arguments. ap (λ f. called at count f arguments) is ∙ ap (call_of (meant id) arguments) (ne_eqb count (length (meant id).value.parameters) other)
+    calls_miscounted other = λ arguments. ap (λ f. called at count f arguments) is
+        ∙ ap (call_of (meant id) arguments) (ne_eqb count (length (meant id).value.parameters) other)
 
     pub calls_found : (meant id).number ≡ id.0 → count ≡ length (meant id).value.parameters → Calls at count found meant (Ok id)
     calls_found number same = λ arguments.
@@ -44,7 +45,8 @@ module _ (at : Place) (count : ℕ) (found : Option (Numbered Signature)) where
 
 module _ (at : Place) (count : ℕ) (table : Table) (found : Option (Numbered ℕ)) where
   abbrev constructor_of : Numbered ℕ → (List Ty → Checking Expressions) → Bool → Checking Typed
-  constructor_of c fields b = unless_fault b WrongCount at (then_checked (fields (unwrap_or (fields_at table c.number c.value) [])) (λ es. typed (ConE c.number c.value es) (NamedTy c.number)))
+  constructor_of c fields b = unless_fault b WrongCount at (then_checked (fields (unwrap_or (fields_at table c.number c.value) []))
+      (λ es. typed (ConE c.number c.value es) (NamedTy c.number)))
 
   pub constructs_unknown : found ≡ None → Constructs at count table found (Err (At UnknownName at))
   constructs_unknown is = λ fields. ap (λ c. constructed at count table c fields) is
@@ -55,17 +57,21 @@ module _ (at : Place) (count : ℕ) (table : Table) (found : Option (Numbered �
 
     pub constructs_miscounted : count ≢ length types_here → Constructs at count table found (Err (At WrongCount at))
     constructs_miscounted other = λ fields.
-        ap (λ c. constructed at count table c fields) is ∙ ap (constructor_of (record { number = id.named.0; value = id.tag.0 }) fields) (ne_eqb count (length types_here) other)
+        ap (λ c. constructed at count table c fields) is ∙ ap (constructor_of (record { number = id.named.0; value = id.tag.0 }) fields)
+        (ne_eqb count (length types_here) other)
 
     pub constructs_found : count ≡ length types_here → Constructs at count table found (Ok id)
     constructs_found same = λ fields.
-        ap (λ c. constructed at count table c fields) is ∙ ap (constructor_of (record { number = id.named.0; value = id.tag.0 }) fields) (eq-eqb count (length types_here) same)
+        ap (λ c. constructed at count table c fields) is ∙ ap (constructor_of (record { number = id.named.0; value = id.tag.0 }) fields)
+        (eq-eqb count (length types_here) same)
 
 module _ (scope : Scope) (at subject : Place) (t : Ty) (names : List (List ℕ)) where
-  pub matches_refused : (types : List Ty) (form : TyForm) → type_of_form types form ≡ t → ((named : NamedId) → form ≡ NamedForm named → ⊥) → Matches scope at subject t names (Err (At NotSum subject))
+  pub matches_refused : (types : List Ty) (form : TyForm) → type_of_form types form ≡ t → ((named : NamedId) → form ≡ NamedForm named → ⊥)
+      → Matches scope at subject t names (Err (At NotSum subject))
   matches_refused types form is other = λ e arms. ap (λ t. matched scope at subject e t names arms) (sym is) ∙ by e arms form other
     where
-      by : (e : Expression) (arms : List (List Ty) → Checking TypedArms) (form : TyForm) → ((named : NamedId) → form ≡ NamedForm named → ⊥) → matched scope at subject e (type_of_form types form) names arms ≡ FaultAt NotSum subject
+      by : (e : Expression) (arms : List (List Ty) → Checking TypedArms) (form : TyForm) → ((named : NamedId) → form ≡ NamedForm named → ⊥)
+          → matched scope at subject e (type_of_form types form) names arms ≡ FaultAt NotSum subject
       by e arms (NamedForm named) other = absurd (other named refl)
       by e arms (PairForm a b) other = refl
       by e arms (AuthForm part) other = refl
@@ -76,9 +82,11 @@ module _ (scope : Scope) (at subject : Place) (t : Ty) (names : List (List ℕ))
 
   module _ (named : NamedId) (is : t ≡ NamedTy named.0) where
     abbrev match_of : Expression → (List (List Ty) → Checking TypedArms) → Bool → Checking Typed
-    match_of e arms b = unless_fault b ArmsWrong at (then_checked (arms (unwrap_or (slice_get scope.table named.0) [])) (λ typed_arms. typed (MatchE named.0 e typed_arms.arms) typed_arms.of_type))
+    match_of e arms b = unless_fault b ArmsWrong at (then_checked (arms (unwrap_or (slice_get scope.table named.0) []))
+        (λ typed_arms. typed (MatchE named.0 e typed_arms.arms) typed_arms.of_type))
 
-    pub matches_wrong : same_names names (unwrap_or (slice_get scope.constructors named.0) []) ≡ false → Matches scope at subject t names (Err (At ArmsWrong at))
+    pub matches_wrong : same_names names (unwrap_or (slice_get scope.constructors named.0) []) ≡ false
+        → Matches scope at subject t names (Err (At ArmsWrong at))
     matches_wrong other = λ e arms. ap (λ t. matched scope at subject e t names arms) is ∙ ap (match_of e arms) other
 
     pub matches_found : same_names names (unwrap_or (slice_get scope.constructors named.0) []) ≡ true → Matches scope at subject t names (Ok named)
@@ -123,13 +131,15 @@ module _ (arms : List Arm) (constructors : List Constructor) where
   arms_same_count same = sym lengths.0 ∙ same_length (arm_names (arms_in_a_row (map arm_of arms))) names_there same ∙ lengths.1
 
 -- how many parameters a function has, and how many types stand for numbers
-pub parameters_count : (types : List Ty) (v : Signature) (head : Head) → v ≡ signature_meant types head → length v.parameters ≡ length head.parameters.items
+pub parameters_count : (types : List Ty) (v : Signature) (head : Head) → v ≡ signature_meant types head
+    → length v.parameters ≡ length head.parameters.items
 parameters_count types v head is = ap (λ (v : Signature). length v.parameters) is ∙ length-map head.parameters.items (type_at types)
 
 pub types_count : (types : List Ty) (ids : List TyId) (ts : List Ty) → types_at types ids ≡ ts → length ids ≡ length ts
 types_count types ids ts is = sym (length-map ids (type_at types)) ∙ ap length is
 
-pub constructors_count : (types : List Ty) (cs : List Constructor) (tss : List (List Ty)) → map (λ (c : Constructor). types_at types c.fields.items) cs ≡ tss → length cs ≡ length tss
+pub constructors_count : (types : List Ty) (cs : List Constructor) (tss : List (List Ty))
+    → map (λ (c : Constructor). types_at types c.fields.items) cs ≡ tss → length cs ≡ length tss
 constructors_count types cs tss is = sym (length-map cs (λ (c : Constructor). types_at types c.fields.items)) ∙ ap length is
 
 -- what is not there

@@ -12,8 +12,10 @@ abbrev names_of : List Constructor → List (List ℕ)
 names_of cs = map (λ (c : Constructor). c.name) cs
 
 -- a constructor more of one type
-pub tag_next : (n t : ℕ) (cs : List Constructor) (ids : List ConstructorId) (id : ConstructorId) (whole : List (Numbered ℕ)) → t < length cs → constructor_meant id ≡ record { number = n; value = t }
-    → map constructor_meant ids ++ tagged n t (names_of (drop t cs)) ≡ whole → map constructor_meant (ids ++ id ∷ []) ++ tagged n (t + 1) (names_of (drop (t + 1) cs)) ≡ whole
+pub tag_next : (n t : ℕ) (cs : List Constructor) (ids : List ConstructorId) (id : ConstructorId) (whole : List (Numbered ℕ)) → t < length cs
+    → constructor_meant id ≡ record { number = n; value = t }
+    → map constructor_meant ids ++ tagged n t (names_of (drop t cs)) ≡ whole
+    → map constructor_meant (ids ++ id ∷ []) ++ tagged n (t + 1) (names_of (drop (t + 1) cs)) ≡ whole
 tag_next n t cs ids id whole inside is so_far =
     let c : Constructor = (there_within cs t inside).0 in
     let next : drop t cs ≡ slice_index_or cs t c ∷ drop (t + 1) cs = rw add-one (drop-cons cs t c inside) in
@@ -25,9 +27,11 @@ tag_next n t cs ids id whole inside is so_far =
     ∙ so_far
 
 -- those of a type more
-pub ids_next : (i : ℕ) (named : List NamedType) (t : NamedType) (ids new : List ConstructorId) (whole : List (Numbered ℕ)) → i < length named → t ≡ slice_index_or named i t
+pub ids_next : (i : ℕ) (named : List NamedType) (t : NamedType) (ids new : List ConstructorId) (whole : List (Numbered ℕ)) → i < length named
+    → t ≡ slice_index_or named i t
     → map constructor_meant new ≡ map constructor_meant ids ++ tagged i 0 (names_of t.constructors.items)
-    → map constructor_meant ids ++ numbered i (constructors_meant (drop i named)) ≡ whole → map constructor_meant new ++ numbered (i + 1) (constructors_meant (drop (i + 1) named)) ≡ whole
+    → map constructor_meant ids ++ numbered i (constructors_meant (drop i named)) ≡ whole
+    → map constructor_meant new ++ numbered (i + 1) (constructors_meant (drop (i + 1) named)) ≡ whole
 ids_next i named t ids new whole inside is added so_far =
     let next : drop i named ≡ t ∷ drop (i + 1) named = rw add-one (drop-cons named i t inside ∙ ap (λ u. u ∷ drop (suc i) named) (sym is)) in
     let rest = numbered (i + 1) (constructors_meant (drop (i + 1) named)) in

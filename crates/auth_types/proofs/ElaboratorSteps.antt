@@ -7,7 +7,7 @@ use Rattle.core_terms.specs.Types.{Ty}
 use Rattle.core_terms.specs.LanguagePrograms.{types_in}
 use Rattle.core_terms.specs.declared.language.types.TyTable.{TyTable}
 use Rattle.auth_syntax.specs.Syntax.{ExpSyntax}
-use Rattle.auth_syntax.specs.declared.place.Place.{Place}
+use Rattle.lexemes.specs.declared.place.Place.{Place}
 use Rattle.std.proofs.Math.Seq.{take-append_seam}
 use Rattle.auth_types.specs.Bodies.{Local, elaborated, wanted}
 use Rattle.auth_types.specs.Elaborators.{Keeps, found_at, locals_of, scope_of, types_of}
@@ -31,7 +31,8 @@ keeps_on {a} {b} {c} h k = record {
 }
 
 -- the locals stand for the same over more types
-pub locals_stay : (a b : List Ty) (locals : List CodeLocal) → Grows a b → AreLocalsWithin (length a) locals → locals_meant b locals ≡ locals_meant a locals
+pub locals_stay : (a b : List Ty) (locals : List CodeLocal) → Grows a b → AreLocalsWithin (length a) locals
+    → locals_meant b locals ≡ locals_meant a locals
 locals_stay a b locals grows within =
     map_same (local_meant b) (local_meant a) locals
     (All-weaker (λ (l : CodeLocal). l.ty.0 < length a) (λ (l : CodeLocal). local_meant b l ≡ local_meant a l)
@@ -54,7 +55,8 @@ keeps_grown a b grows scope locals within inside = record {
 pub found_kept : (a b : Elaborator) → Keeps a b → (x : ExpSyntax) → found_at b x ≡ found_at a x
 found_kept a b k x = ap (λ s. elaborated s (locals_of b) x) k.scope ∙ ap (λ ls. elaborated (scope_of a) ls x) k.locals
 
-pub wanted_kept : (a b : Elaborator) → Keeps a b → (at : Place) (u t : Ty) (x : ExpSyntax) → u ≡ t → wanted at u (found_at b x) ≡ wanted at t (found_at a x)
+pub wanted_kept : (a b : Elaborator) → Keeps a b → (at : Place) (u t : Ty) (x : ExpSyntax) → u ≡ t
+    → wanted at u (found_at b x) ≡ wanted at t (found_at a x)
 wanted_kept a b k at u t x same = ap (λ found. wanted at u found) (found_kept a b k x) ∙ ap (λ t. wanted at t (found_at a x)) same
 
 -- how many locals there are, the first ones of them, and one more
@@ -64,18 +66,22 @@ length-locals e = length-map e.locals.items (local_meant (types_of e))
 
 pub locals_first : (a b : Elaborator) (n : ℕ) → b.types ≡ a.types → b.locals.items ≡ take n a.locals.items → locals_of b ≡ take n (locals_of a)
 unfolding locals_of
-locals_first a b n same is = ap (λ (table : TyTable). locals_meant (types_in table) b.locals.items) same ∙ ap (locals_meant (types_of a)) is ∙ sym (take-map (local_meant (types_of a)) n a.locals.items)
+locals_first a b n same is = ap (λ (table : TyTable). locals_meant (types_in table) b.locals.items) same ∙ ap (locals_meant (types_of a)) is
+    ∙ sym (take-map (local_meant (types_of a)) n a.locals.items)
 
-pub locals_one : (a b : Elaborator) (l : CodeLocal) → b.types ≡ a.types → b.locals.items ≡ a.locals.items ++ l ∷ [] → locals_of b ≡ locals_of a ++ local_meant (types_of a) l ∷ []
+pub locals_one : (a b : Elaborator) (l : CodeLocal) → b.types ≡ a.types → b.locals.items ≡ a.locals.items ++ l ∷ []
+    → locals_of b ≡ locals_of a ++ local_meant (types_of a) l ∷ []
 unfolding locals_of
-locals_one a b l same is = ap (λ (table : TyTable). locals_meant (types_in table) b.locals.items) same ∙ ap (locals_meant (types_of a)) is ∙ map-append (local_meant (types_of a)) a.locals.items (l ∷ [])
+locals_one a b l same is = ap (λ (table : TyTable). locals_meant (types_in table) b.locals.items) same ∙ ap (locals_meant (types_of a)) is
+    ∙ map-append (local_meant (types_of a)) a.locals.items (l ∷ [])
 
 pub scope_same : (a b : Elaborator) → b.types ≡ a.types → b.scope.now ≡ a.scope.now → scope_of b ≡ scope_of a
 unfolding scope_of
 scope_same a b same is = ap (λ (table : TyTable). scope_meant (types_in table) b.scope.now) same ∙ ap (scope_meant (types_of a)) is
 
 -- a name among those of the locals behind the first ones
-pub among_locals : (e : Elaborator) (n : ℕ) (name : List ℕ) → is_among name (names_of (drop n (locals_of e))) ≡ list_any (λ (l : CodeLocal). bytes_eq l.name.now name) (drop n e.locals.items)
+pub among_locals : (e : Elaborator) (n : ℕ) (name : List ℕ) → is_among name (names_of (drop n (locals_of e))) ≡ list_any
+    (λ (l : CodeLocal). bytes_eq l.name.now name) (drop n e.locals.items)
 unfolding locals_of
 among_locals e n name = ap (λ ls. is_among name (names_of ls)) (drop-map (local_meant (types_of e)) n e.locals.items) ∙ by (drop n e.locals.items)
   where
@@ -84,8 +90,10 @@ among_locals e n name = ap (λ ls. is_among name (names_of ls)) (drop-map (local
     by (l ∷ ls) = ap (λ b. bytes_eq l.name.now name || b) (by ls)
 
 -- behind names that were bound and what stood behind them, where they are left again
-pub keeps_closed : (a inner end closed : Elaborator) (n : ℕ) → Grows (types_of a) (types_of inner) → scope_of inner ≡ scope_of a → take (length (locals_of a)) (locals_of inner) ≡ locals_of a → Keeps inner end
-    → types_of closed ≡ types_of end → scope_of closed ≡ scope_of end → locals_of closed ≡ take n (locals_of end) → n ≡ length (locals_of a) → Keeps a closed
+pub keeps_closed : (a inner end closed : Elaborator) (n : ℕ) → Grows (types_of a) (types_of inner) → scope_of inner ≡ scope_of a
+    → take (length (locals_of a)) (locals_of inner) ≡ locals_of a → Keeps inner end
+    → types_of closed ≡ types_of end → scope_of closed ≡ scope_of end → locals_of closed ≡ take n (locals_of end) → n ≡ length (locals_of a)
+    → Keeps a closed
 keeps_closed a inner end closed n grows scope outer k types_is scope_is locals_is count = record {
   grows = subst (Grows (types_of a)) (sym types_is) (grows_on (types_of a) (types_of inner) (types_of end) grows k.grows);
   scope = scope_is ∙ k.scope ∙ scope;

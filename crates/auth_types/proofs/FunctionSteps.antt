@@ -9,7 +9,7 @@ use Rattle.core_terms.specs.declared.language.term.Term.{Term}
 use Rattle.core_terms.specs.declared.language.term.Function.{Function}
 use Rattle.auth_syntax.specs.Syntax.{ExpSyntax, FunctionSyntax, ParameterSyntax, place_of}
 use Rattle.auth_syntax.specs.Trees as written
-use Rattle.auth_syntax.specs.declared.place.Place.{Place}
+use Rattle.lexemes.specs.declared.place.Place.{Place}
 use Rattle.auth_syntax.specs.declared.tree.Parameter.{Parameter}
 use Rattle.auth_types.specs.Checking.{Checking, Sound, FaultAt, then_checked}
 use Rattle.auth_types.specs.Bodies.{Local, Scope, Signature, checked_function, checked_functions, elaborated, parameter_locals, wanted}
@@ -19,10 +19,10 @@ use Rattle.auth_types.specs.Scopes.{signature_meant}
 use Rattle.auth_types.specs.declared.scope.Head.{Head}
 use Rattle.auth_types.specs.declared.bodies.elaborator.Elaborator.{Elaborator}
 use Rattle.auth_types.specs.OverTypes.{FindsOver, Grows, Shows}
-use Rattle.auth_types.specs.declared.fault.Fault.{Fault}
 use Rattle.auth_types.specs.RoleRules.{kind_meant}
 use Rattle.auth_types.specs.WrittenTypes.{type_meant}
 use Rattle.auth_types.specs.declared.fault.TypeKind.{TypeKind}
+use Rattle.auth_types.specs.Outcomes.{TypeFault}
 use Rattle.auth_types.proofs.FindingSteps.{fault_first}
 
 -- parameters as locals of these types
@@ -34,22 +34,28 @@ entered ps ts = []
 abbrev pub types_written : List (List ℕ) → List Parameter → List Ty
 types_written names ps = map (λ (p : ParameterSyntax). type_meant names p.of_type) (map written.parameter_of ps)
 
-pub entered_all : (names : List (List ℕ)) (ps : List Parameter) → entered ps (types_written names ps) ≡ parameter_locals names (map written.parameter_of ps)
+pub entered_all : (names : List (List ℕ)) (ps : List Parameter) → entered ps (types_written names ps) ≡ parameter_locals names
+    (map written.parameter_of ps)
 entered_all names [] = refl
-entered_all names (p ∷ ps) = ap (λ ls. record { name = p.name.name; of_type = type_meant names (written.type_of p.of_type) } ∷ ls) (entered_all names ps)
+entered_all names (p ∷ ps) = ap (λ ls. record { name = p.name.name; of_type = type_meant names (written.type_of p.of_type) } ∷ ls)
+    (entered_all names ps)
 
 -- one parameter more, and the last one
-pub entered_more : (ps : List Parameter) (ts : List Ty) (i : ℕ) (p : Parameter) (t : Ty) (locals inner all : List Local) → drop i ps ≡ p ∷ drop (i + 1) ps → drop i ts ≡ t ∷ drop (i + 1) ts
-    → locals ++ entered (drop i ps) (drop i ts) ≡ all → inner ≡ locals ++ record { name = p.name.name; of_type = t } ∷ [] → inner ++ entered (drop (i + 1) ps) (drop (i + 1) ts) ≡ all
+pub entered_more : (ps : List Parameter) (ts : List Ty) (i : ℕ) (p : Parameter) (t : Ty) (locals inner all : List Local)
+    → drop i ps ≡ p ∷ drop (i + 1) ps → drop i ts ≡ t ∷ drop (i + 1) ts
+    → locals ++ entered (drop i ps) (drop i ts) ≡ all → inner ≡ locals ++ record { name = p.name.name; of_type = t } ∷ []
+    → inner ++ entered (drop (i + 1) ps) (drop (i + 1) ts) ≡ all
 entered_more ps ts i p t locals inner all here there so_far is =
     ap (λ ls. ls ++ entered (drop (i + 1) ps) (drop (i + 1) ts)) is
     ∙ append_assoc locals (record { name = p.name.name; of_type = t } ∷ []) (entered (drop (i + 1) ps) (drop (i + 1) ts))
     ∙ sym (ap (λ l. locals ++ entered l (drop i ts)) here ∙ ap (λ l. locals ++ entered (p ∷ drop (i + 1) ps) l) there) ∙ so_far
 
-pub entered_last : (names : List (List ℕ)) (ps : List Parameter) (ts : List Ty) (i : ℕ) (before locals : List Local) → drop i ps ≡ [] → before ≡ [] → ts ≡ types_written names ps
+pub entered_last : (names : List (List ℕ)) (ps : List Parameter) (ts : List Ty) (i : ℕ) (before locals : List Local) → drop i ps ≡ [] → before ≡ []
+    → ts ≡ types_written names ps
     → locals ++ entered (drop i ps) (drop i ts) ≡ before ++ entered ps ts → locals ≡ parameter_locals names (map written.parameter_of ps)
 entered_last names ps ts i before locals none nothing same so_far =
-    sym (append-nil locals) ∙ sym (ap (λ l. locals ++ entered l (drop i ts)) none) ∙ so_far ∙ ap (λ ls. ls ++ entered ps ts) nothing ∙ ap (entered ps) same ∙ entered_all names ps
+    sym (append-nil locals) ∙ sym (ap (λ l. locals ++ entered l (drop i ts)) none) ∙ so_far ∙ ap (λ ls. ls ++ entered ps ts) nothing
+    ∙ ap (entered ps) same ∙ entered_all names ps
 
 -- functions before others
 abbrev pub functions_behind : List tree.Function → Checking (List tree.Function) → Checking (List tree.Function)
@@ -59,15 +65,18 @@ pub functions_behind_none : (found : Checking (List tree.Function)) → found �
 functions_behind_none (Sound fs) = refl
 functions_behind_none (FaultAt kind at) = refl
 
-functions_behind_one : (gs : List tree.Function) (g : tree.Function) (found : Checking (List tree.Function)) → functions_behind gs (then_checked found (λ fs. Sound (g ∷ fs))) ≡ functions_behind (gs ++ g ∷ []) found
+functions_behind_one : (gs : List tree.Function) (g : tree.Function) (found : Checking (List tree.Function))
+    → functions_behind gs (then_checked found (λ fs. Sound (g ∷ fs))) ≡ functions_behind (gs ++ g ∷ []) found
 functions_behind_one gs g (Sound fs) = ap Sound (sym (append_assoc gs (g ∷ []) fs))
 functions_behind_one gs g (FaultAt kind at) = refl
 
-module _ (names : List (List ℕ)) (scope : Scope) (fs : List FunctionSyntax) (i : ℕ) (f : FunctionSyntax) (here : drop i fs ≡ f ∷ drop (i + 1) fs) (gs : List Function) (all : Checking (List tree.Function)) where
+module _ (names : List (List ℕ)) (scope : Scope) (fs : List FunctionSyntax) (i : ℕ) (f : FunctionSyntax) (here : drop i fs ≡ f ∷ drop (i + 1) fs)
+    (gs : List Function) (all : Checking (List tree.Function)) where
   abbrev next_function : Checking tree.Function → Checking (List tree.Function)
   next_function found = then_checked found (λ g. then_checked (checked_functions names scope (drop (i + 1) fs)) (λ fs. Sound (g ∷ fs)))
 
-  pub functions_more : (old new : List Ty) (g : Function) → Grows old new → ((more : List Ty) → all ≡ functions_behind (map (function_of (old ++ more)) gs) (checked_functions names scope (drop i fs)))
+  pub functions_more : (old new : List Ty) (g : Function) → Grows old new
+      → ((more : List Ty) → all ≡ functions_behind (map (function_of (old ++ more)) gs) (checked_functions names scope (drop i fs)))
       → Shows new function_of (checked_function names scope f) g
       → (more : List Ty) → all ≡ functions_behind (map (function_of (new ++ more)) (gs ++ g ∷ [])) (checked_functions names scope (drop (i + 1) fs))
   functions_more old new g (m, grows) so_far shown more =
@@ -79,7 +88,8 @@ module _ (names : List (List ℕ)) (scope : Scope) (fs : List FunctionSyntax) (i
       ∙ functions_behind_one before (function_of (new ++ more) g) (checked_functions names scope (drop (i + 1) fs))
       ∙ ap (λ gs. functions_behind gs (checked_functions names scope (drop (i + 1) fs))) (sym (map-append (function_of (new ++ more)) gs (g ∷ [])))
 
-  pub functions_refused : (old : List Ty) (kind : TypeKind) (at : Place) → ((more : List Ty) → all ≡ functions_behind (map (function_of (old ++ more)) gs) (checked_functions names scope (drop i fs)))
+  pub functions_refused : (old : List Ty) (kind : TypeKind) (at : Place)
+      → ((more : List Ty) → all ≡ functions_behind (map (function_of (old ++ more)) gs) (checked_functions names scope (drop i fs)))
       → checked_function names scope f ≡ FaultAt kind at → all ≡ FaultAt kind at
   functions_refused old kind at so_far is =
       so_far [] ∙ ap (λ l. functions_behind (map (function_of (old ++ [])) gs) (checked_functions names scope l)) here
@@ -99,7 +109,8 @@ module _ (names : List (List ℕ)) (scope : Scope) (f : FunctionSyntax) where
     body = body;
   }
 
-  pub function_refused : (types new : List Ty) (fault : Fault) (r : Result Function Fault) → r ≡ Err fault → FindsOver types boxed_of body_found (Err fault) → FindsOver new function_of (checked_function names scope f) r
+  pub function_refused : (types new : List Ty) (fault : TypeFault) (r : Result Function TypeFault) → r ≡ Err fault
+      → FindsOver types boxed_of body_found (Err fault) → FindsOver new function_of (checked_function names scope f) r
   function_refused types new fault r is h = fault_first types new boxed_of function_of body_found (λ body. Sound (with_body body)) fault r is h
 
   pub function_shows : (types : List Ty) (g : Function) (body : Term) → g.name ≡ f.name.name → kind_of g.kind ≡ kind_meant f.kind
@@ -113,15 +124,19 @@ module _ (names : List (List ℕ)) (scope : Scope) (f : FunctionSyntax) where
       ap (λ found. then_checked found (λ body. Sound (with_body body))) (shown more) ∙ cc
 
 -- no function is left
-pub functions_last : (types : List Ty) (names : List (List ℕ)) (scope : Scope) (fs : List FunctionSyntax) (i : ℕ) (gs : List Function) (all : Checking (List tree.Function)) → drop i fs ≡ []
-    → ((more : List Ty) → all ≡ functions_behind (map (function_of (types ++ more)) gs) (checked_functions names scope (drop i fs))) → all ≡ Sound (map (function_of types) gs)
+pub functions_last : (types : List Ty) (names : List (List ℕ)) (scope : Scope) (fs : List FunctionSyntax) (i : ℕ) (gs : List Function)
+    (all : Checking (List tree.Function)) → drop i fs ≡ []
+    → ((more : List Ty) → all ≡ functions_behind (map (function_of (types ++ more)) gs) (checked_functions names scope (drop i fs)))
+    → all ≡ Sound (map (function_of types) gs)
 functions_last types names scope fs i gs all none so_far =
     so_far [] ∙ ap (λ l. functions_behind (map (function_of (types ++ [])) gs) (checked_functions names scope l)) none
     ∙ ap Sound (append-nil (map (function_of (types ++ [])) gs)) ∙ ap (λ l. Sound (map (function_of l) gs)) (append-nil types)
 
 -- the signature of the next head
-pub head_signature : (types : List Ty) (names : List (List ℕ)) (heads : List Head) (i : ℕ) (h : Head) → i < length heads → h ≡ slice_index_or heads i h
-    → map (signature_meant types) heads ≡ map (signature_of names) (map (λ (h : Head). written.function_of h.function.now) heads) → signature_meant types h ≡ signature_of names (written.function_of h.function.now)
+pub head_signature : (types : List Ty) (names : List (List ℕ)) (heads : List Head) (i : ℕ) (h : Head) → i < length heads
+    → h ≡ slice_index_or heads i h
+    → map (signature_meant types) heads ≡ map (signature_of names) (map (λ (h : Head). written.function_of h.function.now) heads)
+    → signature_meant types h ≡ signature_of names (written.function_of h.function.now)
 head_signature types names [] i h inside is same = absurd (omega arith)
 head_signature types names (g ∷ heads) zero h inside is same =
     let first : signature_meant types g ≡ signature_of names (written.function_of g.function.now) = cc in
@@ -131,8 +146,10 @@ head_signature types names (g ∷ heads) (suc i) h inside is same =
     head_signature types names heads i h (omega arith) is others
 
 -- what stands for each so far, and for the next one
-pub taken_more : {A B C : Type 0} (g : C → B) (f : A → B) (zs : List C) (z : C) (xs : List A) (i : ℕ) (x : A) → i < length xs → x ≡ slice_index_or xs i x → map g zs ≡ take i (map f xs) → g z ≡ f x → map g (zs ++ z ∷ []) ≡ take (i + 1) (map f xs)
-taken_more {A} g f zs z xs i x inside is so_far same = map-append g zs (z ∷ []) ∙ ap (λ l. l ++ g z ∷ []) so_far ∙ ap (λ y. take i (map f xs) ++ y ∷ []) same ∙ by xs i inside is
+pub taken_more : {A B C : Type 0} (g : C → B) (f : A → B) (zs : List C) (z : C) (xs : List A) (i : ℕ) (x : A) → i < length xs
+    → x ≡ slice_index_or xs i x → map g zs ≡ take i (map f xs) → g z ≡ f x → map g (zs ++ z ∷ []) ≡ take (i + 1) (map f xs)
+taken_more {A} g f zs z xs i x inside is so_far same =
+    map-append g zs (z ∷ []) ∙ ap (λ l. l ++ g z ∷ []) so_far ∙ ap (λ y. take i (map f xs) ++ y ∷ []) same ∙ by xs i inside is
   where
     by : (xs : List A) (i : ℕ) → i < length xs → x ≡ slice_index_or xs i x → take i (map f xs) ++ f x ∷ [] ≡ take (i + 1) (map f xs)
     by [] i inside is = absurd (omega arith)
@@ -142,10 +159,13 @@ taken_more {A} g f zs z xs i x inside is so_far same = map-append g zs (z ∷ []
         ap (λ l. f y ∷ l) (by xs i (omega arith) is) ∙ sym (ap (λ n. take n (map f (y ∷ xs))) one)
 
 -- the body of a function, behind its parameters
-pub body_is : (a b : Elaborator) (names : List (List ℕ)) (head : Head) (at : Place) (x : ExpSyntax) → types_of b ≡ types_of a → scope_of b ≡ scope_of a
-    → signature_meant (types_of a) head ≡ signature_of names (written.function_of head.function.now) → locals_of b ≡ parameter_locals names (map written.parameter_of head.function.now.parameters.items)
+pub body_is : (a b : Elaborator) (names : List (List ℕ)) (head : Head) (at : Place) (x : ExpSyntax) → types_of b ≡ types_of a
+    → scope_of b ≡ scope_of a
+    → signature_meant (types_of a) head ≡ signature_of names (written.function_of head.function.now)
+    → locals_of b ≡ parameter_locals names (map written.parameter_of head.function.now.parameters.items)
     → wanted at (type_at (types_of b) head.result) (found_at b x)
-    ≡ wanted at (type_meant names (written.type_of head.function.now.result_type)) (elaborated (scope_of a) (parameter_locals names (map written.parameter_of head.function.now.parameters.items)) x)
+    ≡ wanted at (type_meant names (written.type_of head.function.now.result_type))
+    (elaborated (scope_of a) (parameter_locals names (map written.parameter_of head.function.now.parameters.items)) x)
 body_is a b names head at x types scope signature locals =
     ap (λ l. wanted at (type_at l head.result) (found_at b x)) types
     ∙ ap (λ t. wanted at t (found_at b x)) (ap (λ (s : Signature). s.result) signature)

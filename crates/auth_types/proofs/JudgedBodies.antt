@@ -2,11 +2,13 @@
 use Rattle.std.proofs.Common.{◌≡◌, ℕ, zero, suc, ◌+◌, ◌<◌, ◌≤◌, Bool, true, false, List, [], ◌∷◌, ◌++◌, length, map, Option, Some, None, slice_get, unwrap_or, bytes_eq, if◌then◌else◌, nat_eq, nat_lt, refl, sym, ap, ◌∙◌, subst, zero-add, arith}
 use Rattle.std.specs.Bool.{Decides}
 use Rattle.std.proofs.lemmas.Slice.Eq.{bytes_eq-Decides}
+use Rattle.core_terms.specs.declared.language.term.BinaryOperator.TheVariants.{Arith, Compare, TextCompare, Cat}
+use Rattle.core_terms.specs.declared.language.term.BinaryOperator.{BinaryOperator}
 use Rattle.core_terms.specs.Types.{Ty, UnitTy, BoolTy, IntTy, TextTy, PairTy, NamedTy, AuthTy}
 use Rattle.core_terms.specs.Terms.{Expression, Expressions, AndArm, AuthE, CallE, ConE, LenE, NotE, MatchE, LocalE}
 use Rattle.core_terms.specs.Typing.{same_type}
-use Rattle.auth_syntax.specs.declared.place.Place.{Place}
-use Rattle.auth_syntax.specs.Syntax.{NameSyntax, ExpSyntax, UnitSyntax, BoolSyntax, IntSyntax, TextSyntax, LocalSyntax, PairSyntax, UnarySyntax, BinarySyntax, CallSyntax, ConstructorSyntax, LetSyntax, IfSyntax, MatchSyntax, ExpsSyntax, NoExp, AndExp, ArmsSyntax, NoArmSyntax, AndArmSyntax, UnaryOperation, FstOperation, SndOperation, AuthOperation, UnauthOperation, LenOperation, NotOperation, BinaryOperation, AddOperation, SubOperation, MulOperation, DivOperation, RemOperation, EqOperation, LtOperation, LeOperation, TeqOperation, TltOperation, CatOperation, place_of}
+use Rattle.lexemes.specs.declared.place.Place.{Place}
+use Rattle.auth_syntax.specs.Syntax.{NameSyntax, ExpSyntax, UnitSyntax, BoolSyntax, IntSyntax, TextSyntax, LocalSyntax, PairSyntax, UnarySyntax, BinarySyntax, CallSyntax, ConstructorSyntax, LetSyntax, IfSyntax, MatchSyntax, ExpsSyntax, NoExp, AndExp, ArmsSyntax, NoArmSyntax, AndArmSyntax, UnaryOperation, FstOperation, SndOperation, AuthOperation, UnauthOperation, LenOperation, NotOperation, place_of}
 use Rattle.auth_types.specs.Checking.{Checking, Sound, FaultAt, then_checked, unless_fault}
 use Rattle.auth_types.specs.Bodies.{Local, Numbered, Scope, Signature, Typed, TypedArms, arm_names, binary_expression, bound_names, called, constructed, constructor_named, count_of, elaborated, elaborated_arms, elaborated_each, first_of, function_named, last_named, local_at, matched, most_locals, opened, operand_type, result_type, same_names, second_of, typed, unary, wanted, wanted_arm}
 use Rattle.auth_types.specs.TypingRules
@@ -23,18 +25,11 @@ use Rattle.auth_types.proofs.Judging.{Judges, judges_then, judges_unless, judges
 use Rattle.auth_types.proofs.JudgedNames.{pattern_judged}
 
 -- the table of operations is that of the checker
-pub operates : (operation : BinaryOperation) → Operates operation (operand_type operation) (result_type operation) (λ x y. binary_expression operation x y)
-operates AddOperation = TypingRules.Adds
-operates SubOperation = TypingRules.Subtracts
-operates MulOperation = TypingRules.Multiplies
-operates DivOperation = TypingRules.Divides
-operates RemOperation = TypingRules.IsRemainder
-operates EqOperation = TypingRules.IsEqual
-operates LtOperation = TypingRules.IsLess
-operates LeOperation = TypingRules.IsAtMost
-operates TeqOperation = TypingRules.IsSameText
-operates TltOperation = TypingRules.IsTextBefore
-operates CatOperation = TypingRules.Joins
+pub operates : (operation : BinaryOperator) → Operates operation (operand_type operation) (result_type operation) (λ x y. binary_expression operation x y)
+operates (Arith operator) = TypingRules.Computes operator
+operates (Compare operator) = TypingRules.Compares operator
+operates (TextCompare operator) = TypingRules.ComparesTexts operator
+operates Cat = TypingRules.Joins
 
 -- a test of names in order
 pub names_decide : (names others : List (List ℕ)) → Decides (same_names names others) (names ≡ others)
@@ -60,7 +55,7 @@ module _ (scope : Scope) where
   abbrev pub IsWanted : List Local → Ty → ExpSyntax → Checking Expression → Type 0
   IsWanted locals t tree found = Judges (λ x. Elaborates scope locals tree x t) (Misfits scope locals t tree) found
 
-  wanted_judged : (locals : List Local) (t : Ty) (tree : ExpSyntax) (found : Checking Typed) → IsJudged locals tree found → IsWanted locals t tree (wanted (place_of tree) t found)
+  pub wanted_judged : (locals : List Local) (t : Ty) (tree : ExpSyntax) (found : Checking Typed) → IsJudged locals tree found → IsWanted locals t tree (wanted (place_of tree) t found)
   wanted_judged locals t tree found h =
       let R : Expression → Type 0 = λ x. Elaborates scope locals tree x t in
       judges_then (Means locals tree) (Breaks scope locals tree) R (Misfits scope locals t tree) found (λ e. unless_fault (same_type e.of_type t) WrongType (place_of tree) (Sound e.expression)) h

@@ -5,7 +5,7 @@ use Rattle.std.specs.List.{Contains}
 use Rattle.std.proofs.lemmas.Bool.Decides.{Decides-at}
 use Rattle.std.proofs.lemmas.List.{reverse-append, map-append}
 use Rattle.core_terms.specs.Types.{Ty}
-use Rattle.auth_syntax.specs.declared.place.Place.{Place}
+use Rattle.lexemes.specs.declared.place.Place.{Place}
 use Rattle.auth_syntax.specs.Syntax.{NameSyntax}
 use Rattle.auth_types.specs.Checking.{Checking, Sound, FaultAt, is_among, unless_fault}
 use Rattle.auth_types.specs.Bodies.{Local, bound_names, most_locals}

@@ -6,7 +6,7 @@ use Rattle.core_terms.specs.Terms.{Expression}
 use Rattle.core_terms.specs.Typing.{same_type}
 use Rattle.core_terms.proofs.TypingSound.{same_sound}
 use Rattle.core_terms.proofs.TypingComplete.{same_self, same_complete}
-use Rattle.auth_syntax.specs.declared.place.Place.{Place}
+use Rattle.lexemes.specs.declared.place.Place.{Place}
 use Rattle.auth_types.specs.Checking.{Checking, Sound, FaultAt, then_checked, unless_fault}
 use Rattle.auth_types.specs.Bodies.{Typed, wanted}
 use Rattle.auth_types.specs.declared.fault.TypeKind.{TypeKind}

@@ -46,19 +46,20 @@ pub mod SoundTypes
 pub mod SoundLimits
 pub mod SoundLiterals
 pub mod SoundPrograms
--- the law of expressions: the typing rules, and what breaks them first
+-- the laws of expressions and of programs: what passes by the rules, and what breaks them first
 pub mod Judging
 pub mod NamedParts
 pub mod JudgedNames
 pub mod JudgedBodies
 pub mod RuledBodies
 pub mod RulesOfBodies
--- the functions of fragment/
-pub mod FragmentForms
-pub mod FragmentElaborating
-pub mod FragmentFunctions
-pub mod FragmentTyping
-pub mod FragmentPasses
+pub mod Ruled
+pub mod RuledSpaces
+pub mod RuledDeclarations
+pub mod RuledTypeNames
+pub mod RuledRoles
+pub mod RuledPrograms
+pub mod RuledTypes
 -- the definitions, computed: no function cites these rows
 pub mod Rows
 pub mod RowsOfLimits

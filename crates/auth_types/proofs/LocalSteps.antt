@@ -7,9 +7,9 @@ use Rattle.core_terms.specs.declared.language.term.Term.{Term}
 use Rattle.core_terms.specs.TypeTables.{type_at}
 use Rattle.core_terms.specs.declared.term.LocalId.{LocalId}
 use Rattle.core_terms.specs.declared.language.term.Term as term
-use Rattle.auth_syntax.specs.declared.place.Place.{Place}
+use Rattle.lexemes.specs.declared.place.Place.{Place}
 use Rattle.auth_syntax.specs.Syntax.{LocalSyntax}
-use Rattle.auth_types.specs.Checking.{Checking, Sound, FaultAt}
+use Rattle.auth_types.specs.Checking.{Checking, FaultAt}
 use Rattle.auth_types.specs.Bodies.{Local, Typed, last_named, local_at, typed}
 use Rattle.auth_types.specs.Elaborators.{ShowsTerm, found_at, locals_of, types_of}
 use Rattle.auth_types.specs.Locals.{locals_meant}
@@ -26,7 +26,8 @@ type_of_local types (m ∷ locals) zero l d inside is = ap (λ (l : CodeLocal). 
 type_of_local types (m ∷ locals) (suc i) l d inside is = type_of_local types locals i l d (omega arith) is
 
 module _ (e : Elaborator) (at : Place) (name : List ℕ) where
-  pub local_shows : (i : ℕ) (l d : CodeLocal) → i < length e.locals.items → l ≡ slice_index_or e.locals.items i d → last_named 0 (locals_meant (types_of e) e.locals.items) name ≡ Some i
+  pub local_shows : (i : ℕ) (l d : CodeLocal) → i < length e.locals.items → l ≡ slice_index_or e.locals.items i d
+      → last_named 0 (locals_meant (types_of e) e.locals.items) name ≡ Some i
       → l.ty.0 < length (types_of e) → ShowsTerm (types_of e) (found_at e (LocalSyntax at name)) (term.Local (record { 0 = i })) l.ty
   unfolding locals_of
   local_shows i l d inside is found within = λ more.
@@ -42,11 +43,13 @@ module _ (e : Elaborator) (at : Place) (name : List ℕ) where
   local_unknown found = ap (local_at at (locals_meant (types_of e) e.locals.items)) found
 
 -- a literal
-pub literal_shows : (types : List Ty) (found : Checking Typed) (literal : Term) (e : Expression) (t : Ty) → found ≡ typed e t → ((types : List Ty) → expression_of types literal ≡ e)
+pub literal_shows : (types : List Ty) (found : Checking Typed) (literal : Term) (e : Expression) (t : Ty) → found ≡ typed e t
+    → ((types : List Ty) → expression_of types literal ≡ e)
     → (more : List Ty) → found ≡ typed (expression_of (types ++ more) literal) t
 literal_shows types found literal e t is means more = is ∙ ap (λ e. typed e t) (sym (means (types ++ more)))
 
 -- an int, as the code reads it
 pub int_shows : (types : List Ty) (found : Checking Typed) (z read : ℤ) → found ≡ typed (IntE z) IntTy → read ≡ z
     → (more : List Ty) → found ≡ typed (expression_of (types ++ more) (term.IntLiteral read)) IntTy
-int_shows types found z read is same = literal_shows types found (term.IntLiteral read) (IntE z) IntTy is (λ types. expression-IntLiteral types read ∙ ap IntE same)
+int_shows types found z read is same =
+    literal_shows types found (term.IntLiteral read) (IntE z) IntTy is (λ types. expression-IntLiteral types read ∙ ap IntE same)

@@ -1,29 +1,27 @@
 -- Lemmas of a match: its subject, the named type of that, and its arms.
 use Rattle.std.proofs.Common.{◌≡◌, ◌<◌, List, [], ◌++◌, length, None, Result, Ok, Err, slice_get, unwrap_or, sym, ap, ◌∙◌, subst}
-use Rattle.std.specs.declared.alloc.Global.{Global}
-use Rattle.std.specs.declared.boxed.Box.{Box}
 use Rattle.core_terms.specs.Types.{Ty}
 use Rattle.core_terms.specs.Terms.{Expression, MatchE}
 use Rattle.core_terms.specs.TypeTables.{type_at}
 use Rattle.core_terms.specs.declared.language.types.NamedId.{NamedId}
-use Rattle.core_terms.specs.declared.language.term.Term.{Term}
 use Rattle.core_terms.specs.declared.language.term.Term as term
 use Rattle.auth_syntax.specs.Syntax.{ArmsSyntax, ExpSyntax, MatchSyntax, place_of}
-use Rattle.auth_syntax.specs.declared.place.Place.{Place}
+use Rattle.lexemes.specs.declared.place.Place.{Place}
 use Rattle.auth_types.specs.Checking.{Checking, then_checked}
 use Rattle.auth_types.specs.Bodies.{Local, Scope, Typed, TypedArms, arm_names, elaborated, elaborated_arms, matched, typed}
 use Rattle.auth_types.specs.Elaborators.{Matches, ShowsTerm, arms_of, boxed_of, typed_of}
 use Rattle.auth_types.specs.OverTypes.{FindsOver, Grows, Shows}
-use Rattle.auth_types.specs.declared.fault.Fault.{Fault}
-use Rattle.auth_types.specs.declared.fault.Fault.TheVariants.{At, NoMemory}
+use Rattle.core_terms.specs.declared.fault.Fault.TheVariants.{At, NoMemory}
 use Rattle.auth_types.specs.declared.bodies.Typed.{Typed as TypedTerm}
 use Rattle.auth_types.specs.declared.bodies.TypedArms.{TypedArms as TypedBodies}
+use Rattle.auth_types.specs.Outcomes.{TypeFault}
 use Rattle.auth_types.proofs.FindingSteps.{grown}
 use Rattle.auth_types.proofs.ScopeStays.{type_stays_at}
 use Rattle.auth_types.proofs.TermViews.{expression-Match}
 use Rattle.auth_types.proofs.TypeNumbers.{shows_grow, shows_now}
 
-module _ (scope : Scope) (locals : List Local) (at place : Place) (subject : ExpSyntax) (arms : ArmsSyntax) (here : place ≡ place_of subject) (old : List Ty) (value : TypedTerm)
+module _ (scope : Scope) (locals : List Local) (at place : Place) (subject : ExpSyntax) (arms : ArmsSyntax) (here : place ≡ place_of subject)
+    (old : List Ty) (value : TypedTerm)
     (shown : Shows old typed_of (elaborated scope locals subject) value) where
   -- what is found behind the subject
   abbrev behind_subject : Place → Typed → Checking Typed
@@ -35,31 +33,41 @@ module _ (scope : Scope) (locals : List Local) (at place : Place) (subject : Exp
       ∙ ap (λ p. behind_subject p (typed_of old value)) (sym here)
 
   -- the subject is of no named type, or the arms are not those of its type
-  pub match_refused : (new : List Ty) (fault : Fault) (r : Result TypedTerm Fault) → r ≡ Err fault → Matches scope at place (type_at old value.ty) (arm_names arms) (Err fault)
+  pub match_refused : (new : List Ty) (fault : TypeFault) (r : Result TypedTerm TypeFault) → r ≡ Err fault
+      → Matches scope at place (type_at old value.ty) (arm_names arms) (Err fault)
       → FindsOver new typed_of (elaborated scope locals (MatchSyntax at subject arms)) r
-  match_refused new fault r is h = subst (λ (r : Result TypedTerm Fault). FindsOver new typed_of (elaborated scope locals (MatchSyntax at subject arms)) r) (sym is) (by fault h)
+  match_refused new fault r is h =
+      subst (λ (r : Result TypedTerm TypeFault). FindsOver new typed_of (elaborated scope locals (MatchSyntax at subject arms)) r) (sym is)
+      (by fault h)
     where
-      by : (fault : Fault) → Matches scope at place (type_at old value.ty) (arm_names arms) (Err fault) → FindsOver new typed_of (elaborated scope locals (MatchSyntax at subject arms)) (Err fault)
+      by : (fault : TypeFault) → Matches scope at place (type_at old value.ty) (arm_names arms) (Err fault)
+          → FindsOver new typed_of (elaborated scope locals (MatchSyntax at subject arms)) (Err fault)
       by (At kind place) h = match_now ∙ h (boxed_of old value.term) (elaborated_arms scope locals arms None)
       by NoMemory h = tt
 
-  module _ (named : NamedId) (tss : List (List Ty)) (matches : Matches scope at place (type_at old value.ty) (arm_names arms) (Ok named)) (types : tss ≡ unwrap_or (slice_get scope.table named.0) []) where
+  module _ (named : NamedId) (tss : List (List Ty)) (matches : Matches scope at place (type_at old value.ty) (arm_names arms) (Ok named))
+      (types : tss ≡ unwrap_or (slice_get scope.table named.0) []) where
     abbrev behind_arms : Expression → TypedArms → Checking Typed
     behind_arms e typed_arms = typed (MatchE named.0 e typed_arms.arms) typed_arms.of_type
 
     -- an arm is refused
-    pub match_arms_refused : (middle new : List Ty) (fault : Fault) (r : Result TypedTerm Fault) → r ≡ Err fault → FindsOver middle arms_of (elaborated_arms scope locals arms None tss) (Err fault)
+    pub match_arms_refused : (middle new : List Ty) (fault : TypeFault) (r : Result TypedTerm TypeFault) → r ≡ Err fault
+        → FindsOver middle arms_of (elaborated_arms scope locals arms None tss) (Err fault)
         → FindsOver new typed_of (elaborated scope locals (MatchSyntax at subject arms)) r
-    match_arms_refused middle new fault r is h = subst (λ (r : Result TypedTerm Fault). FindsOver new typed_of (elaborated scope locals (MatchSyntax at subject arms)) r) (sym is) (by fault h)
+    match_arms_refused middle new fault r is h =
+        subst (λ (r : Result TypedTerm TypeFault). FindsOver new typed_of (elaborated scope locals (MatchSyntax at subject arms)) r) (sym is)
+        (by fault h)
       where
-        by : (fault : Fault) → FindsOver middle arms_of (elaborated_arms scope locals arms None tss) (Err fault) → FindsOver new typed_of (elaborated scope locals (MatchSyntax at subject arms)) (Err fault)
+        by : (fault : TypeFault) → FindsOver middle arms_of (elaborated_arms scope locals arms None tss) (Err fault)
+            → FindsOver new typed_of (elaborated scope locals (MatchSyntax at subject arms)) (Err fault)
         by (At kind place) h =
             match_now ∙ matches (boxed_of old value.term) (elaborated_arms scope locals arms None)
             ∙ ap (λ tss. then_checked (elaborated_arms scope locals arms None tss) (behind_arms (boxed_of old value.term))) (sym types)
             ∙ ap (λ found. then_checked found (behind_arms (boxed_of old value.term))) h
         by NoMemory h = tt
 
-    pub match_found : (new : List Ty) (bodies : TypedBodies) → Grows old new → value.ty.0 < length old → Shows new arms_of (elaborated_arms scope locals arms None tss) bodies
+    pub match_found : (new : List Ty) (bodies : TypedBodies) → Grows old new → value.ty.0 < length old
+        → Shows new arms_of (elaborated_arms scope locals arms None tss) bodies
         → ShowsTerm new (elaborated scope locals (MatchSyntax at subject arms)) (term.Match named value.term bodies.bodies) bodies.ty
     match_found new bodies grows inside arms_shown = λ more.
         let later = shows_grow old new typed_of (elaborated scope locals subject) value grows shown more in
@@ -67,7 +75,8 @@ module _ (scope : Scope) (locals : List Local) (at place : Place) (subject : Exp
         let form = expression-Match (new ++ more) named value.term bodies.bodies in
         ap (λ found. then_checked found (behind_subject (place_of subject))) later
         ∙ ap (λ p. behind_subject p (typed_of (new ++ more) value)) (sym here)
-        ∙ ap (λ t. matched scope at place e t (arm_names arms) (elaborated_arms scope locals arms None)) (type_stays_at old (new ++ more) (grown old new grows more) value.ty inside)
+        ∙ ap (λ t. matched scope at place e t (arm_names arms) (elaborated_arms scope locals arms None))
+        (type_stays_at old (new ++ more) (grown old new grows more) value.ty inside)
         ∙ matches e (elaborated_arms scope locals arms None)
         ∙ ap (λ tss. then_checked (elaborated_arms scope locals arms None tss) (behind_arms e)) (sym types)
         ∙ ap (λ found. then_checked found (behind_arms e)) (arms_shown more) ∙ cc

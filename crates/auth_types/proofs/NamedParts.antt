@@ -144,7 +144,7 @@ no_number (n ∷ names) name none =
     let here : bytes_eq n name ≡ false = fails (bytes_eq n name) (bytes_eq-Decides n name) (All-head P n names none) in
     ap (λ b. if b then Some 0 else option_map suc (number_of names name)) here ∙ ap (option_map suc) (no_number names name (All-tail P n names none))
 
-number_is : (names : List (List ℕ)) (name : List ℕ) (k : ℕ) → IsFirst (λ other. other ≡ name) names k name → number_of names name ≡ Some k
+pub number_is : (names : List (List ℕ)) (name : List ℕ) (k : ℕ) → IsFirst (λ other. other ≡ name) names k name → number_of names name ≡ Some k
 number_is [] name k first = let e : None ≡ Some name = first.there in absurd (cc)
 number_is (n ∷ names) name zero first =
     let same : n ≡ name = let e : Some n ≡ Some name = first.there in cc in
@@ -159,11 +159,11 @@ number_is (n ∷ names) name (suc k) first =
 none_holds : (names : List (List ℕ)) (name : List ℕ) → NoneFits (λ other. other ≡ name) names → Contains names name → ⊥
 none_holds names name none has = All-contains (λ other. other ≡ name → ⊥) names name none has refl
 
-first_holds : (names : List (List ℕ)) (name : List ℕ) (k : ℕ) → IsFirst (λ other. other ≡ name) names k name → Contains names name
+pub first_holds : (names : List (List ℕ)) (name : List ℕ) (k : ℕ) → IsFirst (λ other. other ≡ name) names k name → Contains names name
 first_holds names name k first = (k, slice_get_within names k name first.there, get_or_from_slice_get names k name name first.there)
 
 -- a name that is held has a first place
-holds_first : (names : List (List ℕ)) (name : List ℕ) → Contains names name → (k : ℕ) × (number_of names name ≡ Some k) × IsFirst (λ other. other ≡ name) names k name
+pub holds_first : (names : List (List ℕ)) (name : List ℕ) → Contains names name → (k : ℕ) × (number_of names name ≡ Some k) × IsFirst (λ other. other ≡ name) names k name
 holds_first names name has = by (number_of names name) refl (number_first names name)
   where
     by : (o : Option ℕ) → number_of names name ≡ o → NumberFound names name o → (k : ℕ) × (number_of names name ≡ Some k) × IsFirst (λ other. other ≡ name) names k name

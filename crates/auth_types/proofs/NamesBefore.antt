@@ -27,7 +27,8 @@ among_reverse name names =
     ∙ sym (among_any name names)
 
 -- the names of the elements of a list
-pub among_of : {A : Type 0} (name_of : A → List ℕ) (name : List ℕ) (xs : List A) → is_among name (map name_of xs) ≡ list_any (λ x. bytes_eq (name_of x) name) xs
+pub among_of : {A : Type 0} (name_of : A → List ℕ) (name : List ℕ) (xs : List A)
+    → is_among name (map name_of xs) ≡ list_any (λ x. bytes_eq (name_of x) name) xs
 among_of name_of name [] = refl
 among_of name_of name (x ∷ xs) = ap (λ b. bytes_eq (name_of x) name || b) (among_of name_of name xs)
 
@@ -51,7 +52,8 @@ length-met keys = length-reverse (map (λ k. k.now) keys) ∙ length-map keys (�
 -- a name that stands again, one that is one too many, and one that may stand there
 pub stands_again : {A : Type 0} (names : List (List ℕ)) (most : ℕ) (thing : Limited) (name : NameSyntax) (rest : Checking A)
     → is_among name.name names ≡ true → new_name names most thing name rest ≡ FaultAt Twice name.at
-stands_again names most thing name rest again = ap (λ b. if b then FaultAt Twice name.at else (if nat_lt (length names) most then rest else FaultAt (Limit thing) name.at)) again
+stands_again names most thing name rest again =
+    ap (λ b. if b then FaultAt Twice name.at else (if nat_lt (length names) most then rest else FaultAt (Limit thing) name.at)) again
 
 pub one_too_many : {A : Type 0} (names : List (List ℕ)) (most : ℕ) (thing : Limited) (name : NameSyntax) (rest : Checking A)
     → is_among name.name names ≡ false → nat_lt (length names) most ≡ false → new_name names most thing name rest ≡ FaultAt (Limit thing) name.at
@@ -71,16 +73,21 @@ not_not false = refl
 
 -- the keys of a set with a new one
 pub names_with : (keys : List (Bor (List ℕ))) (key : Bor (List ℕ)) (name : NameSyntax) → key.now ≡ name.name → (added : Bool)
-    → added ≡ not (list_any (λ k. bytes_eq key.now k.now) keys) → added ≡ true → names_met (insert_key (λ x y. pointwise nat_eq x.now y.now) keys key) ≡ name.name ∷ names_met keys
+    → added ≡ not (list_any (λ k. bytes_eq key.now k.now) keys) → added ≡ true
+    → names_met (insert_key (λ x y. pointwise nat_eq x.now y.now) keys key) ≡ name.name ∷ names_met keys
 names_with keys key name is added tells new =
-    ap (λ b. names_met (if b then keys else keys ++ key ∷ [])) (sym (not_not (list_any (λ k. bytes_eq key.now k.now) keys)) ∙ ap not (sym tells ∙ new))
+    ap (λ b. names_met (if b then keys else keys ++ key ∷ []))
+    (sym (not_not (list_any (λ k. bytes_eq key.now k.now) keys)) ∙ ap not (sym tells ∙ new))
     ∙ met_more keys key ∙ ap (λ n. n ∷ names_met keys) is
 
 -- The next key of a set as the next name, where the set tells by `added` whether it is new, and has so many keys then.
-module _ {A : Type 0} (keys : List (Bor (List ℕ))) (key : Bor (List ℕ)) (most : ℕ) (thing : Limited) (name : NameSyntax) (rest : Checking A) (is : key.now ≡ name.name)
-    (added : Bool) (tells : added ≡ not (list_any (λ k. bytes_eq key.now k.now) keys)) (count : ℕ) (counted : count ≡ length keys + (if added then 1 else 0)) where
+module _ {A : Type 0} (keys : List (Bor (List ℕ))) (key : Bor (List ℕ)) (most : ℕ) (thing : Limited) (name : NameSyntax) (rest : Checking A)
+    (is : key.now ≡ name.name)
+    (added : Bool) (tells : added ≡ not (list_any (λ k. bytes_eq key.now k.now) keys)) (count : ℕ)
+    (counted : count ≡ length keys + (if added then 1 else 0)) where
   among : is_among name.name (names_met keys) ≡ not added
-  among = ap (λ n. is_among n (names_met keys)) (sym is) ∙ among_met key.now keys ∙ sym (not_not (list_any (λ k. bytes_eq key.now k.now) keys)) ∙ ap not (sym tells)
+  among = ap (λ n. is_among n (names_met keys)) (sym is) ∙ among_met key.now keys ∙ sym (not_not (list_any (λ k. bytes_eq key.now k.now) keys))
+      ∙ ap not (sym tells)
 
   one_more : added ≡ true → count ≡ length keys + 1
   one_more new = counted ∙ ap (λ b. length keys + (if b then 1 else 0)) new
@@ -91,21 +98,25 @@ module _ {A : Type 0} (keys : List (Bor (List ℕ))) (key : Bor (List ℕ)) (mos
   pub name_too_many : added ≡ true → most < count → new_name (names_met keys) most thing name rest ≡ FaultAt (Limit thing) name.at
   name_too_many new many =
       let more : count ≡ length keys + 1 = one_more new in
-      one_too_many (names_met keys) most thing name rest (among ∙ ap not new) (ap (λ n. nat_lt n most) (length-met keys) ∙ le-ltb (length keys) most (omega arith))
+      one_too_many (names_met keys) most thing name rest (among ∙ ap not new)
+      (ap (λ n. nat_lt n most) (length-met keys) ∙ le-ltb (length keys) most (omega arith))
 
   pub name_stands : added ≡ true → count ≤ most → new_name (names_met keys) most thing name rest ≡ rest
   name_stands new few =
       let more : count ≡ length keys + 1 = one_more new in
-      may_stand (names_met keys) most thing name rest (among ∙ ap not new) (ap (λ n. nat_lt n most) (length-met keys) ∙ lt-ltb (length keys) most (omega arith))
+      may_stand (names_met keys) most thing name rest (among ∙ ap not new)
+      (ap (λ n. nat_lt n most) (length-met keys) ∙ lt-ltb (length keys) most (omega arith))
 
 -- the same of any name: whether it is new to the set
 pub new_to : (keys : List (Bor (List ℕ))) (key : Bor (List ℕ)) (name : List ℕ) → key.now ≡ name → (added : Bool)
     → added ≡ not (list_any (λ k. bytes_eq key.now k.now) keys) → is_among name (names_met keys) ≡ not added
 new_to keys key name is added tells =
-    ap (λ n. is_among n (names_met keys)) (sym is) ∙ among_met key.now keys ∙ sym (not_not (list_any (λ k. bytes_eq key.now k.now) keys)) ∙ ap not (sym tells)
+    ap (λ n. is_among n (names_met keys)) (sym is) ∙ among_met key.now keys ∙ sym (not_not (list_any (λ k. bytes_eq key.now k.now) keys))
+    ∙ ap not (sym tells)
 
 -- a name as the set finds it
-pub among_key : (keys : List (Bor (List ℕ))) (key : Bor (List ℕ)) (name : List ℕ) → key.now ≡ name → is_among name (names_met keys) ≡ list_any (λ k. bytes_eq key.now k.now) keys
+pub among_key : (keys : List (Bor (List ℕ))) (key : Bor (List ℕ)) (name : List ℕ) → key.now ≡ name
+    → is_among name (names_met keys) ≡ list_any (λ k. bytes_eq key.now k.now) keys
 among_key keys key name is = ap (λ n. is_among n (names_met keys)) (sym is) ∙ among_met key.now keys
 
 -- the names of a set with a key more, which may have stood there before
@@ -125,8 +136,10 @@ among_more keys key x is name = by (list_any (λ k. bytes_eq key.now k.now) keys
         let is_name : x ≡ name = (bytes_eq-Decides x name).0 same in
         among_key keys key name (is ∙ is_name) ∙ found ∙ ap (λ b. b || true) (sym (among_key keys key name (is ∙ is_name) ∙ found))
     by true found false same = or_comm false (is_among name (names_met keys))
-    by false new b same = ap (is_among name) (met_more keys key) ∙ ap (λ n. bytes_eq n name || is_among name (names_met keys)) is ∙ ap (λ b. b || is_among name (names_met keys)) same ∙ or_comm b (is_among name (names_met keys))
+    by false new b same = ap (is_among name) (met_more keys key) ∙ ap (λ n. bytes_eq n name || is_among name (names_met keys)) is
+        ∙ ap (λ b. b || is_among name (names_met keys)) same ∙ or_comm b (is_among name (names_met keys))
 
 -- a name among the names of a set, in their order
-pub among_in : (keys : List (Bor (List ℕ))) (key : Bor (List ℕ)) (name : List ℕ) → key.now ≡ name → is_among name (names_in keys) ≡ list_any (λ k. bytes_eq key.now k.now) keys
+pub among_in : (keys : List (Bor (List ℕ))) (key : Bor (List ℕ)) (name : List ℕ) → key.now ≡ name
+    → is_among name (names_in keys) ≡ list_any (λ k. bytes_eq key.now k.now) keys
 among_in keys key name is = ap (λ n. is_among n (names_in keys)) (sym is) ∙ among_keys key.now keys

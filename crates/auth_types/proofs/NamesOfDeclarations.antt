@@ -2,7 +2,7 @@
 use Rattle.std.proofs.Common.{◌≡◌, ℕ, ◌+◌, not, List, [], ◌∷◌, ◌++◌, map, reverse, nat_lt, sym, ap, ◌∙◌, append_assoc}
 use Rattle.std.proofs.lemmas.List.{append-nil, reverse-append, reverse-reverse}
 use Rattle.auth_syntax.specs.Syntax.{ConstructorDeclaration, DeclarationSyntax, FunctionDeclaration, FunctionSyntax, NameSyntax, StateDeclaration, TypeDeclaration, TypeSyntax}
-use Rattle.auth_syntax.specs.declared.place.Place.{Place}
+use Rattle.lexemes.specs.declared.place.Place.{Place}
 use Rattle.auth_types.specs.Checking.{Sound, is_among}
 use Rattle.auth_types.specs.CheckedPrograms.{constructors_in}
 use Rattle.auth_types.specs.Declarations.{Declared, checked_constructors, checked_declaration, checked_declarations, checked_fields, checked_parameters, most_constructors, most_functions, most_types, nothing_declared}
@@ -22,16 +22,19 @@ Adds before names after = reverse after ≡ reverse before ++ names
 adds_none : (names : List (List ℕ)) → Adds names [] names
 adds_none names = sym (append-nil (reverse names))
 
-adds_one : (before : List (List ℕ)) (name : List ℕ) (names after : List (List ℕ)) → Adds (name ∷ before) names after → Adds before (name ∷ names) after
+adds_one : (before : List (List ℕ)) (name : List ℕ) (names after : List (List ℕ)) → Adds (name ∷ before) names after
+    → Adds before (name ∷ names) after
 adds_one before name names after h = h ∙ ap (λ l. l ++ names) (reverse-append (name ∷ []) before) ∙ append_assoc (reverse before) (name ∷ []) names
 
-adds_more : (before names middle others after : List (List ℕ)) → Adds before names middle → Adds middle others after → Adds before (names ++ others) after
+adds_more : (before names middle others after : List (List ℕ)) → Adds before names middle → Adds middle others after
+    → Adds before (names ++ others) after
 adds_more before names middle others after first second = second ∙ ap (λ l. l ++ others) first ∙ append_assoc (reverse before) names others
 
 abbrev names_of_constructors : List ConstructorDeclaration → List (List ℕ)
 names_of_constructors cs = map (λ c. c.name.name) cs
 
-constructors_added : (before : ℕ) (names : List (List ℕ)) (cs : List ConstructorDeclaration) → Gives (Adds names (names_of_constructors cs)) (checked_constructors before names cs)
+constructors_added : (before : ℕ) (names : List (List ℕ)) (cs : List ConstructorDeclaration)
+    → Gives (Adds names (names_of_constructors cs)) (checked_constructors before names cs)
 constructors_added before names [] = adds_none names
 constructors_added before names (c ∷ cs) =
     let R : List (List ℕ) → Type 0 = Adds names (c.name.name ∷ names_of_constructors cs) in
@@ -59,63 +62,84 @@ type_declares : (before : Declared) (at : Place) (name : NameSyntax) (cs : List 
 type_declares before at name cs =
     let R : Declared → Type 0 = DeclaresNames before (name.name ∷ []) (names_of_constructors cs) [] in
     gives_new R before.types most_types Types name _
-    (λ _ _. gives_then (Adds before.constructors (names_of_constructors cs)) R (checked_constructors 0 before.constructors cs) _ (constructors_added 0 before.constructors cs)
+    (λ _ _. gives_then (Adds before.constructors (names_of_constructors cs)) R (checked_constructors 0 before.constructors cs)
+    _ (constructors_added 0 before.constructors cs)
     (λ names h. record { types = reverse-append (name.name ∷ []) before.types; constructors = h; functions = adds_none before.functions }))
 
-state_declares : (before : Declared) (at : Place) (t : TypeSyntax) → Gives (DeclaresNames before [] [] []) (checked_declaration before (StateDeclaration at t))
+state_declares : (before : Declared) (at : Place) (t : TypeSyntax) → Gives (DeclaresNames before [] [] [])
+    (checked_declaration before (StateDeclaration at t))
 state_declares before at t = gives_unless (DeclaresNames before [] [] []) (not before.state) Twice at _
     (λ _. record { types = adds_none before.types; constructors = adds_none before.constructors; functions = adds_none before.functions })
 
-function_declares : (before : Declared) (at : Place) (f : FunctionSyntax) → Gives (DeclaresNames before [] [] (f.name.name ∷ [])) (checked_declaration before (FunctionDeclaration at f))
+function_declares : (before : Declared) (at : Place) (f : FunctionSyntax)
+    → Gives (DeclaresNames before [] [] (f.name.name ∷ [])) (checked_declaration before (FunctionDeclaration at f))
 function_declares before at f =
     let R : Declared → Type 0 = DeclaresNames before [] [] (f.name.name ∷ []) in
     gives_new R before.functions most_functions Functions f.name _
     (λ _ _. gives_then (λ _. Unit {0}) R (checked_parameters [] f.parameters) _ (gives_any (checked_parameters [] f.parameters))
-    (λ _ _. record { types = adds_none before.types; constructors = adds_none before.constructors; functions = reverse-append (f.name.name ∷ []) before.functions }))
+    (λ _ _. record {
+      types = adds_none before.types;
+      constructors = adds_none before.constructors;
+      functions = reverse-append (f.name.name ∷ [])
+          before.functions;
+    }))
 
-declares_more : (before : Declared) (types constructors functions : List (List ℕ)) (middle : Declared) (ds : List DeclarationSyntax) (after : Declared)
+declares_more : (before : Declared) (types constructors functions : List (List ℕ)) (middle : Declared) (ds : List DeclarationSyntax)
+    (after : Declared)
     → DeclaresNames before types constructors functions middle → Declares middle ds after
-    → DeclaresNames before (types ++ type_names ds) (constructors ++ joined (constructors_in ds)) (functions ++ map (λ f. f.name.name) (functions_in ds)) after
+    → DeclaresNames before (types ++ type_names ds) (constructors ++ joined (constructors_in ds))
+    (functions ++ map (λ f. f.name.name) (functions_in ds)) after
 declares_more before types constructors functions middle ds after first second = record {
   types = adds_more before.types types middle.types (type_names ds) after.types first.types second.types;
-  constructors = adds_more before.constructors constructors middle.constructors (joined (constructors_in ds)) after.constructors first.constructors second.constructors;
-  functions = adds_more before.functions functions middle.functions (map (λ f. f.name.name) (functions_in ds)) after.functions first.functions second.functions;
+  constructors = adds_more before.constructors constructors middle.constructors (joined (constructors_in ds)) after.constructors first.constructors
+      second.constructors;
+  functions = adds_more before.functions functions middle.functions (map (λ f. f.name.name) (functions_in ds)) after.functions first.functions
+      second.functions;
 }
 
 all_declare : (before : Declared) (ds : List DeclarationSyntax) → Gives (Declares before ds) (checked_declarations before ds)
-all_declare before [] = record { types = adds_none before.types; constructors = adds_none before.constructors; functions = adds_none before.functions }
+all_declare before [] = record {
+  types = adds_none before.types;
+  constructors = adds_none before.constructors;
+  functions = adds_none before.functions;
+}
 all_declare before (TypeDeclaration at name cs ∷ ds) =
     let Q = DeclaresNames before (name.name ∷ []) (names_of_constructors cs) [] in
     let R = Declares before (TypeDeclaration at name cs ∷ ds) in
     gives_then Q R (checked_declaration before (TypeDeclaration at name cs)) _ (type_declares before at name cs)
     (λ middle first. gives_more (Declares middle ds) R (checked_declarations middle ds)
-    (λ after second. let whole = declares_more before (name.name ∷ []) (names_of_constructors cs) [] middle ds after first second in record { types = whole.types; constructors = whole.constructors; functions = whole.functions })
+    (λ after second. let whole = declares_more before (name.name ∷ []) (names_of_constructors cs) [] middle ds after first second in
+    record { types = whole.types; constructors = whole.constructors; functions = whole.functions })
     (all_declare middle ds))
 all_declare before (StateDeclaration at t ∷ ds) =
     let Q = DeclaresNames before [] [] [] in
     let R = Declares before (StateDeclaration at t ∷ ds) in
     gives_then Q R (checked_declaration before (StateDeclaration at t)) _ (state_declares before at t)
     (λ middle first. gives_more (Declares middle ds) R (checked_declarations middle ds)
-    (λ after second. let whole = declares_more before [] [] [] middle ds after first second in record { types = whole.types; constructors = whole.constructors; functions = whole.functions })
+    (λ after second. let whole = declares_more before [] [] [] middle ds after first second in
+    record { types = whole.types; constructors = whole.constructors; functions = whole.functions })
     (all_declare middle ds))
 all_declare before (FunctionDeclaration at f ∷ ds) =
     let Q = DeclaresNames before [] [] (f.name.name ∷ []) in
     let R = Declares before (FunctionDeclaration at f ∷ ds) in
     gives_then Q R (checked_declaration before (FunctionDeclaration at f)) _ (function_declares before at f)
     (λ middle first. gives_more (Declares middle ds) R (checked_declarations middle ds)
-    (λ after second. let whole = declares_more before [] [] (f.name.name ∷ []) middle ds after first second in record { types = whole.types; constructors = whole.constructors; functions = whole.functions })
+    (λ after second. let whole = declares_more before [] [] (f.name.name ∷ []) middle ds after first second in
+    record { types = whole.types; constructors = whole.constructors; functions = whole.functions })
     (all_declare middle ds))
 
 -- what the sets of the first pass hold, where it found no fault in these declarations
-module _ (declared : DeclaredSets) (ds : List DeclarationSyntax) (sound : checked_declarations nothing_declared ds ≡ Sound (declared_of declared)) where
-  found : Declares nothing_declared ds (declared_of declared)
-  found = given (Declares nothing_declared ds) (checked_declarations nothing_declared ds) (declared_of declared) (all_declare nothing_declared ds) sound
+module _ (declared : DeclaredSets) (ds : List DeclarationSyntax) (sound : checked_declarations nothing_declared ds ≡ Sound (declared_of declared))
+  where
+    found : Declares nothing_declared ds (declared_of declared)
+    found = given (Declares nothing_declared ds) (checked_declarations nothing_declared ds) (declared_of declared) (all_declare nothing_declared ds)
+        sound
 
-  pub types_named : names_in declared.types.keys ≡ type_names ds
-  types_named = sym (reverse-reverse (names_in declared.types.keys)) ∙ found.types
+    pub types_named : names_in declared.types.keys ≡ type_names ds
+    types_named = sym (reverse-reverse (names_in declared.types.keys)) ∙ found.types
 
-  pub constructors_named : names_in declared.constructors.keys ≡ joined (constructors_in ds)
-  constructors_named = sym (reverse-reverse (names_in declared.constructors.keys)) ∙ found.constructors
+    pub constructors_named : names_in declared.constructors.keys ≡ joined (constructors_in ds)
+    constructors_named = sym (reverse-reverse (names_in declared.constructors.keys)) ∙ found.constructors
 
-  pub functions_named : names_in declared.functions.keys ≡ map (λ f. f.name.name) (functions_in ds)
-  functions_named = sym (reverse-reverse (names_in declared.functions.keys)) ∙ found.functions
+    pub functions_named : names_in declared.functions.keys ≡ map (λ f. f.name.name) (functions_in ds)
+    functions_named = sym (reverse-reverse (names_in declared.functions.keys)) ∙ found.functions

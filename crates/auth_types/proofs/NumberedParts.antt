@@ -8,7 +8,7 @@ use Rattle.core_terms.specs.declared.language.term.Constructor.{Constructor}
 use Rattle.core_terms.specs.declared.language.term.NamedType.{NamedType}
 use Rattle.auth_syntax.specs.Syntax.{ConstructorDeclaration, DeclarationSyntax, FunctionDeclaration, FunctionSyntax, StateDeclaration, TypeDeclaration}
 use Rattle.auth_syntax.specs.Trees.{constructor_of, constructors_of, declaration_of, function_of, name_of}
-use Rattle.auth_syntax.specs.declared.place.Place.{Place}
+use Rattle.lexemes.specs.declared.place.Place.{Place}
 use Rattle.auth_syntax.specs.declared.tree.ConstructorDeclaration.{ConstructorDeclaration as ConstructorTree}
 use Rattle.auth_syntax.specs.declared.tree.Declaration.{Declaration}
 use Rattle.auth_syntax.specs.declared.tree.Declaration.TheVariants.{«Type» as TypeVariant, State, Function as FunctionVariant}
@@ -21,7 +21,8 @@ use Rattle.auth_types.specs.declared.scope.Head.{Head}
 use Rattle.auth_types.proofs.TypeNumbers.{number_stays, numbers_grow, numbers_push}
 
 -- one pair more
-zip_push : {A B : Type 0} (R : A → B → Type 0) (xs : List A) (ys : List B) (x : A) (y : B) → AllZip R xs ys → R x y → AllZip R (xs ++ x ∷ []) (ys ++ y ∷ [])
+zip_push : {A B : Type 0} (R : A → B → Type 0) (xs : List A) (ys : List B) (x : A) (y : B) → AllZip R xs ys → R x y
+    → AllZip R (xs ++ x ∷ []) (ys ++ y ∷ [])
 zip_push R [] [] x y all one = (one, tt)
 zip_push R [] (z ∷ ys) x y all one = absurd all
 zip_push R (z ∷ xs) [] x y all one = absurd all
@@ -34,12 +35,15 @@ zip_more R S more (x ∷ xs) [] all = absurd all
 zip_more R S more (x ∷ xs) (y ∷ ys) all = (more x y all.0, zip_more R S more xs ys all.1)
 
 -- the first elements, and one more
-taken : {A B : Type 0} (f : A → B) (xs : List A) (i : ℕ) (x : A) → i < length xs → x ≡ slice_index_or xs i x → map f (take (i + 1) xs) ≡ map f (take i xs) ++ f x ∷ []
+taken : {A B : Type 0} (f : A → B) (xs : List A) (i : ℕ) (x : A) → i < length xs → x ≡ slice_index_or xs i x
+    → map f (take (i + 1) xs) ≡ map f (take i xs) ++ f x ∷ []
 taken f xs i x inside is = ap (map f) (take_more xs i x inside ∙ ap (λ e. take i xs ++ e ∷ []) (sym is)) ∙ map-append f (take i xs) (x ∷ [])
 
 -- numbers of what the first elements stand for
-pub numbers_taken : {A B : Type 0} (a b : List Ty) (f : B → Ty) (g : A → B) (xs : List A) (i : ℕ) (ids : List TyId) (id : TyId) (x : A) → Grows a b → i < length xs → x ≡ slice_index_or xs i x
-    → AreNumbers a ids (map f (map g (take i xs))) → slice_get b id.0 ≡ Some (f (g x)) → AreNumbers b (ids ++ id ∷ []) (map f (map g (take (i + 1) xs)))
+pub numbers_taken : {A B : Type 0} (a b : List Ty) (f : B → Ty) (g : A → B) (xs : List A) (i : ℕ) (ids : List TyId) (id : TyId) (x : A) → Grows a b
+    → i < length xs → x ≡ slice_index_or xs i x
+    → AreNumbers a ids (map f (map g (take i xs))) → slice_get b id.0 ≡ Some (f (g x))
+    → AreNumbers b (ids ++ id ∷ []) (map f (map g (take (i + 1) xs)))
 numbers_taken a b f g xs i ids id x grows inside is h found =
     subst (AreNumbers b (ids ++ id ∷ [])) (sym (ap (map f) (taken g xs i x inside is) ∙ map-append f (map g (take i xs)) (g x ∷ [])))
     (numbers_push b ids (map f (map g (take i xs))) id (f (g x)) (numbers_grow a b ids (map f (map g (take i xs))) grows h) found)
@@ -48,7 +52,8 @@ module _ (names : List (List ℕ)) (a b : List Ty) (grows : Grows a b) where
   constructor_grows : (d : ConstructorDeclaration) (c : Constructor) → IsConstructorOf names a d c → IsConstructorOf names b d c
   constructor_grows d c is = record { name = is.name; fields = numbers_grow a b c.fields.items (map (type_meant names) d.fields) grows is.fields }
 
-  pub constructors_grow : (ds : List ConstructorDeclaration) (cs : List Constructor) → AreConstructorsOf names a ds cs → AreConstructorsOf names b ds cs
+  pub constructors_grow : (ds : List ConstructorDeclaration) (cs : List Constructor) → AreConstructorsOf names a ds cs
+      → AreConstructorsOf names b ds cs
   constructors_grow ds cs are = zip_more (IsConstructorOf names a) (IsConstructorOf names b) constructor_grows ds cs are
 
   named_grows : (d : NamedSyntax) (t : NamedType) → IsNamedOf names a d t → IsNamedOf names b d t
@@ -71,12 +76,14 @@ module _ (names : List (List ℕ)) (a b : List Ty) (grows : Grows a b) where
   heads_grow fs heads are = zip_more (IsHeadOf names a) (IsHeadOf names b) head_grows fs heads are
 
   -- the constructors of the first declarations, and of one more
-  pub constructor_taken : (ds : List ConstructorTree) (i : ℕ) (cs : List Constructor) (c : Constructor) (d : ConstructorTree) → i < length ds → d ≡ slice_index_or ds i d
+  pub constructor_taken : (ds : List ConstructorTree) (i : ℕ) (cs : List Constructor) (c : Constructor) (d : ConstructorTree) → i < length ds
+      → d ≡ slice_index_or ds i d
       → AreConstructorsOf names a (map constructor_of (take i ds)) cs → IsConstructorOf names b (constructor_of d) c
       → AreConstructorsOf names b (map constructor_of (take (i + 1) ds)) (cs ++ c ∷ [])
   constructor_taken ds i cs c d inside is so_far one =
       subst (λ l. AreConstructorsOf names b l (cs ++ c ∷ [])) (sym (taken constructor_of ds i d inside is))
-      (zip_push (IsConstructorOf names b) (map constructor_of (take i ds)) cs (constructor_of d) c (constructors_grow (map constructor_of (take i ds)) cs so_far) one)
+      (zip_push (IsConstructorOf names b) (map constructor_of (take i ds)) cs (constructor_of d) c
+      (constructors_grow (map constructor_of (take i ds)) cs so_far) one)
 
 -- the named types and the functions of declarations behind others
 named_behind : (ds es : List DeclarationSyntax) → named_in (ds ++ es) ≡ named_in ds ++ named_in es
@@ -99,17 +106,21 @@ module _ (ds : List Declaration) (i : ℕ) (d : Declaration) (inside : i < lengt
   functions_next = ap functions_in (taken declaration_of ds i d inside is) ∙ functions_behind (map declaration_of (take i ds)) (declaration_of d ∷ [])
 
   -- a named type more
-  pub named_taken : (names : List (List ℕ)) (a b : List Ty) (named : List NamedType) (t : NamedType) (at : Place) (tree : TypeDeclarationTree) → Grows a b → d ≡ TypeVariant at tree
-      → AreNamedOf names a (map declaration_of (take i ds)) named → IsNamedOf names b (record { name = name_of tree.name; constructors = constructors_of tree.constructors }) t
+  pub named_taken : (names : List (List ℕ)) (a b : List Ty) (named : List NamedType) (t : NamedType) (at : Place) (tree : TypeDeclarationTree)
+      → Grows a b → d ≡ TypeVariant at tree
+      → AreNamedOf names a (map declaration_of (take i ds)) named → IsNamedOf names b
+      (record { name = name_of tree.name; constructors = constructors_of tree.constructors }) t
       → AreNamedOf names b (map declaration_of (take (i + 1) ds)) (named ++ t ∷ [])
   named_taken names a b named t at tree grows type so_far one =
       let whole = named_next ∙ ap (λ (d : Declaration). named_in (map declaration_of (take i ds)) ++ named_in (declaration_of d ∷ [])) type in
       subst (λ l. AllZip (IsNamedOf names b) l (named ++ t ∷ [])) (sym whole)
-      (zip_push (IsNamedOf names b) (named_in (map declaration_of (take i ds))) named (record { name = name_of tree.name; constructors = constructors_of tree.constructors }) t
+      (zip_push (IsNamedOf names b) (named_in (map declaration_of (take i ds))) named
+      (record { name = name_of tree.name; constructors = constructors_of tree.constructors }) t
       (all_named_grow names a b grows (map declaration_of (take i ds)) named so_far) one)
 
   -- a declaration of another kind
-  pub named_passed : (names : List (List ℕ)) (a : List Ty) (named : List NamedType) → ((at : Place) (tree : TypeDeclarationTree) → d ≡ TypeVariant at tree → ⊥)
+  pub named_passed : (names : List (List ℕ)) (a : List Ty) (named : List NamedType)
+      → ((at : Place) (tree : TypeDeclarationTree) → d ≡ TypeVariant at tree → ⊥)
       → AreNamedOf names a (map declaration_of (take i ds)) named → AreNamedOf names a (map declaration_of (take (i + 1) ds)) named
   named_passed names a named other so_far = subst (λ l. AllZip (IsNamedOf names a) l named) (sym (named_next ∙ by d other)) so_far
     where
@@ -120,13 +131,15 @@ module _ (ds : List Declaration) (i : ℕ) (d : Declaration) (inside : i < lengt
       by (FunctionVariant at f) other = append-nil (named_in (map declaration_of (take i ds)))
 
   -- a function more
-  pub head_taken : (names : List (List ℕ)) (a b : List Ty) (heads : List Head) (head : Head) (at : Place) (f : Function) → Grows a b → d ≡ FunctionVariant at f
+  pub head_taken : (names : List (List ℕ)) (a b : List Ty) (heads : List Head) (head : Head) (at : Place) (f : Function) → Grows a b
+      → d ≡ FunctionVariant at f
       → AllZip (IsHeadOf names a) (functions_written (take i ds)) heads → IsHeadOf names b (function_of f) head
       → AllZip (IsHeadOf names b) (functions_written (take (i + 1) ds)) (heads ++ head ∷ [])
   head_taken names a b heads head at f grows function so_far one =
       let whole = functions_next ∙ ap (λ (d : Declaration). functions_written (take i ds) ++ functions_in (declaration_of d ∷ [])) function in
       subst (λ l. AllZip (IsHeadOf names b) l (heads ++ head ∷ [])) (sym whole)
-      (zip_push (IsHeadOf names b) (functions_written (take i ds)) heads (function_of f) head (heads_grow names a b grows (functions_written (take i ds)) heads so_far) one)
+      (zip_push (IsHeadOf names b) (functions_written (take i ds)) heads (function_of f) head
+      (heads_grow names a b grows (functions_written (take i ds)) heads so_far) one)
 
   pub heads_passed : (names : List (List ℕ)) (a : List Ty) (heads : List Head) → ((at : Place) (f : Function) → d ≡ FunctionVariant at f → ⊥)
       → AllZip (IsHeadOf names a) (functions_written (take i ds)) heads → AllZip (IsHeadOf names a) (functions_written (take (i + 1) ds)) heads

@@ -4,6 +4,7 @@ use borrow.Author.Tests.{ltb-true}
 use Rattle.std.specs.declared.alloc.Global.{Global}
 use Rattle.std.specs.declared.boxed.Box.{Box}
 use Rattle.std.proofs.lemmas.Option.{get_or_from_slice_get}
+use Rattle.core_terms.specs.declared.language.term.BinaryOperator.{BinaryOperator}
 use Rattle.core_terms.specs.Types.{Ty, UnitTy, BoolTy, IntTy, TextTy, PairTy, AuthTy}
 use Rattle.core_terms.specs.Terms.{Expression, LenE, NotE}
 use Rattle.core_terms.specs.Typing.{same_type}
@@ -17,15 +18,15 @@ use Rattle.core_terms.specs.declared.language.term.Term.{Term}
 use Rattle.core_terms.specs.declared.language.term.Term as term
 use Rattle.core_terms.proofs.TypingSound.{same_sound}
 use Rattle.core_terms.proofs.TypingComplete.{same_self}
-use Rattle.auth_syntax.specs.Syntax.{FstOperation, SndOperation, AuthOperation, UnauthOperation, LenOperation, NotOperation, BinaryOperation}
-use Rattle.auth_syntax.specs.declared.place.Place.{Place}
+use Rattle.auth_syntax.specs.Syntax.{FstOperation, SndOperation, AuthOperation, UnauthOperation, LenOperation, NotOperation}
+use Rattle.lexemes.specs.declared.place.Place.{Place}
 use Rattle.auth_types.specs.Checking.{Checking, Sound, FaultAt, unless_fault, then_checked}
 use Rattle.auth_types.specs.Bodies.{Typed, binary_expression, first_of, opened, pair, result_type, second_of, typed, unary, wanted}
 use Rattle.auth_types.specs.Elaborators.{ShowsTerm, boxed_of, typed_of}
 use Rattle.auth_types.specs.OverTypes.{FindsOver, Grows, Shows}
 use Rattle.auth_types.specs.declared.fault.TypeKind.TheVariants.{NotAuth, NotPair, WrongType}
 use Rattle.auth_types.specs.declared.bodies.Typed.{Typed as TypedTerm}
-use Rattle.auth_types.specs.declared.fault.Fault.{Fault}
+use Rattle.auth_types.specs.Outcomes.{TypeFault}
 use Rattle.auth_types.proofs.FindingSteps.{fault_first, grown}
 use Rattle.auth_types.proofs.ScopeStays.{type_stays_at}
 use Rattle.auth_types.proofs.TermViews.{expression-Pair, expression-Fst, expression-Snd, expression-Auth, expression-Unauth, expression-Len, expression-Not}
@@ -38,7 +39,8 @@ pub paired_shows : (old new : List Ty) (first second : TypedTerm) (ty : TyId) (x
 paired_shows old new first second ty x y grows there inside inside' shown shown' = λ more.
     let first_is = shows_grow old new typed_of x first grows shown more in
     let second_is = shows_grow old new typed_of y second grows shown' more in
-    let whole : type_at (new ++ more) ty ≡ PairTy (type_at old first.ty) (type_at old second.ty) = type_stays new ty.0 (PairTy (type_at old first.ty) (type_at old second.ty)) there more in
+    let whole : type_at (new ++ more) ty ≡ PairTy (type_at old first.ty) (type_at old second.ty) =
+    type_stays new ty.0 (PairTy (type_at old first.ty) (type_at old second.ty)) there more in
     let one = type_stays_at old (new ++ more) (grown old new grows more) first.ty inside in
     let other = type_stays_at old (new ++ more) (grown old new grows more) second.ty inside' in
     let form = expression-Pair (new ++ more) first.ty second.ty first.term second.term in
@@ -55,13 +57,15 @@ authenticated_shows old new operand ty at found grows there inside shown = λ mo
     let form = expression-Auth (new ++ more) operand.ty operand.term in
     ap (unary AuthOperation at) operand_is ∙ cc
 
-module _ (types : List Ty) (operand : TypedTerm) (inside : operand.ty.0 < length types) (at : Place) (found : Checking Typed) (shown : Shows types typed_of found operand) where
+module _ (types : List Ty) (operand : TypedTerm) (inside : operand.ty.0 < length types) (at : Place) (found : Checking Typed)
+    (shown : Shows types typed_of found operand) where
   -- the type of the operand over more types
   type_is : (t : Ty) → t ≡ type_at types operand.ty → (more : List Ty) → type_at (types ++ more) operand.ty ≡ t
   type_is t is more = type_stays_at types (types ++ more) (more, refl) operand.ty inside ∙ sym is
 
   -- parts of a pair
-  module _ (a b : TyId) (is : PairTy (type_at types a) (type_at types b) ≡ type_at types operand.ty) (a_inside : a.0 < length types) (b_inside : b.0 < length types) where
+  module _ (a b : TyId) (is : PairTy (type_at types a) (type_at types b) ≡ type_at types operand.ty) (a_inside : a.0 < length types)
+      (b_inside : b.0 < length types) where
     pair_is : (more : List Ty) → type_at (types ++ more) operand.ty ≡ PairTy (type_at (types ++ more) a) (type_at (types ++ more) b)
     pair_is more =
         let whole = type_is (PairTy (type_at types a) (type_at types b)) is more in
@@ -79,7 +83,8 @@ module _ (types : List Ty) (operand : TypedTerm) (inside : operand.ty.0 < length
         let form = expression-Snd (types ++ more) a b operand.term in
         ap (unary SndOperation at) (shown more) ∙ ap (second_of at (boxed_of (types ++ more) operand.term)) (pair_is more) ∙ cc
 
-  pub opened_shows : (a : TyId) → AuthTy (type_at types a) ≡ type_at types operand.ty → a.0 < length types → ShowsTerm types (unary UnauthOperation at found) (term.Unauth a operand.term) a
+  pub opened_shows : (a : TyId) → AuthTy (type_at types a) ≡ type_at types operand.ty → a.0 < length types
+      → ShowsTerm types (unary UnauthOperation at found) (term.Unauth a operand.term) a
   opened_shows a is a_inside = λ more.
       let whole = type_is (AuthTy (type_at types a)) is more in
       let one = type_stays_at types (types ++ more) (more, refl) a a_inside in
@@ -91,9 +96,11 @@ module _ (types : List Ty) (operand : TypedTerm) (inside : operand.ty.0 < length
     -- an operand that is no pair
     module _ (other : (a b : TyId) → form ≡ PairForm a b → ⊥) where
       pub first_refused : unary FstOperation at found ≡ FaultAt NotPair at
-      first_refused = ap (unary FstOperation at) (shows_now types typed_of found operand shown) ∙ ap (first_of at (boxed_of types operand.term)) (sym is) ∙ by form other
+      first_refused = ap (unary FstOperation at) (shows_now types typed_of found operand shown)
+          ∙ ap (first_of at (boxed_of types operand.term)) (sym is) ∙ by form other
         where
-          by : (form : TyForm) → ((a b : TyId) → form ≡ PairForm a b → ⊥) → first_of at (boxed_of types operand.term) (type_of_form types form) ≡ FaultAt NotPair at
+          by : (form : TyForm) → ((a b : TyId) → form ≡ PairForm a b → ⊥)
+              → first_of at (boxed_of types operand.term) (type_of_form types form) ≡ FaultAt NotPair at
           by (PairForm a b) other = absurd (other a b refl)
           by (AuthForm part) other = refl
           by UnitForm other = refl
@@ -103,9 +110,11 @@ module _ (types : List Ty) (operand : TypedTerm) (inside : operand.ty.0 < length
           by (NamedForm named) other = refl
 
       pub second_refused : unary SndOperation at found ≡ FaultAt NotPair at
-      second_refused = ap (unary SndOperation at) (shows_now types typed_of found operand shown) ∙ ap (second_of at (boxed_of types operand.term)) (sym is) ∙ by form other
+      second_refused = ap (unary SndOperation at) (shows_now types typed_of found operand shown)
+          ∙ ap (second_of at (boxed_of types operand.term)) (sym is) ∙ by form other
         where
-          by : (form : TyForm) → ((a b : TyId) → form ≡ PairForm a b → ⊥) → second_of at (boxed_of types operand.term) (type_of_form types form) ≡ FaultAt NotPair at
+          by : (form : TyForm) → ((a b : TyId) → form ≡ PairForm a b → ⊥)
+              → second_of at (boxed_of types operand.term) (type_of_form types form) ≡ FaultAt NotPair at
           by (PairForm a b) other = absurd (other a b refl)
           by (AuthForm part) other = refl
           by UnitForm other = refl
@@ -116,9 +125,11 @@ module _ (types : List Ty) (operand : TypedTerm) (inside : operand.ty.0 < length
 
     -- an operand that is no authenticated value
     pub opened_refused : ((a : TyId) → form ≡ AuthForm a → ⊥) → unary UnauthOperation at found ≡ FaultAt NotAuth at
-    opened_refused other = ap (unary UnauthOperation at) (shows_now types typed_of found operand shown) ∙ ap (opened at (boxed_of types operand.term)) (sym is) ∙ by form other
+    opened_refused other = ap (unary UnauthOperation at) (shows_now types typed_of found operand shown)
+        ∙ ap (opened at (boxed_of types operand.term)) (sym is) ∙ by form other
       where
-        by : (form : TyForm) → ((a : TyId) → form ≡ AuthForm a → ⊥) → opened at (boxed_of types operand.term) (type_of_form types form) ≡ FaultAt NotAuth at
+        by : (form : TyForm) → ((a : TyId) → form ≡ AuthForm a → ⊥) → opened at (boxed_of types operand.term) (type_of_form types form) ≡ FaultAt
+            NotAuth at
         by (AuthForm part) other = absurd (other part refl)
         by (PairForm a b) other = refl
         by UnitForm other = refl
@@ -133,24 +144,29 @@ module _ (types : List Ty) (operand : TypedTerm) (inside : operand.ty.0 < length
     wanted_shows same = λ more.
         let here : type_at (types ++ more) operand.ty ≡ type_at types ty = type_is (type_at types ty) (sym same) more in
         ap (wanted at (type_at types ty)) (shown more)
-        ∙ ap (λ b. unless_fault b WrongType at (Sound (boxed_of (types ++ more) operand.term))) (ap (λ t. same_type t (type_at types ty)) here ∙ same_self (type_at types ty))
+        ∙ ap (λ b. unless_fault b WrongType at (Sound (boxed_of (types ++ more) operand.term)))
+        (ap (λ t. same_type t (type_at types ty)) here ∙ same_self (type_at types ty))
 
     pub wanted_refused : type_at types operand.ty ≢ type_at types ty → wanted at (type_at types ty) found ≡ FaultAt WrongType at
-    wanted_refused other = ap (wanted at (type_at types ty)) (shows_now types typed_of found operand shown) ∙ by (same_type (type_at types operand.ty) (type_at types ty)) refl
+    wanted_refused other = ap (wanted at (type_at types ty)) (shows_now types typed_of found operand shown)
+        ∙ by (same_type (type_at types operand.ty) (type_at types ty)) refl
       where
-        by : (b : Bool) → same_type (type_at types operand.ty) (type_at types ty) ≡ b → unless_fault b WrongType at (Sound (boxed_of types operand.term)) ≡ FaultAt WrongType at
+        by : (b : Bool) → same_type (type_at types operand.ty) (type_at types ty) ≡ b
+            → unless_fault b WrongType at (Sound (boxed_of types operand.term)) ≡ FaultAt WrongType at
         by true is = absurd (other (same_sound (type_at types operand.ty) (type_at types ty) is))
         by false is = refl
 
 -- `len` and `not` of a term of the type that they want
-pub length_shows : (old new : List Ty) (operand : Box Term Global) (t : Ty) (at : Place) (found : Checking Typed) → Grows old new → t ≡ TextTy → Shows old boxed_of (wanted at t found) operand
+pub length_shows : (old new : List Ty) (operand : Box Term Global) (t : Ty) (at : Place) (found : Checking Typed) → Grows old new → t ≡ TextTy
+    → Shows old boxed_of (wanted at t found) operand
     → (more : List Ty) → unary LenOperation at found ≡ typed (expression_of (new ++ more) (term.Len operand)) IntTy
 length_shows old new operand t at found grows text shown more =
     let form = expression-Len (new ++ more) operand in
     ap (λ t. then_checked (wanted at t found) (λ e. typed (LenE e) IntTy)) (sym text)
     ∙ ap (λ part. then_checked part (λ e. typed (LenE e) IntTy)) (shows_grow old new boxed_of (wanted at t found) operand grows shown more) ∙ cc
 
-pub negated_shows : (types : List Ty) (operand : Box Term Global) (truth : TyId) (at : Place) (found : Checking Typed) → slice_get types truth.0 ≡ Some BoolTy
+pub negated_shows : (types : List Ty) (operand : Box Term Global) (truth : TyId) (at : Place) (found : Checking Typed)
+    → slice_get types truth.0 ≡ Some BoolTy
     → Shows types boxed_of (wanted at (type_at types truth) found) operand → ShowsTerm types (unary NotOperation at found) (term.Not operand) truth
 negated_shows types operand truth at found there shown = λ more.
     let form = expression-Not (types ++ more) operand in
@@ -160,14 +176,19 @@ negated_shows types operand truth at found there shown = λ more.
     ∙ ap (λ part. then_checked part (λ e. typed (NotE e) BoolTy)) (shown more) ∙ cc
 
 -- an operation on two terms
-pub combined_shows : (operation : BinaryOperation) (old new : List Ty) (first second : Box Term Global) (whole : Term) (t : Ty) (x y : Checking Expression) → Grows old new
-    → ((types : List Ty) → expression_of types whole ≡ binary_expression operation (boxed_of types first) (boxed_of types second)) → t ≡ result_type operation
+pub combined_shows : (operation : BinaryOperator) (old new : List Ty) (first second : Box Term Global) (whole : Term) (t : Ty)
+    (x y : Checking Expression) → Grows old new
+    → ((types : List Ty) → expression_of types whole ≡ binary_expression operation (boxed_of types first) (boxed_of types second))
+    → t ≡ result_type operation
     → Shows old boxed_of x first → Shows old boxed_of y second
-    → (more : List Ty) → then_checked x (λ x. then_checked y (λ y. typed (binary_expression operation x y) (result_type operation))) ≡ typed (expression_of (new ++ more) whole) t
+    → (more : List Ty) → then_checked x (λ x. then_checked y (λ y. typed (binary_expression operation x y) (result_type operation))) ≡ typed
+    (expression_of (new ++ more) whole) t
 combined_shows operation old new first second whole t x y grows form is shown shown' more =
     let e = boxed_of (new ++ more) first in
-    ap (λ x. then_checked x (λ x. then_checked y (λ y. typed (binary_expression operation x y) (result_type operation)))) (shows_grow old new boxed_of x first grows shown more)
-    ∙ ap (λ y. then_checked y (λ y. typed (binary_expression operation e y) (result_type operation))) (shows_grow old new boxed_of y second grows shown' more)
+    ap (λ x. then_checked x (λ x. then_checked y (λ y. typed (binary_expression operation x y) (result_type operation))))
+    (shows_grow old new boxed_of x first grows shown more)
+    ∙ ap (λ y. then_checked y (λ y. typed (binary_expression operation e y) (result_type operation)))
+    (shows_grow old new boxed_of y second grows shown' more)
     ∙ ap (λ e. typed e (result_type operation)) (sym (form (new ++ more))) ∙ ap (typed (expression_of (new ++ more) whole)) (sym is)
 
 first_true : (x y : Bool) → (x && y) ≡ true → x ≡ true
@@ -199,13 +220,15 @@ pub auth_inside : (n m : ℕ) (a : TyId) → stands_behind n (AuthForm a) ≡ tr
 auth_inside n m a is inside = omega (arith, ltb-true a.0 n is)
 
 -- the operand of `len` or `not` is refused
-pub length_refused : (types new : List Ty) (text : TyId) (at : Place) (found : Checking Typed) (fault : Fault) (r : Result TypedTerm Fault) → slice_get types text.0 ≡ Some TextTy → r ≡ Err fault
+pub length_refused : (types new : List Ty) (text : TyId) (at : Place) (found : Checking Typed) (fault : TypeFault) (r : Result TypedTerm TypeFault)
+    → slice_get types text.0 ≡ Some TextTy → r ≡ Err fault
     → FindsOver types boxed_of (wanted at (type_at types text) found) (Err fault) → FindsOver new typed_of (unary LenOperation at found) r
 length_refused types new text at found fault r there is h =
     fault_first types new boxed_of typed_of (wanted at TextTy found) (λ e. typed (LenE e) IntTy) fault r is
     (subst (λ t. FindsOver types boxed_of (wanted at t found) (Err fault)) (get_or_from_slice_get types text.0 TextTy UnitTy there) h)
 
-pub negated_refused : (types new : List Ty) (truth : TyId) (at : Place) (found : Checking Typed) (fault : Fault) (r : Result TypedTerm Fault) → slice_get types truth.0 ≡ Some BoolTy → r ≡ Err fault
+pub negated_refused : (types new : List Ty) (truth : TyId) (at : Place) (found : Checking Typed) (fault : TypeFault) (r : Result TypedTerm TypeFault)
+    → slice_get types truth.0 ≡ Some BoolTy → r ≡ Err fault
     → FindsOver types boxed_of (wanted at (type_at types truth) found) (Err fault) → FindsOver new typed_of (unary NotOperation at found) r
 negated_refused types new truth at found fault r there is h =
     fault_first types new boxed_of typed_of (wanted at BoolTy found) (λ e. typed (NotE e) BoolTy) fault r is

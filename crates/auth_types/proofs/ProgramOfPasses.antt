@@ -5,7 +5,6 @@ use Rattle.std.specs.List.{list_all}
 use Rattle.std.proofs.lemmas.List.{length-map}
 use Rattle.std.proofs.lemmas.List.Elements.{All-cons, All-head, All-nil, All-tail}
 use Rattle.core_terms.specs.Types.{Ty, has_numbers, has_tags}
-use Rattle.core_terms.specs.Terms as tree
 use Rattle.core_terms.specs.TypeTables.{type_at}
 use Rattle.core_terms.specs.Typing.{is_shaped, is_typed}
 use Rattle.core_terms.specs.LanguageTrees.{are_below, function_of, has_fields_below, has_types_below, is_within, program_of, table_of}
@@ -23,11 +22,11 @@ use Rattle.auth_types.specs.Bodies.{Signature, checked_functions}
 use Rattle.auth_types.specs.Checking.{Sound}
 use Rattle.auth_types.specs.CheckedLaws.{HasGoodLiterals}
 use Rattle.auth_types.specs.CheckedPrograms.{all_passes, fourth_pass, signature_of, state_of, table_of_program, third_pass}
-use Rattle.auth_types.specs.Declarations.{first_pass, most_constructors, most_types}
+use Rattle.auth_types.specs.Declarations.{most_constructors, most_types}
 use Rattle.auth_types.specs.OverTypes.{Grows}
 use Rattle.auth_types.specs.Passes.{StandsFor, names_known}
-use Rattle.auth_types.specs.Scopes.{AreHeadsOf, AreWithin, IsConstructorWithin, IsCounted, IsHeadWithin, IsNamedWithin, IsWithin, functions_meant, scope_in, scope_meant, signature_meant}
-use Rattle.auth_types.specs.WrittenTypes.{functions_in, second_pass, type_meant}
+use Rattle.auth_types.specs.Scopes.{AreHeadsOf, AreWithin, IsConstructorWithin, IsCounted, IsHeadWithin, IsNamedWithin, IsWithin, functions_meant, scope_meant, signature_meant}
+use Rattle.auth_types.specs.WrittenTypes.{type_meant}
 use Rattle.auth_types.specs.declared.scope.Head.{Head}
 use Rattle.auth_types.specs.declared.scope.Scope.{Scope}
 use Rattle.auth_types.proofs.PassesOfTrees.{fourth_told, passes_end, table_is}
@@ -44,13 +43,16 @@ pub record Passed (program : Program) (forms : List TyForm) (named : List NamedT
   pub tags : has_tags (program_of forms named state functions).types ≡ true
 
 -- a head that stands for its function has as many numbers as the function has parameters
-counted_each : (names : List (List ℕ)) (types : List Ty) (heads : List Head) → map (signature_meant types) heads ≡ map (signature_of names) (map (λ (h : Head). written.function_of h.function.now) heads) → All IsCounted heads
+counted_each : (names : List (List ℕ)) (types : List Ty) (heads : List Head)
+    → map (signature_meant types) heads ≡ map (signature_of names) (map (λ (h : Head). written.function_of h.function.now) heads)
+    → All IsCounted heads
 counted_each names types [] same = All-nil IsCounted
 counted_each names types (h ∷ heads) same =
     let here : signature_meant types h ≡ signature_of names (written.function_of h.function.now) = cc in
     let many : length h.parameters.items ≡ length h.function.now.parameters.items =
     sym (length-map h.parameters.items (type_at types)) ∙ ap (λ (s : Signature). length s.parameters) here
-    ∙ length-map (written.parameters_of h.function.now.parameters) (λ (p : ParameterSyntax). type_meant names p.of_type) ∙ length-map h.function.now.parameters.items written.parameter_of in
+    ∙ length-map (written.parameters_of h.function.now.parameters) (λ (p : ParameterSyntax). type_meant names p.of_type)
+    ∙ length-map h.function.now.parameters.items written.parameter_of in
     All-cons IsCounted h heads many (counted_each names types heads (cc))
 
 pub heads_counted : (names : List (List ℕ)) (types : List Ty) (scope : Scope) → AreHeadsOf names types scope → All IsCounted scope.heads.items
@@ -67,10 +69,12 @@ ids_below count ids within = all_pass (λ (id : TyId). id.0 < count) (λ (id : T
 named_below : (count : ℕ) (named : List NamedType) → All (IsNamedWithin count) named → list_all (has_fields_below count) named ≡ true
 named_below count named within =
     all_pass (IsNamedWithin count) (has_fields_below count)
-    (λ t h. all_pass (IsConstructorWithin count) (λ (c : Constructor). are_below count c.fields.items) (λ c h. ids_below count c.fields.items h) t.constructors.items h) named within
+    (λ t h. all_pass (IsConstructorWithin count) (λ (c : Constructor). are_below count c.fields.items) (λ c h. ids_below count c.fields.items h)
+    t.constructors.items h) named within
 
 -- functions with the numbers of heads
-functions_below : (count : ℕ) (functions : List Function) (heads : List Head) → All (IsHeadWithin count) heads → map (λ (f : Function). f.parameters.items) functions ≡ map (λ (h : Head). h.parameters.items) heads
+functions_below : (count : ℕ) (functions : List Function) (heads : List Head) → All (IsHeadWithin count) heads
+    → map (λ (f : Function). f.parameters.items) functions ≡ map (λ (h : Head). h.parameters.items) heads
     → map (λ (f : Function). f.result) functions ≡ map (λ (h : Head). h.result) heads → list_all (has_types_below count) functions ≡ true
 functions_below count [] heads within parameters results = refl
 functions_below count (f ∷ functions) [] within parameters results = absurd (cc)
@@ -83,9 +87,11 @@ functions_below count (f ∷ functions) (h ∷ heads) within parameters results 
     let rest = functions_below count functions heads (All-tail (IsHeadWithin count) h heads within) (cc) (cc) in
     rw (below, inside, rest) refl
 
-module _ (program : Program) (before : List Ty) (forms : List TyForm) (scope : Scope) (state : TyId) (functions : List Function) (grows : Grows before (types_of_forms forms)) (stands : StandsFor program before scope state) where
+module _ (program : Program) (before : List Ty) (forms : List TyForm) (scope : Scope) (state : TyId) (functions : List Function)
+    (grows : Grows before (types_of_forms forms)) (stands : StandsFor program before scope state) where
   program_within : map (λ (f : Function). f.parameters.items) functions ≡ map (λ (h : Head). h.parameters.items) scope.heads.items
-      → map (λ (f : Function). f.result) functions ≡ map (λ (h : Head). h.result) scope.heads.items → is_within forms scope.named.items state functions ≡ true
+      → map (λ (f : Function). f.result) functions ≡ map (λ (h : Head). h.result) scope.heads.items
+      → is_within forms scope.named.items state functions ≡ true
   program_within parameters results =
       let count = length (types_of_forms forms) in
       let more = grows_length before (types_of_forms forms) grows in
@@ -103,21 +109,28 @@ module _ (program : Program) (before : List Ty) (forms : List TyForm) (scope : S
   module _ (gives : all_passes program ≡ Sound (program_of forms scope.named.items state functions)) where
     program_numbered : has_numbers (program_of forms scope.named.items state functions).types ≡ true
     program_numbered =
-        le-leb (length (program_of forms scope.named.items state functions).types) most_types (checked_is_within_limits program (program_of forms scope.named.items state functions) gives).types
+        le-leb (length (program_of forms scope.named.items state functions).types) most_types
+        (checked_is_within_limits program (program_of forms scope.named.items state functions) gives).types
 
     program_tagged : has_tags (program_of forms scope.named.items state functions).types ≡ true
     program_tagged =
-        all_pass (λ (constructors : List (List Ty)). length constructors ≤ most_constructors) (λ (constructors : List (List Ty)). nat_le (length constructors) 255) (λ constructors few. le-leb (length constructors) 255 few)
-        (program_of forms scope.named.items state functions).types (checked_is_within_limits program (program_of forms scope.named.items state functions) gives).constructors
+        all_pass (λ (constructors : List (List Ty)). length constructors ≤ most_constructors)
+        (λ (constructors : List (List Ty)). nat_le (length constructors) 255) (λ constructors few. le-leb (length constructors) 255 few)
+        (program_of forms scope.named.items state functions).types
+        (checked_is_within_limits program (program_of forms scope.named.items state functions) gives).constructors
 
     typed_and_shaped : All (λ (f : FunctionSyntax). HasGoodLiterals f.body) (functions_meant scope)
-        → (is_typed (program_of forms scope.named.items state functions) ≡ true) × (is_shaped (program_of forms scope.named.items state functions) ≡ true)
+        → (is_typed (program_of forms scope.named.items state functions) ≡ true)
+        × (is_shaped (program_of forms scope.named.items state functions) ≡ true)
     typed_and_shaped good =
-        checked_is_typed program (program_of forms scope.named.items state functions) (subst (All (λ (f : FunctionSyntax). HasGoodLiterals f.body)) stands.functions good) gives
+        checked_is_typed program (program_of forms scope.named.items state functions)
+        (subst (All (λ (f : FunctionSyntax). HasGoodLiterals f.body)) stands.functions good) gives
 
   -- what the passes leave of a tree in which they find nothing
-  pub passed : names_known program ≡ Sound tt → third_pass program ≡ Sound tt → fourth_pass program ≡ Sound (map (function_of (types_of_forms forms)) functions)
-      → map (λ (f : Function). f.parameters.items) functions ≡ map (λ (h : Head). h.parameters.items) scope.heads.items → map (λ (f : Function). f.result) functions ≡ map (λ (h : Head). h.result) scope.heads.items
+  pub passed : names_known program ≡ Sound tt → third_pass program ≡ Sound tt
+      → fourth_pass program ≡ Sound (map (function_of (types_of_forms forms)) functions)
+      → map (λ (f : Function). f.parameters.items) functions ≡ map (λ (h : Head). h.parameters.items) scope.heads.items
+      → map (λ (f : Function). f.result) functions ≡ map (λ (h : Head). h.result) scope.heads.items
       → All (λ (f : FunctionSyntax). HasGoodLiterals f.body) (functions_meant scope) → Passed program forms scope.named.items state functions
   passed known third fourth parameters results good =
       let table = table_made in
@@ -135,15 +148,22 @@ module _ (program : Program) (before : List Ty) (forms : List TyForm) (scope : S
       }
 
 -- the same as the code tells it, over a table and a scope that are lent and given on
-module _ (program : Program) (given : TyTable) (scope : Scope) (state : TyId) (stands : StandsFor program (types_in given) scope state) (table : TyTable) (lent last : Scope) where
-  pub passed_on : table ≡ given → lent ≡ scope → last ≡ scope → (forms : List TyForm) (functions : List Function) → Grows (types_in table) (types_of_forms forms) → names_known program ≡ Sound tt → third_pass program ≡ Sound tt
+module _ (program : Program) (given : TyTable) (scope : Scope) (state : TyId) (stands : StandsFor program (types_in given) scope state)
+    (table : TyTable) (lent last : Scope) where
+  pub passed_on : table ≡ given → lent ≡ scope → last ≡ scope → (forms : List TyForm) (functions : List Function)
+      → Grows (types_in table) (types_of_forms forms) → names_known program ≡ Sound tt → third_pass program ≡ Sound tt
       → ((names : List (List ℕ)) → AreHeadsOf names (types_in table) lent
-      → checked_functions names (scope_meant (types_in table) lent) (functions_meant lent) ≡ Sound (map (function_of (types_of_forms forms)) functions))
-      → map (λ (f : Function). f.parameters.items) functions ≡ map (λ (h : Head). h.parameters.items) lent.heads.items → map (λ (f : Function). f.result) functions ≡ map (λ (h : Head). h.result) lent.heads.items
+      → checked_functions names (scope_meant (types_in table) lent)
+      (functions_meant lent) ≡ Sound (map (function_of (types_of_forms forms)) functions))
+      → map (λ (f : Function). f.parameters.items) functions ≡ map (λ (h : Head). h.parameters.items) lent.heads.items
+      → map (λ (f : Function). f.result) functions ≡ map (λ (h : Head). h.result) lent.heads.items
       → All (λ (f : FunctionSyntax). HasGoodLiterals f.body) (functions_meant lent) → Passed program forms last.named.items state functions
   passed_on same same' same'' forms functions grows known third found parameters results good =
       subst (λ (h : Scope). Passed program forms h.named.items state functions) (sym same'')
-      (passed program (types_in given) forms scope state functions (subst (λ (t : TyTable). Grows (types_in t) (types_of_forms forms)) same grows) stands known third
-      (fourth_told program (types_in given) scope state stands (λ found. found ≡ Sound (map (function_of (types_of_forms forms)) functions)) table lent (ap types_in same) same' found)
-      (parameters ∙ ap (λ (h : Scope). map (λ (h : Head). h.parameters.items) h.heads.items) same') (results ∙ ap (λ (h : Scope). map (λ (h : Head). h.result) h.heads.items) same')
+      (passed program (types_in given) forms scope state functions (subst (λ (t : TyTable). Grows (types_in t) (types_of_forms forms)) same grows)
+      stands known third
+      (fourth_told program (types_in given) scope state stands (λ found. found ≡ Sound (map (function_of (types_of_forms forms)) functions)) table
+      lent (ap types_in same) same' found)
+      (parameters ∙ ap (λ (h : Scope). map (λ (h : Head). h.parameters.items) h.heads.items) same')
+      (results ∙ ap (λ (h : Scope). map (λ (h : Head). h.result) h.heads.items) same')
       (subst (λ (h : Scope). All (λ (f : FunctionSyntax). HasGoodLiterals f.body) (functions_meant h)) same' good))

@@ -56,7 +56,8 @@ unfolding checked
 spaces_are_apart = refl
 
 -- The first pass: how many there may be
-a_ninth_parameter : answer (codes "state unit; fun f(a: int, b: int, c: int, d: int, e: int, f: int, g: int, h: int, i: int): int = a;") ≡ Some (FirstFault (Limit Parameters) 1 83)
+a_ninth_parameter : answer (codes
+    "state unit; fun f(a: int, b: int, c: int, d: int, e: int, f: int, g: int, h: int, i: int): int = a;") ≡ Some (FirstFault (Limit Parameters) 1 83)
 unfolding checked
 a_ninth_parameter = refl
 
@@ -64,11 +65,13 @@ a_ninth_field : answer (codes "type a = A(int, int, int, int, int, int, int, int
 unfolding checked
 a_ninth_field = refl
 
-eight_of_each : is_program (codes "type a = A(int, int, int, int, int, int, int, int); state unit; fun f(a: int, b: int, c: int, d: int, e: int, f: int, g: int, h: int): int = a;") ≡ true
+eight_of_each : is_program (codes
+    "type a = A(int, int, int, int, int, int, int, int); state unit; fun f(a: int, b: int, c: int, d: int, e: int, f: int, g: int, h: int): int = a;") ≡ true
 unfolding checked
 eight_of_each = refl
 
-twice_at_a_ninth_parameter : answer (codes "state unit; fun f(a: int, b: int, c: int, d: int, e: int, f: int, g: int, h: int, h: int): int = a;") ≡ Some (FirstFault Twice 1 83)
+twice_at_a_ninth_parameter : answer (codes
+    "state unit; fun f(a: int, b: int, c: int, d: int, e: int, f: int, g: int, h: int, h: int): int = a;") ≡ Some (FirstFault Twice 1 83)
 unfolding checked
 twice_at_a_ninth_parameter = refl
 
@@ -138,7 +141,8 @@ update_with_no_new_state : answer (codes "state unit; update f(s: unit, x: int):
 unfolding checked
 update_with_no_new_state = refl
 
-roles_of_their_shapes : is_program (codes "type a = A; state a; init f(x: int): a = A; query g(s: a, x: text): bool = true; update h(s: a, x: (int, a)): (a, int) = (s, 1);") ≡ true
+roles_of_their_shapes : is_program (codes
+    "type a = A; state a; init f(x: int): a = A; query g(s: a, x: text): bool = true; update h(s: a, x: (int, a)): (a, int) = (s, 1);") ≡ true
 unfolding checked
 roles_of_their_shapes = refl
 
@@ -150,7 +154,8 @@ auth_in_an_argument_of_init : answer (codes "state unit; init f(x: auth int): un
 unfolding checked
 auth_in_an_argument_of_init = refl
 
-auth_in_an_argument_of_update : answer (codes "state unit; update f(s: unit, x: (int, auth int)): (unit, int) = (s, 1);") ≡ Some (FirstFault AuthInArgument 1 34)
+auth_in_an_argument_of_update : answer (codes "state unit; update f(s: unit, x: (int, auth int)): (unit, int) = (s, 1);") ≡ Some (FirstFault
+    AuthInArgument 1 34)
 unfolding checked
 auth_in_an_argument_of_update = refl
 
@@ -158,15 +163,18 @@ auth_in_a_named_argument : answer (codes "type a = A(auth int); state unit; quer
 unfolding checked
 auth_in_a_named_argument = refl
 
-auth_far_in_a_named_argument : answer (codes "type a = A | B(int, b); type b = C(a) | D(auth unit); state unit; init f(x: (int, a)): unit = ();") ≡ Some (FirstFault AuthInArgument 1 77)
+auth_far_in_a_named_argument : answer (codes
+    "type a = A | B(int, b); type b = C(a) | D(auth unit); state unit; init f(x: (int, a)): unit = ();") ≡ Some (FirstFault AuthInArgument 1 77)
 unfolding checked
 auth_far_in_a_named_argument = refl
 
-no_auth_in_types_that_name_each_other : is_program (codes "type a = A | B(int, b); type b = C(a) | D(int); type c = E(auth c); state unit; init f(x: (int, a)): unit = ();") ≡ true
+no_auth_in_types_that_name_each_other : is_program (codes
+    "type a = A | B(int, b); type b = C(a) | D(int); type c = E(auth c); state unit; init f(x: (int, a)): unit = ();") ≡ true
 unfolding checked
 no_auth_in_types_that_name_each_other = refl
 
-auth_in_a_state_and_an_inner_argument : is_program (codes "state auth int; fun f(x: auth int): auth int = x; query q(s: auth int, x: int): auth int = s;") ≡ true
+auth_in_a_state_and_an_inner_argument : is_program (codes
+    "state auth int; fun f(x: auth int): auth int = x; query q(s: auth int, x: int): auth int = s;") ≡ true
 unfolding checked
 auth_in_a_state_and_an_inner_argument = refl
 
@@ -195,7 +203,8 @@ a_let_is_not_in_its_bound_part : answer (codes "state unit; fun f(x: int): int =
 unfolding checked
 a_let_is_not_in_its_bound_part = refl
 
-a_pattern_ends : answer (codes "type a = A(int) | B; state unit; fun f(x: a): int = match x with | A(y) -> y | B -> y end;") ≡ Some (FirstFault UnknownName 1 85)
+a_pattern_ends : answer (codes "type a = A(int) | B; state unit; fun f(x: a): int = match x with | A(y) -> y | B -> y end;") ≡ Some (FirstFault
+    UnknownName 1 85)
 unfolding checked
 a_pattern_ends = refl
 
@@ -215,7 +224,8 @@ a_hidden_local_comes_back : is_program (codes "state unit; fun f(x: int): int = 
 unfolding checked
 a_hidden_local_comes_back = refl
 
-functions_and_roles_are_called_anywhere : is_program (codes "state unit; fun f(x: unit): int = g((), x); query g(s: unit, x: unit): int = add(f(s), g(s, x));") ≡ true
+functions_and_roles_are_called_anywhere : is_program (codes
+    "state unit; fun f(x: unit): int = g((), x); query g(s: unit, x: unit): int = add(f(s), g(s, x));") ≡ true
 unfolding checked
 functions_and_roles_are_called_anywhere = refl
 
@@ -232,11 +242,13 @@ count_of_a_constructor_alone : answer (codes "type a = A(int); state unit; fun f
 unfolding checked
 count_of_a_constructor_alone = refl
 
-count_of_a_pattern : answer (codes "type a = A(int, int) | B; state unit; fun f(x: a): int = match x with | A(y) -> z | B -> 1 end;") ≡ Some (FirstFault WrongCount 1 73)
+count_of_a_pattern : answer (codes
+    "type a = A(int, int) | B; state unit; fun f(x: a): int = match x with | A(y) -> z | B -> 1 end;") ≡ Some (FirstFault WrongCount 1 73)
 unfolding checked
 count_of_a_pattern = refl
 
-count_of_a_later_pattern : answer (codes "type a = A(int, int) | B; state unit; fun f(x: a): int = match x with | A(y, z) -> z | B(y) -> 1 end;") ≡ Some (FirstFault WrongCount 1 88)
+count_of_a_later_pattern : answer (codes
+    "type a = A(int, int) | B; state unit; fun f(x: a): int = match x with | A(y, z) -> z | B(y) -> 1 end;") ≡ Some (FirstFault WrongCount 1 88)
 unfolding checked
 count_of_a_later_pattern = refl
 
@@ -357,7 +369,8 @@ an_else : answer (codes "state unit; fun f(x: int): int = if true then x else tr
 unfolding checked
 an_else = refl
 
-a_later_arm : answer (codes "type a = A | B | C; state unit; fun f(x: a): int = match x with | A -> 1 | B -> true | C -> () end;") ≡ Some (FirstFault WrongType 1 81)
+a_later_arm : answer (codes "type a = A | B | C; state unit; fun f(x: a): int = match x with | A -> 1 | B -> true | C -> () end;") ≡ Some (FirstFault
+    WrongType 1 81)
 unfolding checked
 a_later_arm = refl
 
@@ -401,32 +414,39 @@ a_text_for_an_int : answer (codes "state unit; fun f(x: unit): int = \"a\";") �
 unfolding checked is_utf8 chars encode
 a_text_for_an_int = refl
 
-all_operations : is_program (codes "state unit; fun f(x: int, t: text, b: bool): (auth int, (bool, text)) = (auth(add(sub(x, 1), mul(div(x, 2), rem(x, 3)))), (if eq(x, 1) then not(lt(x, 1)) else if le(len(t), 1) then teq(t, t) else tlt(t, t), cat(t, t))); fun g(x: auth (int, bool)): bool = snd((fst(unauth(x)), snd(unauth(x))));") ≡ true
+all_operations : is_program (codes
+    "state unit; fun f(x: int, t: text, b: bool): (auth int, (bool, text)) = (auth(add(sub(x, 1), mul(div(x, 2), rem(x, 3)))), (if eq(x, 1) then not(lt(x, 1)) else if le(len(t), 1) then teq(t, t) else tlt(t, t), cat(t, t))); fun g(x: auth (int, bool)): bool = snd((fst(unauth(x)), snd(unauth(x))));") ≡ true
 unfolding checked
 all_operations = refl
 
 -- The fourth pass: arms
-an_arm_is_missing : answer (codes "type a = A | B; state unit; fun f(x: a): int = add(1, match x with | A -> 1 end);") ≡ Some (FirstFault ArmsWrong 1 55)
+an_arm_is_missing : answer (codes "type a = A | B; state unit; fun f(x: a): int = add(1, match x with | A -> 1 end);") ≡ Some (FirstFault ArmsWrong 1
+    55)
 unfolding checked
 an_arm_is_missing = refl
 
-an_arm_too_many : answer (codes "type a = A; type b = B; state unit; fun f(x: a): int = match x with | A -> 1 | B -> y end;") ≡ Some (FirstFault ArmsWrong 1 56)
+an_arm_too_many : answer (codes "type a = A; type b = B; state unit; fun f(x: a): int = match x with | A -> 1 | B -> y end;") ≡ Some (FirstFault
+    ArmsWrong 1 56)
 unfolding checked
 an_arm_too_many = refl
 
-arms_in_another_order : answer (codes "type a = A | B; state unit; fun f(x: a): int = match x with | B -> 1 | A -> 1 end;") ≡ Some (FirstFault ArmsWrong 1 48)
+arms_in_another_order : answer (codes "type a = A | B; state unit; fun f(x: a): int = match x with | B -> 1 | A -> 1 end;") ≡ Some (FirstFault
+    ArmsWrong 1 48)
 unfolding checked
 arms_in_another_order = refl
 
-arms_of_another_type : answer (codes "type a = A; type b = B; state unit; fun f(x: a): int = match x with | B -> 1 end;") ≡ Some (FirstFault ArmsWrong 1 56)
+arms_of_another_type : answer (codes "type a = A; type b = B; state unit; fun f(x: a): int = match x with | B -> 1 end;") ≡ Some (FirstFault ArmsWrong
+    1 56)
 unfolding checked
 arms_of_another_type = refl
 
-a_name_stands_twice_in_a_pattern : answer (codes "type a = A(int, int, int); state unit; fun f(x: a): int = match x with | A(y, z, y) -> 1 end;") ≡ Some (FirstFault Twice 1 82)
+a_name_stands_twice_in_a_pattern : answer (codes
+    "type a = A(int, int, int); state unit; fun f(x: a): int = match x with | A(y, z, y) -> 1 end;") ≡ Some (FirstFault Twice 1 82)
 unfolding checked
 a_name_stands_twice_in_a_pattern = refl
 
-a_name_stands_in_two_patterns : is_program (codes "type a = A(int) | B(int, a); state unit; fun f(x: a): int = match x with | A(y) -> y | B(y, z) -> match z with | A(y) -> y | B(z, y) -> z end end;") ≡ true
+a_name_stands_in_two_patterns : is_program (codes
+    "type a = A(int) | B(int, a); state unit; fun f(x: a): int = match x with | A(y) -> y | B(y, z) -> match z with | A(y) -> y | B(z, y) -> z end end;") ≡ true
 unfolding checked
 a_name_stands_in_two_patterns = refl
 
@@ -491,11 +511,13 @@ arms_before_a_body : answer (codes "type a = A | B; state unit; fun f(x: a): int
 unfolding checked
 arms_before_a_body = refl
 
-a_count_before_a_name : answer (codes "type a = A(int) | B; state unit; fun f(x: a): int = match x with | A(y, y) -> z | B -> 1 end;") ≡ Some (FirstFault WrongCount 1 68)
+a_count_before_a_name : answer (codes
+    "type a = A(int) | B; state unit; fun f(x: a): int = match x with | A(y, y) -> z | B -> 1 end;") ≡ Some (FirstFault WrongCount 1 68)
 unfolding checked
 a_count_before_a_name = refl
 
-a_name_before_a_body : answer (codes "type a = A(int, int); state unit; fun f(x: a): int = match x with | A(y, y) -> z end;") ≡ Some (FirstFault Twice 1 74)
+a_name_before_a_body : answer (codes "type a = A(int, int); state unit; fun f(x: a): int = match x with | A(y, y) -> z end;") ≡ Some (FirstFault Twice
+    1 74)
 unfolding checked
 a_name_before_a_body = refl
 

@@ -26,7 +26,13 @@ declarations parsed = []
 -- the first pass of a text, behind so many types, constructors and functions of the name `a` or `A`
 abbrev behind_names : (types constructors functions : ℕ) → List ℕ → Option Checked
 behind_names types constructors functions text =
-    fault (checked_declarations (record { types = replicate types (codes "a"); constructors = replicate constructors (codes "A"); functions = replicate functions (codes "a"); state = true })
+    fault (checked_declarations (record {
+      types = replicate types (codes "a");
+      constructors = replicate constructors (codes "A");
+      functions =
+          replicate functions (codes "a");
+      state = true;
+    })
     (declarations (parsed whole_language text)))
 
 a_257th_type : behind_names 256 0 0 (codes "type b = B;") ≡ Some (FirstFault (Limit Types) 1 6)
@@ -44,7 +50,8 @@ constructors_of_other_types_are_not_counted = refl
 a_1025th_function : behind_names 0 0 1024 (codes "init f(x: int): int = x;") ≡ Some (FirstFault (Limit Functions) 1 6)
 a_1025th_function = refl
 
-a_1024th_function : behind_names 0 0 1023 (codes "fun f(x: int): int = x; query g(x: int, x: int): int = x;") ≡ Some (FirstFault (Limit Functions) 1 31)
+a_1024th_function : behind_names 0 0 1023 (codes "fun f(x: int): int = x; query g(x: int, x: int): int = x;") ≡ Some (FirstFault (Limit Functions) 1
+    31)
 a_1024th_function = refl
 
 twice_at_a_1025th_function : behind_names 0 0 1024 (codes "init a(x: int): int = x;") ≡ Some (FirstFault Twice 1 6)
@@ -70,7 +77,8 @@ twice_at_a_256th_constructor = refl
 -- the body of a text's first function, behind so many locals of the name `x`, which are ints
 abbrev of_body : ℕ → List FunctionSyntax → Option Checked
 of_body n (function ∷ rest) =
-    fault (elaborated (record { functions = []; constructors = (codes "A" ∷ []) ∷ []; table = ((IntTy ∷ []) ∷ []) ∷ [] }) (replicate n (record { name = codes "x"; of_type = IntTy })) function.body)
+    fault (elaborated (record { functions = []; constructors = (codes "A" ∷ []) ∷ []; table = ((IntTy ∷ []) ∷ []) ∷ [] })
+    (replicate n (record { name = codes "x"; of_type = IntTy })) function.body)
 of_body n [] = None
 
 abbrev behind_locals : ℕ → List ℕ → Option Checked

@@ -1,10 +1,11 @@
 -- What the typing rules give passes, and what is broken first is told.
 use Rattle.std.proofs.Common.{◌≡◌, ℕ, zero, suc, ◌+◌, ◌<◌, ◌≤◌, Bool, true, false, List, [], ◌∷◌, ◌++◌, length, map, Option, Some, None, slice_get, slice_index_or, unwrap_or, nat_eq, nat_lt, refl, sym, ap, ◌∙◌, subst, arith}
+use Rattle.core_terms.specs.declared.language.term.BinaryOperator.{BinaryOperator}
 use Rattle.core_terms.specs.Types.{Ty, UnitTy, BoolTy, IntTy, TextTy, PairTy, NamedTy, AuthTy}
 use Rattle.core_terms.specs.Terms.{Expression, Expressions, Arms, NoArm, AndArm, NoE, AndE, AuthE, CallE, ConE, LenE, NotE, MatchE, LocalE, LetE, IfE, PairE}
 use Rattle.core_terms.specs.Typing.{same_type}
-use Rattle.auth_syntax.specs.declared.place.Place.{Place}
-use Rattle.auth_syntax.specs.Syntax.{NameSyntax, ExpSyntax, LocalSyntax, PairSyntax, UnarySyntax, BinarySyntax, CallSyntax, ConstructorSyntax, LetSyntax, IfSyntax, MatchSyntax, ExpsSyntax, NoExp, AndExp, ArmsSyntax, NoArmSyntax, AndArmSyntax, UnaryOperation, FstOperation, SndOperation, AuthOperation, UnauthOperation, LenOperation, NotOperation, BinaryOperation, place_of}
+use Rattle.lexemes.specs.declared.place.Place.{Place}
+use Rattle.auth_syntax.specs.Syntax.{NameSyntax, ExpSyntax, LocalSyntax, PairSyntax, UnarySyntax, BinarySyntax, CallSyntax, ConstructorSyntax, LetSyntax, IfSyntax, MatchSyntax, ExpsSyntax, NoExp, AndExp, ArmsSyntax, NoArmSyntax, AndArmSyntax, UnaryOperation, FstOperation, SndOperation, AuthOperation, UnauthOperation, LenOperation, NotOperation, place_of}
 use Rattle.auth_types.specs.Checking.{Checking, Sound, FaultAt, then_checked, unless_fault}
 use Rattle.auth_types.specs.Bodies.{Local, Numbered, Scope, Signature, Typed, TypedArms, arm_names, binary_expression, bound_names, called, constructed, constructor_named, count_of, elaborated, elaborated_arms, elaborated_each, first_of, function_named, last_named, local_at, matched, most_locals, opened, operand_type, result_type, same_names, second_of, typed, unary, wanted, wanted_arm}
 use Rattle.auth_types.specs.TypingRules
@@ -20,31 +21,17 @@ use Rattle.auth_types.proofs.JudgedNames.{pattern_binds, pattern_breaks}
 use Rattle.auth_types.proofs.JudgedBodies.{names_decide, TypeFits}
 
 -- as an operation is in the table, so it is in the checker
-operates_on : {operation : BinaryOperation} {t r : Ty} {made : Expression → Expression → Expression} → Operates operation t r made → operand_type operation ≡ t
-operates_on TypingRules.Adds = refl
-operates_on TypingRules.Subtracts = refl
-operates_on TypingRules.Multiplies = refl
-operates_on TypingRules.Divides = refl
-operates_on TypingRules.IsRemainder = refl
-operates_on TypingRules.IsEqual = refl
-operates_on TypingRules.IsLess = refl
-operates_on TypingRules.IsAtMost = refl
-operates_on TypingRules.IsSameText = refl
-operates_on TypingRules.IsTextBefore = refl
+operates_on : {operation : BinaryOperator} {t r : Ty} {made : Expression → Expression → Expression} → Operates operation t r made → operand_type operation ≡ t
+operates_on (TypingRules.Computes operator) = refl
+operates_on (TypingRules.Compares operator) = refl
+operates_on (TypingRules.ComparesTexts operator) = refl
 operates_on TypingRules.Joins = refl
 
-gives_type : {operation : BinaryOperation} {t r : Ty} {made : Expression → Expression → Expression} → Operates operation t r made → (x y : Expression)
+gives_type : {operation : BinaryOperator} {t r : Ty} {made : Expression → Expression → Expression} → Operates operation t r made → (x y : Expression)
     → typed (binary_expression operation x y) (result_type operation) ≡ typed (made x y) r
-gives_type TypingRules.Adds x y = refl
-gives_type TypingRules.Subtracts x y = refl
-gives_type TypingRules.Multiplies x y = refl
-gives_type TypingRules.Divides x y = refl
-gives_type TypingRules.IsRemainder x y = refl
-gives_type TypingRules.IsEqual x y = refl
-gives_type TypingRules.IsLess x y = refl
-gives_type TypingRules.IsAtMost x y = refl
-gives_type TypingRules.IsSameText x y = refl
-gives_type TypingRules.IsTextBefore x y = refl
+gives_type (TypingRules.Computes operator) x y = refl
+gives_type (TypingRules.Compares operator) x y = refl
+gives_type (TypingRules.ComparesTexts operator) x y = refl
 gives_type TypingRules.Joins x y = refl
 
 -- a type that isn't of a form

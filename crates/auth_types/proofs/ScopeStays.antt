@@ -28,7 +28,8 @@ module _ (a b : List Ty) (grows : Grows a b) where
   type_stays_at id inside = ap (λ types. slice_index_or types id.0 UnitTy) grows.1 ∙ get_or-append a grows.0 UnitTy id.0 inside
 
   pub types_stay_at : (ids : List TyId) → AreWithin (length a) ids → types_at b ids ≡ types_at a ids
-  types_stay_at ids within = map_same (type_at b) (type_at a) ids (All-weaker (λ (id : TyId). id.0 < length a) (λ id. type_at b id ≡ type_at a id) type_stays_at ids within)
+  types_stay_at ids within = map_same (type_at b) (type_at a) ids
+      (All-weaker (λ (id : TyId). id.0 < length a) (λ id. type_at b id ≡ type_at a id) type_stays_at ids within)
 
   pub signature_stays : (head : Head) → IsHeadWithin (length a) head → signature_meant b head ≡ signature_meant a head
   signature_stays head within =
@@ -40,7 +41,8 @@ module _ (a b : List Ty) (grows : Grows a b) where
       → map (λ (c : Constructor). types_at b c.fields.items) cs ≡ map (λ (c : Constructor). types_at a c.fields.items) cs
   constructors_stay cs within =
       map_same (λ (c : Constructor). types_at b c.fields.items) (λ (c : Constructor). types_at a c.fields.items) cs
-      (All-weaker (IsConstructorWithin (length a)) (λ (c : Constructor). types_at b c.fields.items ≡ types_at a c.fields.items) (λ c h. types_stay_at c.fields.items h) cs within)
+      (All-weaker (IsConstructorWithin (length a)) (λ (c : Constructor). types_at b c.fields.items ≡ types_at a c.fields.items)
+      (λ c h. types_stay_at c.fields.items h) cs within)
 
   pub table_stays : (named : List NamedType) → All (IsNamedWithin (length a)) named → table_of b named ≡ table_of a named
   table_stays [] within = refl
@@ -52,7 +54,8 @@ module _ (a b : List Ty) (grows : Grows a b) where
   pub scope_stays : (scope : Scope) → IsWithin (length a) scope → scope_meant b scope ≡ scope_meant a scope
   scope_stays scope within =
       let functions = map_same (signature_meant b) (signature_meant a) scope.heads.items
-      (All-weaker (IsHeadWithin (length a)) (λ (head : Head). signature_meant b head ≡ signature_meant a head) signature_stays scope.heads.items within.heads) in
+      (All-weaker (IsHeadWithin (length a)) (λ (head : Head). signature_meant b head ≡ signature_meant a head) signature_stays scope.heads.items
+      within.heads) in
       let table = table_stays scope.named.items within.named in
       cc
 
@@ -69,7 +72,8 @@ head_more m n head more within = record {
 pub within_more : (m n : ℕ) (scope : Scope) → m ≤ n → IsWithin m scope → IsWithin n scope
 within_more m n scope more within = record {
   heads = All-weaker (IsHeadWithin m) (IsHeadWithin n) (λ head h. head_more m n head more h) scope.heads.items within.heads;
-  named = All-weaker (IsNamedWithin m) (IsNamedWithin n) (λ (t : NamedType) h. All-weaker (IsConstructorWithin m) (IsConstructorWithin n) (λ (c : Constructor) h. ids_more m n c.fields.items more h) t.constructors.items h) scope.named.items within.named;
+  named = All-weaker (IsNamedWithin m) (IsNamedWithin n) (λ (t : NamedType) h. All-weaker (IsConstructorWithin m) (IsConstructorWithin n)
+      (λ (c : Constructor) h. ids_more m n c.fields.items more h) t.constructors.items h) scope.named.items within.named;
 }
 
 -- a table that grows is as long or longer

@@ -43,33 +43,40 @@ module _ (names : List (List ℕ)) where
 
     -- what holds of each function that is made of one with such a property
     pub each_made : (Q : FunctionSyntax → Type 0) (R : Function → Type 0) → ((f : FunctionSyntax) → Q f → Gives R (checked_function names scope f))
-        → (C : List Function → Type 0) → C [] → ((g : Function) (gs : List Function) → R g → C gs → C (g ∷ gs)) → (fs : List FunctionSyntax) → All Q fs → Gives C (checked_functions names scope fs)
+        → (C : List Function → Type 0) → C [] → ((g : Function) (gs : List Function) → R g → C gs → C (g ∷ gs)) → (fs : List FunctionSyntax)
+        → All Q fs → Gives C (checked_functions names scope fs)
     each_made Q R one C none more [] all = none
     each_made Q R one C none more (f ∷ fs) all =
         gives_then R C (checked_function names scope f) _ (one f (All-head Q f fs all))
-        (λ g here. gives_then C C (checked_functions names scope fs) _ (each_made Q R one C none more fs (All-tail Q f fs all)) (λ gs others. more g gs here others))
+        (λ g here. gives_then C C (checked_functions names scope fs) _ (each_made Q R one C none more fs (All-tail Q f fs all))
+        (λ gs others. more g gs here others))
 
     -- the signatures are those of the tree
     pub signatures_kept : (fs : List FunctionSyntax) → Gives (λ gs. map (signature_of names) fs ≡ map signature gs) (checked_functions names scope fs)
     signatures_kept [] = refl
     signatures_kept (f ∷ fs) =
         gives_then (IsMade f) (λ gs. map (signature_of names) (f ∷ fs) ≡ map signature gs) (checked_function names scope f) _ (is_made f)
-        (λ g here. gives_then (λ gs. map (signature_of names) fs ≡ map signature gs) (λ gs. map (signature_of names) (f ∷ fs) ≡ map signature gs) (checked_functions names scope fs) _ (signatures_kept fs)
+        (λ g here. gives_then (λ gs. map (signature_of names) fs ≡ map signature gs) (λ gs. map (signature_of names) (f ∷ fs) ≡ map signature gs)
+        (checked_functions names scope fs) _ (signatures_kept fs)
         (λ gs others. ap₂ (λ s ss. s ∷ ss) here.0 others))
 
     -- each body has the type of its result
     module _ (P : tree.Program) (is : IsScopeOf scope P) where
-      function_typed : (f : FunctionSyntax) → HasGoodLiterals f.body → Gives (λ g. has_type P g.parameters g.body g.result ≡ true) (checked_function names scope f)
+      function_typed : (f : FunctionSyntax) → HasGoodLiterals f.body
+          → Gives (λ g. has_type P g.parameters g.body g.result ≡ true) (checked_function names scope f)
       function_typed f good =
           let result = type_meant names f.result_type in
           let locals = parameter_locals names f.parameters in
           gives_then (λ x. HasType P (types_of_locals locals) x result) (λ g. has_type P g.parameters g.body g.result ≡ true) (of_its_type f) _
           (wanted_fits P locals (place_of f.body) result (elaborated scope locals f.body) (elaborated_fits P scope is locals f.body good))
-          (λ x h. type_complete P (parameter_types f.parameters) x result (subst (λ env. HasType P env x result) (types_of_parameters f.parameters) h))
+          (λ x h. type_complete P (parameter_types f.parameters) x result
+          (subst (λ env. HasType P env x result) (types_of_parameters f.parameters) h))
 
-      pub functions_typed : (fs : List FunctionSyntax) → All (λ f. HasGoodLiterals f.body) fs → Gives (λ gs. all_typed P gs ≡ true) (checked_functions names scope fs)
+      pub functions_typed : (fs : List FunctionSyntax) → All (λ f. HasGoodLiterals f.body) fs
+          → Gives (λ gs. all_typed P gs ≡ true) (checked_functions names scope fs)
       functions_typed =
-          each_made (λ f. HasGoodLiterals f.body) (λ g. has_type P g.parameters g.body g.result ≡ true) function_typed (λ gs. all_typed P gs ≡ true) refl (λ g gs here others. both _ _ here others)
+          each_made (λ f. HasGoodLiterals f.body) (λ g. has_type P g.parameters g.body g.result ≡ true) function_typed (λ gs. all_typed P gs ≡ true)
+          refl (λ g gs here others. both _ _ here others)
 
   module _ (P : tree.Program) where
     -- the written function has the shape of its role
@@ -77,13 +84,16 @@ module _ (names : List (List ℕ)) where
     HasShape f = shape_test P (kind_meant f.kind) (parameter_types f.parameters) (type_meant names f.result_type) ≡ true
 
     -- an argument without `auth`, where the rest has its shape
-    plain_sound : (f : FunctionSyntax) (fits : Bool) (argument : TypeSyntax) → Gives (λ _. (fits ≡ true) × (not (has_auth P.types (type_meant names argument)) ≡ true)) (plain_argument names P.types f fits argument)
+    plain_sound : (f : FunctionSyntax) (fits : Bool) (argument : TypeSyntax)
+        → Gives (λ _. (fits ≡ true) × (not (has_auth P.types (type_meant names argument)) ≡ true)) (plain_argument names P.types f fits argument)
     plain_sound f fits argument =
         let Q : Unit {0} → Type 0 = λ _. (fits ≡ true) × (not (has_auth P.types (type_meant names argument)) ≡ true) in
-        gives_unless Q fits RoleShape f.name.at _ (λ h. gives_unless Q (not (has_auth P.types (type_meant names argument))) AuthInArgument (place_of_type argument) (Sound tt) (λ j. (h, j)))
+        gives_unless Q fits RoleShape f.name.at _ (λ h. gives_unless Q (not (has_auth P.types (type_meant names argument))) AuthInArgument
+        (place_of_type argument) (Sound tt) (λ j. (h, j)))
 
     -- an update of a state gives a pair with a new one
-    update_sound : (state argument result : Ty) → same_type P.state state && is_new_state names P.types P.state result ≡ true → not (has_auth P.types argument) ≡ true
+    update_sound : (state argument result : Ty) → same_type P.state state && is_new_state names P.types P.state result ≡ true
+        → not (has_auth P.types argument) ≡ true
         → shape_test P tree.Update (state ∷ argument ∷ []) result ≡ true
     update_sound state argument (PairTy new answer) h j = both _ _ (test.first_of _ _ h) (both _ _ (test.second_of (same_type P.state state) _ h) j)
     update_sound state argument UnitTy h j = absurd (let no = test.second_of (same_type P.state state) false h in cc)
@@ -94,33 +104,42 @@ module _ (names : List (List ℕ)) where
     update_sound state argument (AuthTy t) h j = absurd (let no = test.second_of (same_type P.state state) false h in cc)
 
     role_shaped : (f : FunctionSyntax) (kind : KindSyntax) (parameters : List ParameterSyntax)
-        → Gives (λ _. shape_test P (kind_meant kind) (parameter_types parameters) (type_meant names f.result_type) ≡ true) (checked_role names P.types P.state f kind parameters)
+        → Gives (λ _. shape_test P (kind_meant kind) (parameter_types parameters) (type_meant names f.result_type) ≡ true)
+        (checked_role names P.types P.state f kind parameters)
     role_shaped f InnerSyntax parameters = refl
     role_shaped f InitSyntax [] = tt
     role_shaped f InitSyntax (a ∷ []) =
-        gives_more _ _ (plain_argument names P.types f (same_type P.state (type_meant names f.result_type)) a.of_type) (λ _ h. both _ _ h.0 h.1) (plain_sound f _ a.of_type)
+        gives_more _ _ (plain_argument names P.types f (same_type P.state (type_meant names f.result_type)) a.of_type) (λ _ h. both _ _ h.0 h.1)
+        (plain_sound f _ a.of_type)
     role_shaped f InitSyntax (a ∷ b ∷ rest) = tt
     role_shaped f QuerySyntax [] = tt
     role_shaped f QuerySyntax (s ∷ []) = tt
     role_shaped f QuerySyntax (s ∷ a ∷ []) =
-        gives_more _ _ (plain_argument names P.types f (same_type P.state (type_meant names s.of_type)) a.of_type) (λ _ h. both _ _ h.0 h.1) (plain_sound f _ a.of_type)
+        gives_more _ _ (plain_argument names P.types f (same_type P.state (type_meant names s.of_type)) a.of_type) (λ _ h. both _ _ h.0 h.1)
+        (plain_sound f _ a.of_type)
     role_shaped f QuerySyntax (s ∷ a ∷ b ∷ rest) = tt
     role_shaped f UpdateSyntax [] = tt
     role_shaped f UpdateSyntax (s ∷ []) = tt
     role_shaped f UpdateSyntax (s ∷ a ∷ []) =
-        gives_more _ _ (plain_argument names P.types f (same_type P.state (type_meant names s.of_type) && is_new_state names P.types P.state (type_meant names f.result_type)) a.of_type)
-        (λ _ h. update_sound (type_meant names s.of_type) (type_meant names a.of_type) (type_meant names f.result_type) h.0 h.1) (plain_sound f _ a.of_type)
+        gives_more _ _ (plain_argument names P.types f (same_type P.state (type_meant names s.of_type) && is_new_state names P.types P.state
+        (type_meant names f.result_type)) a.of_type)
+        (λ _ h. update_sound (type_meant names s.of_type) (type_meant names a.of_type) (type_meant names f.result_type) h.0 h.1)
+        (plain_sound f _ a.of_type)
     role_shaped f UpdateSyntax (s ∷ a ∷ b ∷ rest) = tt
 
     -- the roles that pass have their shapes
     pub roles_shaped : (fs : List FunctionSyntax) → Gives (λ _. All HasShape fs) (checked_roles names P.types P.state fs)
     roles_shaped [] = All-nil HasShape
     roles_shaped (f ∷ fs) =
-        gives_then (λ _. HasShape f) (λ _. All HasShape (f ∷ fs)) (checked_role names P.types P.state f f.kind f.parameters) _ (role_shaped f f.kind f.parameters)
-        (λ _ here. gives_more (λ _. All HasShape fs) (λ _. All HasShape (f ∷ fs)) (checked_roles names P.types P.state fs) (λ _ others. All-cons HasShape f fs here others) (roles_shaped fs))
+        gives_then (λ _. HasShape f) (λ _. All HasShape (f ∷ fs)) (checked_role names P.types P.state f f.kind f.parameters)
+        _ (role_shaped f f.kind f.parameters)
+        (λ _ here. gives_more (λ _. All HasShape fs) (λ _. All HasShape (f ∷ fs)) (checked_roles names P.types P.state fs)
+        (λ _ others. All-cons HasShape f fs here others) (roles_shaped fs))
 
-    pub functions_shaped : (scope : Scope) (fs : List FunctionSyntax) → All HasShape fs → Gives (λ gs. all_shaped P gs ≡ true) (checked_functions names scope fs)
+    pub functions_shaped : (scope : Scope) (fs : List FunctionSyntax) → All HasShape fs
+        → Gives (λ gs. all_shaped P gs ≡ true) (checked_functions names scope fs)
     functions_shaped scope =
         each_made scope HasShape (λ g. shape_test P g.kind g.parameters g.result ≡ true)
-        (λ f here. gives_then (λ x. Unit {0}) (λ g. shape_test P g.kind g.parameters g.result ≡ true) (of_its_type scope f) _ (gives_any (of_its_type scope f)) (λ x _. here))
+        (λ f here. gives_then (λ x. Unit {0}) (λ g. shape_test P g.kind g.parameters g.result ≡ true) (of_its_type scope f)
+        _ (gives_any (of_its_type scope f)) (λ x _. here))
         (λ gs. all_shaped P gs ≡ true) refl (λ g gs here others. both _ _ here others)

@@ -6,7 +6,7 @@ use Rattle.std.proofs.lemmas.List.{length-map}
 use Rattle.std.proofs.lemmas.List.Elements.{All-cons, All-map, All-nil}
 use Rattle.core_terms.specs.Types.{Ty}
 use Rattle.auth_syntax.specs.Syntax.{ConstructorDeclaration, DeclarationSyntax, FunctionDeclaration, FunctionSyntax, NameSyntax, ParameterSyntax, StateDeclaration, TypeDeclaration, TypeSyntax, place_of_type}
-use Rattle.auth_syntax.specs.declared.place.Place.{Place}
+use Rattle.lexemes.specs.declared.place.Place.{Place}
 use Rattle.auth_types.specs.Checking.{Checking, FaultAt, is_among, new_name}
 use Rattle.auth_types.specs.Declarations.{Declared, checked_constructors, checked_declaration, checked_declarations, checked_fields, checked_parameters, most_constructors, most_fields, most_functions, most_parameters, most_types}
 use Rattle.auth_types.specs.WrittenTypes.{functions_in, table_of, type_meant, type_names}
@@ -19,7 +19,8 @@ use Rattle.auth_types.proofs.SoundTypes.{rows_of}
 -- a new name is none of those before, and they are below the limit
 pub gives_new : {A : Type 0} (R : A → Type 0) (before : List (List ℕ)) (most : ℕ) (thing : Limited) (name : NameSyntax) (rest : Checking A)
     → (is_among name.name before ≡ false → length before < most → Gives R rest) → Gives R (new_name before most thing name rest)
-gives_new R before most thing name rest h = by (is_among name.name before) (nat_lt (length before) most) h (λ below. ltb-true (length before) most below)
+gives_new R before most thing name rest h =
+    by (is_among name.name before) (nat_lt (length before) most) h (λ below. ltb-true (length before) most below)
   where
     by : (among below : Bool) → (among ≡ false → length before < most → Gives R rest) → (below ≡ true → length before < most)
         → Gives R (if among then FaultAt Twice name.at else (if below then rest else FaultAt (Limit thing) name.at))
@@ -27,12 +28,15 @@ gives_new R before most thing name rest h = by (is_among name.name before) (nat_
     by false true h less = h refl (less refl)
     by false false h less = tt
 
-fields_within : (before : ℕ) (fields : List TypeSyntax) → before ≤ most_fields → Gives (λ _. before + length fields ≤ most_fields) (checked_fields before fields)
+fields_within : (before : ℕ) (fields : List TypeSyntax) → before ≤ most_fields
+    → Gives (λ _. before + length fields ≤ most_fields) (checked_fields before fields)
 fields_within before [] so_far = omega (arith, so_far)
 fields_within before (field ∷ rest) so_far =
-    gives_unless (λ _. before + suc (length rest) ≤ most_fields) (nat_lt before most_fields) (Limit Fields) (place_of_type field) (checked_fields (before + 1) rest)
+    gives_unless (λ _. before + suc (length rest) ≤ most_fields) (nat_lt before most_fields) (Limit Fields) (place_of_type field)
+    (checked_fields (before + 1) rest)
     (λ less. let below : before < most_fields = ltb-true before most_fields less in
-    gives_more (λ _. (before + 1) + length rest ≤ most_fields) (λ _. before + suc (length rest) ≤ most_fields) (checked_fields (before + 1) rest) (λ _ h. omega (arith, h)) (fields_within (before + 1) rest (omega (arith, below))))
+    gives_more (λ _. (before + 1) + length rest ≤ most_fields) (λ _. before + suc (length rest) ≤ most_fields) (checked_fields (before + 1) rest)
+    (λ _ h. omega (arith, h)) (fields_within (before + 1) rest (omega (arith, below))))
 
 -- the fields of each constructor
 abbrev HasFewFields : ConstructorDeclaration → Type 0
@@ -47,19 +51,24 @@ constructors_within before names (c ∷ cs) so_far =
     (λ _. gives_unless R (nat_lt before most_constructors) (Limit Constructors) c.name.at _
     (λ less. let below : before < most_constructors = ltb-true before most_constructors less in
     gives_then (λ _. 0 + length c.fields ≤ most_fields) R (checked_fields 0 c.fields) _ (fields_within 0 c.fields (omega arith))
-    (λ _ few. gives_more (λ _. ((before + 1) + length cs ≤ most_constructors) × All HasFewFields cs) R (checked_constructors (before + 1) (c.name.name ∷ names) cs)
+    (λ _ few. gives_more (λ _. ((before + 1) + length cs ≤ most_constructors) × All HasFewFields cs) R
+    (checked_constructors (before + 1) (c.name.name ∷ names) cs)
     (λ _ h. (omega (arith, h.0), All-cons HasFewFields c cs (omega (arith, few)) h.1))
     (constructors_within (before + 1) (c.name.name ∷ names) cs (omega (arith, below))))))
 
-parameters_within : (before : List (List ℕ)) (ps : List ParameterSyntax) → length before ≤ most_parameters → Gives (λ _. length before + length ps ≤ most_parameters) (checked_parameters before ps)
+parameters_within : (before : List (List ℕ)) (ps : List ParameterSyntax) → length before ≤ most_parameters
+    → Gives (λ _. length before + length ps ≤ most_parameters) (checked_parameters before ps)
 parameters_within before [] so_far = omega (arith, so_far)
 parameters_within before (p ∷ ps) so_far =
-    gives_new (λ _. length before + suc (length ps) ≤ most_parameters) before most_parameters Parameters p.name (checked_parameters (p.name.name ∷ before) ps)
-    (λ _ below. gives_more (λ _. suc (length before) + length ps ≤ most_parameters) (λ _. length before + suc (length ps) ≤ most_parameters) (checked_parameters (p.name.name ∷ before) ps)
+    gives_new (λ _. length before + suc (length ps) ≤ most_parameters) before most_parameters Parameters p.name
+    (checked_parameters (p.name.name ∷ before) ps)
+    (λ _ below. gives_more (λ _. suc (length before) + length ps ≤ most_parameters) (λ _. length before + suc (length ps) ≤ most_parameters)
+    (checked_parameters (p.name.name ∷ before) ps)
     (λ _ h. omega (arith, h)) (parameters_within (p.name.name ∷ before) ps (omega (arith, below))))
 
 -- the rows of the table are as long as their constructors
-rows_within : (names : List (List ℕ)) (cs : List ConstructorDeclaration) → All HasFewFields cs → All (λ (ts : List Ty). length ts ≤ most_fields) (rows_of names cs)
+rows_within : (names : List (List ℕ)) (cs : List ConstructorDeclaration) → All HasFewFields cs
+    → All (λ (ts : List Ty). length ts ≤ most_fields) (rows_of names cs)
 rows_within names cs few = All-map (λ (ts : List Ty). length ts ≤ most_fields) (λ (c : ConstructorDeclaration). map (type_meant names) c.fields) cs
     (λ k d inside. omega (arith, few k d inside, length-map (slice_index_or cs k d).fields (type_meant names)))
 
@@ -76,10 +85,12 @@ record WithType (declared : Declared) (name : NameSyntax) (cs : List Constructor
   types : next.types ≡ name.name ∷ declared.types
   functions : next.functions ≡ declared.functions
 
-type_within : (declared : Declared) (at : Place) (name : NameSyntax) (cs : List ConstructorDeclaration) → Gives (WithType declared name cs) (checked_declaration declared (TypeDeclaration at name cs))
+type_within : (declared : Declared) (at : Place) (name : NameSyntax) (cs : List ConstructorDeclaration)
+    → Gives (WithType declared name cs) (checked_declaration declared (TypeDeclaration at name cs))
 type_within declared at name cs =
     gives_new (WithType declared name cs) declared.types most_types Types name _
-    (λ _ below. gives_then (λ _. (0 + length cs ≤ most_constructors) × All HasFewFields cs) (WithType declared name cs) (checked_constructors 0 declared.constructors cs) _ (constructors_within 0 declared.constructors cs (omega arith))
+    (λ _ below. gives_then (λ _. (0 + length cs ≤ most_constructors) × All HasFewFields cs) (WithType declared name cs)
+    (checked_constructors 0 declared.constructors cs) _ (constructors_within 0 declared.constructors cs (omega arith))
     (λ _ h. record { below = below; constructors = omega (arith, h.0); fields = h.1; types = refl; functions = refl }))
 
 -- a state, which is no type and no function
@@ -98,10 +109,12 @@ record WithFunction (declared : Declared) (f : FunctionSyntax) (next : Declared)
   types : next.types ≡ declared.types
   functions : next.functions ≡ f.name.name ∷ declared.functions
 
-function_within : (declared : Declared) (at : Place) (f : FunctionSyntax) → Gives (WithFunction declared f) (checked_declaration declared (FunctionDeclaration at f))
+function_within : (declared : Declared) (at : Place) (f : FunctionSyntax)
+    → Gives (WithFunction declared f) (checked_declaration declared (FunctionDeclaration at f))
 function_within declared at f =
     gives_new (WithFunction declared f) declared.functions most_functions Functions f.name _
-    (λ new below. gives_then (λ _. 0 + length f.parameters ≤ most_parameters) (WithFunction declared f) (checked_parameters [] f.parameters) _ (parameters_within [] f.parameters (omega arith))
+    (λ new below. gives_then (λ _. 0 + length f.parameters ≤ most_parameters) (WithFunction declared f) (checked_parameters [] f.parameters)
+    _ (parameters_within [] f.parameters (omega arith))
     (λ _ few. record { new = new; below = below; parameters = omega (arith, few); types = refl; functions = refl }))
 
 -- a row of the table, and a function
@@ -124,17 +137,27 @@ module _ (names : List (List ℕ)) where
     pub parameters : All FewParameters (functions_in ds)
     pub new : AreNew declared.functions (functions_in ds)
 
-  pub declarations_within : (declared : Declared) (ds : List DeclarationSyntax) → length declared.types ≤ most_types → length declared.functions ≤ most_functions
+  pub declarations_within : (declared : Declared) (ds : List DeclarationSyntax) → length declared.types ≤ most_types
+      → length declared.functions ≤ most_functions
       → Gives (λ _. AreWithin declared ds) (checked_declarations declared ds)
   declarations_within declared [] few_types few_functions =
-      record { types = omega (arith, few_types); constructors = All-nil FewConstructors; fields = All-nil FewFields; functions = omega (arith, few_functions); parameters = All-nil FewParameters; new = tt }
+      record {
+        types = omega (arith, few_types);
+        constructors = All-nil FewConstructors;
+        fields = All-nil FewFields;
+        functions =
+            omega (arith, few_functions);
+        parameters = All-nil FewParameters;
+        new = tt;
+      }
   declarations_within declared (TypeDeclaration at name cs ∷ ds) few_types few_functions =
       let R : Declared → Type 0 = λ _. AreWithin declared (TypeDeclaration at name cs ∷ ds) in
       gives_then (WithType declared name cs) R (checked_declaration declared (TypeDeclaration at name cs)) _ (type_within declared at name cs)
       (λ next q. gives_more (λ _. AreWithin next ds) R (checked_declarations next ds)
       (λ _ h. record {
         types = omega (arith, h.types, ap length q.types);
-        constructors = All-cons FewConstructors (rows_of names cs) (table_of names ds) (omega (arith, q.constructors, length-map cs (λ (c : ConstructorDeclaration). map (type_meant names) c.fields))) h.constructors;
+        constructors = All-cons FewConstructors (rows_of names cs) (table_of names ds)
+            (omega (arith, q.constructors, length-map cs (λ (c : ConstructorDeclaration). map (type_meant names) c.fields))) h.constructors;
         fields = All-cons FewFields (rows_of names cs) (table_of names ds) (rows_within names cs q.fields) h.fields;
         functions = omega (arith, h.functions, ap length q.functions);
         parameters = h.parameters;

@@ -8,9 +8,9 @@ use Rattle.std.proofs.lemmas.Bool.{leb-true}
 use Rattle.std.proofs.lemmas.List.Elements.{All-cons, All-nil}
 use Rattle.std.proofs.lemmas.Str.{IsUtf8-from_is_utf8}
 use Rattle.core_terms.specs.Values.{int_fits}
-use Rattle.auth_syntax.specs.declared.place.Place.{Place}
-use Rattle.auth_syntax.specs.Places.{behind_byte}
-use Rattle.auth_syntax.specs.Tokens.{Token, LowerToken, UpperToken, IntToken, TextToken, Tokens, Next, End, Faulty, Piece, PassedOver, Taken, Wrong, Quoted, Closed, CutOff, WrongAt, is_blank, keyword_of, name_limit, text_limit, name_piece, lower_piece, negative, int_piece, digits_of, minus_piece, quoted_behind, text_piece, word_of, mark_of, mark_piece, first_piece, from_piece, tokens_behind, tokens}
+use Rattle.lexemes.specs.declared.place.Place.{Place}
+use Rattle.lexemes.specs.Places.{behind_byte}
+use Rattle.lexemes.specs.Tokens.{Token, LowerToken, UpperToken, IntToken, TextToken, Tokens, Next, End, Faulty, Piece, PassedOver, Taken, Wrong, Quoted, Closed, CutOff, WrongAt, is_blank, keyword_of, name_limit, text_limit, name_piece, lower_piece, negative, int_piece, digits_of, minus_piece, quoted_behind, text_piece, word_of, mark_of, mark_piece, first_piece, from_piece, tokens_behind, tokens}
 use Rattle.auth_syntax.specs.Syntax.{ExpSyntax, UnitSyntax, BoolSyntax, IntSyntax, TextSyntax, LocalSyntax, PairSyntax, UnarySyntax, BinarySyntax, CallSyntax, ConstructorSyntax, LetSyntax, IfSyntax, MatchSyntax, ExpsSyntax, NoExp, AndExp, ArmsSyntax, NoArmSyntax, AndArmSyntax, DeclarationSyntax, TypeDeclaration, StateDeclaration, FunctionDeclaration, FunctionSyntax, Program}
 use Rattle.auth_syntax.specs.Grammar.{Written, AreWritten, arms_tokens, declaration_tokens, declarations_tokens, expression_tokens, expressions_tokens, in_parentheses, mark, names_tokens, parameters_tokens, type_tokens}
 use Rattle.auth_syntax.specs.Parsing.{parsed, Tree}
@@ -38,7 +38,8 @@ name_good : (token : Token) (word : List ℕ) → IsGood token → IsGoodPiece (
 name_good token word h = either_good (nat_le (length word) name_limit) _ _ (λ _. h) (λ _. tt)
 
 word_good : (word : List ℕ) → IsGoodPiece (lower_piece (keyword_of word) word)
-word_good word = elim (keyword_of word) as (λ keyword. IsGoodPiece (lower_piece keyword word)) [ Some keyword ↦ tt | None ↦ name_good (LowerToken word) word tt ]
+word_good word = elim (keyword_of word) as (λ keyword. IsGoodPiece (lower_piece keyword word))
+    [ Some keyword ↦ tt | None ↦ name_good (LowerToken word) word tt ]
 
 negative_fits : (n : ℕ) → n ≤ 2 ^ 63 → int_fits (negative n) ≡ true
 negative_fits zero h = refl
@@ -58,7 +59,8 @@ minus_good (b ∷ rest) =
 text_good : (quoted : Quoted) → IsGoodPiece (text_piece quoted)
 text_good (Closed bytes size) =
     either_good (is_utf8 bytes) _ _
-    (λ utf8. either_good (nat_le (length bytes) text_limit) _ _ (λ short. (IsUtf8-from_is_utf8 bytes utf8, leb-true (length bytes) text_limit short)) (λ _. tt))
+    (λ utf8. either_good (nat_le (length bytes) text_limit) _ _ (λ short. (IsUtf8-from_is_utf8 bytes utf8, leb-true (length bytes) text_limit short))
+    (λ _. tt))
     (λ _. tt)
 text_good CutOff = tt
 text_good (WrongAt kind offset) = tt
@@ -82,7 +84,8 @@ AreGood (Next at token rest) = IsGood token × AreGood rest
 AreGood (End at) = Unit {0}
 AreGood (Faulty at kind) = Unit {0}
 
-piece_first : (piece : Piece) (at : Place) (bytes : List ℕ) (go : ℕ → Tokens) → IsGoodPiece piece → ((size : ℕ) → AreGood (go size)) → AreGood (from_piece piece at bytes go)
+piece_first : (piece : Piece) (at : Place) (bytes : List ℕ) (go : ℕ → Tokens) → IsGoodPiece piece → ((size : ℕ) → AreGood (go size))
+    → AreGood (from_piece piece at bytes go)
 piece_first (PassedOver size) at bytes go h others = others size
 piece_first (Taken token size) at bytes go h others = (h, others size)
 piece_first (Wrong kind offset) at bytes go h others = tt
@@ -91,7 +94,8 @@ tokens_good : (n : ℕ) (at : Place) (text : List ℕ) → AreGood (tokens_behin
 tokens_good n at [] = tt
 tokens_good (suc n) at (b ∷ rest) = tokens_good n (behind_byte at b) rest
 tokens_good zero at (b ∷ rest) =
-    piece_first (first_piece b rest) at (b ∷ rest) (λ size. tokens_behind (size - 1) (behind_byte at b) rest) (first_good b rest) (λ size. tokens_good (size - 1) (behind_byte at b) rest)
+    piece_first (first_piece b rest) at (b ∷ rest) (λ size. tokens_behind (size - 1) (behind_byte at b) rest) (first_good b rest)
+    (λ size. tokens_good (size - 1) (behind_byte at b) rest)
 
 -- the tokens of a tree
 abbrev AllGood : List Written → Type 0
@@ -120,22 +124,27 @@ mutual
   literals_good (IntSyntax at z) h = h.0
   literals_good (TextSyntax at bytes) h = h.0
   literals_good (LocalSyntax at name) h = tt
-  literals_good (PairSyntax at x y) h = let (first, second) = parts_good (expression_tokens x) _ (parts_good _ _ h.1).0 in (literals_good x first, literals_good y second.1)
+  literals_good (PairSyntax at x y) h =
+      let (first, second) = parts_good (expression_tokens x) _ (parts_good _ _ h.1).0 in (literals_good x first, literals_good y second.1)
   literals_good (UnarySyntax at operation x) h = literals_good x (parts_good (expression_tokens x) _ h.1.1).0
-  literals_good (BinarySyntax at operation x y) h = let (first, second) = parts_good (expression_tokens x) _ (parts_good _ _ h.1.1).0 in (literals_good x first, literals_good y second.1)
+  literals_good (BinarySyntax at operation x y) h =
+      let (first, second) = parts_good (expression_tokens x) _ (parts_good _ _ h.1.1).0 in (literals_good x first, literals_good y second.1)
   literals_good (CallSyntax at name xs) h = each_good xs (parts_good (expressions_tokens xs) _ h.1.1).0
   literals_good (ConstructorSyntax at name xs) h = each_good xs (inside_good (expressions_tokens xs) h.1)
-  literals_good (LetSyntax at name x body) h = let (first, second) = parts_good (expression_tokens x) _ h.1.1.1 in (literals_good x first, literals_good body second.1)
+  literals_good (LetSyntax at name x body) h =
+      let (first, second) = parts_good (expression_tokens x) _ h.1.1.1 in (literals_good x first, literals_good body second.1)
   literals_good (IfSyntax at test x y) h =
       let (both, other) = parts_good _ _ h.1 in
       let (first, second) = parts_good (expression_tokens test) _ both in
       (literals_good test first, literals_good x second.1, literals_good y other.1)
-  literals_good (MatchSyntax at x arms) h = let (first, second) = parts_good (expression_tokens x) _ (parts_good _ _ h.1).0 in (literals_good x first, arms_good arms second.1)
+  literals_good (MatchSyntax at x arms) h =
+      let (first, second) = parts_good (expression_tokens x) _ (parts_good _ _ h.1).0 in (literals_good x first, arms_good arms second.1)
 
   each_good : (xs : ExpsSyntax) → AllGood (expressions_tokens xs) → HaveGoodLiterals xs
   each_good NoExp h = tt
   each_good (AndExp x NoExp) h = (literals_good x h, tt)
-  each_good (AndExp x (AndExp next rest)) h = let (first, others) = parts_good (expression_tokens x) _ h in (literals_good x first, each_good (AndExp next rest) others.1)
+  each_good (AndExp x (AndExp next rest)) h =
+      let (first, others) = parts_good (expression_tokens x) _ h in (literals_good x first, each_good (AndExp next rest) others.1)
 
   arms_good : (arms : ArmsSyntax) → AllGood (arms_tokens arms) → ArmsHaveGoodLiterals arms
   arms_good NoArmSyntax h = tt
@@ -149,7 +158,8 @@ body_good : (a b c d : Written) (ps ts body : List Written) → AllGood (ps ++ a
 body_good a b c d ps ts body h = (parts_good (ps ++ a ∷ b ∷ ts) (c ∷ body) (parts_good (ps ++ a ∷ b ∷ ts ++ c ∷ body) (d ∷ []) h).0).1.1
 
 function_good : (at : Place) (f : FunctionSyntax) → AllGood (declaration_tokens (FunctionDeclaration at f)) → HasGoodLiterals f.body
-function_good at f h = literals_good f.body (body_good _ _ _ _ (parameters_tokens f.parameters) (type_tokens f.result_type) (expression_tokens f.body) h.1.1.1)
+function_good at f h = literals_good f.body (body_good _ _ _ _ (parameters_tokens f.parameters) (type_tokens f.result_type) (expression_tokens f.body)
+    h.1.1.1)
 
 declarations_good : (ds : List DeclarationSyntax) → AllGood (declarations_tokens ds) → All (λ f. HasGoodLiterals f.body) (functions_in ds)
 declarations_good [] h = All-nil (λ (f : FunctionSyntax). HasGoodLiterals f.body)
@@ -160,6 +170,8 @@ declarations_good (FunctionDeclaration at f ∷ ds) h =
     All-cons (λ (f : FunctionSyntax). HasGoodLiterals f.body) f (functions_in ds) (function_good at f first) (declarations_good ds others)
 
 -- the program that a text is parsed to
-pub parsed_has_good_literals : (words : Vocabulary) (text : List ℕ) (program : Program) → parsed words text ≡ Tree program → ProgramHasGoodLiterals program
+pub parsed_has_good_literals : (words : Vocabulary) (text : List ℕ) (program : Program) → parsed words text ≡ Tree program
+    → ProgramHasGoodLiterals program
 parsed_has_good_literals words text program is =
-    declarations_good program.declarations (written_good (tokens text) (declarations_tokens program.declarations) program.end (parsed_is_written words text program is).written (tokens_good 0 _ text))
+    declarations_good program.declarations (written_good (tokens text) (declarations_tokens program.declarations) program.end
+    (parsed_is_written words text program is).written (tokens_good 0 _ text))

@@ -9,7 +9,8 @@ pub last_within : (n : ℕ) (locals : List Local) (name : List ℕ) (i : ℕ) �
 last_within n [] name i is = absurd (cc)
 last_within n (l ∷ locals) name i is = by (last_named (n + 1) locals name) (bytes_eq l.name name) (λ j e. last_within (n + 1) locals name j e) is
   where
-    by : (o : Option ℕ) (b : Bool) → ((j : ℕ) → o ≡ Some j → j < (n + 1) + length locals) → or_else o (if b then Some n else None) ≡ Some i → i < n + suc (length locals)
+    by : (o : Option ℕ) (b : Bool) → ((j : ℕ) → o ≡ Some j → j < (n + 1) + length locals) → or_else o (if b then Some n else None) ≡ Some i
+        → i < n + suc (length locals)
     by (Some j) b inside is = let same : j ≡ i = cc in omega (arith, inside j refl, same)
     by None true inside is = let same : n ≡ i = cc in omega (arith, same)
     by None false inside is = absurd (cc)
@@ -19,13 +20,15 @@ pub number_within : (names : List (List ℕ)) (name : List ℕ) (i : ℕ) → nu
 number_within [] name i is = absurd (cc)
 number_within (other ∷ names) name i is = by (bytes_eq other name) (number_of names name) (λ j e. number_within names name j e) is
   where
-    by : (b : Bool) (o : Option ℕ) → ((j : ℕ) → o ≡ Some j → j < length names) → (if b then Some 0 else option_map suc o) ≡ Some i → i < suc (length names)
+    by : (b : Bool) (o : Option ℕ) → ((j : ℕ) → o ≡ Some j → j < length names) → (if b then Some 0 else option_map suc o) ≡ Some i
+        → i < suc (length names)
     by true o inside is = let same : 0 ≡ i = cc in omega (arith, same)
     by false (Some j) inside is = let same : suc j ≡ i = cc in omega (arith, inside j refl, same)
     by false None inside is = absurd (cc)
 
 -- a function that is found stands at its number, behind n others
-pub function_there : (n : ℕ) (fs : List Signature) (name : List ℕ) (f : Numbered Signature) → function_named n fs name ≡ Some f → (k : ℕ) × (f.number ≡ n + k) × (slice_get fs k ≡ Some f.value)
+pub function_there : (n : ℕ) (fs : List Signature) (name : List ℕ) (f : Numbered Signature) → function_named n fs name ≡ Some f → (k : ℕ)
+    × (f.number ≡ n + k) × (slice_get fs k ≡ Some f.value)
 function_there n [] name f is = absurd (cc)
 function_there n (g ∷ fs) name f is = by (bytes_eq g.name name) (function_named (n + 1) fs name) (λ e. function_there (n + 1) fs name f e) is
   where
@@ -41,7 +44,8 @@ abbrev pub AsMany : {A B : Type 0} → List (List A) → List (List B) → Type 
 AsMany xs ys = map (λ x. length x) xs ≡ map (λ y. length y) ys
 
 -- there are as many constructors as rows of the table
-pub as_many_at : {A B : Type 0} (xs : List (List A)) (ys : List (List B)) (k : ℕ) → AsMany xs ys → length (unwrap_or (slice_get xs k) []) ≡ length (unwrap_or (slice_get ys k) [])
+pub as_many_at : {A B : Type 0} (xs : List (List A)) (ys : List (List B)) (k : ℕ) → AsMany xs ys
+    → length (unwrap_or (slice_get xs k) []) ≡ length (unwrap_or (slice_get ys k) [])
 as_many_at [] [] k same = refl
 as_many_at [] (y ∷ ys) k same = absurd (cc)
 as_many_at (x ∷ xs) [] k same = absurd (cc)
@@ -55,18 +59,23 @@ there_within (x ∷ xs) zero inside = (x, refl)
 there_within (x ∷ xs) (suc k) inside = there_within xs k (omega (arith, inside))
 
 -- a constructor that is found has fields in the table, where its type stands behind n others
-pub constructor_there : (n : ℕ) (names : List (List (List ℕ))) (table : Table) (name : List ℕ) (c : Numbered ℕ) → AsMany names table → constructor_named n names name ≡ Some c
+pub constructor_there : (n : ℕ) (names : List (List (List ℕ))) (table : Table) (name : List ℕ) (c : Numbered ℕ) → AsMany names table
+    → constructor_named n names name ≡ Some c
     → (k : ℕ) × (c.number ≡ n + k) × ((ts : List Ty) × (fields_at table k c.value ≡ Some ts))
 constructor_there n [] table name c same is = absurd (cc)
 constructor_there n (x ∷ names) [] name c same is = absurd (cc)
 constructor_there n (x ∷ names) (row ∷ table) name c same is =
     by (number_of x name) (constructor_named (n + 1) names name) refl (λ e. constructor_there (n + 1) names table name c (cc) e) is
   where
-    by : (tag : Option ℕ) (o : Option (Numbered ℕ)) → number_of x name ≡ tag → (o ≡ Some c → (k : ℕ) × (c.number ≡ (n + 1) + k) × ((ts : List Ty) × (fields_at table k c.value ≡ Some ts)))
+    by : (tag : Option ℕ) (o : Option (Numbered ℕ)) → number_of x name ≡ tag
+        → (o ≡ Some c → (k : ℕ) × (c.number ≡ (n + 1) + k) × ((ts : List Ty) × (fields_at table k c.value ≡ Some ts)))
         → tag_in n tag o ≡ Some c → (k : ℕ) × (c.number ≡ n + k) × ((ts : List Ty) × (fields_at (row ∷ table) k c.value ≡ Some ts))
     by (Some tag) o found later is =
         let here : record { number = n; value = tag } ≡ c = cc in
         let rows : length x ≡ length row = cc in
-        let (ts, there) = there_within row tag (omega (arith, number_within x name tag found, rows)) in
-        (zero, sym (ap (λ (c : Numbered ℕ). c.number) here) ∙ omega arith, (ts, subst (λ (c : Numbered ℕ). slice_get row c.value ≡ Some ts) here there))
+        let (ts, there) = there_within row tag (omega (arith, number_within x name tag found, rows)) in (
+          zero,
+          sym (ap (λ (c : Numbered ℕ). c.number) here) ∙ omega arith,
+          (ts, subst (λ (c : Numbered ℕ). slice_get row c.value ≡ Some ts) here there),
+        )
     by None o found later is = let (k, number, there) = later is in (suc k, omega (arith, number), there)

@@ -40,8 +40,10 @@ record Passed (program : Program) (P : tree.Program) : Type 0 where
 
 passed : (program : Program) (P : tree.Program) → all_passes program ≡ Sound P → Passed program P
 passed program P is =
-    let (a, first, later) = then_sound (first_pass program) (λ _. then_checked (second_pass program) (λ _. then_checked (third_pass program) (λ _. then_checked (fourth_pass program) (λ fs. Sound (program_of program fs))))) P is in
-    let (b, second, last) = then_sound (second_pass program) (λ _. then_checked (third_pass program) (λ _. then_checked (fourth_pass program) (λ fs. Sound (program_of program fs)))) P later in
+    let (a, first, later) = then_sound (first_pass program) (λ _. then_checked (second_pass program)
+    (λ _. then_checked (third_pass program) (λ _. then_checked (fourth_pass program) (λ fs. Sound (program_of program fs))))) P is in
+    let (b, second, last) = then_sound (second_pass program)
+    (λ _. then_checked (third_pass program) (λ _. then_checked (fourth_pass program) (λ fs. Sound (program_of program fs)))) P later in
     let (c, third, end) = then_sound (third_pass program) (λ _. then_checked (fourth_pass program) (λ fs. Sound (program_of program fs))) P last in
     let (functions, fourth, made) = then_sound (fourth_pass program) (λ fs. Sound (program_of program fs)) P end in
     record { functions = functions; first = first; second = second; third = third; fourth = fourth; made = cc }
@@ -50,7 +52,8 @@ passed program P is =
 many_declared : (names : List (List ℕ)) (ds : List DeclarationSyntax) → AsMany (constructors_in ds) (table_of names ds)
 many_declared names [] = refl
 many_declared names (TypeDeclaration at name cs ∷ ds) =
-    ap₂ (λ n ns. n ∷ ns) (length-map cs (λ (c : ConstructorDeclaration). c.name.name) ∙ sym (length-map cs (λ (c : ConstructorDeclaration). map (type_meant names) c.fields))) (many_declared names ds)
+    ap₂ (λ n ns. n ∷ ns) (length-map cs (λ (c : ConstructorDeclaration). c.name.name)
+    ∙ sym (length-map cs (λ (c : ConstructorDeclaration). map (type_meant names) c.fields))) (many_declared names ds)
 many_declared names (StateDeclaration at t ∷ ds) = many_declared names ds
 many_declared names (FunctionDeclaration at f ∷ ds) = many_declared names ds
 
@@ -58,7 +61,8 @@ many_declared names (FunctionDeclaration at f ∷ ds) = many_declared names ds
 its_scope : (program : Program) (P : tree.Program) → Passed program P → IsScopeOf (scope_of program) P
 its_scope program P is =
     subst (IsScopeOf (scope_of program)) is.made (record {
-      functions = given (λ gs. map (signature_of (names_of program)) (functions_in program.declarations) ≡ map signature gs) (fourth_pass program) is.functions (signatures_kept (names_of program) (scope_of program) (functions_in program.declarations)) is.fourth;
+      functions = given (λ gs. map (signature_of (names_of program)) (functions_in program.declarations) ≡ map signature gs) (fourth_pass program)
+          is.functions (signatures_kept (names_of program) (scope_of program) (functions_in program.declarations)) is.fourth;
       table = refl;
       constructors = many_declared (names_of program) program.declarations;
     })
@@ -71,17 +75,21 @@ module _ (program : Program) (P : tree.Program) (is : Passed program P) where
   within : AreWithin (names_of program) nothing_declared program.declarations
   within =
       given (λ _. AreWithin (names_of program) nothing_declared program.declarations) (first_pass program) tt
-      (gives_then (λ _. AreWithin (names_of program) nothing_declared program.declarations) (λ _. AreWithin (names_of program) nothing_declared program.declarations) (checked_declarations nothing_declared program.declarations) _
+      (gives_then (λ _. AreWithin (names_of program) nothing_declared program.declarations)
+      (λ _. AreWithin (names_of program) nothing_declared program.declarations) (checked_declarations nothing_declared program.declarations) _
       (declarations_within (names_of program) nothing_declared program.declarations (omega arith) (omega arith))
-      (λ declared h. gives_unless (λ _. AreWithin (names_of program) nothing_declared program.declarations) declared.state NoState program.end (Sound tt) (λ _. h))) is.first
+      (λ declared h. gives_unless (λ _. AreWithin (names_of program) nothing_declared program.declarations) declared.state NoState program.end
+      (Sound tt) (λ _. h))) is.first
 
   below : AreBelow (names_of program) program.declarations
-  below = given (λ _. AreBelow (names_of program) program.declarations) (second_pass program) tt (declarations_below (names_of program) program.declarations) is.second
+  below = given (λ _. AreBelow (names_of program) program.declarations) (second_pass program) tt
+      (declarations_below (names_of program) program.declarations) is.second
 
   shapes : All (HasShape (names_of program) P) (functions_in program.declarations)
   shapes =
       subst (λ (P : tree.Program). All (HasShape (names_of program) P) (functions_in program.declarations)) is.made
-      (given (λ _. All (HasShape (names_of program) (program_of program is.functions)) (functions_in program.declarations)) (third_pass program) tt (roles_shaped (names_of program) (program_of program is.functions) (functions_in program.declarations)) is.third)
+      (given (λ _. All (HasShape (names_of program) (program_of program is.functions)) (functions_in program.declarations)) (third_pass program) tt
+      (roles_shaped (names_of program) (program_of program is.functions) (functions_in program.declarations)) is.third)
 
 pub scope_is_of_program : ScopeIsOfProgram
 scope_is_of_program program P sound = its_scope program P (passed program P sound)
@@ -90,7 +98,8 @@ pub checked_is_typed : CheckedIsTyped
 checked_is_typed program P good sound =
     let is = passed program P sound in
     let fs = functions_in program.declarations in (
-      of_functions program P is (λ gs. all_typed P gs ≡ true) (functions_typed (names_of program) (scope_of program) P (its_scope program P is) fs good),
+      of_functions program P is (λ gs. all_typed P gs ≡ true)
+          (functions_typed (names_of program) (scope_of program) P (its_scope program P is) fs good),
       of_functions program P is (λ gs. all_shaped P gs ≡ true) (functions_shaped (names_of program) P (scope_of program) fs (shapes program P is)),
     )
 
@@ -110,16 +119,20 @@ checked_names_its_types program P sound =
     let names = names_of program in
     let h = below program P is in
     let many = as_many_types names program.declarations in
-    let functions = given (All (FunctionNamesTypesBelow (length names))) (fourth_pass program) is.functions (functions_below names (scope_of program) (functions_in program.declarations) h.functions) is.fourth in
-    let made : ProgramNamesTypesBelow (length names) (program_of program is.functions) = record { table = h.table; state = state_below names (states_in program.declarations) h.states; functions = functions } in
+    let functions = given (All (FunctionNamesTypesBelow (length names))) (fourth_pass program) is.functions
+    (functions_below names (scope_of program) (functions_in program.declarations) h.functions) is.fourth in
+    let made : ProgramNamesTypesBelow (length names) (program_of program is.functions) =
+    record { table = h.table; state = state_below names (states_in program.declarations) h.states; functions = functions } in
     subst (λ (P : tree.Program). (length P.types ≡ length names) × ProgramNamesTypesBelow (length P.types) P) is.made
     (many, subst (λ n. ProgramNamesTypesBelow n (program_of program is.functions)) (sym many) made)
 
 -- as many functions as are declared, with as many parameters
-signatures : (program : Program) (P : tree.Program) → Passed program P → map (signature_of (names_of program)) (functions_in program.declarations) ≡ map signature P.functions
+signatures : (program : Program) (P : tree.Program) → Passed program P
+    → map (signature_of (names_of program)) (functions_in program.declarations) ≡ map signature P.functions
 signatures program P is = (its_scope program P is).functions
 
-few_parameters : (names : List (List ℕ)) (fs : List FunctionSyntax) (gs : List Function) → map (signature_of names) fs ≡ map signature gs → All FewParameters fs → All (λ (g : Function). length g.parameters ≤ most_parameters) gs
+few_parameters : (names : List (List ℕ)) (fs : List FunctionSyntax) (gs : List Function) → map (signature_of names) fs ≡ map signature gs
+    → All FewParameters fs → All (λ (g : Function). length g.parameters ≤ most_parameters) gs
 few_parameters names [] [] same few = All-nil (λ (g : Function). length g.parameters ≤ most_parameters)
 few_parameters names [] (g ∷ gs) same few = absurd (cc)
 few_parameters names (f ∷ fs) [] same few = absurd (cc)
@@ -127,7 +140,13 @@ few_parameters names (f ∷ fs) (g ∷ gs) same few =
     let one : signature_of names f ≡ signature g = cc in
     let rest : map (signature_of names) fs ≡ map signature gs = cc in
     All-cons (λ (g : Function). length g.parameters ≤ most_parameters) g gs
-    (omega (arith, All-head FewParameters f fs few, ap (λ (s : Signature). length s.parameters) one, length-map f.parameters (λ (p : ParameterSyntax). type_meant names p.of_type)))
+    (omega (
+      arith,
+      All-head FewParameters f fs few,
+      ap (λ (s : Signature). length s.parameters) one,
+      length-map f.parameters
+          (λ (p : ParameterSyntax). type_meant names p.of_type),
+    ))
     (few_parameters names fs gs rest (All-tail FewParameters f fs few))
 
 pub checked_is_within_limits : CheckedIsWithinLimits
@@ -148,17 +167,20 @@ checked_is_within_limits program P sound =
     }
 
 -- a function that is new is none of those before
-new_is_none : (names before : List (List ℕ)) (fs : List FunctionSyntax) (k : ℕ) (s : Signature) → AreNew before fs → slice_get (map (signature_of names) fs) k ≡ Some s → is_among s.name before ≡ false
+new_is_none : (names before : List (List ℕ)) (fs : List FunctionSyntax) (k : ℕ) (s : Signature) → AreNew before fs
+    → slice_get (map (signature_of names) fs) k ≡ Some s → is_among s.name before ≡ false
 new_is_none names before [] k s new there = absurd (cc)
 new_is_none names before (f ∷ fs) zero s new there = let same : f.name.name ≡ s.name = cc in subst (λ name. is_among name before ≡ false) same new.0
-new_is_none names before (f ∷ fs) (suc k) s new there = or_false (bytes_eq f.name.name s.name) (is_among s.name before) (new_is_none names (f.name.name ∷ before) fs k s new.1 there)
+new_is_none names before (f ∷ fs) (suc k) s new there =
+    or_false (bytes_eq f.name.name s.name) (is_among s.name before) (new_is_none names (f.name.name ∷ before) fs k s new.1 there)
   where
     or_false : (a b : Bool) → a || b ≡ false → b ≡ false
     or_false true b h = absurd (cc)
     or_false false b h = h
 
 -- and so none that stands later
-later_is_other : (names before : List (List ℕ)) (f : FunctionSyntax) (fs : List FunctionSyntax) (k : ℕ) (s : Signature) → AreNew before (f ∷ fs) → slice_get (map (signature_of names) fs) k ≡ Some s → f.name.name ≡ s.name → ⊥
+later_is_other : (names before : List (List ℕ)) (f : FunctionSyntax) (fs : List FunctionSyntax) (k : ℕ) (s : Signature) → AreNew before (f ∷ fs)
+    → slice_get (map (signature_of names) fs) k ≡ Some s → f.name.name ≡ s.name → ⊥
 later_is_other names before f fs k s new there same =
     let none = new_is_none names (f.name.name ∷ before) fs k s new.1 there in
     let again : bytes_eq f.name.name s.name ≡ true = (bytes_eq-Decides f.name.name s.name).1 same in
@@ -170,7 +192,8 @@ names_differ names before [] k j s t new here there same = absurd (cc)
 names_differ names before (f ∷ fs) zero zero s t new here there same = refl
 names_differ names before (f ∷ fs) zero (suc j) s t new here there same = absurd (later_is_other names before f fs j t new there (cc))
 names_differ names before (f ∷ fs) (suc k) zero s t new here there same = absurd (later_is_other names before f fs k s new here (cc))
-names_differ names before (f ∷ fs) (suc k) (suc j) s t new here there same = ap suc (names_differ names (f.name.name ∷ before) fs k j s t new.1 here there same)
+names_differ names before (f ∷ fs) (suc k) (suc j) s t new here there same =
+    ap suc (names_differ names (f.name.name ∷ before) fs k j s t new.1 here there same)
 
 pub checked_names_differ : CheckedNamesDiffer
 checked_names_differ program P sound f g F G here there same =

@@ -18,7 +18,7 @@ gives_program (CheckFault kind line column) = false
 
 abbrev passes : Parsed → Bool
 passes (Tree program) = gives_program (checked program)
-passes (FirstFault kind line column) = false
+passes (FirstFault kind at) = false
 
 -- the program of a text, which is well-typed
 record HasTypedProgram (text : List ℕ) : Type 0 where
@@ -32,7 +32,8 @@ record HasTypedProgram (text : List ℕ) : Type 0 where
 by_law : (text : List ℕ) → passes (parsed whole_language text) ≡ true → HasTypedProgram text
 by_law text passed = of_tree (parsed whole_language text) refl passed
   where
-    of_program : (program : Program) (found : Checked) → parsed whole_language text ≡ Tree program → checked program ≡ found → gives_program found ≡ true → HasTypedProgram text
+    of_program : (program : Program) (found : Checked) → parsed whole_language text ≡ Tree program → checked program ≡ found
+        → gives_program found ≡ true → HasTypedProgram text
     of_program program (IsProgram P) tree given is =
         let (typed, shaped) = parsed_is_typed whole_language text program P tree given in
         record { program = program; P = P; has_tree = tree; has_program = given; typed = typed; shaped = shaped }
@@ -40,7 +41,7 @@ by_law text passed = of_tree (parsed whole_language text) refl passed
 
     of_tree : (found : Parsed) → parsed whole_language text ≡ found → passes found ≡ true → HasTypedProgram text
     of_tree (Tree program) tree is = of_program program (checked program) tree refl is
-    of_tree (FirstFault kind line column) tree is = absurd (cc)
+    of_tree (FirstFault kind at) tree is = absurd (cc)
 
 -- a list of named ints, newest first
 abbrev ledger : List ℕ

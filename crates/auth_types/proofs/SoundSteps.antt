@@ -1,6 +1,6 @@
 -- What holds of each sound answer of a step of a pass.
 use Rattle.std.proofs.Common.{◌≡◌, Bool, true, false, refl, subst}
-use Rattle.auth_syntax.specs.declared.place.Place.{Place}
+use Rattle.lexemes.specs.declared.place.Place.{Place}
 use Rattle.auth_types.specs.Checking.{Checking, Sound, FaultAt, then_checked, unless_fault}
 use Rattle.auth_types.specs.declared.fault.TypeKind.{TypeKind}
 
@@ -10,12 +10,14 @@ Gives Q (Sound value) = Q value
 Gives Q (FaultAt kind at) = Unit {0}
 
 -- a step after another
-pub gives_then : {A B : Type 0} (Q : A → Type 0) (R : B → Type 0) (found : Checking A) (go : A → Checking B) → Gives Q found → ((a : A) → Q a → Gives R (go a)) → Gives R (then_checked found go)
+pub gives_then : {A B : Type 0} (Q : A → Type 0) (R : B → Type 0) (found : Checking A) (go : A → Checking B) → Gives Q found
+    → ((a : A) → Q a → Gives R (go a)) → Gives R (then_checked found go)
 gives_then Q R (Sound a) go first second = second a first
 gives_then Q R (FaultAt kind at) go first second = tt
 
 -- a step behind a test
-pub gives_unless : {B : Type 0} (R : B → Type 0) (holds : Bool) (kind : TypeKind) (at : Place) (rest : Checking B) → (holds ≡ true → Gives R rest) → Gives R (unless_fault holds kind at rest)
+pub gives_unless : {B : Type 0} (R : B → Type 0) (holds : Bool) (kind : TypeKind) (at : Place) (rest : Checking B) → (holds ≡ true → Gives R rest)
+    → Gives R (unless_fault holds kind at rest)
 gives_unless R true kind at rest h = h refl
 gives_unless R false kind at rest h = tt
 
@@ -34,6 +36,7 @@ gives_any (Sound a) = tt
 gives_any (FaultAt kind at) = tt
 
 -- the steps of a sound answer are sound
-pub then_sound : {A B : Type 0} (found : Checking A) (go : A → Checking B) (b : B) → then_checked found go ≡ Sound b → (a : A) × (found ≡ Sound a) × (go a ≡ Sound b)
+pub then_sound : {A B : Type 0} (found : Checking A) (go : A → Checking B) (b : B) → then_checked found go ≡ Sound b → (a : A) × (found ≡ Sound a)
+    × (go a ≡ Sound b)
 then_sound (Sound a) go b is = (a, refl, is)
 then_sound (FaultAt kind at) go b is = absurd (cc)

@@ -27,7 +27,8 @@ among_has_number : (names : List (List ℕ)) (name : List ℕ) → is_among name
 among_has_number [] name among = absurd (cc)
 among_has_number (other ∷ names) name among = by (bytes_eq other name) (is_among name names) (λ e. among_has_number names name e) among
   where
-    by : (b rest : Bool) → (rest ≡ true → (i : ℕ) × (number_of names name ≡ Some i)) → b || rest ≡ true → (i : ℕ) × ((if b then Some 0 else option_map suc (number_of names name)) ≡ Some i)
+    by : (b rest : Bool) → (rest ≡ true → (i : ℕ) × (number_of names name ≡ Some i)) → b || rest ≡ true → (i : ℕ)
+        × ((if b then Some 0 else option_map suc (number_of names name)) ≡ Some i)
     by true rest later among = (zero, refl)
     by false rest later among = let (i, is) = later among in (suc i, ap (option_map suc) is)
 
@@ -45,17 +46,21 @@ module _ (names : List (List ℕ)) where
   known_below (BoolTypeSyntax at) = tt
   known_below (IntTypeSyntax at) = tt
   known_below (TextTypeSyntax at) = tt
-  known_below (NamedTypeSyntax at name) = gives_unless (λ _. Below (type_meant names (NamedTypeSyntax at name))) (is_among name names) UnknownName at (Sound tt) (λ among. named_below name among)
+  known_below (NamedTypeSyntax at name) =
+      gives_unless (λ _. Below (type_meant names (NamedTypeSyntax at name))) (is_among name names) UnknownName at (Sound tt)
+      (λ among. named_below name among)
   known_below (AuthTypeSyntax at t) = known_below t
   known_below (PairTypeSyntax at a b) =
       gives_then (λ _. Below (type_meant names a)) (λ _. Below (type_meant names (PairTypeSyntax at a b))) (known_type names a) _ (known_below a)
-      (λ _ h. gives_more (λ _. Below (type_meant names b)) (λ _. Below (type_meant names (PairTypeSyntax at a b))) (known_type names b) (λ _ j. (h, j)) (known_below b))
+      (λ _ h. gives_more (λ _. Below (type_meant names b)) (λ _. Below (type_meant names (PairTypeSyntax at a b))) (known_type names b)
+      (λ _ j. (h, j)) (known_below b))
 
   all_below : (ts : List TypeSyntax) → Gives (λ _. All Below (map (type_meant names) ts)) (known_types names ts)
   all_below [] = All-nil Below
   all_below (t ∷ ts) =
       gives_then (λ _. Below (type_meant names t)) (λ _. All Below (map (type_meant names) (t ∷ ts))) (known_type names t) _ (known_below t)
-      (λ _ h. gives_more (λ _. All Below (map (type_meant names) ts)) (λ _. All Below (map (type_meant names) (t ∷ ts))) (known_types names ts) (λ _ j. All-cons Below (type_meant names t) (map (type_meant names) ts) h j) (all_below ts))
+      (λ _ h. gives_more (λ _. All Below (map (type_meant names) ts)) (λ _. All Below (map (type_meant names) (t ∷ ts))) (known_types names ts)
+      (λ _ j. All-cons Below (type_meant names t) (map (type_meant names) ts) h j) (all_below ts))
 
   -- the rows of a type in the table
   abbrev pub rows_of : List ConstructorDeclaration → List (List Ty)
@@ -64,14 +69,19 @@ module _ (names : List (List ℕ)) where
   constructors_below : (cs : List ConstructorDeclaration) → Gives (λ _. All (All Below) (rows_of cs)) (known_constructors names cs)
   constructors_below [] = All-nil (All Below)
   constructors_below (c ∷ cs) =
-      gives_then (λ _. All Below (map (type_meant names) c.fields)) (λ _. All (All Below) (rows_of (c ∷ cs))) (known_types names c.fields) _ (all_below c.fields)
-      (λ _ h. gives_more (λ _. All (All Below) (rows_of cs)) (λ _. All (All Below) (rows_of (c ∷ cs))) (known_constructors names cs) (λ _ j. All-cons (All Below) (map (type_meant names) c.fields) (rows_of cs) h j) (constructors_below cs))
+      gives_then (λ _. All Below (map (type_meant names) c.fields)) (λ _. All (All Below) (rows_of (c ∷ cs))) (known_types names c.fields)
+      _ (all_below c.fields)
+      (λ _ h. gives_more (λ _. All (All Below) (rows_of cs)) (λ _. All (All Below) (rows_of (c ∷ cs))) (known_constructors names cs)
+      (λ _ j. All-cons (All Below) (map (type_meant names) c.fields) (rows_of cs) h j) (constructors_below cs))
 
   parameters_below : (ps : List ParameterSyntax) → Gives (λ _. All Below (parameter_types names ps)) (known_types names (map (λ p. p.of_type) ps))
   parameters_below [] = All-nil Below
   parameters_below (p ∷ ps) =
-      gives_then (λ _. Below (type_meant names p.of_type)) (λ _. All Below (parameter_types names (p ∷ ps))) (known_type names p.of_type) _ (known_below p.of_type)
-      (λ _ h. gives_more (λ _. All Below (parameter_types names ps)) (λ _. All Below (parameter_types names (p ∷ ps))) (known_types names (map (λ p. p.of_type) ps)) (λ _ j. All-cons Below (type_meant names p.of_type) (parameter_types names ps) h j) (parameters_below ps))
+      gives_then (λ _. Below (type_meant names p.of_type)) (λ _. All Below (parameter_types names (p ∷ ps))) (known_type names p.of_type)
+      _ (known_below p.of_type)
+      (λ _ h. gives_more (λ _. All Below (parameter_types names ps)) (λ _. All Below (parameter_types names (p ∷ ps)))
+      (known_types names (map (λ p. p.of_type) ps)) (λ _ j. All-cons Below (type_meant names p.of_type) (parameter_types names ps) h j)
+      (parameters_below ps))
 
   -- the types that a written function names
   abbrev pub SignatureBelow : FunctionSyntax → Type 0
@@ -79,8 +89,10 @@ module _ (names : List (List ℕ)) where
 
   signature_below : (f : FunctionSyntax) → Gives (λ _. SignatureBelow f) (known_signature names f)
   signature_below f =
-      gives_then (λ _. All Below (parameter_types names f.parameters)) (λ _. SignatureBelow f) (known_types names (map (λ p. p.of_type) f.parameters)) _ (parameters_below f.parameters)
-      (λ _ h. gives_more (λ _. Below (type_meant names f.result_type)) (λ _. SignatureBelow f) (known_type names f.result_type) (λ _ j. (h, j)) (known_below f.result_type))
+      gives_then (λ _. All Below (parameter_types names f.parameters)) (λ _. SignatureBelow f) (known_types names (map (λ p. p.of_type) f.parameters))
+      _ (parameters_below f.parameters)
+      (λ _ h. gives_more (λ _. Below (type_meant names f.result_type)) (λ _. SignatureBelow f) (known_type names f.result_type) (λ _ j. (h, j))
+      (known_below f.result_type))
 
   -- what declarations name
   pub record AreBelow (ds : List DeclarationSyntax) : Type 0 where
@@ -91,17 +103,25 @@ module _ (names : List (List ℕ)) where
   pub declarations_below : (ds : List DeclarationSyntax) → Gives (λ _. AreBelow ds) (known_declarations names ds)
   declarations_below [] = record { table = All-nil (All (All Below)); states = All-nil Below; functions = All-nil SignatureBelow }
   declarations_below (TypeDeclaration at name cs ∷ ds) =
-      gives_then (λ _. All (All Below) (rows_of cs)) (λ _. AreBelow (TypeDeclaration at name cs ∷ ds)) (known_constructors names cs) _ (constructors_below cs)
+      gives_then (λ _. All (All Below) (rows_of cs)) (λ _. AreBelow (TypeDeclaration at name cs ∷ ds)) (known_constructors names cs)
+      _ (constructors_below cs)
       (λ _ h. gives_more (λ _. AreBelow ds) (λ _. AreBelow (TypeDeclaration at name cs ∷ ds)) (known_declarations names ds)
-      (λ _ j. record { table = All-cons (All (All Below)) (rows_of cs) (table_of names ds) h j.table; states = j.states; functions = j.functions }) (declarations_below ds))
+      (λ _ j. record { table = All-cons (All (All Below)) (rows_of cs) (table_of names ds) h j.table; states = j.states; functions = j.functions })
+      (declarations_below ds))
   declarations_below (StateDeclaration at t ∷ ds) =
       gives_then (λ _. Below (type_meant names t)) (λ _. AreBelow (StateDeclaration at t ∷ ds)) (known_type names t) _ (known_below t)
       (λ _ h. gives_more (λ _. AreBelow ds) (λ _. AreBelow (StateDeclaration at t ∷ ds)) (known_declarations names ds)
-      (λ _ j. record { table = j.table; states = All-cons Below (type_meant names t) (map (type_meant names) (states_in ds)) h j.states; functions = j.functions }) (declarations_below ds))
+      (λ _ j. record {
+        table = j.table;
+        states = All-cons Below (type_meant names t) (map (type_meant names) (states_in ds)) h j.states;
+        functions =
+            j.functions;
+      }) (declarations_below ds))
   declarations_below (FunctionDeclaration at f ∷ ds) =
       gives_then (λ _. SignatureBelow f) (λ _. AreBelow (FunctionDeclaration at f ∷ ds)) (known_signature names f) _ (signature_below f)
       (λ _ h. gives_more (λ _. AreBelow ds) (λ _. AreBelow (FunctionDeclaration at f ∷ ds)) (known_declarations names ds)
-      (λ _ j. record { table = j.table; states = j.states; functions = All-cons SignatureBelow f (functions_in ds) h j.functions }) (declarations_below ds))
+      (λ _ j. record { table = j.table; states = j.states; functions = All-cons SignatureBelow f (functions_in ds) h j.functions })
+      (declarations_below ds))
 
   -- the state that is declared first
   pub state_below : (ts : List TypeSyntax) → All Below (map (type_meant names) ts) → Below (first_state names ts)
@@ -109,9 +129,11 @@ module _ (names : List (List ℕ)) where
   state_below (t ∷ ts) h = All-head Below (type_meant names t) (map (type_meant names) ts) h
 
   -- the functions that are made name the types that are written
-  pub functions_below : (scope : Scope) (fs : List FunctionSyntax) → All SignatureBelow fs → Gives (λ gs. All (FunctionNamesTypesBelow (length names)) gs) (checked_functions names scope fs)
+  pub functions_below : (scope : Scope) (fs : List FunctionSyntax) → All SignatureBelow fs
+      → Gives (λ gs. All (FunctionNamesTypesBelow (length names)) gs) (checked_functions names scope fs)
   functions_below scope =
       let Q : Function → Type 0 = FunctionNamesTypesBelow (length names) in
       each_made names scope SignatureBelow Q
-      (λ f h. gives_then (λ x. Unit {0}) Q (of_its_type names scope f) _ (gives_any (of_its_type names scope f)) (λ x _. record { parameters = h.0; result = h.1 }))
+      (λ f h. gives_then (λ x. Unit {0}) Q (of_its_type names scope f) _ (gives_any (of_its_type names scope f))
+      (λ x _. record { parameters = h.0; result = h.1 }))
       (All Q) (All-nil Q) (λ g gs here others. All-cons Q g gs here others)

@@ -30,7 +30,8 @@ numbers_stay types more (id ∷ ids) (t ∷ ts) h =
     cc
 
 -- the type with one of these numbers
-pub number_at : (types : List Ty) (ids : List TyId) (ts : List Ty) (i : ℕ) (d : TyId) → AreNumbers types ids ts → i < length ts → slice_get types (slice_index_or ids i d).0 ≡ Some (slice_index_or ts i UnitTy)
+pub number_at : (types : List Ty) (ids : List TyId) (ts : List Ty) (i : ℕ) (d : TyId) → AreNumbers types ids ts → i < length ts
+    → slice_get types (slice_index_or ids i d).0 ≡ Some (slice_index_or ts i UnitTy)
 number_at types [] [] i d h inside = absurd (omega arith)
 number_at types [] (t ∷ ts) i d h inside = absurd (cc)
 number_at types (id ∷ ids) [] i d h inside = absurd (cc)
@@ -70,14 +71,18 @@ pub numbers_grow : (a b : List Ty) (ids : List TyId) (ts : List Ty) → Grows a 
 numbers_grow a b ids ts (m, e) h = subst (λ l. AreNumbers l ids ts) (sym e) (numbers_stay a m ids ts h)
 
 -- what is shown over a table is shown over a larger one, and over the table itself
-pub shows_grow : {A B : Type 0} (a b : List Ty) (view : List Ty → A → B) (found : Checking B) (value : A) → Grows a b → Shows a view found value → Shows b view found value
-shows_grow a b view found value (m, g) h = λ more. h (m ++ more) ∙ ap (λ l. Sound (view l value)) (sym (ap (λ l. l ++ more) g ∙ append_assoc a m more))
+pub shows_grow : {A B : Type 0} (a b : List Ty) (view : List Ty → A → B) (found : Checking B) (value : A) → Grows a b → Shows a view found value
+    → Shows b view found value
+shows_grow a b view found value (m, g) h =
+    λ more. h (m ++ more) ∙ ap (λ l. Sound (view l value)) (sym (ap (λ l. l ++ more) g ∙ append_assoc a m more))
 
-pub shows_now : {A B : Type 0} (types : List Ty) (view : List Ty → A → B) (found : Checking B) (value : A) → Shows types view found value → found ≡ Sound (view types value)
+pub shows_now : {A B : Type 0} (types : List Ty) (view : List Ty → A → B) (found : Checking B) (value : A) → Shows types view found value
+    → found ≡ Sound (view types value)
 shows_now types view found value h = h [] ∙ ap (λ l. Sound (view l value)) (append-nil types)
 
 -- one number more, of one type more
-pub numbers_push : (types : List Ty) (ids : List TyId) (ts : List Ty) (id : TyId) (t : Ty) → AreNumbers types ids ts → slice_get types id.0 ≡ Some t → AreNumbers types (ids ++ id ∷ []) (ts ++ t ∷ [])
+pub numbers_push : (types : List Ty) (ids : List TyId) (ts : List Ty) (id : TyId) (t : Ty) → AreNumbers types ids ts → slice_get types id.0 ≡ Some t
+    → AreNumbers types (ids ++ id ∷ []) (ts ++ t ∷ [])
 numbers_push types [] [] id t h e = cc
 numbers_push types [] (u ∷ ts) id t h e = absurd (cc)
 numbers_push types (i ∷ ids) [] id t h e = absurd (cc)

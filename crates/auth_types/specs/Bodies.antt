@@ -1,15 +1,14 @@
 -- The fourth pass: the bodies of functions. A part's type is compared as soon as the part is checked; the fault stands at the part's first
 -- token.
 use Rattle.std.specs.Prelude.{ℕ, suc, ◌+◌, Bool, true, false, List, [], ◌∷◌, ◌++◌, length, map, Option, Some, None, slice_get, slice_index_or, unwrap_or, nat_eq, nat_lt, bytes_eq, if◌then◌else◌}
+use Rattle.core_terms.specs.declared.language.term.BinaryOperator.TheVariants.{Arith, Compare, TextCompare, Cat}
+use Rattle.core_terms.specs.declared.language.term.BinaryOperator.{BinaryOperator}
 use Rattle.core_terms.specs.Types.{Ty, UnitTy, BoolTy, IntTy, TextTy, PairTy, NamedTy, AuthTy, Table, fields_at}
 use Rattle.core_terms.specs.Terms.{Expression, UnitE, BoolE, IntE, TextE, LocalE, PairE, FstE, SndE, NotE, LenE, AuthE, UnauthE, ConE, ArithE, CompareE, TextCompareE, CatE, LetE, IfE, MatchE, CallE, Expressions, NoE, AndE, Arms, NoArm, AndArm}
-use Rattle.core_terms.specs.declared.language.term.Arith.TheVariants.{Add, Sub, Mul, Div, Rem}
-use Rattle.core_terms.specs.declared.language.term.Compare.TheVariants.{Eq, Lt, Le}
-use Rattle.core_terms.specs.declared.language.term.TextCompare.TheVariants.{Eq as TEq, Lt as TLt}
 use Rattle.core_terms.specs.Terms as tree
 use Rattle.core_terms.specs.Typing.{same_type}
-use Rattle.auth_syntax.specs.declared.place.Place.{Place}
-use Rattle.auth_syntax.specs.Syntax.{NameSyntax, ExpSyntax, UnitSyntax, BoolSyntax, IntSyntax, TextSyntax, LocalSyntax, PairSyntax, UnarySyntax, BinarySyntax, CallSyntax, ConstructorSyntax, LetSyntax, IfSyntax, MatchSyntax, ExpsSyntax, NoExp, AndExp, ArmsSyntax, NoArmSyntax, AndArmSyntax, UnaryOperation, FstOperation, SndOperation, AuthOperation, UnauthOperation, LenOperation, NotOperation, BinaryOperation, AddOperation, SubOperation, MulOperation, DivOperation, RemOperation, EqOperation, LtOperation, LeOperation, TeqOperation, TltOperation, CatOperation, FunctionSyntax, ParameterSyntax, place_of}
+use Rattle.lexemes.specs.declared.place.Place.{Place}
+use Rattle.auth_syntax.specs.Syntax.{NameSyntax, ExpSyntax, UnitSyntax, BoolSyntax, IntSyntax, TextSyntax, LocalSyntax, PairSyntax, UnarySyntax, BinarySyntax, CallSyntax, ConstructorSyntax, LetSyntax, IfSyntax, MatchSyntax, ExpsSyntax, NoExp, AndExp, ArmsSyntax, NoArmSyntax, AndArmSyntax, UnaryOperation, FstOperation, SndOperation, AuthOperation, UnauthOperation, LenOperation, NotOperation, FunctionSyntax, ParameterSyntax, place_of}
 use Rattle.auth_types.specs.Checking.{Checking, Sound, FaultAt, then_checked, unless_fault, is_among}
 use Rattle.auth_types.specs.WrittenTypes.{number_of, type_meant}
 use Rattle.auth_types.specs.RoleRules.{kind_meant}
@@ -105,35 +104,25 @@ unary LenOperation at operand = then_checked (wanted at TextTy operand) (λ e. t
 unary NotOperation at operand = then_checked (wanted at BoolTy operand) (λ e. typed (NotE e) BoolTy)
 
 -- an operation on two operands: their type, the type of the result, and the expression
-abbrev pub operand_type : BinaryOperation → Ty
-operand_type TeqOperation = TextTy
-operand_type TltOperation = TextTy
-operand_type CatOperation = TextTy
-operand_type operation = IntTy
+abbrev pub operand_type : BinaryOperator → Ty
+operand_type (Arith operation) = IntTy
+operand_type (Compare operation) = IntTy
+operand_type (TextCompare operation) = TextTy
+operand_type Cat = TextTy
 
-abbrev pub result_type : BinaryOperation → Ty
-result_type EqOperation = BoolTy
-result_type LtOperation = BoolTy
-result_type LeOperation = BoolTy
-result_type TeqOperation = BoolTy
-result_type TltOperation = BoolTy
-result_type CatOperation = TextTy
-result_type operation = IntTy
+abbrev pub result_type : BinaryOperator → Ty
+result_type (Arith operation) = IntTy
+result_type (Compare operation) = BoolTy
+result_type (TextCompare operation) = BoolTy
+result_type Cat = TextTy
 
-abbrev pub binary_expression : BinaryOperation → Expression → Expression → Expression
-binary_expression AddOperation x y = ArithE Add x y
-binary_expression SubOperation x y = ArithE Sub x y
-binary_expression MulOperation x y = ArithE Mul x y
-binary_expression DivOperation x y = ArithE Div x y
-binary_expression RemOperation x y = ArithE Rem x y
-binary_expression EqOperation x y = CompareE Eq x y
-binary_expression LtOperation x y = CompareE Lt x y
-binary_expression LeOperation x y = CompareE Le x y
-binary_expression TeqOperation x y = TextCompareE TEq x y
-binary_expression TltOperation x y = TextCompareE TLt x y
-binary_expression CatOperation x y = CatE x y
+abbrev pub binary_expression : BinaryOperator → Expression → Expression → Expression
+binary_expression (Arith operation) x y = ArithE operation x y
+binary_expression (Compare operation) x y = CompareE operation x y
+binary_expression (TextCompare operation) x y = TextCompareE operation x y
+binary_expression Cat x y = CatE x y
 
-abbrev pub binary : BinaryOperation → Place → Checking Typed → Place → Checking Typed → Checking Typed
+abbrev pub binary : BinaryOperator → Place → Checking Typed → Place → Checking Typed → Checking Typed
 binary operation at first place second =
     then_checked (wanted at (operand_type operation) first) (λ x.
     then_checked (wanted place (operand_type operation) second) (λ y.

@@ -1,10 +1,11 @@
 -- Which rule an expression breaks first, and at which place: what is judged before has its type, and at that place the rule is broken.
 use Rattle.std.specs.Prelude.{◌≡◌, ℕ, ◌≤◌, ◌<◌, ◌+◌, List, [], ◌∷◌, length, map, Option, Some, None}
 use Rattle.std.specs.List.{Contains}
+use Rattle.core_terms.specs.declared.language.term.BinaryOperator.{BinaryOperator}
 use Rattle.core_terms.specs.Types.{Ty, BoolTy, TextTy, PairTy, NamedTy, AuthTy}
 use Rattle.core_terms.specs.Terms.{Expression}
-use Rattle.auth_syntax.specs.declared.place.Place.{Place}
-use Rattle.auth_syntax.specs.Syntax.{NameSyntax, ExpSyntax, LocalSyntax, PairSyntax, UnarySyntax, BinarySyntax, CallSyntax, ConstructorSyntax, LetSyntax, IfSyntax, MatchSyntax, ExpsSyntax, AndExp, ArmsSyntax, AndArmSyntax, UnaryOperation, FstOperation, SndOperation, UnauthOperation, LenOperation, NotOperation, BinaryOperation, place_of}
+use Rattle.lexemes.specs.declared.place.Place.{Place}
+use Rattle.auth_syntax.specs.Syntax.{NameSyntax, ExpSyntax, LocalSyntax, PairSyntax, UnarySyntax, BinarySyntax, CallSyntax, ConstructorSyntax, LetSyntax, IfSyntax, MatchSyntax, ExpsSyntax, AndExp, ArmsSyntax, AndArmSyntax, UnaryOperation, FstOperation, SndOperation, UnauthOperation, LenOperation, NotOperation, place_of}
 use Rattle.auth_types.specs.Bodies.{Local, Scope, Signature, arm_names, count_of, most_locals}
 use Rattle.auth_types.specs.InOrder.{NoneFits, OneBreaks}
 use Rattle.auth_types.specs.TypingRules.{Operates, NamesLocal, NamesFunction, NamesConstructor, constructor_names, constructor_fields, field_types, with_local, with_fields, MayBind, MayBindAll, Elaborates, ElaborateEach}
@@ -28,7 +29,7 @@ pub data BreaksName (locals : List Local) : List NameSyntax → NameSyntax → T
       → BreaksName locals before name Twice name.at
   LocalTooMany : {before : List NameSyntax} {name : NameSyntax}
       → (Contains (map (λ (n : NameSyntax). n.name) before) name.name → ⊥) → most_locals ≤ length locals + length before
-          → BreaksName locals before name (Limit Locals) name.at
+      → BreaksName locals before name (Limit Locals) name.at
 
 -- one of the names of a pattern does
 abbrev pub BreaksNames : List Local → List NameSyntax → TypeKind → Place → Type 0
@@ -62,10 +63,10 @@ mutual
         → Elaborates scope locals operand x t → (t ≡ TextTy → ⊥) → Breaks scope locals (UnarySyntax at LenOperation operand) WrongType (place_of operand)
     NotOfNoBool : {locals : List Local} {at : Place} {operand : ExpSyntax} {x : Expression} {t : Ty}
         → Elaborates scope locals operand x t → (t ≡ BoolTy → ⊥) → Breaks scope locals (UnarySyntax at NotOperation operand) WrongType (place_of operand)
-    InLeft : {locals : List Local} {at : Place} {operation : BinaryOperation} {first second : ExpSyntax} {t r : Ty} {made : Expression → Expression
+    InLeft : {locals : List Local} {at : Place} {operation : BinaryOperator} {first second : ExpSyntax} {t r : Ty} {made : Expression → Expression
         → Expression} {kind : TypeKind} {place : Place}
         → Operates operation t r made → Misfits scope locals t first kind place → Breaks scope locals (BinarySyntax at operation first second) kind place
-    InRight : {locals : List Local} {at : Place} {operation : BinaryOperation} {first second : ExpSyntax} {x : Expression} {t r : Ty}
+    InRight : {locals : List Local} {at : Place} {operation : BinaryOperator} {first second : ExpSyntax} {x : Expression} {t r : Ty}
         {made : Expression → Expression → Expression} {kind : TypeKind} {place : Place}
         → Operates operation t r made → Elaborates scope locals first x t → Misfits scope locals t second kind place
         → Breaks scope locals (BinarySyntax at operation first second) kind place
@@ -127,7 +128,7 @@ mutual
         → Misfits scope locals t expression kind place → OneMisfits scope locals (t ∷ ts) (AndExp expression rest) kind place
     LaterMisfits : {locals : List Local} {t : Ty} {ts : List Ty} {expression : ExpSyntax} {rest : ExpsSyntax} {x : Expression} {kind : TypeKind} {place : Place}
         → Elaborates scope locals expression x t → OneMisfits scope locals ts rest kind place
-            → OneMisfits scope locals (t ∷ ts) (AndExp expression rest) kind place
+        → OneMisfits scope locals (t ∷ ts) (AndExp expression rest) kind place
 
   -- the body of an arm, of which the type of the bodies before it is wanted, where there are some
   pub data BodyBreaks (scope : Scope) : List Local → Option Ty → ExpSyntax → TypeKind → Place → Type 0 where

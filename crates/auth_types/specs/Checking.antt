@@ -1,6 +1,6 @@
 -- What checking a part of a program gives: what it stands for, or its first fault.
 use Rattle.std.specs.Prelude.{ℕ, Bool, true, false, ◌||◌, List, [], ◌∷◌, length, bytes_eq, nat_lt, if◌then◌else◌}
-use Rattle.auth_syntax.specs.declared.place.Place.{Place}
+use Rattle.lexemes.specs.declared.place.Place.{Place}
 use Rattle.auth_syntax.specs.Syntax.{NameSyntax}
 use Rattle.auth_types.specs.declared.fault.TypeKind.{TypeKind}
 use Rattle.auth_types.specs.declared.fault.TypeKind.TheVariants.{Twice, Limit}

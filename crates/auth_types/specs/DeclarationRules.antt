@@ -3,7 +3,7 @@
 use Rattle.std.specs.Prelude.{◌≡◌, ℕ, ◌<◌, ◌≤◌, List, [], ◌∷◌, ◌++◌, length, map}
 use Rattle.std.specs.List.{Contains}
 use Rattle.core_terms.specs.Types.{Ty, PairTy, NamedTy, AuthTy, Table, fields_at}
-use Rattle.auth_syntax.specs.declared.place.Place.{Place}
+use Rattle.lexemes.specs.declared.place.Place.{Place}
 use Rattle.auth_syntax.specs.Syntax.{NameSyntax, TypeSyntax, NamedTypeSyntax, AuthTypeSyntax, PairTypeSyntax, place_of_type, ParameterSyntax, KindSyntax, InnerSyntax, InitSyntax, QuerySyntax, UpdateSyntax, FunctionSyntax, ConstructorDeclaration, DeclarationSyntax, TypeDeclaration, StateDeclaration, FunctionDeclaration, Program}
 use Rattle.auth_types.specs.Declarations.{most_types, most_constructors, most_fields, most_functions, most_parameters}
 use Rattle.auth_types.specs.WrittenTypes.{type_names, functions_in, states_in}
@@ -82,12 +82,12 @@ pub data BreaksDeclaration (before : List DeclarationSyntax) : DeclarationSyntax
       → BreaksSpace (type_names before) most_types Types name kind place → BreaksDeclaration before (TypeDeclaration at name constructors) kind place
   InConstructors : {at : Place} {name : NameSyntax} {constructors : List ConstructorDeclaration} {kind : TypeKind} {place : Place}
       → MayStand (type_names before) most_types name.name
-          → OneBreaks (MayConstruct (constructor_names_in before)) (BreaksConstructor (constructor_names_in before)) [] constructors kind place
+      → OneBreaks (MayConstruct (constructor_names_in before)) (BreaksConstructor (constructor_names_in before)) [] constructors kind place
       → BreaksDeclaration before (TypeDeclaration at name constructors) kind place
   StateTwice : {at : Place} {of_type : TypeSyntax} → (states_in before ≡ [] → ⊥) → BreaksDeclaration before (StateDeclaration at of_type) Twice at
   InFunctionName : {at : Place} {function : FunctionSyntax} {kind : TypeKind} {place : Place}
       → BreaksSpace (function_names before) most_functions Functions function.name kind place
-          → BreaksDeclaration before (FunctionDeclaration at function) kind place
+      → BreaksDeclaration before (FunctionDeclaration at function) kind place
   InParameters : {at : Place} {function : FunctionSyntax} {kind : TypeKind} {place : Place}
       → MayStand (function_names before) most_functions function.name.name → OneBreaks MayHaveParameter BreaksParameter [] function.parameters kind place
       → BreaksDeclaration before (FunctionDeclaration at function) kind place

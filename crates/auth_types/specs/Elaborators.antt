@@ -15,7 +15,7 @@ use Rattle.core_terms.specs.declared.language.term.Constructor.{Constructor}
 use Rattle.core_terms.specs.declared.language.term.Function.{Function}
 use Rattle.auth_syntax.specs.Syntax.{ExpSyntax, ExpsSyntax, ArmsSyntax, place_of}
 use Rattle.auth_syntax.specs.Trees as written
-use Rattle.auth_syntax.specs.declared.place.Place.{Place}
+use Rattle.lexemes.specs.declared.place.Place.{Place}
 use Rattle.auth_syntax.specs.declared.tree.ExpTree.{ExpTree}
 use Rattle.auth_types.specs.Checking.{Checking, Sound, FaultAt, then_checked, unless_fault}
 use Rattle.auth_types.specs.Bodies.{Local, Numbered, Scope, Signature, Typed, TypedArms, bound_names, called, constructed, elaborated, elaborated_arms, elaborated_each, matched, typed, wanted_arm}
@@ -23,12 +23,12 @@ use Rattle.auth_types.specs.Scopes.{scope_meant}
 use Rattle.auth_types.specs.Locals.{locals_meant}
 use Rattle.auth_types.specs.OverTypes.{Grows}
 use Rattle.auth_types.specs.declared.fault.TypeKind.TheVariants.{WrongCount}
-use Rattle.auth_types.specs.declared.fault.Fault.{Fault}
-use Rattle.auth_types.specs.declared.fault.Fault.TheVariants.{At, NoMemory}
+use Rattle.core_terms.specs.declared.fault.Fault.TheVariants.{At, NoMemory}
 use Rattle.auth_types.specs.declared.scope.ConstructorId.{ConstructorId}
 use Rattle.auth_types.specs.declared.bodies.Typed.{Typed as TypedTerm}
 use Rattle.auth_types.specs.declared.bodies.TypedArms.{TypedArms as TypedBodies}
 use Rattle.auth_types.specs.declared.bodies.elaborator.Elaborator.{Elaborator}
+use Rattle.auth_types.specs.Outcomes.{TypeFault}
 
 -- the types by number, the scope and the locals where an elaborator stands
 abbrev pub types_of : Elaborator → List Ty
@@ -73,21 +73,21 @@ abbrev pub arms_of : List Ty → TypedBodies → TypedArms
 arms_of types arms = record { arms = arms_in_a_row (map (expression_of types) arms.bodies.items); of_type = type_at types arms.ty }
 
 -- the function that a call names, where its arguments are as many as the function's parameters
-abbrev pub Calls : Place → ℕ → Option (Numbered Signature) → (FunctionId → Numbered Signature) → Result FunctionId Fault → Type 0
+abbrev pub Calls : Place → ℕ → Option (Numbered Signature) → (FunctionId → Numbered Signature) → Result FunctionId TypeFault → Type 0
 Calls at count found meant (Ok id) = (arguments : List Ty → Checking Expressions)
     → called at count found arguments ≡ then_checked (arguments (meant id).value.parameters) (λ es. typed (CallE id.0 es) (meant id).value.result)
 Calls at count found meant (Err (At kind place)) = (arguments : List Ty → Checking Expressions) → called at count found arguments ≡ FaultAt kind place
 Calls at count found meant (Err NoMemory) = ⊤
 
 -- the constructor of a name, where its fields are as many as they should be
-abbrev pub Constructs : Place → ℕ → Table → Option (Numbered ℕ) → Result ConstructorId Fault → Type 0
+abbrev pub Constructs : Place → ℕ → Table → Option (Numbered ℕ) → Result ConstructorId TypeFault → Type 0
 Constructs at count table found (Ok id) = (fields : List Ty → Checking Expressions)
     → constructed at count table found fields ≡ then_checked (fields (unwrap_or (fields_at table id.named.0 id.tag.0) [])) (λ es. typed (ConE id.named.0 id.tag.0 es) (NamedTy id.named.0))
 Constructs at count table found (Err (At kind place)) = (fields : List Ty → Checking Expressions) → constructed at count table found fields ≡ FaultAt kind place
 Constructs at count table found (Err NoMemory) = ⊤
 
 -- the named type of what is matched, whose constructors are those of the arms
-abbrev pub Matches : Scope → Place → Place → Ty → List (List ℕ) → Result NamedId Fault → Type 0
+abbrev pub Matches : Scope → Place → Place → Ty → List (List ℕ) → Result NamedId TypeFault → Type 0
 Matches scope at subject t names (Ok named) = (e : Expression) (arms : List (List Ty) → Checking TypedArms)
     → matched scope at subject e t names arms ≡ then_checked (arms (unwrap_or (slice_get scope.table named.0) [])) (λ typed_arms. typed (MatchE named.0 e typed_arms.arms) typed_arms.of_type)
 Matches scope at subject t names (Err (At kind place)) = (e : Expression) (arms : List (List Ty) → Checking TypedArms) → matched scope at subject e t names arms ≡ FaultAt kind place

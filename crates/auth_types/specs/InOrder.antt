@@ -1,7 +1,7 @@
 -- Things in a row: the first and the last of them that fit, and rules that each is judged by behind those that stand before it.
 use Rattle.std.specs.Prelude.{◌≡◌, ℕ, suc, List, [], ◌∷◌, ◌++◌, Some, slice_get, take, drop}
 use Rattle.std.specs.List.{All}
-use Rattle.auth_syntax.specs.declared.place.Place.{Place}
+use Rattle.lexemes.specs.declared.place.Place.{Place}
 use Rattle.auth_types.specs.declared.fault.TypeKind.{TypeKind}
 
 -- none of these fits

@@ -8,7 +8,6 @@ pub mod Outcomes
 pub mod ScopeNames
 pub mod DeclaredNames
 pub mod OverTypes
-pub mod FragmentBodies
 pub mod Scopes
 pub mod Numbering
 pub mod Passes
@@ -21,3 +20,6 @@ pub mod TypingRules
 pub mod BrokenRules
 pub mod TypingLaws
 pub mod DeclarationRules
+pub mod RoleShapes
+pub mod ProgramRules
+pub mod WrittenTypeRules

@@ -4,13 +4,10 @@ use Rattle.std.specs.List.{AllZip}
 use Rattle.core_terms.specs.Types.{Ty}
 use Rattle.core_terms.specs.declared.language.term.Constructor.{Constructor}
 use Rattle.core_terms.specs.declared.language.term.NamedType.{NamedType}
-use Rattle.auth_syntax.specs.Syntax.{FunctionSyntax, ConstructorDeclaration, DeclarationSyntax, NameSyntax, TypeDeclaration, TypeSyntax}
+use Rattle.auth_syntax.specs.Syntax.{FunctionSyntax, ConstructorDeclaration, DeclarationSyntax, NameSyntax, TypeDeclaration}
 use Rattle.auth_syntax.specs.Trees as written
-use Rattle.auth_syntax.specs.declared.place.Place.{Place}
-use Rattle.auth_types.specs.Checking.{Checking, Sound, FaultAt}
 use Rattle.auth_types.specs.OverTypes.{AreNumbers}
 use Rattle.auth_types.specs.WrittenTypes.{type_meant}
-use Rattle.auth_types.specs.declared.fault.TypeKind.TheVariants.{NoState}
 use Rattle.auth_types.specs.declared.scope.Head.{Head}
 
 -- a named type that is declared, with its constructors

@@ -7,15 +7,15 @@ use Rattle.auth_syntax.specs.Trees as written
 use Rattle.auth_syntax.specs.declared.tree.Declaration.{Declaration}
 use Rattle.auth_types.specs.Checking.{Checking, Sound, FaultAt}
 use Rattle.auth_types.specs.WrittenTypes.{functions_in}
-use Rattle.auth_types.specs.declared.fault.Fault.{Fault}
-use Rattle.auth_types.specs.declared.fault.Fault.TheVariants.{At, NoMemory}
+use Rattle.auth_types.specs.Outcomes.{TypeFault}
+use Rattle.core_terms.specs.declared.fault.Fault.TheVariants.{At, NoMemory}
 
 -- the value shows what is found, over these types and over any with more behind them
 abbrev pub Shows : {A B : Type 0} → List Ty → (List Ty → A → B) → Checking B → A → Type 0
 Shows types view found value = (more : List Ty) → found ≡ Sound (view (types ++ more) value)
 
 -- Ok shows what a part stands for; a refusal gives its first fault
-abbrev pub FindsOver : {A B : Type 0} → List Ty → (List Ty → A → B) → Checking B → Result A Fault → Type 0
+abbrev pub FindsOver : {A B : Type 0} → List Ty → (List Ty → A → B) → Checking B → Result A TypeFault → Type 0
 FindsOver types view found (Ok value) = Shows types view found value
 FindsOver types view found (Err (At kind at)) = found ≡ FaultAt kind at
 FindsOver types view found (Err NoMemory) = ⊤

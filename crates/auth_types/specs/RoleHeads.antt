@@ -3,18 +3,17 @@ use Rattle.std.specs.Prelude.{◌≡◌, ℕ, Bool, not, List, [], ◌∷◌, Re
 use Rattle.core_terms.specs.Types.{Ty, Table}
 use Rattle.auth_syntax.specs.Syntax.{FunctionSyntax, KindSyntax, ParameterSyntax, place_of_type}
 use Rattle.auth_syntax.specs.Trees as written
-use Rattle.auth_syntax.specs.declared.place.Place.{Place}
+use Rattle.lexemes.specs.declared.place.Place.{Place}
 use Rattle.auth_types.specs.Checking.{Checking, Sound, unless_fault}
 use Rattle.auth_types.specs.CheckedPrograms.{signature_of}
-use Rattle.auth_types.specs.Outcomes.{Finds}
+use Rattle.auth_types.specs.Outcomes.{Finds, TypeFault}
 use Rattle.auth_types.specs.RoleRules.{checked_role}
 use Rattle.auth_types.specs.Scopes.{signature_meant}
-use Rattle.auth_types.specs.declared.fault.Fault.{Fault}
 use Rattle.auth_types.specs.declared.fault.TypeKind.TheVariants.{AuthInArgument, RoleShape}
 use Rattle.auth_types.specs.declared.scope.Head.{Head}
 
 -- the answer for the function as a role of this kind, where its types stand for those that are written
-abbrev pub FindsRole : List Ty → Table → Ty → KindSyntax → Head → Result (Unit {0}) Fault → Type 0
+abbrev pub FindsRole : List Ty → Table → Ty → KindSyntax → Head → Result (Unit {0}) TypeFault → Type 0
 FindsRole types table state kind head answer =
     (names : List (List ℕ)) → signature_meant types head ≡ signature_of names (written.function_of head.function.now)
     → Finds (λ _. tt) (checked_role names table state (written.function_of head.function.now) kind (written.parameters_of head.function.now.parameters)) answer

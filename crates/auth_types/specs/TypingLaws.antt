@@ -1,13 +1,16 @@
 -- The laws that say which trees pass, and what a fault that is told says.
-use Rattle.std.specs.Prelude.{◌≡◌, ◌↔◌, List, length, map}
+use Rattle.std.specs.Prelude.{◌≡◌, ◌↔◌, ℕ, List, length, map}
 use Rattle.core_terms.specs.Types.{Ty}
 use Rattle.core_terms.specs.Terms.{Expression}
-use Rattle.auth_syntax.specs.Syntax.{ExpSyntax}
-use Rattle.auth_syntax.specs.declared.place.Place.{Place}
+use Rattle.core_terms.specs.Terms as tree
+use Rattle.auth_syntax.specs.Syntax.{ExpSyntax, Program}
+use Rattle.lexemes.specs.declared.place.Place.{Place}
 use Rattle.auth_types.specs.Checking.{Sound, FaultAt}
 use Rattle.auth_types.specs.Bodies.{Local, Scope, elaborated}
 use Rattle.auth_types.specs.TypingRules.{Elaborates}
 use Rattle.auth_types.specs.BrokenRules.{Breaks}
+use Rattle.auth_types.specs.CheckedPrograms.{FirstFault, IsProgram, checked}
+use Rattle.auth_types.specs.ProgramRules.{BreaksProgram, Denotes}
 use Rattle.auth_types.specs.declared.fault.TypeKind.{TypeKind}
 
 -- each constructor of a scope has its name and its fields
@@ -25,3 +28,13 @@ abbrev pub TellsWhatBreaks : Type 0
 TellsWhatBreaks =
     (scope : Scope) → IsWhole scope → (locals : List Local) (tree : ExpSyntax) (kind : TypeKind) (at : Place)
     → (elaborated scope locals tree ≡ FaultAt kind at) ↔ Breaks scope locals tree kind at
+
+-- A tree passes exactly where it stands for a program.
+abbrev pub DenotesWhatPasses : Type 0
+DenotesWhatPasses = (program : Program) (P : tree.Program) → (checked program ≡ IsProgram P) ↔ Denotes program P
+
+-- A fault is told of a tree exactly where it is the first of the first pass that has one: at a place of this line and column.
+abbrev pub TellsTheFirst : Type 0
+TellsTheFirst =
+    (program : Program) (kind : TypeKind) (line column : ℕ)
+    → (checked program ≡ FirstFault kind line column) ↔ ((at : Place) × (at.line ≡ line) × (at.column ≡ column) × BreaksProgram program kind at)

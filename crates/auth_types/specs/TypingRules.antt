@@ -1,26 +1,24 @@
 -- The typing rules of the language, one for each form of an expression: what an expression of the tree stands for, and its type.
 use Rattle.std.specs.Prelude.{◌≡◌, ℕ, ◌+◌, ◌≤◌, ◌<◌, ℤ, Bool, List, [], ◌∷◌, ◌++◌, length, map, slice_get, unwrap_or}
 use Rattle.std.specs.List.{Contains}
+use Rattle.core_terms.specs.declared.language.term.Arith.{Arith as ArithOperator}
+use Rattle.core_terms.specs.declared.language.term.Compare.{Compare as CompareOperator}
+use Rattle.core_terms.specs.declared.language.term.TextCompare.{TextCompare as TextCompareOperator}
+use Rattle.core_terms.specs.declared.language.term.BinaryOperator.TheVariants.{Arith, Compare, TextCompare, Cat}
+use Rattle.core_terms.specs.declared.language.term.BinaryOperator.{BinaryOperator}
 use Rattle.core_terms.specs.Types.{Ty, UnitTy, BoolTy, IntTy, TextTy, PairTy, NamedTy, AuthTy, fields_at}
-use Rattle.core_terms.specs.Terms.{Expression, UnitE, BoolE, IntE, TextE, LocalE, PairE, FstE, SndE, NotE, LenE, AuthE, UnauthE, ConE, ArithE, CompareE, TextCompareE, CatE, LetE, IfE, MatchE, CallE, Expressions, NoE, AndE, Arms, NoArm, AndArm, Add, Sub, Mul, Div, Rem, Eq, Lt, Le, TEq, TLt}
-use Rattle.auth_syntax.specs.declared.place.Place.{Place}
-use Rattle.auth_syntax.specs.Syntax.{NameSyntax, ExpSyntax, UnitSyntax, BoolSyntax, IntSyntax, TextSyntax, LocalSyntax, PairSyntax, UnarySyntax, BinarySyntax, CallSyntax, ConstructorSyntax, LetSyntax, IfSyntax, MatchSyntax, ExpsSyntax, NoExp, AndExp, ArmsSyntax, NoArmSyntax, AndArmSyntax, FstOperation, SndOperation, AuthOperation, UnauthOperation, LenOperation, NotOperation, BinaryOperation, AddOperation, SubOperation, MulOperation, DivOperation, RemOperation, EqOperation, LtOperation, LeOperation, TeqOperation, TltOperation, CatOperation}
+use Rattle.core_terms.specs.Terms.{Expression, UnitE, BoolE, IntE, TextE, LocalE, PairE, FstE, SndE, NotE, LenE, AuthE, UnauthE, ConE, ArithE, CompareE, TextCompareE, CatE, LetE, IfE, MatchE, CallE, Expressions, NoE, AndE, Arms, NoArm, AndArm}
+use Rattle.lexemes.specs.declared.place.Place.{Place}
+use Rattle.auth_syntax.specs.Syntax.{NameSyntax, ExpSyntax, UnitSyntax, BoolSyntax, IntSyntax, TextSyntax, LocalSyntax, PairSyntax, UnarySyntax, BinarySyntax, CallSyntax, ConstructorSyntax, LetSyntax, IfSyntax, MatchSyntax, ExpsSyntax, NoExp, AndExp, ArmsSyntax, NoArmSyntax, AndArmSyntax, FstOperation, SndOperation, AuthOperation, UnauthOperation, LenOperation, NotOperation}
 use Rattle.auth_types.specs.Bodies.{Local, Scope, Signature, arm_names, most_locals}
 use Rattle.auth_types.specs.InOrder.{IsFirst, IsLast, EachMeets}
 
 -- The operations on two operands: the type of both operands, that of the result, and what is made of the two.
-pub data Operates : BinaryOperation → (operand result : Ty) → (Expression → Expression → Expression) → Type 0 where
-  Adds : Operates AddOperation IntTy IntTy (λ x y. ArithE Add x y)
-  Subtracts : Operates SubOperation IntTy IntTy (λ x y. ArithE Sub x y)
-  Multiplies : Operates MulOperation IntTy IntTy (λ x y. ArithE Mul x y)
-  Divides : Operates DivOperation IntTy IntTy (λ x y. ArithE Div x y)
-  IsRemainder : Operates RemOperation IntTy IntTy (λ x y. ArithE Rem x y)
-  IsEqual : Operates EqOperation IntTy BoolTy (λ x y. CompareE Eq x y)
-  IsLess : Operates LtOperation IntTy BoolTy (λ x y. CompareE Lt x y)
-  IsAtMost : Operates LeOperation IntTy BoolTy (λ x y. CompareE Le x y)
-  IsSameText : Operates TeqOperation TextTy BoolTy (λ x y. TextCompareE TEq x y)
-  IsTextBefore : Operates TltOperation TextTy BoolTy (λ x y. TextCompareE TLt x y)
-  Joins : Operates CatOperation TextTy TextTy (λ x y. CatE x y)
+pub data Operates : BinaryOperator → (operand result : Ty) → (Expression → Expression → Expression) → Type 0 where
+  Computes : (operator : ArithOperator) → Operates (Arith operator) IntTy IntTy (λ x y. ArithE operator x y)
+  Compares : (operator : CompareOperator) → Operates (Compare operator) IntTy BoolTy (λ x y. CompareE operator x y)
+  ComparesTexts : (operator : TextCompareOperator) → Operates (TextCompare operator) TextTy BoolTy (λ x y. TextCompareE operator x y)
+  Joins : Operates Cat TextTy TextTy (λ x y. CatE x y)
 
 -- the local that a name names: the innermost, which is the last one
 abbrev pub NamesLocal : List Local → List ℕ → ℕ → Local → Type 0
@@ -92,7 +90,7 @@ mutual
         → Elaborates scope locals operand x TextTy → Elaborates scope locals (UnarySyntax at LenOperation operand) (LenE x) IntTy
     NotRule : {locals : List Local} {at : Place} {operand : ExpSyntax} {x : Expression}
         → Elaborates scope locals operand x BoolTy → Elaborates scope locals (UnarySyntax at NotOperation operand) (NotE x) BoolTy
-    BinaryRule : {locals : List Local} {at : Place} {operation : BinaryOperation} {first second : ExpSyntax} {x y : Expression} {t r : Ty}
+    BinaryRule : {locals : List Local} {at : Place} {operation : BinaryOperator} {first second : ExpSyntax} {x y : Expression} {t r : Ty}
         {made : Expression → Expression → Expression}
         → Operates operation t r made → Elaborates scope locals first x t → Elaborates scope locals second y t
         → Elaborates scope locals (BinarySyntax at operation first second) (made x y) r
@@ -118,7 +116,7 @@ mutual
     NoRule : {locals : List Local} → ElaborateEach scope locals NoExp NoE []
     AndRule : {locals : List Local} {expression : ExpSyntax} {rest : ExpsSyntax} {x : Expression} {xs : Expressions} {t : Ty} {ts : List Ty}
         → Elaborates scope locals expression x t → ElaborateEach scope locals rest xs ts
-            → ElaborateEach scope locals (AndExp expression rest) (AndE x xs) (t ∷ ts)
+        → ElaborateEach scope locals (AndExp expression rest) (AndE x xs) (t ∷ ts)
 
   -- arms, as many as these constructors with fields, all of one type: a pattern has as many names as the constructor has fields
   pub data ElaborateArms (scope : Scope) : List Local → ArmsSyntax → List (List Ty) → Arms → Ty → Type 0 where
@@ -126,5 +124,5 @@ mutual
     AndArmRule : {locals : List Local} {constructor : NameSyntax} {fields : List NameSyntax} {body : ExpSyntax} {rest : ArmsSyntax} {ts : List Ty}
         {others : List (List Ty)} {x : Expression} {bodies : Arms} {t : Ty}
         → length fields ≡ length ts → MayBindAll locals fields → Elaborates scope (with_fields locals fields ts) body x t
-            → ElaborateArms scope locals rest others bodies t
+        → ElaborateArms scope locals rest others bodies t
         → ElaborateArms scope locals (AndArmSyntax constructor fields body rest) (ts ∷ others) (AndArm x bodies) t

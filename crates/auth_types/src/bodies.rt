@@ -12,7 +12,7 @@ ghost use Rattle.std.specs.Prelude.{◌≡◌, ◌<◌, length, map, All, IfOk, 
 ghost use Rattle.core_terms.specs.LanguageTrees.{types_at};
 ghost use Rattle.core_terms.specs.TypeTables.{type_at};
 ghost use Rattle.auth_syntax.specs.Parsing.{in_a_row};
-ghost use Rattle.auth_syntax.specs.Places.{start};
+ghost use Rattle.lexemes.specs.Places.{start};
 ghost use Rattle.auth_syntax.specs.Syntax as syntax;
 ghost use Rattle.auth_syntax.specs.Trees as written;
 ghost use Rattle.auth_types.specs.Bodies as specified;
@@ -22,12 +22,12 @@ ghost use Rattle.auth_types.specs.OverTypes.{FindsOver};
 ghost use Rattle.auth_types.specs.Scopes.{AreWithin, IsConstructorWithin};
 
 use crate::bodies::elaborator::Elaborator;
-use crate::fault::{Fault, TypeKind};
-use auth_syntax::place::Place;
-use auth_syntax::tree::{Arm, BinaryOperator, ExpTree, PlacedName};
-use core_terms::language::{Constructor, Term, TyForm};
+use crate::fault::{TypeFault, TypeKind};
+use auth_syntax::tree::{Arm, ExpTree, PlacedName};
+use core_terms::language::{BinaryOperator, Constructor, Term, TyForm};
 use core_terms::{Name, TyId};
 pub(crate) use functions::{Bodies, fourth_pass};
+use lexemes::place::Place;
 
 /// A term with the number of its type.
 #[derive(Drop)]
@@ -67,7 +67,7 @@ fn place(tree: &ExpTree) -> Place
 impl<'s, 'a> Elaborator<'s, 'a> {
     /// The term of an expression, with its type.
     #[cycle(bodies)]
-    fn term(&mut self, tree: &'a ExpTree) -> Result<Typed, Fault>
+    fn term(&mut self, tree: &'a ExpTree) -> Result<Typed, TypeFault>
         ensures keeps { OnOk result (Keeps self.old self.new) }
         ensures found { FindsOver (types_of self.new) typed_of (found_in self.old tree.now) result }
         ensures inside { IfOk result (λ typed. typed.ty.0 < length (types_of self.new)) }
@@ -108,7 +108,7 @@ impl<'s, 'a> Elaborator<'s, 'a> {
 
     /// The term of an expression, which has this type.
     #[cycle(bodies)]
-    fn part(&mut self, tree: &'a ExpTree, ty: TyId) -> Result<Box<Term>, Fault>
+    fn part(&mut self, tree: &'a ExpTree, ty: TyId) -> Result<Box<Term>, TypeFault>
         requires { ty.0 < length (types_of self.old) }
         ensures keeps { OnOk result (Keeps self.old self.new) }
         ensures found { FindsOver (types_of self.new) boxed_of (specified.wanted (syntax.place_of (written.expression_of tree.now)) (type_at (types_of self.old) ty) (found_in self.old tree.now)) result }
@@ -120,7 +120,7 @@ impl<'s, 'a> Elaborator<'s, 'a> {
 
     /// Two expressions between parentheses.
     #[cycle(bodies)]
-    fn pair(&mut self, first: &'a ExpTree, second: &'a ExpTree) -> Result<Typed, Fault>
+    fn pair(&mut self, first: &'a ExpTree, second: &'a ExpTree) -> Result<Typed, TypeFault>
         ensures keeps { OnOk result (Keeps self.old self.new) }
         ensures found { FindsOver (types_of self.new) typed_of (specified.pair (found_in self.old first.now) (found_in self.old second.now)) result }
         ensures inside { IfOk result (λ typed. typed.ty.0 < length (types_of self.new)) }
@@ -138,9 +138,9 @@ impl<'s, 'a> Elaborator<'s, 'a> {
         operator: BinaryOperator,
         first: &'a ExpTree,
         second: &'a ExpTree,
-    ) -> Result<Typed, Fault>
+    ) -> Result<Typed, TypeFault>
         ensures keeps { OnOk result (Keeps self.old self.new) }
-        ensures found { FindsOver (types_of self.new) typed_of (specified.binary (written.binary_of operator) (syntax.place_of (written.expression_of first.now)) (found_in self.old first.now) (syntax.place_of (written.expression_of second.now)) (found_in self.old second.now)) result }
+        ensures found { FindsOver (types_of self.new) typed_of (specified.binary operator (syntax.place_of (written.expression_of first.now)) (found_in self.old first.now) (syntax.place_of (written.expression_of second.now)) (found_in self.old second.now)) result }
         ensures inside { IfOk result (λ typed. typed.ty.0 < length (types_of self.new)) }
         ensures literals { OnOk result (HasGoodLiterals (written.expression_of first.now) × HasGoodLiterals (written.expression_of second.now)) }
     {
@@ -152,7 +152,7 @@ impl<'s, 'a> Elaborator<'s, 'a> {
 
     /// A call of the function of a name at this place.
     #[cycle(bodies)]
-    fn call(&mut self, at: Place, name: &Name, operands: &'a [ExpTree]) -> Result<Typed, Fault>
+    fn call(&mut self, at: Place, name: &Name, operands: &'a [ExpTree]) -> Result<Typed, TypeFault>
         ensures keeps { OnOk result (Keeps self.old self.new) }
         ensures found { FindsOver (types_of self.new) typed_of (found_at self.old (syntax.CallSyntax at name.now (in_a_row (map written.expression_of operands.now)))) result }
         ensures inside { IfOk result (λ typed. typed.ty.0 < length (types_of self.new)) }
@@ -171,7 +171,7 @@ impl<'s, 'a> Elaborator<'s, 'a> {
         at: Place,
         name: &Name,
         operands: &'a [ExpTree],
-    ) -> Result<Typed, Fault>
+    ) -> Result<Typed, TypeFault>
         ensures keeps { OnOk result (Keeps self.old self.new) }
         ensures found { FindsOver (types_of self.new) typed_of (found_at self.old (syntax.ConstructorSyntax at name.now (in_a_row (map written.expression_of operands.now)))) result }
         ensures inside { IfOk result (λ typed. typed.ty.0 < length (types_of self.new)) }
@@ -186,7 +186,7 @@ impl<'s, 'a> Elaborator<'s, 'a> {
 
     /// Expressions in a row, of these types.
     #[cycle(bodies)]
-    fn operands(&mut self, operands: &'a [ExpTree], types: &[TyId]) -> Result<Vec<Term>, Fault>
+    fn operands(&mut self, operands: &'a [ExpTree], types: &[TyId]) -> Result<Vec<Term>, TypeFault>
         requires count { length operands.now ≡ length types.now }
         requires within { AreWithin (length (types_of self.old)) types.now }
         ensures keeps { OnOk result (Keeps self.old self.new) }
@@ -208,7 +208,7 @@ impl<'s, 'a> Elaborator<'s, 'a> {
         name: &'a PlacedName,
         bound: &'a ExpTree,
         body: &'a ExpTree,
-    ) -> Result<Typed, Fault>
+    ) -> Result<Typed, TypeFault>
         ensures keeps { OnOk result (Keeps self.old self.new) }
         ensures found { FindsOver (types_of self.new) typed_of (found_at self.old (syntax.LetSyntax start (written.name_of name.now) (written.expression_of bound.now) (written.expression_of body.now))) result }
         ensures inside { IfOk result (λ typed. typed.ty.0 < length (types_of self.new)) }
@@ -234,7 +234,7 @@ impl<'s, 'a> Elaborator<'s, 'a> {
         test: &'a ExpTree,
         first: &'a ExpTree,
         other: &'a ExpTree,
-    ) -> Result<Typed, Fault>
+    ) -> Result<Typed, TypeFault>
         ensures keeps { OnOk result (Keeps self.old self.new) }
         ensures found { FindsOver (types_of self.new) typed_of (found_at self.old (syntax.IfSyntax start (written.expression_of test.now) (written.expression_of first.now) (written.expression_of other.now))) result }
         ensures inside { IfOk result (λ typed. typed.ty.0 < length (types_of self.new)) }
@@ -259,7 +259,7 @@ impl<'s, 'a> Elaborator<'s, 'a> {
         at: Place,
         subject: &'a ExpTree,
         arms: &'a [Arm],
-    ) -> Result<Typed, Fault>
+    ) -> Result<Typed, TypeFault>
         ensures keeps { OnOk result (Keeps self.old self.new) }
         ensures found { FindsOver (types_of self.new) typed_of (found_at self.old (syntax.MatchSyntax at (written.expression_of subject.now) (written.arms_in_a_row (map written.arm_of arms.now)))) result }
         ensures inside { IfOk result (λ typed. typed.ty.0 < length (types_of self.new)) }
@@ -280,7 +280,11 @@ impl<'s, 'a> Elaborator<'s, 'a> {
 
     /// The arms of a match, which are of these constructors. Behind the first the type of its body is wanted.
     #[cycle(bodies)]
-    fn arms(&mut self, arms: &'a [Arm], constructors: &[Constructor]) -> Result<TypedArms, Fault>
+    fn arms(
+        &mut self,
+        arms: &'a [Arm],
+        constructors: &[Constructor],
+    ) -> Result<TypedArms, TypeFault>
         requires count { length arms.now ≡ length constructors.now }
         requires within { All (IsConstructorWithin (length (types_of self.old))) constructors.now }
         ensures keeps { OnOk result (Keeps self.old self.new) }
@@ -301,7 +305,12 @@ impl<'s, 'a> Elaborator<'s, 'a> {
 
     /// An arm of a match, whose pattern has fields of these types.
     #[cycle(bodies)]
-    fn arm(&mut self, arm: &'a Arm, wanted: Option<TyId>, fields: &[TyId]) -> Result<Typed, Fault>
+    fn arm(
+        &mut self,
+        arm: &'a Arm,
+        wanted: Option<TyId>,
+        fields: &[TyId],
+    ) -> Result<Typed, TypeFault>
         requires wanted { IfSome wanted (λ ty. ty.0 < length (types_of self.old)) }
         requires within { AreWithin (length (types_of self.old)) fields.now }
         ensures keeps { OnOk result (Keeps self.old self.new) }
@@ -310,7 +319,7 @@ impl<'s, 'a> Elaborator<'s, 'a> {
         ensures literals { OnOk result (HasGoodLiterals (written.arm_of arm.now).body) }
     {
         if arm.fields.len() != fields.len() {
-            return Err(Fault::At(TypeKind::WrongCount, arm.constructor.at));
+            return Err(TypeFault::At(TypeKind::WrongCount, arm.constructor.at));
         }
         let outer = self.depth();
         self.bind_each(&arm.fields, fields)?;
@@ -321,7 +330,7 @@ impl<'s, 'a> Elaborator<'s, 'a> {
 
     /// The body of an arm, whose type may be wanted.
     #[cycle(bodies)]
-    fn body(&mut self, tree: &'a ExpTree, wanted: Option<TyId>) -> Result<Typed, Fault>
+    fn body(&mut self, tree: &'a ExpTree, wanted: Option<TyId>) -> Result<Typed, TypeFault>
         requires { IfSome wanted (λ ty. ty.0 < length (types_of self.old)) }
         ensures keeps { OnOk result (Keeps self.old self.new) }
         ensures found { FindsOver (types_of self.new) typed_of (specified.wanted_arm (want_of (types_of self.old) wanted) (syntax.place_of (written.expression_of tree.now)) (found_in self.old tree.now)) result }

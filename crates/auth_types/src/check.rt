@@ -14,7 +14,7 @@ ghost use Rattle.auth_types.specs.WrittenTypes.{states_in, type_meant};
 
 use crate::bodies::fourth_pass;
 use crate::declarations::{Declared, first_pass};
-use crate::fault::{Fault, TypeFault};
+use crate::fault::TypeFault;
 use crate::numbering::{declared_scope, number};
 use crate::roles::third_pass;
 use crate::scope::Scope;
@@ -30,14 +30,13 @@ use std::alloc::Global;
 /// # Errors
 ///
 /// `At` with the first fault, by place, of the first pass that has one, and `NoMemory` where there is no memory for the program.
-#[tactic(auto, unfolding(crate::specs::CheckedPrograms::checked))]
 pub fn check(alloc: Global, ast: Ast, digest: Digest) -> Result<Program, TypeFault>
     ensures answer { Checks (checked (written.program_of ast)) result }
     ensures digest { IfOk result (λ p. p.text_digest ≡ digest) }
     ensures types { IfOk result (λ p. type_names p.named.items ≡ names_of (written.program_of ast)) }
     ensures constructors { IfOk result (λ p. constructors_meant p.named.items ≡ constructors_in (written.declarations_of ast.declarations)) }
 {
-    Ok(all_passes(alloc, &ast, digest)?)
+    all_passes(alloc, &ast, digest)
 }
 
 /// What a program declares for its bodies: its types by number, its scope, and the number of its state's type.
@@ -49,7 +48,7 @@ struct Shaped<'a> {
 }
 
 /// One pass after another.
-fn all_passes(alloc: Global, ast: &Ast, digest: Digest) -> Result<Program, Fault>
+fn all_passes(alloc: Global, ast: &Ast, digest: Digest) -> Result<Program, TypeFault>
     ensures answer { Finds meaning (specified.all_passes (written.program_of ast.now)) result }
     ensures digest { IfOk result (λ p. p.text_digest ≡ digest) }
     ensures types { IfOk result (λ p. type_names p.named.items ≡ names_of (written.program_of ast.now)) }
@@ -67,7 +66,7 @@ fn all_passes(alloc: Global, ast: &Ast, digest: Digest) -> Result<Program, Fault
 }
 
 /// The first two passes: the names that a tree declares, where they find nothing.
-fn known_names(alloc: Global, ast: &Ast) -> Result<Box<Declared<'_>>, Fault>
+fn known_names(alloc: Global, ast: &Ast) -> Result<Box<Declared<'_>>, TypeFault>
     ensures found { Finds (λ _. tt) (names_known (written.program_of ast.now)) result }
     ensures declared { IfOk result (λ declared. checked_declarations nothing_declared (written.declarations_of ast.now.declarations) ≡ Sound (declared_of declared.value)) }
 {
@@ -81,7 +80,7 @@ fn checked_scope<'a>(
     alloc: Global,
     ast: &'a Ast,
     declared: Box<Declared<'a>>,
-) -> Result<Shaped<'a>, Fault>
+) -> Result<Shaped<'a>, TypeFault>
     requires known { names_known (written.program_of ast.now) ≡ Sound tt }
     requires declared { checked_declarations nothing_declared (written.declarations_of ast.now.declarations) ≡ Sound (declared_of declared.value) }
     ensures found { Finds (λ _. tt) (specified.third_pass (written.program_of ast.now)) result }

@@ -9,11 +9,11 @@ ghost use Rattle.auth_types.specs.DeclaredNames.{declared_of, names_met};
 ghost use Rattle.auth_types.specs.Outcomes.{Finds};
 ghost use Rattle.auth_types.specs.declared.fault.Limited.TheVariants.{Functions, Types};
 
-use crate::fault::{Fault, Limited, TypeKind};
+use crate::fault::{Limited, TypeFault, TypeKind};
 use crate::written_types::first_token;
-use auth_syntax::place::Place;
 use auth_syntax::tree::{ConstructorDeclaration, Declaration, Parameter, PlacedName, TypeTree};
 use indexmap::IndexSet;
+use lexemes::place::Place;
 use std::alloc::Global;
 
 // How many named types a program has at most.
@@ -33,7 +33,7 @@ const MOST_PARAMETERS: usize = 8;
 
 /// The names of what was declared so far, in the order of declaration, and whether the state was.
 #[derive(Drop)]
-pub(crate) struct Declared<'a> {
+pub struct Declared<'a> {
     pub types: IndexSet<&'a [u8]>,
     pub constructors: IndexSet<&'a [u8]>,
     pub functions: IndexSet<&'a [u8]>,
@@ -48,11 +48,11 @@ pub(crate) struct Declared<'a> {
 /// before among those of its kind, or at a second `state`; `Limit` at the name of a 257th type, a 256th constructor of a type, a 1,025th
 /// function or a 9th parameter that stands nowhere before, or at the first token of a 9th field; behind all, `NoState` at the end.
 /// `NoMemory` where there is no memory for the names.
-pub(crate) fn first_pass<'a>(
+pub fn first_pass<'a>(
     alloc: Global,
     declarations: &'a [Declaration],
     end: Place,
-) -> Result<Box<Declared<'a>>, Fault>
+) -> Result<Box<Declared<'a>>, TypeFault>
     ensures found { Finds (λ _. tt) (spec.first_pass (record { declarations = map written.declaration_of declarations.now; end = end })) result }
     ensures declared { IfOk result (λ declared. spec.checked_declarations spec.nothing_declared (map written.declaration_of declarations.now) ≡ Sound (declared_of declared.value)) }
 {
@@ -69,12 +69,12 @@ pub(crate) fn first_pass<'a>(
     if declared.has_state {
         Ok(declared)
     } else {
-        Err(Fault::At(TypeKind::NoState, end))
+        Err(TypeFault::At(TypeKind::NoState, end))
     }
 }
 
 /// Adds a declaration to those before it, or finds its first fault.
-fn declare<'a>(declared: &mut Declared<'a>, declaration: &'a Declaration) -> Result<(), Fault>
+fn declare<'a>(declared: &mut Declared<'a>, declaration: &'a Declaration) -> Result<(), TypeFault>
     ensures { Finds (λ _. declared_of declared.new) (spec.checked_declaration (declared_of declared.old) (written.declaration_of declaration.now)) result }
 {
     match declaration {
@@ -82,7 +82,7 @@ fn declare<'a>(declared: &mut Declared<'a>, declaration: &'a Declaration) -> Res
             name_type(&mut declared.types, &named.name)?;
             add_constructors(&mut declared.constructors, &named.constructors)
         }
-        Declaration::State(at, _) if declared.has_state => Err(Fault::At(TypeKind::Twice, *at)),
+        Declaration::State(at, _) if declared.has_state => Err(TypeFault::At(TypeKind::Twice, *at)),
         Declaration::State(_, _) => {
             declared.has_state = true;
             Ok(())
@@ -100,27 +100,27 @@ fn add_name<'a>(
     most: usize,
     thing: Limited,
     name: &'a PlacedName,
-) -> Result<(), Fault>
+) -> Result<(), TypeFault>
     ensures { Finds (λ _. names_met names.new.keys) (new_name (names_met names.old.keys) most thing (written.name_of name.now) (Sound (name.now.name ∷ names_met names.old.keys))) result }
 {
     if !names.insert(name.name.as_bytes())? {
-        return Err(Fault::At(TypeKind::Twice, name.at));
+        return Err(TypeFault::At(TypeKind::Twice, name.at));
     }
     if names.len() > most {
-        return Err(Fault::At(TypeKind::Limit(thing), name.at));
+        return Err(TypeFault::At(TypeKind::Limit(thing), name.at));
     }
     Ok(())
 }
 
 /// Adds the name of a type.
-fn name_type<'a>(names: &mut IndexSet<&'a [u8]>, name: &'a PlacedName) -> Result<(), Fault>
+fn name_type<'a>(names: &mut IndexSet<&'a [u8]>, name: &'a PlacedName) -> Result<(), TypeFault>
     ensures { Finds (λ _. names_met names.new.keys) (new_name (names_met names.old.keys) spec.most_types Types (written.name_of name.now) (Sound (name.now.name ∷ names_met names.old.keys))) result }
 {
     add_name(names, MOST_TYPES, Limited::Types, name)
 }
 
 /// Adds the name of a function.
-fn name_function<'a>(names: &mut IndexSet<&'a [u8]>, name: &'a PlacedName) -> Result<(), Fault>
+fn name_function<'a>(names: &mut IndexSet<&'a [u8]>, name: &'a PlacedName) -> Result<(), TypeFault>
     ensures { Finds (λ _. names_met names.new.keys) (new_name (names_met names.old.keys) spec.most_functions Functions (written.name_of name.now) (Sound (name.now.name ∷ names_met names.old.keys))) result }
 {
     add_name(names, MOST_FUNCTIONS, Limited::Functions, name)
@@ -130,7 +130,7 @@ fn name_function<'a>(names: &mut IndexSet<&'a [u8]>, name: &'a PlacedName) -> Re
 fn add_constructors<'a>(
     names: &mut IndexSet<&'a [u8]>,
     constructors: &'a [ConstructorDeclaration],
-) -> Result<(), Fault>
+) -> Result<(), TypeFault>
     ensures { Finds (λ _. names_met names.new.keys) (spec.checked_constructors 0 (names_met names.old.keys) (map written.constructor_of constructors.now)) result }
 {
     for (before, constructor) in constructors.iter().enumerate() {
@@ -144,25 +144,25 @@ fn add_constructor<'a>(
     names: &mut IndexSet<&'a [u8]>,
     before: usize,
     constructor: &'a ConstructorDeclaration,
-) -> Result<(), Fault>
+) -> Result<(), TypeFault>
     ensures { Finds (λ _. names_met names.new.keys) (spec.checked_constructor before (names_met names.old.keys) (written.constructor_of constructor.now) (Sound (constructor.now.name.name ∷ names_met names.old.keys))) result }
 {
     if !names.insert(constructor.name.name.as_bytes())? {
-        return Err(Fault::At(TypeKind::Twice, constructor.name.at));
+        return Err(TypeFault::At(TypeKind::Twice, constructor.name.at));
     }
     if before >= MOST_CONSTRUCTORS {
-        return Err(Fault::At(TypeKind::Limit(Limited::Constructors), constructor.name.at));
+        return Err(TypeFault::At(TypeKind::Limit(Limited::Constructors), constructor.name.at));
     }
     check_fields(&constructor.fields)
 }
 
 /// The first fault of the fields of a constructor: one is too many.
-fn check_fields(fields: &[TypeTree]) -> Result<(), Fault>
+fn check_fields(fields: &[TypeTree]) -> Result<(), TypeFault>
     ensures { Finds (λ _. tt) (spec.checked_fields 0 (map written.type_of fields.now)) result }
 {
     for (before, field) in fields.iter().enumerate() {
         if before >= MOST_FIELDS {
-            return Err(Fault::At(TypeKind::Limit(Limited::Fields), first_token(field)));
+            return Err(TypeFault::At(TypeKind::Limit(Limited::Fields), first_token(field)));
         }
     }
     Ok(())
@@ -176,15 +176,15 @@ fn is_parameter(name: &PlacedName, parameters: &[Parameter]) -> bool
 }
 
 /// The first fault of the names of a function's parameters.
-fn check_parameters(parameters: &[Parameter]) -> Result<(), Fault>
+fn check_parameters(parameters: &[Parameter]) -> Result<(), TypeFault>
     ensures { Finds (λ _. tt) (spec.checked_parameters [] (map written.parameter_of parameters.now)) result }
 {
     for (place, parameter) in parameters.iter().enumerate() {
         if is_parameter(&parameter.name, &parameters[..place]) {
-            return Err(Fault::At(TypeKind::Twice, parameter.name.at));
+            return Err(TypeFault::At(TypeKind::Twice, parameter.name.at));
         }
         if place >= MOST_PARAMETERS {
-            return Err(Fault::At(TypeKind::Limit(Limited::Parameters), parameter.name.at));
+            return Err(TypeFault::At(TypeKind::Limit(Limited::Parameters), parameter.name.at));
         }
     }
     Ok(())

@@ -1,7 +1,7 @@
 // How a program's tree breaks the rules of the language.
 
-use auth_syntax::place::Place;
-use std::alloc::{AllocError, AllocFailed};
+use core_terms::Fault;
+use lexemes::place::Place;
 
 /// What a program may have only so many of.
 #[derive(Clone, Copy, Debug, PartialEq, Eq)]
@@ -49,54 +49,5 @@ pub enum TypeKind {
     WrongCount,
 }
 
-/// Why a tree gives no program.
-#[derive(Clone, Copy)]
-pub enum TypeFault {
-    /// The first fault: its kind, its line and its column, from 1 and by bytes.
-    At(TypeKind, usize, usize),
-    /// There was no memory for the program.
-    NoMemory,
-}
-
-/// The same inside the checker, with the whole place.
-#[derive(Clone, Copy)]
-pub(crate) enum Fault {
-    At(TypeKind, Place),
-    NoMemory,
-}
-
-impl From<Fault> for TypeFault {
-    ghost use Rattle.std.specs.Prelude.{◌≡◌};
-    ghost use Rattle.auth_types.specs.Outcomes.{told_fault};
-
-    ghost from_gives = { λ given fault. fault ≡ told_fault given };
-
-    fn from(fault: Fault) -> TypeFault {
-        match fault {
-            Fault::At(kind, at) => TypeFault::At(kind, at.line, at.column),
-            Fault::NoMemory => TypeFault::NoMemory,
-        }
-    }
-}
-
-impl From<AllocError> for Fault {
-    ghost use Rattle.std.specs.Prelude.{◌≡◌};
-    ghost use Rattle.auth_types.specs.declared.fault.Fault.TheVariants.{NoMemory};
-
-    ghost from_gives = { λ _ fault. fault ≡ NoMemory };
-
-    fn from(_: AllocError) -> Fault {
-        Fault::NoMemory
-    }
-}
-
-impl<T: Drop> From<AllocFailed<T>> for Fault {
-    ghost use Rattle.std.specs.Prelude.{◌≡◌};
-    ghost use Rattle.auth_types.specs.declared.fault.Fault.TheVariants.{NoMemory};
-
-    ghost from_gives = { λ _ fault. fault ≡ NoMemory };
-
-    fn from(_: AllocFailed<T>) -> Fault {
-        Fault::NoMemory
-    }
-}
+/// Why a tree gives no program: the kind of its first fault, with its place, or that there was no memory.
+pub type TypeFault = Fault<TypeKind, Place>;

@@ -1,5 +1,6 @@
 //! The laws of the definitions in `specs/`: each is a function without parameters, whose contract is the law.
-ghost use Rattle.auth_types.specs.TypingLaws.{PassesByTheRules, TellsWhatBreaks};
+ghost use Rattle.auth_types.specs.TypingLaws.{DenotesWhatPasses, PassesByTheRules, TellsTheFirst, TellsWhatBreaks};
+ghost use Rattle.auth_types.specs.WrittenTypeRules.{WrittenTypesStand};
 ghost use Rattle.auth_types.specs.CheckedLaws.{CheckedIsTyped, CheckedIsWithinLimits, CheckedNamesDiffer, CheckedNamesItsTypes, ElaboratedHasType, ParsedIsTyped, ScopeIsOfProgram};
 
 /// An expression that passes has the type that it says, where the locals have theirs; and the bodies of a program that passes are
@@ -39,4 +40,12 @@ pub fn checked_names_differ()
 pub fn expressions_pass_by_the_rules()
     ensures passes { PassesByTheRules }
     ensures tells { TellsWhatBreaks }
+{}
+
+/// A tree passes exactly where the rules say that it stands for the program; and a fault is told of it exactly where it is the first, by
+/// place, of the first pass that has one. A written type passes and stands for a type exactly where the rule of types says so.
+pub fn programs_pass_by_the_rules()
+    ensures passes { DenotesWhatPasses }
+    ensures tells { TellsTheFirst }
+    ensures types { WrittenTypesStand }
 {}

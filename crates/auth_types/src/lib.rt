@@ -2,17 +2,15 @@
 //!
 //! `check::check` goes over a tree in four passes: the names that are declared and how many, the names in written types, the shapes of
 //! roles, and bodies. The answer is the program, or the first fault, by place, of the first pass that has one; `specs/` says what each
-//! pass finds. `laws` has what a program that passes may be held to. `fragment` checks the programs of the fragment that the first
-//! commands run, by the same definitions.
+//! pass finds. `laws` has what a program that passes may be held to.
 #![tactic(auto)]
 
 mod bodies;
 pub mod check;
-mod declarations;
+pub mod declarations;
 pub mod fault;
-pub mod fragment;
 pub mod laws;
 mod numbering;
 mod roles;
 mod scope;
-mod written_types;
+pub mod written_types;

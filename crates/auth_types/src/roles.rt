@@ -12,13 +12,13 @@ ghost use Rattle.auth_types.specs.RoleHeads.{FindsRole, argument_place, judged_r
 ghost use Rattle.auth_types.specs.RoleRules.{checked_roles, is_new_state};
 ghost use Rattle.auth_types.specs.Scopes.{AreHeadsOf, IsHeadWithin, IsWithin, functions_meant};
 
-use crate::fault::{Fault, TypeKind};
+use crate::fault::{TypeFault, TypeKind};
 use crate::scope::{Head, Scope};
 use crate::written_types::first_token;
-use auth_syntax::place::Place;
 use auth_syntax::tree::{Function, FunctionKind};
 use core_terms::TyId;
 use core_terms::language::{TyForm, TyTable, auth_marks};
+use lexemes::place::Place;
 use std::alloc::Global;
 
 /// The third pass over the functions of a scope, where the state has this type. Types are compared by number, and whether an `auth`
@@ -33,7 +33,7 @@ pub(crate) fn third_pass(
     types: &TyTable,
     scope: &Scope<'_>,
     state: TyId,
-) -> Result<(), Fault>
+) -> Result<(), TypeFault>
     requires within { IsWithin (length (types_in types.now)) scope.now }
     requires state { state.0 < length (types_in types.now) }
     ensures { (names : List (List ℕ)) → AreHeadsOf names (types_in types.now) scope.now
@@ -53,7 +53,7 @@ fn check_role(
     marks: &[bool],
     state: TyId,
     head: &Head<'_>,
-) -> Result<(), Fault>
+) -> Result<(), TypeFault>
     requires within { IsHeadWithin (length (types_in types.now)) head.now }
     requires state { state.0 < length (types_in types.now) }
     requires marks { AreAuthMarks (types_in types.now) scope.now.named.items marks.now }
@@ -74,7 +74,7 @@ fn check_init(
     marks: &[bool],
     state: TyId,
     head: &Head<'_>,
-) -> Result<(), Fault>
+) -> Result<(), TypeFault>
     requires within { IsHeadWithin (length (types_in types.now)) head.now }
     requires state { state.0 < length (types_in types.now) }
     requires marks { AreAuthMarks (types_in types.now) scope.now.named.items marks.now }
@@ -85,7 +85,7 @@ fn check_init(
             let fits = is_same(types, state, head.result);
             check_argument(marks, head.function, fits, *argument)
         }
-        _ => Err(Fault::At(TypeKind::RoleShape, head.function.name.at)),
+        _ => Err(TypeFault::At(TypeKind::RoleShape, head.function.name.at)),
     }
 }
 
@@ -96,7 +96,7 @@ fn check_query(
     marks: &[bool],
     state: TyId,
     head: &Head<'_>,
-) -> Result<(), Fault>
+) -> Result<(), TypeFault>
     requires within { IsHeadWithin (length (types_in types.now)) head.now }
     requires state { state.0 < length (types_in types.now) }
     requires marks { AreAuthMarks (types_in types.now) scope.now.named.items marks.now }
@@ -107,7 +107,7 @@ fn check_query(
             let fits = is_same(types, state, *first);
             check_argument(marks, head.function, fits, *argument)
         }
-        _ => Err(Fault::At(TypeKind::RoleShape, head.function.name.at)),
+        _ => Err(TypeFault::At(TypeKind::RoleShape, head.function.name.at)),
     }
 }
 
@@ -118,7 +118,7 @@ fn check_update(
     marks: &[bool],
     state: TyId,
     head: &Head<'_>,
-) -> Result<(), Fault>
+) -> Result<(), TypeFault>
     requires within { IsHeadWithin (length (types_in types.now)) head.now }
     requires state { state.0 < length (types_in types.now) }
     requires marks { AreAuthMarks (types_in types.now) scope.now.named.items marks.now }
@@ -129,7 +129,7 @@ fn check_update(
             let fits = is_update(types, state, *first, head.result);
             check_argument(marks, head.function, fits, *argument)
         }
-        _ => Err(Fault::At(TypeKind::RoleShape, head.function.name.at)),
+        _ => Err(TypeFault::At(TypeKind::RoleShape, head.function.name.at)),
     }
 }
 
@@ -170,13 +170,13 @@ fn check_argument(
     function: &Function,
     fits: bool,
     argument: TyId,
-) -> Result<(), Fault>
+) -> Result<(), TypeFault>
     ensures { Finds (λ _. tt) (judged_role function.now.name.at fits (slice_index_or marks.now argument.0 false) (written.parameters_of function.now.parameters)) result }
 {
     if !fits {
-        Err(Fault::At(TypeKind::RoleShape, function.name.at))
+        Err(TypeFault::At(TypeKind::RoleShape, function.name.at))
     } else if is_marked(marks, argument) {
-        Err(Fault::At(TypeKind::AuthInArgument, last_parameter(function)))
+        Err(TypeFault::At(TypeKind::AuthInArgument, last_parameter(function)))
     } else {
         Ok(())
     }

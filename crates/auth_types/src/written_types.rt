@@ -6,14 +6,14 @@ ghost use Rattle.auth_types.specs.Outcomes.{Finds};
 ghost use Rattle.auth_types.specs.ScopeNames.{names_in};
 ghost use Rattle.auth_types.specs.WrittenTypes as spec;
 
-use crate::fault::{Fault, TypeKind};
-use auth_syntax::place::Place;
+use crate::fault::{TypeFault, TypeKind};
 use auth_syntax::tree::{ConstructorDeclaration, Declaration, Function, Parameter, TypeTree};
 use core_terms::Name;
 use indexmap::IndexSet;
+use lexemes::place::Place;
 
 /// The place of a type.
-pub(crate) fn first_token(tree: &TypeTree) -> Place
+pub fn first_token(tree: &TypeTree) -> Place
     ensures { result ≡ syntax.place_of_type (written.type_of tree.now) }
 {
     match tree {
@@ -33,10 +33,7 @@ pub(crate) fn first_token(tree: &TypeTree) -> Place
 ///
 /// `At` with `UnknownName` and the place of the first name in a type, of a field, a parameter, a result or the state, that no type has.
 /// There is no other.
-pub(crate) fn second_pass(
-    names: &IndexSet<&[u8]>,
-    declarations: &[Declaration],
-) -> Result<(), Fault>
+pub fn second_pass(names: &IndexSet<&[u8]>, declarations: &[Declaration]) -> Result<(), TypeFault>
     ensures { Finds (λ _. tt) (spec.known_declarations (names_in names.now.keys) (map written.declaration_of declarations.now)) result }
 {
     for declaration in declarations {
@@ -46,7 +43,7 @@ pub(crate) fn second_pass(
 }
 
 /// The same in one declaration.
-fn known_declaration(names: &IndexSet<&[u8]>, declaration: &Declaration) -> Result<(), Fault>
+fn known_declaration(names: &IndexSet<&[u8]>, declaration: &Declaration) -> Result<(), TypeFault>
     ensures { Finds (λ _. tt) (spec.known_declaration (names_in names.now.keys) (written.declaration_of declaration.now)) result }
 {
     match declaration {
@@ -57,7 +54,7 @@ fn known_declaration(names: &IndexSet<&[u8]>, declaration: &Declaration) -> Resu
 }
 
 /// The same in the types of a function's parameters, and then in that of its result.
-fn known_signature(names: &IndexSet<&[u8]>, function: &Function) -> Result<(), Fault>
+fn known_signature(names: &IndexSet<&[u8]>, function: &Function) -> Result<(), TypeFault>
     ensures { Finds (λ _. tt) (spec.known_signature (names_in names.now.keys) (written.function_of function.now)) result }
 {
     known_parameters(names, &function.parameters)?;
@@ -68,7 +65,7 @@ fn known_signature(names: &IndexSet<&[u8]>, function: &Function) -> Result<(), F
 fn known_constructors(
     names: &IndexSet<&[u8]>,
     constructors: &[ConstructorDeclaration],
-) -> Result<(), Fault>
+) -> Result<(), TypeFault>
     ensures { Finds (λ _. tt) (spec.known_constructors (names_in names.now.keys) (map written.constructor_of constructors.now)) result }
 {
     for constructor in constructors {
@@ -78,7 +75,7 @@ fn known_constructors(
 }
 
 /// The same in the types of parameters.
-fn known_parameters(names: &IndexSet<&[u8]>, parameters: &[Parameter]) -> Result<(), Fault>
+fn known_parameters(names: &IndexSet<&[u8]>, parameters: &[Parameter]) -> Result<(), TypeFault>
     ensures { Finds (λ _. tt) (spec.known_types (names_in names.now.keys) (map (λ p. p.of_type) (map written.parameter_of parameters.now))) result }
 {
     for parameter in parameters {
@@ -88,7 +85,7 @@ fn known_parameters(names: &IndexSet<&[u8]>, parameters: &[Parameter]) -> Result
 }
 
 /// The same in types.
-fn known_types(names: &IndexSet<&[u8]>, types: &[TypeTree]) -> Result<(), Fault>
+fn known_types(names: &IndexSet<&[u8]>, types: &[TypeTree]) -> Result<(), TypeFault>
     ensures { Finds (λ _. tt) (spec.known_types (names_in names.now.keys) (map written.type_of types.now)) result }
 {
     for tree in types {
@@ -98,7 +95,7 @@ fn known_types(names: &IndexSet<&[u8]>, types: &[TypeTree]) -> Result<(), Fault>
 }
 
 /// The same in a type.
-fn known_type(names: &IndexSet<&[u8]>, tree: &TypeTree) -> Result<(), Fault>
+fn known_type(names: &IndexSet<&[u8]>, tree: &TypeTree) -> Result<(), TypeFault>
     ensures { Finds (λ _. tt) (spec.known_type (names_in names.now.keys) (written.type_of tree.now)) result }
 {
     match tree {
@@ -116,12 +113,12 @@ fn known_type(names: &IndexSet<&[u8]>, tree: &TypeTree) -> Result<(), Fault>
 }
 
 /// Whether a name at this place is one of these.
-fn known_name(names: &IndexSet<&[u8]>, at: Place, name: &Name) -> Result<(), Fault>
+fn known_name(names: &IndexSet<&[u8]>, at: Place, name: &Name) -> Result<(), TypeFault>
     ensures { Finds (λ _. tt) (spec.known_type (names_in names.now.keys) (syntax.NamedTypeSyntax at name.now)) result }
 {
     if names.contains(name.as_bytes()) {
         Ok(())
     } else {
-        Err(Fault::At(TypeKind::UnknownName, at))
+        Err(TypeFault::At(TypeKind::UnknownName, at))
     }
 }

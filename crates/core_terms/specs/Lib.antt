@@ -17,4 +17,8 @@ pub mod LanguageTrees
 pub mod LanguagePrograms
 pub mod AuthMarks
 pub mod RoleViews
+pub mod ValueRows
+pub mod ReadingRows
+pub mod TypingRows
+pub mod RoleRows
 pub mod Faults

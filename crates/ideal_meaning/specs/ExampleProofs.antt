@@ -53,6 +53,13 @@ larger_ring_is_refused hash = refl
 pub frame_is_cut : (hash : Hash) → on_open hash 1 (file (0 ∷ 0 ∷ 0 ∷ 0 ∷ 0 ∷ [])) ≡ Rejected (Cut 0)
 frame_is_cut hash = refl
 
+-- or inside its piece, or inside the number of a kept piece
+pub piece_is_cut : (hash : Hash) → on_open hash 1 (file (0 ∷ 0 ∷ 0 ∷ 0 ∷ 0 ∷ 0 ∷ 2 ∷ 5 ∷ [])) ≡ Rejected (Cut 0)
+piece_is_cut hash = refl
+
+pub number_is_cut : (hash : Hash) → on_open hash 1 (file (0 ∷ 0 ∷ 1 ∷ 0 ∷ [])) ≡ Rejected (Cut 0)
+number_is_cut hash = refl
+
 -- a piece of one byte, whose digest isn't that of no bytes
 pub other_piece_is_wrong : on_open toy 1 (file (0 ∷ 0 ∷ 0 ∷ 0 ∷ 0 ∷ 0 ∷ 1 ∷ 5 ∷ [])) ≡ Rejected (WrongPiece 0 (toy []) (toy (5 ∷ [])))
 other_piece_is_wrong = refl
@@ -125,6 +132,9 @@ three_is_accepted = refl
 pub trap_is_accepted : verdict toy bool_program UnitTy 3 (toy (1 ∷ [])) [] 1 (file (0 ∷ 0 ∷ 0 ∷ 0 ∷ 0 ∷ 0 ∷ 1 ∷ 1 ∷ [])) ≡ Accepted (Trapped Overflow)
 trap_is_accepted = refl
 
+pub byte_behind_a_trap_is_left : verdict toy bool_program UnitTy 3 (toy (1 ∷ [])) [] 1 (file (0 ∷ 0 ∷ 0 ∷ 0 ∷ 0 ∷ 0 ∷ 1 ∷ 1 ∷ 9 ∷ [])) ≡ Rejected (Leftover 1)
+byte_behind_a_trap_is_left = refl
+
 pub trap_is_not_reached : (hash : Hash) → verdict hash bool_program UnitTy 3 (toy (1 ∷ [])) [] 1 (file (0 ∷ 0 ∷ [])) ≡ Rejected (Short 0)
 trap_is_not_reached hash = refl
 
@@ -132,6 +142,10 @@ trap_is_not_reached hash = refl
 pub flip_is_accepted : verdict toy bool_program UnitTy 2 (toy (1 ∷ [])) [] 1 (file (0 ∷ 0 ∷ 0 ∷ 0 ∷ 0 ∷ 0 ∷ 1 ∷ 1 ∷ []))
     ≡ Accepted (Done (PairV (DigestV (toy (0 ∷ []))) (BoolV true)))
 flip_is_accepted = refl
+
+pub other_flip_is_accepted : verdict toy bool_program UnitTy 2 (toy (0 ∷ [])) [] 1 (file (0 ∷ 0 ∷ 0 ∷ 0 ∷ 0 ∷ 0 ∷ 1 ∷ 0 ∷ []))
+    ≡ Accepted (Done (PairV (DigestV (toy (1 ∷ []))) (BoolV false)))
+other_flip_is_accepted = refl
 
 pub flip_is_projected : (hash : Hash)
     → outcome_projection hash bool_program (PairTy (AuthTy BoolTy) BoolTy) (outcome (ideal bool_program 2 (call_of (BoolV true) UnitV) 1))

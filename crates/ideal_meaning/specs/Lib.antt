@@ -14,5 +14,8 @@ pub mod Examples
 pub mod ExampleSpellings
 pub mod ExampleRuns
 pub mod ExampleProofs
+pub mod RingRows
+pub mod OperationRows
+pub mod ToldRows
 pub mod Library
 pub mod LibraryRuns

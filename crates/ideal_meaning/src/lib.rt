@@ -2,9 +2,11 @@
 //!
 //! `specs/` has the definitions, in this order: what an expression means under any meaning of `auth` and `unauth`
 //! (`Run`), the ideal meaning and the honest pieces of a run (`Ideal`), proof files (`Frames`), the checked meaning, the
-//! verdict of a verifier and the split (`Checked`), the headline and its companion (`Headline`), proofs
-//! that follow one another (`Following`), the relation of the two
-//! runs behind them (`Agreement`), the ideal meaning's table of rules (`Table`) and further laws (`Laws`).
+//! verdict of a verifier and the split (`Checked`), the headline and its companion (`Headline`), proofs that follow one
+//! another (`Following`), and the relation of the two runs behind them (`Agreement`).
+//! They are held to a second statement each: the ideal meaning's table of rules (`Table`), the operations in the words of
+//! arithmetic and of byte strings (`Operations`), the ring of kept pieces in plain words (`Ring`) and further laws (`Laws`);
+//! and to examples and rows, which compute (`Example..`, `..Rows`, `Library` and its runs).
 //! Nothing here runs: [`laws`] has the theorems over these definitions.
 #![tactic(auto)]
 

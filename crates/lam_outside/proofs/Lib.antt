@@ -1,3 +1,4 @@
 pub mod Mem
 pub mod Coming
 mod Nets
+pub mod Moved

@@ -12,6 +12,7 @@ mod mem_sink;
 mod net;
 mod plan;
 mod traits;
+mod whole;
 
 pub use load::{Load, load_all};
 pub use mem_files::{MemFile, MemFiles};
@@ -21,3 +22,4 @@ pub use mem_sink::MemSink;
 pub use net::{Link, Net};
 pub use plan::Plan;
 pub use traits::{Failed, Files, Sink, Source};
+pub use whole::{fill, send_all};

@@ -1,12 +1,12 @@
 // What the parser and the checker say of a text, and texts in which a part stands many times.
-use auth_syntax::fault::{SyntaxFault, SyntaxKind};
 use auth_syntax::parser::{parse, parse_fragment};
-use auth_syntax::print::print;
 use auth_syntax::tree::Ast;
 use auth_types::check::check;
 use auth_types::fault::{TypeFault, TypeKind};
 use core_terms::Digest;
 use core_terms::language::Program;
+use lexemes::fault::{SyntaxFault, SyntaxKind};
+use printed_syntax::print::print;
 use std::alloc::{AllocError, Global};
 
 /// The longest text of a program, in bytes.
@@ -42,7 +42,7 @@ pub fn fault_in_fragment(alloc: Global, text: &[u8]) -> Result<Option<Fault>, Al
 fn fault(parsed: Result<Ast, SyntaxFault>) -> Result<Option<Fault>, AllocError> {
     match parsed {
         Ok(_) => Ok(None),
-        Err(SyntaxFault::At(kind, line, column)) => Ok(Some((kind, line, column))),
+        Err(SyntaxFault::At(kind, at)) => Ok(Some((kind, at.line, at.column))),
         Err(SyntaxFault::NoMemory) => Err(AllocError),
     }
 }
@@ -58,7 +58,7 @@ pub fn printed(alloc: Global, text: &[u8]) -> Result<Option<Vec<u8>>, AllocError
     }
     match parse(alloc, text) {
         Ok(ast) => Ok(Some(print(alloc, &ast)?)),
-        Err(SyntaxFault::At(_, _, _)) => Ok(None),
+        Err(SyntaxFault::At(_, _)) => Ok(None),
         Err(SyntaxFault::NoMemory) => Err(AllocError),
     }
 }
@@ -89,7 +89,7 @@ pub type Misfit = (TypeKind, usize, usize);
 pub fn misfit_of(alloc: Global, text: &[u8]) -> Result<Option<Misfit>, AllocError> {
     match check(alloc, tree_of(alloc, text)?, Digest([7; 32])) {
         Ok(_) => Ok(None),
-        Err(TypeFault::At(kind, line, column)) => Ok(Some((kind, line, column))),
+        Err(TypeFault::At(kind, at)) => Ok(Some((kind, at.line, at.column))),
         Err(TypeFault::NoMemory) => Err(AllocError),
     }
 }

@@ -1,6 +1,6 @@
 // Texts that are programs: each form of the grammar, and where the fragment ends.
 use crate::answers::{fault_in_fragment, fault_of};
-use auth_syntax::fault::SyntaxKind;
+use lexemes::fault::SyntaxKind;
 use std::alloc::{AllocError, Global};
 use std::test::Fail;
 

@@ -1,6 +1,6 @@
 // How long names, texts and lists may be.
 use crate::answers::{Fault, Repeated, fault_of};
-use auth_syntax::fault::{LexicalFault, SyntaxKind};
+use lexemes::fault::{LexicalFault, SyntaxKind};
 use std::test::Fail;
 
 /// A beginning, a part, how often it stands, and an end, with the first fault of this text.

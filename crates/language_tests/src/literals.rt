@@ -1,8 +1,9 @@
 // Literals: how they are spelled, the first fault of texts that are none of a type, and how deep and how long they may be.
 use crate::answers::program_of;
-use auth_syntax::fault::{LexicalFault, LiteralFault, LiteralKind};
-use auth_syntax::literal::parse_literal;
 use core_terms::language::Program;
+use lexemes::fault::LexicalFault;
+use printed_syntax::fault::{LiteralFault, LiteralKind};
+use printed_syntax::literal::parse_literal;
 use std::alloc::{AllocError, Global};
 use std::test::Fail;
 

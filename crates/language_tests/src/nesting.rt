@@ -1,6 +1,6 @@
 // How deep types and expressions may be nested: 100 levels.
 use crate::answers::{Fault, Repeated, fault_of};
-use auth_syntax::fault::SyntaxKind;
+use lexemes::fault::SyntaxKind;
 use std::alloc::{AllocError, Global};
 use std::test::Fail;
 

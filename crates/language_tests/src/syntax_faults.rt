@@ -1,6 +1,6 @@
 // The first fault of texts that are no programs: its kind and its place. Lines and columns are counted by bytes, from 1.
 use crate::answers::fault_of;
-use auth_syntax::fault::{LexicalFault, SyntaxKind};
+use lexemes::fault::{LexicalFault, SyntaxKind};
 use std::alloc::{AllocError, Global};
 use std::test::Fail;
 

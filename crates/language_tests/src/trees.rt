@@ -1,8 +1,9 @@
 // The trees that texts are: their words, parts and places.
 use crate::answers::tree_of;
 use auth_syntax::tree::{
-    Arm, Ast, BinaryOperator, Declaration, ExpTree, Function, FunctionKind, TypeTree, UnaryOperator,
+    Arm, Ast, Declaration, ExpTree, Function, FunctionKind, TypeTree, UnaryOperator,
 };
+use core_terms::language::{Arith, BinaryOperator, Compare, TextCompare};
 use std::test::Fail;
 
 /// Texts of a function, and the word of its operation, or else of its kind.
@@ -57,16 +58,16 @@ fn unary_word(operator: UnaryOperator) -> &'static str {
 
 fn binary_word(operator: BinaryOperator) -> &'static str {
     match operator {
-        BinaryOperator::Add => "add",
-        BinaryOperator::Sub => "sub",
-        BinaryOperator::Mul => "mul",
-        BinaryOperator::Div => "div",
-        BinaryOperator::Rem => "rem",
-        BinaryOperator::Eq => "eq",
-        BinaryOperator::Lt => "lt",
-        BinaryOperator::Le => "le",
-        BinaryOperator::Teq => "teq",
-        BinaryOperator::Tlt => "tlt",
+        BinaryOperator::Arith(Arith::Add) => "add",
+        BinaryOperator::Arith(Arith::Sub) => "sub",
+        BinaryOperator::Arith(Arith::Mul) => "mul",
+        BinaryOperator::Arith(Arith::Div) => "div",
+        BinaryOperator::Arith(Arith::Rem) => "rem",
+        BinaryOperator::Compare(Compare::Eq) => "eq",
+        BinaryOperator::Compare(Compare::Lt) => "lt",
+        BinaryOperator::Compare(Compare::Le) => "le",
+        BinaryOperator::TextCompare(TextCompare::Eq) => "teq",
+        BinaryOperator::TextCompare(TextCompare::Lt) => "tlt",
         BinaryOperator::Cat => "cat",
     }
 }

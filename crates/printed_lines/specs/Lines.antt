@@ -6,14 +6,14 @@ use Rattle.core_terms.specs.Values.{Value}
 use Rattle.ideal_meaning.specs.Checked.{Cause, Short, Cut, BadKind, PieceLong, BadUse, WrongPiece, BadPiece, Header, Leftover}
 use Rattle.ideal_meaning.specs.Run.{Trap, Overflow, DivZero, TooBig, TooDeep}
 use Rattle.ideal_meaning.specs.Told.{cause_told}
-use Rattle.auth_syntax.specs.Literals.{ConstructorNames}
-use Rattle.auth_syntax.specs.PrintedValues.{printed, value_text}
-use Rattle.auth_syntax.specs.declared.fault.LexicalFault.{LexicalFault}
-use Rattle.auth_syntax.specs.declared.fault.LexicalFault.TheVariants as lexical
-use Rattle.auth_syntax.specs.declared.fault.SyntaxKind.{SyntaxKind}
-use Rattle.auth_syntax.specs.declared.fault.SyntaxKind.TheVariants as syntax
-use Rattle.auth_syntax.specs.declared.fault.LiteralKind.{LiteralKind}
-use Rattle.auth_syntax.specs.declared.fault.LiteralKind.TheVariants as literal
+use Rattle.printed_syntax.specs.Literals.{ConstructorNames}
+use Rattle.printed_syntax.specs.PrintedValues.{printed, value_text}
+use Rattle.lexemes.specs.declared.fault.LexicalFault.{LexicalFault}
+use Rattle.lexemes.specs.declared.fault.LexicalFault.TheVariants as lexical
+use Rattle.lexemes.specs.declared.fault.SyntaxKind.{SyntaxKind}
+use Rattle.lexemes.specs.declared.fault.SyntaxKind.TheVariants as syntax
+use Rattle.printed_syntax.specs.declared.fault.LiteralKind.{LiteralKind}
+use Rattle.printed_syntax.specs.declared.fault.LiteralKind.TheVariants as literal
 use Rattle.auth_types.specs.declared.fault.TypeKind.{TypeKind}
 use Rattle.auth_types.specs.declared.fault.TypeKind.TheVariants as typing
 use Rattle.auth_types.specs.declared.fault.Limited.{Limited}

@@ -12,9 +12,9 @@ ghost use Rattle.printed_lines.specs.Lines as def;
 
 use crate::names::{argument_name, literal_name, program_name};
 use crate::refusal::{ImageKind, InputFault, ProgramKind, Refusal};
-use auth_syntax::printing::language::print_value as language_text;
-use auth_syntax::printing::print_value;
 use core_terms::{Cause, Digest, Program, Trap, TyId, language};
+use printed_syntax::printing::language::print_value as language_text;
+use printed_syntax::printing::print_value;
 use std::alloc::{AllocError, Global};
 
 /// The line of a refusal.

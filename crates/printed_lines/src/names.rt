@@ -4,8 +4,9 @@ ghost use Rattle.std.specs.Prelude.{◌≡◌};
 ghost use Rattle.printed_lines.specs.Lines as def;
 
 use crate::refusal::{Argument, ProgramKind};
-use auth_syntax::fault::{LexicalFault, LiteralKind, SyntaxKind};
 use auth_types::fault::{Limited, TypeKind};
+use lexemes::fault::{LexicalFault, SyntaxKind};
+use printed_syntax::fault::LiteralKind;
 
 fn lexical_name(kind: LexicalFault) -> &'static str
     ensures { result.now ≡ def.lexical_name kind }

@@ -1,8 +1,9 @@
 // What a command refuses.
 
-use auth_syntax::fault::{LiteralKind, SyntaxKind};
 use auth_types::fault::TypeKind;
 use core_terms::Cause;
+use lexemes::fault::SyntaxKind;
+use printed_syntax::fault::LiteralKind;
 
 /// Why a text is no program.
 #[derive(Clone, Copy)]

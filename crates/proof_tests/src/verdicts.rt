@@ -150,11 +150,19 @@ const LEFT: [(usize, &str); 3] = [
     (100_000, "rejected leftover 65536\n"),
 ];
 
+/// The proof, and so many bytes behind it.
+fn with_bytes_left(alloc: Global, left: usize) -> Result<Vec<u8>, AllocError> {
+    let mut proof = Vec::from_slice(alloc, PROOF)?;
+    for _ in 0..left {
+        proof.push(0)?;
+    }
+    Ok(proof)
+}
+
 #[test]
 fn many_bytes_left_are_told_up_to_a_limit(rt: HostRuntime) -> Result<(), Fail> {
     for (left, line) in &LEFT {
-        let mut proof = Vec::from_slice(rt.alloc(), PROOF)?;
-        proof.resize(11 + left, 0)?;
+        let proof = with_bytes_left(rt.alloc(), *left)?;
         let run = verified(rt.alloc(), FIRST, &STATE, &proof, &opening("1"))?;
         if !run.only_tells(5, line) {
             return Err(Fail::new(format_args!("{left}")));

@@ -141,7 +141,9 @@ fn repeated(
     last: &[u8],
 ) -> Result<Vec<u8>, AllocError> {
     let mut bytes = Vec::from_slice(alloc, first)?;
-    bytes.resize(first.len() + count, byte)?;
+    for _ in 0..count {
+        bytes.push(byte)?;
+    }
     bytes.extend_from_slice(last)?;
     Ok(bytes)
 }

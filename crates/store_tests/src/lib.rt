@@ -4,9 +4,9 @@
 #[cfg(test)]
 mod codec;
 #[cfg(test)]
-mod fragment;
+mod faults;
 #[cfg(test)]
-mod images;
+mod fragment;
 #[cfg(test)]
 mod large;
 #[cfg(test)]

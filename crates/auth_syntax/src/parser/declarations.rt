@@ -1,41 +1,43 @@
 // Declarations, and the program that they are.
 
 ghost use Rattle.std.specs.Prelude.{◌≡◌, true, false, IfOk, MatchResult};
-ghost use Rattle.auth_syntax.specs.declared.fault.Fault.TheVariants.{At};
-ghost use Rattle.auth_syntax.specs.declared.fault.SyntaxKind.TheVariants.{Expected};
-ghost use Rattle.auth_syntax.specs.Tokens.{KeywordToken, Next, End, count};
-ghost use Rattle.auth_syntax.specs.Parsing.{read_bar, read_constructor_declaration, read_constructors, read_declaration, read_declarations, read_function, read_function_declaration, read_list, read_parameter, read_state, read_type_declaration};
+ghost use Rattle.core_terms.specs.declared.fault.Fault.TheVariants.{At};
+ghost use Rattle.lexemes.specs.declared.fault.SyntaxKind.TheVariants.{Expected};
+ghost use Rattle.lexemes.specs.Tokens.{KeywordToken, Next, End, count};
+ghost use Rattle.auth_syntax.specs.Parsing.{read_bar, read_behind_parameters, read_constructor_declaration, read_constructors, read_declaration, read_declarations, read_function, read_function_declaration, read_list, read_parameter, read_state, read_type_declaration};
 ghost use Rattle.auth_syntax.specs.LanguageViews.{form_of, words_of};
-ghost use Rattle.auth_syntax.specs.Remaining.{remaining};
-ghost use Rattle.auth_syntax.specs.TokenViews.{token_view};
-ghost use Rattle.auth_syntax.specs.Trees.{constructor_of, constructors_of, declaration_of, declarations_of, function_of, kind_of, parameter_of, parameters_of, type_declaration_of};
-ghost use Rattle.auth_syntax.specs.Outcomes.{Reads};
+ghost use Rattle.lexemes.specs.Remaining.{remaining};
+ghost use Rattle.lexemes.specs.TokenViews.{token_view};
+ghost use Rattle.auth_syntax.specs.Trees.{constructor_of, constructors_of, declaration_of, declarations_of, function_of, kind_of, name_of, parameter_of, parameters_of, type_declaration_of};
+ghost use Rattle.lexemes.specs.Remaining.{Reads};
 
-use crate::fault::{Fault, SyntaxKind};
 use crate::language::{Form, Language};
-use crate::lexer::Lexeme;
 use crate::parser::expressions::whole_expression;
 use crate::parser::types::{field_types, whole_type};
-use crate::parser::{Parser, Placed};
-use crate::place::Place;
-use crate::token::{Keyword, Mark, Token};
+use crate::parser::{lower, upper};
 use crate::tree::{
-    Ast, ConstructorDeclaration, Declaration, Function, FunctionKind, Parameter, TypeDeclaration,
+    Ast, ConstructorDeclaration, Declaration, Function, FunctionKind, Parameter, PlacedName,
+    TypeDeclaration,
 };
+use lexemes::fault::{SyntaxFault, SyntaxKind};
+use lexemes::lexer::Lexeme;
+use lexemes::parser::{Parser, PlacedToken};
+use lexemes::place::Place;
+use lexemes::token::{Keyword, Mark, Token};
 
 /// All declarations up to the end of the text.
-pub(crate) fn program(parser: &mut Parser<'_>, language: Language) -> Result<Ast, Fault>
+pub(crate) fn program(parser: &mut Parser<'_>, language: Language) -> Result<Ast, SyntaxFault>
     ensures declarations { Reads (λ ast. declarations_of ast.declarations) (read_declarations (words_of language) (count (remaining parser.old)) (remaining parser.old)) result (remaining parser.new) }
     ensures end { IfOk result (λ ast. remaining parser.new ≡ End ast.end) }
 {
     let mut declarations = Vec::new(parser.alloc);
     'each: loop {
-        match parser.lexer.next(parser.alloc)? {
+        match parser.next()? {
             Lexeme::Token(at, token) => {
                 declarations.push(declaration(parser, language, at, token)?)?;
             }
             Lexeme::End(end) => return Ok(Ast { declarations, end }),
-            Lexeme::Fault(at, kind) => return Err(Fault::At(SyntaxKind::Lexical(kind), at)),
+            Lexeme::Fault(at, kind) => return Err(SyntaxFault::At(SyntaxKind::Lexical(kind), at)),
         }
     }
 }
@@ -46,12 +48,12 @@ fn declaration(
     language: Language,
     at: Place,
     token: Token<'_>,
-) -> Result<Declaration, Fault>
+) -> Result<Declaration, SyntaxFault>
     ensures { Reads declaration_of (read_declaration (words_of language) (Next at (token_view token.entry) (remaining parser.old))) result (remaining parser.new) }
 {
     match token {
         Token::Keyword(keyword) => declared_by(parser, language, at, keyword),
-        _ => Err(Fault::At(SyntaxKind::Expected, at)),
+        _ => Err(SyntaxFault::At(SyntaxKind::Expected, at)),
     }
 }
 
@@ -61,7 +63,7 @@ fn declared_by(
     language: Language,
     at: Place,
     keyword: Keyword,
-) -> Result<Declaration, Fault>
+) -> Result<Declaration, SyntaxFault>
     ensures { Reads declaration_of (read_declaration (words_of language) (Next at (KeywordToken keyword) (remaining parser.old))) result (remaining parser.new) }
 {
     match keyword {
@@ -80,23 +82,23 @@ fn declared_by(
             allow(language, Form::Updates, at)?;
             function(parser, language, at, FunctionKind::Update)
         }
-        _ => Err(Fault::At(SyntaxKind::Expected, at)),
+        _ => Err(SyntaxFault::At(SyntaxKind::Expected, at)),
     }
 }
 
 /// Refuses a token that begins a form, where the language lacks it.
-fn allow(language: Language, form: Form, at: Place) -> Result<(), Fault>
+fn allow(language: Language, form: Form, at: Place) -> Result<(), SyntaxFault>
     ensures { MatchResult result (λ _. words_of language (form_of form) ≡ true) (λ fault. (fault ≡ At Expected at) × (words_of language (form_of form) ≡ false)) }
 {
     if language.has(form) {
         Ok(())
     } else {
-        Err(Fault::At(SyntaxKind::Expected, at))
+        Err(SyntaxFault::At(SyntaxKind::Expected, at))
     }
 }
 
 /// The type of the state, behind its keyword.
-fn state(parser: &mut Parser<'_>, language: Language, at: Place) -> Result<Declaration, Fault>
+fn state(parser: &mut Parser<'_>, language: Language, at: Place) -> Result<Declaration, SyntaxFault>
     ensures { Reads declaration_of (read_state (words_of language) at (remaining parser.old)) result (remaining parser.new) }
 {
     let of_type = whole_type(parser, language)?;
@@ -109,10 +111,10 @@ fn type_declaration(
     parser: &mut Parser<'_>,
     language: Language,
     at: Place,
-) -> Result<Declaration, Fault>
+) -> Result<Declaration, SyntaxFault>
     ensures { Reads declaration_of (read_type_declaration (words_of language) at (remaining parser.old)) result (remaining parser.new) }
 {
-    let name = parser.lower()?;
+    let name = lower(parser)?;
     parser.mark(Mark::EqualsSign)?;
     let constructors = constructor_list(parser, language)?;
     Ok(Declaration::Type(at, TypeDeclaration { name, constructors }))
@@ -122,7 +124,7 @@ fn type_declaration(
 fn constructor_list(
     parser: &mut Parser<'_>,
     language: Language,
-) -> Result<Vec<ConstructorDeclaration>, Fault>
+) -> Result<Vec<ConstructorDeclaration>, SyntaxFault>
     ensures { Reads constructors_of (read_constructors (words_of language) (count (remaining parser.old)) (remaining parser.old)) result (remaining parser.new) }
 {
     let mut constructors = Vec::new(parser.alloc);
@@ -135,23 +137,26 @@ fn constructor_list(
 }
 
 /// A constructor, with the types of its fields.
-fn constructor(parser: &mut Parser<'_>, language: Language) -> Result<ConstructorDeclaration, Fault>
+fn constructor(
+    parser: &mut Parser<'_>,
+    language: Language,
+) -> Result<ConstructorDeclaration, SyntaxFault>
     ensures { Reads constructor_of (read_constructor_declaration (words_of language) (remaining parser.old)) result (remaining parser.new) }
 {
-    let name = parser.upper()?;
+    let name = upper(parser)?;
     let fields = field_types(parser, language)?;
     Ok(ConstructorDeclaration { name, fields })
 }
 
 /// Whether another constructor follows: behind a bar it does, behind the semicolon that ends the type it does not.
-fn bar(parser: &mut Parser<'_>) -> Result<bool, Fault>
+fn bar(parser: &mut Parser<'_>) -> Result<bool, SyntaxFault>
     ensures { Reads (λ follows. follows) (read_bar (remaining parser.old)) result (remaining parser.new) }
 {
-    let Placed { at, token } = parser.token()?;
+    let PlacedToken { at, token } = parser.token()?;
     match token {
         Token::Mark(Mark::Bar) => Ok(true),
         Token::Mark(Mark::Semicolon) => Ok(false),
-        _ => Err(Fault::At(SyntaxKind::Expected, at)),
+        _ => Err(SyntaxFault::At(SyntaxKind::Expected, at)),
     }
 }
 
@@ -161,7 +166,7 @@ fn function(
     language: Language,
     at: Place,
     kind: FunctionKind,
-) -> Result<Declaration, Fault>
+) -> Result<Declaration, SyntaxFault>
     ensures { Reads declaration_of (read_function_declaration (words_of language) at (kind_of kind) (remaining parser.old)) result (remaining parser.new) }
 {
     let function = function_of_kind(parser, language, kind)?;
@@ -173,12 +178,25 @@ fn function_of_kind(
     parser: &mut Parser<'_>,
     language: Language,
     kind: FunctionKind,
-) -> Result<Function, Fault>
+) -> Result<Function, SyntaxFault>
     ensures { Reads function_of (read_function (words_of language) (kind_of kind) (remaining parser.old)) result (remaining parser.new) }
 {
-    let name = parser.lower()?;
+    let name = lower(parser)?;
     parser.mark(Mark::LeftParenthesis)?;
     let parameters = parameter_list(parser, language)?;
+    behind_parameters(parser, language, kind, name, parameters)
+}
+
+/// The same function from the colon behind its parameters on.
+fn behind_parameters(
+    parser: &mut Parser<'_>,
+    language: Language,
+    kind: FunctionKind,
+    name: PlacedName,
+    parameters: Vec<Parameter>,
+) -> Result<Function, SyntaxFault>
+    ensures { Reads function_of (read_behind_parameters (words_of language) (kind_of kind) (name_of name) (parameters_of parameters) (remaining parser.old)) result (remaining parser.new) }
+{
     parser.mark(Mark::Colon)?;
     let result_type = whole_type(parser, language)?;
     parser.mark(Mark::EqualsSign)?;
@@ -194,7 +212,10 @@ fn function_of_kind(
 }
 
 /// At least one parameter, and the parenthesis that ends them.
-fn parameter_list(parser: &mut Parser<'_>, language: Language) -> Result<Vec<Parameter>, Fault>
+fn parameter_list(
+    parser: &mut Parser<'_>,
+    language: Language,
+) -> Result<Vec<Parameter>, SyntaxFault>
     ensures { Reads parameters_of (read_list (read_parameter (words_of language)) (count (remaining parser.old)) (remaining parser.old)) result (remaining parser.new) }
 {
     let mut parameters = Vec::new(parser.alloc);
@@ -207,10 +228,10 @@ fn parameter_list(parser: &mut Parser<'_>, language: Language) -> Result<Vec<Par
 }
 
 /// A parameter, with its type.
-fn parameter(parser: &mut Parser<'_>, language: Language) -> Result<Parameter, Fault>
+fn parameter(parser: &mut Parser<'_>, language: Language) -> Result<Parameter, SyntaxFault>
     ensures { Reads parameter_of (read_parameter (words_of language) (remaining parser.old)) result (remaining parser.new) }
 {
-    let name = parser.lower()?;
+    let name = lower(parser)?;
     parser.mark(Mark::Colon)?;
     let of_type = whole_type(parser, language)?;
     Ok(Parameter { name, of_type })

@@ -2,29 +2,31 @@
 
 ghost use Rattle.std.specs.Prelude.{◌≡◌, option_map};
 ghost use Rattle.auth_syntax.specs.Vocabulary.{Calls};
-ghost use Rattle.auth_syntax.specs.Tokens.{count};
-ghost use Rattle.auth_syntax.specs.Parsing.{begins_expression, expression_from, operation_begins, operation_from, read_arm_separator, read_arms, read_binary, read_call, read_expression, read_if, read_let, read_list, read_lower, read_match, read_optional_list, read_unary, read_unit_or_pair, read_whole_expression, word_begins, word_from};
+ghost use Rattle.lexemes.specs.Tokens.{count};
+ghost use Rattle.auth_syntax.specs.Parsing.{begins_expression, expression_from, operation_begins, operation_from, read_arm_separator, read_arms, read_binary, read_call, read_expression, read_if, read_let, read_list, read_lower, read_match, read_optional_list, read_pair, read_unary, read_unit_or_pair, read_whole_expression, word_begins, word_from};
 ghost use Rattle.auth_syntax.specs.Parsing as parsing;
 ghost use Rattle.auth_syntax.specs.Arms.{read_arm};
 ghost use Rattle.auth_syntax.specs.LanguageViews.{once_begun, words_of};
-ghost use Rattle.auth_syntax.specs.Remaining.{remaining};
-ghost use Rattle.auth_syntax.specs.TokenViews.{token_view};
-ghost use Rattle.auth_syntax.specs.Trees.{arm_of, arms_of, binary_of, boxed_of, expression_of, expressions_of, names_of, unary_of};
-ghost use Rattle.auth_syntax.specs.Outcomes.{Reads};
+ghost use Rattle.lexemes.specs.Remaining.{remaining};
+ghost use Rattle.lexemes.specs.TokenViews.{token_view};
+ghost use Rattle.auth_syntax.specs.Trees.{arm_of, arms_of, boxed_of, expression_of, expressions_of, names_of, unary_of};
+ghost use Rattle.lexemes.specs.Remaining.{Reads};
 
-use crate::fault::{Fault, SyntaxKind};
 use crate::language::{Form, Language};
-use crate::parser::{NESTING_LIMIT, Parser, Placed, name};
-use crate::place::Place;
-use crate::token::{Keyword, Mark, Token};
-use crate::tree::{Arm, BinaryOperator, ExpTree, PlacedName, UnaryOperator};
+use crate::parser::{NESTING_LIMIT, lower, name, upper};
+use crate::tree::{Arm, ExpTree, PlacedName, UnaryOperator};
 use core_terms::Name;
+use core_terms::language::BinaryOperator;
+use lexemes::fault::{SyntaxFault, SyntaxKind};
+use lexemes::parser::{Parser, PlacedToken};
+use lexemes::place::Place;
+use lexemes::token::{Keyword, Mark, Token};
 
 /// An expression that stands in no other.
 pub(crate) fn whole_expression(
     parser: &mut Parser<'_>,
     language: Language,
-) -> Result<ExpTree, Fault>
+) -> Result<ExpTree, SyntaxFault>
     ensures { Reads expression_of (read_whole_expression (words_of language) (remaining parser.old)) result (remaining parser.new) }
 {
     expression(parser, language, NESTING_LIMIT)
@@ -32,22 +34,30 @@ pub(crate) fn whole_expression(
 
 /// An expression, of at most so many levels.
 #[cycle(expressions)]
-fn expression(parser: &mut Parser<'_>, language: Language, levels: usize) -> Result<ExpTree, Fault>
+fn expression(
+    parser: &mut Parser<'_>,
+    language: Language,
+    levels: usize,
+) -> Result<ExpTree, SyntaxFault>
     ensures { Reads expression_of (read_expression (words_of language) levels (remaining parser.old)) result (remaining parser.new) }
 {
-    let Placed { at, token } = parser.token()?;
+    let PlacedToken { at, token } = parser.token()?;
     if !begins_expression(language, &token) {
-        return Err(Fault::At(SyntaxKind::Expected, at));
+        return Err(SyntaxFault::At(SyntaxKind::Expected, at));
     }
     if levels == 0 {
-        return Err(Fault::At(SyntaxKind::TooNested, at));
+        return Err(SyntaxFault::At(SyntaxKind::TooNested, at));
     }
     expression_from(parser, language, at, token, levels - 1)
 }
 
 /// An expression on the heap, of at most so many levels.
 #[cycle(expressions)]
-fn boxed(parser: &mut Parser<'_>, language: Language, levels: usize) -> Result<Box<ExpTree>, Fault>
+fn boxed(
+    parser: &mut Parser<'_>,
+    language: Language,
+    levels: usize,
+) -> Result<Box<ExpTree>, SyntaxFault>
     ensures { Reads boxed_of (read_expression (words_of language) levels (remaining parser.old)) result (remaining parser.new) }
 {
     let expression = expression(parser, language, levels)?;
@@ -62,7 +72,7 @@ fn expression_from(
     at: Place,
     token: Token<'_>,
     levels: usize,
-) -> Result<ExpTree, Fault>
+) -> Result<ExpTree, SyntaxFault>
     // that the language has what the token begins was found before
     ensures { Reads expression_of (expression_from (once_begun (words_of language)) (read_expression (words_of language) levels) at (token_view token.entry) (remaining parser.old)) result (remaining parser.new) }
 {
@@ -80,7 +90,7 @@ fn expression_from(
         Token::Int(value) => Ok(ExpTree::IntLiteral(at, value)),
         Token::Text(text) => Ok(ExpTree::TextLiteral(at, text)),
         Token::Keyword(keyword) => word(parser, language, at, keyword, levels),
-        Token::Mark(_) => Err(Fault::At(SyntaxKind::Expected, at)),
+        Token::Mark(_) => Err(SyntaxFault::At(SyntaxKind::Expected, at)),
     }
 }
 
@@ -91,16 +101,29 @@ fn unit_or_pair(
     language: Language,
     at: Place,
     levels: usize,
-) -> Result<ExpTree, Fault>
+) -> Result<ExpTree, SyntaxFault>
     ensures { Reads expression_of (read_unit_or_pair (words_of language) (read_expression (words_of language) levels) at (remaining parser.old)) result (remaining parser.new) }
 {
     if parser.if_mark(Mark::RightParenthesis)? {
         return Ok(ExpTree::UnitLiteral(at));
     }
     if !language.has(Form::Pairs) {
-        let Placed { at, .. } = parser.token()?;
-        return Err(Fault::At(SyntaxKind::Expected, at));
+        let PlacedToken { at, .. } = parser.token()?;
+        return Err(SyntaxFault::At(SyntaxKind::Expected, at));
     }
+    pair(parser, language, at, levels)
+}
+
+/// Behind a parenthesis: two expressions, and the parenthesis that ends them.
+#[cycle(expressions)]
+fn pair(
+    parser: &mut Parser<'_>,
+    language: Language,
+    at: Place,
+    levels: usize,
+) -> Result<ExpTree, SyntaxFault>
+    ensures { Reads expression_of (read_pair (read_expression (words_of language) levels) at (remaining parser.old)) result (remaining parser.new) }
+{
     let first = boxed(parser, language, levels)?;
     parser.mark(Mark::Comma)?;
     let second = boxed(parser, language, levels)?;
@@ -116,7 +139,7 @@ fn local_or_call(
     at: Place,
     name: Name,
     levels: usize,
-) -> Result<ExpTree, Fault>
+) -> Result<ExpTree, SyntaxFault>
     ensures { Reads expression_of (read_call (words_of language Calls) (read_expression (words_of language) levels) at name (remaining parser.old)) result (remaining parser.new) }
 {
     if !language.has(Form::Calls) {
@@ -131,7 +154,11 @@ fn local_or_call(
 
 /// The fields of a constructor: none where no parenthesis stands.
 #[cycle(expressions)]
-fn fields(parser: &mut Parser<'_>, language: Language, levels: usize) -> Result<Vec<ExpTree>, Fault>
+fn fields(
+    parser: &mut Parser<'_>,
+    language: Language,
+    levels: usize,
+) -> Result<Vec<ExpTree>, SyntaxFault>
     ensures { Reads expressions_of (read_optional_list (read_expression (words_of language) levels) (remaining parser.old)) result (remaining parser.new) }
 {
     if !parser.if_mark(Mark::LeftParenthesis)? {
@@ -146,7 +173,7 @@ fn expression_list(
     parser: &mut Parser<'_>,
     language: Language,
     levels: usize,
-) -> Result<Vec<ExpTree>, Fault>
+) -> Result<Vec<ExpTree>, SyntaxFault>
     ensures { Reads expressions_of (read_list (read_expression (words_of language) levels) (count (remaining parser.old)) (remaining parser.old)) result (remaining parser.new) }
 {
     let mut expressions = Vec::new(parser.alloc);
@@ -166,7 +193,7 @@ fn word(
     at: Place,
     keyword: Keyword,
     levels: usize,
-) -> Result<ExpTree, Fault>
+) -> Result<ExpTree, SyntaxFault>
     ensures { Reads expression_of (word_from (once_begun (words_of language)) (read_expression (words_of language) levels) at keyword (remaining parser.old)) result (remaining parser.new) }
 {
     match keyword {
@@ -187,7 +214,7 @@ fn operation(
     at: Place,
     keyword: Keyword,
     levels: usize,
-) -> Result<ExpTree, Fault>
+) -> Result<ExpTree, SyntaxFault>
     ensures { Reads expression_of (operation_from (once_begun (words_of language)) (read_expression (words_of language) levels) at (parsing.unary_of keyword) (parsing.binary_of keyword) (remaining parser.old)) result (remaining parser.new) }
 {
     if let Some(operator) = unary_operator(keyword) {
@@ -195,7 +222,7 @@ fn operation(
     }
     match binary_operator(keyword) {
         Some(operator) => binary(parser, language, at, operator, levels),
-        None => Err(Fault::At(SyntaxKind::Expected, at)),
+        None => Err(SyntaxFault::At(SyntaxKind::Expected, at)),
     }
 }
 
@@ -207,7 +234,7 @@ fn unary(
     at: Place,
     operator: UnaryOperator,
     levels: usize,
-) -> Result<ExpTree, Fault>
+) -> Result<ExpTree, SyntaxFault>
     ensures { Reads expression_of (read_unary (read_expression (words_of language) levels) at (unary_of operator) (remaining parser.old)) result (remaining parser.new) }
 {
     parser.mark(Mark::LeftParenthesis)?;
@@ -224,8 +251,8 @@ fn binary(
     at: Place,
     operator: BinaryOperator,
     levels: usize,
-) -> Result<ExpTree, Fault>
-    ensures { Reads expression_of (read_binary (read_expression (words_of language) levels) at (binary_of operator) (remaining parser.old)) result (remaining parser.new) }
+) -> Result<ExpTree, SyntaxFault>
+    ensures { Reads expression_of (read_binary (read_expression (words_of language) levels) at operator (remaining parser.old)) result (remaining parser.new) }
 {
     parser.mark(Mark::LeftParenthesis)?;
     let first = boxed(parser, language, levels)?;
@@ -242,10 +269,10 @@ fn let_in(
     language: Language,
     at: Place,
     levels: usize,
-) -> Result<ExpTree, Fault>
+) -> Result<ExpTree, SyntaxFault>
     ensures { Reads expression_of (read_let (read_expression (words_of language) levels) at (remaining parser.old)) result (remaining parser.new) }
 {
-    let name = parser.lower()?;
+    let name = lower(parser)?;
     parser.mark(Mark::EqualsSign)?;
     let bound = boxed(parser, language, levels)?;
     parser.keyword(Keyword::In)?;
@@ -265,7 +292,7 @@ fn conditional(
     language: Language,
     at: Place,
     levels: usize,
-) -> Result<ExpTree, Fault>
+) -> Result<ExpTree, SyntaxFault>
     ensures { Reads expression_of (read_if (read_expression (words_of language) levels) at (remaining parser.old)) result (remaining parser.new) }
 {
     let test = boxed(parser, language, levels)?;
@@ -288,7 +315,7 @@ fn matching(
     language: Language,
     at: Place,
     levels: usize,
-) -> Result<ExpTree, Fault>
+) -> Result<ExpTree, SyntaxFault>
     ensures { Reads expression_of (read_match (read_expression (words_of language) levels) at (remaining parser.old)) result (remaining parser.new) }
 {
     let subject = boxed(parser, language, levels)?;
@@ -300,7 +327,11 @@ fn matching(
 
 /// Behind a bar: at least one arm, and the `end` behind them.
 #[cycle(expressions)]
-fn arm_list(parser: &mut Parser<'_>, language: Language, levels: usize) -> Result<Vec<Arm>, Fault>
+fn arm_list(
+    parser: &mut Parser<'_>,
+    language: Language,
+    levels: usize,
+) -> Result<Vec<Arm>, SyntaxFault>
     ensures { Reads arms_of (read_arms (read_expression (words_of language) levels) (count (remaining parser.old)) (remaining parser.old)) result (remaining parser.new) }
 {
     let mut arms = Vec::new(parser.alloc);
@@ -314,10 +345,10 @@ fn arm_list(parser: &mut Parser<'_>, language: Language, levels: usize) -> Resul
 
 /// An arm, behind its bar.
 #[cycle(expressions)]
-fn arm(parser: &mut Parser<'_>, language: Language, levels: usize) -> Result<Arm, Fault>
+fn arm(parser: &mut Parser<'_>, language: Language, levels: usize) -> Result<Arm, SyntaxFault>
     ensures { Reads arm_of (read_arm (read_expression (words_of language) levels) (remaining parser.old)) result (remaining parser.new) }
 {
-    let constructor = parser.upper()?;
+    let constructor = upper(parser)?;
     let fields = field_names(parser)?;
     parser.mark(Mark::Arrow)?;
     let body = expression(parser, language, levels)?;
@@ -329,19 +360,19 @@ fn arm(parser: &mut Parser<'_>, language: Language, levels: usize) -> Result<Arm
 }
 
 /// Whether another arm follows: behind a bar it does, behind `end` it does not.
-fn arm_separator(parser: &mut Parser<'_>) -> Result<bool, Fault>
+fn arm_separator(parser: &mut Parser<'_>) -> Result<bool, SyntaxFault>
     ensures { Reads (λ follows. follows) (read_arm_separator (remaining parser.old)) result (remaining parser.new) }
 {
-    let Placed { at, token } = parser.token()?;
+    let PlacedToken { at, token } = parser.token()?;
     match token {
         Token::Mark(Mark::Bar) => Ok(true),
         Token::Keyword(Keyword::End) => Ok(false),
-        _ => Err(Fault::At(SyntaxKind::Expected, at)),
+        _ => Err(SyntaxFault::At(SyntaxKind::Expected, at)),
     }
 }
 
 /// The names of an arm's fields: none where no parenthesis stands.
-fn field_names(parser: &mut Parser<'_>) -> Result<Vec<PlacedName>, Fault>
+fn field_names(parser: &mut Parser<'_>) -> Result<Vec<PlacedName>, SyntaxFault>
     ensures { Reads names_of (read_optional_list read_lower (remaining parser.old)) result (remaining parser.new) }
 {
     if !parser.if_mark(Mark::LeftParenthesis)? {
@@ -351,12 +382,12 @@ fn field_names(parser: &mut Parser<'_>) -> Result<Vec<PlacedName>, Fault>
 }
 
 /// At least one lower name, and the parenthesis that ends them.
-fn name_list(parser: &mut Parser<'_>) -> Result<Vec<PlacedName>, Fault>
+fn name_list(parser: &mut Parser<'_>) -> Result<Vec<PlacedName>, SyntaxFault>
     ensures { Reads names_of (read_list read_lower (count (remaining parser.old)) (remaining parser.old)) result (remaining parser.new) }
 {
     let mut names = Vec::new(parser.alloc);
     'each: loop {
-        names.push(parser.lower()?)?;
+        names.push(lower(parser)?)?;
         if !parser.separator()? {
             return Ok(names);
         }
@@ -380,20 +411,10 @@ fn unary_operator(keyword: Keyword) -> Option<UnaryOperator>
 
 /// The operation on two operands whose word a keyword is.
 fn binary_operator(keyword: Keyword) -> Option<BinaryOperator>
-    ensures { option_map binary_of result ≡ parsing.binary_of keyword }
+    ensures { result ≡ parsing.binary_of keyword }
 {
     match keyword {
-        Keyword::Add => Some(BinaryOperator::Add),
-        Keyword::Sub => Some(BinaryOperator::Sub),
-        Keyword::Mul => Some(BinaryOperator::Mul),
-        Keyword::Div => Some(BinaryOperator::Div),
-        Keyword::Rem => Some(BinaryOperator::Rem),
-        Keyword::Eq => Some(BinaryOperator::Eq),
-        Keyword::Lt => Some(BinaryOperator::Lt),
-        Keyword::Le => Some(BinaryOperator::Le),
-        Keyword::Teq => Some(BinaryOperator::Teq),
-        Keyword::Tlt => Some(BinaryOperator::Tlt),
-        Keyword::Cat => Some(BinaryOperator::Cat),
+        Keyword::Binary(operator) => Some(operator),
         _ => None,
     }
 }

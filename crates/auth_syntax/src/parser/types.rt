@@ -2,23 +2,27 @@
 
 ghost use Rattle.std.specs.Prelude.{◌≡◌, true, IsTrue};
 ghost use Rattle.auth_syntax.specs.Vocabulary.{whole_language};
-ghost use Rattle.auth_syntax.specs.Tokens.{count};
+ghost use Rattle.lexemes.specs.Tokens.{count};
 ghost use Rattle.auth_syntax.specs.Parsing.{begins_type, type_from, read_auth_type, read_list, read_optional_list, read_pair_type, read_type, read_whole_type};
 ghost use Rattle.auth_syntax.specs.LanguageViews.{words_of};
-ghost use Rattle.auth_syntax.specs.Remaining.{remaining};
-ghost use Rattle.auth_syntax.specs.TokenViews.{token_view};
+ghost use Rattle.lexemes.specs.Remaining.{remaining};
+ghost use Rattle.lexemes.specs.TokenViews.{token_view};
 ghost use Rattle.auth_syntax.specs.Trees.{boxed_type_of, type_of, types_of};
-ghost use Rattle.auth_syntax.specs.Outcomes.{Reads};
+ghost use Rattle.lexemes.specs.Remaining.{Reads};
 
-use crate::fault::{Fault, SyntaxKind};
 use crate::language::{Form, Language};
-use crate::parser::{NESTING_LIMIT, Parser, Placed, name};
-use crate::place::Place;
-use crate::token::{Keyword, Mark, Token};
+use crate::parser::{NESTING_LIMIT, name};
 use crate::tree::TypeTree;
+use lexemes::fault::{SyntaxFault, SyntaxKind};
+use lexemes::parser::{Parser, PlacedToken};
+use lexemes::place::Place;
+use lexemes::token::{Keyword, Mark, Token};
 
 /// A type that stands in no other.
-pub(crate) fn whole_type(parser: &mut Parser<'_>, language: Language) -> Result<TypeTree, Fault>
+pub(crate) fn whole_type(
+    parser: &mut Parser<'_>,
+    language: Language,
+) -> Result<TypeTree, SyntaxFault>
     ensures { Reads type_of (read_whole_type (words_of language) (remaining parser.old)) result (remaining parser.new) }
 {
     written_type(parser, language, NESTING_LIMIT)
@@ -30,15 +34,15 @@ fn written_type(
     parser: &mut Parser<'_>,
     language: Language,
     levels: usize,
-) -> Result<TypeTree, Fault>
+) -> Result<TypeTree, SyntaxFault>
     ensures { Reads type_of (read_type (words_of language) levels (remaining parser.old)) result (remaining parser.new) }
 {
-    let Placed { at, token } = parser.token()?;
+    let PlacedToken { at, token } = parser.token()?;
     if !begins_type(language, &token) {
-        return Err(Fault::At(SyntaxKind::Expected, at));
+        return Err(SyntaxFault::At(SyntaxKind::Expected, at));
     }
     if levels == 0 {
-        return Err(Fault::At(SyntaxKind::TooNested, at));
+        return Err(SyntaxFault::At(SyntaxKind::TooNested, at));
     }
     type_from(parser, language, at, token, levels - 1)
 }
@@ -51,7 +55,7 @@ fn type_from(
     at: Place,
     token: Token<'_>,
     levels: usize,
-) -> Result<TypeTree, Fault>
+) -> Result<TypeTree, SyntaxFault>
     // that the language has the type was found before
     ensures { Reads type_of (type_from whole_language (read_type (words_of language) levels) at (token_view token.entry) (remaining parser.old)) result (remaining parser.new) }
 {
@@ -63,7 +67,7 @@ fn type_from(
         Token::Lower(bytes) => Ok(TypeTree::NamedType(at, name(parser.alloc, bytes)?)),
         Token::Keyword(Keyword::Auth) => auth_type(parser, language, at, levels),
         Token::Mark(Mark::LeftParenthesis) => pair_type(parser, language, at, levels),
-        _ => Err(Fault::At(SyntaxKind::Expected, at)),
+        _ => Err(SyntaxFault::At(SyntaxKind::Expected, at)),
     }
 }
 
@@ -73,7 +77,7 @@ fn boxed_type(
     parser: &mut Parser<'_>,
     language: Language,
     levels: usize,
-) -> Result<Box<TypeTree>, Fault>
+) -> Result<Box<TypeTree>, SyntaxFault>
     ensures { Reads boxed_type_of (read_type (words_of language) levels (remaining parser.old)) result (remaining parser.new) }
 {
     let written = written_type(parser, language, levels)?;
@@ -87,7 +91,7 @@ fn auth_type(
     language: Language,
     at: Place,
     levels: usize,
-) -> Result<TypeTree, Fault>
+) -> Result<TypeTree, SyntaxFault>
     ensures { Reads type_of (read_auth_type (read_type (words_of language) levels) at (remaining parser.old)) result (remaining parser.new) }
 {
     let inner = boxed_type(parser, language, levels)?;
@@ -101,7 +105,7 @@ fn pair_type(
     language: Language,
     at: Place,
     levels: usize,
-) -> Result<TypeTree, Fault>
+) -> Result<TypeTree, SyntaxFault>
     ensures { Reads type_of (read_pair_type (read_type (words_of language) levels) at (remaining parser.old)) result (remaining parser.new) }
 {
     let first = boxed_type(parser, language, levels)?;
@@ -131,7 +135,7 @@ fn begins_type(language: Language, token: &Token<'_>) -> bool
 pub(crate) fn field_types(
     parser: &mut Parser<'_>,
     language: Language,
-) -> Result<Vec<TypeTree>, Fault>
+) -> Result<Vec<TypeTree>, SyntaxFault>
     ensures { Reads types_of (read_optional_list (read_whole_type (words_of language)) (remaining parser.old)) result (remaining parser.new) }
 {
     if !parser.if_mark(Mark::LeftParenthesis)? {
@@ -141,7 +145,7 @@ pub(crate) fn field_types(
 }
 
 /// At least one type, and the parenthesis that ends them.
-fn type_list(parser: &mut Parser<'_>, language: Language) -> Result<Vec<TypeTree>, Fault>
+fn type_list(parser: &mut Parser<'_>, language: Language) -> Result<Vec<TypeTree>, SyntaxFault>
     ensures { Reads types_of (read_list (read_whole_type (words_of language)) (count (remaining parser.old)) (remaining parser.old)) result (remaining parser.new) }
 {
     let mut types = Vec::new(parser.alloc);

@@ -8,13 +8,17 @@ ghost use Rattle.auth_types.specs.Scopes.{AreWithin};
 ghost use Rattle.auth_types.specs.Elaborators.{locals_of, scope_of, types_of};
 
 use crate::bodies::elaborator::Elaborator;
-use crate::fault::{Fault, TypeKind};
+use crate::fault::{TypeFault, TypeKind};
 use auth_syntax::tree::PlacedName;
 use core_terms::TyId;
 
 impl<'s, 'a> Elaborator<'s, 'a> {
     /// Binds the names of a pattern to values of these types, as the next locals.
-    pub(super) fn bind_each(&mut self, names: &'a [PlacedName], types: &[TyId]) -> Result<(), Fault>
+    pub(super) fn bind_each(
+        &mut self,
+        names: &'a [PlacedName],
+        types: &[TyId],
+    ) -> Result<(), TypeFault>
         requires count { length names.now ≡ length types.now }
         requires within { AreWithin (length (types_of self.old)) types.now }
         ensures types { types_of self.new ≡ types_of self.old }
@@ -25,7 +29,7 @@ impl<'s, 'a> Elaborator<'s, 'a> {
         let outer = self.depth();
         for (index, name) in names.iter().enumerate() {
             if self.is_bound_behind(outer, &name.name) {
-                return Err(Fault::At(TypeKind::Twice, name.at));
+                return Err(TypeFault::At(TypeKind::Twice, name.at));
             }
             self.bind(name, types[index])?;
         }

@@ -8,12 +8,12 @@ ghost use Rattle.auth_types.specs.Scopes.{function_meant};
 ghost use Rattle.auth_types.specs.Elaborators.{Calls, Constructs, Matches, scope_of, types_of};
 
 use crate::bodies::elaborator::Elaborator;
-use crate::fault::{Fault, TypeKind};
+use crate::fault::{TypeFault, TypeKind};
 use crate::scope::ConstructorId;
-use auth_syntax::place::Place;
 use auth_syntax::tree::Arm;
 use core_terms::language::{Constructor, NamedId, TyForm};
 use core_terms::{FunctionId, Name, TyId};
+use lexemes::place::Place;
 
 /// Whether the arms are of these constructors, in order.
 fn are_of(arms: &[Arm], constructors: &[Constructor]) -> bool
@@ -32,30 +32,40 @@ fn are_of(arms: &[Arm], constructors: &[Constructor]) -> bool
 
 impl<'s, 'a> Elaborator<'s, 'a> {
     /// The function that a call at this place names, which has so many parameters.
-    pub(super) fn callee(&self, at: Place, name: &Name, count: usize) -> Result<FunctionId, Fault>
+    pub(super) fn callee(
+        &self,
+        at: Place,
+        name: &Name,
+        count: usize,
+    ) -> Result<FunctionId, TypeFault>
         ensures found { Calls at count (function_named 0 (scope_of self.now).functions name.now) (function_meant (types_of self.now) self.now.scope.now) result }
         ensures count { IfOk result (λ id. count ≡ length (function_meant (types_of self.now) self.now.scope.now id).value.parameters) }
         ensures inside { IfOk result (λ id. id.0 < length self.now.scope.now.heads.items) }
     {
         let Some(id) = self.scope.function(name) else {
-            return Err(Fault::At(TypeKind::UnknownName, at));
+            return Err(TypeFault::At(TypeKind::UnknownName, at));
         };
         if count != self.scope.head(id).parameters.len() {
-            return Err(Fault::At(TypeKind::WrongCount, at));
+            return Err(TypeFault::At(TypeKind::WrongCount, at));
         }
         Ok(id)
     }
 
     /// The constructor of a name at this place, which has so many fields.
-    pub(super) fn maker(&self, at: Place, name: &Name, count: usize) -> Result<ConstructorId, Fault>
+    pub(super) fn maker(
+        &self,
+        at: Place,
+        name: &Name,
+        count: usize,
+    ) -> Result<ConstructorId, TypeFault>
         ensures found { Constructs at count (scope_of self.now).table (constructor_named 0 (scope_of self.now).constructors name.now) result }
         ensures count { IfOk result (λ id. count ≡ length (unwrap_or (fields_at (scope_of self.now).table id.named.0 id.tag.0) [])) }
     {
         let Some(id) = self.scope.constructor(name) else {
-            return Err(Fault::At(TypeKind::UnknownName, at));
+            return Err(TypeFault::At(TypeKind::UnknownName, at));
         };
         if count != self.scope.fields(id).len() {
-            return Err(Fault::At(TypeKind::WrongCount, at));
+            return Err(TypeFault::At(TypeKind::WrongCount, at));
         }
         Ok(id)
     }
@@ -67,15 +77,15 @@ impl<'s, 'a> Elaborator<'s, 'a> {
         subject: Place,
         ty: TyId,
         arms: &[Arm],
-    ) -> Result<NamedId, Fault>
+    ) -> Result<NamedId, TypeFault>
         ensures found { Matches (scope_of self.now) at subject (type_at (types_of self.now) ty) (arm_names (written.arms_in_a_row (map written.arm_of arms.now))) result }
         ensures count { IfOk result (λ named. length arms.now ≡ length (unwrap_or (slice_get (scope_of self.now).table named.0) [])) }
     {
         let TyForm::NamedForm(named) = self.form(ty) else {
-            return Err(Fault::At(TypeKind::NotSum, subject));
+            return Err(TypeFault::At(TypeKind::NotSum, subject));
         };
         if !are_of(arms, self.scope.constructors(named)) {
-            return Err(Fault::At(TypeKind::ArmsWrong, at));
+            return Err(TypeFault::At(TypeKind::ArmsWrong, at));
         }
         Ok(named)
     }

@@ -8,12 +8,12 @@ ghost use Rattle.auth_types.specs.Locals.{AreLocalsWithin, locals_meant};
 ghost use Rattle.auth_types.specs.Scopes.{IsWithin};
 
 use crate::bodies::Typed;
-use crate::fault::{Fault, Limited, TypeKind};
+use crate::fault::{Limited, TypeFault, TypeKind};
 use crate::scope::Scope;
-use auth_syntax::place::Place;
 use auth_syntax::tree::PlacedName;
 use core_terms::language::{Term, TyForm, TyTable};
 use core_terms::{LocalId, Name, Text, TyId};
+use lexemes::place::Place;
 use std::alloc::{AllocError, Global};
 
 /// How many locals there may be at one place.
@@ -127,7 +127,7 @@ impl<'s, 'a> Elaborator<'s, 'a> {
     }
 
     /// The term at this place, which has this type.
-    pub(super) fn wanted(&self, at: Place, ty: TyId, part: Typed) -> Result<Box<Term>, Fault>
+    pub(super) fn wanted(&self, at: Place, ty: TyId, part: Typed) -> Result<Box<Term>, TypeFault>
         requires wanted { ty.0 < length (types_of self.now) }
         requires part { part.ty.0 < length (types_of self.now) }
         ensures { (found : Checking specified.Typed) → Shows (types_of self.now) typed_of found part → FindsOver (types_of self.now) boxed_of (wanted at (type_at (types_of self.now) ty) found) result }
@@ -135,12 +135,12 @@ impl<'s, 'a> Elaborator<'s, 'a> {
         if self.types.is_same(part.ty, ty) {
             Ok(part.term)
         } else {
-            Err(Fault::At(TypeKind::WrongType, at))
+            Err(TypeFault::At(TypeKind::WrongType, at))
         }
     }
 
     /// A term of this type.
-    pub(super) fn typed(&self, term: Term, ty: TyId) -> Result<Typed, Fault>
+    pub(super) fn typed(&self, term: Term, ty: TyId) -> Result<Typed, TypeFault>
         requires { ty.0 < length (types_of self.now) }
         ensures found { (found : Checking specified.Typed) → ShowsTerm (types_of self.now) found term ty → FindsOver (types_of self.now) typed_of found result }
         ensures inside { IfOk result (λ typed. typed.ty.0 < length (types_of self.now)) }
@@ -150,7 +150,7 @@ impl<'s, 'a> Elaborator<'s, 'a> {
     }
 
     /// A term whose type has this form, and no parts.
-    pub(super) fn plain(&mut self, term: Term, form: TyForm) -> Result<Typed, Fault>
+    pub(super) fn plain(&mut self, term: Term, form: TyForm) -> Result<Typed, TypeFault>
         requires { stands_behind 0 form ≡ true }
         ensures keeps { OnOk result (Keeps self.old self.new) }
         ensures found { (found : Checking specified.Typed) → (Keeps self.old self.new → (more : List Ty) → found ≡ typed (expression_of (types_of self.new ++ more) term) (type_of_form [] form)) → FindsOver (types_of self.new) typed_of found result }
@@ -161,7 +161,7 @@ impl<'s, 'a> Elaborator<'s, 'a> {
     }
 
     /// A text, which is copied.
-    pub(super) fn text(&mut self, text: &Text) -> Result<Typed, Fault>
+    pub(super) fn text(&mut self, text: &Text) -> Result<Typed, TypeFault>
         ensures keeps { OnOk result (Keeps self.old self.new) }
         ensures found { FindsOver (types_of self.new) typed_of (typed (TextE (bytes_of text.now)) TextTy) result }
         ensures inside { IfOk result (λ typed. typed.ty.0 < length (types_of self.new)) }
@@ -171,13 +171,13 @@ impl<'s, 'a> Elaborator<'s, 'a> {
     }
 
     /// The innermost local of a name that stands at this place.
-    pub(super) fn local(&self, at: Place, name: &Name) -> Result<Typed, Fault>
+    pub(super) fn local(&self, at: Place, name: &Name) -> Result<Typed, TypeFault>
         ensures found { FindsOver (types_of self.now) typed_of (found_at self.now (LocalSyntax at name.now)) result }
         ensures inside { IfOk result (λ typed. typed.ty.0 < length (types_of self.now)) }
     {
         match innermost(&self.locals, name) {
             Some(number) => self.typed(Term::Local(LocalId(number)), self.locals[number].ty),
-            None => Err(Fault::At(TypeKind::UnknownName, at)),
+            None => Err(TypeFault::At(TypeKind::UnknownName, at)),
         }
     }
 
@@ -189,14 +189,14 @@ impl<'s, 'a> Elaborator<'s, 'a> {
     }
 
     /// Binds a name to a value of this type, as the next local. There may be 255 at one place.
-    pub(super) fn bind(&mut self, name: &'a PlacedName, ty: TyId) -> Result<(), Fault>
+    pub(super) fn bind(&mut self, name: &'a PlacedName, ty: TyId) -> Result<(), TypeFault>
         requires { ty.0 < length (types_of self.old) }
         ensures types { types_of self.new ≡ types_of self.old }
         ensures scope { scope_of self.new ≡ scope_of self.old }
         ensures found { Finds (λ _. locals_of self.new) (unless_fault (nat_lt (length (locals_of self.old)) most_locals) (Limit Locals) name.now.at (Sound (locals_of self.old ++ record { name = name.now.name; of_type = type_at (types_of self.old) ty } ∷ []))) result }
     {
         if self.depth() >= MOST_LOCALS {
-            return Err(Fault::At(TypeKind::Limit(Limited::Locals), name.at));
+            return Err(TypeFault::At(TypeKind::Limit(Limited::Locals), name.at));
         }
         Ok(self.push(name, ty)?)
     }

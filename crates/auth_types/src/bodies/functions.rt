@@ -15,7 +15,7 @@ ghost use Rattle.auth_syntax.specs.Syntax as syntax;
 ghost use Rattle.auth_types.specs.Scopes.{AreWithin, IsCounted, IsHeadWithin, IsWithin, functions_meant, scope_meant, signature_meant};
 
 use crate::bodies::elaborator::Elaborator;
-use crate::fault::Fault;
+use crate::fault::TypeFault;
 use crate::scope::{Head, Scope};
 use auth_syntax::tree::{FunctionKind, Parameter};
 use core_terms::language::{Function, Kind, Term, TyTable};
@@ -83,7 +83,7 @@ impl<'s, 'a> Elaborator<'s, 'a> {
     }
 
     /// A function, with its body. No locals stand here before and behind.
-    fn function(&mut self, head: &Head<'a>) -> Result<Function, Fault>
+    fn function(&mut self, head: &Head<'a>) -> Result<Function, TypeFault>
         requires within { IsHeadWithin (length (types_of self.old)) head.now }
         requires count { IsCounted head.now }
         requires locals { locals_of self.old ≡ [] }
@@ -106,7 +106,11 @@ impl<'s, 'a> Elaborator<'s, 'a> {
 /// # Errors
 ///
 /// `At` with the first fault of the first body that has one, and `NoMemory` where there is no memory for the functions.
-pub(crate) fn fourth_pass(alloc: Global, types: TyTable, scope: &Scope<'_>) -> Result<Bodies, Fault>
+pub(crate) fn fourth_pass(
+    alloc: Global,
+    types: TyTable,
+    scope: &Scope<'_>,
+) -> Result<Bodies, TypeFault>
     requires within { IsWithin (length (types_in types)) scope.now }
     requires counts { All IsCounted scope.now.heads.items }
     ensures grows { IfOk result (λ bodies. Grows (types_in types) (types_in bodies.types)) }

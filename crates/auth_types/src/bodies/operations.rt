@@ -15,47 +15,32 @@ ghost use Rattle.auth_types.specs.Elaborators.{Keeps, boxed_of, typed_of, types_
 
 use crate::bodies::Typed;
 use crate::bodies::elaborator::Elaborator;
-use crate::fault::{Fault, TypeKind};
-use auth_syntax::place::Place;
-use auth_syntax::tree::{BinaryOperator, UnaryOperator};
+use crate::fault::{TypeFault, TypeKind};
+use auth_syntax::tree::UnaryOperator;
 use core_terms::TyId;
-use core_terms::language::{Arith, Compare, Term, TextCompare, TyForm};
+use core_terms::language::{BinaryOperator, Term, TyForm};
+use lexemes::place::Place;
 use std::alloc::AllocError;
 
 /// The form of the type of the operands.
 fn operand_form(operator: BinaryOperator) -> TyForm
-    ensures form { (types : List Ty) → type_of_form types result ≡ operand_type (written.binary_of operator) }
+    ensures form { (types : List Ty) → type_of_form types result ≡ operand_type operator }
     ensures plain { (count : ℕ) → stands_behind count result ≡ true }
 {
     match operator {
-        BinaryOperator::Add
-        | BinaryOperator::Sub
-        | BinaryOperator::Mul
-        | BinaryOperator::Div
-        | BinaryOperator::Rem
-        | BinaryOperator::Eq
-        | BinaryOperator::Lt
-        | BinaryOperator::Le => TyForm::IntForm,
-        BinaryOperator::Teq | BinaryOperator::Tlt | BinaryOperator::Cat => TyForm::TextForm,
+        BinaryOperator::Arith(_) | BinaryOperator::Compare(_) => TyForm::IntForm,
+        BinaryOperator::TextCompare(_) | BinaryOperator::Cat => TyForm::TextForm,
     }
 }
 
 /// The form of the type of the result.
 fn result_form(operator: BinaryOperator) -> TyForm
-    ensures form { type_of_form [] result ≡ result_type (written.binary_of operator) }
+    ensures form { type_of_form [] result ≡ result_type operator }
     ensures plain { stands_behind 0 result ≡ true }
 {
     match operator {
-        BinaryOperator::Add
-        | BinaryOperator::Sub
-        | BinaryOperator::Mul
-        | BinaryOperator::Div
-        | BinaryOperator::Rem => TyForm::IntForm,
-        BinaryOperator::Eq
-        | BinaryOperator::Lt
-        | BinaryOperator::Le
-        | BinaryOperator::Teq
-        | BinaryOperator::Tlt => TyForm::BoolForm,
+        BinaryOperator::Arith(_) => TyForm::IntForm,
+        BinaryOperator::Compare(_) | BinaryOperator::TextCompare(_) => TyForm::BoolForm,
         BinaryOperator::Cat => TyForm::TextForm,
     }
 }
@@ -63,26 +48,19 @@ fn result_form(operator: BinaryOperator) -> TyForm
 /// The term of an operation on two terms.
 #[tactic(auto, using(crate::proofs::TermViews::operations_meant))]
 fn operation(operator: BinaryOperator, first: Box<Term>, second: Box<Term>) -> Term
-    ensures { (types : List Ty) → expression_of types result ≡ binary_expression (written.binary_of operator) (expression_of types first.value) (expression_of types second.value) }
+    ensures { (types : List Ty) → expression_of types result ≡ binary_expression operator (expression_of types first.value) (expression_of types second.value) }
 {
     match operator {
-        BinaryOperator::Add => Term::Arith(Arith::Add, first, second),
-        BinaryOperator::Sub => Term::Arith(Arith::Sub, first, second),
-        BinaryOperator::Mul => Term::Arith(Arith::Mul, first, second),
-        BinaryOperator::Div => Term::Arith(Arith::Div, first, second),
-        BinaryOperator::Rem => Term::Arith(Arith::Rem, first, second),
-        BinaryOperator::Eq => Term::Compare(Compare::Eq, first, second),
-        BinaryOperator::Lt => Term::Compare(Compare::Lt, first, second),
-        BinaryOperator::Le => Term::Compare(Compare::Le, first, second),
-        BinaryOperator::Teq => Term::TextCompare(TextCompare::Eq, first, second),
-        BinaryOperator::Tlt => Term::TextCompare(TextCompare::Lt, first, second),
+        BinaryOperator::Arith(operator) => Term::Arith(operator, first, second),
+        BinaryOperator::Compare(operator) => Term::Compare(operator, first, second),
+        BinaryOperator::TextCompare(operator) => Term::TextCompare(operator, first, second),
         BinaryOperator::Cat => Term::Cat(first, second),
     }
 }
 
 impl<'s, 'a> Elaborator<'s, 'a> {
     /// A pair.
-    pub(super) fn paired(&mut self, first: Typed, second: Typed) -> Result<Typed, Fault>
+    pub(super) fn paired(&mut self, first: Typed, second: Typed) -> Result<Typed, TypeFault>
         requires first { first.ty.0 < length (types_of self.old) }
         requires second { second.ty.0 < length (types_of self.old) }
         ensures keeps { OnOk result (Keeps self.old self.new) }
@@ -100,7 +78,7 @@ impl<'s, 'a> Elaborator<'s, 'a> {
         operator: UnaryOperator,
         at: Place,
         operand: Typed,
-    ) -> Result<Typed, Fault>
+    ) -> Result<Typed, TypeFault>
         requires { operand.ty.0 < length (types_of self.old) }
         ensures keeps { OnOk result (Keeps self.old self.new) }
         ensures found { (found : Checking specified.Typed) → Shows (types_of self.old) typed_of found operand → FindsOver (types_of self.new) typed_of (unary (written.unary_of operator) at found) result }
@@ -117,7 +95,7 @@ impl<'s, 'a> Elaborator<'s, 'a> {
     }
 
     /// `fst` of a term at this place, which has a type of pairs.
-    fn first(&self, at: Place, operand: Typed) -> Result<Typed, Fault>
+    fn first(&self, at: Place, operand: Typed) -> Result<Typed, TypeFault>
         requires { operand.ty.0 < length (types_of self.now) }
         ensures found { (found : Checking specified.Typed) → Shows (types_of self.now) typed_of found operand → FindsOver (types_of self.now) typed_of (unary syntax.FstOperation at found) result }
         ensures inside { IfOk result (λ typed. typed.ty.0 < length (types_of self.now)) }
@@ -126,12 +104,12 @@ impl<'s, 'a> Elaborator<'s, 'a> {
             TyForm::PairForm(first, second) => {
                 self.typed(Term::Fst(first, second, operand.term), first)
             }
-            _ => Err(Fault::At(TypeKind::NotPair, at)),
+            _ => Err(TypeFault::At(TypeKind::NotPair, at)),
         }
     }
 
     /// `snd` of a term at this place, which has a type of pairs.
-    fn second(&self, at: Place, operand: Typed) -> Result<Typed, Fault>
+    fn second(&self, at: Place, operand: Typed) -> Result<Typed, TypeFault>
         requires { operand.ty.0 < length (types_of self.now) }
         ensures found { (found : Checking specified.Typed) → Shows (types_of self.now) typed_of found operand → FindsOver (types_of self.now) typed_of (unary syntax.SndOperation at found) result }
         ensures inside { IfOk result (λ typed. typed.ty.0 < length (types_of self.now)) }
@@ -140,12 +118,12 @@ impl<'s, 'a> Elaborator<'s, 'a> {
             TyForm::PairForm(first, second) => {
                 self.typed(Term::Snd(first, second, operand.term), second)
             }
-            _ => Err(Fault::At(TypeKind::NotPair, at)),
+            _ => Err(TypeFault::At(TypeKind::NotPair, at)),
         }
     }
 
     /// `auth` of a term.
-    fn authenticated(&mut self, operand: Typed) -> Result<Typed, Fault>
+    fn authenticated(&mut self, operand: Typed) -> Result<Typed, TypeFault>
         requires { operand.ty.0 < length (types_of self.old) }
         ensures keeps { OnOk result (Keeps self.old self.new) }
         ensures found { (at : Place) (found : Checking specified.Typed) → Shows (types_of self.old) typed_of found operand → FindsOver (types_of self.new) typed_of (unary syntax.AuthOperation at found) result }
@@ -156,19 +134,19 @@ impl<'s, 'a> Elaborator<'s, 'a> {
     }
 
     /// `unauth` of a term at this place, which has a type of authenticated values.
-    fn opened(&self, at: Place, operand: Typed) -> Result<Typed, Fault>
+    fn opened(&self, at: Place, operand: Typed) -> Result<Typed, TypeFault>
         requires { operand.ty.0 < length (types_of self.now) }
         ensures found { (found : Checking specified.Typed) → Shows (types_of self.now) typed_of found operand → FindsOver (types_of self.now) typed_of (unary syntax.UnauthOperation at found) result }
         ensures inside { IfOk result (λ typed. typed.ty.0 < length (types_of self.now)) }
     {
         match self.form(operand.ty) {
             TyForm::AuthForm(ty) => self.typed(Term::Unauth(ty, operand.term), ty),
-            _ => Err(Fault::At(TypeKind::NotAuth, at)),
+            _ => Err(TypeFault::At(TypeKind::NotAuth, at)),
         }
     }
 
     /// `len` of a term at this place, which is a text.
-    fn text_length(&mut self, at: Place, operand: Typed) -> Result<Typed, Fault>
+    fn text_length(&mut self, at: Place, operand: Typed) -> Result<Typed, TypeFault>
         requires { operand.ty.0 < length (types_of self.old) }
         ensures keeps { OnOk result (Keeps self.old self.new) }
         ensures found { (found : Checking specified.Typed) → Shows (types_of self.old) typed_of found operand → FindsOver (types_of self.new) typed_of (unary syntax.LenOperation at found) result }
@@ -180,7 +158,7 @@ impl<'s, 'a> Elaborator<'s, 'a> {
     }
 
     /// `not` of a term at this place, which is a truth value.
-    fn negated(&mut self, at: Place, operand: Typed) -> Result<Typed, Fault>
+    fn negated(&mut self, at: Place, operand: Typed) -> Result<Typed, TypeFault>
         requires { operand.ty.0 < length (types_of self.old) }
         ensures keeps { OnOk result (Keeps self.old self.new) }
         ensures found { (found : Checking specified.Typed) → Shows (types_of self.old) typed_of found operand → FindsOver (types_of self.new) typed_of (unary syntax.NotOperation at found) result }
@@ -194,7 +172,7 @@ impl<'s, 'a> Elaborator<'s, 'a> {
     /// The type that an operation wants of its operands.
     pub(super) fn operand_type(&mut self, operator: BinaryOperator) -> Result<TyId, AllocError>
         ensures keeps { OnOk result (Keeps self.old self.new) }
-        ensures found { IfOk result (λ id. slice_get (types_of self.new) id.0 ≡ Some (operand_type (written.binary_of operator))) }
+        ensures found { IfOk result (λ id. slice_get (types_of self.new) id.0 ≡ Some (operand_type operator)) }
         ensures inside { IfOk result (λ id. id.0 < length (types_of self.new)) }
     {
         self.intern(operand_form(operator))
@@ -206,9 +184,9 @@ impl<'s, 'a> Elaborator<'s, 'a> {
         operator: BinaryOperator,
         first: Box<Term>,
         second: Box<Term>,
-    ) -> Result<Typed, Fault>
+    ) -> Result<Typed, TypeFault>
         ensures keeps { OnOk result (Keeps self.old self.new) }
-        ensures found { (x y : Checking Expression) → Shows (types_of self.old) boxed_of x first → Shows (types_of self.old) boxed_of y second → FindsOver (types_of self.new) typed_of (then_checked x (λ x. then_checked y (λ y. typed (binary_expression (written.binary_of operator) x y) (result_type (written.binary_of operator))))) result }
+        ensures found { (x y : Checking Expression) → Shows (types_of self.old) boxed_of x first → Shows (types_of self.old) boxed_of y second → FindsOver (types_of self.new) typed_of (then_checked x (λ x. then_checked y (λ y. typed (binary_expression operator x y) (result_type operator)))) result }
         ensures inside { IfOk result (λ whole. whole.ty.0 < length (types_of self.new)) }
     {
         let term = operation(operator, first, second);

@@ -5,7 +5,7 @@ use crate::program::FunctionId;
 use crate::{LocalId, Name, Text, TyId};
 
 /// An operation on two ints that gives an int.
-#[derive(Clone, Copy, Debug, PartialEq)]
+#[derive(Clone, Copy)]
 pub enum Arith {
     Add,
     Sub,
@@ -15,7 +15,7 @@ pub enum Arith {
 }
 
 /// A comparison of two ints.
-#[derive(Clone, Copy, Debug, PartialEq)]
+#[derive(Clone, Copy)]
 pub enum Compare {
     Eq,
     Lt,
@@ -23,14 +23,14 @@ pub enum Compare {
 }
 
 /// A comparison of two texts, by their bytes.
-#[derive(Clone, Copy, Debug, PartialEq)]
+#[derive(Clone, Copy)]
 pub enum TextCompare {
     Eq,
     Lt,
 }
 
 /// An operator on two operands.
-#[derive(Clone, Copy, Debug, PartialEq)]
+#[derive(Clone, Copy)]
 pub enum BinaryOperator {
     Arith(Arith),
     Compare(Compare),

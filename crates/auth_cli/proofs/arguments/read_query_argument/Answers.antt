@@ -3,7 +3,7 @@ use Rattle.std.proofs.lemmas.Result.{IfOk-weaker}
 use Rattle.core_terms.specs.Programs.{meaning}
 use Rattle.core_terms.specs.Roles.{IsPlain}
 use Rattle.core_terms.specs.Values.{IsIdeal}
-use Rattle.auth_syntax.specs.Literals.{IsValue}
+use Rattle.printed_syntax.specs.Literals.{IsValue}
 use Rattle.plain_meaning.specs.PlainValues.{plain_of}
 use Rattle.core_terms.proofs.CodePrograms.{query_role, second_type, two_parameters}
 use Rattle.auth_cli.specs.Answer.{literal_at, with_value}

@@ -2,7 +2,7 @@ use Rattle.std.proofs.Common.{◌∙◌, [], ap, sym, subst, lit<}
 use Rattle.core_terms.specs.Programs.{meaning, types_of}
 use Rattle.core_terms.specs.TypeTables.{type_at}
 use Rattle.core_terms.specs.Values.{IsIdeal}
-use Rattle.auth_syntax.specs.Literals.{IsValue}
+use Rattle.printed_syntax.specs.Literals.{IsValue}
 use Rattle.plain_meaning.specs.PlainValues.{plain_of}
 use Rattle.verifier_mode.specs.Shallow.{value_of}
 use Rattle.auth_cli.specs.PlainArguments.{IsSpelling, SpellsAlone}

@@ -15,7 +15,8 @@ use Rattle.auth_types.proofs.check.all_passes.Goals as goal
 pub returns-in_err-declared-clause-answer : goal.returns-in_err-declared-clause-answer
 returns-in_err-declared-clause-answer c =
     let p = err_from_is_err_and c.from_residual.result c.from_residual.ensures.1 in
-    finds_refused meaning _ _ _ (p.1 ∙ ap Err p.2) (names_fault (program_of c.args.ast.now) c.in_err-declared.field-0.0 c.in_err-declared.ensures.found)
+    finds_refused meaning _ _ _ (p.1 ∙ ap Err p.2) (names_fault (program_of c.args.ast.now) c.in_err-declared.field-0.0
+    c.in_err-declared.ensures.found)
 
 pub fourth_pass-requires-clause-counts : goal.fourth_pass-requires-clause-counts
 fourth_pass-requires-clause-counts c =
@@ -39,8 +40,10 @@ pub new-requires : goal.new-requires
 new-requires c =
     let s = c.in_ok-types.field-0 in
     let p =
-    passed_on (program_of c.args.ast.now) s.types.value s.scope.value s.state c.in_ok-types.ensures.shaped c.into_inner.result c.deref.result.now c.into_inner-named.result c.into_inner.ensures c.deref.ensures
-    c.into_inner-named.ensures c.in_ok-bodies.bodies.types.forms.keys c.in_ok-bodies.bodies.functions.items c.in_ok-bodies.ensures.grows c.in_ok-declared.ensures.found c.in_ok-types.ensures.found
+    passed_on (program_of c.args.ast.now) s.types.value s.scope.value s.state c.in_ok-types.ensures.shaped c.into_inner.result c.deref.result.now
+    c.into_inner-named.result c.into_inner.ensures c.deref.ensures
+    c.into_inner-named.ensures c.in_ok-bodies.bodies.types.forms.keys c.in_ok-bodies.bodies.functions.items c.in_ok-bodies.ensures.grows
+    c.in_ok-declared.ensures.found c.in_ok-types.ensures.found
     c.in_ok-bodies.ensures.found c.in_ok-bodies.ensures.parameters c.in_ok-bodies.ensures.results c.in_ok-bodies.ensures.literals in
     record { typed = p.typed; shaped = p.shaped; within = p.within; numbers = p.numbers; tags = p.tags }
 
@@ -48,7 +51,9 @@ pub returns-clause-answer : goal.returns-clause-answer
 returns-clause-answer c =
     let s = c.in_ok-types.field-0 in
     let p =
-    passed_on (program_of c.args.ast.now) s.types.value s.scope.value s.state c.in_ok-types.ensures.shaped c.into_inner.result c.deref.result.now c.into_inner-named.result c.into_inner.ensures c.deref.ensures
-    c.into_inner-named.ensures c.in_ok-bodies.bodies.types.forms.keys c.in_ok-bodies.bodies.functions.items c.in_ok-bodies.ensures.grows c.in_ok-declared.ensures.found c.in_ok-types.ensures.found
+    passed_on (program_of c.args.ast.now) s.types.value s.scope.value s.state c.in_ok-types.ensures.shaped c.into_inner.result c.deref.result.now
+    c.into_inner-named.result c.into_inner.ensures c.deref.ensures
+    c.into_inner-named.ensures c.in_ok-bodies.bodies.types.forms.keys c.in_ok-bodies.bodies.functions.items c.in_ok-bodies.ensures.grows
+    c.in_ok-declared.ensures.found c.in_ok-types.ensures.found
     c.in_ok-bodies.ensures.found c.in_ok-bodies.ensures.parameters c.in_ok-bodies.ensures.results c.in_ok-bodies.ensures.literals in
     p.gives ∙ ap Sound (sym c.in_ok-new.ensures.meaning)

@@ -6,7 +6,6 @@ use Rattle.auth_syntax.specs.Syntax.{Program}
 use Rattle.auth_syntax.specs.Trees.{declaration_of, program_of, type_of}
 use Rattle.auth_syntax.specs.declared.tree.Declaration.{Declaration}
 use Rattle.auth_types.specs.Checking.{Sound}
-use Rattle.auth_types.specs.CheckedPrograms.{names_of, third_pass}
 use Rattle.auth_types.specs.Passes.{StandsFor}
 use Rattle.auth_types.specs.ScopeNames.{names_in}
 use Rattle.auth_types.specs.WrittenTypes.{states_in, type_meant}
@@ -17,14 +16,16 @@ use Rattle.auth_types.proofs.check.checked_scope.Goals as goal
 pub declared_state-requires : goal.declared_state-requires
 declared_state-requires c =
     let program : Program = program_of c.args.ast.now in
-    subst (λ (ds : List Declaration). states_in (map declaration_of ds) ≢ []) (sym c.deref-2.ensures.value) (state_declared program (first_known program c.requires.known))
+    subst (λ (ds : List Declaration). states_in (map declaration_of ds) ≢ []) (sym c.deref-2.ensures.value)
+    (state_declared program (first_known program c.requires.known))
 
 pub third_pass-requires-clause-state : goal.third_pass-requires-clause-state
 third_pass-requires-clause-state c =
     let program : Program = program_of c.args.ast.now in
     let names = names_in c.args.declared.value.types.keys in
     let state =
-    state_numbered program names (types_in c.number.new.types) (types_in c.declared_scope.new.types) c.in_ok-state.state (type_meant names (type_of c.declared_state.result.now))
+    state_numbered program names (types_in c.number.new.types) (types_in c.declared_scope.new.types) c.in_ok-state.state
+    (type_meant names (type_of c.declared_state.result.now))
     (types_named c.args.declared.value program.declarations c.requires.declared) (rw c.deref-2.ensures.value at (c.declared_state.ensures names))
     (rw c.deref_mut-2.ensures.value at c.declared_scope.ensures.grows) (rw c.deref.ensures at c.in_ok-state.ensures.found) in
     subst (λ (table : TyTable). c.in_ok-state.state.0 < length (types_in table)) (sym c.deref-4.ensures) state.1
@@ -45,7 +46,8 @@ returns-in_err-third_pass-clause-found c =
     let p = err_from_is_err_and c.from_residual-in_err-third_pass.result c.from_residual-in_err-third_pass.ensures.1 in
     let fault = c.in_err-third_pass.field-0.0 in
     finds_refused (λ _. tt) _ fault _ (p.1 ∙ ap Err p.2)
-    (third_told program types c.in_ok-scope.scope.value c.in_ok-state.state stands (λ found. IsRefused found fault) c.deref-4.result.now c.deref-5.result.now
+    (third_told program types c.in_ok-scope.scope.value c.in_ok-state.state stands (λ found. IsRefused found fault) c.deref-4.result.now
+    c.deref-5.result.now
     (ap types_in c.deref-4.ensures) c.deref-5.ensures c.in_err-third_pass.ensures)
 
 pub returns-clause-found : goal.returns-clause-found
@@ -61,7 +63,8 @@ returns-clause-found c =
     scope_stands program types c.in_ok-scope.scope.value c.in_ok-state.state
     (rw c.deref-3.ensures.value at c.in_ok-scope.ensures.scope) (rw c.deref-3.ensures.value at c.in_ok-scope.ensures.functions)
     (rw c.deref-3.ensures.value at c.in_ok-scope.ensures.names) c.in_ok-scope.ensures.within state in
-    third_told program types c.in_ok-scope.scope.value c.in_ok-state.state stands (λ found. found ≡ Sound tt) c.deref-4.result.now c.deref-5.result.now
+    third_told program types c.in_ok-scope.scope.value c.in_ok-state.state stands (λ found. found ≡ Sound tt) c.deref-4.result.now
+    c.deref-5.result.now
     (ap types_in c.deref-4.ensures) c.deref-5.ensures c.in_ok-third_pass.ensures
 
 pub returns-clause-shaped : goal.returns-clause-shaped

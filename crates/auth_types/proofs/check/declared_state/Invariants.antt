@@ -4,4 +4,5 @@ use Rattle.auth_types.specs.WrittenTypes.{states_in}
 use Rattle.auth_types.proofs.check.declared_state.Given as goal
 
 abbrev pub invariant-loop-declaration : goal.invariant-loop-declaration
-invariant-loop-declaration l = states_in (map declaration_of l.declarations) ≡ states_in (map declaration_of (drop l.declaration-index l.declarations))
+invariant-loop-declaration l = states_in (map declaration_of l.declarations) ≡ states_in
+    (map declaration_of (drop l.declaration-index l.declarations))

@@ -20,7 +20,8 @@ returns-in_err-declared-clause-found c =
     let end = c.args.ast.now.end in
     finds_refused (λ _. tt) _ fault _ (p.1 ∙ ap Err p.2)
     (first_fault (program_of c.args.ast.now) fault
-    (subst (λ (ds : List Declaration). IsRefused (first_pass (record { declarations = map declaration_of ds; end = end })) fault) c.deref.ensures.value
+    (subst (λ (ds : List Declaration). IsRefused (first_pass (record { declarations = map declaration_of ds; end = end })) fault)
+    c.deref.ensures.value
     c.in_err-declared.ensures.found))
 
 pub returns-in_err-second_pass-clause-found : goal.returns-in_err-second_pass-clause-found
@@ -34,7 +35,8 @@ returns-in_err-second_pass-clause-found c =
     let first : first_pass program ≡ Sound tt = rw c.deref.ensures.value at c.in_ok-declared.ensures.found in
     finds_refused (λ _. tt) _ fault _ (p.1 ∙ ap Err p.2)
     (subst (λ found. IsRefused found fault) (second_known program first (names_in declared.types.keys) names)
-    (subst (λ (ds : List Declaration). IsRefused (known_declarations (names_in declared.types.keys) (map declaration_of ds)) fault) c.deref-3.ensures.value
+    (subst (λ (ds : List Declaration). IsRefused (known_declarations (names_in declared.types.keys) (map declaration_of ds)) fault)
+    c.deref-3.ensures.value
     (subst (λ (d : Declared). IsRefused (known_declarations (names_in d.types.keys) (map declaration_of c.deref-3.result.now)) fault)
     c.deref-2.ensures c.in_err-second_pass.ensures)))
 
@@ -47,7 +49,8 @@ returns-clause-found c =
     let first : first_pass program ≡ Sound tt = rw c.deref.ensures.value at c.in_ok-declared.ensures.found in
     sym (second_known program first (names_in declared.types.keys) names)
     ∙ sym (ap (λ (d : Declared). known_declarations (names_in d.types.keys) program.declarations) c.deref-2.ensures)
-    ∙ sym (ap (λ (ds : List Declaration). known_declarations (names_in c.deref-2.result.now.types.keys) (map declaration_of ds)) c.deref-3.ensures.value)
+    ∙ sym (ap (λ (ds : List Declaration). known_declarations (names_in c.deref-2.result.now.types.keys) (map declaration_of ds))
+    c.deref-3.ensures.value)
     ∙ c.in_ok-second_pass.ensures
 
 pub returns-clause-declared : goal.returns-clause-declared

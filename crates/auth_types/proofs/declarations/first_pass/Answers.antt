@@ -11,7 +11,9 @@ use Rattle.auth_types.proofs.declarations.first_pass.Goals as goal
 pub returns-in_err-declare-clause-found : goal.returns-in_err-declare-clause-found
 returns-in_err-declare-clause-found c =
     let p = err_from_is_err_and c.from_residual-in_err-declare.result c.from_residual-in_err-declare.ensures.1 in
-    declared_fault c.args.declarations.now c.loop-declaration.declaration-index c.declaration-item.result c.args.end (declared_of c.loop-declaration.declared.value) c.in_err-declare.field-0.0 c.from_residual-in_err-declare.result
+    declared_fault c.args.declarations.now c.loop-declaration.declaration-index c.declaration-item.result c.args.end
+    (declared_of c.loop-declaration.declared.value) c.in_err-declare.field-0.0 c.from_residual-in_err-declare.result
     c.loop-declaration-test.true c.declaration-item.is (p.1 ∙ ap Err p.2) c.loop-declaration.invariant
-    (subst (λ (d : Declared). Finds {A = Unit {0}} (λ _. declared_of c.loop-declaration.declared.value) (checked_declaration (declared_of d) (declaration_of c.declaration-item.result)) (Err c.in_err-declare.field-0.0)) c.deref_mut.ensures.value
+    (subst (λ (d : Declared). Finds {A = Unit {0}} (λ _. declared_of c.loop-declaration.declared.value)
+    (checked_declaration (declared_of d) (declaration_of c.declaration-item.result)) (Err c.in_err-declare.field-0.0)) c.deref_mut.ensures.value
     c.in_err-declare.ensures)

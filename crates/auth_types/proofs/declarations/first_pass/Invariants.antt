@@ -5,4 +5,5 @@ use Rattle.auth_types.specs.DeclaredNames.{declared_of}
 use Rattle.auth_types.proofs.declarations.first_pass.Given as goal
 
 abbrev pub invariant-loop-declaration : goal.invariant-loop-declaration
-invariant-loop-declaration l = checked_declarations nothing_declared (map declaration_of l.declarations) ≡ checked_declarations (declared_of l.declared.value) (map declaration_of (drop l.declaration-index l.declarations))
+invariant-loop-declaration l = checked_declarations nothing_declared (map declaration_of l.declarations) ≡ checked_declarations
+    (declared_of l.declared.value) (map declaration_of (drop l.declaration-index l.declarations))

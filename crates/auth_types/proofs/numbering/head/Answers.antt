@@ -9,7 +9,9 @@ use Rattle.auth_types.proofs.numbering.head.Goals as goal
 pub returns-clause-found : goal.returns-clause-found
 returns-clause-found c = record {
   function = refl;
-  parameters = numbers_grow _ _ c.in_ok-parameters.parameters.items (map (λ (p : ParameterSyntax). type_meant (names_in c.args.names.now.keys) p.of_type) (map parameter_of c.args.function.now.parameters.items)) c.number.ensures.grows
+  parameters = numbers_grow _ _ c.in_ok-parameters.parameters.items
+      (map (λ (p : ParameterSyntax). type_meant (names_in c.args.names.now.keys) p.of_type) (map parameter_of c.args.function.now.parameters.items))
+      c.number.ensures.grows
       (rw c.deref.ensures.value at c.in_ok-parameters.ensures.found);
   result = c.in_ok-result.ensures.found;
 }

@@ -9,6 +9,7 @@ pub loop-tree-preserved : goal.loop-tree-preserved
 loop-tree-preserved c = record {
   grows = grows_on _ _ _ c.loop-tree.invariant.grows c.number.ensures.grows;
   found = rw c.in_ok-push.ensures.items
-      (numbers_taken _ _ (type_meant (names_in c.args.names.now.keys)) type_of c.args.trees.now c.loop-tree.tree-index _ c.in_ok-number.field-0 c.tree-item.result c.number.ensures.grows c.loop-tree-test.true c.tree-item.is
+      (numbers_taken _ _ (type_meant (names_in c.args.names.now.keys)) type_of c.args.trees.now c.loop-tree.tree-index _ c.in_ok-number.field-0
+      c.tree-item.result c.number.ensures.grows c.loop-tree-test.true c.tree-item.is
       c.loop-tree.invariant.found c.in_ok-number.ensures.found);
 }

@@ -10,5 +10,6 @@ use Rattle.auth_types.proofs.numbering.parameter_numbers.Given as goal
 abbrev pub invariant-loop-parameter : goal.invariant-loop-parameter
 invariant-loop-parameter l = record {
   grows : Grows (types_in l.initial.types) (types_in l.types);
-  found : AreNumbers (types_in l.types) l.ids.items (map (λ (p : ParameterSyntax). type_meant (names_in l.names.keys) p.of_type) (map parameter_of (take l.parameter-index l.parameters)));
+  found : AreNumbers (types_in l.types) l.ids.items (map (λ (p : ParameterSyntax). type_meant (names_in l.names.keys) p.of_type)
+      (map parameter_of (take l.parameter-index l.parameters)));
 }

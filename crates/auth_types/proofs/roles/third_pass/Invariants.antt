@@ -5,4 +5,5 @@ use Rattle.auth_types.proofs.RolesOfHeads.{StandsAt}
 use Rattle.auth_types.proofs.roles.third_pass.Given as goal
 
 abbrev pub invariant-loop-head : goal.invariant-loop-head
-invariant-loop-head l = StandsAt (types_in l.types) (table_of (types_in l.types) l.scope.named.items) (type_at (types_in l.types) l.state) l.scope l.head-index
+invariant-loop-head l = StandsAt (types_in l.types) (table_of (types_in l.types) l.scope.named.items) (type_at (types_in l.types) l.state) l.scope
+    l.head-index

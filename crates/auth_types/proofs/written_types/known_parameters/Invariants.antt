@@ -6,4 +6,6 @@ use Rattle.auth_types.specs.WrittenTypes.{known_types}
 use Rattle.auth_types.proofs.written_types.known_parameters.Given as goal
 
 abbrev pub invariant-loop-parameter : goal.invariant-loop-parameter
-invariant-loop-parameter l = known_types (names_in l.names.keys) (map (λ (p : ParameterSyntax). p.of_type) (map parameter_of l.parameters)) ≡ known_types (names_in l.names.keys) (map (λ (p : ParameterSyntax). p.of_type) (map parameter_of (drop l.parameter-index l.parameters)))
+invariant-loop-parameter l = known_types (names_in l.names.keys)
+    (map (λ (p : ParameterSyntax). p.of_type) (map parameter_of l.parameters)) ≡ known_types (names_in l.names.keys)
+    (map (λ (p : ParameterSyntax). p.of_type) (map parameter_of (drop l.parameter-index l.parameters)))

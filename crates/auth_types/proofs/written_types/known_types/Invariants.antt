@@ -5,4 +5,5 @@ use Rattle.auth_types.specs.WrittenTypes.{known_types}
 use Rattle.auth_types.proofs.written_types.known_types.Given as goal
 
 abbrev pub invariant-loop-tree : goal.invariant-loop-tree
-invariant-loop-tree l = known_types (names_in l.names.keys) (map type_of l.types) ≡ known_types (names_in l.names.keys) (map type_of (drop l.tree-index l.types))
+invariant-loop-tree l = known_types (names_in l.names.keys) (map type_of l.types) ≡ known_types (names_in l.names.keys)
+    (map type_of (drop l.tree-index l.types))

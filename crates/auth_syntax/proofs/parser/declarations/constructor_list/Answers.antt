@@ -1,11 +1,12 @@
 use Rattle.std.proofs.Common.{◌≡◌, sym, subst, List, map, true, false}
 use Rattle.std.proofs.lemmas.Result.{err_from_is_err_and}
-use Rattle.auth_syntax.specs.Tokens.{count}
+use Rattle.lexemes.specs.Tokens.{count}
 use Rattle.auth_syntax.specs.Syntax.{ConstructorDeclaration}
-use Rattle.auth_syntax.specs.Parsing.{Found, read_bar, read_constructor_declaration, read_constructors}
+use Rattle.lexemes.specs.Readings.{Found}
+use Rattle.auth_syntax.specs.Parsing.{read_bar, read_constructor_declaration, read_constructors}
 use Rattle.auth_syntax.specs.LanguageViews.{words_of}
 use Rattle.auth_syntax.specs.Trees.{constructor_of, constructors_of}
-use Rattle.auth_syntax.specs.Remaining.{remaining}
+use Rattle.lexemes.specs.Remaining.{remaining}
 use Rattle.auth_syntax.proofs.Loops.{IsReadSoFar, read_so_far-none, read_so_far-other, read_so_far-end, read_so_far-more, one_is_shorter, constructors_by_one, pushed}
 use Rattle.auth_syntax.proofs.parser.declarations.constructor_list.Goals as goal
 

@@ -1,9 +1,9 @@
 use Rattle.std.proofs.Common.{map}
-use Rattle.auth_syntax.specs.Tokens.{count}
+use Rattle.lexemes.specs.Tokens.{count}
 use Rattle.auth_syntax.specs.Parsing.{read_bar, read_constructor_declaration}
 use Rattle.auth_syntax.specs.LanguageViews.{words_of}
 use Rattle.auth_syntax.specs.Trees.{constructor_of}
-use Rattle.auth_syntax.specs.Remaining.{remaining}
+use Rattle.lexemes.specs.Remaining.{remaining}
 use Rattle.auth_syntax.proofs.Loops.{IsReadSoFar}
 use Rattle.auth_syntax.proofs.parser.declarations.constructor_list.Given as goal
 

@@ -1,11 +1,12 @@
 use Rattle.std.proofs.Common.{◌≡◌, sym, subst, List, map, true, false}
 use Rattle.std.proofs.lemmas.Result.{err_from_is_err_and}
-use Rattle.auth_syntax.specs.Tokens.{count}
+use Rattle.lexemes.specs.Tokens.{count}
 use Rattle.auth_syntax.specs.Syntax.{ParameterSyntax}
-use Rattle.auth_syntax.specs.Parsing.{Found, read_separator, read_list, read_parameter}
+use Rattle.lexemes.specs.Readings.{Found, read_separator}
+use Rattle.auth_syntax.specs.Parsing.{read_list, read_parameter}
 use Rattle.auth_syntax.specs.LanguageViews.{words_of}
 use Rattle.auth_syntax.specs.Trees.{parameter_of, parameters_of}
-use Rattle.auth_syntax.specs.Remaining.{remaining}
+use Rattle.lexemes.specs.Remaining.{remaining}
 use Rattle.auth_syntax.proofs.MadeOfTokens.{parameter_is_tokens}
 use Rattle.auth_syntax.proofs.Loops.{IsReadSoFar, read_so_far-none, read_so_far-other, read_so_far-end, read_so_far-more, one_is_shorter, listed_by_one, pushed}
 use Rattle.auth_syntax.proofs.parser.declarations.parameter_list.Goals as goal

@@ -1,7 +1,7 @@
-use Rattle.auth_syntax.specs.Tokens.{count}
+use Rattle.lexemes.specs.Tokens.{count}
 use Rattle.auth_syntax.specs.LanguageViews.{words_of}
 use Rattle.auth_syntax.specs.Trees.{declarations_of}
-use Rattle.auth_syntax.specs.Remaining.{remaining}
+use Rattle.lexemes.specs.Remaining.{remaining}
 use Rattle.auth_syntax.proofs.Loops.{AreDeclaredSoFar}
 use Rattle.auth_syntax.proofs.parser.declarations.program.Given as goal
 

@@ -1,13 +1,14 @@
 use Rattle.std.proofs.Common.{◌≡◌, ◌∙◌, true, false, ap, subst, sym, List, map}
 use Rattle.std.proofs.lemmas.Result.{err_from_is_err_and}
-use Rattle.auth_syntax.specs.TokenViews.{token_view}
-use Rattle.auth_syntax.specs.Tokens.{Next, count}
-use Rattle.auth_syntax.specs.Parsing.{Reading, Found, begins_expression, read_expression, read_separator, read_arm_separator, read_list, read_arms}
+use Rattle.lexemes.specs.TokenViews.{token_view}
+use Rattle.lexemes.specs.Tokens.{Next, count}
+use Rattle.lexemes.specs.Readings.{Reading, Found, read_separator}
+use Rattle.auth_syntax.specs.Parsing.{begins_expression, read_expression, read_arm_separator, read_list, read_arms}
 use Rattle.auth_syntax.specs.Arms.{read_arm}
 use Rattle.auth_syntax.specs.LanguageViews.{words_of}
 use Rattle.auth_syntax.specs.Trees.{expression_of, expressions_of, ArmSyntax, arm_of, arms_of, arms_in_a_row}
-use Rattle.auth_syntax.specs.Outcomes.{Reads}
-use Rattle.auth_syntax.specs.Remaining.{remaining}
+use Rattle.lexemes.specs.Remaining.{Reads}
+use Rattle.lexemes.specs.Remaining.{remaining}
 use Rattle.auth_syntax.specs.Syntax.{ExpSyntax}
 use Rattle.auth_syntax.proofs.LevelSteps.{read_expression-none, read_expression-step}
 use Rattle.auth_syntax.proofs.MadeOfTokens.{expression_is_tokens}

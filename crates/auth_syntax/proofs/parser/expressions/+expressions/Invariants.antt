@@ -1,10 +1,11 @@
 use Rattle.std.proofs.Common.{◌+◌, ◌*◌, map}
-use Rattle.auth_syntax.specs.Tokens.{count}
-use Rattle.auth_syntax.specs.Parsing.{read_separator, read_arm_separator, read_expression}
+use Rattle.lexemes.specs.Tokens.{count}
+use Rattle.lexemes.specs.Readings.{read_separator}
+use Rattle.auth_syntax.specs.Parsing.{read_arm_separator, read_expression}
 use Rattle.auth_syntax.specs.Arms.{read_arm}
 use Rattle.auth_syntax.specs.LanguageViews.{words_of}
 use Rattle.auth_syntax.specs.Trees.{expression_of, arm_of}
-use Rattle.auth_syntax.specs.Remaining.{remaining}
+use Rattle.lexemes.specs.Remaining.{remaining}
 use Rattle.auth_syntax.proofs.Loops.{IsReadSoFar}
 use Rattle.auth_syntax.proofs.parser.expressions.+expressions.Given as goal
 
@@ -18,7 +19,10 @@ abbrev pub decreases-boxed : goal.decreases-boxed
 decreases-boxed l = 6 * l.levels + 1
 
 abbrev pub decreases-unit_or_pair : goal.decreases-unit_or_pair
-decreases-unit_or_pair l = 6 * l.levels + 2
+decreases-unit_or_pair l = 6 * l.levels + 3
+
+abbrev pub decreases-pair : goal.decreases-pair
+decreases-pair l = 6 * l.levels + 2
 
 abbrev pub decreases-local_or_call : goal.decreases-local_or_call
 decreases-local_or_call l = 6 * l.levels + 2

@@ -1,10 +1,11 @@
 use Rattle.std.proofs.Common.{◌≡◌, sym, subst, List, map, true, false}
 use Rattle.std.proofs.lemmas.Result.{err_from_is_err_and}
-use Rattle.auth_syntax.specs.Tokens.{count}
+use Rattle.lexemes.specs.Tokens.{count}
 use Rattle.auth_syntax.specs.Syntax.{NameSyntax}
-use Rattle.auth_syntax.specs.Parsing.{Found, read_lower, read_separator, read_list}
+use Rattle.lexemes.specs.Readings.{Found, read_separator}
+use Rattle.auth_syntax.specs.Parsing.{read_lower, read_list}
 use Rattle.auth_syntax.specs.Trees.{name_of, names_of}
-use Rattle.auth_syntax.specs.Remaining.{remaining}
+use Rattle.lexemes.specs.Remaining.{remaining}
 use Rattle.auth_syntax.proofs.MadeOfTokens.{lower_is_token}
 use Rattle.auth_syntax.proofs.Loops.{IsReadSoFar, read_so_far-none, read_so_far-other, read_so_far-end, read_so_far-more, one_is_shorter, listed_by_one, pushed}
 use Rattle.auth_syntax.proofs.parser.expressions.name_list.Goals as goal
@@ -13,31 +14,31 @@ pub returns-in_err-lower : goal.returns-in_err-lower
 returns-in_err-lower c =
     let p = err_from_is_err_and c.from_residual.result c.from_residual.ensures.1 in
     rw (p.1, p.2) (read_so_far-none read_separator read_lower (λ names. names) (λ tokens. read_list read_lower (count tokens) tokens) (listed_by_one read_lower lower_is_token) (remaining c.args.parser.now) (map name_of c.each.names.items) (remaining c.each.parser) c.each.invariant
-    name_of names_of (remaining c.lower.new.self) (remaining c.lower.new.self) c.in_err-lower.field-0.0 c.in_err-lower.ensures)
+    name_of names_of (remaining c.lower.new.parser) (remaining c.lower.new.parser) c.in_err-lower.field-0.0 c.in_err-lower.ensures)
 
 pub returns-in_err-separator : goal.returns-in_err-separator
 returns-in_err-separator c =
     let p = err_from_is_err_and c.from_residual-in_err-separator.result c.from_residual-in_err-separator.ensures.1 in
     rw (p.1, p.2) (read_so_far-other read_separator read_lower (λ names. names) (λ tokens. read_list read_lower (count tokens) tokens) (listed_by_one read_lower lower_is_token) (remaining c.args.parser.now) (map name_of c.each.names.items) (remaining c.each.parser) c.each.invariant
-    names_of (remaining c.lower.new.self) (name_of c.in_ok-lower.field-0) c.in_ok-lower.ensures
+    names_of (remaining c.lower.new.parser) (name_of c.in_ok-lower.field-0) c.in_ok-lower.ensures
     (remaining c.separator.new.self) (remaining c.separator.new.self) c.in_err-separator.field-0.0 c.in_err-separator.ensures)
 
 pub returns-then-not-branch : goal.returns-then-not-branch
 returns-then-not-branch c =
     let kept = pushed name_of c.each.names.items c.push.new.self.items c.in_ok-lower.field-0 c.in_ok-push.ensures.items in
-    let closed : read_separator (remaining c.lower.new.self) ≡ Found false (remaining c.separator.new.self) = rw c.if-not-branch.true at c.in_ok-separator.ensures in
+    let closed : read_separator (remaining c.lower.new.parser) ≡ Found false (remaining c.separator.new.self) = rw c.if-not-branch.true at c.in_ok-separator.ensures in
     rw kept (read_so_far-end read_separator read_lower (λ names. names) (λ tokens. read_list read_lower (count tokens) tokens) (listed_by_one read_lower lower_is_token) (remaining c.args.parser.now) (map name_of c.each.names.items) (remaining c.each.parser) c.each.invariant
-    (remaining c.lower.new.self) (remaining c.separator.new.self) (name_of c.in_ok-lower.field-0) c.in_ok-lower.ensures closed)
+    (remaining c.lower.new.parser) (remaining c.separator.new.self) (name_of c.in_ok-lower.field-0) c.in_ok-lower.ensures closed)
 
 pub each-smaller : goal.each-smaller
 each-smaller c =
     one_is_shorter read_separator read_lower (λ names. names) (λ tokens. read_list read_lower (count tokens) tokens) (listed_by_one read_lower lower_is_token) (remaining c.args.parser.now) (map name_of c.each.names.items) (remaining c.each.parser) c.each.invariant
-    (remaining c.lower.new.self) (remaining c.separator.new.self) (name_of c.in_ok-lower.field-0) c.in_ok-separator.field-0 c.in_ok-lower.ensures c.in_ok-separator.ensures
+    (remaining c.lower.new.parser) (remaining c.separator.new.self) (name_of c.in_ok-lower.field-0) c.in_ok-separator.field-0 c.in_ok-lower.ensures c.in_ok-separator.ensures
 
 pub each-preserved : goal.each-preserved
 each-preserved c =
     let kept = pushed name_of c.each.names.items c.push.new.self.items c.in_ok-lower.field-0 c.in_ok-push.ensures.items in
-    let sign : read_separator (remaining c.lower.new.self) ≡ Found true (remaining c.separator.new.self) = rw c.if-not-branch.false at c.in_ok-separator.ensures in
+    let sign : read_separator (remaining c.lower.new.parser) ≡ Found true (remaining c.separator.new.self) = rw c.if-not-branch.false at c.in_ok-separator.ensures in
     subst (λ (so_far : List NameSyntax). IsReadSoFar read_separator read_lower (remaining c.args.parser.now) so_far (remaining c.separator.new.self)) (sym kept)
     (read_so_far-more read_separator read_lower (λ names. names) (λ tokens. read_list read_lower (count tokens) tokens) (listed_by_one read_lower lower_is_token) (remaining c.args.parser.now) (map name_of c.each.names.items) (remaining c.each.parser) c.each.invariant
-    (remaining c.lower.new.self) (remaining c.separator.new.self) (name_of c.in_ok-lower.field-0) c.in_ok-lower.ensures sign)
+    (remaining c.lower.new.parser) (remaining c.separator.new.self) (name_of c.in_ok-lower.field-0) c.in_ok-lower.ensures sign)

@@ -1,8 +1,9 @@
 use Rattle.std.proofs.Common.{map}
-use Rattle.auth_syntax.specs.Tokens.{count}
-use Rattle.auth_syntax.specs.Parsing.{read_lower, read_separator}
+use Rattle.lexemes.specs.Tokens.{count}
+use Rattle.lexemes.specs.Readings.{read_separator}
+use Rattle.auth_syntax.specs.Parsing.{read_lower}
 use Rattle.auth_syntax.specs.Trees.{name_of}
-use Rattle.auth_syntax.specs.Remaining.{remaining}
+use Rattle.lexemes.specs.Remaining.{remaining}
 use Rattle.auth_syntax.proofs.Loops.{IsReadSoFar}
 use Rattle.auth_syntax.proofs.parser.expressions.name_list.Given as goal
 

@@ -1,11 +1,12 @@
 use Rattle.std.proofs.Common.{◌≡◌, ◌∙◌, true, false, ap, subst, sym}
-use Rattle.auth_syntax.specs.TokenViews.{token_view}
-use Rattle.auth_syntax.specs.Tokens.{Next}
-use Rattle.auth_syntax.specs.Parsing.{Reading, begins_type, read_type}
+use Rattle.lexemes.specs.TokenViews.{token_view}
+use Rattle.lexemes.specs.Tokens.{Next}
+use Rattle.lexemes.specs.Readings.{Reading}
+use Rattle.auth_syntax.specs.Parsing.{begins_type, read_type}
 use Rattle.auth_syntax.specs.LanguageViews.{words_of}
 use Rattle.auth_syntax.specs.Trees.{type_of}
-use Rattle.auth_syntax.specs.Outcomes.{Reads}
-use Rattle.auth_syntax.specs.Remaining.{remaining}
+use Rattle.lexemes.specs.Remaining.{Reads}
+use Rattle.lexemes.specs.Remaining.{remaining}
 use Rattle.auth_syntax.specs.Syntax.{TypeSyntax}
 use Rattle.auth_syntax.proofs.LevelSteps.{read_type-none, read_type-step}
 use Rattle.auth_syntax.proofs.parser.types.+types.Goals as goal

@@ -1,9 +1,10 @@
 use Rattle.std.proofs.Common.{map}
-use Rattle.auth_syntax.specs.Tokens.{count}
-use Rattle.auth_syntax.specs.Parsing.{read_separator, read_whole_type}
+use Rattle.lexemes.specs.Tokens.{count}
+use Rattle.lexemes.specs.Readings.{read_separator}
+use Rattle.auth_syntax.specs.Parsing.{read_whole_type}
 use Rattle.auth_syntax.specs.LanguageViews.{words_of}
 use Rattle.auth_syntax.specs.Trees.{type_of}
-use Rattle.auth_syntax.specs.Remaining.{remaining}
+use Rattle.lexemes.specs.Remaining.{remaining}
 use Rattle.auth_syntax.proofs.Loops.{IsReadSoFar}
 use Rattle.auth_syntax.proofs.parser.types.type_list.Given as goal
 

@@ -40,8 +40,10 @@ returns-in_err-function-clause-found c =
     let stays : signature_meant types head ≡ signature_meant old head = signature_stays old types grows head within in
     let here = next_mapped (λ (h : Head). function_of h.function.now) heads i head head inside is in
     λ names same.
-    let same' : map (signature_meant (types_of first)) heads ≡ map (signature_of names) fs = subst (λ (l : List Ty). map (signature_meant l) heads ≡ map (signature_of names) fs) (sym c.new-elaborator.ensures.types) same in
-    finds_by (types_of c.function.new.self) term_function _ (checked_function names (scope_of e) f) (checked_functions names (scope_meant old scope) fs) _ _ (p.1 ∙ ap Err p.2)
+    let same' : map (signature_meant (types_of first)) heads ≡ map (signature_of names) fs =
+    subst (λ (l : List Ty). map (signature_meant l) heads ≡ map (signature_of names) fs) (sym c.new-elaborator.ensures.types) same in
+    finds_by (types_of c.function.new.self) term_function _ (checked_function names (scope_of e) f)
+    (checked_functions names (scope_meant old scope) fs) _ _ (p.1 ∙ ap Err p.2)
     (λ kind at refused. ap (λ s. checked_functions names s fs) (sym c.new-elaborator.ensures.scope)
     ∙ functions_refused names (scope_of first) fs i f here c.loop-head.functions.items _ types kind at (c.loop-head.invariant.found names same')
     (ap (λ s. checked_function names s f) (sym c.loop-head.invariant.keeps.scope) ∙ refused))
@@ -68,15 +70,20 @@ loop-head-preserved c =
     record {
       keeps = keeps_on c.loop-head.invariant.keeps c.in_ok-function.ensures.keeps;
       found = λ names same'.
-          let same : map (signature_meant old) heads ≡ map (signature_of names) fs = subst (λ (l : List Ty). map (signature_meant l) heads ≡ map (signature_of names) fs) c.new-elaborator.ensures.types same' in
+          let same : map (signature_meant old) heads ≡ map (signature_of names) fs =
+          subst (λ (l : List Ty). map (signature_meant l) heads ≡ map (signature_of names) fs) c.new-elaborator.ensures.types same' in
           rw c.in_ok-push.ensures.items
-          (functions_more names (scope_of first) fs i f here c.loop-head.functions.items _ types (types_of c.function.new.self) c.in_ok-function.field-0 c.in_ok-function.ensures.keeps.grows (c.loop-head.invariant.found names same')
-          (shows_is (types_of c.function.new.self) term_function _ _ c.in_ok-function.field-0 (ap (λ s. checked_function names s f) c.loop-head.invariant.keeps.scope)
+          (functions_more names (scope_of first) fs i f here c.loop-head.functions.items _ types (types_of c.function.new.self)
+          c.in_ok-function.field-0 c.in_ok-function.ensures.keeps.grows (c.loop-head.invariant.found names same')
+          (shows_is (types_of c.function.new.self) term_function _ _ c.in_ok-function.field-0
+          (ap (λ s. checked_function names s f) c.loop-head.invariant.keeps.scope)
           (c.in_ok-function.ensures.found names (stays ∙ head_signature old names heads i head inside is same))));
       parameters = rw c.in_ok-push.ensures.items
-          (taken_more (λ (g : Function). g.parameters.items) (λ (h : Head). h.parameters.items) c.loop-head.functions.items c.in_ok-function.field-0 heads i head inside is c.loop-head.invariant.parameters c.in_ok-function.ensures.parameters);
+          (taken_more (λ (g : Function). g.parameters.items) (λ (h : Head). h.parameters.items) c.loop-head.functions.items c.in_ok-function.field-0
+          heads i head inside is c.loop-head.invariant.parameters c.in_ok-function.ensures.parameters);
       results = rw c.in_ok-push.ensures.items
-          (taken_more (λ (g : Function). g.result) (λ (h : Head). h.result) c.loop-head.functions.items c.in_ok-function.field-0 heads i head inside is c.loop-head.invariant.results c.in_ok-function.ensures.gives);
+          (taken_more (λ (g : Function). g.result) (λ (h : Head). h.result) c.loop-head.functions.items c.in_ok-function.field-0 heads i head inside
+          is c.loop-head.invariant.results c.in_ok-function.ensures.gives);
       literals = functions_good fs i f here c.in_ok-function.ensures.literals c.loop-head.invariant.literals;
     }
 
@@ -91,9 +98,11 @@ returns-clause-found c =
     let i = c.loop-head.head-index in
     let past : length heads ≤ i = rw c.deref-head-items.ensures.value at c.loop-head-test.false in
     λ names same.
-    let same' : map (signature_meant (types_of first)) heads ≡ map (signature_of names) fs = subst (λ (l : List Ty). map (signature_meant l) heads ≡ map (signature_of names) fs) (sym c.new-elaborator.ensures.types) same in
+    let same' : map (signature_meant (types_of first)) heads ≡ map (signature_of names) fs =
+    subst (λ (l : List Ty). map (signature_meant l) heads ≡ map (signature_of names) fs) (sym c.new-elaborator.ensures.types) same in
     ap (λ s. checked_functions names s fs) (sym c.new-elaborator.ensures.scope)
-    ∙ functions_last (types_of e) names (scope_of first) fs i c.loop-head.functions.items _ (none_mapped (λ (h : Head). function_of h.function.now) heads i past) (c.loop-head.invariant.found names same')
+    ∙ functions_last (types_of e) names (scope_of first) fs i c.loop-head.functions.items
+    _ (none_mapped (λ (h : Head). function_of h.function.now) heads i past) (c.loop-head.invariant.found names same')
     ∙ ap (λ l. Sound (map (term_function l) c.loop-head.functions.items)) (sym c.into_types.ensures)
 
 pub returns-clause-literals : goal.returns-clause-literals
@@ -101,4 +110,5 @@ returns-clause-literals c =
     let heads = c.args.scope.now.heads.items in
     let i = c.loop-head.head-index in
     let past : length heads ≤ i = rw c.deref-head-items.ensures.value at c.loop-head-test.false in
-    functions_good_last (functions_meant c.args.scope.now) i (none_mapped (λ (h : Head). function_of h.function.now) heads i past) c.loop-head.invariant.literals
+    functions_good_last (functions_meant c.args.scope.now) i (none_mapped (λ (h : Head). function_of h.function.now) heads i past)
+    c.loop-head.invariant.literals

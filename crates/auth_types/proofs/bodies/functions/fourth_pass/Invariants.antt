@@ -17,10 +17,14 @@ use Rattle.auth_types.proofs.bodies.functions.fourth_pass.Given as goal
 abbrev pub invariant-loop-head : goal.invariant-loop-head
 invariant-loop-head l = record {
   keeps : Keeps l.initial.elaborator l.elaborator;
-  found : (names : List (List ℕ)) → map (signature_meant (types_of l.initial.elaborator)) l.scope.heads.items ≡ map (signature_of names) (functions_meant l.scope)
+  found : (names : List (List ℕ)) → map (signature_meant (types_of l.initial.elaborator)) l.scope.heads.items ≡ map (signature_of names)
+      (functions_meant l.scope)
       → (more : List Ty) → checked_functions names (scope_of l.initial.elaborator) (functions_meant l.scope)
-      ≡ functions_behind (map (function_of (types_of l.elaborator ++ more)) l.functions.items) (checked_functions names (scope_of l.initial.elaborator) (drop l.head-index (functions_meant l.scope)));
-  parameters : map (λ (f : Function). f.parameters.items) l.functions.items ≡ take l.head-index (map (λ (h : Head). h.parameters.items) l.scope.heads.items);
+      ≡ functions_behind (map (function_of (types_of l.elaborator ++ more)) l.functions.items)
+      (checked_functions names (scope_of l.initial.elaborator) (drop l.head-index (functions_meant l.scope)));
+  parameters : map (λ (f : Function). f.parameters.items) l.functions.items ≡ take l.head-index
+      (map (λ (h : Head). h.parameters.items) l.scope.heads.items);
   results : map (λ (f : Function). f.result) l.functions.items ≡ take l.head-index (map (λ (h : Head). h.result) l.scope.heads.items);
-  literals : All (λ (f : FunctionSyntax). HasGoodLiterals f.body) (drop l.head-index (functions_meant l.scope)) → All (λ (f : FunctionSyntax). HasGoodLiterals f.body) (functions_meant l.scope);
+  literals : All (λ (f : FunctionSyntax). HasGoodLiterals f.body) (drop l.head-index (functions_meant l.scope))
+      → All (λ (f : FunctionSyntax). HasGoodLiterals f.body) (functions_meant l.scope);
 }

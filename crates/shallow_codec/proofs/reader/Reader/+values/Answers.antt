@@ -1,8 +1,9 @@
-use Rattle.std.proofs.Common.{◌-◌, ◌∙◌, List, Err, arith, subst, sym, add-one}
+use Rattle.std.proofs.Common.{◌∙◌, List, Err, arith, subst, sym, add-one}
 use Rattle.core_terms.specs.LanguagePrograms.{types_of}
 use Rattle.core_terms.specs.Reading.{read_value}
 use Rattle.core_terms.specs.TypeTables.{type_at}
 use Rattle.core_terms.specs.declared.language.types.TyForm.TheVariants.{UnitForm, BoolForm, IntForm, TextForm}
+use Rattle.value_store.specs.CodeNodes.{numbers_of}
 use Rattle.value_store.specs.declared.node.Ref.{Ref}
 use Rattle.std.proofs.lemmas.Result.{err_from_is_err_and}
 use Rattle.value_store.specs.Stores.{nodes_in}
@@ -11,7 +12,7 @@ use Rattle.shallow_codec.specs.PutNodes.{IsThere}
 use Rattle.shallow_codec.proofs.FieldLoops.{IsPutSoFar}
 use Rattle.shallow_codec.proofs.GrownNodes.{grows_refl, grows_then}
 use Rattle.shallow_codec.specs.PutValues.{IsFront, IsRead}
-use Rattle.shallow_codec.proofs.ReadNodes.{at_form, leaf_is_read, length_types, on_level, so_far_all, so_far_fault, so_far_more, so_far_none, still_known, ty_at}
+use Rattle.shallow_codec.proofs.ReadNodes.{at_form, fields_fit, leaf_is_read, length_types, not_ok, on_level, pair_fits, so_far_all, so_far_fault, so_far_more, so_far_none, still_known, ty_at}
 use Rattle.shallow_codec.proofs.reader.Reader.+values.Goals as goal
 
 pub value-returns-in-UnitForm-clause-read : goal.value-returns-in-UnitForm-clause-read
@@ -90,6 +91,17 @@ pair-returns-clause-known t c =
     c.in_ok-note.ensures.known types tys read.0 c.in_ok-front.ensures.known
     (subst (λ a. IsThere types (nodes_in c.parts.new.store) c.in_ok-front.front.value.0 a read.0) (sym c.requires.ty) read.2)
 
+pub parts-put_parts-requires-clause-fits : goal.parts-put_parts-requires-clause-fits
+parts-put_parts-requires-clause-fits t c =
+    let p = c.args.self.now.program.now in
+    let a = ty_of p c.args.parts.0 in
+    let b = ty_of p c.args.parts.1 in
+    let mid = c.in_ok-first.first.behind in
+    pair_fits (table p) c.args.levels c.args.at mid c.in_ok-second.second.behind (nodes_in c.value.new.store) (nodes_in c.value-2.new.store)
+    c.in_ok-first.first.value.0 c.in_ok-second.second.value.0 a b
+    (read_value (table p) c.args.levels a c.args.at.rest.now c.args.at.offset) (read_value (table p) c.args.levels b mid.rest.now mid.offset)
+    c.in_ok-second.ensures.grows c.requires.short c.requires.levels c.in_ok-first.ensures.read c.in_ok-second.ensures.read
+
 pub parts-returns-clause-read : goal.parts-returns-clause-read
 parts-returns-clause-read t c =
     c.put_parts.ensures.read (table c.args.self.now.program.now) c.args.levels (ty_of c.args.self.now.program.now c.args.parts.0) (ty_of c.args.self.now.program.now c.args.parts.1)
@@ -99,6 +111,14 @@ pub parts-returns-clause-known : goal.parts-returns-clause-known
 parts-returns-clause-known t c =
     still_known c.args.self.now.program.now (nodes_in c.value-2.new.store) (nodes_in c.put_parts.new.store) c.put_parts.result
     c.value-2.new.nothings c.put_parts.ensures.grows c.in_ok-second.ensures.known
+
+pub constructor-put_fields-requires-clause-fits : goal.constructor-put_fields-requires-clause-fits
+constructor-put_fields-requires-clause-fits t c =
+    let p = c.args.self.now.program.now in
+    let read = c.in_ok-fields.ensures.read in
+    fields_fit (table p) c.args.levels c.args.named.0 c.in-Some.tag read.1 (tys_of p c.in-Some-field_types.types.now) c.args.at c.in-Some.behind
+    c.in_ok-fields.fields.behind (nodes_in c.fields.new.store) (numbers_of c.in_ok-fields.fields.values.items) read.0
+    c.requires.short c.requires.levels c.in-Some.ensures.1 read.3 read.4
 
 pub constructor-returns-clause-read : goal.constructor-returns-clause-read
 constructor-returns-clause-read t c =
@@ -155,3 +175,38 @@ fields-returns-clause-read t c =
     so_far_all (table c.args.self.now.program.now) c.args.levels (tys_of c.args.self.now.program.now c.args.types.now) c.args.at c.loop-ty.ty-index
     (nodes_in c.loop-ty.store) c.loop-ty.values.items c.loop-ty.behind
     (omega (arith, length_types (types_of c.args.self.now.program.now) c.args.types.now)) c.loop-ty.invariant.so_far
+
+-- after a fault nothing is said of what is kept
+pub parts-returns-in_err-first-clause-known : goal.parts-returns-in_err-first-clause-known
+parts-returns-in_err-first-clause-known t c = not_ok _ _ c.from_residual.result c.from_residual.ensures.1
+
+pub parts-returns-in_err-second-clause-known : goal.parts-returns-in_err-second-clause-known
+parts-returns-in_err-second-clause-known t c = not_ok _ _ c.from_residual-in_err-second.result c.from_residual-in_err-second.ensures.1
+
+pub pair-returns-in_err-front-clause-known : goal.pair-returns-in_err-front-clause-known
+pair-returns-in_err-front-clause-known t c = not_ok _ _ c.from_residual.result c.from_residual.ensures.1
+
+pub pair-returns-in_err-note-clause-known : goal.pair-returns-in_err-note-clause-known
+pair-returns-in_err-note-clause-known t c = not_ok _ _ c.from_residual-in_err-note.result c.from_residual-in_err-note.ensures.1
+
+pub constructor-returns-in_err-fields-clause-known : goal.constructor-returns-in_err-fields-clause-known
+constructor-returns-in_err-fields-clause-known t c = not_ok _ _ c.from_residual.result c.from_residual.ensures.1
+
+pub fields-returns-in_err-front-clause-known : goal.fields-returns-in_err-front-clause-known
+fields-returns-in_err-front-clause-known t c = not_ok _ _ c.from_residual.result c.from_residual.ensures.1
+
+pub fields-returns-in_err-push-clause-known : goal.fields-returns-in_err-push-clause-known
+fields-returns-in_err-push-clause-known t c = not_ok _ _ c.from_residual-in_err-push.result c.from_residual-in_err-push.ensures.1
+
+pub parts-returns-in_err-first-clause-grows : goal.parts-returns-in_err-first-clause-grows
+parts-returns-in_err-first-clause-grows t c = c.in_err-first.ensures.grows
+
+pub parts-returns-in_err-second-clause-grows : goal.parts-returns-in_err-second-clause-grows
+parts-returns-in_err-second-clause-grows t c =
+    grows_then (nodes_in c.args.store.now) (nodes_in c.value.new.store) (nodes_in c.value-2.new.store) c.in_ok-first.ensures.grows c.in_err-second.ensures.grows
+
+pub pair-returns-in_err-front-clause-grows : goal.pair-returns-in_err-front-clause-grows
+pair-returns-in_err-front-clause-grows t c = c.in_err-front.ensures.grows
+
+pub constructor-returns-in_err-fields-clause-grows : goal.constructor-returns-in_err-fields-clause-grows
+constructor-returns-in_err-fields-clause-grows t c = c.in_err-fields.ensures.grows

@@ -12,9 +12,9 @@ use Rattle.core_terms.specs.declared.types.TyId.{TyId}
 use Rattle.core_terms.specs.declared.language.term.Constructor.{Constructor}
 use Rattle.core_terms.specs.declared.language.term.Term as term
 use Rattle.auth_syntax.specs.Parsing.{in_a_row}
-use Rattle.auth_syntax.specs.Places.{start}
+use Rattle.lexemes.specs.Places.{start}
 use Rattle.auth_syntax.specs.Syntax.{place_of}
-use Rattle.auth_syntax.specs.Trees.{arm_of, arms_in_a_row, binary_of, expression_of, name_of, unary_of}
+use Rattle.auth_syntax.specs.Trees.{arm_of, arms_in_a_row, expression_of, name_of, unary_of}
 use Rattle.auth_syntax.specs.declared.tree.PlacedName.{PlacedName}
 use Rattle.auth_syntax.specs.declared.tree.ExpTree.{ExpTree}
 use Rattle.auth_syntax.specs.declared.tree.ExpTree.TheViews.{size-ExpTree, size-Arm}
@@ -53,7 +53,8 @@ pub term-returns-in-BoolLiteral-clause-found : goal.term-returns-in-BoolLiteral-
 term-returns-in-BoolLiteral-clause-found t c =
     c.plain-in-BoolLiteral.ensures.found _
     (λ _. literal_shows (types_of c.plain-in-BoolLiteral.new.self) _ (term.BoolLiteral c.in-BoolLiteral.value) (BoolE c.in-BoolLiteral.value) BoolTy
-    (ap (found_at c.args.self.now) (ap expression_of c.in-BoolLiteral.is ∙ expression-BoolLiteral _ _)) (λ types. terms.expression-BoolLiteral types c.in-BoolLiteral.value))
+    (ap (found_at c.args.self.now) (ap expression_of c.in-BoolLiteral.is ∙ expression-BoolLiteral _ _))
+    (λ types. terms.expression-BoolLiteral types c.in-BoolLiteral.value))
 
 pub term-returns-in-IntLiteral-clause-found : goal.term-returns-in-IntLiteral-clause-found
 term-returns-in-IntLiteral-clause-found t c =
@@ -66,7 +67,8 @@ term-returns-in-TextLiteral-clause-found t c = rw (c.in-TextLiteral.is, expressi
 
 pub term-returns-in-TextLiteral-clause-literals : goal.term-returns-in-TextLiteral-clause-literals
 term-returns-in-TextLiteral-clause-literals t c =
-    rw (c.in-TextLiteral.is, expression-TextLiteral) (on_ok c.text.result (IsUtf8-from_is_utf8 c.in-TextLiteral.text.bytes.items c.in-TextLiteral.text.utf8, c.in-TextLiteral.text.fits))
+    rw (c.in-TextLiteral.is, expression-TextLiteral) (on_ok c.text.result
+    (IsUtf8-from_is_utf8 c.in-TextLiteral.text.bytes.items c.in-TextLiteral.text.utf8, c.in-TextLiteral.text.fits))
 
 pub term-returns-in-Local-clause-found : goal.term-returns-in-Local-clause-found
 term-returns-in-Local-clause-found t c = rw (c.in-Local.is, expression-Local) c.local.ensures.found
@@ -78,37 +80,46 @@ pub term-returns-in_err-operand-in-Unary-clause-found : goal.term-returns-in_err
 term-returns-in_err-operand-in-Unary-clause-found t c =
     let p = err_from_is_err_and c.from_residual.result c.from_residual.ensures.1 in
     rw (c.in-Unary.is, expression-Unary)
-    (unary_refused (unary_of c.in-Unary.operator) (place_of (expression_of c.in-Unary.operand.value)) (types_of c.term.new.self) _ (found_in c.args.self.now c.in-Unary.operand.value) _ _ (p.1 ∙ ap Err p.2)
-    (finds_is (types_of c.term.new.self) typed_of _ _ (Err c.in_err-operand-in-Unary.field-0.0) (ap (found_in c.args.self.now) c.deref-in-Unary-2.ensures) c.in_err-operand-in-Unary.ensures.found))
+    (unary_refused (unary_of c.in-Unary.operator) (place_of (expression_of c.in-Unary.operand.value)) (types_of c.term.new.self)
+    _ (found_in c.args.self.now c.in-Unary.operand.value) _ _ (p.1 ∙ ap Err p.2)
+    (finds_is (types_of c.term.new.self) typed_of _ _ (Err c.in_err-operand-in-Unary.field-0.0)
+    (ap (found_in c.args.self.now) c.deref-in-Unary-2.ensures) c.in_err-operand-in-Unary.ensures.found))
 
 pub term-returns-in_ok-operand-in-Unary-clause-found : goal.term-returns-in_ok-operand-in-Unary-clause-found
 term-returns-in_ok-operand-in-Unary-clause-found t c =
     let whole = found_in c.args.self.now c.in-Unary.operand.value in
-    let place_is : c.place-at.result ≡ place_of (expression_of c.in-Unary.operand.value) = c.place-at.ensures ∙ ap (λ t. place_of (expression_of t)) c.deref-in-Unary.ensures in
+    let place_is : c.place-at.result ≡ place_of (expression_of c.in-Unary.operand.value) =
+    c.place-at.ensures ∙ ap (λ t. place_of (expression_of t)) c.deref-in-Unary.ensures in
     rw (c.in-Unary.is, expression-Unary)
     (subst (λ at. FindsOver (types_of c.unary.new.self) typed_of (unary (unary_of c.in-Unary.operator) at whole) c.unary.result) place_is
     (c.unary.ensures.found whole (rw c.deref-in-Unary-2.ensures at c.in_ok-operand-in-Unary.ensures.found)))
 
 pub term-returns-in-Binary-clause-found : goal.term-returns-in-Binary-clause-found
-term-returns-in-Binary-clause-found t c = rw (c.in-Binary.is, expression-Binary) (rw (c.deref-in-Binary.ensures, c.deref-in-Binary-2.ensures) at c.binary.ensures.found)
+term-returns-in-Binary-clause-found t c =
+    rw (c.in-Binary.is, expression-Binary) (rw (c.deref-in-Binary.ensures, c.deref-in-Binary-2.ensures) at c.binary.ensures.found)
 
 pub term-returns-in-Call-clause-found : goal.term-returns-in-Call-clause-found
 term-returns-in-Call-clause-found t c = rw (c.in-Call.is, expression-Call) (rw c.deref-in-Call.ensures.value at c.call.ensures.found)
 
 pub term-returns-in-Constructor-clause-found : goal.term-returns-in-Constructor-clause-found
-term-returns-in-Constructor-clause-found t c = rw (c.in-Constructor.is, expression-Constructor) (rw c.deref-in-Constructor.ensures.value at c.constructor.ensures.found)
+term-returns-in-Constructor-clause-found t c =
+    rw (c.in-Constructor.is, expression-Constructor) (rw c.deref-in-Constructor.ensures.value at c.constructor.ensures.found)
 
 pub term-returns-in-Let-clause-found : goal.term-returns-in-Let-clause-found
-term-returns-in-Let-clause-found t c = rw (c.in-Let.is, expression-Let) (rw (c.deref-in-Let.ensures, c.deref-in-Let-2.ensures) at c.let_in.ensures.found)
+term-returns-in-Let-clause-found t c =
+    rw (c.in-Let.is, expression-Let) (rw (c.deref-in-Let.ensures, c.deref-in-Let-2.ensures) at c.let_in.ensures.found)
 
 pub term-returns-in-If-clause-found : goal.term-returns-in-If-clause-found
-term-returns-in-If-clause-found t c = rw (c.in-If.is, expression-If) (rw (c.deref-in-If.ensures, c.deref-in-If-2.ensures, c.deref-in-If-3.ensures) at c.condition.ensures.found)
+term-returns-in-If-clause-found t c =
+    rw (c.in-If.is, expression-If) (rw (c.deref-in-If.ensures, c.deref-in-If-2.ensures, c.deref-in-If-3.ensures) at c.condition.ensures.found)
 
 pub term-returns-in-Match-clause-found : goal.term-returns-in-Match-clause-found
-term-returns-in-Match-clause-found t c = rw (c.in-Match.is, expression-Match) (rw (c.deref-in-Match.ensures, c.deref-in-Match-2.ensures.value) at c.match_with.ensures.found)
+term-returns-in-Match-clause-found t c =
+    rw (c.in-Match.is, expression-Match) (rw (c.deref-in-Match.ensures, c.deref-in-Match-2.ensures.value) at c.match_with.ensures.found)
 
 pub term-returns-in-Match-clause-literals : goal.term-returns-in-Match-clause-literals
-term-returns-in-Match-clause-literals t c = rw (c.in-Match.is, expression-Match) (rw (c.deref-in-Match.ensures, c.deref-in-Match-2.ensures.value) at c.match_with.ensures.literals)
+term-returns-in-Match-clause-literals t c =
+    rw (c.in-Match.is, expression-Match) (rw (c.deref-in-Match.ensures, c.deref-in-Match-2.ensures.value) at c.match_with.ensures.literals)
 
 -- a part of a type
 pub part-returns-clause-found : goal.part-returns-clause-found
@@ -117,15 +128,18 @@ part-returns-clause-found t c =
     let found = found_in c.args.self.now c.args.tree.now in
     finds_is types boxed_of _ _ c.wanted.result
     (ap (λ at. wanted at (type_at types c.args.ty) found) c.place.ensures
-    ∙ ap (λ t. wanted (place_of (expression_of c.args.tree.now)) t found) (type_stays_at (types_of c.args.self.now) types c.in_ok-part.ensures.keeps.grows c.args.ty c.requires))
+    ∙ ap (λ t. wanted (place_of (expression_of c.args.tree.now)) t found)
+    (type_stays_at (types_of c.args.self.now) types c.in_ok-part.ensures.keeps.grows c.args.ty c.requires))
     (c.wanted.ensures found c.in_ok-part.ensures.found)
 
 -- pairs
 pub pair-returns-in_err-second-clause-found : goal.pair-returns-in_err-second-clause-found
 pair-returns-in_err-second-clause-found t c =
     let p = err_from_is_err_and c.from_residual-in_err-second.result c.from_residual-in_err-second.ensures.1 in
-    pair_refused (types_of c.term.new.self) (types_of c.term-2.new.self) _ (found_in c.args.self.now c.args.first.now) (found_in c.args.self.now c.args.second.now) c.in_ok-first.first _ _ (p.1 ∙ ap Err p.2) c.in_ok-first.ensures.found
-    (finds_is (types_of c.term-2.new.self) typed_of _ _ (Err c.in_err-second.field-0.0) (found_kept c.args.self.now c.term.new.self c.in_ok-first.ensures.keeps (expression_of c.args.second.now)) c.in_err-second.ensures.found)
+    pair_refused (types_of c.term.new.self) (types_of c.term-2.new.self) _ (found_in c.args.self.now c.args.first.now)
+    (found_in c.args.self.now c.args.second.now) c.in_ok-first.first _ _ (p.1 ∙ ap Err p.2) c.in_ok-first.ensures.found
+    (finds_is (types_of c.term-2.new.self) typed_of _ _ (Err c.in_err-second.field-0.0)
+    (found_kept c.args.self.now c.term.new.self c.in_ok-first.ensures.keeps (expression_of c.args.second.now)) c.in_err-second.ensures.found)
 
 pub pair-returns-clause-keeps : goal.pair-returns-clause-keeps
 pair-returns-clause-keeps t c =
@@ -136,30 +150,36 @@ pair-returns-clause-found t c =
     let first = found_in c.args.self.now c.args.first.now in
     let second = found_in c.args.self.now c.args.second.now in
     c.paired.ensures.found first second
-    (shows_grow (types_of c.term.new.self) (types_of c.term-2.new.self) typed_of first c.in_ok-first.first c.in_ok-second.ensures.keeps.grows c.in_ok-first.ensures.found)
-    (shows_is (types_of c.term-2.new.self) typed_of _ second c.in_ok-second.second (found_kept c.args.self.now c.term.new.self c.in_ok-first.ensures.keeps (expression_of c.args.second.now)) c.in_ok-second.ensures.found)
+    (shows_grow (types_of c.term.new.self) (types_of c.term-2.new.self) typed_of first c.in_ok-first.first c.in_ok-second.ensures.keeps.grows
+    c.in_ok-first.ensures.found)
+    (shows_is (types_of c.term-2.new.self) typed_of _ second c.in_ok-second.second
+    (found_kept c.args.self.now c.term.new.self c.in_ok-first.ensures.keeps (expression_of c.args.second.now)) c.in_ok-second.ensures.found)
 
 -- operations on two operands
 pub binary-returns-in_err-first-clause-found : goal.binary-returns-in_err-first-clause-found
 binary-returns-in_err-first-clause-found t c =
     let p = err_from_is_err_and c.from_residual-in_err-first.result c.from_residual-in_err-first.ensures.1 in
-    let op = binary_of c.args.operator in
+    let op = c.args.operator in
     let types = types_of c.operand_type.new.self in
     let first = found_in c.args.self.now c.args.first.now in
     let second = found_in c.args.self.now c.args.second.now in
-    first_operand_refused op (types_of c.part.new.self) _ _ (type_at types c.in_ok-ty.ty) (operand_type op) first (found_in c.operand_type.new.self c.args.first.now) second second
-    (get_or_from_slice_get types c.in_ok-ty.ty.0 (operand_type op) UnitTy c.in_ok-ty.ensures.found) refl (found_kept c.args.self.now c.operand_type.new.self c.in_ok-ty.ensures.keeps (expression_of c.args.first.now)) refl
+    first_operand_refused op (types_of c.part.new.self) _ _ (type_at types c.in_ok-ty.ty) (operand_type op) first
+    (found_in c.operand_type.new.self c.args.first.now) second second
+    (get_or_from_slice_get types c.in_ok-ty.ty.0 (operand_type op) UnitTy c.in_ok-ty.ensures.found) refl
+    (found_kept c.args.self.now c.operand_type.new.self c.in_ok-ty.ensures.keeps (expression_of c.args.first.now)) refl
     (types_of c.part.new.self) _ _ (p.1 ∙ ap Err p.2) c.in_err-first.ensures.found
 
 pub binary-returns-in_err-second-clause-found : goal.binary-returns-in_err-second-clause-found
 binary-returns-in_err-second-clause-found t c =
     let p = err_from_is_err_and c.from_residual-in_err-second.result c.from_residual-in_err-second.ensures.1 in
-    let op = binary_of c.args.operator in
+    let op = c.args.operator in
     let types = types_of c.operand_type.new.self in
     let middle = types_of c.part.new.self in
-    let one : type_at types c.in_ok-ty.ty ≡ operand_type op = get_or_from_slice_get types c.in_ok-ty.ty.0 (operand_type op) UnitTy c.in_ok-ty.ensures.found in
+    let one : type_at types c.in_ok-ty.ty ≡ operand_type op =
+    get_or_from_slice_get types c.in_ok-ty.ty.0 (operand_type op) UnitTy c.in_ok-ty.ensures.found in
     second_operand_refused op (types_of c.part-2.new.self) _ _ (type_at types c.in_ok-ty.ty) (type_at middle c.in_ok-ty.ty)
-    (found_in c.args.self.now c.args.first.now) (found_in c.operand_type.new.self c.args.first.now) (found_in c.args.self.now c.args.second.now) (found_in c.part.new.self c.args.second.now)
+    (found_in c.args.self.now c.args.first.now) (found_in c.operand_type.new.self c.args.first.now) (found_in c.args.self.now c.args.second.now)
+    (found_in c.part.new.self c.args.second.now)
     one (type_stays_at types middle c.in_ok-first.ensures.keeps.grows c.in_ok-ty.ty c.in_ok-ty.ensures.inside ∙ one)
     (found_kept c.args.self.now c.operand_type.new.self c.in_ok-ty.ensures.keeps (expression_of c.args.first.now))
     (found_kept c.args.self.now c.part.new.self (keeps_on c.in_ok-ty.ensures.keeps c.in_ok-first.ensures.keeps) (expression_of c.args.second.now))
@@ -167,30 +187,35 @@ binary-returns-in_err-second-clause-found t c =
 
 pub binary-returns-clause-found : goal.binary-returns-clause-found
 binary-returns-clause-found t c =
-    let op = binary_of c.args.operator in
+    let op = c.args.operator in
     let types = types_of c.operand_type.new.self in
     let middle = types_of c.part.new.self in
-    let one : type_at types c.in_ok-ty.ty ≡ operand_type op = get_or_from_slice_get types c.in_ok-ty.ty.0 (operand_type op) UnitTy c.in_ok-ty.ensures.found in
+    let one : type_at types c.in_ok-ty.ty ≡ operand_type op =
+    get_or_from_slice_get types c.in_ok-ty.ty.0 (operand_type op) UnitTy c.in_ok-ty.ensures.found in
     operands_found op (types_of c.combined.new.self) _ _ (type_at types c.in_ok-ty.ty) (type_at middle c.in_ok-ty.ty)
-    (found_in c.args.self.now c.args.first.now) (found_in c.operand_type.new.self c.args.first.now) (found_in c.args.self.now c.args.second.now) (found_in c.part.new.self c.args.second.now)
+    (found_in c.args.self.now c.args.first.now) (found_in c.operand_type.new.self c.args.first.now) (found_in c.args.self.now c.args.second.now)
+    (found_in c.part.new.self c.args.second.now)
     one (type_stays_at types middle c.in_ok-first.ensures.keeps.grows c.in_ok-ty.ty c.in_ok-ty.ensures.inside ∙ one)
     (found_kept c.args.self.now c.operand_type.new.self c.in_ok-ty.ensures.keeps (expression_of c.args.first.now))
     (found_kept c.args.self.now c.part.new.self (keeps_on c.in_ok-ty.ensures.keeps c.in_ok-first.ensures.keeps) (expression_of c.args.second.now))
-    middle (types_of c.part-2.new.self) c.in_ok-first.first c.in_ok-second.second _ c.in_ok-second.ensures.keeps.grows c.in_ok-first.ensures.found c.in_ok-second.ensures.found c.combined.ensures.found
+    middle (types_of c.part-2.new.self) c.in_ok-first.first c.in_ok-second.second _ c.in_ok-second.ensures.keeps.grows c.in_ok-first.ensures.found
+    c.in_ok-second.ensures.found c.combined.ensures.found
 
 -- calls
 pub call-returns-in_err-function-clause-found : goal.call-returns-in_err-function-clause-found
 call-returns-in_err-function-clause-found t c =
     let p = err_from_is_err_and c.from_residual.result c.from_residual.ensures.1 in
     let xs = map expression_of c.args.operands.now in
-    callee_refused c.args.at (in_a_row xs) (length c.args.operands.now) _ (function_meant (types_of c.args.self.now) c.args.self.now.scope.now) (row_found c.args.self.now (in_a_row xs)) _ _ _
+    callee_refused c.args.at (in_a_row xs) (length c.args.operands.now) _ (function_meant (types_of c.args.self.now) c.args.self.now.scope.now)
+    (row_found c.args.self.now (in_a_row xs)) _ _ _
     (sym (count_row xs ∙ length-map c.args.operands.now expression_of)) (p.1 ∙ ap Err p.2) c.in_err-function.ensures.found
 
 pub call-operands-requires : goal.call-operands-requires
 call-operands-requires t c =
     let types = types_of c.args.self.now in
     let v = (function_meant types c.args.self.now.scope.now c.in_ok-function.function).value in
-    let count = c.in_ok-function.ensures.count ∙ parameters_count types v c.head-head.result.now (c.head-head.ensures.signature types) ∙ ap length (sym c.deref.ensures.value) in
+    let count = c.in_ok-function.ensures.count ∙ parameters_count types v c.head-head.result.now (c.head-head.ensures.signature types)
+    ∙ ap length (sym c.deref.ensures.value) in
     let within = c.head-head.ensures.within (length types) c.args.self.now.scope_within in
     (search rules, (count, subst (AreWithin (length types)) (sym c.deref.ensures.value) within.parameters))
 
@@ -201,9 +226,11 @@ call-returns-in_err-arguments-clause-found t c =
     let xs = map expression_of c.args.operands.now in
     let each = row_found c.args.self.now (in_a_row xs) in
     let v = (function_meant types c.args.self.now.scope.now c.in_ok-function.function).value in
-    call_refused types c.args.at (in_a_row xs) (length c.args.operands.now) (sym (count_row xs ∙ length-map c.args.operands.now expression_of)) _ each v c.head-head.result.now c.in_ok-function.function
+    call_refused types c.args.at (in_a_row xs) (length c.args.operands.now) (sym (count_row xs ∙ length-map c.args.operands.now expression_of)) _ each
+    v c.head-head.result.now c.in_ok-function.function
     (c.in_ok-function.ensures.found each) (c.head-head.ensures.signature types) (types_of c.operands.new.self) _ _ _ (p.1 ∙ ap Err p.2)
-    (finds_is (types_of c.operands.new.self) row_of _ _ (Err c.in_err-arguments.field-0.0) (ap (λ ids. each (types_at types ids)) c.deref.ensures.value) c.in_err-arguments.ensures.found)
+    (finds_is (types_of c.operands.new.self) row_of _ _ (Err c.in_err-arguments.field-0.0)
+    (ap (λ ids. each (types_at types ids)) c.deref.ensures.value) c.in_err-arguments.ensures.found)
 
 pub call-returns-clause-found : goal.call-returns-clause-found
 call-returns-clause-found t c =
@@ -213,8 +240,10 @@ call-returns-clause-found t c =
     let v = (function_meant types c.args.self.now.scope.now c.in_ok-function.function).value in
     let within = c.head-head.ensures.within (length types) c.args.self.now.scope_within in
     c.typed.ensures.found _
-    (call_found types c.args.at (in_a_row xs) (length c.args.operands.now) (sym (count_row xs ∙ length-map c.args.operands.now expression_of)) _ each v c.head-head.result.now c.in_ok-function.function
-    (c.in_ok-function.ensures.found each) (c.head-head.ensures.signature types) (types_of c.operands.new.self) c.in_ok-arguments.arguments c.in_ok-arguments.ensures.keeps.grows within.result
+    (call_found types c.args.at (in_a_row xs) (length c.args.operands.now) (sym (count_row xs ∙ length-map c.args.operands.now expression_of)) _ each
+    v c.head-head.result.now c.in_ok-function.function
+    (c.in_ok-function.ensures.found each) (c.head-head.ensures.signature types) (types_of c.operands.new.self) c.in_ok-arguments.arguments
+    c.in_ok-arguments.ensures.keeps.grows within.result
     (rw c.deref.ensures.value at c.in_ok-arguments.ensures.found))
 
 pub call-typed-requires : goal.call-typed-requires
@@ -247,8 +276,10 @@ constructor-returns-in_err-fields-clause-found t c =
     let types = types_of c.args.self.now in
     let xs = map expression_of c.args.operands.now in
     let each = row_found c.args.self.now (in_a_row xs) in
-    constructor_refused types c.args.at (in_a_row xs) (length c.args.operands.now) (sym (count_row xs ∙ length-map c.args.operands.now expression_of)) _ _ each c.in_ok-id.id.named c.in_ok-id.id.tag c.fields-types.result.now
-    (c.in_ok-id.ensures.found each) (c.fields-types.ensures.fields types) (types_of c.operands.new.self) _ _ _ (p.1 ∙ ap Err p.2) c.in_err-fields.ensures.found
+    constructor_refused types c.args.at (in_a_row xs) (length c.args.operands.now) (sym (count_row xs ∙ length-map c.args.operands.now expression_of))
+    _ _ each c.in_ok-id.id.named c.in_ok-id.id.tag c.fields-types.result.now
+    (c.in_ok-id.ensures.found each) (c.fields-types.ensures.fields types) (types_of c.operands.new.self) _ _ _ (p.1 ∙ ap Err p.2)
+    c.in_err-fields.ensures.found
 
 pub constructor-returns-clause-found : goal.constructor-returns-clause-found
 unfolding scope_of
@@ -257,15 +288,18 @@ constructor-returns-clause-found t c =
     let xs = map expression_of c.args.operands.now in
     let each = row_found c.args.self.now (in_a_row xs) in
     c.typed.ensures.found _
-    (constructor_found types c.args.at (in_a_row xs) (length c.args.operands.now) (sym (count_row xs ∙ length-map c.args.operands.now expression_of)) _ _ each c.in_ok-id.id.named c.in_ok-id.id.tag c.fields-types.result.now
-    (c.in_ok-id.ensures.found each) (c.fields-types.ensures.fields types) (types_of c.operands.new.self) (types_of c.intern.new.self) c.in_ok-fields.fields c.in_ok-ty.ty c.in_ok-ty.ensures.keeps.grows c.in_ok-ty.ensures.number
+    (constructor_found types c.args.at (in_a_row xs) (length c.args.operands.now) (sym (count_row xs ∙ length-map c.args.operands.now expression_of))
+    _ _ each c.in_ok-id.id.named c.in_ok-id.id.tag c.fields-types.result.now
+    (c.in_ok-id.ensures.found each) (c.fields-types.ensures.fields types) (types_of c.operands.new.self) (types_of c.intern.new.self)
+    c.in_ok-fields.fields c.in_ok-ty.ty c.in_ok-ty.ensures.keeps.grows c.in_ok-ty.ensures.number
     c.in_ok-fields.ensures.found)
 
 -- expressions in a row
 pub operands-loop-index-init : goal.operands-loop-index-init
 operands-loop-index-init t c = record {
   keeps = keeps_self c.args.self.now;
-  found = λ more. rw c.new-terms.ensures.items (row_behind_none (row_found c.args.self.now (in_a_row (map expression_of c.args.operands.now)) (types_at (types_of c.args.self.now) c.args.types.now)));
+  found = λ more. rw c.new-terms.ensures.items (row_behind_none
+      (row_found c.args.self.now (in_a_row (map expression_of c.args.operands.now)) (types_at (types_of c.args.self.now) c.args.types.now)));
   literals = λ good. good;
 }
 
@@ -276,7 +310,8 @@ operands-part-requires t c =
     let here = c.requires.within c.loop-index.index d inside in
     let longer = grows_length (types_of c.args.self.now) (types_of c.loop-index.self) c.loop-index.invariant.keeps.grows in
     let deep : size-ExpTree c.index-operands-index.result ≤ most size-ExpTree c.args.operands.now =
-    subst (λ (x : ExpTree). size-ExpTree x ≤ most size-ExpTree c.args.operands.now) (sym c.index-operands-index.is) (at_most size-ExpTree c.args.operands.now c.loop-index.index c.index-operands-index.result c.loop-index-test.true) in
+    subst (λ (x : ExpTree). size-ExpTree x ≤ most size-ExpTree c.args.operands.now) (sym c.index-operands-index.is)
+    (at_most size-ExpTree c.args.operands.now c.loop-index.index c.index-operands-index.result c.loop-index-test.true) in
     (omega (arith, deep, c.decreases), omega (arith, here, longer))
 
 pub operands-returns-in_err-part-clause-found : goal.operands-returns-in_err-part-clause-found
@@ -288,10 +323,14 @@ operands-returns-in_err-part-clause-found t c =
     let types = types_of c.loop-index.self in
     let x = expression_of c.index-operands-index.result in
     let inside : c.loop-index.index < length c.args.types.now = omega (arith, c.requires.count, c.loop-index-test.true) in
-    refused_by (types_of c.part.new.self) _ boxed_of row_of (wanted (place_of x) (type_at types v) (found_at c.loop-index.self x)) _ _ _ (p.1 ∙ ap Err p.2)
-    (λ kind at is. row_refused (scope_of c.args.self.now) (locals_of c.args.self.now) (map expression_of c.args.operands.now) (types_at old c.args.types.now) c.loop-index.index x (type_at old v)
-    (next_mapped expression_of c.args.operands.now c.loop-index.index c.index-operands-index.result c.index-operands-index.result c.loop-index-test.true c.index-operands-index.is)
-    (next_mapped (type_at old) c.args.types.now c.loop-index.index v d inside refl) c.loop-index.terms.items _ types kind at c.loop-index.invariant.found
+    refused_by (types_of c.part.new.self) _ boxed_of row_of (wanted (place_of x) (type_at types v) (found_at c.loop-index.self x))
+    _ _ _ (p.1 ∙ ap Err p.2)
+    (λ kind at is. row_refused (scope_of c.args.self.now) (locals_of c.args.self.now) (map expression_of c.args.operands.now)
+    (types_at old c.args.types.now) c.loop-index.index x (type_at old v)
+    (next_mapped expression_of c.args.operands.now c.loop-index.index c.index-operands-index.result c.index-operands-index.result
+    c.loop-index-test.true c.index-operands-index.is)
+    (next_mapped (type_at old) c.args.types.now c.loop-index.index v d inside refl) c.loop-index.terms.items _ types
+    kind at c.loop-index.invariant.found
     (sym (wanted_kept c.args.self.now c.loop-index.self c.loop-index.invariant.keeps (place_of x) (type_at types v) (type_at old v) x
     (type_stays_at old types c.loop-index.invariant.keeps.grows v (c.requires.within c.loop-index.index d inside))) ∙ is))
     c.in_err-part.ensures.found
@@ -304,61 +343,86 @@ operands-loop-index-preserved t c =
     let types = types_of c.loop-index.self in
     let x = expression_of c.index-operands-index.result in
     let inside : c.loop-index.index < length c.args.types.now = omega (arith, c.requires.count, c.loop-index-test.true) in
-    let here = next_mapped expression_of c.args.operands.now c.loop-index.index c.index-operands-index.result c.index-operands-index.result c.loop-index-test.true c.index-operands-index.is in
+    let here = next_mapped expression_of c.args.operands.now c.loop-index.index c.index-operands-index.result c.index-operands-index.result
+    c.loop-index-test.true c.index-operands-index.is in
     record {
       keeps = keeps_on c.loop-index.invariant.keeps c.in_ok-part.ensures.keeps;
       found = rw (c.in_ok-push.ensures.items, c.into_inner.ensures)
-          (row_more (scope_of c.args.self.now) (locals_of c.args.self.now) (map expression_of c.args.operands.now) (types_at old c.args.types.now) c.loop-index.index x (type_at old v) here
-          (next_mapped (type_at old) c.args.types.now c.loop-index.index v d inside refl) c.loop-index.terms.items _ types (types_of c.part.new.self) c.in_ok-part.part.value c.in_ok-part.ensures.keeps.grows c.loop-index.invariant.found
+          (row_more (scope_of c.args.self.now) (locals_of c.args.self.now) (map expression_of c.args.operands.now) (types_at old c.args.types.now)
+          c.loop-index.index x (type_at old v) here
+          (next_mapped (type_at old) c.args.types.now c.loop-index.index v d inside refl) c.loop-index.terms.items _ types (types_of c.part.new.self)
+          c.in_ok-part.part.value c.in_ok-part.ensures.keeps.grows c.loop-index.invariant.found
           (shows_is (types_of c.part.new.self) boxed_of (wanted (place_of x) (type_at types v) (found_at c.loop-index.self x)) _ c.in_ok-part.part
           (wanted_kept c.args.self.now c.loop-index.self c.loop-index.invariant.keeps (place_of x) (type_at types v) (type_at old v) x
-          (type_stays_at old types c.loop-index.invariant.keeps.grows v (c.requires.within c.loop-index.index d inside))) c.in_ok-part.ensures.found));
-      literals = row_good (map expression_of c.args.operands.now) c.loop-index.index x here c.in_ok-part.ensures.literals c.loop-index.invariant.literals;
+          (type_stays_at old types c.loop-index.invariant.keeps.grows v (c.requires.within c.loop-index.index d inside)))
+          c.in_ok-part.ensures.found));
+      literals = row_good (map expression_of c.args.operands.now) c.loop-index.index x here c.in_ok-part.ensures.literals
+          c.loop-index.invariant.literals;
     }
 
 pub operands-returns-clause-found : goal.operands-returns-clause-found
 operands-returns-clause-found t c =
-    row_last (scope_of c.args.self.now) (locals_of c.args.self.now) (types_of c.loop-index.self) (map expression_of c.args.operands.now) (types_at (types_of c.args.self.now) c.args.types.now) c.loop-index.index c.loop-index.terms _
+    row_last (scope_of c.args.self.now) (locals_of c.args.self.now) (types_of c.loop-index.self) (map expression_of c.args.operands.now)
+    (types_at (types_of c.args.self.now) c.args.types.now) c.loop-index.index c.loop-index.terms _
     (none_mapped expression_of c.args.operands.now c.loop-index.index c.loop-index-test.false) c.loop-index.invariant.found
 
 pub operands-returns-clause-literals : goal.operands-returns-clause-literals
 operands-returns-clause-literals t c =
-    row_good_last (map expression_of c.args.operands.now) c.loop-index.index (none_mapped expression_of c.args.operands.now c.loop-index.index c.loop-index-test.false) c.loop-index.invariant.literals
+    row_good_last (map expression_of c.args.operands.now) c.loop-index.index
+    (none_mapped expression_of c.args.operands.now c.loop-index.index c.loop-index-test.false) c.loop-index.invariant.literals
 
 -- let
 pub let_in-returns-in_err-bind-clause-found : goal.let_in-returns-in_err-bind-clause-found
 let_in-returns-in_err-bind-clause-found t c =
     let p = err_from_is_err_and c.from_residual-in_err-bind.result c.from_residual-in_err-bind.ensures.1 in
-    name_refused (scope_of c.args.self.now) (locals_of c.args.self.now) start _ (name_of c.args.name.now) (expression_of c.args.bound.now) (expression_of c.args.body.now) (types_of c.term.new.self) c.in_ok-bound.bound c.in_ok-bound.ensures.found
-    (locals_of c.bind.new.self) _ _ (p.1 ∙ ap Err p.2) (subst (λ (ls : List Local). Finds {A = Unit {0}} {B = List Local} (λ _. ls) (with_local ls (name_of c.args.name.now) (type_at (types_of c.term.new.self) c.in_ok-bound.bound.ty)) (Err c.in_err-bind.field-0.0))
+    name_refused (scope_of c.args.self.now) (locals_of c.args.self.now) start _ (name_of c.args.name.now) (expression_of c.args.bound.now)
+    (expression_of c.args.body.now) (types_of c.term.new.self) c.in_ok-bound.bound c.in_ok-bound.ensures.found
+    (locals_of c.bind.new.self) _ _ (p.1 ∙ ap Err p.2) (subst
+    (λ (ls : List Local). Finds {A = Unit {0}} {B = List Local} (λ _. ls)
+    (with_local ls (name_of c.args.name.now) (type_at (types_of c.term.new.self) c.in_ok-bound.bound.ty)) (Err c.in_err-bind.field-0.0))
     c.in_ok-bound.ensures.keeps.locals c.in_err-bind.ensures.found)
 
 pub let_in-returns-in_err-body-clause-found : goal.let_in-returns-in_err-body-clause-found
 let_in-returns-in_err-body-clause-found t c =
     let p = err_from_is_err_and c.from_residual-in_err-body.result c.from_residual-in_err-body.ensures.1 in
-    let there : with_local (locals_of c.args.self.now) (name_of c.args.name.now) (type_at (types_of c.term.new.self) c.in_ok-bound.bound.ty) ≡ Sound (locals_of c.bind.new.self) = rw c.in_ok-bound.ensures.keeps.locals at c.in_ok-bind.ensures.found in
-    body_refused (scope_of c.args.self.now) (locals_of c.args.self.now) start _ _ _ (p.1 ∙ ap Err p.2) (name_of c.args.name.now) (expression_of c.args.bound.now) (expression_of c.args.body.now) (types_of c.term.new.self) c.in_ok-bound.bound c.in_ok-bound.ensures.found
+    let there : with_local (locals_of c.args.self.now) (name_of c.args.name.now)
+    (type_at (types_of c.term.new.self) c.in_ok-bound.bound.ty) ≡ Sound (locals_of c.bind.new.self) =
+    rw c.in_ok-bound.ensures.keeps.locals at c.in_ok-bind.ensures.found in
+    body_refused (scope_of c.args.self.now) (locals_of c.args.self.now) start _ _ _ (p.1 ∙ ap Err p.2) (name_of c.args.name.now)
+    (expression_of c.args.bound.now) (expression_of c.args.body.now) (types_of c.term.new.self) c.in_ok-bound.bound c.in_ok-bound.ensures.found
     (types_of c.term-2.new.self) (locals_of c.bind.new.self) there
-    (finds_is (types_of c.term-2.new.self) typed_of _ _ (Err c.in_err-body.field-0.0) (ap (λ s. elaborated s (locals_of c.bind.new.self) (expression_of c.args.body.now)) (c.in_ok-bind.ensures.scope ∙ c.in_ok-bound.ensures.keeps.scope)) c.in_err-body.ensures.found)
+    (finds_is (types_of c.term-2.new.self) typed_of _ _ (Err c.in_err-body.field-0.0)
+    (ap (λ s. elaborated s (locals_of c.bind.new.self) (expression_of c.args.body.now))
+    (c.in_ok-bind.ensures.scope ∙ c.in_ok-bound.ensures.keeps.scope)) c.in_err-body.ensures.found)
 
 pub let_in-returns-clause-keeps : goal.let_in-returns-clause-keeps
 let_in-returns-clause-keeps t c =
-    let there : with_local (locals_of c.args.self.now) (name_of c.args.name.now) (type_at (types_of c.term.new.self) c.in_ok-bound.bound.ty) ≡ Sound (locals_of c.bind.new.self) = rw c.in_ok-bound.ensures.keeps.locals at c.in_ok-bind.ensures.found in
+    let there : with_local (locals_of c.args.self.now) (name_of c.args.name.now)
+    (type_at (types_of c.term.new.self) c.in_ok-bound.bound.ty) ≡ Sound (locals_of c.bind.new.self) =
+    rw c.in_ok-bound.ensures.keeps.locals at c.in_ok-bind.ensures.found in
     on_ok c.typed.result
     (keeps_closed c.args.self.now c.bind.new.self c.term-2.new.self c.close.new.self c.depth-outer.result
-    (subst (Grows (types_of c.args.self.now)) (sym c.in_ok-bind.ensures.types) c.in_ok-bound.ensures.keeps.grows) (c.in_ok-bind.ensures.scope ∙ c.in_ok-bound.ensures.keeps.scope)
-    (one_outer (locals_of c.args.self.now) (locals_of c.bind.new.self) _ (with_local_is (locals_of c.args.self.now) (locals_of c.bind.new.self) (name_of c.args.name.now) _ there))
+    (subst (Grows (types_of c.args.self.now)) (sym c.in_ok-bind.ensures.types) c.in_ok-bound.ensures.keeps.grows)
+    (c.in_ok-bind.ensures.scope ∙ c.in_ok-bound.ensures.keeps.scope)
+    (one_outer (locals_of c.args.self.now) (locals_of c.bind.new.self)
+    _ (with_local_is (locals_of c.args.self.now) (locals_of c.bind.new.self) (name_of c.args.name.now) _ there))
     c.in_ok-body.ensures.keeps c.close.ensures.types c.close.ensures.scope c.close.ensures.locals c.depth-outer.ensures)
 
 pub let_in-returns-clause-found : goal.let_in-returns-clause-found
 let_in-returns-clause-found t c =
-    let there : with_local (locals_of c.args.self.now) (name_of c.args.name.now) (type_at (types_of c.term.new.self) c.in_ok-bound.bound.ty) ≡ Sound (locals_of c.bind.new.self) = rw c.in_ok-bound.ensures.keeps.locals at c.in_ok-bind.ensures.found in
-    let grows : Grows (types_of c.term.new.self) (types_of c.term-2.new.self) = subst (λ (l : List Ty). Grows l (types_of c.term-2.new.self)) c.in_ok-bind.ensures.types c.in_ok-body.ensures.keeps.grows in
+    let there : with_local (locals_of c.args.self.now) (name_of c.args.name.now)
+    (type_at (types_of c.term.new.self) c.in_ok-bound.bound.ty) ≡ Sound (locals_of c.bind.new.self) =
+    rw c.in_ok-bound.ensures.keeps.locals at c.in_ok-bind.ensures.found in
+    let grows : Grows (types_of c.term.new.self) (types_of c.term-2.new.self) =
+    subst (λ (l : List Ty). Grows l (types_of c.term-2.new.self)) c.in_ok-bind.ensures.types c.in_ok-body.ensures.keeps.grows in
     c.typed.ensures.found _
     (rw c.close.ensures.types
-    (let_shows (scope_of c.args.self.now) (locals_of c.args.self.now) start (name_of c.args.name.now) (expression_of c.args.bound.now) (expression_of c.args.body.now) (types_of c.term.new.self) (types_of c.term-2.new.self)
+    (let_shows (scope_of c.args.self.now) (locals_of c.args.self.now) start (name_of c.args.name.now) (expression_of c.args.bound.now)
+    (expression_of c.args.body.now) (types_of c.term.new.self) (types_of c.term-2.new.self)
     c.in_ok-bound.bound c.in_ok-body.body (locals_of c.bind.new.self) grows c.in_ok-bound.ensures.found there
-    (shows_is (types_of c.term-2.new.self) typed_of _ _ c.in_ok-body.body (ap (λ s. elaborated s (locals_of c.bind.new.self) (expression_of c.args.body.now)) (c.in_ok-bind.ensures.scope ∙ c.in_ok-bound.ensures.keeps.scope)) c.in_ok-body.ensures.found)))
+    (shows_is (types_of c.term-2.new.self) typed_of _ _ c.in_ok-body.body
+    (ap (λ s. elaborated s (locals_of c.bind.new.self) (expression_of c.args.body.now))
+    (c.in_ok-bind.ensures.scope ∙ c.in_ok-bound.ensures.keeps.scope)) c.in_ok-body.ensures.found)))
 
 -- conditions
 pub condition-returns-in_err-test-clause-found : goal.condition-returns-in_err-test-clause-found
@@ -367,9 +431,11 @@ condition-returns-in_err-test-clause-found t c =
     let e = c.args.self.now in
     let test = expression_of c.args.test.now in
     let truth = type_at (types_of c.intern.new.self) c.in_ok-truth.truth in
-    test_refused (scope_of e) (locals_of e) start _ _ _ (p.1 ∙ ap Err p.2) test (expression_of c.args.first.now) (expression_of c.args.other.now) (types_of c.part.new.self) truth
+    test_refused (scope_of e) (locals_of e) start _ _ _ (p.1 ∙ ap Err p.2) test (expression_of c.args.first.now) (expression_of c.args.other.now)
+    (types_of c.part.new.self) truth
     (get_or_from_slice_get (types_of c.intern.new.self) c.in_ok-truth.truth.0 BoolTy UnitTy c.in_ok-truth.ensures.number)
-    (finds_is (types_of c.part.new.self) boxed_of _ _ (Err c.in_err-test.field-0.0) (wanted_kept e c.intern.new.self c.in_ok-truth.ensures.keeps (place_of test) truth truth test refl) c.in_err-test.ensures.found)
+    (finds_is (types_of c.part.new.self) boxed_of _ _ (Err c.in_err-test.field-0.0)
+    (wanted_kept e c.intern.new.self c.in_ok-truth.ensures.keeps (place_of test) truth truth test refl) c.in_err-test.ensures.found)
 
 pub condition-returns-in_err-first-clause-found : goal.condition-returns-in_err-first-clause-found
 condition-returns-in_err-first-clause-found t c =
@@ -377,11 +443,15 @@ condition-returns-in_err-first-clause-found t c =
     let e = c.args.self.now in
     let test = expression_of c.args.test.now in
     let truth = type_at (types_of c.intern.new.self) c.in_ok-truth.truth in
-    first_refused (scope_of e) (locals_of e) start _ _ _ (p.1 ∙ ap Err p.2) test (expression_of c.args.first.now) (expression_of c.args.other.now) (types_of c.part.new.self) truth c.in_ok-test.test
+    first_refused (scope_of e) (locals_of e) start _ _ _ (p.1 ∙ ap Err p.2) test (expression_of c.args.first.now) (expression_of c.args.other.now)
+    (types_of c.part.new.self) truth c.in_ok-test.test
     (get_or_from_slice_get (types_of c.intern.new.self) c.in_ok-truth.truth.0 BoolTy UnitTy c.in_ok-truth.ensures.number)
-    (shows_is (types_of c.part.new.self) boxed_of _ _ c.in_ok-test.test (wanted_kept e c.intern.new.self c.in_ok-truth.ensures.keeps (place_of test) truth truth test refl) c.in_ok-test.ensures.found)
+    (shows_is (types_of c.part.new.self) boxed_of _ _ c.in_ok-test.test
+    (wanted_kept e c.intern.new.self c.in_ok-truth.ensures.keeps (place_of test) truth truth test refl) c.in_ok-test.ensures.found)
     (types_of c.term.new.self)
-    (finds_is (types_of c.term.new.self) typed_of _ _ (Err c.in_err-first.field-0.0) (found_kept e c.part.new.self (keeps_on c.in_ok-truth.ensures.keeps c.in_ok-test.ensures.keeps) (expression_of c.args.first.now)) c.in_err-first.ensures.found)
+    (finds_is (types_of c.term.new.self) typed_of _ _ (Err c.in_err-first.field-0.0)
+    (found_kept e c.part.new.self (keeps_on c.in_ok-truth.ensures.keeps c.in_ok-test.ensures.keeps) (expression_of c.args.first.now))
+    c.in_err-first.ensures.found)
 
 pub condition-returns-in_err-other-clause-found : goal.condition-returns-in_err-other-clause-found
 condition-returns-in_err-other-clause-found t c =
@@ -395,10 +465,12 @@ condition-returns-in_err-other-clause-found t c =
     let u = type_at (types_of c.term.new.self) c.in_ok-first.first.ty in
     other_refused (scope_of e) (locals_of e) start _ _ _ (p.1 ∙ ap Err p.2) test first other (types_of c.part.new.self) truth c.in_ok-test.test
     (get_or_from_slice_get (types_of c.intern.new.self) c.in_ok-truth.truth.0 BoolTy UnitTy c.in_ok-truth.ensures.number)
-    (shows_is (types_of c.part.new.self) boxed_of _ _ c.in_ok-test.test (wanted_kept e c.intern.new.self c.in_ok-truth.ensures.keeps (place_of test) truth truth test refl) c.in_ok-test.ensures.found)
+    (shows_is (types_of c.part.new.self) boxed_of _ _ c.in_ok-test.test
+    (wanted_kept e c.intern.new.self c.in_ok-truth.ensures.keeps (place_of test) truth truth test refl) c.in_ok-test.ensures.found)
     (types_of c.term.new.self) (types_of c.part-2.new.self) c.in_ok-first.first u refl
     (shows_is (types_of c.term.new.self) typed_of _ _ c.in_ok-first.first (found_kept e c.part.new.self kept first) c.in_ok-first.ensures.found)
-    (finds_is (types_of c.part-2.new.self) boxed_of _ _ (Err c.in_err-other.field-0.0) (wanted_kept e c.term.new.self (keeps_on kept c.in_ok-first.ensures.keeps) (place_of other) u u other refl) c.in_err-other.ensures.found)
+    (finds_is (types_of c.part-2.new.self) boxed_of _ _ (Err c.in_err-other.field-0.0)
+    (wanted_kept e c.term.new.self (keeps_on kept c.in_ok-first.ensures.keeps) (place_of other) u u other refl) c.in_err-other.ensures.found)
 
 pub condition-returns-clause-found : goal.condition-returns-clause-found
 condition-returns-clause-found t c =
@@ -410,27 +482,34 @@ condition-returns-clause-found t c =
     let kept : Keeps e c.part.new.self = keeps_on c.in_ok-truth.ensures.keeps c.in_ok-test.ensures.keeps in
     let u = type_at (types_of c.term.new.self) c.in_ok-first.first.ty in
     c.typed.ensures.found _
-    (if_shows (scope_of e) (locals_of e) start test first other (types_of c.part.new.self) (types_of c.term.new.self) (types_of c.part-2.new.self) truth u c.in_ok-test.test c.in_ok-first.first c.in_ok-other.other
-    (grows_on (types_of c.part.new.self) (types_of c.term.new.self) (types_of c.part-2.new.self) c.in_ok-first.ensures.keeps.grows c.in_ok-other.ensures.keeps.grows) c.in_ok-other.ensures.keeps.grows
+    (if_shows (scope_of e) (locals_of e) start test first other (types_of c.part.new.self) (types_of c.term.new.self) (types_of c.part-2.new.self)
+    truth u c.in_ok-test.test c.in_ok-first.first c.in_ok-other.other
+    (grows_on (types_of c.part.new.self) (types_of c.term.new.self) (types_of c.part-2.new.self) c.in_ok-first.ensures.keeps.grows
+    c.in_ok-other.ensures.keeps.grows) c.in_ok-other.ensures.keeps.grows
     (get_or_from_slice_get (types_of c.intern.new.self) c.in_ok-truth.truth.0 BoolTy UnitTy c.in_ok-truth.ensures.number) refl
-    (shows_is (types_of c.part.new.self) boxed_of _ _ c.in_ok-test.test (wanted_kept e c.intern.new.self c.in_ok-truth.ensures.keeps (place_of test) truth truth test refl) c.in_ok-test.ensures.found)
+    (shows_is (types_of c.part.new.self) boxed_of _ _ c.in_ok-test.test
+    (wanted_kept e c.intern.new.self c.in_ok-truth.ensures.keeps (place_of test) truth truth test refl) c.in_ok-test.ensures.found)
     (shows_is (types_of c.term.new.self) typed_of _ _ c.in_ok-first.first (found_kept e c.part.new.self kept first) c.in_ok-first.ensures.found)
-    (shows_is (types_of c.part-2.new.self) boxed_of _ _ c.in_ok-other.other (wanted_kept e c.term.new.self (keeps_on kept c.in_ok-first.ensures.keeps) (place_of other) u u other refl) c.in_ok-other.ensures.found))
+    (shows_is (types_of c.part-2.new.self) boxed_of _ _ c.in_ok-other.other
+    (wanted_kept e c.term.new.self (keeps_on kept c.in_ok-first.ensures.keeps) (place_of other) u u other refl) c.in_ok-other.ensures.found))
 
 -- matches
 pub match_with-arms-requires : goal.match_with-arms-requires
 unfolding scope_of
 match_with-arms-requires t c =
     let types = types_of c.term.new.self in
-    let count = c.in_ok-named.ensures.count ∙ sym (constructors_count types c.constructors-constructors.result.now _ (c.constructors-constructors.ensures.fields types)) in
+    let count = c.in_ok-named.ensures.count ∙ sym (constructors_count types c.constructors-constructors.result.now
+    _ (c.constructors-constructors.ensures.fields types)) in
     (search rules, (count, c.constructors-constructors.ensures.within (length types) c.term.new.self.scope_within))
 
 pub match_with-returns-in_err-named-clause-found : goal.match_with-returns-in_err-named-clause-found
 match_with-returns-in_err-named-clause-found t c =
     let p = err_from_is_err_and c.from_residual-in_err-named.result c.from_residual-in_err-named.ensures.1 in
-    match_refused (scope_of c.args.self.now) (locals_of c.args.self.now) c.args.at c.place-place.result (expression_of c.args.subject.now) (arms_in_a_row (map arm_of c.args.arms.now)) c.place-place.ensures (types_of c.term.new.self) c.in_ok-subject.subject
+    match_refused (scope_of c.args.self.now) (locals_of c.args.self.now) c.args.at c.place-place.result (expression_of c.args.subject.now)
+    (arms_in_a_row (map arm_of c.args.arms.now)) c.place-place.ensures (types_of c.term.new.self) c.in_ok-subject.subject
     c.in_ok-subject.ensures.found _ _ _ (p.1 ∙ ap Err p.2)
-    (subst (λ (s : Scope). Matches s c.args.at c.place-place.result (type_at (types_of c.term.new.self) c.in_ok-subject.subject.ty) (arm_names (arms_in_a_row (map arm_of c.args.arms.now))) (Err c.in_err-named.field-0.0)) c.in_ok-subject.ensures.keeps.scope
+    (subst (λ (s : Scope). Matches s c.args.at c.place-place.result (type_at (types_of c.term.new.self) c.in_ok-subject.subject.ty)
+    (arm_names (arms_in_a_row (map arm_of c.args.arms.now))) (Err c.in_err-named.field-0.0)) c.in_ok-subject.ensures.keeps.scope
     c.in_err-named.ensures.found)
 
 pub match_with-returns-in_err-arms-clause-found : goal.match_with-returns-in_err-arms-clause-found
@@ -442,11 +521,14 @@ match_with-returns-in_err-arms-clause-found t c =
     let scope = c.in_ok-subject.ensures.keeps.scope in
     let locals = c.in_ok-subject.ensures.keeps.locals in
     let arms = arms_in_a_row (map arm_of c.args.arms.now) in
-    match_arms_refused (scope_of e) (locals_of e) c.args.at c.place-place.result (expression_of c.args.subject.now) arms c.place-place.ensures types c.in_ok-subject.subject
+    match_arms_refused (scope_of e) (locals_of e) c.args.at c.place-place.result (expression_of c.args.subject.now) arms c.place-place.ensures types
+    c.in_ok-subject.subject
     c.in_ok-subject.ensures.found c.in_ok-named.named tss (rw scope at c.in_ok-named.ensures.found)
-    (c.constructors-constructors.ensures.fields types ∙ ap (λ (s : Scope). unwrap_or (slice_get s.table c.in_ok-named.named.0) []) (sym (scope_is c.term.new.self) ∙ scope)) (types_of c.arms.new.self) _ _ _ (p.1 ∙ ap Err p.2)
+    (c.constructors-constructors.ensures.fields types ∙ ap (λ (s : Scope). unwrap_or (slice_get s.table c.in_ok-named.named.0) [])
+    (sym (scope_is c.term.new.self) ∙ scope)) (types_of c.arms.new.self) _ _ _ (p.1 ∙ ap Err p.2)
     (finds_is (types_of c.arms.new.self) arms_of _ _ (Err c.in_err-arms.field-0.0)
-    (ap (λ s. elaborated_arms s (locals_of c.term.new.self) arms None tss) scope ∙ ap (λ ls. elaborated_arms (scope_of e) ls arms None tss) locals) c.in_err-arms.ensures.found)
+    (ap (λ s. elaborated_arms s (locals_of c.term.new.self) arms None tss) scope ∙ ap (λ ls. elaborated_arms (scope_of e) ls arms None tss) locals)
+    c.in_err-arms.ensures.found)
 
 pub match_with-returns-clause-found : goal.match_with-returns-clause-found
 match_with-returns-clause-found t c =
@@ -457,16 +539,19 @@ match_with-returns-clause-found t c =
     let locals = c.in_ok-subject.ensures.keeps.locals in
     let arms = arms_in_a_row (map arm_of c.args.arms.now) in
     c.typed.ensures.found _
-    (match_found (scope_of e) (locals_of e) c.args.at c.place-place.result (expression_of c.args.subject.now) arms c.place-place.ensures types c.in_ok-subject.subject
+    (match_found (scope_of e) (locals_of e) c.args.at c.place-place.result (expression_of c.args.subject.now) arms c.place-place.ensures types
+    c.in_ok-subject.subject
     c.in_ok-subject.ensures.found c.in_ok-named.named tss (rw scope at c.in_ok-named.ensures.found)
-    (c.constructors-constructors.ensures.fields types ∙ ap (λ (s : Scope). unwrap_or (slice_get s.table c.in_ok-named.named.0) []) (sym (scope_is c.term.new.self) ∙ scope)) (types_of c.arms.new.self) c.in_ok-arms.arms
+    (c.constructors-constructors.ensures.fields types ∙ ap (λ (s : Scope). unwrap_or (slice_get s.table c.in_ok-named.named.0) [])
+    (sym (scope_is c.term.new.self) ∙ scope)) (types_of c.arms.new.self) c.in_ok-arms.arms
     c.in_ok-arms.ensures.keeps.grows c.in_ok-subject.ensures.inside (rw (scope, locals) at c.in_ok-arms.ensures.found))
 
 -- the arms of a match
 pub arms-loop-index-init : goal.arms-loop-index-init
 arms-loop-index-init t c = record {
   keeps = keeps_self c.args.self.now;
-  found = λ more. rw c.new-bodies.ensures.items (arms_behind_none (arms_found c.args.self.now (arms_in_a_row (map arm_of c.args.arms.now)) (fields_of (types_of c.args.self.now) c.args.constructors.now)));
+  found = λ more. rw c.new-bodies.ensures.items (arms_behind_none
+      (arms_found c.args.self.now (arms_in_a_row (map arm_of c.args.arms.now)) (fields_of (types_of c.args.self.now) c.args.constructors.now)));
   inside = tt;
   literals = λ good. good;
 }
@@ -474,10 +559,13 @@ arms-loop-index-init t c = record {
 pub arms-arm-requires : goal.arms-arm-requires
 arms-arm-requires t c =
     let inside : c.loop-index.index < length c.args.constructors.now = omega (arith, c.requires.count, c.loop-index-test.true) in
-    let within = constructor_within (length (types_of c.args.self.now)) (length (types_of c.loop-index.self)) c.args.constructors.now c.loop-index.index c.index-constructors-index.result c.deref.result.now
-    (grows_length (types_of c.args.self.now) (types_of c.loop-index.self) c.loop-index.invariant.keeps.grows) c.requires.within inside c.index-constructors-index.is (c.deref.ensures.value ∙ ap (λ (c : Constructor). c.fields.items) (sym c.index-constructors-index.is)) in
+    let within = constructor_within (length (types_of c.args.self.now)) (length (types_of c.loop-index.self)) c.args.constructors.now
+    c.loop-index.index c.index-constructors-index.result c.deref.result.now
+    (grows_length (types_of c.args.self.now) (types_of c.loop-index.self) c.loop-index.invariant.keeps.grows) c.requires.within inside
+    c.index-constructors-index.is (c.deref.ensures.value ∙ ap (λ (c : Constructor). c.fields.items) (sym c.index-constructors-index.is)) in
     let deep : size-Arm c.index-arms-index.result ≤ most size-Arm c.args.arms.now =
-    subst (λ (a : Arm). size-Arm a ≤ most size-Arm c.args.arms.now) (sym c.index-arms-index.is) (at_most size-Arm c.args.arms.now c.loop-index.index c.index-arms-index.result c.loop-index-test.true) in
+    subst (λ (a : Arm). size-Arm a ≤ most size-Arm c.args.arms.now) (sym c.index-arms-index.is)
+    (at_most size-Arm c.args.arms.now c.loop-index.index c.index-arms-index.result c.loop-index-test.true) in
     (omega (arith, deep, c.decreases), (c.loop-index.invariant.inside, within))
 
 pub arms-returns-in_err-body-clause-found : goal.arms-returns-in_err-body-clause-found
@@ -490,12 +578,17 @@ arms-returns-in_err-body-clause-found t c =
     let arm = arm_of c.index-arms-index.result in
     let keeps = c.loop-index.invariant.keeps in
     let inside : c.loop-index.index < length c.args.constructors.now = omega (arith, c.requires.count, c.loop-index-test.true) in
-    let fields : ids ≡ c.index-constructors-index.result.fields.items = c.deref.ensures.value ∙ ap (λ (c : Constructor). c.fields.items) (sym c.index-constructors-index.is) in
-    let within : AreWithin (length old) ids = constructor_within (length old) (length old) c.args.constructors.now c.loop-index.index c.index-constructors-index.result ids (omega arith) c.requires.within inside c.index-constructors-index.is fields in
+    let fields : ids ≡ c.index-constructors-index.result.fields.items =
+    c.deref.ensures.value ∙ ap (λ (c : Constructor). c.fields.items) (sym c.index-constructors-index.is) in
+    let within : AreWithin (length old) ids =
+    constructor_within (length old) (length old) c.args.constructors.now c.loop-index.index c.index-constructors-index.result ids (omega arith)
+    c.requires.within inside c.index-constructors-index.is fields in
     let same = arm_kept e c.loop-index.self keeps (want_of types c.loop-index.wanted) ids within arm in
     refused_by (types_of c.arm.new.self) _ typed_of arms_of _ _ _ _ (p.1 ∙ ap Err p.2)
-    (λ kind at is. arms_refused (scope_of e) (locals_of e) (map arm_of c.args.arms.now) (fields_of old c.args.constructors.now) c.loop-index.index arm (types_at old ids)
-    (next_mapped arm_of c.args.arms.now c.loop-index.index c.index-arms-index.result c.index-arms-index.result c.loop-index-test.true c.index-arms-index.is)
+    (λ kind at is. arms_refused (scope_of e) (locals_of e) (map arm_of c.args.arms.now) (fields_of old c.args.constructors.now) c.loop-index.index arm
+    (types_at old ids)
+    (next_mapped arm_of c.args.arms.now c.loop-index.index c.index-arms-index.result c.index-arms-index.result c.loop-index-test.true
+    c.index-arms-index.is)
     (next_fields old c.args.constructors.now c.loop-index.index c.index-constructors-index.result ids inside c.index-constructors-index.is fields)
     c.loop-index.wanted c.loop-index.bodies.items _ types kind at c.loop-index.invariant.inside c.loop-index.invariant.found (sym same ∙ is))
     c.in_err-body.ensures.found
@@ -509,16 +602,23 @@ arms-loop-index-preserved t c =
     let arm = arm_of c.index-arms-index.result in
     let keeps = c.loop-index.invariant.keeps in
     let inside : c.loop-index.index < length c.args.constructors.now = omega (arith, c.requires.count, c.loop-index-test.true) in
-    let fields : ids ≡ c.index-constructors-index.result.fields.items = c.deref.ensures.value ∙ ap (λ (c : Constructor). c.fields.items) (sym c.index-constructors-index.is) in
-    let within : AreWithin (length old) ids = constructor_within (length old) (length old) c.args.constructors.now c.loop-index.index c.index-constructors-index.result ids (omega arith) c.requires.within inside c.index-constructors-index.is fields in
+    let fields : ids ≡ c.index-constructors-index.result.fields.items =
+    c.deref.ensures.value ∙ ap (λ (c : Constructor). c.fields.items) (sym c.index-constructors-index.is) in
+    let within : AreWithin (length old) ids =
+    constructor_within (length old) (length old) c.args.constructors.now c.loop-index.index c.index-constructors-index.result ids (omega arith)
+    c.requires.within inside c.index-constructors-index.is fields in
     let same = arm_kept e c.loop-index.self keeps (want_of types c.loop-index.wanted) ids within arm in
-    let here = next_mapped arm_of c.args.arms.now c.loop-index.index c.index-arms-index.result c.index-arms-index.result c.loop-index-test.true c.index-arms-index.is in
+    let here = next_mapped arm_of c.args.arms.now c.loop-index.index c.index-arms-index.result c.index-arms-index.result c.loop-index-test.true
+    c.index-arms-index.is in
     record {
       keeps = keeps_on keeps c.in_ok-body.ensures.keeps;
       found = rw (c.in_ok-push.ensures.items, c.into_inner.ensures)
-          (arms_more (scope_of e) (locals_of e) (map arm_of c.args.arms.now) (fields_of old c.args.constructors.now) c.loop-index.index arm (types_at old ids) here
-          (next_fields old c.args.constructors.now c.loop-index.index c.index-constructors-index.result ids inside c.index-constructors-index.is fields)
-          c.loop-index.wanted c.loop-index.bodies.items _ types (types_of c.arm.new.self) c.in_ok-body.body c.in_ok-body.ensures.keeps.grows c.loop-index.invariant.inside c.loop-index.invariant.found
+          (arms_more (scope_of e) (locals_of e) (map arm_of c.args.arms.now) (fields_of old c.args.constructors.now) c.loop-index.index arm
+          (types_at old ids) here
+          (next_fields old c.args.constructors.now c.loop-index.index c.index-constructors-index.result ids inside c.index-constructors-index.is
+          fields)
+          c.loop-index.wanted c.loop-index.bodies.items _ types (types_of c.arm.new.self) c.in_ok-body.body c.in_ok-body.ensures.keeps.grows
+          c.loop-index.invariant.inside c.loop-index.invariant.found
           (shows_is (types_of c.arm.new.self) typed_of _ _ c.in_ok-body.body same c.in_ok-body.ensures.found));
       inside = c.in_ok-body.ensures.inside;
       literals = arms_good (map arm_of c.args.arms.now) c.loop-index.index arm here c.in_ok-body.ensures.literals c.loop-index.invariant.literals;
@@ -527,17 +627,21 @@ arms-loop-index-preserved t c =
 pub arms-returns-clause-found : goal.arms-returns-clause-found
 arms-returns-clause-found t c =
     let e = c.args.self.now in
-    arms_last (scope_of e) (locals_of e) (types_of c.loop-index.self) (types_of c.wanted_or_unit.new.self) (map arm_of c.args.arms.now) (fields_of (types_of e) c.args.constructors.now) c.loop-index.index c.loop-index.wanted c.loop-index.bodies c.in_ok-ty.ty _
-    c.in_ok-ty.ensures.keeps.grows (none_mapped arm_of c.args.arms.now c.loop-index.index c.loop-index-test.false) c.loop-index.invariant.inside c.in_ok-ty.ensures.found c.loop-index.invariant.found
+    arms_last (scope_of e) (locals_of e) (types_of c.loop-index.self) (types_of c.wanted_or_unit.new.self) (map arm_of c.args.arms.now)
+    (fields_of (types_of e) c.args.constructors.now) c.loop-index.index c.loop-index.wanted c.loop-index.bodies c.in_ok-ty.ty _
+    c.in_ok-ty.ensures.keeps.grows (none_mapped arm_of c.args.arms.now c.loop-index.index c.loop-index-test.false) c.loop-index.invariant.inside
+    c.in_ok-ty.ensures.found c.loop-index.invariant.found
 
 pub arms-returns-clause-literals : goal.arms-returns-clause-literals
 arms-returns-clause-literals t c =
-    arms_good_last (map arm_of c.args.arms.now) c.loop-index.index (none_mapped arm_of c.args.arms.now c.loop-index.index c.loop-index-test.false) c.loop-index.invariant.literals
+    arms_good_last (map arm_of c.args.arms.now) c.loop-index.index (none_mapped arm_of c.args.arms.now c.loop-index.index c.loop-index-test.false)
+    c.loop-index.invariant.literals
 
 -- an arm
 pub arm-returns-then-len-fields-clause-found : goal.arm-returns-then-len-fields-clause-found
 arm-returns-then-len-fields-clause-found t c =
-    arm_miscounted (scope_of c.args.self.now) (locals_of c.args.self.now) (want_of (types_of c.args.self.now) c.args.wanted) (types_of c.args.self.now) c.args.fields.now c.args.arm.now (λ same. let ok = c.args.arm.now.fields.ok in c.if-len-fields.true (cc))
+    arm_miscounted (scope_of c.args.self.now) (locals_of c.args.self.now) (want_of (types_of c.args.self.now) c.args.wanted)
+    (types_of c.args.self.now) c.args.fields.now c.args.arm.now (λ same. let ok = c.args.arm.now.fields.ok in c.if-len-fields.true (cc))
 
 pub arm-bind_each-requires-clause-count : goal.arm-bind_each-requires-clause-count
 arm-bind_each-requires-clause-count t c = let ok = c.args.arm.now.fields.ok in cc
@@ -551,40 +655,50 @@ arm-returns-in_err-bind_each-clause-found t c =
     let e = c.args.self.now in
     let ok = c.args.arm.now.fields.ok in
     let count : length c.args.arm.now.fields.items ≡ length c.args.fields.now = cc in
-    refused_at {A = Unit {0}} _ (λ _. locals_of e) typed_of (names_bound (scope_of e) (locals_of e) (want_of (types_of e) c.args.wanted) (types_of e) c.args.fields.now c.args.arm.now) _ _ _ (p.1 ∙ ap Err p.2)
+    refused_at {A = Unit {0}} _ (λ _. locals_of e) typed_of (names_bound (scope_of e) (locals_of e) (want_of (types_of e) c.args.wanted) (types_of e)
+    c.args.fields.now c.args.arm.now) _ _ _ (p.1 ∙ ap Err p.2)
     (names_refused (scope_of e) (locals_of e) (want_of (types_of e) c.args.wanted) (types_of e) c.args.fields.now c.args.arm.now count)
-    (subst (λ (ns : List PlacedName). Finds {A = Unit {0}} {B = List Local} (λ _. locals_of e) (bound_names [] (locals_of e) (map name_of ns) (types_at (types_of e) c.args.fields.now)) (Err c.in_err-bind_each.field-0.0)) c.deref.ensures.value
+    (subst (λ (ns : List PlacedName). Finds {A = Unit {0}} {B = List Local} (λ _. locals_of e)
+    (bound_names [] (locals_of e) (map name_of ns) (types_at (types_of e) c.args.fields.now)) (Err c.in_err-bind_each.field-0.0))
+    c.deref.ensures.value
     c.in_err-bind_each.ensures.found)
 
 pub arm-returns-in_err-body-clause-found : goal.arm-returns-in_err-body-clause-found
 arm-returns-in_err-body-clause-found t c =
     let p = err_from_is_err_and c.from_residual-in_err-body.result c.from_residual-in_err-body.ensures.1 in
     let e = c.args.self.now in
-    let names : names_bound (scope_of e) (locals_of e) (want_of (types_of e) c.args.wanted) (types_of e) c.args.fields.now c.args.arm.now ≡ Sound (locals_of c.bind_each.new.self) = rw c.deref.ensures.value at c.in_ok-bind_each.ensures.found in
+    let names : names_bound (scope_of e) (locals_of e) (want_of (types_of e) c.args.wanted) (types_of e) c.args.fields.now
+    c.args.arm.now ≡ Sound (locals_of c.bind_each.new.self) = rw c.deref.ensures.value at c.in_ok-bind_each.ensures.found in
     let ok = c.args.arm.now.fields.ok in
     let count : length c.args.arm.now.fields.items ≡ length c.args.fields.now = cc in
     let x = expression_of c.args.arm.now.body in
     let inner = locals_of c.bind_each.new.self in
-    refused_by (types_of c.body.new.self) _ typed_of typed_of (wanted_arm (want_of (types_of e) c.args.wanted) (place_of x) (elaborated (scope_of e) inner x)) _ _ _ (p.1 ∙ ap Err p.2)
+    refused_by (types_of c.body.new.self) _ typed_of typed_of
+    (wanted_arm (want_of (types_of e) c.args.wanted) (place_of x) (elaborated (scope_of e) inner x)) _ _ _ (p.1 ∙ ap Err p.2)
     (arm_refused (scope_of e) (locals_of e) (want_of (types_of e) c.args.wanted) (types_of e) c.args.fields.now c.args.arm.now count inner names)
     (finds_is (types_of c.body.new.self) typed_of _ _ (Err c.in_err-body.field-0.0)
-    (ap (λ (l : List Ty). wanted_arm (want_of l c.args.wanted) (place_of x) (elaborated (scope_of c.bind_each.new.self) inner x)) c.in_ok-bind_each.ensures.types
-    ∙ ap (λ s. wanted_arm (want_of (types_of e) c.args.wanted) (place_of x) (elaborated s inner x)) c.in_ok-bind_each.ensures.scope) c.in_err-body.ensures.found)
+    (ap (λ (l : List Ty). wanted_arm (want_of l c.args.wanted) (place_of x) (elaborated (scope_of c.bind_each.new.self) inner x))
+    c.in_ok-bind_each.ensures.types
+    ∙ ap (λ s. wanted_arm (want_of (types_of e) c.args.wanted) (place_of x) (elaborated s inner x)) c.in_ok-bind_each.ensures.scope)
+    c.in_err-body.ensures.found)
 
 pub arm-returns-clause-keeps : goal.arm-returns-clause-keeps
 arm-returns-clause-keeps t c =
     keeps_closed c.args.self.now c.bind_each.new.self c.body.new.self c.close.new.self c.depth-outer.result
-    (subst (Grows (types_of c.args.self.now)) (sym c.in_ok-bind_each.ensures.types) (grows_self (types_of c.args.self.now))) c.in_ok-bind_each.ensures.scope c.in_ok-bind_each.ensures.outer
+    (subst (Grows (types_of c.args.self.now)) (sym c.in_ok-bind_each.ensures.types) (grows_self (types_of c.args.self.now)))
+    c.in_ok-bind_each.ensures.scope c.in_ok-bind_each.ensures.outer
     c.in_ok-body.ensures.keeps c.close.ensures.types c.close.ensures.scope c.close.ensures.locals c.depth-outer.ensures
 
 pub arm-returns-clause-found : goal.arm-returns-clause-found
 arm-returns-clause-found t c =
     let e = c.args.self.now in
-    let names : names_bound (scope_of e) (locals_of e) (want_of (types_of e) c.args.wanted) (types_of e) c.args.fields.now c.args.arm.now ≡ Sound (locals_of c.bind_each.new.self) = rw c.deref.ensures.value at c.in_ok-bind_each.ensures.found in
+    let names : names_bound (scope_of e) (locals_of e) (want_of (types_of e) c.args.wanted) (types_of e) c.args.fields.now
+    c.args.arm.now ≡ Sound (locals_of c.bind_each.new.self) = rw c.deref.ensures.value at c.in_ok-bind_each.ensures.found in
     let ok = c.args.arm.now.fields.ok in
     let count : length c.args.arm.now.fields.items ≡ length c.args.fields.now = cc in
     rw c.close.ensures.types
-    (arm_finds (scope_of e) (locals_of e) (want_of (types_of e) c.args.wanted) (types_of e) c.args.fields.now c.args.arm.now count (types_of c.body.new.self) (locals_of c.bind_each.new.self) (Ok c.in_ok-body.body) names
+    (arm_finds (scope_of e) (locals_of e) (want_of (types_of e) c.args.wanted) (types_of e) c.args.fields.now c.args.arm.now count
+    (types_of c.body.new.self) (locals_of c.bind_each.new.self) (Ok c.in_ok-body.body) names
     (rw (c.in_ok-bind_each.ensures.types, c.in_ok-bind_each.ensures.scope) at c.in_ok-body.ensures.found))
 
 -- the body of an arm
@@ -592,14 +706,17 @@ pub body-returns-in_err-term-in-Some-clause-found : goal.body-returns-in_err-ter
 body-returns-in_err-term-in-Some-clause-found t c =
     let p = err_from_is_err_and c.from_residual.result c.from_residual.ensures.1 in
     rw c.in-Some.is
-    (fault_first (types_of c.part.new.self) _ boxed_of typed_of (wanted (place_of (expression_of c.args.tree.now)) (type_at (types_of c.args.self.now) c.in-Some.ty) (found_in c.args.self.now c.args.tree.now))
-    (λ e. Sound (record { expression = e; of_type = type_at (types_of c.args.self.now) c.in-Some.ty })) _ _ (p.1 ∙ ap Err p.2) c.in_err-term-in-Some.ensures.found)
+    (fault_first (types_of c.part.new.self) _ boxed_of typed_of
+    (wanted (place_of (expression_of c.args.tree.now)) (type_at (types_of c.args.self.now) c.in-Some.ty) (found_in c.args.self.now c.args.tree.now))
+    (λ e. Sound (record { expression = e; of_type = type_at (types_of c.args.self.now) c.in-Some.ty })) _ _ (p.1 ∙ ap Err p.2)
+    c.in_err-term-in-Some.ensures.found)
 
 pub body-returns-in_ok-term-in-Some-clause-found : goal.body-returns-in_ok-term-in-Some-clause-found
 body-returns-in_ok-term-in-Some-clause-found t c =
     let inside : c.in-Some.ty.0 < length (types_of c.args.self.now) = rw c.in-Some.is at c.requires in
     rw c.in-Some.is
-    (body_shows (types_of c.args.self.now) (types_of c.part.new.self) c.in-Some.ty (place_of (expression_of c.args.tree.now)) (found_in c.args.self.now c.args.tree.now) c.in_ok-term-in-Some.term c.in_ok-term-in-Some.ensures.keeps.grows inside
+    (body_shows (types_of c.args.self.now) (types_of c.part.new.self) c.in-Some.ty (place_of (expression_of c.args.tree.now))
+    (found_in c.args.self.now c.args.tree.now) c.in_ok-term-in-Some.term c.in_ok-term-in-Some.ensures.keeps.grows inside
     c.in_ok-term-in-Some.ensures.found)
 
 pub body-returns-in-None-clause-found : goal.body-returns-in-None-clause-found

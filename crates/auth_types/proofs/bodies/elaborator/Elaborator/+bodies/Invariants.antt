@@ -16,7 +16,8 @@ abbrev pub invariant-operands-loop-index : goal.invariant-operands-loop-index
 invariant-operands-loop-index l = record {
   keeps : Keeps l.fn.self l.self;
   found : (more : List Ty) → row_found l.fn.self (in_a_row (map expression_of l.operands)) (types_at (types_of l.fn.self) l.types)
-      ≡ row_behind (map (term_of (types_of l.self ++ more)) l.terms.items) (row_left (scope_of l.fn.self) (locals_of l.fn.self) (map expression_of l.operands) (types_at (types_of l.fn.self) l.types) l.index);
+      ≡ row_behind (map (term_of (types_of l.self ++ more)) l.terms.items)
+      (row_left (scope_of l.fn.self) (locals_of l.fn.self) (map expression_of l.operands) (types_at (types_of l.fn.self) l.types) l.index);
   literals : HaveGoodLiterals (in_a_row (drop l.index (map expression_of l.operands))) → HaveGoodLiterals (in_a_row (map expression_of l.operands));
 }
 
@@ -26,7 +27,8 @@ invariant-arms-loop-index l = record {
   keeps : Keeps l.fn.self l.self;
   found : (more : List Ty) → arms_found l.fn.self (arms_in_a_row (map arm_of l.arms)) (fields_of (types_of l.fn.self) l.constructors)
       ≡ arms_behind (map (term_of (types_of l.self ++ more)) l.bodies.items)
-      (arms_left (scope_of l.fn.self) (locals_of l.fn.self) (map arm_of l.arms) (fields_of (types_of l.fn.self) l.constructors) (want_of (types_of l.self ++ more) l.wanted) l.index);
+      (arms_left (scope_of l.fn.self) (locals_of l.fn.self) (map arm_of l.arms) (fields_of (types_of l.fn.self) l.constructors)
+      (want_of (types_of l.self ++ more) l.wanted) l.index);
   inside : IfSome l.wanted (λ ty. ty.0 < length (types_of l.self));
   literals : ArmsHaveGoodLiterals (arms_in_a_row (drop l.index (map arm_of l.arms))) → ArmsHaveGoodLiterals (arms_in_a_row (map arm_of l.arms));
 }

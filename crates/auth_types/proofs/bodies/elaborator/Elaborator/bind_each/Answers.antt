@@ -18,11 +18,15 @@ pub returns-then-is_bound_behind-clause-found : goal.returns-then-is_bound_behin
 returns-then-is_bound_behind-clause-found c =
     let d : TyId = record { 0 = 0 } in
     let inside : c.loop-index.index < length c.args.types.now = omega (arith, c.requires.count, c.loop-index-test.true) in
-    next_twice (locals_of c.args.self.now) (locals_of c.loop-index.self) _ _ c.loop-index.index (name_of c.index-names-index.result) (type_at (types_of c.args.self.now) (slice_index_or c.args.types.now c.loop-index.index d)) _
-    (next_mapped name_of c.args.names.now c.loop-index.index c.index-names-index.result c.index-names-index.result c.loop-index-test.true c.index-names-index.is)
-    (next_mapped (type_at (types_of c.args.self.now)) c.args.types.now c.loop-index.index (slice_index_or c.args.types.now c.loop-index.index d) d inside refl)
+    next_twice (locals_of c.args.self.now) (locals_of c.loop-index.self) _ _ c.loop-index.index (name_of c.index-names-index.result)
+    (type_at (types_of c.args.self.now) (slice_index_or c.args.types.now c.loop-index.index d)) _
+    (next_mapped name_of c.args.names.now c.loop-index.index c.index-names-index.result c.index-names-index.result c.loop-index-test.true
+    c.index-names-index.is)
+    (next_mapped (type_at (types_of c.args.self.now)) c.args.types.now c.loop-index.index (slice_index_or c.args.types.now c.loop-index.index d) d
+    inside refl)
     c.loop-index.invariant.bound
-    (ap (λ n. is_among c.index-names-index.result.name (names_of (drop n (locals_of c.loop-index.self)))) (sym c.depth-outer.ensures) ∙ sym c.is_bound_behind.ensures ∙ c.if-is_bound_behind.true)
+    (ap (λ n. is_among c.index-names-index.result.name (names_of (drop n (locals_of c.loop-index.self)))) (sym c.depth-outer.ensures)
+    ∙ sym c.is_bound_behind.ensures ∙ c.if-is_bound_behind.true)
 
 pub returns-in_err-bind-clause-found : goal.returns-in_err-bind-clause-found
 returns-in_err-bind-clause-found c =
@@ -32,13 +36,18 @@ returns-in_err-bind-clause-found c =
     let inside : c.loop-index.index < length c.args.types.now = omega (arith, c.requires.count, c.loop-index-test.true) in
     let name = name_of c.index-names-index.result in
     let locals = locals_of c.loop-index.self in
-    finds_at {A = Unit {0}} (λ _. locals) _ (with_local locals name (type_at (types_of c.args.self.now) v)) _ c.from_residual.result (p.1 ∙ ap Err p.2)
-    (next_fault (locals_of c.args.self.now) (locals_of c.loop-index.self) _ _ c.loop-index.index (name_of c.index-names-index.result) (type_at (types_of c.args.self.now) v) _
-    (next_mapped name_of c.args.names.now c.loop-index.index c.index-names-index.result c.index-names-index.result c.loop-index-test.true c.index-names-index.is)
+    finds_at {A = Unit {0}} (λ _. locals) _ (with_local locals name (type_at (types_of c.args.self.now) v)) _ c.from_residual.result
+    (p.1 ∙ ap Err p.2)
+    (next_fault (locals_of c.args.self.now) (locals_of c.loop-index.self) _ _ c.loop-index.index (name_of c.index-names-index.result)
+    (type_at (types_of c.args.self.now) v) _
+    (next_mapped name_of c.args.names.now c.loop-index.index c.index-names-index.result c.index-names-index.result c.loop-index-test.true
+    c.index-names-index.is)
     (next_mapped (type_at (types_of c.args.self.now)) c.args.types.now c.loop-index.index v d inside refl)
     c.loop-index.invariant.bound
-    (ap (λ n. is_among c.index-names-index.result.name (names_of (drop n (locals_of c.loop-index.self)))) (sym c.depth-outer.ensures) ∙ sym c.is_bound_behind.ensures ∙ c.if-is_bound_behind.false))
-    (subst (λ (l : List Ty). Finds {A = Unit {0}} {B = List Local} (λ _. locals) (with_local locals name (type_at l v)) (Err c.in_err-bind.field-0.0)) c.loop-index.invariant.types c.in_err-bind.ensures.found)
+    (ap (λ n. is_among c.index-names-index.result.name (names_of (drop n (locals_of c.loop-index.self)))) (sym c.depth-outer.ensures)
+    ∙ sym c.is_bound_behind.ensures ∙ c.if-is_bound_behind.false))
+    (subst (λ (l : List Ty). Finds {A = Unit {0}} {B = List Local} (λ _. locals) (with_local locals name (type_at l v)) (Err c.in_err-bind.field-0.0))
+    c.loop-index.invariant.types c.in_err-bind.ensures.found)
 
 pub loop-index-preserved : goal.loop-index-preserved
 loop-index-preserved c =
@@ -56,13 +65,16 @@ loop-index-preserved c =
       types = c.in_ok-bind.ensures.types ∙ c.loop-index.invariant.types;
       scope = c.in_ok-bind.ensures.scope ∙ c.loop-index.invariant.scope;
       bound = next_bound before locals _ _ c.loop-index.index name t _
-          (next_mapped name_of c.args.names.now c.loop-index.index c.index-names-index.result c.index-names-index.result c.loop-index-test.true c.index-names-index.is)
+          (next_mapped name_of c.args.names.now c.loop-index.index c.index-names-index.result c.index-names-index.result c.loop-index-test.true
+          c.index-names-index.is)
           (next_mapped (type_at (types_of c.args.self.now)) c.args.types.now c.loop-index.index v d inside refl)
           c.loop-index.invariant.bound
-          (ap (λ n. is_among name.name (names_of (drop n locals))) (sym c.depth-outer.ensures) ∙ sym c.is_bound_behind.ensures ∙ c.if-is_bound_behind.false)
+          (ap (λ n. is_among name.name (names_of (drop n locals))) (sym c.depth-outer.ensures) ∙ sym c.is_bound_behind.ensures
+          ∙ c.if-is_bound_behind.false)
           (locals_of c.bind.new.self) longer bound;
       behind = (
         c.loop-index.invariant.behind.0 ++ named_local name t ∷ [],
-        with_local_is locals (locals_of c.bind.new.self) name t bound ∙ ap (λ ls. ls ++ named_local name t ∷ []) behind ∙ append_assoc before c.loop-index.invariant.behind.0 (named_local name t ∷ []),
+        with_local_is locals (locals_of c.bind.new.self) name t bound ∙ ap (λ ls. ls ++ named_local name t ∷ []) behind
+            ∙ append_assoc before c.loop-index.invariant.behind.0 (named_local name t ∷ []),
       );
     }

@@ -12,6 +12,7 @@ invariant-loop-index l = record {
   types : types_of l.self ≡ types_of l.fn.self;
   scope : scope_of l.self ≡ scope_of l.fn.self;
   bound : bound_names [] (locals_of l.fn.self) (map name_of l.names) (types_at (types_of l.fn.self) l.types)
-      ≡ bound_names (bound_behind (length (locals_of l.fn.self)) (locals_of l.self)) (locals_of l.self) (drop l.index (map name_of l.names)) (drop l.index (types_at (types_of l.fn.self) l.types));
+      ≡ bound_names (bound_behind (length (locals_of l.fn.self)) (locals_of l.self)) (locals_of l.self) (drop l.index (map name_of l.names))
+      (drop l.index (types_at (types_of l.fn.self) l.types));
   behind : (more : List Local) × (locals_of l.self ≡ locals_of l.fn.self ++ more);
 }

@@ -8,7 +8,8 @@ pub returns-in_default-clause-found : goal.returns-in_default-clause-found
 unfolding scope_of
 returns-in_default-clause-found c =
     calls_unknown c.args.at c.args.count _ (function_meant (types_of c.args.self.now) c.args.self.now.scope.now)
-    (c.function.ensures.found (types_of c.args.self.now) ∙ ap (option_map (function_meant (types_of c.args.self.now) c.args.self.now.scope.now)) (none_there c.function.result c.in_default.not-Some))
+    (c.function.ensures.found (types_of c.args.self.now) ∙ ap (option_map (function_meant (types_of c.args.self.now) c.args.self.now.scope.now))
+    (none_there c.function.result c.in_default.not-Some))
 
 pub returns-then-count-len-clause-found : goal.returns-then-count-len-clause-found
 unfolding scope_of
@@ -18,7 +19,8 @@ returns-then-count-len-clause-found c =
     let ok = c.head.result.now.parameters.ok in
     let count : c.len.result ≡ length c.head.result.now.parameters.items = cc in
     calls_miscounted c.args.at c.args.count _ meant c.in-Some.id (c.function.ensures.found types ∙ ap (option_map meant) c.in-Some.is)
-    (λ same. c.if-count-len.true (same ∙ parameters_count types (meant c.in-Some.id).value c.head.result.now (c.head.ensures.signature types) ∙ sym count))
+    (λ same. c.if-count-len.true (same ∙ parameters_count types (meant c.in-Some.id).value c.head.result.now (c.head.ensures.signature types)
+    ∙ sym count))
 
 pub returns-clause-found : goal.returns-clause-found
 unfolding scope_of

@@ -14,12 +14,15 @@ loop-index-preserved c =
     record {
       types = c.in_ok-push.ensures.types ∙ c.loop-index.invariant.types;
       scope = c.in_ok-push.ensures.scope ∙ c.loop-index.invariant.scope;
-      locals = entered_more c.args.parameters.now _ c.loop-index.index c.index-parameters-index.result (type_at (types_of c.args.self.now) v) (locals_of c.loop-index.self) (locals_of c.push.new.self) _
-          (next_here c.args.parameters.now c.loop-index.index c.index-parameters-index.result c.index-parameters-index.result c.loop-index-test.true c.index-parameters-index.is)
+      locals = entered_more c.args.parameters.now _ c.loop-index.index c.index-parameters-index.result (type_at (types_of c.args.self.now) v)
+          (locals_of c.loop-index.self) (locals_of c.push.new.self) _
+          (next_here c.args.parameters.now c.loop-index.index c.index-parameters-index.result c.index-parameters-index.result c.loop-index-test.true
+          c.index-parameters-index.is)
           (next_mapped (type_at (types_of c.args.self.now)) c.args.types.now c.loop-index.index v d inside refl)
           c.loop-index.invariant.locals (rw c.loop-index.invariant.types at c.in_ok-push.ensures.locals);
     }
 
 pub returns-clause-locals : goal.returns-clause-locals
 returns-clause-locals c = λ names none same.
-    entered_last names c.args.parameters.now _ c.loop-index.index (locals_of c.args.self.now) (locals_of c.loop-index.self) (none_here c.args.parameters.now c.loop-index.index c.loop-index-test.false) none same c.loop-index.invariant.locals
+    entered_last names c.args.parameters.now _ c.loop-index.index (locals_of c.args.self.now) (locals_of c.loop-index.self)
+    (none_here c.args.parameters.now c.loop-index.index c.loop-index-test.false) none same c.loop-index.invariant.locals

@@ -9,5 +9,6 @@ abbrev pub invariant-loop-index : goal.invariant-loop-index
 invariant-loop-index l = record {
   types : types_of l.self ≡ types_of l.fn.self;
   scope : scope_of l.self ≡ scope_of l.fn.self;
-  locals : locals_of l.self ++ entered (drop l.index l.parameters) (drop l.index (types_at (types_of l.fn.self) l.types)) ≡ locals_of l.fn.self ++ entered l.parameters (types_at (types_of l.fn.self) l.types);
+  locals : locals_of l.self ++ entered (drop l.index l.parameters) (drop l.index (types_at (types_of l.fn.self) l.types)) ≡ locals_of
+      l.fn.self ++ entered l.parameters (types_at (types_of l.fn.self) l.types);
 }

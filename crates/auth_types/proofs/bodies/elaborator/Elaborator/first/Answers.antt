@@ -6,10 +6,15 @@ use Rattle.auth_types.proofs.bodies.elaborator.Elaborator.first.Goals as goal
 
 pub returns-in-PairForm-clause-found : goal.returns-in-PairForm-clause-found
 returns-in-PairForm-clause-found c = λ found h.
-    let parts = pair_inside _ _ c.in-PairForm.first c.in-PairForm.second (ap (stands_behind c.args.operand.ty.0) (sym c.in-PairForm.is) ∙ c.form.ensures.parts) c.requires in
+    let parts = pair_inside _ _ c.in-PairForm.first c.in-PairForm.second
+    (ap (stands_behind c.args.operand.ty.0) (sym c.in-PairForm.is) ∙ c.form.ensures.parts) c.requires in
     c.typed.ensures.found _
     (first_shows (types_of c.args.self.now) c.args.operand c.requires c.args.at found h c.in-PairForm.first c.in-PairForm.second
     (ap (type_of_form (types_of c.args.self.now)) (sym c.in-PairForm.is) ∙ c.form.ensures.form) parts.0 parts.1)
 
 pub returns-in_default : goal.returns-in_default
-returns-in_default c = record { found = λ found h. first_refused (types_of c.args.self.now) c.args.operand c.requires c.args.at found h c.form.result c.form.ensures.form c.in_default.not-PairForm; inside = tt }
+returns-in_default c = record {
+  found = λ found h. first_refused (types_of c.args.self.now) c.args.operand c.requires c.args.at found h c.form.result
+      c.form.ensures.form c.in_default.not-PairForm;
+  inside = tt;
+}

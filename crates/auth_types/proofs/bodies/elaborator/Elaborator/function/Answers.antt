@@ -23,7 +23,8 @@ returns-in_err-body-clause-found c =
     let entered = rw (c.deref.ensures.value, c.deref-2.ensures.value) at (c.in_ok-enter.ensures.locals names c.requires.locals) in
     function_refused names (scope_of e) (function_of head.function.now) (types_of c.part.new.self) _ _ _ (p.1 ∙ ap Err p.2)
     (finds_is (types_of c.part.new.self) boxed_of _ _ (Err c.in_err-body.field-0.0)
-    (body_is e c.enter.new.self names head (place_of x) x c.in_ok-enter.ensures.types c.in_ok-enter.ensures.scope signature (entered (ap (λ (s : Signature). s.parameters) signature))) c.in_err-body.ensures.found)
+    (body_is e c.enter.new.self names head (place_of x) x c.in_ok-enter.ensures.types c.in_ok-enter.ensures.scope signature
+    (entered (ap (λ (s : Signature). s.parameters) signature))) c.in_err-body.ensures.found)
 
 pub returns-clause-found : goal.returns-clause-found
 returns-clause-found c =
@@ -37,9 +38,15 @@ returns-clause-found c =
     λ names signature.
     let entered = rw (c.deref.ensures.value, c.deref-2.ensures.value) at (c.in_ok-enter.ensures.locals names c.requires.locals) in
     rw c.close.ensures.types
-    (function_shows names (scope_of e) (function_of head.function.now) types g c.in_ok-body.body.value c.in_ok-with_body.ensures.name c.in_ok-with_body.ensures.kind
-    (λ more. ap (types_at (types ++ more)) c.in_ok-with_body.ensures.parameters ∙ types_stay_at old (types ++ more) (grown old types grows more) head.parameters.items c.requires.within.parameters ∙ ap (λ (s : Signature). s.parameters) signature)
-    (λ more. ap (type_at (types ++ more)) c.in_ok-with_body.ensures.gives ∙ type_stays_at old (types ++ more) (grown old types grows more) head.result c.requires.within.result ∙ ap (λ (s : Signature). s.result) signature)
+    (function_shows names (scope_of e) (function_of head.function.now) types g c.in_ok-body.body.value c.in_ok-with_body.ensures.name
+    c.in_ok-with_body.ensures.kind
+    (λ more. ap (types_at (types ++ more)) c.in_ok-with_body.ensures.parameters
+    ∙ types_stay_at old (types ++ more) (grown old types grows more) head.parameters.items c.requires.within.parameters
+    ∙ ap (λ (s : Signature). s.parameters) signature)
+    (λ more. ap (type_at (types ++ more)) c.in_ok-with_body.ensures.gives
+    ∙ type_stays_at old (types ++ more) (grown old types grows more) head.result c.requires.within.result
+    ∙ ap (λ (s : Signature). s.result) signature)
     c.in_ok-with_body.ensures.body
     (shows_is types boxed_of _ _ c.in_ok-body.body
-    (body_is e c.enter.new.self names head (place_of x) x c.in_ok-enter.ensures.types c.in_ok-enter.ensures.scope signature (entered (ap (λ (s : Signature). s.parameters) signature))) c.in_ok-body.ensures.found))
+    (body_is e c.enter.new.self names head (place_of x) x c.in_ok-enter.ensures.types c.in_ok-enter.ensures.scope signature
+    (entered (ap (λ (s : Signature). s.parameters) signature))) c.in_ok-body.ensures.found))

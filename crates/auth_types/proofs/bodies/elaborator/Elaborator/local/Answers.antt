@@ -13,10 +13,12 @@ returns-in-Some-clause-found c =
     let inside : c.in-Some.number < length e.locals.items = rw c.deref.ensures.value at c.in-Some.ensures.inside in
     c.typed.ensures.found _
     (local_shows e c.args.at c.args.name.now c.in-Some.number l l inside c.index.ensures
-    (ap (λ ls. last_named 0 (locals_meant (types_of e) ls) c.args.name.now) (sym c.deref.ensures.value) ∙ c.innermost.ensures.found (types_of e) ∙ c.in-Some.is)
+    (ap (λ ls. last_named 0 (locals_meant (types_of e) ls) c.args.name.now) (sym c.deref.ensures.value) ∙ c.innermost.ensures.found (types_of e)
+    ∙ c.in-Some.is)
     (subst (λ (l : Local). l.ty.0 < length (types_of e)) (sym c.index.ensures) (e.locals_within c.in-Some.number l inside)))
 
 pub returns-in-None-clause-found : goal.returns-in-None-clause-found
 returns-in-None-clause-found c =
     local_unknown c.args.self.now c.args.at c.args.name.now
-    (ap (λ ls. last_named 0 (locals_meant (types_of c.args.self.now) ls) c.args.name.now) (sym c.deref.ensures.value) ∙ c.innermost.ensures.found (types_of c.args.self.now) ∙ c.in-None.is)
+    (ap (λ ls. last_named 0 (locals_meant (types_of c.args.self.now) ls) c.args.name.now) (sym c.deref.ensures.value)
+    ∙ c.innermost.ensures.found (types_of c.args.self.now) ∙ c.in-None.is)

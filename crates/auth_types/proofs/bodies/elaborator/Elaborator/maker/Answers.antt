@@ -14,7 +14,8 @@ pub returns-then-count-fields-clause-found : goal.returns-then-count-fields-clau
 unfolding scope_of
 returns-then-count-fields-clause-found c =
     constructs_miscounted c.args.at c.args.count _ _ c.in-Some.id (c.constructor.ensures ∙ ap (option_map constructor_meant) c.in-Some.is)
-    (λ same. c.if-count-fields.true (same ∙ sym (types_count (types_of c.args.self.now) c.fields.result.now _ (c.fields.ensures.fields (types_of c.args.self.now)))))
+    (λ same. c.if-count-fields.true (same
+    ∙ sym (types_count (types_of c.args.self.now) c.fields.result.now _ (c.fields.ensures.fields (types_of c.args.self.now)))))
 
 pub returns-clause-found : goal.returns-clause-found
 unfolding scope_of
@@ -24,4 +25,5 @@ returns-clause-found c =
 
 pub returns-clause-count : goal.returns-clause-count
 unfolding scope_of
-returns-clause-count c = c.if-count-fields.false ∙ types_count (types_of c.args.self.now) c.fields.result.now _ (c.fields.ensures.fields (types_of c.args.self.now))
+returns-clause-count c = c.if-count-fields.false ∙ types_count (types_of c.args.self.now) c.fields.result.now
+    _ (c.fields.ensures.fields (types_of c.args.self.now))

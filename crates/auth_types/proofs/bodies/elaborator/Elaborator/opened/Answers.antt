@@ -12,4 +12,8 @@ returns-in-AuthForm-clause-found c = λ found h.
     (ap (type_of_form (types_of c.args.self.now)) (sym c.in-AuthForm.is) ∙ c.form.ensures.form) inside)
 
 pub returns-in_default : goal.returns-in_default
-returns-in_default c = record { found = λ found h. opened_refused (types_of c.args.self.now) c.args.operand c.requires c.args.at found h c.form.result c.form.ensures.form c.in_default.not-AuthForm; inside = tt }
+returns-in_default c = record {
+  found = λ found h. opened_refused (types_of c.args.self.now) c.args.operand c.requires c.args.at found h c.form.result
+      c.form.ensures.form c.in_default.not-AuthForm;
+  inside = tt;
+}

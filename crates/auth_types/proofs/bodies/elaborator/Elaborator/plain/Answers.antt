@@ -14,4 +14,5 @@ returns-clause-found c = λ found is.
     let form = c.args.form in
     c.typed.ensures.found found
     (λ more. is c.in_ok-ty.ensures.keeps more
-    ∙ ap (typed (expression_of (new ++ more) c.args.term)) (sym (plain_form old form c.requires) ∙ sym (type_stays new c.in_ok-ty.ty.0 (type_of_form old form) c.in_ok-ty.ensures.number more)))
+    ∙ ap (typed (expression_of (new ++ more) c.args.term)) (sym (plain_form old form c.requires)
+    ∙ sym (type_stays new c.in_ok-ty.ty.0 (type_of_form old form) c.in_ok-ty.ensures.number more)))

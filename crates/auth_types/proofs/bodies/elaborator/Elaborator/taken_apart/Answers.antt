@@ -8,14 +8,18 @@ use Rattle.auth_types.proofs.bodies.elaborator.Elaborator.taken_apart.Goals as g
 pub returns-then-not-are_of-clause-found : goal.returns-then-not-are_of-clause-found
 unfolding scope_of
 returns-then-not-are_of-clause-found c =
-    matches_wrong (scope_of c.args.self.now) c.args.at c.args.subject _ (arm_names (arms_in_a_row (map arm_of c.args.arms.now))) c.in-NamedForm.named (sym c.in-NamedForm.ensures.form)
-    (ap (same_names (arm_names (arms_in_a_row (map arm_of c.args.arms.now)))) (sym c.constructors.ensures.names) ∙ sym c.are_of.ensures ∙ c.if-not-are_of.true)
+    matches_wrong (scope_of c.args.self.now) c.args.at c.args.subject _ (arm_names (arms_in_a_row (map arm_of c.args.arms.now))) c.in-NamedForm.named
+    (sym c.in-NamedForm.ensures.form)
+    (ap (same_names (arm_names (arms_in_a_row (map arm_of c.args.arms.now)))) (sym c.constructors.ensures.names) ∙ sym c.are_of.ensures
+    ∙ c.if-not-are_of.true)
 
 pub returns-clause-found : goal.returns-clause-found
 unfolding scope_of
 returns-clause-found c =
-    matches_found (scope_of c.args.self.now) c.args.at c.args.subject _ (arm_names (arms_in_a_row (map arm_of c.args.arms.now))) c.in-NamedForm.named (sym c.in-NamedForm.ensures.form)
-    (ap (same_names (arm_names (arms_in_a_row (map arm_of c.args.arms.now)))) (sym c.constructors.ensures.names) ∙ sym c.are_of.ensures ∙ c.if-not-are_of.false)
+    matches_found (scope_of c.args.self.now) c.args.at c.args.subject _ (arm_names (arms_in_a_row (map arm_of c.args.arms.now))) c.in-NamedForm.named
+    (sym c.in-NamedForm.ensures.form)
+    (ap (same_names (arm_names (arms_in_a_row (map arm_of c.args.arms.now)))) (sym c.constructors.ensures.names) ∙ sym c.are_of.ensures
+    ∙ c.if-not-are_of.false)
 
 pub returns-clause-count : goal.returns-clause-count
 unfolding scope_of

@@ -11,4 +11,5 @@ pub returns-clause-found : goal.returns-clause-found
 returns-clause-found c =
     let same : bytes_of c.args.text.now ≡ bytes_of c.new-text.result = search rules in
     c.plain.ensures.found _
-    (λ _. λ more. ap (λ bytes. typed (TextE bytes) TextTy) same ∙ ap (λ e. typed e TextTy) (sym (expression-TextLiteral (types_of c.plain.new.self ++ more) c.new-text.result)))
+    (λ _. λ more. ap (λ bytes. typed (TextE bytes) TextTy) same ∙ ap (λ e. typed e TextTy)
+    (sym (expression-TextLiteral (types_of c.plain.new.self ++ more) c.new-text.result)))

@@ -1,5 +1,0 @@
-use Rattle.auth_syntax.proofs.LiteralsReadBack.{literals_are_read_back}
-use Rattle.auth_syntax.proofs.laws.literals_are_read_back.Goals as goal
-
-pub returns : goal.returns
-returns c = literals_are_read_back

@@ -1,5 +1,0 @@
-use Rattle.auth_syntax.proofs.Counted.{places_are_counted}
-use Rattle.auth_syntax.proofs.laws.places_are_counted.Goals as goal
-
-pub returns : goal.returns
-returns c = places_are_counted

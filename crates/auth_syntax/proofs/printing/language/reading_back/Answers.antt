@@ -1,5 +1,0 @@
-use Rattle.auth_syntax.proofs.PrintedValuesRead.{printed_values_are_read_back}
-use Rattle.auth_syntax.proofs.printing.language.reading_back.Goals as goal
-
-pub returns : goal.returns
-returns c = printed_values_are_read_back

@@ -1,7 +1,0 @@
-use Rattle.std.proofs.Common.{◌≡◌, ◌++◌, codes, take}
-use Rattle.auth_syntax.specs.PrintedValues.{all_escaped}
-use Rattle.auth_syntax.proofs.printing.push_quoted.Given as goal
-
--- the quote and the bytes so far
-abbrev pub invariant-loop-byte : goal.invariant-loop-byte
-invariant-loop-byte l = l.text.items ≡ l.fn.text.items ++ codes "\"" ++ all_escaped (take l.byte-index l.content)

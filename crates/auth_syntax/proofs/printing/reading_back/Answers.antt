@@ -1,5 +1,0 @@
-use Rattle.auth_syntax.proofs.PrintedReadBack.{printed_is_read_back}
-use Rattle.auth_syntax.proofs.printing.reading_back.Goals as goal
-
-pub returns : goal.returns
-returns c = printed_is_read_back

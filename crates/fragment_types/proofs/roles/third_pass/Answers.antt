@@ -1,0 +1,12 @@
+use Rattle.std.proofs.Common.{subst}
+use Rattle.auth_syntax.specs.Grammar.{IsDeclaration, nesting_limit}
+use Rattle.auth_syntax.specs.Trees.{declaration_of}
+use Rattle.auth_syntax.specs.Vocabulary.{fragment}
+use Rattle.auth_syntax.specs.declared.tree.Declaration.{Declaration}
+use Rattle.fragment_types.proofs.FragmentForms.{declaration_at}
+use Rattle.fragment_types.proofs.roles.third_pass.Goals as goal
+
+pub check_role-requires-clause-function : goal.check_role-requires-clause-function
+check_role-requires-clause-function c =
+    subst (λ (d : Declaration). IsDeclaration fragment nesting_limit (declaration_of d)) c.in-Function.is
+    (declaration_at c.args.declarations.now c.loop-declaration.declaration-index c.declaration-item.result c.requires.declarations c.loop-declaration-test.true c.declaration-item.is)

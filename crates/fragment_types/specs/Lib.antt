@@ -1,0 +1,2 @@
+pub mod FragmentBodies
+pub mod FragmentOutcomes

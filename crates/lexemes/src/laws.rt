@@ -1,0 +1,8 @@
+// The law of places in `specs/`: a function without parameters, whose contract is the law.
+
+ghost use Rattle.lexemes.specs.Laws.{PlacesAreCounted};
+
+/// Offset, line and column of a place count the bytes before it.
+pub fn places_are_counted()
+    ensures { PlacesAreCounted }
+{}

@@ -1,0 +1,154 @@
+// Words: keywords and names.
+
+ghost use Rattle.std.specs.Prelude.{◌≡◌};
+ghost use Rattle.std.specs.List.{prefix_len};
+ghost use Rattle.lexemes.specs.Tokens.{is_name_byte, keyword_text, keyword_of, operator_text, name_piece, lower_piece, UpperToken};
+ghost use Rattle.lexemes.specs.PieceViews.{piece_view};
+ghost use Rattle.lexemes.specs.TokenViews.{token_view};
+
+use crate::fault::LexicalFault;
+use crate::lexer::pieces::Piece;
+use crate::token::{Keyword, Token};
+use core_terms::language::{Arith, BinaryOperator, Compare, TextCompare};
+
+const NAME_LIMIT: usize = 64;
+
+/// How many bytes a text begins with that may stand in a name.
+pub(crate) fn word_len(text: &[u8]) -> usize
+    ensures { result ≡ prefix_len is_name_byte text.now }
+{
+    text.iter()
+        .take_while(|byte| byte.is_ascii_alphanumeric() || **byte == b'_')
+        .count()
+}
+
+const KEYWORDS: [Keyword; 37] = [
+    Keyword::Type,
+    Keyword::State,
+    Keyword::Fun,
+    Keyword::Init,
+    Keyword::Query,
+    Keyword::Update,
+    Keyword::Let,
+    Keyword::In,
+    Keyword::Match,
+    Keyword::With,
+    Keyword::End,
+    Keyword::If,
+    Keyword::Then,
+    Keyword::Else,
+    Keyword::Auth,
+    Keyword::Unauth,
+    Keyword::Fst,
+    Keyword::Snd,
+    Keyword::Unit,
+    Keyword::Bool,
+    Keyword::Int,
+    Keyword::Text,
+    Keyword::True,
+    Keyword::False,
+    Keyword::Len,
+    Keyword::Not,
+    Keyword::Binary(BinaryOperator::Arith(Arith::Add)),
+    Keyword::Binary(BinaryOperator::Arith(Arith::Sub)),
+    Keyword::Binary(BinaryOperator::Arith(Arith::Mul)),
+    Keyword::Binary(BinaryOperator::Arith(Arith::Div)),
+    Keyword::Binary(BinaryOperator::Arith(Arith::Rem)),
+    Keyword::Binary(BinaryOperator::Compare(Compare::Eq)),
+    Keyword::Binary(BinaryOperator::Compare(Compare::Lt)),
+    Keyword::Binary(BinaryOperator::Compare(Compare::Le)),
+    Keyword::Binary(BinaryOperator::TextCompare(TextCompare::Eq)),
+    Keyword::Binary(BinaryOperator::TextCompare(TextCompare::Lt)),
+    Keyword::Binary(BinaryOperator::Cat),
+];
+
+/// The text of a keyword.
+pub fn keyword_text(keyword: Keyword) -> &'static [u8]
+    ensures { result.now ≡ keyword_text keyword }
+{
+    match keyword {
+        Keyword::Type => b"type",
+        Keyword::State => b"state",
+        Keyword::Fun => b"fun",
+        Keyword::Init => b"init",
+        Keyword::Query => b"query",
+        Keyword::Update => b"update",
+        Keyword::Let => b"let",
+        Keyword::In => b"in",
+        Keyword::Match => b"match",
+        Keyword::With => b"with",
+        Keyword::End => b"end",
+        Keyword::If => b"if",
+        Keyword::Then => b"then",
+        Keyword::Else => b"else",
+        Keyword::Auth => b"auth",
+        Keyword::Unauth => b"unauth",
+        Keyword::Fst => b"fst",
+        Keyword::Snd => b"snd",
+        Keyword::Unit => b"unit",
+        Keyword::Bool => b"bool",
+        Keyword::Int => b"int",
+        Keyword::Text => b"text",
+        Keyword::True => b"true",
+        Keyword::False => b"false",
+        Keyword::Len => b"len",
+        Keyword::Not => b"not",
+        Keyword::Binary(operator) => operator_text(operator),
+    }
+}
+
+/// The word of an operator.
+fn operator_text(operator: BinaryOperator) -> &'static [u8]
+    ensures { result.now ≡ operator_text operator }
+{
+    match operator {
+        BinaryOperator::Arith(Arith::Add) => b"add",
+        BinaryOperator::Arith(Arith::Sub) => b"sub",
+        BinaryOperator::Arith(Arith::Mul) => b"mul",
+        BinaryOperator::Arith(Arith::Div) => b"div",
+        BinaryOperator::Arith(Arith::Rem) => b"rem",
+        BinaryOperator::Compare(Compare::Eq) => b"eq",
+        BinaryOperator::Compare(Compare::Lt) => b"lt",
+        BinaryOperator::Compare(Compare::Le) => b"le",
+        BinaryOperator::TextCompare(TextCompare::Eq) => b"teq",
+        BinaryOperator::TextCompare(TextCompare::Lt) => b"tlt",
+        BinaryOperator::Cat => b"cat",
+    }
+}
+
+fn keyword_of(word: &[u8]) -> Option<Keyword>
+    ensures { result ≡ keyword_of word.now }
+{
+    KEYWORDS
+        .iter()
+        .find(|keyword| word == keyword_text(**keyword))
+        .copied()
+}
+
+// A name of at most 64 bytes.
+fn name_piece<'a>(name: Token<'a>, word: &'a [u8]) -> Piece<'a>
+    ensures { piece_view result ≡ name_piece (token_view name.entry) word.now }
+{
+    if word.len() <= NAME_LIMIT {
+        Piece::Taken(name, word.len())
+    } else {
+        Piece::Wrong(LexicalFault::NameLong, 0)
+    }
+}
+
+/// A word that begins with a small letter: a keyword, or else a lower name.
+pub(crate) fn lower_piece<'a>(word: &'a [u8]) -> Piece<'a>
+    ensures { piece_view result ≡ lower_piece (keyword_of word.now) word.now }
+{
+    match keyword_of(word) {
+        Some(keyword) => Piece::Taken(Token::Keyword(keyword), word.len()),
+        None => name_piece(Token::Lower(word), word),
+    }
+}
+
+/// A word that begins with a capital: an upper name.
+pub(crate) fn upper_piece<'a>(word: &'a [u8]) -> Piece<'a>
+    ensures { piece_view result ≡ name_piece (UpperToken word.now) word.now }
+{
+    name_piece(Token::Upper(word), word)
+}

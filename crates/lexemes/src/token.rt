@@ -1,0 +1,63 @@
+// The tokens that a text consists of.
+
+use core_terms::Text;
+use core_terms::language::BinaryOperator;
+
+/// A word that the grammar gives a meaning.
+#[derive(Clone, Copy)]
+pub enum Keyword {
+    Type,
+    State,
+    Fun,
+    Init,
+    Query,
+    Update,
+    Let,
+    In,
+    Match,
+    With,
+    End,
+    If,
+    Then,
+    Else,
+    Auth,
+    Unauth,
+    Fst,
+    Snd,
+    Unit,
+    Bool,
+    Int,
+    Text,
+    True,
+    False,
+    Len,
+    Not,
+    /// The word of an operator.
+    Binary(BinaryOperator),
+}
+
+/// A mark: one of `( ) , ; : = | ->`.
+#[derive(Clone, Copy, PartialEq, Eq)]
+pub enum Mark {
+    LeftParenthesis,
+    RightParenthesis,
+    Comma,
+    Semicolon,
+    Colon,
+    EqualsSign,
+    Bar,
+    Arrow,
+}
+
+/// A token; the bytes of a name are lent from the text, a text has the bytes that it stands for.
+#[derive(Drop)]
+pub enum Token<'a> {
+    Keyword(Keyword),
+    Mark(Mark),
+    /// A name that begins with a small letter and is no keyword.
+    Lower(&'a [u8]),
+    /// A name that begins with a capital.
+    Upper(&'a [u8]),
+    Int(i64),
+    Text(Text),
+}

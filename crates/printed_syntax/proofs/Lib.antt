@@ -1,0 +1,30 @@
+-- print::print and its functions
+pub mod LineLemmas
+pub mod TreeTokens
+-- printing::push_quoted
+pub mod PrintedTexts
+-- printing::leaves and printing::language; PairDepths has the measure of its cycle
+pub mod PrintedFronts
+pub mod PairDepths
+-- the laws printed_is_read_back and parsed_is_read_back of programs
+mod PrintedTokens
+mod BeginAnywhere
+mod TokensOfTexts
+mod PrintedLines
+mod MovedTrees
+mod FormsWithoutPlaces
+mod PrintedProgramsRead
+-- the laws reading_back of printed values
+mod PrintedReadBack
+mod PrintedValuesRead
+-- literal::value and literal::fragment::value
+pub mod LiteralSpellings
+-- literal::whole, parse_literal and their twins of the fragment
+pub mod LiteralReadings
+-- the law literals_are_read_back
+pub mod TokenValues
+pub mod LiteralsReadBack
+-- the definitions, computed on values and texts
+mod LiteralRows
+mod PrintedRows
+mod PrintedProgramRows

@@ -1,0 +1,200 @@
+-- Printed values of the whole language are read back.
+use Rattle.std.proofs.Common.{◌≡◌, ℕ, zero, suc, ◌+◌, ◌≤◌, Bool, true, false, List, [], ◌∷◌, ◌++◌, Option, Some, None, slice_get, unwrap_or, option_map, if◌then◌else◌, codes, refl, sym, ap, subst, ◌∙◌, append_assoc, append-nil, arith}
+use Rattle.std.proofs.lemmas.Slice.Eq.{bytes_eq-Decides}
+use Rattle.std.specs.Prelude.{bytes_eq}
+use Rattle.std.specs.Fmt.{signed_decimal}
+use Rattle.core_terms.specs.Types.{Ty, UnitTy, BoolTy, IntTy, TextTy, PairTy, NamedTy, AuthTy, Table, fields_at, OnFields}
+use Rattle.core_terms.specs.Formats.{depth_limit}
+use Rattle.core_terms.specs.Values.{Value, UnitV, BoolV, IntV, TextV, PairV, ConV, DigestV, Values, NoV, AndV, IsShallow, AreShallow, size, sizes, depth, depths}
+use Rattle.lexemes.specs.declared.place.Place.{Place}
+use Rattle.lexemes.specs.declared.token.Keyword.TheVariants.{True as TrueWord, False as FalseWord}
+use Rattle.lexemes.specs.declared.token.Mark.TheVariants.{LeftParenthesis, RightParenthesis, Comma}
+use Rattle.lexemes.specs.Places.{start, behind, behind_byte}
+use Rattle.lexemes.specs.Tokens.{KeywordToken, MarkToken, UpperToken, IntToken, TextToken, Tokens, Next, tokens_from}
+use Rattle.printed_syntax.specs.Literals.{ConstructorNames, LiteralReading, Means, then_means, behind_mark, bool_literal, int_literal, text_literal, pair_literal, more_fields, fields_literal, number_of_name, constructor_with, constructor_named, constructor_literal, literal_of, whole_literal}
+use Rattle.printed_syntax.specs.PrintedValues.{printed, printed_fields, quoted_text}
+use Rattle.printed_syntax.specs.PrintedValueLaws.{HasNoDigest, HaveNoDigests, AreNamed, PrintedValuesAreReadBack}
+use Rattle.printed_syntax.proofs.PrintedTokens.{IsParted, token_read, text_at_head}
+use Rattle.printed_syntax.proofs.PrintedLines.{mark_at_head, upper_at_head, token_at_head}
+use Rattle.printed_syntax.proofs.PrintedReadBack.{int_token, is_within}
+
+-- what is read is this, and these bytes stand behind it
+abbrev IsReadTo : {A : Type 0} → LiteralReading A → A → List ℕ → Type 0
+IsReadTo reading value rest = (after : Place) × (reading ≡ Means value (tokens_from after rest))
+
+then_read : {A B : Type 0} (reading : LiteralReading A) (go : A → Tokens → LiteralReading B) (v : A) (w : B) (middle rest : List ℕ)
+    → IsReadTo reading v middle → ((after : Place) → IsReadTo (go v (tokens_from after middle)) w rest) → IsReadTo (then_means reading go) w rest
+then_read reading go v w middle rest first next =
+    let more = next first.0 in (more.0, ap (λ reading. then_means reading go) first.1 ∙ more.1)
+
+-- the marks
+left_read : (at : Place) (rest : List ℕ) → IsReadTo (behind_mark LeftParenthesis (tokens_from at (codes "(" ++ rest))) tt rest
+left_read at rest = (behind at (codes "("), ap (behind_mark LeftParenthesis) (token_read (codes "(") (MarkToken LeftParenthesis) rest at (mark_at_head LeftParenthesis rest)))
+
+right_read : (at : Place) (rest : List ℕ) → IsReadTo (behind_mark RightParenthesis (tokens_from at (codes ")" ++ rest))) tt rest
+right_read at rest = (behind at (codes ")"), ap (behind_mark RightParenthesis) (token_read (codes ")") (MarkToken RightParenthesis) rest at (mark_at_head RightParenthesis rest)))
+
+comma_read : (at : Place) (rest : List ℕ) → IsReadTo (behind_mark Comma (tokens_from at (codes ", " ++ rest))) tt rest
+comma_read at rest =
+    (behind_byte (behind at (codes ",")) 32, ap (behind_mark Comma) (token_read (codes ",") (MarkToken Comma) (codes " " ++ rest) at (mark_at_head Comma (codes " " ++ rest))))
+
+-- the place of a name that is that of no other
+number_found : (names : List (List ℕ)) (name : List ℕ) (tag : ℕ) → slice_get names tag ≡ Some name → ((other : ℕ) → slice_get names other ≡ Some name → other ≡ tag)
+    → number_of_name names name ≡ Some tag
+number_found [] name zero is one = absurd (cc)
+number_found [] name (suc tag) is one = absurd (cc)
+number_found (other ∷ others) name tag is one = by (bytes_eq other name) refl tag is one (number_found others name) where
+  by : (test : Bool) → bytes_eq other name ≡ test → (tag : ℕ) → slice_get (other ∷ others) tag ≡ Some name
+      → ((k : ℕ) → slice_get (other ∷ others) k ≡ Some name → k ≡ tag)
+      → ((tag : ℕ) → slice_get others tag ≡ Some name → ((k : ℕ) → slice_get others k ≡ Some name → k ≡ tag) → number_of_name others name ≡ Some tag)
+      → number_of_name (other ∷ others) name ≡ Some tag
+  by true e tag is one found =
+      let same : other ≡ name = (bytes_eq-Decides other name).0 e in
+      ap (λ test. if test then Some zero else option_map suc (number_of_name others name)) e ∙ ap Some (one zero (ap Some same))
+  by false e zero is one found =
+      let same : other ≡ name = cc in
+      let equal : bytes_eq other name ≡ true = (bytes_eq-Decides other name).1 same in
+      absurd (cc)
+  by false e (suc tag) is one found =
+      ap (λ test. if test then Some zero else option_map suc (number_of_name others name)) e
+      ∙ ap (option_map suc) (found tag is (λ k h. let next : suc k ≡ suc tag = one (suc k) h in cc))
+
+-- the literals of fields in a row, and the parenthesis that ends them
+abbrev row_literal : (Ty → Tokens → LiteralReading Value) → List Ty → Tokens → LiteralReading Values
+row_literal one [] tokens = more_fields one [] tokens
+row_literal one (t ∷ ts) tokens =
+    then_means (one t tokens) (λ v tokens. then_means (more_fields one ts tokens) (λ vs tokens. Means (AndV v vs) tokens))
+
+-- texts in a row, before others
+five : (a b c d e rest : List ℕ) → (a ++ b ++ c ++ d ++ e) ++ rest ≡ a ++ (b ++ (c ++ (d ++ (e ++ rest))))
+five a b c d e rest = simp append_assoc
+
+four : (a b c d rest : List ℕ) → (a ++ b ++ c ++ d) ++ rest ≡ a ++ (b ++ (c ++ (d ++ rest)))
+four a b c d rest = simp append_assoc
+
+three : (a b c rest : List ℕ) → (a ++ b ++ c) ++ rest ≡ a ++ (b ++ (c ++ rest))
+three a b c rest = simp append_assoc
+
+-- a pair, whose values are read
+module _ (one two : Tokens → LiteralReading Value) (x y : Value) (first second : List ℕ) (at : Place) (rest : List ℕ) where
+  abbrev to_end : List ℕ
+  to_end = codes ")" ++ rest
+
+  abbrev to_second : List ℕ
+  to_second = codes ", " ++ (second ++ to_end)
+
+  abbrev behind_second : Value → Value → Tokens → LiteralReading Value
+  behind_second x y tokens = then_means (behind_mark RightParenthesis tokens) (λ _ tokens. Means (PairV x y) tokens)
+
+  pair_read : ((at : Place) → IsReadTo (one (tokens_from at (first ++ to_second))) x to_second) → ((at : Place) → IsReadTo (two (tokens_from at (second ++ to_end))) y to_end)
+      → IsReadTo (pair_literal one two (tokens_from at ((codes "(" ++ first ++ codes ", " ++ second ++ codes ")") ++ rest))) (PairV x y) rest
+  pair_read is_first is_second =
+      subst (λ bytes. IsReadTo (pair_literal one two (tokens_from at bytes)) (PairV x y) rest) (sym (five (codes "(") first (codes ", ") second (codes ")") rest))
+      (then_read _ (λ _ tokens. then_means (one tokens) (λ x tokens. then_means (behind_mark Comma tokens) (λ _ tokens. then_means (two tokens) (behind_second x)))) tt (PairV x y)
+      (first ++ to_second) rest (left_read at (first ++ to_second))
+      (λ at. then_read _ (λ x tokens. then_means (behind_mark Comma tokens) (λ _ tokens. then_means (two tokens) (behind_second x))) x (PairV x y) to_second rest (is_first at)
+      (λ at. then_read _ (λ _ tokens. then_means (two tokens) (behind_second x)) tt (PairV x y) (second ++ to_end) rest (comma_read at (second ++ to_end))
+      (λ at. then_read _ (behind_second x) y (PairV x y) to_end rest (is_second at)
+      (λ at. then_read _ (λ _ tokens. Means (PairV x y) tokens) tt (PairV x y) rest rest (right_read at rest) (λ at. (at, refl)))))))
+
+module _ (types : Table) (names : ConstructorNames) (named : AreNamed types names) where
+  -- no value has the depth 0
+  positive : (t : Ty) (v : Value) → 1 ≤ depth types t v
+  positive (PairTy a b) (PairV x y) = omega arith
+  positive (NamedTy number) (ConV tag vs) = omega arith
+  positive t v = omega arith
+
+  -- a constructor, whose fields are read
+  module _ (levels number tag : ℕ) where
+    -- behind its name
+    name_read : (ts : List Ty) (name : List ℕ) (at : Place) (behind : Tokens) (tokens : Tokens) → fields_at types number tag ≡ Some ts
+        → slice_get (names number) tag ≡ Some name → ((other : ℕ) → slice_get (names number) other ≡ Some name → other ≡ tag)
+        → tokens ≡ Next at (UpperToken name) behind
+        → constructor_literal types names (literal_of types names levels) number tokens
+        ≡ then_means (fields_literal (literal_of types names levels) ts behind) (λ vs tokens. Means (ConV tag vs) tokens)
+    name_read ts name at behind tokens e is alone h =
+        ap (constructor_literal types names (literal_of types names levels) number) h
+        ∙ ap (λ found. constructor_named types names (literal_of types names levels) at.offset number found behind) (number_found (names number) name tag is alone)
+        ∙ ap (λ found. constructor_with (literal_of types names levels) at.offset tag found behind) e
+
+    con_read : (o : Option (List Ty)) (vs : Values) (at : Place) (rest : List ℕ) → fields_at types number tag ≡ o → OnFields o (λ ts. AreShallow types ts vs) → IsParted rest
+        → ((ts : List Ty) (at : Place) → fields_at types number tag ≡ Some ts → AreShallow types ts vs
+        → IsReadTo (row_literal (literal_of types names levels) ts (tokens_from at (printed_fields types names ts vs ++ (codes ")" ++ rest)))) vs rest)
+        → IsReadTo (constructor_literal types names (literal_of types names levels) number (tokens_from at (printed types names (NamedTy number) (ConV tag vs) ++ rest))) (ConV tag vs) rest
+    con_read None vs at rest e shape parted row = absurd shape
+    con_read (Some []) NoV at rest e shape parted row =
+        let n = named number tag [] e in
+        let token = token_read n.0 (UpperToken n.0) rest at (upper_at_head n.0 rest n.2 parted) in
+        let same : tokens_from at (printed types names (NamedTy number) (ConV tag NoV) ++ rest) ≡ Next at (UpperToken n.0) (tokens_from (behind at n.0) rest) =
+        ap (λ o. tokens_from at (unwrap_or o [] ++ rest)) n.1 ∙ token in
+        (behind at n.0, name_read [] n.0 at _ _ e n.1 n.3 same)
+    con_read (Some (t ∷ ts)) (AndV v vs) at rest e shape parted row =
+        let n = named number tag (t ∷ ts) e in
+        let fields = printed_fields types names (t ∷ ts) (AndV v vs) in
+        let others = codes "(" ++ (fields ++ (codes ")" ++ rest)) in
+        let token = token_read n.0 (UpperToken n.0) others at (upper_at_head n.0 others n.2 refl) in
+        let same : tokens_from at (printed types names (NamedTy number) (ConV tag (AndV v vs)) ++ rest) ≡ Next at (UpperToken n.0) (tokens_from (behind at n.0) others) =
+        ap (λ o. tokens_from at ((unwrap_or o [] ++ codes "(" ++ printed_fields types names (unwrap_or (fields_at types number tag) []) (AndV v vs) ++ codes ")") ++ rest)) n.1
+        ∙ ap (λ o. tokens_from at ((n.0 ++ codes "(" ++ printed_fields types names (unwrap_or o []) (AndV v vs) ++ codes ")") ++ rest)) e
+        ∙ ap (tokens_from at) (four n.0 (codes "(") fields (codes ")") rest) ∙ token in
+        let read = then_read _ (λ vs tokens. Means (ConV tag vs) tokens) (AndV v vs) (ConV tag (AndV v vs)) rest rest
+        (then_read _ (λ _ tokens. row_literal (literal_of types names levels) (t ∷ ts) tokens) tt (AndV v vs) (fields ++ (codes ")" ++ rest)) rest (left_read (behind at n.0) (fields ++ (codes ")" ++ rest)))
+        (λ after. row (t ∷ ts) after e shape)) (λ after. (after, refl)) in
+        (read.0, name_read (t ∷ ts) n.0 at _ _ e n.1 n.3 same ∙ read.1)
+    con_read (Some []) (AndV v vs) at rest e shape parted row = elim shape [ ]
+    con_read (Some (t ∷ ts)) NoV at rest e shape parted row = elim shape [ ]
+
+  mutual
+    -- the text of a value, and of fields in a row, before other bytes
+    read_printed : (levels : ℕ) (t : Ty) (v : Value) (at : Place) (rest : List ℕ) → IsShallow types t v → HasNoDigest v → depth types t v ≤ levels → size types t v ≤ 65536
+        → IsParted rest → IsReadTo (literal_of types names levels t (tokens_from at (printed types names t v ++ rest))) v rest
+    read_printed zero t v at rest shape plain deep small parted = absurd (omega (arith, deep, positive t v))
+    read_printed (suc levels) UnitTy UnitV at rest shape plain deep small parted =
+        then_read _ (λ _ tokens. then_means (behind_mark RightParenthesis tokens) (λ _ tokens. Means UnitV tokens)) tt UnitV (codes ")" ++ rest) rest (left_read at (codes ")" ++ rest))
+        (λ after. then_read _ (λ _ tokens. Means UnitV tokens) tt UnitV rest rest (right_read after rest) (λ after. (after, refl)))
+    read_printed (suc levels) BoolTy (BoolV true) at rest shape plain deep small parted =
+        (behind at (codes "true"), ap bool_literal (token_read (codes "true") (KeywordToken TrueWord) rest at (token_at_head (KeywordToken TrueWord) rest tt (λ _. parted))))
+    read_printed (suc levels) BoolTy (BoolV false) at rest shape plain deep small parted =
+        (behind at (codes "false"), ap bool_literal (token_read (codes "false") (KeywordToken FalseWord) rest at (token_at_head (KeywordToken FalseWord) rest tt (λ _. parted))))
+    read_printed (suc levels) IntTy (IntV z) at rest shape plain deep small parted =
+        (behind at (signed_decimal z), ap int_literal (token_read (signed_decimal z) (IntToken z) rest at (int_token z rest shape parted)))
+    read_printed (suc levels) TextTy (TextV bytes) at rest shape plain deep small parted =
+        (behind at (quoted_text bytes), ap text_literal (token_read (quoted_text bytes) (TextToken bytes) rest at (text_at_head bytes rest shape (omega (arith, small)))))
+    read_printed (suc levels) (PairTy a b) (PairV x y) at rest shape plain deep small parted =
+        pair_read (literal_of types names levels a) (literal_of types names levels b) x y (printed types names a x) (printed types names b y) at rest
+        (λ at. read_printed levels a x at _ shape.0 plain.0 (omega (arith, deep)) (omega (arith, small)) refl)
+        (λ at. read_printed levels b y at _ shape.1 plain.1 (omega (arith, deep)) (omega (arith, small)) refl)
+    read_printed (suc levels) (NamedTy number) (ConV tag vs) at rest shape plain deep small parted =
+        con_read levels number tag (fields_at types number tag) vs at rest refl shape parted
+        (λ ts at e shape. read_row levels ts vs at rest shape plain
+        (let h : 1 + depths types (unwrap_or (Some ts) []) vs ≤ suc levels = subst (λ o. 1 + depths types (unwrap_or o []) vs ≤ suc levels) e deep in omega (arith, h))
+        (let h : 1 + sizes types (unwrap_or (Some ts) []) vs ≤ 65536 = subst (λ o. 1 + sizes types (unwrap_or o []) vs ≤ 65536) e small in omega (arith, h)))
+    read_printed (suc levels) (AuthTy t) (DigestV digest) at rest shape plain deep small parted = absurd plain
+    read_printed (suc levels) t v at rest shape plain deep small parted = elim shape [ ]
+
+    read_row : (levels : ℕ) (ts : List Ty) (vs : Values) (at : Place) (rest : List ℕ) → AreShallow types ts vs → HaveNoDigests vs → depths types ts vs ≤ levels → sizes types ts vs ≤ 65536
+        → IsReadTo (row_literal (literal_of types names levels) ts (tokens_from at (printed_fields types names ts vs ++ (codes ")" ++ rest)))) vs rest
+    read_row levels [] NoV at rest shape plain deep small = then_read _ (λ _ tokens. Means NoV tokens) tt NoV rest rest (right_read at rest) (λ after. (after, refl))
+    read_row levels (t ∷ []) (AndV v NoV) at rest shape plain deep small =
+        then_read _ _ v (AndV v NoV) (codes ")" ++ rest) rest (read_printed levels t v at (codes ")" ++ rest) shape.0 plain.0 (omega (arith, deep)) (omega (arith, small)) refl)
+        (λ after. then_read _ (λ vs tokens. Means (AndV v vs) tokens) NoV (AndV v NoV) rest rest
+        (then_read _ (λ _ tokens. Means NoV tokens) tt NoV rest rest (right_read after rest) (λ after. (after, refl))) (λ after. (after, refl)))
+    read_row levels (t ∷ next ∷ ts) (AndV v vs) at rest shape plain deep small =
+        let others = printed_fields types names (next ∷ ts) vs ++ (codes ")" ++ rest) in
+        subst (λ bytes. IsReadTo (row_literal (literal_of types names levels) (t ∷ next ∷ ts) (tokens_from at bytes)) (AndV v vs) rest)
+        (sym (three (printed types names t v) (codes ", ") (printed_fields types names (next ∷ ts) vs) (codes ")" ++ rest)))
+        (then_read _ _ v (AndV v vs) (codes ", " ++ others) rest (read_printed levels t v at (codes ", " ++ others) shape.0 plain.0 (omega (arith, deep)) (omega (arith, small)) refl)
+        (λ after. then_read _ (λ vs tokens. Means (AndV v vs) tokens) vs (AndV v vs) rest rest
+        (then_read _ (λ _ tokens. row_literal (literal_of types names levels) (next ∷ ts) tokens) tt vs others rest (comma_read after others)
+        (λ after. read_row levels (next ∷ ts) vs after rest shape.1 plain.1 (omega (arith, deep)) (omega (arith, small)))) (λ after. (after, refl))))
+    read_row levels (t ∷ []) (AndV v (AndV w ws)) at rest shape plain deep small = elim shape.1 [ ]
+    read_row levels (t ∷ ts) NoV at rest shape plain deep small = elim shape [ ]
+    read_row levels [] (AndV v vs) at rest shape plain deep small = elim shape [ ]
+
+pub printed_values_are_read_back : PrintedValuesAreReadBack
+printed_values_are_read_back P limit names named t v shape plain fits =
+    let text = printed P.types names t v in
+    let read = read_printed P.types names named depth_limit t v start [] shape plain fits.depth_fits (omega (arith, fits.size_fits, limit)) tt in
+    ap (λ bytes. whole_literal P.format.limit P.types t (literal_of P.types names depth_limit t (tokens_from start bytes))) (sym (append-nil text))
+    ∙ ap (whole_literal P.format.limit P.types t) read.1
+    ∙ is_within P.format.limit P.types t v fits.size_fits

@@ -1,0 +1,12 @@
+pub mod Literals
+pub mod LiteralAnswers
+pub mod LiteralSteps
+pub mod LiteralLaws
+pub mod PrintedValues
+pub mod PrintedPrograms
+pub mod LineViews
+pub mod WithoutPlaces
+pub mod PrintedLaws
+pub mod PrintedProgramLaws
+pub mod PrintedParts
+pub mod PrintedValueLaws

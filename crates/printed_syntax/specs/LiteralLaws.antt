@@ -1,0 +1,24 @@
+-- The law of literals: what a reader may hold their definition to.
+use Rattle.std.specs.Prelude.{◌≡◌, ℕ, ◌<◌, ◌^◌, List, []}
+use Rattle.core_terms.specs.Types.{Ty}
+use Rattle.core_terms.specs.Values.{Value, IsIdeal, IsShallow}
+use Rattle.core_terms.specs.Spelling.{spelling}
+use Rattle.core_terms.specs.Reading.{Good}
+use Rattle.core_terms.specs.Terms.{Program}
+use Rattle.core_terms.specs.Projection.{Fits, read_at}
+use Rattle.printed_syntax.specs.Literals.{ConstructorNames, IsValue, literal_in}
+
+-- v has a type, within the limits. Nothing in it is authenticated, so that it is both an ideal value and a shallow one.
+pub record IsLiteralValue (P : Program) (t : Ty) (v : Value) : Type 0 where
+  pub ideal : IsIdeal P.types t v
+  pub shallow : IsShallow P.types t v
+  pub fits : Fits P t v
+  -- it is read back from its spelling, and nothing is left over
+  pub read_back : (place : ℕ) × (read_at P t (spelling v) ≡ Good v [] place)
+
+-- The value of each literal of the whole language is such a value of its type, in a format whose limit fits the length field of a text.
+-- So no literal has a type at which something in its value would be authenticated.
+abbrev pub LiteralsAreReadBack : Type 0
+LiteralsAreReadBack =
+    (P : Program) → P.format.limit < 2 ^ 32 → (names : ConstructorNames) (t : Ty) (text : List ℕ) (v : Value) → literal_in P names t text ≡ IsValue v
+    → IsLiteralValue P t v

@@ -1,0 +1,54 @@
+-- The laws of printed programs: what a reader may hold their definition to.
+use Rattle.std.specs.Prelude.{◌≡◌, ℕ, ◌≤◌, Bool, true, List, [], ◌∷◌, length, None}
+use Rattle.std.specs.List.{list_all}
+use Rattle.std.specs.Char.{is_ascii_lowercase, is_ascii_uppercase}
+use Rattle.std.specs.Str.{IsUtf8}
+use Rattle.core_terms.specs.Values.{int_fits}
+use Rattle.lexemes.specs.Tokens.{Token, KeywordToken, MarkToken, LowerToken, UpperToken, IntToken, TextToken, is_name_byte, keyword_of, name_limit, text_limit}
+use Rattle.auth_syntax.specs.Syntax.{Program}
+use Rattle.auth_syntax.specs.Vocabulary.{Vocabulary}
+use Rattle.auth_syntax.specs.Grammar.{Written, declarations_tokens, nesting_limit, AreDeclarations, IsProgramText}
+use Rattle.auth_syntax.specs.Parsing.{parsed, Tree}
+use Rattle.printed_syntax.specs.PrintedPrograms.{program_text}
+use Rattle.printed_syntax.specs.WithoutPlaces.{without_places}
+
+-- bytes that may stand in a name, at most 64, of which the first is such a letter
+abbrev pub IsName : (ℕ → Bool) → List ℕ → Type 0
+IsName is_first [] = ⊥
+IsName is_first (b ∷ rest) = (is_first b ≡ true) × (list_all is_name_byte (b ∷ rest) ≡ true) × (length (b ∷ rest) ≤ name_limit)
+
+-- A token that a text can have: a lower name is no keyword, an int is from -2^63 to 2^63 - 1, and a text is UTF-8 of at most 65,532 bytes.
+abbrev pub IsToken : Token → Type 0
+IsToken (KeywordToken keyword) = Unit {0}
+IsToken (MarkToken mark) = Unit {0}
+IsToken (LowerToken name) = IsName is_ascii_lowercase name × (keyword_of name ≡ None)
+IsToken (UpperToken name) = IsName is_ascii_uppercase name
+IsToken (IntToken z) = int_fits z ≡ true
+IsToken (TextToken bytes) = IsUtf8 bytes × (length bytes ≤ text_limit)
+
+abbrev pub AreTokens : List Written → Type 0
+AreTokens [] = Unit {0}
+AreTokens (written ∷ rest) = IsToken written.token × AreTokens rest
+
+-- A program that a text can have: its names, ints and texts are those of tokens, and it is well-formed.
+pub record CanBeWritten (words : Vocabulary) (program : Program) : Type 0 where
+  pub tokens : AreTokens (declarations_tokens program.declarations)
+  pub well_formed : AreDeclarations words nesting_limit program.declarations
+
+-- A text of a program that is equal to this one but for places, and that is printed alike.
+pub record IsReadBack (words : Vocabulary) (text : List ℕ) (program : Program) : Type 0 where
+  pub again : Program
+  pub is_written : IsProgramText words text again
+  pub is_parsed : parsed words text ≡ Tree again
+  pub is_same : without_places again ≡ without_places program
+  pub is_printed : program_text again ≡ program_text program
+
+-- The printed text of such a program is read back.
+abbrev pub PrintedIsReadBack : Type 0
+PrintedIsReadBack = (words : Vocabulary) (program : Program) → CanBeWritten words program → IsReadBack words (program_text program) program
+
+-- What a text is parsed to is such a program, so that it can be printed and is read back.
+abbrev pub ParsedIsReadBack : Type 0
+ParsedIsReadBack =
+    (words : Vocabulary) (text : List ℕ) (program : Program) → parsed words text ≡ Tree program
+    → CanBeWritten words program × IsReadBack words (program_text program) program

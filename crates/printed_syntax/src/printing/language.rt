@@ -1,0 +1,156 @@
+// Values of the whole language as they are printed.
+
+ghost use Rattle.std.specs.Prelude.{◌≡◌, ◌<◌, ◌≤◌, ◌^◌, [], length, option_map, slice_get, ◌++◌, IfOk, OnOk};
+ghost use Rattle.core_terms.specs.LanguagePrograms.{constructor_names, meaning, types_of};
+ghost use Rattle.core_terms.specs.LanguageTrees.{types_at};
+ghost use Rattle.core_terms.specs.Spelling.{spelling};
+ghost use Rattle.core_terms.specs.TypeTables.{type_at};
+ghost use Rattle.core_terms.specs.Types.{NamedTy, PairTy, fields_at};
+ghost use Rattle.core_terms.specs.Values.{IsShallow, Value};
+ghost use Rattle.printed_syntax.specs.PrintedParts.{ArePrinted, IsPrinted, comma_before, text_in};
+ghost use Rattle.printed_syntax.specs.PrintedValueLaws.{PrintedValuesAreReadBack};
+
+use crate::printing::leaves::{
+    push_spelled_bool, push_spelled_digest, push_spelled_int, push_spelled_text,
+};
+use core_terms::TyId;
+use core_terms::language::{Constructor, NamedId, Program, TyForm};
+use std::alloc::{AllocError, Global};
+
+/// What stands between two values: a comma and a blank.
+const BETWEEN: &[u8] = b", ";
+
+/// The text of the value of a type of the program that these bytes, fewer than 2^32, spell: as a literal, an authenticated value as `#`
+/// and 64 hexadecimal digits. Of bytes that spell no value of the type nothing is said. The calls nest as deep as the value.
+///
+/// # Errors
+///
+/// `AllocError` where there is no memory for the text.
+pub fn print_value(
+    alloc: Global,
+    program: &Program,
+    ty: TyId,
+    bytes: &[u8],
+) -> Result<Vec<u8>, AllocError>
+    ensures { IfOk result (λ text. (v : Value) → IsShallow (meaning program.now).types (type_at (types_of program.now) ty) v → length bytes.now < 2 ^ 32 → bytes.now ≡ spelling v
+        → text.items ≡ text_in program.now (type_at (types_of program.now) ty) v) }
+{
+    let mut text = Vec::new(alloc);
+    push_value(&mut text, program, ty, bytes)?;
+    Ok(text)
+}
+
+/// Adds the text of the value of a type that stands spelled at the front of bytes, and gives the bytes behind it.
+#[cycle(values)]
+fn push_value<'a>(
+    text: &mut Vec<u8>,
+    program: &Program,
+    ty: TyId,
+    bytes: &'a [u8],
+) -> Result<&'a [u8], AllocError>
+    ensures printed { IfOk result (λ left. IsPrinted program.now (type_at (types_of program.now) ty) bytes.now text.old.items text.new.items left.now) }
+    ensures left { IfOk result (λ left. length left.now ≤ length bytes.now) }
+{
+    match program.form(ty) {
+        TyForm::UnitForm => {
+            text.extend_from_slice(b"()")?;
+            Ok(bytes)
+        }
+        TyForm::BoolForm => push_spelled_bool(text, bytes),
+        TyForm::IntForm => push_spelled_int(text, bytes),
+        TyForm::TextForm => push_spelled_text(text, bytes),
+        TyForm::AuthForm(_) => push_spelled_digest(text, bytes),
+        TyForm::PairForm(first, second) => push_pair(text, program, first, second, bytes),
+        TyForm::NamedForm(named) => push_named(text, program, named, bytes),
+    }
+}
+
+/// Adds the text of a pair of values of these types: in parentheses, with a comma between them.
+#[cycle(values)]
+fn push_pair<'a>(
+    text: &mut Vec<u8>,
+    program: &Program,
+    first: TyId,
+    second: TyId,
+    bytes: &'a [u8],
+) -> Result<&'a [u8], AllocError>
+    ensures printed { IfOk result (λ left. IsPrinted program.now (PairTy (type_at (types_of program.now) first) (type_at (types_of program.now) second)) bytes.now text.old.items text.new.items left.now) }
+    ensures left { IfOk result (λ left. length left.now ≤ length bytes.now) }
+{
+    text.push(b'(')?;
+    let behind = push_value(text, program, first, bytes)?;
+    text.extend_from_slice(BETWEEN)?;
+    let left = push_value(text, program, second, behind)?;
+    text.push(b')')?;
+    Ok(left)
+}
+
+/// Adds the text of a value of a named type: its constructor, and the fields in parentheses, where it has any.
+#[cycle(values)]
+fn push_named<'a>(
+    text: &mut Vec<u8>,
+    program: &Program,
+    named: NamedId,
+    bytes: &'a [u8],
+) -> Result<&'a [u8], AllocError>
+    ensures printed { IfOk result (λ left. IsPrinted program.now (NamedTy named.0) bytes.now text.old.items text.new.items left.now) }
+    ensures left { IfOk result (λ left. length left.now ≤ length bytes.now) }
+{
+    let Some((tag, behind)) = bytes.split_first() else {
+        return Ok(bytes);
+    };
+    let Some(constructor) = constructor_at(program, named, *tag) else {
+        return Ok(behind);
+    };
+    text.extend_from_slice(constructor.name.as_bytes())?;
+    if constructor.fields.is_empty() {
+        return Ok(behind);
+    }
+    text.push(b'(')?;
+    let left = push_fields(text, program, &constructor.fields, behind)?;
+    text.push(b')')?;
+    Ok(left)
+}
+
+/// The constructor of a named type with a tag.
+fn constructor_at(program: &Program, named: NamedId, tag: u8) -> Option<&Constructor>
+    ensures name { option_map (λ constructor. constructor.now.name) result ≡ slice_get (constructor_names program.now.named.items named.0) tag }
+    ensures fields { option_map (λ constructor. types_at (types_of program.now) constructor.now.fields.items) result ≡ fields_at (meaning program.now).types named.0 tag }
+{
+    let declared = program.named_types().get(named.0)?;
+    declared.constructors.get(usize::from(tag))
+}
+
+/// Adds the texts of values of these types in a row, with commas between them.
+#[cycle(values)]
+fn push_fields<'a>(
+    text: &mut Vec<u8>,
+    program: &Program,
+    fields: &[TyId],
+    bytes: &'a [u8],
+) -> Result<&'a [u8], AllocError>
+    ensures printed { IfOk result (λ left. ArePrinted program.now (types_at (types_of program.now) fields.now) bytes.now text.old.items text.new.items left.now) }
+    ensures left { IfOk result (λ left. length left.now ≤ length bytes.now) }
+{
+    let mut left = bytes;
+    for (index, field) in fields.iter().enumerate() {
+        push_comma(text, index)?;
+        left = push_value(text, program, *field, left)?;
+    }
+    Ok(left)
+}
+
+/// Adds what stands before a field with a number: a comma and a blank, where it isn't the first.
+fn push_comma(text: &mut Vec<u8>, index: usize) -> Result<(), AllocError>
+    ensures { OnOk result (text.new.items ≡ text.old.items ++ comma_before index) }
+{
+    if index > 0 {
+        text.extend_from_slice(BETWEEN)?;
+    }
+    Ok(())
+}
+
+/// The law of printed values: one in which nothing is authenticated is read back from its text.
+pub fn reading_back()
+    ensures { PrintedValuesAreReadBack }
+{}

@@ -1,0 +1,5 @@
+-- reading: the fields of a body, and the bytes that come
+mod Bodies
+mod Coming
+-- writing
+mod Sending

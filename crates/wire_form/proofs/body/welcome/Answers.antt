@@ -1,0 +1,17 @@
+use Rattle.std.proofs.Common.{◌≡◌, ◌∙◌, ap, refl}
+use Rattle.session_meaning.specs.Messages as meant
+use Rattle.wire_form.specs.MessageViews.{reply_meant}
+use Rattle.wire_form.proofs.Bodies.{handed_on, of_field, welcome_end}
+use Rattle.wire_form.proofs.body.welcome.Goals as goal
+
+pub returns-in_err-session : goal.returns-in_err-session
+returns-in_err-session c =
+    handed_on reply_meant _ c.in_err-session.field-0.0 c.from_residual.result c.from_residual.ensures.1 (of_field (meant.session_field c.args.body.now) _ _ (welcome_end) (refl) c.in_err-session.ensures.replies)
+
+pub returns-in_err-end : goal.returns-in_err-end
+returns-in_err-end c =
+    handed_on reply_meant _ c.in_err-end.field-0.0 c.from_residual-in_err-end.result c.from_residual-in_err-end.ensures.1 (of_field (meant.ends_at 3 c.in_ok-session.behind.now) _ _ (meant.Welcome c.in_ok-session.session) (c.in_ok-session.ensures.replies welcome_end) c.in_err-end.ensures.replies)
+
+pub returns : goal.returns
+returns c =
+    c.in_ok-session.ensures.replies welcome_end ∙ c.in_ok-end.ensures.replies (meant.Welcome c.in_ok-session.session)

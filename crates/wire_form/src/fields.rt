@@ -1,0 +1,94 @@
+// The fields of a message's body, each taken from the front of what is left.
+ghost use Rattle.std.specs.Prelude.{◌≡◌, nat_eq, if◌then◌else◌};
+ghost use Rattle.session_meaning.specs.Messages as meant;
+ghost use Rattle.session_meaning.specs.Messages.{Request, Reply};
+ghost use Rattle.wire_form.specs.TakenFields.{Ends, Takes, TakesNothing};
+
+use crate::body::BodyFault;
+use byteorder::{BigEndian, ByteOrder};
+use core_terms::Digest;
+
+/// A number of two bytes, and the bytes behind it; the fault stands at the offset.
+pub fn number_of_two(body: &[u8], offset: u32) -> Result<(u16, &[u8]), BodyFault>
+    ensures requests { Takes {A = Request} (λ taken. taken.0) (λ taken. taken.1.now) (meant.field 2 meant.in_two offset body.now) result }
+    ensures replies { Takes {A = Reply} (λ taken. taken.0) (λ taken. taken.1.now) (meant.field 2 meant.in_two offset body.now) result }
+{
+    match body.split_at_checked(2) {
+        Some((number, behind)) => Ok((BigEndian::read_u16(number), behind)),
+        None => Err(BodyFault::At(offset)),
+    }
+}
+
+/// A number of eight bytes, and the bytes behind it.
+pub fn number_of_eight(body: &[u8], offset: u32) -> Result<(u64, &[u8]), BodyFault>
+    ensures { Takes {A = Request} (λ taken. taken.0) (λ taken. taken.1.now) (meant.field 8 meant.in_eight offset body.now) result }
+{
+    match body.split_at_checked(8) {
+        Some((number, behind)) => Ok((BigEndian::read_u64(number), behind)),
+        None => Err(BodyFault::At(offset)),
+    }
+}
+
+/// The number of rounds, and the bytes behind it.
+pub fn rounds_field(body: &[u8]) -> Result<(u32, &[u8]), BodyFault>
+    ensures { Takes {A = Request} (λ taken. taken.0) (λ taken. taken.1.now) (meant.field 4 meant.in_four 3 body.now) result }
+{
+    match body.split_at_checked(4) {
+        Some((number, behind)) => Ok((BigEndian::read_u32(number), behind)),
+        None => Err(BodyFault::At(3)),
+    }
+}
+
+/// The cause of a refusal, and the bytes behind it.
+pub fn cause_field(body: &[u8]) -> Result<(u8, &[u8]), BodyFault>
+    ensures { Takes {A = Reply} (λ taken. taken.0) (λ taken. taken.1.now) (meant.field 1 meant.in_one 3 body.now) result }
+{
+    match body.split_first() {
+        Some((cause, behind)) => Ok((*cause, behind)),
+        None => Err(BodyFault::At(3)),
+    }
+}
+
+/// The number of a session, which isn't 0, and the bytes behind it.
+pub fn session_field(body: &[u8]) -> Result<(u16, &[u8]), BodyFault>
+    ensures requests { Takes {A = Request} (λ taken. taken.0) (λ taken. taken.1.now) (meant.session_field body.now) result }
+    ensures replies { Takes {A = Reply} (λ taken. taken.0) (λ taken. taken.1.now) (meant.session_field body.now) result }
+{
+    let (session, behind) = number_of_two(body, 1)?;
+    if session == 0 {
+        return Err(BodyFault::At(1));
+    }
+    Ok((session, behind))
+}
+
+/// The session of a message that is for none, and so 0; the bytes behind it.
+pub fn zero_field(body: &[u8]) -> Result<&[u8], BodyFault>
+    ensures { TakesNothing {A = Request} (λ behind. behind.now) (λ go. meant.field 2 meant.in_two 1 body.now (λ session rest. if nat_eq session 0 then go rest else meant.FaultAt 1)) result }
+{
+    let (session, behind) = number_of_two(body, 1)?;
+    if session != 0 {
+        return Err(BodyFault::At(1));
+    }
+    Ok(behind)
+}
+
+/// The digest of a program's text, and the bytes behind it.
+pub fn digest_field(body: &[u8]) -> Result<(Digest, &[u8]), BodyFault>
+    ensures { Takes {A = Request} (λ taken. taken.0.0) (λ taken. taken.1.now) (meant.program_field body.now) result }
+{
+    match body.split_first_chunk::<32>() {
+        Some((digest, behind)) => Ok((Digest(*digest), behind)),
+        None => Err(BodyFault::At(3)),
+    }
+}
+
+/// No byte is left; the fault stands at the offset of the first one that is.
+pub fn end(body: &[u8], offset: u32) -> Result<(), BodyFault>
+    ensures requests { Ends {A = Request} (meant.ends_at offset body.now) result }
+    ensures replies { Ends {A = Reply} (meant.ends_at offset body.now) result }
+{
+    if body.is_empty() {
+        return Ok(());
+    }
+    Err(BodyFault::At(offset))
+}

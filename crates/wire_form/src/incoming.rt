@@ -1,0 +1,74 @@
+// The bytes of a message as they come: its length field, and its body.
+ghost use Rattle.std.specs.Prelude.{◌≡◌, ◌≤◌};
+ghost use Rattle.std.specs.Option.{ForSome};
+ghost use Rattle.std.specs.Io.{ReadsAtMost};
+ghost use Rattle.lam_outside.specs.Causes.{HasCause};
+ghost use Rattle.lam_outside.specs.Told.{Reads};
+ghost use Rattle.wire_form.specs.Incoming.{BodyCame, IsWithinLimit, LengthCame, ReadCause};
+
+use crate::ReadStop;
+use byteorder::{BigEndian, ByteOrder};
+use lam_outside::{Failed, Link, fill};
+use std::alloc::Global;
+
+/// The greatest number of bytes of a message behind its length field.
+pub const MOST_BYTES: u32 = 16_777_216;
+
+/// How many bytes are asked for at once.
+const CHUNK: usize = 4096;
+
+/// The length field of the next message.
+pub fn read_length<L: Link>(link: &mut L) -> Result<u32, ReadStop>
+    ensures came { ForSome (L.left link.old) (λ bytes. LengthCame bytes (L.left link.new) result) }
+    ensures sent { L.sent link.new ≡ L.sent link.old }
+    ensures beyond { L.beyond link.new ≡ L.beyond link.old }
+    ensures cause { ReadCause (L.faults link.old) (L.faults link.new) result }
+{
+    let mut field = [0; 4];
+    match fill(link, &mut field)? {
+        4 => within_limit(BigEndian::read_u32(&field)),
+        0 => Err(ReadStop::End),
+        _ => Err(ReadStop::Cut),
+    }
+}
+
+/// A length that a message may have.
+fn within_limit(len: u32) -> Result<u32, ReadStop>
+    ensures { IsWithinLimit len result }
+{
+    if len > MOST_BYTES {
+        return Err(ReadStop::TooLong(len));
+    }
+    Ok(len)
+}
+
+/// The body of so many bytes. It takes no more memory than comes.
+pub fn read_body<L: Link>(alloc: Global, link: &mut L, len: usize) -> Result<Vec<u8>, ReadStop>
+    ensures came { ForSome (L.left link.old) (λ bytes. BodyCame len bytes (L.left link.new) result) }
+    ensures sent { L.sent link.new ≡ L.sent link.old }
+    ensures beyond { L.beyond link.new ≡ L.beyond link.old }
+    ensures cause { ReadCause (L.faults link.old) (L.faults link.new) result }
+{
+    let mut body = Vec::new(alloc);
+    let mut chunk = [0; CHUNK];
+    while body.len() < len {
+        let most = CHUNK.min(len - body.len());
+        let count = read_some(link, &mut chunk[..most])?;
+        if count == 0 {
+            return Err(ReadStop::Cut);
+        }
+        body.extend_from_slice(&chunk[..count])?;
+    }
+    Ok(body)
+}
+
+/// One read, which sends nothing.
+fn read_some<L: Link>(link: &mut L, into: &mut [u8]) -> Result<usize, Failed>
+    ensures bound { ReadsAtMost result into.new }
+    ensures bytes { Reads (L.given link.old) (L.left link.old) (L.given link.new) (L.left link.new) into.new result }
+    ensures sent { L.sent link.new ≡ L.sent link.old }
+    ensures beyond { L.beyond link.new ≡ L.beyond link.old }
+    ensures cause { HasCause (L.faults link.old) (L.faults link.new) result }
+{
+    link.read(into)
+}

@@ -1,0 +1,162 @@
+// Messages that are written to a link.
+ghost use Rattle.std.specs.Prelude.{◌≡◌, ◌≤◌, ◌+◌, ◌++◌, ◌∷◌, [], length, IfOk, OnOk};
+ghost use Rattle.std.specs.Int.{w16, w32, to_be_bytes};
+ghost use Rattle.session_meaning.specs.Messages as meant;
+ghost use Rattle.wire_form.specs.MessageViews.{reply_meant, request_meant};
+ghost use Rattle.wire_form.specs.WrittenMessages.{Sends, WriteCause, reply_fields, reply_tail, request_fields, request_tail};
+
+use crate::{Reply, Request, WriteStop};
+use lam_outside::{Link, send_all};
+use std::alloc::{AllocError, Global};
+
+/// Writes a request.
+///
+/// `LinkFault` where the link failed, and its count of faults rose; `NoMemory` where there was no memory for the message's
+/// fields. A front of its bytes was sent then, at `NoMemory` none.
+pub fn write_request<L: Link>(
+    alloc: Global,
+    link: &mut L,
+    message: &Request,
+) -> Result<(), WriteStop>
+    requires { meant.IsRequest (request_meant message.now) }
+    ensures sends { Sends (meant.request_bytes (request_meant message.now)) (L.sent link.old) (L.sent link.new) result }
+    ensures given { L.given link.new ≡ L.given link.old }
+    ensures left { L.left link.new ≡ L.left link.old }
+    ensures beyond { L.beyond link.new ≡ L.beyond link.old }
+    ensures cause { WriteCause (L.faults link.old) (L.faults link.new) result }
+{
+    let fields = request_head(alloc, message)?;
+    write_message(alloc, link, &fields, tail_of_request(message))
+}
+
+/// Writes a reply. The answers are those of `write_request`.
+pub fn write_reply<L: Link>(alloc: Global, link: &mut L, message: &Reply) -> Result<(), WriteStop>
+    requires { meant.IsReply (reply_meant message.now) }
+    ensures sends { Sends (meant.reply_bytes (reply_meant message.now)) (L.sent link.old) (L.sent link.new) result }
+    ensures given { L.given link.new ≡ L.given link.old }
+    ensures left { L.left link.new ≡ L.left link.old }
+    ensures beyond { L.beyond link.new ≡ L.beyond link.old }
+    ensures cause { WriteCause (L.faults link.old) (L.faults link.new) result }
+{
+    let fields = reply_head(alloc, message)?;
+    write_message(alloc, link, &fields, tail_of_reply(message))
+}
+
+/// Writes the length of a body, its first fields, and its last one.
+fn write_message<L: Link>(
+    alloc: Global,
+    link: &mut L,
+    fields: &[u8],
+    tail: &[u8],
+) -> Result<(), WriteStop>
+    requires { length fields.now + length tail.now ≤ meant.message_limit }
+    ensures sends { Sends (meant.message (fields.now ++ tail.now)) (L.sent link.old) (L.sent link.new) result }
+    ensures given { L.given link.new ≡ L.given link.old }
+    ensures left { L.left link.new ≡ L.left link.old }
+    ensures beyond { L.beyond link.new ≡ L.beyond link.old }
+    ensures cause { WriteCause (L.faults link.old) (L.faults link.new) result }
+{
+    let head = with_length(alloc, fields, tail.len())?;
+    send_all(link, &head)?;
+    Ok(send_all(link, tail)?)
+}
+
+/// The fields behind the length of a body that ends with so many bytes more.
+fn with_length(alloc: Global, fields: &[u8], more: usize) -> Result<Vec<u8>, AllocError>
+    requires { length fields.now + more ≤ meant.message_limit }
+    ensures { IfOk result (λ head. head.items ≡ to_be_bytes w32 (length fields.now + more) ++ fields.now) }
+{
+    let mut head = Vec::new(alloc);
+    head.extend_from_slice(&((fields.len() + more) as u32).to_be_bytes())?;
+    head.extend_from_slice(fields)?;
+    Ok(head)
+}
+
+/// The kind, the session and the other fields of a request, but the last one that has no fixed length.
+fn request_head(alloc: Global, message: &Request) -> Result<Vec<u8>, AllocError>
+    ensures { IfOk result (λ head. head.items ≡ request_fields (request_meant message.now)) }
+{
+    let mut head = Vec::new(alloc);
+    match message {
+        Request::Hello {
+            session,
+            program,
+            kept,
+            ..
+        } => {
+            put_start(&mut head, 1, *session)?;
+            head.extend_from_slice(&program.0)?;
+            head.extend_from_slice(&kept.to_be_bytes())?;
+        }
+        Request::Call {
+            session,
+            role,
+            fuel,
+            ..
+        } => {
+            put_start(&mut head, 2, *session)?;
+            head.extend_from_slice(&role.to_be_bytes())?;
+            head.extend_from_slice(&fuel.to_be_bytes())?;
+        }
+        Request::Go { rounds } => {
+            put_start(&mut head, 3, 0)?;
+            head.extend_from_slice(&rounds.to_be_bytes())?;
+        }
+        Request::Bye { session } => put_start(&mut head, 4, *session)?,
+    }
+    Ok(head)
+}
+
+/// The kind, the session and the cause of a reply.
+fn reply_head(alloc: Global, message: &Reply) -> Result<Vec<u8>, AllocError>
+    ensures { IfOk result (λ head. head.items ≡ reply_fields (reply_meant message.now)) }
+{
+    let mut head = Vec::new(alloc);
+    match message {
+        Reply::Welcome { session } => put_start(&mut head, 0x81, *session)?,
+        Reply::Proof { session, .. } => put_start(&mut head, 0x82, *session)?,
+        Reply::Stale { session, .. } => put_start(&mut head, 0x83, *session)?,
+        Reply::Refused { session, cause } => put_cause(&mut head, 0x84, *session, *cause)?,
+        Reply::Closed { session, cause } => put_cause(&mut head, 0x85, *session, *cause)?,
+    }
+    Ok(head)
+}
+
+/// The last field of a request, where it has no fixed length.
+fn tail_of_request(message: &Request) -> &[u8]
+    ensures { result.now ≡ request_tail (request_meant message.now) }
+{
+    match message {
+        Request::Hello { state, .. } => state.as_bytes(),
+        Request::Call { argument, .. } => argument.as_bytes(),
+        Request::Go { .. } | Request::Bye { .. } => &[],
+    }
+}
+
+/// The last field of a reply, where it has no fixed length.
+fn tail_of_reply(message: &Reply) -> &[u8]
+    ensures { result.now ≡ reply_tail (reply_meant message.now) }
+{
+    match message {
+        Reply::Proof { frames, .. } => frames.as_bytes(),
+        Reply::Stale { state, .. } => state.as_bytes(),
+        Reply::Welcome { .. } | Reply::Refused { .. } | Reply::Closed { .. } => &[],
+    }
+}
+
+/// Puts the kind of a message and its session.
+fn put_start(head: &mut Vec<u8>, kind: u8, session: u16) -> Result<(), AllocError>
+    ensures { OnOk result (head.new.items ≡ head.old.items ++ kind ∷ to_be_bytes w16 session) }
+{
+    head.push(kind)?;
+    head.extend_from_slice(&session.to_be_bytes())
+}
+
+/// Puts the kind of a message, its session and its cause.
+fn put_cause(head: &mut Vec<u8>, kind: u8, session: u16, cause: u8) -> Result<(), AllocError>
+    ensures { OnOk result (head.new.items ≡ head.old.items ++ kind ∷ (to_be_bytes w16 session ++ cause ∷ [])) }
+{
+    put_start(head, kind, session)?;
+    head.push(cause)?;
+    Ok(())
+}
