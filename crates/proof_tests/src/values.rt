@@ -113,14 +113,20 @@ const DIGESTS: [(&str, &str, &str); 3] = [
     ),
 ];
 
-/// What is told of a query that gives this of its argument `x` and has this type, at a literal of its type.
-fn is_given(
-    alloc: Global,
-    [ty, given, of_type]: [&str; 3],
-    literal: &str,
-    line: &str,
-) -> Result<bool, AllocError> {
-    let text = format!(in alloc; "state unit; query q(s: unit, x: {ty}): {of_type} = {given};")?;
+/// Whether this line is told of a query that gives its argument, at a literal of a type.
+fn is_given(alloc: Global, ty: &str, literal: &str, line: &str) -> Result<bool, AllocError> {
+    let text = format!(in alloc; "state unit; query q(s: unit, x: {ty}): {ty} = x;")?;
+    is_told(alloc, &text, literal, line)
+}
+
+/// Whether it is told of a query that authenticates its argument.
+fn is_digested(alloc: Global, ty: &str, literal: &str, line: &str) -> Result<bool, AllocError> {
+    let text = format!(in alloc; "state unit; query q(s: unit, x: {ty}): auth {ty} = auth(x);")?;
+    is_told(alloc, &text, literal, line)
+}
+
+/// Whether it is told of the query of a program.
+fn is_told(alloc: Global, text: &str, literal: &str, line: &str) -> Result<bool, AllocError> {
     let call = Call {
         role: "q",
         argument: literal,
@@ -132,7 +138,7 @@ fn is_given(
 #[test]
 fn arguments_are_printed(rt: HostRuntime) -> Result<(), Fail> {
     for (ty, literal, line) in &LITERALS {
-        if !is_given(rt.alloc(), [ty, "x", ty], literal, line)? {
+        if !is_given(rt.alloc(), ty, literal, line)? {
             return Err(Fail::new(format_args!("{ty} {literal}")));
         }
     }
@@ -141,10 +147,8 @@ fn arguments_are_printed(rt: HostRuntime) -> Result<(), Fail> {
 
 #[test]
 fn values_are_digested_by_their_spelling(rt: HostRuntime) -> Result<(), Fail> {
-    let alloc = rt.alloc();
     for (ty, literal, line) in &DIGESTS {
-        let authenticated = format!(in alloc; "auth {ty}")?;
-        if !is_given(alloc, [ty, "auth(x)", &authenticated], literal, line)? {
+        if !is_digested(rt.alloc(), ty, literal, line)? {
             return Err(Fail::new(format_args!("{ty} {literal}")));
         }
     }
