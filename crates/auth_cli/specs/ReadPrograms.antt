@@ -6,8 +6,7 @@ use Rattle.core_terms.specs.Terms as tree
 use Rattle.core_terms.specs.declared.language.program.Program.{Program as LanguageProgram}
 use Rattle.core_terms.specs.declared.program.Program.{Program}
 use Rattle.lexemes.specs.Readings.{SyntaxFault}
-use Rattle.core_terms.specs.declared.fault.Fault.TheVariants as syntax_fault
-use Rattle.core_terms.specs.declared.fault.Fault.TheVariants as type_fault
+use Rattle.core_terms.specs.declared.fault.Fault.TheVariants as fault
 use Rattle.auth_types.specs.Outcomes.{TypeFault}
 use Rattle.printed_lines.specs.declared.refusal.ProgramKind.TheVariants.{Syntax, Typing}
 use Rattle.auth_cli.specs.FueledQueries.{DigestedProgram, NamedProgram}
@@ -23,13 +22,13 @@ ReadsProgram means found (Err NoMemory) = ⊤
 
 -- why a text is no program, where it has no tree
 abbrev pub of_syntax_fault : SyntaxFault → ProgramFault
-of_syntax_fault (syntax_fault.At kind at) = At (Syntax kind) at.line at.column
-of_syntax_fault syntax_fault.NoMemory = NoMemory
+of_syntax_fault (fault.At kind at) = At (Syntax kind) at.line at.column
+of_syntax_fault fault.NoMemory = NoMemory
 
 -- why a text is no program, where its tree gives none
 abbrev pub of_type_fault : TypeFault → ProgramFault
-of_type_fault (type_fault.At kind at) = At (Typing kind) at.line at.column
-of_type_fault type_fault.NoMemory = NoMemory
+of_type_fault (fault.At kind at) = At (Typing kind) at.line at.column
+of_type_fault fault.NoMemory = NoMemory
 
 -- a program with the digest that it holds
 abbrev pub digested : Program → DigestedProgram
