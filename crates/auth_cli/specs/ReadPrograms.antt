@@ -39,4 +39,4 @@ language_digested p = record { program = language.meaning p; digest = p.text_dig
 
 -- the same with the names of its constructors
 abbrev pub language_named : LanguageProgram → NamedProgram
-language_named p = record { digested = language_digested p; names = language.constructor_names p.named.items }
+language_named p = record { digested = language_digested p; names = language.constructor_names p.types.named.items }

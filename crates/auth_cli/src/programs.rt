@@ -79,7 +79,7 @@ pub fn read_language_program(alloc: Global, text: &[u8]) -> Result<language::Pro
     requires { length text.now ≤ 262144 }
     ensures answer { ReadsProgram language.meaning (language_program_of_text text.now) result }
     ensures digest { IfOk result (λ p. p.text_digest.0 ≡ sha256 text.now) }
-    ensures names { IfOk result (λ p. language.constructor_names p.named.items ≡ constructor_names_of_text text.now) }
+    ensures names { IfOk result (λ p. language.constructor_names p.types.named.items ≡ constructor_names_of_text text.now) }
 {
     let ast = parse(alloc, text)?;
     Ok(check(alloc, ast, Sha::of(text))?)

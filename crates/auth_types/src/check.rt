@@ -33,8 +33,8 @@ use std::alloc::Global;
 pub fn check(alloc: Global, ast: Ast, digest: Digest) -> Result<Program, TypeFault>
     ensures answer { Checks (checked (written.program_of ast)) result }
     ensures digest { IfOk result (λ p. p.text_digest ≡ digest) }
-    ensures types { IfOk result (λ p. type_names p.named.items ≡ names_of (written.program_of ast)) }
-    ensures constructors { IfOk result (λ p. constructors_meant p.named.items ≡ constructors_in (written.declarations_of ast.declarations)) }
+    ensures types { IfOk result (λ p. type_names p.types.named.items ≡ names_of (written.program_of ast)) }
+    ensures constructors { IfOk result (λ p. constructors_meant p.types.named.items ≡ constructors_in (written.declarations_of ast.declarations)) }
 {
     all_passes(alloc, &ast, digest)
 }
@@ -51,8 +51,8 @@ struct Shaped<'a> {
 fn all_passes(alloc: Global, ast: &Ast, digest: Digest) -> Result<Program, TypeFault>
     ensures answer { Finds meaning (specified.all_passes (written.program_of ast.now)) result }
     ensures digest { IfOk result (λ p. p.text_digest ≡ digest) }
-    ensures types { IfOk result (λ p. type_names p.named.items ≡ names_of (written.program_of ast.now)) }
-    ensures constructors { IfOk result (λ p. constructors_meant p.named.items ≡ constructors_in (written.declarations_of ast.now.declarations)) }
+    ensures types { IfOk result (λ p. type_names p.types.named.items ≡ names_of (written.program_of ast.now)) }
+    ensures constructors { IfOk result (λ p. constructors_meant p.types.named.items ≡ constructors_in (written.declarations_of ast.now.declarations)) }
 {
     let declared = known_names(alloc, ast)?;
     let Shaped {

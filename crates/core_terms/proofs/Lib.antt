@@ -16,6 +16,7 @@ pub mod Shapes
 pub mod LawProofs
 -- what other crates know of every program
 pub mod CodePrograms
+pub mod TypesAlone
 -- language::types: the table of types
 pub mod LanguageTypeTables
 pub mod LanguageTypePushing
@@ -24,7 +25,7 @@ pub mod AuthLevels
 -- language::roles, and Program's role
 pub mod Roles
 pub mod LanguageRoles
--- Program's new and roles, then its constructor
+-- Program's new and roles, then the constructor of Types
 pub mod RoleShapes
 pub mod LanguageConstructors
 -- the fragment's table of types

@@ -3,7 +3,7 @@ use Rattle.std.specs.Prelude.{ℕ, List, [], map, slice_get, option_map, unwrap_
 use Rattle.core_terms.specs.Types.{Ty}
 use Rattle.core_terms.specs.Terms as tree
 use Rattle.core_terms.specs.LanguageTypes.{types_of_forms}
-use Rattle.core_terms.specs.LanguageTrees.{program_of}
+use Rattle.core_terms.specs.ProgramTypes.{program_with, types_by_number}
 use Rattle.core_terms.specs.declared.language.term.Constructor.{Constructor}
 use Rattle.core_terms.specs.declared.language.term.NamedType.{NamedType}
 use Rattle.core_terms.specs.declared.language.types.TyTable.{TyTable}
@@ -15,11 +15,11 @@ types_in table = types_of_forms table.forms.keys
 
 -- the types of a program, by number
 abbrev pub types_of : Program → List Ty
-types_of p = types_in p.types
+types_of p = types_by_number p.types
 
 -- the program of the definitions
 abbrev pub meaning : Program → tree.Program
-meaning p = program_of p.types.forms.keys p.named.items p.state p.functions.items
+meaning p = program_with p.types p.functions.items
 
 -- the names of the named types, by number
 abbrev pub type_names : List NamedType → List (List ℕ)

@@ -95,6 +95,10 @@ has_fields_below count declared = list_all (λ (constructor : Constructor). are_
 abbrev pub has_types_below : ℕ → Function → Bool
 has_types_below count f = are_below count f.parameters.items && nat_lt f.result.0 count
 
+-- the types of a program's state and fields are among so many
+abbrev pub are_types_within : ℕ → List NamedType → TyId → Bool
+are_types_within count named state = nat_lt state.0 count && list_all (has_fields_below count) named
+
 -- the types of a program's state, fields, parameters and results are in its table
 abbrev pub is_within : List TyForm → List NamedType → TyId → List Function → Bool
 is_within forms named state functions =

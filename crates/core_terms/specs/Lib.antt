@@ -14,6 +14,7 @@ pub mod Programs
 pub mod Laws
 pub mod LanguageTypes
 pub mod LanguageTrees
+pub mod ProgramTypes
 pub mod LanguagePrograms
 pub mod AuthMarks
 pub mod RoleViews

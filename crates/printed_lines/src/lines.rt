@@ -162,7 +162,7 @@ pub fn state_line(
 ) -> Result<Vec<u8>, AllocError>
     ensures { let P = language.meaning program.now in let t = type_at (language.types_of program.now) ty in
         IfOk result (λ line. (v : Value) → IsShallow P.types t v → length bytes.now < 2 ^ 32 → bytes.now ≡ spelling v
-        → line.items ≡ def.state_line P.types (language.constructor_names program.now.named.items) t v) }
+        → line.items ≡ def.state_line P.types (language.constructor_names program.now.types.named.items) t v) }
 {
     let value = language_text(alloc, program, ty, bytes)?;
     between(alloc, b"state ", &value)

@@ -42,7 +42,7 @@ spelled spell before (FaultAt kind offset) = FaultAt kind offset
 
 -- a literal of a type of a program of the code, on a level with so many levels from there on
 abbrev pub literal_on : Program → ℕ → Ty → Tokens → LiteralReading Value
-literal_on program = literal_of (meaning program).types (constructor_names program.named.items)
+literal_on program = literal_of (meaning program).types (constructor_names program.types.named.items)
 
 -- Ok gives the spelling of the value of the whole text, which may still be too long; a refusal gives the first fault
 abbrev pub ReadsWhole : tree.Program → ConstructorNames → Ty → List ℕ → Result (Vec ℕ Global) SyntaxFault → Type 0

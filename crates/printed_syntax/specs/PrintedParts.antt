@@ -9,11 +9,11 @@ use Rattle.printed_syntax.specs.PrintedValues.{printed, printed_fields}
 
 -- the text of a shallow value of a program of the whole language
 abbrev pub text_in : Program → Ty → Value → List ℕ
-text_in p = printed (meaning p).types (constructor_names p.named.items)
+text_in p = printed (meaning p).types (constructor_names p.types.named.items)
 
 -- the texts of shallow values in a row, with commas between them
 abbrev pub texts_in : Program → List Ty → Values → List ℕ
-texts_in p = printed_fields (meaning p).types (constructor_names p.named.items)
+texts_in p = printed_fields (meaning p).types (constructor_names p.types.named.items)
 
 -- where bytes begin with these spelled ones, their text stands behind the text before, and the bytes behind them are left
 abbrev pub IsTaken : (spelled printed bytes before text left : List ℕ) → Type 0

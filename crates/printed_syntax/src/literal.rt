@@ -40,7 +40,7 @@ pub fn parse_literal(
     ty: TyId,
     written: &str,
 ) -> Result<Spelling, LiteralFault>
-    ensures { ReadsLiteral (literal_in (meaning program.now) (constructor_names program.now.named.items) (type_at (types_of program.now) ty) written.now) result }
+    ensures { ReadsLiteral (literal_in (meaning program.now) (constructor_names program.now.types.named.items) (type_at (types_of program.now) ty) written.now) result }
 {
     match whole(alloc, program, ty, written.as_bytes()) {
         Ok(bytes) => within(bytes, program.spelling_limit()),
@@ -50,7 +50,7 @@ pub fn parse_literal(
 
 /// The spelling of the value of a text that is a literal as a whole.
 fn whole(alloc: Global, program: &Program, ty: TyId, written: &[u8]) -> Result<Vec<u8>, SyntaxFault>
-    ensures { ReadsWhole (meaning program.now) (constructor_names program.now.named.items) (type_at (types_of program.now) ty) written.now result }
+    ensures { ReadsWhole (meaning program.now) (constructor_names program.now.types.named.items) (type_at (types_of program.now) ty) written.now result }
 {
     let mut parser = Parser::new(alloc, written);
     let mut bytes = Vec::new(alloc);
@@ -117,7 +117,7 @@ fn constructor(
     levels: usize,
     bytes: &mut Vec<u8>,
 ) -> Result<(), SyntaxFault>
-    ensures { ReadsPart (λ _. bytes.new.items) (spelled spelling bytes.old.items (constructor_literal (meaning program.now).types (constructor_names program.now.named.items) (literal_on program.now levels) named.0 (remaining parser.old))) result (remaining parser.new) }
+    ensures { ReadsPart (λ _. bytes.new.items) (spelled spelling bytes.old.items (constructor_literal (meaning program.now).types (constructor_names program.now.types.named.items) (literal_on program.now levels) named.0 (remaining parser.old))) result (remaining parser.new) }
 {
     let PlacedToken { at, token } = parser.token()?;
     let Token::Upper(name) = token else {

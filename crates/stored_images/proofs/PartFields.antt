@@ -23,7 +23,7 @@ module _ (p : Program) where
 
   -- the named type with a number has the constructors that the program has
   constructors_are : (n : ℕ) → unwrap_or (slice_get (meaning p).types n) [] ≡ map field_types (constructors_in p (NamedTy n))
-  constructors_are n = ap (λ o. unwrap_or o []) (slice_get-map (λ (d : NamedType). map field_types d.constructors.items) p.named.items n) ∙ by (slice_get p.named.items n)
+  constructors_are n = ap (λ o. unwrap_or o []) (slice_get-map (λ (d : NamedType). map field_types d.constructors.items) p.types.named.items n) ∙ by (slice_get p.types.named.items n)
     where
       by : (o : Option NamedType)
           → unwrap_or (option_map (λ (d : NamedType). map field_types d.constructors.items) o) [] ≡ map field_types (unwrap_or (option_map (λ (d : NamedType). d.constructors.items) o) [])

@@ -118,11 +118,11 @@ module _ (p : Program) where
           subst (λ k. AreLevelMarks p k old) e (now.0, λ i m. from_level (last - level) (type_of p i) (now.1 i m), λ t part. now.2 t (not_later (last - level) t part))
 
   -- the level behind all named types has the marks of the program
-  pub are_part_marks : (marks : List Bool) → AreLevelMarks p (length p.named.items) marks → ArePartMarks p marks
+  pub are_part_marks : (marks : List Bool) → AreLevelMarks p (length p.types.named.items) marks → ArePartMarks p marks
   are_part_marks marks h = (at_last.0, tells, λ t part. let found = at_last.2 t part in (found.0, in_table found.0 found.1, found.2))
     where
       at_last : AreLevelMarks p (length (meaning p).types) marks
-      at_last = subst (λ k. AreLevelMarks p k marks) (sym (length-map p.named.items _)) h
+      at_last = subst (λ k. AreLevelMarks p k marks) (sym (length-map p.types.named.items _)) h
 
       in_table : (i : ℕ) → IsMarked marks i → i < length (types_of p)
       in_table i m = let within = marked_within marks i m in omega (arith, within, at_last.0)
@@ -136,7 +136,7 @@ module _ (p : Program) where
           by false false e f = e ∙ sym f
           by false true e f =
               let found = at_last.2 (type_of p i) f in
-              let one : found.0 ≡ i = p.types.one_number found.0 i (in_table found.0 found.1) within found.2 in
+              let one : found.0 ≡ i = p.types.table.one_number found.0 i (in_table found.0 found.1) within found.2 in
               let marked : slice_index_or marks i false ≡ true = subst (IsMarked marks) one found.1 in
               absurd (cc)
 

@@ -21,7 +21,7 @@ module _ (p : Program) where
   -- equal types have one number
   pub one_number : (i j : ℕ) (t : Ty) → slice_get (types_of p) i ≡ Some t → slice_get (types_of p) j ≡ Some t → i ≡ j
   one_number i j t at other =
-      p.types.one_number i j (slice_get_within (types_of p) i t at) (slice_get_within (types_of p) j t other)
+      p.types.table.one_number i j (slice_get_within (types_of p) i t at) (slice_get_within (types_of p) j t other)
       (get_or_from_slice_get (types_of p) i t UnitTy at ∙ sym (get_or_from_slice_get (types_of p) j t UnitTy other))
 
   -- types are the same where their numbers are

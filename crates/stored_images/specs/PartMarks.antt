@@ -68,7 +68,7 @@ IsOfField constructors count i =
 
 -- the constructors of a named type; other types have none
 abbrev pub constructors_in : Program → Ty → List Constructor
-constructors_in p (NamedTy number) = unwrap_or (option_map (λ (declared : NamedType). declared.constructors.items) (slice_get p.named.items number)) []
+constructors_in p (NamedTy number) = unwrap_or (option_map (λ (declared : NamedType). declared.constructors.items) (slice_get p.types.named.items number)) []
 constructors_in p t = []
 
 -- the type with this number is one of a field of a type that is marked, among the first so many

@@ -2,9 +2,9 @@
 ghost use Rattle.std.specs.Prelude.{◌≡◌, ◌<◌, true, length, map, Some, slice_get, option_map, bytes_eq, IfOk, IfSome, IsNone};
 ghost use Rattle.std.specs.List.{All, list_all, position};
 ghost use Rattle.std.proofs.Props.{props};
-ghost use Rattle.core_terms.specs.AuthMarks.{AreAuthMarks};
 ghost use Rattle.core_terms.specs.LanguageTrees.{function_of, has_fields_below, has_types_below, is_within, program_of, types_at};
-ghost use Rattle.core_terms.specs.LanguageTypes.{HasNoNumber, stands_behind, type_of_form, types_of_forms};
+ghost use Rattle.core_terms.specs.LanguageTypes.{HasNoNumber, stands_behind, type_of_form};
+ghost use Rattle.core_terms.specs.ProgramTypes.{program_with, types_by_number};
 ghost use Rattle.core_terms.specs.RoleViews.{has_role_below, role_of};
 ghost use Rattle.core_terms.specs.Roles.{HasRoleShape, has_auth, role_function, role_named, program_roles, roles_set};
 ghost use Rattle.core_terms.specs.Terms.{function_at, kinds_set};
@@ -12,42 +12,31 @@ ghost use Rattle.core_terms.specs.TypeTables.{type_at};
 ghost use Rattle.core_terms.specs.Types.{fields_at, has_numbers, has_tags, types_set};
 ghost use Rattle.core_terms.specs.Typing.{is_shaped, is_typed};
 
-use crate::language::marks::{auth_marks, is_marked};
 use crate::language::roles::{place_of, roles_of};
-use crate::language::{
-    Constructor, Function, NamedId, NamedType, Role, RoleId, Tag, TyForm, TyTable,
-};
+use crate::language::{Function, NamedId, NamedType, Role, RoleId, Tag, TyForm, TyTable, Types};
 use crate::program::FunctionId;
 use crate::{Digest, TyId};
 use std::alloc::{AllocError, Global};
 
-/// A program: its types, the type of its state and its functions. It is well-typed, its roles have their shapes, and the types of
-/// its state, fields, parameters and results are in its table. It has at most 256 named types, of at most 255 constructors each.
+/// A program: its types and its functions. It is well-typed, its roles have their shapes, and the types of its parameters and
+/// results are in its table.
 #[derive(Drop)]
 pub struct Program {
-    types: TyTable,
-    named: Vec<NamedType>,
-    state: TyId,
+    types: Types,
     functions: Vec<Function>,
     text_digest: Digest,
     roles: Vec<Role>,
-    auths: Vec<bool>,
-    ghost found: { map (role_of (types_of_forms types.forms.keys)) roles.items ≡ program_roles (program_of types.forms.keys named.items state functions.items) } by { Prim.hlevel (props, types_set, kinds_set, roles_set) },
-    ghost marked: { AreAuthMarks (types_of_forms types.forms.keys) named.items auths.items },
-    ghost typed: { is_typed (program_of types.forms.keys named.items state functions.items) ≡ true },
-    ghost shaped: { is_shaped (program_of types.forms.keys named.items state functions.items) ≡ true },
-    ghost within: { is_within types.forms.keys named.items state functions.items ≡ true },
-    ghost numbers: { has_numbers (program_of types.forms.keys named.items state functions.items).types ≡ true },
-    ghost tags: { has_tags (program_of types.forms.keys named.items state functions.items).types ≡ true },
-    ghost roles_within: { list_all (has_role_below (length (types_of_forms types.forms.keys))) roles.items ≡ true },
+    ghost found: { map (role_of (types_by_number types)) roles.items ≡ program_roles (program_with types functions.items) } by { Prim.hlevel (props, types_set, kinds_set, roles_set) },
+    ghost typed: { is_typed (program_with types functions.items) ≡ true },
+    ghost shaped: { is_shaped (program_with types functions.items) ≡ true },
+    ghost within: { list_all (has_types_below (length (types_by_number types))) functions.items ≡ true },
+    ghost roles_within: { list_all (has_role_below (length (types_by_number types))) roles.items ≡ true },
 }
 
 impl Program {
     ghost use Rattle.core_terms.specs.LanguagePrograms.{constructor_names, meaning, types_of};
 
-    /// A program of these parts, whose text has this digest. Its roles, and which types have an `auth`, are found here, once. For
-    /// the latter each pass over the table and the named types opens named types once more, and there are at most as many passes
-    /// as named types.
+    /// A program of these parts, whose text has this digest. Its roles, and which types have an `auth`, are found here, once.
     pub fn new(
         types: TyTable,
         named: Vec<NamedType>,
@@ -62,20 +51,24 @@ impl Program {
         requires numbers { has_numbers (program_of types.forms.keys named.items state functions.items).types ≡ true }
         requires tags { has_tags (program_of types.forms.keys named.items state functions.items).types ≡ true }
         ensures meaning { IfOk result (λ program. meaning program ≡ program_of types.forms.keys named.items state functions.items) }
-        ensures named { IfOk result (λ program. program.named.items ≡ named.items) }
+        ensures named { IfOk result (λ program. program.types.named.items ≡ named.items) }
         ensures digest { IfOk result (λ program. program.text_digest ≡ text_digest) }
     {
+        let types = Types::new(types, named, state, alloc)?;
         let roles = roles_of(&functions, alloc)?;
-        let auths = auth_marks(&types, &named, alloc)?;
         Ok(Program {
             types,
-            named,
-            state,
             functions,
             text_digest,
             roles,
-            auths,
         })
+    }
+
+    /// The types.
+    pub fn types(&self) -> &Types
+        ensures { result.now ≡ self.now.types }
+    {
+        &self.types
     }
 
     /// The SHA-256 digest of the program's text.
@@ -89,7 +82,7 @@ impl Program {
     pub fn type_count(&self) -> usize
         ensures { result ≡ length (types_of self.now) }
     {
-        self.types.len()
+        self.types.type_count()
     }
 
     /// The form of a type. Its parts stand before the type.
@@ -106,27 +99,25 @@ impl Program {
         ensures within { IfSome result (λ id. id.0 < length (types_of self.now)) }
         ensures none { IsNone result → HasNoNumber (types_of self.now) form }
     {
-        self.types.number_of(form)
+        self.types.type_of(form)
     }
 
     /// The named types, in the order of declarations.
     pub fn named_types(&self) -> &[NamedType]
-        ensures named { result.now ≡ self.now.named.items }
+        ensures named { result.now ≡ self.now.types.named.items }
         ensures within { list_all (has_fields_below (length (types_of self.now))) result.now ≡ true }
         ensures numbers { has_numbers (meaning self.now).types ≡ true }
         ensures tags { has_tags (meaning self.now).types ≡ true }
     {
-        &self.named
+        self.types.named_types()
     }
 
     /// The constructor of this name among those of a named type, with the types of its fields; none exactly where it has no such one.
     pub fn constructor(&self, named: NamedId, name: &[u8]) -> Option<(Tag, &[TyId])>
-        ensures tag { option_map (λ found. found.0.0) result ≡ position (λ other. bytes_eq other name.now) (constructor_names self.now.named.items named.0) }
+        ensures tag { option_map (λ found. found.0.0) result ≡ position (λ other. bytes_eq other name.now) (constructor_names self.now.types.named.items named.0) }
         ensures fields { IfSome result (λ found. fields_at (meaning self.now).types named.0 found.0.0 ≡ Some (types_at (types_of self.now) found.1.now)) }
     {
-        let declared = self.named.get(named.0)?;
-        let place = place_of_constructor(&declared.constructors, name)?;
-        Some((Tag(place as u8), &declared.constructors[place].fields))
+        self.types.constructor(named, name)
     }
 
     /// The type of the state.
@@ -134,14 +125,14 @@ impl Program {
         ensures state { type_at (types_of self.now) result ≡ (meaning self.now).state }
         ensures within { result.0 < length (types_of self.now) }
     {
-        self.state
+        self.types.state_type()
     }
 
     /// Whether an `auth` stands in the type, at any depth and through named types.
     pub fn has_auth(&self, ty: TyId) -> bool
         ensures { result ≡ has_auth (meaning self.now).types (type_at (types_of self.now) ty) }
     {
-        is_marked(&self.auths, ty)
+        self.types.has_auth(ty)
     }
 
     /// The functions, in the order of declarations.
@@ -184,16 +175,6 @@ impl Program {
     pub fn spelling_limit(&self) -> usize
         ensures { result ≡ (meaning self.now).format.limit }
     {
-        65_536
+        self.types.spelling_limit()
     }
-}
-
-/// The place of the first of the constructors that has this name.
-fn place_of_constructor(constructors: &[Constructor], name: &[u8]) -> Option<usize>
-    ensures place { result ≡ position (λ constructor. bytes_eq constructor.name name.now) constructors.now }
-    ensures within { IfSome result (λ place. place < length constructors.now) }
-{
-    constructors
-        .iter()
-        .position(|constructor| constructor.name.as_bytes() == name)
 }

@@ -114,7 +114,7 @@ fn push_named<'a>(
 
 /// The constructor of a named type with a tag.
 fn constructor_at(program: &Program, named: NamedId, tag: u8) -> Option<&Constructor>
-    ensures name { option_map (λ constructor. constructor.now.name) result ≡ slice_get (constructor_names program.now.named.items named.0) tag }
+    ensures name { option_map (λ constructor. constructor.now.name) result ≡ slice_get (constructor_names program.now.types.named.items named.0) tag }
     ensures fields { option_map (λ constructor. types_at (types_of program.now) constructor.now.fields.items) result ≡ fields_at (meaning program.now).types named.0 tag }
 {
     let declared = program.named_types().get(named.0)?;

@@ -64,7 +64,7 @@ pub constructor-returns-in_default-constructor : goal.constructor-returns-in_def
 constructor-returns-in_default-constructor t c =
     let program = c.args.program.now in
     let one = literal_on program c.args.levels in
-    let names = constructor_names program.named.items in
+    let names = constructor_names program.types.named.items in
     let head = c.in_ok-at.ensures ∙ ap (λ token. Next c.in_ok-at.field-0.at (token_view token) (remaining c.token.new.self)) c.in-Upper.is in
     ap (λ tokens. spelled spelling c.args.bytes.now.items (constructor_literal (meaning program).types names one c.args.named.0 tokens)) head
     ∙ no_constructor_spelled one (meaning program).types names c.args.named.0 c.args.bytes.now.items c.in-Upper.name.now c.in_ok-at.field-0.at (remaining c.token.new.self) c.in_default-constructor.ensures.tag
@@ -73,7 +73,7 @@ pub constructor-returns : goal.constructor-returns
 constructor-returns t c =
     let program = c.args.program.now in
     let one = literal_on program c.args.levels in
-    let names = constructor_names program.named.items in
+    let names = constructor_names program.types.named.items in
     let ts = types_at (types_of program) c.in-Some.types.now in
     let rest = remaining c.token.new.self in
     let head = c.in_ok-at.ensures ∙ ap (λ token. Next c.in_ok-at.field-0.at (token_view token) rest) c.in-Upper.is in

@@ -1,8 +1,8 @@
 use Rattle.std.proofs.Common.{◌≡◌, ℕ, ◌<◌, ◌∙◌, List, Some, length, slice_get, slice_index_or, sym, ap, arith}
 use Rattle.std.proofs.lemmas.Option.{slice_get-get_or}
-use Rattle.core_terms.specs.LanguagePrograms.{types_of}
+use Rattle.core_terms.specs.ProgramTypes.{types_by_number}
 use Rattle.core_terms.proofs.LanguageConstructors.{constructor_place, constructor_fields, tag_fits}
-use Rattle.core_terms.proofs.language.program.Program.constructor.Goals as goal
+use Rattle.core_terms.proofs.language.program_types.Types.constructor.Goals as goal
 
 -- an element that is there
 found : {A : Type 0} (xs : List A) (n : ℕ) (x : A) → n < length xs → x ≡ slice_index_or xs n x → slice_get xs n ≡ Some x
@@ -22,7 +22,7 @@ overflow_cast-result c =
     let there : slice_get c.args.self.now.named.items c.args.named.0 ≡ Some c.in_ok-declared.declared.now =
     found c.args.self.now.named.items c.args.named.0 c.in_ok-declared.declared.now lookup.3.0 lookup.1 in
     let within : c.in_ok-place.place < length c.in_ok-declared.declared.now.constructors.items = rw c.deref-2.ensures.value at c.in_ok-place.ensures.within in
-    omega (arith, within, tag_fits (types_of c.args.self.now) c.args.self.now.named.items c.args.named.0 c.in_ok-declared.declared.now there c.args.self.now.tags)
+    omega (arith, within, tag_fits (types_by_number c.args.self.now) c.args.self.now.named.items c.args.named.0 c.in_ok-declared.declared.now there c.args.self.now.tags)
 
 pub returns-clause-tag : goal.returns-clause-tag
 returns-clause-tag c =
@@ -41,4 +41,4 @@ returns-clause-fields c =
     let at : slice_get c.in_ok-declared.declared.now.constructors.items c.in_ok-place.place ≡ Some c.index.result.now =
     found c.in_ok-declared.declared.now.constructors.items c.in_ok-place.place c.index.result.now within c.index.ensures in
     rw c.deref-3.ensures.value
-    (constructor_fields (types_of c.args.self.now) c.args.self.now.named.items c.args.named.0 c.in_ok-place.place c.in_ok-declared.declared.now c.index.result.now there at)
+    (constructor_fields (types_by_number c.args.self.now) c.args.self.now.named.items c.args.named.0 c.in_ok-place.place c.in_ok-declared.declared.now c.index.result.now there at)
