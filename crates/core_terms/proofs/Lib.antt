@@ -26,6 +26,7 @@ pub mod AuthLevels
 pub mod Roles
 pub mod LanguageRoles
 -- Program's new and roles, then the constructor of Types
+pub mod Limited
 pub mod RoleShapes
 pub mod LanguageConstructors
 -- the fragment's table of types

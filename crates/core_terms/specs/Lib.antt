@@ -15,6 +15,7 @@ pub mod Laws
 pub mod LanguageTypes
 pub mod LanguageTrees
 pub mod ProgramTypes
+pub mod ProgramLimits
 pub mod LanguagePrograms
 pub mod AuthMarks
 pub mod RoleViews

@@ -4,6 +4,7 @@ ghost use Rattle.std.specs.List.{All, list_all, position};
 ghost use Rattle.std.proofs.Props.{props};
 ghost use Rattle.core_terms.specs.LanguageTrees.{function_of, has_fields_below, has_types_below, is_within, program_of, types_at};
 ghost use Rattle.core_terms.specs.LanguageTypes.{HasNoNumber, stands_behind, type_of_form};
+ghost use Rattle.core_terms.specs.ProgramLimits.{IsWithinLimits};
 ghost use Rattle.core_terms.specs.ProgramTypes.{program_with, types_by_number};
 ghost use Rattle.core_terms.specs.RoleViews.{has_role_below, role_of};
 ghost use Rattle.core_terms.specs.Roles.{HasRoleShape, has_auth, role_function, role_named, program_roles, roles_set};
@@ -18,8 +19,8 @@ use crate::program::FunctionId;
 use crate::{Digest, TyId};
 use std::alloc::{AllocError, Global};
 
-/// A program: its types and its functions. It is well-typed, its roles have their shapes, and the types of its parameters and
-/// results are in its table.
+/// A program: its types and its functions. It is well-typed and within the limits of a program, its roles have their shapes, and
+/// the types of its parameters and results are in its table.
 #[derive(Drop)]
 pub struct Program {
     types: Types,
@@ -29,6 +30,7 @@ pub struct Program {
     ghost found: { map (role_of (types_by_number types)) roles.items ≡ program_roles (program_with types functions.items) } by { Prim.hlevel (props, types_set, kinds_set, roles_set) },
     ghost typed: { is_typed (program_with types functions.items) ≡ true },
     ghost shaped: { is_shaped (program_with types functions.items) ≡ true },
+    ghost limits: { IsWithinLimits (program_with types functions.items) } by { Prim.hlevel props },
     ghost within: { list_all (has_types_below (length (types_by_number types))) functions.items ≡ true },
     ghost roles_within: { list_all (has_role_below (length (types_by_number types))) roles.items ≡ true },
 }
@@ -48,8 +50,7 @@ impl Program {
         requires typed { is_typed (program_of types.forms.keys named.items state functions.items) ≡ true }
         requires shaped { is_shaped (program_of types.forms.keys named.items state functions.items) ≡ true }
         requires within { is_within types.forms.keys named.items state functions.items ≡ true }
-        requires numbers { has_numbers (program_of types.forms.keys named.items state functions.items).types ≡ true }
-        requires tags { has_tags (program_of types.forms.keys named.items state functions.items).types ≡ true }
+        requires limits { IsWithinLimits (program_of types.forms.keys named.items state functions.items) }
         ensures meaning { IfOk result (λ program. meaning program ≡ program_of types.forms.keys named.items state functions.items) }
         ensures named { IfOk result (λ program. program.types.named.items ≡ named.items) }
         ensures digest { IfOk result (λ program. program.text_digest ≡ text_digest) }
@@ -135,9 +136,10 @@ impl Program {
         self.types.has_auth(ty)
     }
 
-    /// The functions, in the order of declarations.
+    /// The functions, in the order of declarations. There are at most 1,024, and at most 262,144 expressions in all of them.
     pub fn functions(&self) -> &[Function]
         ensures functions { map (function_of (types_of self.now)) result.now ≡ (meaning self.now).functions }
+        ensures limits { IsWithinLimits (meaning self.now) }
         ensures within { list_all (has_types_below (length (types_of self.now))) result.now ≡ true }
     {
         &self.functions

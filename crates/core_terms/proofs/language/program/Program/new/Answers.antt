@@ -1,8 +1,13 @@
 use Rattle.std.proofs.Common.{refl}
 use Rattle.core_terms.specs.LanguageTrees.{program_of}
 use Rattle.core_terms.specs.LanguageTypes.{types_of_forms}
+use Rattle.core_terms.proofs.Limited.{limited_tags}
 use Rattle.core_terms.proofs.RoleShapes.{arguments_there}
 use Rattle.core_terms.proofs.language.program.Program.new.Goals as goal
+
+pub new-requires-clause-tags : goal.new-requires-clause-tags
+new-requires-clause-tags c =
+    limited_tags (program_of c.args.types.forms.keys c.args.named.items c.args.state c.args.functions.items) c.requires.limits
 
 pub roles_of-requires : goal.roles_of-requires
 roles_of-requires c =
