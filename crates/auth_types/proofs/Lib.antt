@@ -45,6 +45,8 @@ pub mod SoundFunctions
 pub mod SoundTypes
 pub mod SoundLimits
 pub mod SoundLiterals
+pub mod SoundSizes
+pub mod LimitsOfPrograms
 pub mod SoundPrograms
 -- the laws of expressions and of programs: what passes by the rules, and what breaks them first
 pub mod Judging

@@ -4,7 +4,9 @@ use Rattle.std.specs.Prelude.{All}
 use Rattle.std.specs.List.{list_all}
 use Rattle.std.proofs.lemmas.List.{length-map}
 use Rattle.std.proofs.lemmas.List.Elements.{All-cons, All-head, All-nil, All-tail}
-use Rattle.core_terms.specs.Types.{Ty, has_numbers, has_tags}
+use Rattle.core_terms.specs.LanguageNames.{AreNamed}
+use Rattle.core_terms.specs.ProgramLimits as programs
+use Rattle.core_terms.specs.Types.{Ty}
 use Rattle.core_terms.specs.TypeTables.{type_at}
 use Rattle.core_terms.specs.Typing.{is_shaped, is_typed}
 use Rattle.core_terms.specs.LanguageTrees.{are_below, function_of, has_fields_below, has_types_below, is_within, program_of, table_of}
@@ -16,13 +18,14 @@ use Rattle.core_terms.specs.declared.language.types.TyForm.{TyForm}
 use Rattle.core_terms.specs.declared.language.term.Constructor.{Constructor}
 use Rattle.core_terms.specs.declared.language.term.Function.{Function}
 use Rattle.core_terms.specs.declared.language.term.NamedType.{NamedType}
+use Rattle.core_terms.proofs.Limited.{all_pass}
 use Rattle.auth_syntax.specs.Syntax.{FunctionSyntax, ParameterSyntax, Program}
+use Rattle.auth_syntax.specs.TreeLimits as trees
 use Rattle.auth_syntax.specs.Trees as written
-use Rattle.auth_types.specs.Bodies.{Signature, checked_functions}
+use Rattle.auth_types.specs.Bodies.{Scope as DefinedScope, Signature, checked_functions}
 use Rattle.auth_types.specs.Checking.{Sound}
 use Rattle.auth_types.specs.CheckedLaws.{HasGoodLiterals}
 use Rattle.auth_types.specs.CheckedPrograms.{all_passes, fourth_pass, signature_of, state_of, table_of_program, third_pass}
-use Rattle.auth_types.specs.Declarations.{most_constructors, most_types}
 use Rattle.auth_types.specs.OverTypes.{Grows}
 use Rattle.auth_types.specs.Passes.{StandsFor, names_known}
 use Rattle.auth_types.specs.Scopes.{AreHeadsOf, AreWithin, IsConstructorWithin, IsCounted, IsHeadWithin, IsNamedWithin, IsWithin, functions_meant, scope_meant, signature_meant}
@@ -30,8 +33,9 @@ use Rattle.auth_types.specs.WrittenTypes.{type_meant}
 use Rattle.auth_types.specs.declared.scope.Head.{Head}
 use Rattle.auth_types.specs.declared.scope.Scope.{Scope}
 use Rattle.auth_types.proofs.PassesOfTrees.{fourth_told, passes_end, table_is}
+use Rattle.auth_types.proofs.LimitsOfPrograms.{are_named}
 use Rattle.auth_types.proofs.ScopeStays.{grows_length, table_stays, type_stays_at, within_more}
-use Rattle.auth_types.proofs.SoundPrograms.{checked_is_typed, checked_is_within_limits}
+use Rattle.auth_types.proofs.SoundPrograms.{checked_is_typed, checked_is_within_all_limits}
 
 -- the program of these parts is the one that the passes give, and it is what a program has to be
 pub record Passed (program : Program) (forms : List TyForm) (named : List NamedType) (state : TyId) (functions : List Function) : Type 0 where
@@ -39,8 +43,8 @@ pub record Passed (program : Program) (forms : List TyForm) (named : List NamedT
   pub typed : is_typed (program_of forms named state functions) ≡ true
   pub shaped : is_shaped (program_of forms named state functions) ≡ true
   pub within : is_within forms named state functions ≡ true
-  pub numbers : has_numbers (program_of forms named state functions).types ≡ true
-  pub tags : has_tags (program_of forms named state functions).types ≡ true
+  pub names : AreNamed named
+  pub limits : programs.IsWithinLimits (program_of forms named state functions)
 
 -- a head that stands for its function has as many numbers as the function has parameters
 counted_each : (names : List (List ℕ)) (types : List Ty) (heads : List Head)
@@ -59,10 +63,6 @@ pub heads_counted : (names : List (List ℕ)) (types : List Ty) (scope : Scope) 
 heads_counted names types scope are = counted_each names types scope.heads.items are
 
 -- each number that is within passes the test
-all_pass : {A : Type 0} (P : A → Type 0) (test : A → Bool) → ((x : A) → P x → test x ≡ true) → (xs : List A) → All P xs → list_all test xs ≡ true
-all_pass P test passes [] all = refl
-all_pass P test passes (x ∷ xs) all = rw (passes x (All-head P x xs all), all_pass P test passes xs (All-tail P x xs all)) refl
-
 ids_below : (count : ℕ) (ids : List TyId) → AreWithin count ids → are_below count ids ≡ true
 ids_below count ids within = all_pass (λ (id : TyId). id.0 < count) (λ (id : TyId). nat_lt id.0 count) (λ id h. lt-ltb id.0 count h) ids within
 
@@ -107,18 +107,6 @@ module _ (program : Program) (before : List Ty) (forms : List TyForm) (scope : S
   state_made = type_stays_at before (types_of_forms forms) grows state stands.inside ∙ stands.state
 
   module _ (gives : all_passes program ≡ Sound (program_of forms scope.named.items state functions)) where
-    program_numbered : has_numbers (program_of forms scope.named.items state functions).types ≡ true
-    program_numbered =
-        le-leb (length (program_of forms scope.named.items state functions).types) most_types
-        (checked_is_within_limits program (program_of forms scope.named.items state functions) gives).types
-
-    program_tagged : has_tags (program_of forms scope.named.items state functions).types ≡ true
-    program_tagged =
-        all_pass (λ (constructors : List (List Ty)). length constructors ≤ most_constructors)
-        (λ (constructors : List (List Ty)). nat_le (length constructors) 255) (λ constructors few. le-leb (length constructors) 255 few)
-        (program_of forms scope.named.items state functions).types
-        (checked_is_within_limits program (program_of forms scope.named.items state functions) gives).constructors
-
     typed_and_shaped : All (λ (f : FunctionSyntax). HasGoodLiterals f.body) (functions_meant scope)
         → (is_typed (program_of forms scope.named.items state functions) ≡ true)
         × (is_shaped (program_of forms scope.named.items state functions) ≡ true)
@@ -127,12 +115,12 @@ module _ (program : Program) (before : List Ty) (forms : List TyForm) (scope : S
         (subst (All (λ (f : FunctionSyntax). HasGoodLiterals f.body)) stands.functions good) gives
 
   -- what the passes leave of a tree in which they find nothing
-  pub passed : names_known program ≡ Sound tt → third_pass program ≡ Sound tt
+  pub passed : trees.IsWithinLimits program.declarations → names_known program ≡ Sound tt → third_pass program ≡ Sound tt
       → fourth_pass program ≡ Sound (map (function_of (types_of_forms forms)) functions)
       → map (λ (f : Function). f.parameters.items) functions ≡ map (λ (h : Head). h.parameters.items) scope.heads.items
       → map (λ (f : Function). f.result) functions ≡ map (λ (h : Head). h.result) scope.heads.items
       → All (λ (f : FunctionSyntax). HasGoodLiterals f.body) (functions_meant scope) → Passed program forms scope.named.items state functions
-  passed known third fourth parameters results good =
+  passed limits known third fourth parameters results good =
       let table = table_made in
       let of_state = state_made in
       let gives : all_passes program ≡ Sound (program_of forms scope.named.items state functions) =
@@ -143,14 +131,15 @@ module _ (program : Program) (before : List Ty) (forms : List TyForm) (scope : S
         typed = sound.0;
         shaped = sound.1;
         within = program_within parameters results;
-        numbers = program_numbered gives;
-        tags = program_tagged gives;
+        names = are_named program.declarations scope.named.items limits stands.names
+            (ap (λ (s : DefinedScope). s.constructors) stands.scope);
+        limits = checked_is_within_all_limits program (program_of forms scope.named.items state functions) limits gives;
       }
 
 -- the same as the code tells it, over a table and a scope that are lent and given on
 module _ (program : Program) (given : TyTable) (scope : Scope) (state : TyId) (stands : StandsFor program (types_in given) scope state)
     (table : TyTable) (lent last : Scope) where
-  pub passed_on : table ≡ given → lent ≡ scope → last ≡ scope → (forms : List TyForm) (functions : List Function)
+  pub passed_on : trees.IsWithinLimits program.declarations → table ≡ given → lent ≡ scope → last ≡ scope → (forms : List TyForm) (functions : List Function)
       → Grows (types_in table) (types_of_forms forms) → names_known program ≡ Sound tt → third_pass program ≡ Sound tt
       → ((names : List (List ℕ)) → AreHeadsOf names (types_in table) lent
       → checked_functions names (scope_meant (types_in table) lent)
@@ -158,10 +147,10 @@ module _ (program : Program) (given : TyTable) (scope : Scope) (state : TyId) (s
       → map (λ (f : Function). f.parameters.items) functions ≡ map (λ (h : Head). h.parameters.items) lent.heads.items
       → map (λ (f : Function). f.result) functions ≡ map (λ (h : Head). h.result) lent.heads.items
       → All (λ (f : FunctionSyntax). HasGoodLiterals f.body) (functions_meant lent) → Passed program forms last.named.items state functions
-  passed_on same same' same'' forms functions grows known third found parameters results good =
+  passed_on limits same same' same'' forms functions grows known third found parameters results good =
       subst (λ (h : Scope). Passed program forms h.named.items state functions) (sym same'')
       (passed program (types_in given) forms scope state functions (subst (λ (t : TyTable). Grows (types_in t) (types_of_forms forms)) same grows)
-      stands known third
+      stands limits known third
       (fourth_told program (types_in given) scope state stands (λ found. found ≡ Sound (map (function_of (types_of_forms forms)) functions)) table
       lent (ap types_in same) same' found)
       (parameters ∙ ap (λ (h : Scope). map (λ (h : Head). h.parameters.items) h.heads.items) same')

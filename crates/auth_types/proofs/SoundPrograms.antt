@@ -8,6 +8,7 @@ use Rattle.std.specs.Prelude.{All}
 use Rattle.core_terms.specs.Types.{Table}
 use Rattle.core_terms.specs.Terms.{Function}
 use Rattle.core_terms.specs.Terms as tree
+use Rattle.core_terms.specs.ProgramLimits.{IsFlatType, IsFunctionWithin, expressions_in_all}
 use Rattle.core_terms.specs.Typing.{all_shaped, all_typed}
 use Rattle.core_terms.specs.ProgramTrees.{program_format}
 use Rattle.auth_syntax.specs.Syntax.{ConstructorDeclaration, DeclarationSyntax, FunctionDeclaration, FunctionSyntax, ParameterSyntax, Program, StateDeclaration, TypeDeclaration}
@@ -16,11 +17,12 @@ use Rattle.auth_types.specs.Bodies.{Signature}
 use Rattle.auth_types.specs.Declarations.{checked_declarations, first_pass, most_constructors, most_fields, most_parameters, nothing_declared}
 use Rattle.auth_types.specs.WrittenTypes.{functions_in, second_pass, states_in, table_of, type_meant}
 use Rattle.auth_types.specs.CheckedPrograms.{IsProgram, all_passes, as_checked, checked, constructors_in, fourth_pass, names_of, scope_of, signature_of, state_of, table_of_program, third_pass}
-use Rattle.auth_types.specs.CheckedLaws.{CheckedIsTyped, CheckedIsWithinLimits, CheckedNamesDiffer, CheckedNamesItsTypes, FunctionNamesTypesBelow, IsScopeOf, ParsedIsTyped, ProgramNamesTypesBelow, ScopeIsOfProgram, signature}
+use Rattle.auth_types.specs.CheckedLaws.{CheckedIsTyped, CheckedIsWithinAllLimits, CheckedIsWithinLimits, CheckedNamesDiffer, CheckedNamesItsTypes, FunctionNamesTypesBelow, IsScopeOf, ParsedIsTyped, ProgramNamesTypesBelow, ScopeIsOfProgram, signature}
 use Rattle.auth_types.specs.declared.fault.TypeKind.TheVariants.{NoState}
 use Rattle.auth_types.proofs.SoundSteps.{Gives, given, gives_then, gives_unless, then_sound}
 use Rattle.auth_types.proofs.SoundLiterals.{parsed_has_good_literals}
 use Rattle.auth_types.proofs.SoundNames.{AsMany}
+use Rattle.auth_types.proofs.LimitsOfPrograms.{each_within, expressions_counted, expressions_written, few_expressions, flat_state, flat_table}
 use Rattle.auth_types.proofs.SoundFunctions.{HasShape, functions_shaped, functions_typed, roles_shaped, signatures_kept}
 use Rattle.auth_types.proofs.SoundLimits.{AreNew, AreWithin, FewParameters, declarations_within}
 use Rattle.auth_types.proofs.SoundTypes.{AreBelow, as_many_types, declarations_below, functions_below, state_below}
@@ -164,6 +166,28 @@ checked_is_within_limits program P sound =
       fields = subst (λ (t : Table). All (All (λ fields. length fields ≤ most_fields)) t) table h.fields;
       functions = omega (arith, h.functions, many);
       parameters = few_parameters names fs P.functions same h.parameters;
+    }
+
+pub checked_is_within_all_limits : CheckedIsWithinAllLimits
+checked_is_within_all_limits program P limits sound =
+    let is = passed program P sound in
+    let names = names_of program in
+    let ds = program.declarations in
+    let own = checked_is_within_limits program P sound in
+    let table : table_of_program program ≡ P.types = ap (λ (P : tree.Program). P.types) is.made in
+    let few : expressions_in_all P.functions ≤ expressions_written (functions_in ds) =
+    of_functions program P is (λ gs. expressions_in_all gs ≤ expressions_written (functions_in ds)) (few_expressions names (scope_of program) (functions_in ds)) in
+    record {
+      types = own.types;
+      constructors = own.constructors;
+      fields = own.fields;
+      field_types = subst (λ (t : Table). All (All (All IsFlatType)) t) table (flat_table names ds limits.types);
+      state_type = subst IsFlatType (ap (λ (P : tree.Program). P.state) is.made) (flat_state names ds limits.types);
+      functions = own.functions;
+      each = subst (λ (t : Table). All (IsFunctionWithin t) P.functions) table
+          (of_functions program P is (All (IsFunctionWithin (table_of_program program)))
+          (each_within names (scope_of program) ds limits (within program P is).parameters));
+      expressions = omega (arith, few, expressions_counted ds, limits.expressions);
     }
 
 -- a function that is new is none of those before

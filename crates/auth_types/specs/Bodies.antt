@@ -6,6 +6,7 @@ use Rattle.core_terms.specs.declared.language.term.BinaryOperator.{BinaryOperato
 use Rattle.core_terms.specs.Types.{Ty, UnitTy, BoolTy, IntTy, TextTy, PairTy, NamedTy, AuthTy, Table, fields_at}
 use Rattle.core_terms.specs.Terms.{Expression, UnitE, BoolE, IntE, TextE, LocalE, PairE, FstE, SndE, NotE, LenE, AuthE, UnauthE, ConE, ArithE, CompareE, TextCompareE, CatE, LetE, IfE, MatchE, CallE, Expressions, NoE, AndE, Arms, NoArm, AndArm}
 use Rattle.core_terms.specs.Terms as tree
+pub use Rattle.core_terms.specs.ProgramLimits.{most_locals}
 use Rattle.core_terms.specs.Typing.{same_type}
 use Rattle.lexemes.specs.declared.place.Place.{Place}
 use Rattle.auth_syntax.specs.Syntax.{NameSyntax, ExpSyntax, UnitSyntax, BoolSyntax, IntSyntax, TextSyntax, LocalSyntax, PairSyntax, UnarySyntax, BinarySyntax, CallSyntax, ConstructorSyntax, LetSyntax, IfSyntax, MatchSyntax, ExpsSyntax, NoExp, AndExp, ArmsSyntax, NoArmSyntax, AndArmSyntax, UnaryOperation, FstOperation, SndOperation, AuthOperation, UnauthOperation, LenOperation, NotOperation, FunctionSyntax, ParameterSyntax, place_of}
@@ -32,10 +33,6 @@ pub record Scope : Type 0 where
 pub record Local : Type 0 where
   pub name : List ℕ
   pub of_type : Ty
-
--- how many locals there may be at one place
-abbrev pub most_locals : ℕ
-most_locals = 255
 
 -- an expression with its type
 pub record Typed : Type 0 where

@@ -3,9 +3,11 @@ use Rattle.std.specs.Prelude.{◌≡◌, ◌≤◌, ◌<◌, ℕ, true, List, le
 use Rattle.core_terms.specs.Types.{Ty, PairTy, NamedTy, AuthTy}
 use Rattle.core_terms.specs.Terms.{Function, HasType}
 use Rattle.core_terms.specs.Terms as tree
+use Rattle.core_terms.specs.ProgramLimits as programs
 use Rattle.core_terms.specs.Typing.{is_typed, is_shaped}
 use Rattle.core_terms.specs.Values.{int_fits}
 use Rattle.auth_syntax.specs.Syntax.{ExpSyntax, IntSyntax, TextSyntax, PairSyntax, UnarySyntax, BinarySyntax, CallSyntax, ConstructorSyntax, LetSyntax, IfSyntax, MatchSyntax, ExpsSyntax, NoExp, AndExp, ArmsSyntax, NoArmSyntax, AndArmSyntax, Program}
+use Rattle.auth_syntax.specs.TreeLimits as trees
 use Rattle.auth_syntax.specs.Parsing.{parsed, Tree}
 use Rattle.auth_syntax.specs.Vocabulary.{Vocabulary}
 use Rattle.auth_types.specs.Checking.{Sound}
@@ -114,6 +116,11 @@ pub record IsWithinLimits (P : tree.Program) : Type 0 where
 -- A program that passes is within the limits.
 abbrev pub CheckedIsWithinLimits : Type 0
 CheckedIsWithinLimits = (program : Program) (P : tree.Program) → all_passes program ≡ Sound P → IsWithinLimits P
+
+-- A program that passes is within all limits of programs, where its tree is within those of trees.
+abbrev pub CheckedIsWithinAllLimits : Type 0
+CheckedIsWithinAllLimits =
+    (program : Program) (P : tree.Program) → trees.IsWithinLimits program.declarations → all_passes program ≡ Sound P → programs.IsWithinLimits P
 
 -- No two functions of a program that passes have one name.
 abbrev pub CheckedNamesDiffer : Type 0

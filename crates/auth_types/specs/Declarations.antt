@@ -2,25 +2,10 @@
 -- parameters of a function one of the function.
 use Rattle.std.specs.Prelude.{ℕ, Bool, true, false, not, List, [], ◌∷◌, nat_lt, ◌+◌}
 use Rattle.auth_syntax.specs.Syntax.{TypeSyntax, place_of_type, ParameterSyntax, ConstructorDeclaration, DeclarationSyntax, TypeDeclaration, StateDeclaration, FunctionDeclaration, Program}
+pub use Rattle.core_terms.specs.ProgramLimits.{most_types, most_constructors, most_fields, most_functions, most_parameters}
 use Rattle.auth_types.specs.Checking.{Checking, Sound, then_checked, unless_fault, is_among, new_name}
 use Rattle.auth_types.specs.declared.fault.TypeKind.TheVariants.{Twice, Limit, NoState}
 use Rattle.auth_types.specs.declared.fault.Limited.TheVariants.{Types, Constructors, Fields, Functions, Parameters}
-
--- how many there may be
-abbrev pub most_types : ℕ
-most_types = 256
-
-abbrev pub most_constructors : ℕ
-most_constructors = 255
-
-abbrev pub most_fields : ℕ
-most_fields = 8
-
-abbrev pub most_functions : ℕ
-most_functions = 1024
-
-abbrev pub most_parameters : ℕ
-most_parameters = 8
 
 -- what was declared so far: the names of types, constructors and functions, the last ones first, and whether the state was
 pub record Declared : Type 0 where

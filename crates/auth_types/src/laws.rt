@@ -1,7 +1,7 @@
 //! The laws of the definitions in `specs/`: each is a function without parameters, whose contract is the law.
 ghost use Rattle.auth_types.specs.TypingLaws.{DenotesWhatPasses, PassesByTheRules, TellsTheFirst, TellsWhatBreaks};
 ghost use Rattle.auth_types.specs.WrittenTypeRules.{WrittenTypesStand};
-ghost use Rattle.auth_types.specs.CheckedLaws.{CheckedIsTyped, CheckedIsWithinLimits, CheckedNamesDiffer, CheckedNamesItsTypes, ElaboratedHasType, ParsedIsTyped, ScopeIsOfProgram};
+ghost use Rattle.auth_types.specs.CheckedLaws.{CheckedIsTyped, CheckedIsWithinAllLimits, CheckedIsWithinLimits, CheckedNamesDiffer, CheckedNamesItsTypes, ElaboratedHasType, ParsedIsTyped, ScopeIsOfProgram};
 
 /// An expression that passes has the type that it says, where the locals have theirs; and the bodies of a program that passes are
 /// checked with the functions, constructors and types that it has.
@@ -25,9 +25,11 @@ pub fn checked_names_its_types()
     ensures { CheckedNamesItsTypes }
 {}
 
-/// A program that passes is within the limits.
+/// A program that passes is within the limits of what the passes count, and within all limits where its tree is within those of
+/// trees.
 pub fn checked_is_within_limits()
-    ensures { CheckedIsWithinLimits }
+    ensures counted { CheckedIsWithinLimits }
+    ensures all { CheckedIsWithinAllLimits }
 {}
 
 /// No two functions of a program that passes have one name.

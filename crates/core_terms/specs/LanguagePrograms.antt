@@ -3,6 +3,7 @@ use Rattle.std.specs.Prelude.{ℕ, List, [], map, slice_get, option_map, unwrap_
 use Rattle.core_terms.specs.Types.{Ty}
 use Rattle.core_terms.specs.Terms as tree
 use Rattle.core_terms.specs.LanguageTypes.{types_of_forms}
+pub use Rattle.core_terms.specs.LanguageNames.{type_names}
 use Rattle.core_terms.specs.ProgramTypes.{program_with, types_by_number}
 use Rattle.core_terms.specs.declared.language.term.Constructor.{Constructor}
 use Rattle.core_terms.specs.declared.language.term.NamedType.{NamedType}
@@ -20,10 +21,6 @@ types_of p = types_by_number p.types
 -- the program of the definitions
 abbrev pub meaning : Program → tree.Program
 meaning p = program_with p.types p.functions.items
-
--- the names of the named types, by number
-abbrev pub type_names : List NamedType → List (List ℕ)
-type_names named = map (λ (declared : NamedType). declared.name) named
 
 -- the names of the constructors of each named type, by number and by tag
 abbrev pub constructor_names : List NamedType → ℕ → List (List ℕ)

@@ -16,6 +16,7 @@ pub mod LanguageTypes
 pub mod LanguageTrees
 pub mod ProgramTypes
 pub mod ProgramLimits
+pub mod LanguageNames
 pub mod LanguagePrograms
 pub mod AuthMarks
 pub mod RoleViews
@@ -23,4 +24,5 @@ pub mod ValueRows
 pub mod ReadingRows
 pub mod TypingRows
 pub mod RoleRows
+pub mod LimitRows
 pub mod Faults

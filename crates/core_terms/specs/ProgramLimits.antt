@@ -1,6 +1,6 @@
 -- The limits of a program: how many named types, constructors, fields, functions, parameters, locals and expressions it has, how
 -- long its names are, and how far its types and expressions are nested.
-use Rattle.std.specs.Prelude.{ℕ, suc, ◌+◌, ◌≤◌, max, List, [], ◌∷◌, length, slice_get, unwrap_or, sum_by, All}
+use Rattle.std.specs.Prelude.{ℕ, suc, ◌+◌, ◌≤◌, max, List, [], ◌∷◌, length, slice_get, unwrap_or, All}
 use Rattle.core_terms.specs.Types.{Ty, PairTy, AuthTy, Table}
 use Rattle.core_terms.specs.Terms.{Expression, PairE, FstE, SndE, NotE, LenE, AuthE, UnauthE, ConE, ArithE, CompareE, TextCompareE, CatE, LetE, IfE, MatchE, CallE, Expressions, NoE, AndE, Arms, NoArm, AndArm, Function, Program}
 
@@ -131,14 +131,19 @@ module _ (types : Table) where
 
 -- how many expressions functions have in all
 abbrev pub expressions_in_all : List Function → ℕ
-expressions_in_all functions = sum_by (λ (g : Function). expressions_in g.body) functions
+expressions_in_all [] = 0
+expressions_in_all (g ∷ gs) = expressions_in g.body + expressions_in_all gs
+
+-- a name has as many bytes as it may have
+abbrev pub IsName : List ℕ → Type 0
+IsName name = (1 ≤ length name) × (length name ≤ longest_name)
 
 -- a type that is written, and a function by itself, are within the limits
 abbrev pub IsFlatType : Ty → Type 0
 IsFlatType t = levels_of_type t ≤ most_levels
 
 pub record IsFunctionWithin (types : Table) (g : Function) : Type 0 where
-  pub name : (1 ≤ length g.name) × (length g.name ≤ longest_name)
+  pub name : IsName g.name
   pub parameters : length g.parameters ≤ most_parameters
   pub parameter_types : All IsFlatType g.parameters
   pub result_type : IsFlatType g.result

@@ -2,6 +2,7 @@
 ghost use Rattle.std.specs.Prelude.{◌≡◌, ◌<◌, true, length, map, Some, slice_get, option_map, bytes_eq, IfOk, IfSome, IsNone};
 ghost use Rattle.std.specs.List.{All, list_all, position};
 ghost use Rattle.std.proofs.Props.{props};
+ghost use Rattle.core_terms.specs.LanguageNames.{AreNamed};
 ghost use Rattle.core_terms.specs.LanguageTrees.{function_of, has_fields_below, has_types_below, is_within, program_of, types_at};
 ghost use Rattle.core_terms.specs.LanguageTypes.{HasNoNumber, stands_behind, type_of_form};
 ghost use Rattle.core_terms.specs.ProgramLimits.{IsWithinLimits};
@@ -50,6 +51,7 @@ impl Program {
         requires typed { is_typed (program_of types.forms.keys named.items state functions.items) ≡ true }
         requires shaped { is_shaped (program_of types.forms.keys named.items state functions.items) ≡ true }
         requires within { is_within types.forms.keys named.items state functions.items ≡ true }
+        requires names { AreNamed named.items }
         requires limits { IsWithinLimits (program_of types.forms.keys named.items state functions.items) }
         ensures meaning { IfOk result (λ program. meaning program ≡ program_of types.forms.keys named.items state functions.items) }
         ensures named { IfOk result (λ program. program.types.named.items ≡ named.items) }

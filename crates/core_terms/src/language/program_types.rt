@@ -1,7 +1,9 @@
 // The types of a program: what whoever makes, reads or stores its values must know of it.
 ghost use Rattle.std.specs.Prelude.{◌≡◌, ◌<◌, true, length, Some, slice_get, option_map, bytes_eq, IfOk, IfSome, IsNone};
 ghost use Rattle.std.specs.List.{list_all, position};
+ghost use Rattle.std.proofs.Props.{props};
 ghost use Rattle.core_terms.specs.AuthMarks.{AreAuthMarks};
+ghost use Rattle.core_terms.specs.LanguageNames.{AreNamed};
 ghost use Rattle.core_terms.specs.LanguageTrees.{are_types_within, has_fields_below, table_of, types_at};
 ghost use Rattle.core_terms.specs.LanguageTypes.{HasNoNumber, stands_behind, type_of_form, types_of_forms};
 ghost use Rattle.core_terms.specs.Roles.{has_auth};
@@ -14,7 +16,8 @@ use crate::language::{Constructor, NamedId, NamedType, Tag, TyForm, TyTable};
 use std::alloc::{AllocError, Global};
 
 /// The types of a program: a table of types by number, the named types, the type of its state, and which types an `auth` stands
-/// in. The types of its state and fields are in the table. There are at most 256 named types, of at most 255 constructors each.
+/// in. The types of its state and fields are in the table. There are at most 256 named types, of at most 255 constructors each, and
+/// the names of these have 1 to 64 bytes.
 #[derive(Drop)]
 pub struct Types {
     table: TyTable,
@@ -24,6 +27,7 @@ pub struct Types {
     ghost marked: { AreAuthMarks (types_of_forms table.forms.keys) named.items auths.items },
     ghost within: { are_types_within (length (types_of_forms table.forms.keys)) named.items state ≡ true },
     ghost numbers: { has_numbers (table_of (types_of_forms table.forms.keys) named.items) ≡ true },
+    ghost names: { AreNamed named.items } by { Prim.hlevel props },
     ghost tags: { has_tags (table_of (types_of_forms table.forms.keys) named.items) ≡ true },
 }
 
@@ -42,6 +46,7 @@ impl Types {
         requires within { are_types_within (length (types_of_forms table.forms.keys)) named.items state ≡ true }
         requires numbers { has_numbers (table_of (types_of_forms table.forms.keys) named.items) ≡ true }
         requires tags { has_tags (table_of (types_of_forms table.forms.keys) named.items) ≡ true }
+        requires names { AreNamed named.items }
         ensures table { IfOk result (λ types. types.table ≡ table) }
         ensures named { IfOk result (λ types. types.named ≡ named) }
         ensures state { IfOk result (λ types. types.state ≡ state) }
@@ -85,6 +90,7 @@ impl Types {
         ensures within { list_all (has_fields_below (length (types_by_number self.now))) result.now ≡ true }
         ensures numbers { has_numbers (named_table self.now) ≡ true }
         ensures tags { has_tags (named_table self.now) ≡ true }
+        ensures names { AreNamed result.now }
     {
         &self.named
     }

@@ -41,18 +41,18 @@ new-requires c =
     let s = c.in_ok-types.field-0 in
     let p =
     passed_on (program_of c.args.ast.now) s.types.value s.scope.value s.state c.in_ok-types.ensures.shaped c.into_inner.result c.deref.result.now
-    c.into_inner-named.result c.into_inner.ensures c.deref.ensures
+    c.into_inner-named.result c.args.ast.now.within c.into_inner.ensures c.deref.ensures
     c.into_inner-named.ensures c.in_ok-bodies.bodies.types.forms.keys c.in_ok-bodies.bodies.functions.items c.in_ok-bodies.ensures.grows
     c.in_ok-declared.ensures.found c.in_ok-types.ensures.found
     c.in_ok-bodies.ensures.found c.in_ok-bodies.ensures.parameters c.in_ok-bodies.ensures.results c.in_ok-bodies.ensures.literals in
-    record { typed = p.typed; shaped = p.shaped; within = p.within; numbers = p.numbers; tags = p.tags }
+    record { typed = p.typed; shaped = p.shaped; within = p.within; names = p.names; limits = p.limits }
 
 pub returns-clause-answer : goal.returns-clause-answer
 returns-clause-answer c =
     let s = c.in_ok-types.field-0 in
     let p =
     passed_on (program_of c.args.ast.now) s.types.value s.scope.value s.state c.in_ok-types.ensures.shaped c.into_inner.result c.deref.result.now
-    c.into_inner-named.result c.into_inner.ensures c.deref.ensures
+    c.into_inner-named.result c.args.ast.now.within c.into_inner.ensures c.deref.ensures
     c.into_inner-named.ensures c.in_ok-bodies.bodies.types.forms.keys c.in_ok-bodies.bodies.functions.items c.in_ok-bodies.ensures.grows
     c.in_ok-declared.ensures.found c.in_ok-types.ensures.found
     c.in_ok-bodies.ensures.found c.in_ok-bodies.ensures.parameters c.in_ok-bodies.ensures.results c.in_ok-bodies.ensures.literals in
