@@ -3,6 +3,7 @@ use Rattle.auth_syntax.specs.LanguageViews.{words_of}
 use Rattle.auth_syntax.specs.Parsing.{parsed, Tree}
 use Rattle.auth_syntax.specs.Trees.{program_of}
 use Rattle.auth_syntax.proofs.Exact.{parsed_is_written}
+use Rattle.auth_syntax.proofs.WithinLimits.{within_limits}
 use Rattle.auth_syntax.proofs.parser.parse_in.Goals as goal
 
 pub returns-clause-written : goal.returns-clause-written
