@@ -34,3 +34,4 @@ pub mod LimitsOfTrees
 pub mod WithinLimits
 -- the definitions, computed on texts
 mod GrammarRows
+mod LimitRows

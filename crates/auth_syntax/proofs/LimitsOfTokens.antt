@@ -137,12 +137,18 @@ abbrev text_of_token : Token → List (List ℕ)
 text_of_token (TextToken bytes) = bytes ∷ []
 text_of_token token = []
 
+abbrev pub name_in : Written → List (List ℕ)
+name_in w = name_of_token w.token
+
+abbrev pub text_in : Written → List (List ℕ)
+text_in w = text_of_token w.token
+
 -- the names and the texts among the tokens of a tree
 abbrev pub names_written : List Written → List (List ℕ)
-names_written ws = flat_map (λ (w : Written). name_of_token w.token) ws
+names_written ws = flat_map name_in ws
 
 abbrev pub texts_written : List Written → List (List ℕ)
-texts_written ws = flat_map (λ (w : Written). text_of_token w.token) ws
+texts_written ws = flat_map text_in ws
 
 name_limited : (token : Token) (others : List (List ℕ)) → IsLimited token → All HasNameSize others → All HasNameSize (name_of_token token ++ others)
 name_limited (LowerToken name) others h more = All-cons HasNameSize name others h more

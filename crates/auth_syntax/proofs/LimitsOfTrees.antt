@@ -1,16 +1,15 @@
 -- A tree has the names and texts of the tokens with which it is written, and no more expressions than tokens.
 use Rattle.std.proofs.Common.{◌≡◌, ℕ, suc, ◌+◌, ◌≤◌, List, [], ◌∷◌, ◌++◌, length, refl, sym, ap, ap₂, ◌∙◌, arith}
 use Rattle.std.proofs.lemmas.List.{append-nil, length-append}
-use Rattle.std.proofs.lemmas.List.Sums.{sum_by-append}
 use Rattle.std.proofs.lemmas.Grind.{flat_map-append}
-use Rattle.std.specs.Prelude.{flat_map, sum_by}
+use Rattle.std.specs.Prelude.{flat_map}
 use Rattle.lexemes.specs.declared.token.Keyword.TheVariants.{In as InWord, Then as ThenWord, Else as ElseWord, With as WithWord, End as EndWord}
 use Rattle.lexemes.specs.declared.token.Mark.TheVariants.{LeftParenthesis, RightParenthesis, Comma, Semicolon, Colon, EqualsSign, Bar, Arrow}
 use Rattle.lexemes.specs.Tokens.{Token}
 use Rattle.auth_syntax.specs.Syntax.{NameSyntax, TypeSyntax, UnitTypeSyntax, BoolTypeSyntax, IntTypeSyntax, TextTypeSyntax, NamedTypeSyntax, AuthTypeSyntax, PairTypeSyntax, ExpSyntax, UnitSyntax, BoolSyntax, IntSyntax, TextSyntax, LocalSyntax, PairSyntax, UnarySyntax, BinarySyntax, CallSyntax, ConstructorSyntax, LetSyntax, IfSyntax, MatchSyntax, ExpsSyntax, NoExp, AndExp, ArmsSyntax, NoArmSyntax, AndArmSyntax, ParameterSyntax, FunctionSyntax, ConstructorDeclaration, DeclarationSyntax, TypeDeclaration, StateDeclaration, FunctionDeclaration}
 use Rattle.auth_syntax.specs.Grammar.{Written, mark, word, type_tokens, types_tokens, names_tokens, in_parentheses, expression_tokens, expressions_tokens, arms_tokens, parameter_tokens, parameters_tokens, constructor_tokens, constructors_tokens, declaration_tokens, declarations_tokens}
-use Rattle.auth_syntax.specs.TreeLimits.{expressions_in, expressions_in_row, expressions_in_arms, names_in_type, names_among, names_in, names_in_row, names_in_arms, names_in_declaration, texts_in, texts_in_row, texts_in_arms, bodies_in_declaration, bodies_in_program, names_in_program, texts_in_program, expressions_in_program}
-use Rattle.auth_syntax.proofs.LimitsOfTokens.{names_written, texts_written}
+use Rattle.auth_syntax.specs.TreeLimits.{expressions_in, expressions_in_row, expressions_in_arms, expressions_in_declaration, names_in_type, names_among, names_in, names_in_row, names_in_arms, names_in_declaration, texts_in, texts_in_row, texts_in_arms, bodies_in_declaration, bodies_in_program, names_in_program, texts_in_program, expressions_in_program}
+use Rattle.auth_syntax.proofs.LimitsOfTokens.{name_in, text_in, names_written, texts_written}
 
 -- what is picked from two parts, and from a part that others end from which nothing is picked
 module _ (pick : Written → List (List ℕ)) where
@@ -22,10 +21,10 @@ module _ (pick : Written → List (List ℕ)) where
 
 -- names
 on : (ws vs : List Written) (xs ys : List (List ℕ)) → names_written ws ≡ xs → names_written vs ≡ ys → names_written (ws ++ vs) ≡ xs ++ ys
-on = picked_on _
+on = picked_on name_in
 
 last : (ws vs : List Written) (xs : List (List ℕ)) → names_written ws ≡ xs → names_written vs ≡ [] → names_written (ws ++ vs) ≡ xs
-last = picked_last _
+last = picked_last name_in
 
 in_parentheses-names : (ws : List Written) → names_written (in_parentheses ws) ≡ names_written ws
 in_parentheses-names [] = refl
@@ -137,10 +136,10 @@ program_names (declaration ∷ rest) =
 
 -- texts: none stands in a type or in a row of names
 on_texts : (ws vs : List Written) (xs ys : List (List ℕ)) → texts_written ws ≡ xs → texts_written vs ≡ ys → texts_written (ws ++ vs) ≡ xs ++ ys
-on_texts = picked_on _
+on_texts = picked_on text_in
 
 last_texts : (ws vs : List Written) (xs : List (List ℕ)) → texts_written ws ≡ xs → texts_written vs ≡ [] → texts_written (ws ++ vs) ≡ xs
-last_texts = picked_last _
+last_texts = picked_last text_in
 
 in_parentheses-texts : (ws : List Written) → texts_written (in_parentheses ws) ≡ texts_written ws
 in_parentheses-texts [] = refl
@@ -293,7 +292,7 @@ mutual
       length-append (in_parentheses (names_tokens fields)) (mark Arrow ∷ expression_tokens body ++ arms_tokens rest),
       length-append (expression_tokens body) (arms_tokens rest))
 
-declaration_counted : (declaration : DeclarationSyntax) → sum_by expressions_in (bodies_in_declaration declaration) ≤ length (declaration_tokens declaration)
+declaration_counted : (declaration : DeclarationSyntax) → expressions_in_declaration declaration ≤ length (declaration_tokens declaration)
 declaration_counted (TypeDeclaration at name constructors) = omega arith
 declaration_counted (StateDeclaration at of_type) = omega arith
 declaration_counted (FunctionDeclaration at function) =
@@ -307,5 +306,4 @@ pub program_counted : (declarations : List DeclarationSyntax) → expressions_in
 program_counted [] = omega arith
 program_counted (declaration ∷ rest) =
     omega (arith, declaration_counted declaration, program_counted rest,
-    length-append (declaration_tokens declaration) (declarations_tokens rest),
-    sum_by-append expressions_in (bodies_in_declaration declaration) (bodies_in_program rest))
+    length-append (declaration_tokens declaration) (declarations_tokens rest))

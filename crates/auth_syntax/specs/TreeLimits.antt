@@ -1,6 +1,6 @@
 -- The limits of the tree of a program: how long its names and text literals are, how far its types and expressions are nested, and how many
 -- expressions it has.
-use Rattle.std.specs.Prelude.{ℕ, suc, ◌+◌, ◌≤◌, List, [], ◌∷◌, ◌++◌, length, map, flat_map, sum_by, All}
+use Rattle.std.specs.Prelude.{ℕ, suc, ◌+◌, ◌≤◌, List, [], ◌∷◌, ◌++◌, length, map, flat_map, All}
 use Rattle.lexemes.specs.Tokens.{name_limit, text_limit}
 use Rattle.auth_syntax.specs.Syntax.{NameSyntax, TypeSyntax, NamedTypeSyntax, AuthTypeSyntax, PairTypeSyntax, ExpSyntax, TextSyntax, LocalSyntax, PairSyntax, UnarySyntax, BinarySyntax, CallSyntax, ConstructorSyntax, LetSyntax, IfSyntax, MatchSyntax, ExpsSyntax, NoExp, AndExp, ArmsSyntax, NoArmSyntax, AndArmSyntax, ParameterSyntax, FunctionSyntax, ConstructorDeclaration, DeclarationSyntax, TypeDeclaration, StateDeclaration, FunctionDeclaration}
 use Rattle.auth_syntax.specs.Grammar.{type_levels, expression_levels, nesting_limit}
@@ -121,9 +121,15 @@ bodies_in_program declarations = flat_map bodies_in_declaration declarations
 abbrev pub texts_in_program : List DeclarationSyntax → List (List ℕ)
 texts_in_program declarations = flat_map texts_in (bodies_in_program declarations)
 
--- how many expressions a program has
+-- how many expressions a declaration has, and a program
+abbrev pub expressions_in_declaration : DeclarationSyntax → ℕ
+expressions_in_declaration (TypeDeclaration at name constructors) = 0
+expressions_in_declaration (StateDeclaration at of_type) = 0
+expressions_in_declaration (FunctionDeclaration at function) = expressions_in function.body
+
 abbrev pub expressions_in_program : List DeclarationSyntax → ℕ
-expressions_in_program declarations = sum_by expressions_in (bodies_in_program declarations)
+expressions_in_program [] = 0
+expressions_in_program (declaration ∷ rest) = expressions_in_declaration declaration + expressions_in_program rest
 
 -- The declarations of a program are within the limits: each name has 1 to 64 bytes, and each text literal at most 65,532; no type and no
 -- body has more than 100 levels; and there are at most 262,144 expressions in all.
