@@ -12,7 +12,7 @@ use Rattle.lexemes.specs.declared.token.Mark.{Mark}
 use Rattle.lexemes.specs.Places.{start, behind_byte}
 use Rattle.lexemes.specs.Tokens.{Token, LowerToken, UpperToken, TextToken, Tokens, Next, End, Faulty, Piece, PassedOver, Taken, Wrong, Quoted, Closed, CutOff, WrongAt, is_blank, keyword_of, name_limit, text_limit, name_piece, lower_piece, int_piece, digits_of, minus_piece, quoted_behind, text_piece, word_of, mark_of, mark_piece, first_piece, from_piece, tokens_behind, tokens, count}
 use Rattle.auth_syntax.specs.Grammar.{Written, AreWritten}
-use Rattle.lexemes.proofs.TokenLemmas.{IsPart, first_piece-is_part}
+use Rattle.lexemes.proofs.TokenLemmas.{IsPart, piece_is_part}
 
 -- no more tokens than bytes
 piece_counted : (piece : Piece) (at : Place) (bytes : List ℕ) (go : ℕ → Tokens) (n : ℕ) → ((size : ℕ) → count (go size) ≤ n)
@@ -124,7 +124,7 @@ tokens_limited : (n : ℕ) (at : Place) (text : List ℕ) → AllLimited (tokens
 tokens_limited n at [] = tt
 tokens_limited (suc n) at (b ∷ rest) = tokens_limited n (behind_byte at b) rest
 tokens_limited zero at (b ∷ rest) =
-    piece_limited (first_piece b rest) at (b ∷ rest) (λ size. tokens_behind (size - 1) (behind_byte at b) rest) (first_piece-is_part b rest)
+    piece_limited (first_piece b rest) at (b ∷ rest) (λ size. tokens_behind (size - 1) (behind_byte at b) rest) (piece_is_part (b ∷ rest) (first_piece b rest) refl)
     (first_limited b rest) (λ size. tokens_limited (size - 1) (behind_byte at b) rest)
 
 -- the name that a token is, and the text

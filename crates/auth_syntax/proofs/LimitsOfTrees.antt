@@ -38,8 +38,8 @@ type_names (TextTypeSyntax at) = refl
 type_names (NamedTypeSyntax at name) = refl
 type_names (AuthTypeSyntax at inner) = type_names inner
 type_names (PairTypeSyntax at first second) =
-    on (type_tokens first) (mark Comma ∷ type_tokens second ++ mark RightParenthesis ∷ []) _ _ (type_names first)
-    (last (type_tokens second) (mark RightParenthesis ∷ []) _ (type_names second) refl)
+    last (type_tokens first ++ mark Comma ∷ type_tokens second) (mark RightParenthesis ∷ []) _
+    (on (type_tokens first) (mark Comma ∷ type_tokens second) _ _ (type_names first) (type_names second)) refl
 
 types_names : (ts : List TypeSyntax) → names_written (types_tokens ts) ≡ flat_map names_in_type ts
 types_names [] = refl
@@ -59,13 +59,13 @@ mutual
   expression_names (TextSyntax at bytes) = refl
   expression_names (LocalSyntax at name) = refl
   expression_names (PairSyntax at first second) =
-      on (expression_tokens first) (mark Comma ∷ expression_tokens second ++ mark RightParenthesis ∷ []) _ _ (expression_names first)
-      (last (expression_tokens second) (mark RightParenthesis ∷ []) _ (expression_names second) refl)
+      last (expression_tokens first ++ mark Comma ∷ expression_tokens second) (mark RightParenthesis ∷ []) _
+      (on (expression_tokens first) (mark Comma ∷ expression_tokens second) _ _ (expression_names first) (expression_names second)) refl
   expression_names (UnarySyntax at operation operand) =
       last (expression_tokens operand) (mark RightParenthesis ∷ []) _ (expression_names operand) refl
   expression_names (BinarySyntax at operation first second) =
-      on (expression_tokens first) (mark Comma ∷ expression_tokens second ++ mark RightParenthesis ∷ []) _ _ (expression_names first)
-      (last (expression_tokens second) (mark RightParenthesis ∷ []) _ (expression_names second) refl)
+      last (expression_tokens first ++ mark Comma ∷ expression_tokens second) (mark RightParenthesis ∷ []) _
+      (on (expression_tokens first) (mark Comma ∷ expression_tokens second) _ _ (expression_names first) (expression_names second)) refl
   expression_names (CallSyntax at name operands) =
       ap (λ (xs : List (List ℕ)). name ∷ xs) (last (expressions_tokens operands) (mark RightParenthesis ∷ []) _ (row_names operands) refl)
   expression_names (ConstructorSyntax at name operands) =
@@ -74,11 +74,12 @@ mutual
       ap (λ (xs : List (List ℕ)). name.name ∷ xs)
       (on (expression_tokens bound) (word InWord ∷ expression_tokens body) _ _ (expression_names bound) (expression_names body))
   expression_names (IfSyntax at test first other) =
-      on (expression_tokens test) (word ThenWord ∷ expression_tokens first ++ word ElseWord ∷ expression_tokens other) _ _ (expression_names test)
-      (on (expression_tokens first) (word ElseWord ∷ expression_tokens other) _ _ (expression_names first) (expression_names other))
+      on (expression_tokens test ++ word ThenWord ∷ expression_tokens first) (word ElseWord ∷ expression_tokens other) _ _
+      (on (expression_tokens test) (word ThenWord ∷ expression_tokens first) _ _ (expression_names test) (expression_names first))
+      (expression_names other)
   expression_names (MatchSyntax at subject arms) =
-      on (expression_tokens subject) (word WithWord ∷ arms_tokens arms ++ word EndWord ∷ []) _ _ (expression_names subject)
-      (last (arms_tokens arms) (word EndWord ∷ []) _ (arms_names arms) refl)
+      last (expression_tokens subject ++ word WithWord ∷ arms_tokens arms) (word EndWord ∷ []) _
+      (on (expression_tokens subject) (word WithWord ∷ arms_tokens arms) _ _ (expression_names subject) (arms_names arms)) refl
 
   row_names : (es : ExpsSyntax) → names_written (expressions_tokens es) ≡ names_in_row es
   row_names NoExp = refl
@@ -90,9 +91,10 @@ mutual
   arms_names NoArmSyntax = refl
   arms_names (AndArmSyntax constructor fields body rest) =
       ap (λ (xs : List (List ℕ)). constructor.name ∷ xs)
-      (on (in_parentheses (names_tokens fields)) (mark Arrow ∷ expression_tokens body ++ arms_tokens rest) _ _
-      (in_parentheses-names (names_tokens fields) ∙ names_names fields)
-      (on (expression_tokens body) (arms_tokens rest) _ _ (expression_names body) (arms_names rest)))
+      (on (in_parentheses (names_tokens fields) ++ mark Arrow ∷ expression_tokens body) (arms_tokens rest) _ _
+      (on (in_parentheses (names_tokens fields)) (mark Arrow ∷ expression_tokens body) _ _
+      (in_parentheses-names (names_tokens fields) ∙ names_names fields) (expression_names body))
+      (arms_names rest))
 
 parameters_names : (parameters : List ParameterSyntax) → names_written (parameters_tokens parameters)
     ≡ flat_map (λ (parameter : ParameterSyntax). parameter.name.name ∷ names_in_type parameter.of_type) parameters
@@ -116,6 +118,10 @@ constructors_names (constructor ∷ []) =
 constructors_names (constructor ∷ next ∷ rest) =
     on (constructor_tokens constructor) (mark Bar ∷ constructors_tokens (next ∷ rest)) _ _ (constructor_names constructor) (constructors_names (next ∷ rest))
 
+-- a function from its first parameter to the type of its result
+abbrev heading : FunctionSyntax → List Written
+heading function = parameters_tokens function.parameters ++ mark RightParenthesis ∷ mark Colon ∷ type_tokens function.result_type
+
 declaration_names : (declaration : DeclarationSyntax) → names_written (declaration_tokens declaration) ≡ names_in_declaration declaration
 declaration_names (TypeDeclaration at name constructors) =
     ap (λ (xs : List (List ℕ)). name.name ∷ xs)
@@ -123,11 +129,11 @@ declaration_names (TypeDeclaration at name constructors) =
 declaration_names (StateDeclaration at of_type) = last (type_tokens of_type) (mark Semicolon ∷ []) _ (type_names of_type) refl
 declaration_names (FunctionDeclaration at function) =
     ap (λ (xs : List (List ℕ)). function.name.name ∷ xs)
-    (on (parameters_tokens function.parameters)
-    (mark RightParenthesis ∷ mark Colon ∷ type_tokens function.result_type ++ mark EqualsSign ∷ expression_tokens function.body ++ mark Semicolon ∷ [])
-    _ _ (parameters_names function.parameters)
-    (on (type_tokens function.result_type) (mark EqualsSign ∷ expression_tokens function.body ++ mark Semicolon ∷ []) _ _ (type_names function.result_type)
-    (last (expression_tokens function.body) (mark Semicolon ∷ []) _ (expression_names function.body) refl)))
+    (last (heading function ++ mark EqualsSign ∷ expression_tokens function.body) (mark Semicolon ∷ []) _
+    (on (heading function) (mark EqualsSign ∷ expression_tokens function.body) _ _
+    (on (parameters_tokens function.parameters) (mark RightParenthesis ∷ mark Colon ∷ type_tokens function.result_type) _ _
+    (parameters_names function.parameters) (type_names function.result_type))
+    (expression_names function.body)) refl)
 
 pub program_names : (declarations : List DeclarationSyntax) → names_written (declarations_tokens declarations) ≡ names_in_program declarations
 program_names [] = refl
@@ -153,8 +159,8 @@ type_textless (TextTypeSyntax at) = refl
 type_textless (NamedTypeSyntax at name) = refl
 type_textless (AuthTypeSyntax at inner) = type_textless inner
 type_textless (PairTypeSyntax at first second) =
-    last_texts (type_tokens first) (mark Comma ∷ type_tokens second ++ mark RightParenthesis ∷ []) _ (type_textless first)
-    (last_texts (type_tokens second) (mark RightParenthesis ∷ []) _ (type_textless second) refl)
+    last_texts (type_tokens first ++ mark Comma ∷ type_tokens second) (mark RightParenthesis ∷ []) _
+    (last_texts (type_tokens first) (mark Comma ∷ type_tokens second) _ (type_textless first) (type_textless second)) refl
 
 types_textless : (ts : List TypeSyntax) → texts_written (types_tokens ts) ≡ []
 types_textless [] = refl
@@ -191,23 +197,24 @@ mutual
   expression_texts (TextSyntax at bytes) = refl
   expression_texts (LocalSyntax at name) = refl
   expression_texts (PairSyntax at first second) =
-      on_texts (expression_tokens first) (mark Comma ∷ expression_tokens second ++ mark RightParenthesis ∷ []) _ _ (expression_texts first)
-      (last_texts (expression_tokens second) (mark RightParenthesis ∷ []) _ (expression_texts second) refl)
+      last_texts (expression_tokens first ++ mark Comma ∷ expression_tokens second) (mark RightParenthesis ∷ []) _
+      (on_texts (expression_tokens first) (mark Comma ∷ expression_tokens second) _ _ (expression_texts first) (expression_texts second)) refl
   expression_texts (UnarySyntax at operation operand) =
       last_texts (expression_tokens operand) (mark RightParenthesis ∷ []) _ (expression_texts operand) refl
   expression_texts (BinarySyntax at operation first second) =
-      on_texts (expression_tokens first) (mark Comma ∷ expression_tokens second ++ mark RightParenthesis ∷ []) _ _ (expression_texts first)
-      (last_texts (expression_tokens second) (mark RightParenthesis ∷ []) _ (expression_texts second) refl)
+      last_texts (expression_tokens first ++ mark Comma ∷ expression_tokens second) (mark RightParenthesis ∷ []) _
+      (on_texts (expression_tokens first) (mark Comma ∷ expression_tokens second) _ _ (expression_texts first) (expression_texts second)) refl
   expression_texts (CallSyntax at name operands) = last_texts (expressions_tokens operands) (mark RightParenthesis ∷ []) _ (row_texts operands) refl
   expression_texts (ConstructorSyntax at name operands) = in_parentheses-texts (expressions_tokens operands) ∙ row_texts operands
   expression_texts (LetSyntax at name bound body) =
       on_texts (expression_tokens bound) (word InWord ∷ expression_tokens body) _ _ (expression_texts bound) (expression_texts body)
   expression_texts (IfSyntax at test first other) =
-      on_texts (expression_tokens test) (word ThenWord ∷ expression_tokens first ++ word ElseWord ∷ expression_tokens other) _ _ (expression_texts test)
-      (on_texts (expression_tokens first) (word ElseWord ∷ expression_tokens other) _ _ (expression_texts first) (expression_texts other))
+      on_texts (expression_tokens test ++ word ThenWord ∷ expression_tokens first) (word ElseWord ∷ expression_tokens other) _ _
+      (on_texts (expression_tokens test) (word ThenWord ∷ expression_tokens first) _ _ (expression_texts test) (expression_texts first))
+      (expression_texts other)
   expression_texts (MatchSyntax at subject arms) =
-      on_texts (expression_tokens subject) (word WithWord ∷ arms_tokens arms ++ word EndWord ∷ []) _ _ (expression_texts subject)
-      (last_texts (arms_tokens arms) (word EndWord ∷ []) _ (arms_texts arms) refl)
+      last_texts (expression_tokens subject ++ word WithWord ∷ arms_tokens arms) (word EndWord ∷ []) _
+      (on_texts (expression_tokens subject) (word WithWord ∷ arms_tokens arms) _ _ (expression_texts subject) (arms_texts arms)) refl
 
   row_texts : (es : ExpsSyntax) → texts_written (expressions_tokens es) ≡ texts_in_row es
   row_texts NoExp = refl
@@ -218,21 +225,21 @@ mutual
   arms_texts : (arms : ArmsSyntax) → texts_written (arms_tokens arms) ≡ texts_in_arms arms
   arms_texts NoArmSyntax = refl
   arms_texts (AndArmSyntax constructor fields body rest) =
-      on_texts (in_parentheses (names_tokens fields)) (mark Arrow ∷ expression_tokens body ++ arms_tokens rest) [] _
-      (in_parentheses-texts (names_tokens fields) ∙ names_textless fields)
-      (on_texts (expression_tokens body) (arms_tokens rest) _ _ (expression_texts body) (arms_texts rest))
+      on_texts (in_parentheses (names_tokens fields) ++ mark Arrow ∷ expression_tokens body) (arms_tokens rest) _ _
+      (on_texts (in_parentheses (names_tokens fields)) (mark Arrow ∷ expression_tokens body) [] _
+      (in_parentheses-texts (names_tokens fields) ∙ names_textless fields) (expression_texts body))
+      (arms_texts rest)
 
 declaration_texts : (declaration : DeclarationSyntax) → texts_written (declaration_tokens declaration) ≡ flat_map texts_in (bodies_in_declaration declaration)
 declaration_texts (TypeDeclaration at name constructors) =
     last_texts (constructors_tokens constructors) (mark Semicolon ∷ []) _ (constructors_textless constructors) refl
 declaration_texts (StateDeclaration at of_type) = last_texts (type_tokens of_type) (mark Semicolon ∷ []) _ (type_textless of_type) refl
 declaration_texts (FunctionDeclaration at function) =
-    on_texts (parameters_tokens function.parameters)
-    (mark RightParenthesis ∷ mark Colon ∷ type_tokens function.result_type ++ mark EqualsSign ∷ expression_tokens function.body ++ mark Semicolon ∷ [])
-    [] _ (parameters_textless function.parameters)
-    (on_texts (type_tokens function.result_type) (mark EqualsSign ∷ expression_tokens function.body ++ mark Semicolon ∷ []) [] _
-    (type_textless function.result_type)
-    (on_texts (expression_tokens function.body) (mark Semicolon ∷ []) _ [] (expression_texts function.body) refl))
+    on_texts (heading function ++ mark EqualsSign ∷ expression_tokens function.body) (mark Semicolon ∷ []) _ []
+    (on_texts (heading function) (mark EqualsSign ∷ expression_tokens function.body) [] _
+    (last_texts (parameters_tokens function.parameters) (mark RightParenthesis ∷ mark Colon ∷ type_tokens function.result_type) []
+    (parameters_textless function.parameters) (type_textless function.result_type))
+    (expression_texts function.body)) refl
 
 pub program_texts : (declarations : List DeclarationSyntax) → texts_written (declarations_tokens declarations) ≡ texts_in_program declarations
 program_texts [] = refl
@@ -254,14 +261,14 @@ mutual
   expression_counted (LocalSyntax at name) = omega arith
   expression_counted (PairSyntax at first second) =
       omega (arith, expression_counted first, expression_counted second,
-      length-append (expression_tokens first) (mark Comma ∷ expression_tokens second ++ mark RightParenthesis ∷ []),
-      length-append (expression_tokens second) (mark RightParenthesis ∷ []))
+      length-append (expression_tokens first ++ mark Comma ∷ expression_tokens second) (mark RightParenthesis ∷ []),
+      length-append (expression_tokens first) (mark Comma ∷ expression_tokens second))
   expression_counted (UnarySyntax at operation operand) =
       omega (arith, expression_counted operand, length-append (expression_tokens operand) (mark RightParenthesis ∷ []))
   expression_counted (BinarySyntax at operation first second) =
       omega (arith, expression_counted first, expression_counted second,
-      length-append (expression_tokens first) (mark Comma ∷ expression_tokens second ++ mark RightParenthesis ∷ []),
-      length-append (expression_tokens second) (mark RightParenthesis ∷ []))
+      length-append (expression_tokens first ++ mark Comma ∷ expression_tokens second) (mark RightParenthesis ∷ []),
+      length-append (expression_tokens first) (mark Comma ∷ expression_tokens second))
   expression_counted (CallSyntax at name operands) =
       omega (arith, row_counted operands, length-append (expressions_tokens operands) (mark RightParenthesis ∷ []))
   expression_counted (ConstructorSyntax at name operands) =
@@ -271,12 +278,12 @@ mutual
       length-append (expression_tokens bound) (word InWord ∷ expression_tokens body))
   expression_counted (IfSyntax at test first other) =
       omega (arith, expression_counted test, expression_counted first, expression_counted other,
-      length-append (expression_tokens test) (word ThenWord ∷ expression_tokens first ++ word ElseWord ∷ expression_tokens other),
-      length-append (expression_tokens first) (word ElseWord ∷ expression_tokens other))
+      length-append (expression_tokens test ++ word ThenWord ∷ expression_tokens first) (word ElseWord ∷ expression_tokens other),
+      length-append (expression_tokens test) (word ThenWord ∷ expression_tokens first))
   expression_counted (MatchSyntax at subject arms) =
       omega (arith, expression_counted subject, arms_counted arms,
-      length-append (expression_tokens subject) (word WithWord ∷ arms_tokens arms ++ word EndWord ∷ []),
-      length-append (arms_tokens arms) (word EndWord ∷ []))
+      length-append (expression_tokens subject ++ word WithWord ∷ arms_tokens arms) (word EndWord ∷ []),
+      length-append (expression_tokens subject) (word WithWord ∷ arms_tokens arms))
 
   row_counted : (es : ExpsSyntax) → expressions_in_row es ≤ length (expressions_tokens es)
   row_counted NoExp = omega arith
@@ -289,18 +296,16 @@ mutual
   arms_counted NoArmSyntax = omega arith
   arms_counted (AndArmSyntax constructor fields body rest) =
       omega (arith, expression_counted body, arms_counted rest,
-      length-append (in_parentheses (names_tokens fields)) (mark Arrow ∷ expression_tokens body ++ arms_tokens rest),
-      length-append (expression_tokens body) (arms_tokens rest))
+      length-append (in_parentheses (names_tokens fields) ++ mark Arrow ∷ expression_tokens body) (arms_tokens rest),
+      length-append (in_parentheses (names_tokens fields)) (mark Arrow ∷ expression_tokens body))
 
 declaration_counted : (declaration : DeclarationSyntax) → expressions_in_declaration declaration ≤ length (declaration_tokens declaration)
 declaration_counted (TypeDeclaration at name constructors) = omega arith
 declaration_counted (StateDeclaration at of_type) = omega arith
 declaration_counted (FunctionDeclaration at function) =
     omega (arith, expression_counted function.body,
-    length-append (parameters_tokens function.parameters)
-    (mark RightParenthesis ∷ mark Colon ∷ type_tokens function.result_type ++ mark EqualsSign ∷ expression_tokens function.body ++ mark Semicolon ∷ []),
-    length-append (type_tokens function.result_type) (mark EqualsSign ∷ expression_tokens function.body ++ mark Semicolon ∷ []),
-    length-append (expression_tokens function.body) (mark Semicolon ∷ []))
+    length-append (heading function ++ mark EqualsSign ∷ expression_tokens function.body) (mark Semicolon ∷ []),
+    length-append (heading function) (mark EqualsSign ∷ expression_tokens function.body))
 
 pub program_counted : (declarations : List DeclarationSyntax) → expressions_in_program declarations ≤ length (declarations_tokens declarations)
 program_counted [] = omega arith

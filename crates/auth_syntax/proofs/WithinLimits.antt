@@ -1,5 +1,5 @@
 -- The tree of a text of at most 262,144 bytes is within the limits.
-use Rattle.std.proofs.Common.{◌≡◌, ℕ, ◌≤◌, List, [], ◌∷◌, ◌++◌, length, map, ap, subst, ◌∙◌, arith}
+use Rattle.std.proofs.Common.{◌≡◌, ℕ, ◌≤◌, List, [], ◌∷◌, ◌++◌, length, map, sym, ap, subst, ◌∙◌, arith}
 use Rattle.std.proofs.lemmas.List.Elements.{All-nil, All-cons, All-append}
 use Rattle.std.specs.Prelude.{All, flat_map}
 use Rattle.lexemes.specs.declared.place.Place.{Place}
@@ -75,14 +75,16 @@ module _ (words : Vocabulary) where
       }
 
   -- the declarations that are read up to the end of a text are those of its program
-  pub read_is_tree : (text : List ℕ) (declarations : List DeclarationSyntax) (rest : Tokens) (end : Place)
-      → read_declarations words (count (tokens text)) (tokens text) ≡ Found declarations rest → rest ≡ End end
+  pub read_is_tree : (text : List ℕ) (before : Tokens) (declarations : List DeclarationSyntax) (rest : Tokens) (end : Place) → before ≡ tokens text
+      → read_declarations words (count before) before ≡ Found declarations rest → rest ≡ End end
       → parsed words text ≡ Tree (record { declarations = declarations; end = end })
-  read_is_tree text declarations rest end h h' =
-      ap as_program h ∙ ap (λ (rest : Tokens). Tree (record { declarations = declarations; end = end_of rest })) h'
+  read_is_tree text before declarations rest end whole h h' =
+      ap (λ (before : Tokens). as_program (read_declarations words (count before) before)) (sym whole)
+      ∙ ap as_program h ∙ ap (λ (rest : Tokens). Tree (record { declarations = declarations; end = end_of rest })) h'
 
-  pub read_within_limits : (text : List ℕ) (declarations : List DeclarationSyntax) (rest : Tokens) (end : Place) → length text ≤ expression_limit
-      → read_declarations words (count (tokens text)) (tokens text) ≡ Found declarations rest → rest ≡ End end → IsWithinLimits declarations
-  read_within_limits text declarations rest end short h h' =
-      within_limits text (record { declarations = declarations; end = end }) short
-      (parsed_is_written words text (record { declarations = declarations; end = end }) (read_is_tree text declarations rest end h h'))
+  pub read_is_within_limits : (text : List ℕ) (before : Tokens) (declarations : List DeclarationSyntax) (rest : Tokens) (end : Place)
+      → length text ≤ expression_limit → before ≡ tokens text → read_declarations words (count before) before ≡ Found declarations rest → rest ≡ End end
+      → IsWithinLimits declarations
+  read_is_within_limits text before declarations rest end short whole h h' =
+      let program : Program = record { declarations = declarations; end = end } in
+      within_limits text program short (parsed_is_written words text program (read_is_tree text before declarations rest end whole h h'))
