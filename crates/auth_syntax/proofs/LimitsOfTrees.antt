@@ -1,13 +1,12 @@
 -- A tree has the names and texts of the tokens with which it is written, and no more expressions than tokens.
-use Rattle.std.proofs.Common.{◌≡◌, ℕ, suc, ◌+◌, ◌≤◌, List, [], ◌∷◌, ◌++◌, length, refl, sym, ap, ap₂, ◌∙◌, arith}
+use Rattle.std.proofs.Common.{◌≡◌, ℕ, ◌≤◌, List, [], ◌∷◌, ◌++◌, length, refl, sym, ap, ap₂, ◌∙◌, arith}
 use Rattle.std.proofs.lemmas.List.{append-nil, length-append}
 use Rattle.std.proofs.lemmas.Grind.{flat_map-append}
 use Rattle.std.specs.Prelude.{flat_map}
 use Rattle.lexemes.specs.declared.token.Keyword.TheVariants.{In as InWord, Then as ThenWord, Else as ElseWord, With as WithWord, End as EndWord}
-use Rattle.lexemes.specs.declared.token.Mark.TheVariants.{LeftParenthesis, RightParenthesis, Comma, Semicolon, Colon, EqualsSign, Bar, Arrow}
-use Rattle.lexemes.specs.Tokens.{Token}
+use Rattle.lexemes.specs.declared.token.Mark.TheVariants.{RightParenthesis, Comma, Semicolon, Colon, EqualsSign, Bar, Arrow}
 use Rattle.auth_syntax.specs.Syntax.{NameSyntax, TypeSyntax, UnitTypeSyntax, BoolTypeSyntax, IntTypeSyntax, TextTypeSyntax, NamedTypeSyntax, AuthTypeSyntax, PairTypeSyntax, ExpSyntax, UnitSyntax, BoolSyntax, IntSyntax, TextSyntax, LocalSyntax, PairSyntax, UnarySyntax, BinarySyntax, CallSyntax, ConstructorSyntax, LetSyntax, IfSyntax, MatchSyntax, ExpsSyntax, NoExp, AndExp, ArmsSyntax, NoArmSyntax, AndArmSyntax, ParameterSyntax, FunctionSyntax, ConstructorDeclaration, DeclarationSyntax, TypeDeclaration, StateDeclaration, FunctionDeclaration}
-use Rattle.auth_syntax.specs.Grammar.{Written, mark, word, type_tokens, types_tokens, names_tokens, in_parentheses, expression_tokens, expressions_tokens, arms_tokens, parameter_tokens, parameters_tokens, constructor_tokens, constructors_tokens, declaration_tokens, declarations_tokens}
+use Rattle.auth_syntax.specs.Grammar.{Written, mark, word, type_tokens, types_tokens, names_tokens, in_parentheses, expression_tokens, expressions_tokens, arms_tokens, parameters_tokens, constructor_tokens, constructors_tokens, declaration_tokens, declarations_tokens}
 use Rattle.auth_syntax.specs.TreeLimits.{expressions_in, expressions_in_row, expressions_in_arms, expressions_in_declaration, names_in_type, names_among, names_in, names_in_row, names_in_arms, names_in_declaration, texts_in, texts_in_row, texts_in_arms, bodies_in_declaration, bodies_in_program, names_in_program, texts_in_program, expressions_in_program}
 use Rattle.auth_syntax.proofs.LimitsOfTokens.{name_in, text_in, names_written, texts_written}
 
@@ -260,55 +259,91 @@ mutual
   expression_counted (TextSyntax at bytes) = omega arith
   expression_counted (LocalSyntax at name) = omega arith
   expression_counted (PairSyntax at first second) =
-      omega (arith, expression_counted first, expression_counted second,
-      length-append (expression_tokens first ++ mark Comma ∷ expression_tokens second) (mark RightParenthesis ∷ []),
-      length-append (expression_tokens first) (mark Comma ∷ expression_tokens second))
+      omega (
+        arith,
+        expression_counted first,
+        expression_counted second,
+        length-append (expression_tokens first ++ mark Comma ∷ expression_tokens second) (mark RightParenthesis ∷ []),
+        length-append (expression_tokens first) (mark Comma ∷ expression_tokens second),
+      )
   expression_counted (UnarySyntax at operation operand) =
       omega (arith, expression_counted operand, length-append (expression_tokens operand) (mark RightParenthesis ∷ []))
   expression_counted (BinarySyntax at operation first second) =
-      omega (arith, expression_counted first, expression_counted second,
-      length-append (expression_tokens first ++ mark Comma ∷ expression_tokens second) (mark RightParenthesis ∷ []),
-      length-append (expression_tokens first) (mark Comma ∷ expression_tokens second))
+      omega (
+        arith,
+        expression_counted first,
+        expression_counted second,
+        length-append (expression_tokens first ++ mark Comma ∷ expression_tokens second) (mark RightParenthesis ∷ []),
+        length-append (expression_tokens first) (mark Comma ∷ expression_tokens second),
+      )
   expression_counted (CallSyntax at name operands) =
       omega (arith, row_counted operands, length-append (expressions_tokens operands) (mark RightParenthesis ∷ []))
   expression_counted (ConstructorSyntax at name operands) =
       omega (arith, row_counted operands, in_parentheses-counted (expressions_tokens operands))
   expression_counted (LetSyntax at name bound body) =
-      omega (arith, expression_counted bound, expression_counted body,
-      length-append (expression_tokens bound) (word InWord ∷ expression_tokens body))
+      omega (
+        arith,
+        expression_counted bound,
+        expression_counted body,
+        length-append (expression_tokens bound) (word InWord ∷ expression_tokens body),
+      )
   expression_counted (IfSyntax at test first other) =
-      omega (arith, expression_counted test, expression_counted first, expression_counted other,
-      length-append (expression_tokens test ++ word ThenWord ∷ expression_tokens first) (word ElseWord ∷ expression_tokens other),
-      length-append (expression_tokens test) (word ThenWord ∷ expression_tokens first))
+      omega (
+        arith,
+        expression_counted test,
+        expression_counted first,
+        expression_counted other,
+        length-append (expression_tokens test ++ word ThenWord ∷ expression_tokens first) (word ElseWord ∷ expression_tokens other),
+        length-append (expression_tokens test) (word ThenWord ∷ expression_tokens first),
+      )
   expression_counted (MatchSyntax at subject arms) =
-      omega (arith, expression_counted subject, arms_counted arms,
-      length-append (expression_tokens subject ++ word WithWord ∷ arms_tokens arms) (word EndWord ∷ []),
-      length-append (expression_tokens subject) (word WithWord ∷ arms_tokens arms))
+      omega (
+        arith,
+        expression_counted subject,
+        arms_counted arms,
+        length-append (expression_tokens subject ++ word WithWord ∷ arms_tokens arms) (word EndWord ∷ []),
+        length-append (expression_tokens subject) (word WithWord ∷ arms_tokens arms),
+      )
 
   row_counted : (es : ExpsSyntax) → expressions_in_row es ≤ length (expressions_tokens es)
   row_counted NoExp = omega arith
   row_counted (AndExp e NoExp) = omega (arith, expression_counted e)
   row_counted (AndExp e (AndExp next rest)) =
-      omega (arith, expression_counted e, row_counted (AndExp next rest),
-      length-append (expression_tokens e) (mark Comma ∷ expressions_tokens (AndExp next rest)))
+      omega (
+        arith,
+        expression_counted e,
+        row_counted (AndExp next rest),
+        length-append (expression_tokens e) (mark Comma ∷ expressions_tokens (AndExp next rest)),
+      )
 
   arms_counted : (arms : ArmsSyntax) → expressions_in_arms arms ≤ length (arms_tokens arms)
   arms_counted NoArmSyntax = omega arith
   arms_counted (AndArmSyntax constructor fields body rest) =
-      omega (arith, expression_counted body, arms_counted rest,
-      length-append (in_parentheses (names_tokens fields) ++ mark Arrow ∷ expression_tokens body) (arms_tokens rest),
-      length-append (in_parentheses (names_tokens fields)) (mark Arrow ∷ expression_tokens body))
+      omega (
+        arith,
+        expression_counted body,
+        arms_counted rest,
+        length-append (in_parentheses (names_tokens fields) ++ mark Arrow ∷ expression_tokens body) (arms_tokens rest),
+        length-append (in_parentheses (names_tokens fields)) (mark Arrow ∷ expression_tokens body),
+      )
 
 declaration_counted : (declaration : DeclarationSyntax) → expressions_in_declaration declaration ≤ length (declaration_tokens declaration)
 declaration_counted (TypeDeclaration at name constructors) = omega arith
 declaration_counted (StateDeclaration at of_type) = omega arith
 declaration_counted (FunctionDeclaration at function) =
-    omega (arith, expression_counted function.body,
-    length-append (heading function ++ mark EqualsSign ∷ expression_tokens function.body) (mark Semicolon ∷ []),
-    length-append (heading function) (mark EqualsSign ∷ expression_tokens function.body))
+    omega (
+      arith,
+      expression_counted function.body,
+      length-append (heading function ++ mark EqualsSign ∷ expression_tokens function.body) (mark Semicolon ∷ []),
+      length-append (heading function) (mark EqualsSign ∷ expression_tokens function.body),
+    )
 
 pub program_counted : (declarations : List DeclarationSyntax) → expressions_in_program declarations ≤ length (declarations_tokens declarations)
 program_counted [] = omega arith
 program_counted (declaration ∷ rest) =
-    omega (arith, declaration_counted declaration, program_counted rest,
-    length-append (declaration_tokens declaration) (declarations_tokens rest))
+    omega (
+      arith,
+      declaration_counted declaration,
+      program_counted rest,
+      length-append (declaration_tokens declaration) (declarations_tokens rest),
+    )

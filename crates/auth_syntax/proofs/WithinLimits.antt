@@ -1,5 +1,5 @@
 -- The tree of a text of at most 262,144 bytes is within the limits.
-use Rattle.std.proofs.Common.{◌≡◌, ℕ, ◌≤◌, List, [], ◌∷◌, ◌++◌, length, map, sym, ap, subst, ◌∙◌, arith}
+use Rattle.std.proofs.Common.{◌≡◌, ℕ, ◌≤◌, List, [], ◌∷◌, length, map, sym, ap, subst, ◌∙◌, arith}
 use Rattle.std.proofs.lemmas.List.Elements.{All-nil, All-cons, All-append}
 use Rattle.std.specs.Prelude.{All, flat_map}
 use Rattle.lexemes.specs.declared.place.Place.{Place}
@@ -44,8 +44,8 @@ module _ (words : Vocabulary) where
       (All-cons IsShallowType of_type [] h.1 (All-nil IsShallowType), All-nil IsShallowBody)
   declaration_shallow (FunctionDeclaration at function) h = (
     All-append IsShallowType (map (λ (parameter : ParameterSyntax). parameter.of_type) function.parameters) (function.result_type ∷ [])
-      (parameters_shallow function.parameters h.parameters)
-      (All-cons IsShallowType function.result_type [] h.result_type.1 (All-nil IsShallowType)),
+        (parameters_shallow function.parameters h.parameters)
+        (All-cons IsShallowType function.result_type [] h.result_type.1 (All-nil IsShallowType)),
     All-cons IsShallowBody function.body [] h.body.1 (All-nil IsShallowBody),
   )
 
@@ -70,8 +70,12 @@ module _ (words : Vocabulary) where
             (texts_limited text (declarations_tokens program.declarations) program.end h.written);
         types = shallow.0;
         bodies = shallow.1;
-        expressions = omega (arith, short, program_counted program.declarations,
-          written_short text (declarations_tokens program.declarations) program.end h.written);
+        expressions = omega (
+          arith,
+          short,
+          program_counted program.declarations,
+          written_short text (declarations_tokens program.declarations) program.end h.written,
+        );
       }
 
   -- the declarations that are read up to the end of a text are those of its program
