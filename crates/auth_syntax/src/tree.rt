@@ -1,4 +1,5 @@
-// The trees that texts are parsed to. Each node has the place of its first token.
+// The trees that texts are parsed to. A whole one, `Ast`, is within the limits of names, texts, nesting and size by its type, wherever it
+// comes from. Each node has the place of its first token.
 
 ghost use Rattle.auth_syntax.specs.TreeLimits.{IsWithinLimits};
 ghost use Rattle.auth_syntax.specs.TreeParts.{declarations_of};
