@@ -19,7 +19,7 @@ fault_of (Tree program) = None
 fault_of (FirstFault kind at) = Some (kind, at.line, at.column)
 
 -- a text so many times
-abbrev repeated : ℕ → List ℕ → List ℕ
+abbrev pub repeated : ℕ → List ℕ → List ℕ
 repeated zero text = []
 repeated (suc n) text = text ++ repeated n text
 

@@ -2,6 +2,7 @@ pub mod Syntax
 pub mod Vocabulary
 pub mod Grammar
 pub mod Parsing
+pub mod TreeParts
 pub mod TreeLimits
 pub mod Trees
 pub mod Arms

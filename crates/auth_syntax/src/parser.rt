@@ -61,7 +61,8 @@ fn parse_in(alloc: Global, language: Language, text: &[u8]) -> Result<Ast, Synta
     ensures written { IfOk result (λ ast. IsProgramText (words_of language) text.now (program_of ast)) }
 {
     let mut parser = Parser::new(alloc, text);
-    Ok(declarations::program(&mut parser, language)?)
+    let (declarations, end) = declarations::program(&mut parser, language)?;
+    Ok(Ast { declarations, end })
 }
 
 /// The name of these bytes, which are copied.

@@ -1,15 +1,20 @@
-// The trees that texts are parsed to. Those that `parse` gives have names of at most 64 bytes, texts of at most 65,532 bytes of UTF-8, and
-// no type or expression in them has more than 100 levels. Each node has the place of its first token.
+// The trees that texts are parsed to. A whole one, `Ast`, is within the limits of names, texts, nesting and size by its type, wherever it
+// comes from. Each node has the place of its first token.
+
+ghost use Rattle.auth_syntax.specs.TreeLimits.{IsWithinLimits};
+ghost use Rattle.auth_syntax.specs.TreeParts.{declarations_of};
 
 use core_terms::language::BinaryOperator;
 use core_terms::{Name, Text};
 use lexemes::place::Place;
 
-/// A program: its declarations, in order, and the place behind the last byte of its text.
+/// A program: its declarations, in order, and the place behind the last byte of its text. Its names have 1 to 64 bytes, its text literals
+/// at most 65,532, no type and no body has more than 100 levels, and there are at most 262,144 expressions in all.
 #[derive(Drop)]
 pub struct Ast {
     pub declarations: Vec<Declaration>,
     pub end: Place,
+    pub ghost within: { IsWithinLimits (declarations_of declarations) },
 }
 
 /// A name where it stands.

@@ -16,7 +16,7 @@ use crate::parser::expressions::whole_expression;
 use crate::parser::types::{field_types, whole_type};
 use crate::parser::{lower, upper};
 use crate::tree::{
-    Ast, ConstructorDeclaration, Declaration, Function, FunctionKind, Parameter, PlacedName,
+    ConstructorDeclaration, Declaration, Function, FunctionKind, Parameter, PlacedName,
     TypeDeclaration,
 };
 use lexemes::fault::{SyntaxFault, SyntaxKind};
@@ -25,10 +25,13 @@ use lexemes::parser::{Parser, PlacedToken};
 use lexemes::place::Place;
 use lexemes::token::{Keyword, Mark, Token};
 
-/// All declarations up to the end of the text.
-pub(crate) fn program(parser: &mut Parser<'_>, language: Language) -> Result<Ast, SyntaxFault>
-    ensures declarations { Reads (λ ast. declarations_of ast.declarations) (read_declarations (words_of language) (count (remaining parser.old)) (remaining parser.old)) result (remaining parser.new) }
-    ensures end { IfOk result (λ ast. remaining parser.new ≡ End ast.end) }
+/// All declarations up to the end of the text, and the place of that end.
+pub(crate) fn program(
+    parser: &mut Parser<'_>,
+    language: Language,
+) -> Result<(Vec<Declaration>, Place), SyntaxFault>
+    ensures declarations { Reads (λ found. declarations_of found.0) (read_declarations (words_of language) (count (remaining parser.old)) (remaining parser.old)) result (remaining parser.new) }
+    ensures end { IfOk result (λ found. remaining parser.new ≡ End found.1) }
 {
     let mut declarations = Vec::new(parser.alloc);
     'each: loop {
@@ -36,7 +39,7 @@ pub(crate) fn program(parser: &mut Parser<'_>, language: Language) -> Result<Ast
             Lexeme::Token(at, token) => {
                 declarations.push(declaration(parser, language, at, token)?)?;
             }
-            Lexeme::End(end) => return Ok(Ast { declarations, end }),
+            Lexeme::End(end) => return Ok((declarations, end)),
             Lexeme::Fault(at, kind) => return Err(SyntaxFault::At(SyntaxKind::Lexical(kind), at)),
         }
     }
