@@ -1,9 +1,8 @@
 -- What passes of a tree that is within the limits of trees is within those of programs, whatever the passes count themselves.
 use Rattle.std.proofs.Common.{◌≡◌, ℕ, suc, ◌+◌, ◌≤◌, List, [], ◌∷◌, ◌++◌, length, map, max, slice_index_or, refl, ap, ap₂, subst, sym, arith}
-use Rattle.std.specs.Prelude.{All, flat_map, sum_by}
+use Rattle.std.specs.Prelude.{All, flat_map}
 use Rattle.std.proofs.lemmas.List.{length-map}
 use Rattle.std.proofs.lemmas.List.Elements.{All-cons, All-head, All-nil, All-tail}
-use Rattle.std.proofs.lemmas.List.Sums.{sum_by-cons}
 use Rattle.core_terms.specs.Types.{Ty}
 use Rattle.core_terms.specs.Terms.{Expression, Function}
 use Rattle.core_terms.specs.LanguageNames as code
@@ -123,10 +122,9 @@ expressions_written (f ∷ fs) = written.expressions_in f.body + expressions_wri
 
 pub expressions_counted : (ds : List DeclarationSyntax) → written.expressions_in_program ds ≡ expressions_written (functions_in ds)
 expressions_counted [] = refl
-expressions_counted (TypeDeclaration at name cs ∷ ds) = expressions_counted ds
-expressions_counted (StateDeclaration at t ∷ ds) = expressions_counted ds
-expressions_counted (FunctionDeclaration at f ∷ ds) =
-    omega (arith, sum_by-cons written.expressions_in f.body (bodies_in_program ds), expressions_counted ds)
+expressions_counted (TypeDeclaration at name cs ∷ ds) = omega (arith, expressions_counted ds)
+expressions_counted (StateDeclaration at t ∷ ds) = omega (arith, expressions_counted ds)
+expressions_counted (FunctionDeclaration at f ∷ ds) = omega (arith, expressions_counted ds)
 
 module _ (names : List (List ℕ)) where
   -- a type has the levels with which it is written

@@ -194,6 +194,12 @@ module _ (scope : Scope) where
       }))
   matched_sized n c d l m at subject e t names arms h each = tt
 
+  -- the body of an arm
+  arm_sized : (n c l : ℕ) (want : Option Ty) (at : Place) (body : Checking Typed) → Gives (Sized n c l) body → Gives (Sized n c l) (wanted_arm want at body)
+  arm_sized n c l None at body h = h
+  arm_sized n c l (Some t) at body h =
+      gives_then (IsSized n c l) (Sized n c l) (wanted at t body) (λ e. typed e t) (wanted_sized n c l at t body h) (λ e he. he)
+
   mutual
     -- an expression
     pub elaborated_sized : (locals : List Local) (x : ExpSyntax)
@@ -292,8 +298,3 @@ module _ (scope : Scope) where
           flat = omega (arith, he.flat, h.flat);
           room = λ r. max-le (subst (λ m. locals_in scope.table m e.expression ≤ most_locals) bound.many (he.room (bound.room r))) (h.room r);
         }))))
-
-    arm_sized : (n c l : ℕ) (want : Option Ty) (at : Place) (body : Checking Typed) → Gives (Sized n c l) body → Gives (Sized n c l) (wanted_arm want at body)
-    arm_sized n c l None at body h = h
-    arm_sized n c l (Some t) at body h =
-        gives_then (IsSized n c l) (Sized n c l) (wanted at t body) (λ e. typed e t) (wanted_sized n c l at t body h) (λ e he. he)
