@@ -1,6 +1,6 @@
 -- What is found of a part, and of what goes on with it.
 use Rattle.std.proofs.Common.{◌≡◌, List, ◌++◌, Result, Ok, Err, sym, ap, ◌∙◌, subst, append_assoc}
-use Rattle.std.specs.Prelude.{OnOk}
+use Rattle.std.specs.Prelude.{IfOk, IsErrAnd, OnOk}
 use Rattle.core_terms.specs.Types.{Ty}
 use Rattle.auth_types.specs.Checking.{Checking, FaultAt, then_checked}
 use Rattle.lexemes.specs.declared.place.Place.{Place}
@@ -39,6 +39,11 @@ on_ok (Err fault) p = tt
 pub on_more : {T E P Q : Type 0} (r : Result T E) → (P → Q) → OnOk r P → OnOk r Q
 on_more (Ok value) more p = more p
 on_more (Err fault) more p = tt
+
+-- an error gives no value of which anything is to hold
+pub no_value : {T E : Type 0} (Q : E → Type 0) (P : T → Type 0) (r : Result T E) → IsErrAnd r Q → IfOk r P
+no_value Q P (Ok value) h = elim h [ ]
+no_value Q P (Err fault) h = tt
 
 -- the same thing found by other means
 pub finds_is : {A B : Type 0} (types : List Ty) (view : List Ty → A → B) (found found' : Checking B) (r : Result A TypeFault) → found ≡ found'

@@ -63,6 +63,21 @@ module _ (scope : Scope) where
       (λ e he. judges_unless (e.of_type ≡ t) R (Misfits scope locals t tree) (same_type e.of_type t) WrongType (place_of tree) (Sound e.expression) (type_decides e.of_type t)
       (λ never. BrokenRules.OtherType he never) (λ same. subst (λ a. Elaborates scope locals tree e.expression a) same he))
 
+  -- what goes on behind a part, and behind one of which a type is wanted
+  behind_part : (inner : List Local) (part : ExpSyntax) (locals : List Local) (whole : ExpSyntax) (found : Checking Typed) (rest : Typed → Checking Typed)
+      → IsJudged inner part found → ((kind : TypeKind) (at : Place) → Breaks scope inner part kind at → Breaks scope locals whole kind at)
+      → ((e : Typed) → Means inner part e → IsJudged locals whole (rest e)) → IsJudged locals whole (then_checked found rest)
+  behind_part inner part locals whole found rest =
+      judges_then (Means inner part) (Breaks scope inner part) (Means locals whole) (Breaks scope locals whole) found rest
+
+  behind_wanted : (locals : List Local) (t : Ty) (part whole : ExpSyntax) (found : Checking Typed) (rest : Expression → Checking Typed)
+      → IsJudged locals part found → ((kind : TypeKind) (at : Place) → Misfits scope locals t part kind at → Breaks scope locals whole kind at)
+      → ((x : Expression) → Elaborates scope locals part x t → IsJudged locals whole (rest x))
+      → IsJudged locals whole (then_checked (wanted (place_of part) t found) rest)
+  behind_wanted locals t part whole found rest h =
+      judges_then (λ x. Elaborates scope locals part x t) (Misfits scope locals t part) (Means locals whole) (Breaks scope locals whole)
+      (wanted (place_of part) t found) rest (wanted_judged locals t part found h)
+
   local_judged : (locals : List Local) (at : Place) (name : List ℕ) (found : Option ℕ) → LocalFound 0 locals name found → IsJudged locals (LocalSyntax at name) (local_at at locals found)
   local_judged locals at name None none = BrokenRules.UnknownLocal none
   local_judged locals at name (Some i) (k, l, is, names) =
@@ -71,7 +86,8 @@ module _ (scope : Scope) where
       subst (λ t. Elaborates scope locals (LocalSyntax at name) (LocalE i) t) (sym (type_of_local locals name i l named)) (TypingRules.LocalRule named)
 
   -- an operation on one operand
-  first_judged : (locals : List Local) (at : Place) (tree : ExpSyntax) (e : Expression) (t : Ty) → Elaborates scope locals tree e t → IsJudged locals (UnarySyntax at FstOperation tree) (first_of (place_of tree) e t)
+  first_judged : (locals : List Local) (at : Place) (tree : ExpSyntax) (e : Expression) (t : Ty) → Elaborates scope locals tree e t
+      → IsJudged locals (UnarySyntax at FstOperation tree) (first_of (place_of tree) e t)
   first_judged locals at tree e (PairTy a b) h = TypingRules.FstRule h
   first_judged locals at tree e UnitTy h = BrokenRules.FirstOfNoPair h (λ a b same. absurd (cc))
   first_judged locals at tree e BoolTy h = BrokenRules.FirstOfNoPair h (λ a b same. absurd (cc))
@@ -80,7 +96,8 @@ module _ (scope : Scope) where
   first_judged locals at tree e (NamedTy n) h = BrokenRules.FirstOfNoPair h (λ a b same. absurd (cc))
   first_judged locals at tree e (AuthTy t) h = BrokenRules.FirstOfNoPair h (λ a b same. absurd (cc))
 
-  second_judged : (locals : List Local) (at : Place) (tree : ExpSyntax) (e : Expression) (t : Ty) → Elaborates scope locals tree e t → IsJudged locals (UnarySyntax at SndOperation tree) (second_of (place_of tree) e t)
+  second_judged : (locals : List Local) (at : Place) (tree : ExpSyntax) (e : Expression) (t : Ty) → Elaborates scope locals tree e t
+      → IsJudged locals (UnarySyntax at SndOperation tree) (second_of (place_of tree) e t)
   second_judged locals at tree e (PairTy a b) h = TypingRules.SndRule h
   second_judged locals at tree e UnitTy h = BrokenRules.SecondOfNoPair h (λ a b same. absurd (cc))
   second_judged locals at tree e BoolTy h = BrokenRules.SecondOfNoPair h (λ a b same. absurd (cc))
@@ -89,7 +106,8 @@ module _ (scope : Scope) where
   second_judged locals at tree e (NamedTy n) h = BrokenRules.SecondOfNoPair h (λ a b same. absurd (cc))
   second_judged locals at tree e (AuthTy t) h = BrokenRules.SecondOfNoPair h (λ a b same. absurd (cc))
 
-  opened_judged : (locals : List Local) (at : Place) (tree : ExpSyntax) (e : Expression) (t : Ty) → Elaborates scope locals tree e t → IsJudged locals (UnarySyntax at UnauthOperation tree) (opened (place_of tree) e t)
+  opened_judged : (locals : List Local) (at : Place) (tree : ExpSyntax) (e : Expression) (t : Ty) → Elaborates scope locals tree e t
+      → IsJudged locals (UnarySyntax at UnauthOperation tree) (opened (place_of tree) e t)
   opened_judged locals at tree e (AuthTy t) h = TypingRules.UnauthRule h
   opened_judged locals at tree e UnitTy h = BrokenRules.OpensNoAuth h (λ a same. absurd (cc))
   opened_judged locals at tree e BoolTy h = BrokenRules.OpensNoAuth h (λ a same. absurd (cc))
@@ -99,39 +117,42 @@ module _ (scope : Scope) where
   opened_judged locals at tree e (PairTy a b) h = BrokenRules.OpensNoAuth h (λ a same. absurd (cc))
 
   -- a text's length, and a bool's opposite
-  misfit_length : (locals : List Local) (at : Place) (tree : ExpSyntax) (kind : TypeKind) (place : Place) → Misfits scope locals TextTy tree kind place → Breaks scope locals (UnarySyntax at LenOperation tree) kind place
+  misfit_length : (locals : List Local) (at : Place) (tree : ExpSyntax) (kind : TypeKind) (place : Place) → Misfits scope locals TextTy tree kind place
+      → Breaks scope locals (UnarySyntax at LenOperation tree) kind place
   misfit_length locals at tree kind place (BrokenRules.Inside b) = BrokenRules.InOperand b
   misfit_length locals at tree _ _ (BrokenRules.OtherType h never) = BrokenRules.LengthOfNoText h never
 
-  misfit_not : (locals : List Local) (at : Place) (tree : ExpSyntax) (kind : TypeKind) (place : Place) → Misfits scope locals BoolTy tree kind place → Breaks scope locals (UnarySyntax at NotOperation tree) kind place
+  misfit_not : (locals : List Local) (at : Place) (tree : ExpSyntax) (kind : TypeKind) (place : Place) → Misfits scope locals BoolTy tree kind place
+      → Breaks scope locals (UnarySyntax at NotOperation tree) kind place
   misfit_not locals at tree kind place (BrokenRules.Inside b) = BrokenRules.InOperand b
   misfit_not locals at tree _ _ (BrokenRules.OtherType h never) = BrokenRules.NotOfNoBool h never
 
-  unary_judged : (locals : List Local) (at : Place) (operation : UnaryOperation) (tree : ExpSyntax) (found : Checking Typed) → IsJudged locals tree found → IsJudged locals (UnarySyntax at operation tree) (unary operation (place_of tree) found)
+  unary_judged : (locals : List Local) (at : Place) (operation : UnaryOperation) (tree : ExpSyntax) (found : Checking Typed) → IsJudged locals tree found
+      → IsJudged locals (UnarySyntax at operation tree) (unary operation (place_of tree) found)
   unary_judged locals at FstOperation tree found h =
       let whole = UnarySyntax at FstOperation tree in
-      judges_then (Means locals tree) (Breaks scope locals tree) (Means locals whole) (Breaks scope locals whole) found (λ e. first_of (place_of tree) e.expression e.of_type) h
+      behind_part locals tree locals whole found (λ e. first_of (place_of tree) e.expression e.of_type) h
       (λ kind place b. BrokenRules.InOperand b) (λ e he. first_judged locals at tree e.expression e.of_type he)
   unary_judged locals at SndOperation tree found h =
       let whole = UnarySyntax at SndOperation tree in
-      judges_then (Means locals tree) (Breaks scope locals tree) (Means locals whole) (Breaks scope locals whole) found (λ e. second_of (place_of tree) e.expression e.of_type) h
+      behind_part locals tree locals whole found (λ e. second_of (place_of tree) e.expression e.of_type) h
       (λ kind place b. BrokenRules.InOperand b) (λ e he. second_judged locals at tree e.expression e.of_type he)
   unary_judged locals at AuthOperation tree found h =
       let whole = UnarySyntax at AuthOperation tree in
-      judges_then (Means locals tree) (Breaks scope locals tree) (Means locals whole) (Breaks scope locals whole) found (λ e. typed (AuthE e.of_type e.expression) (AuthTy e.of_type)) h
+      behind_part locals tree locals whole found (λ e. typed (AuthE e.of_type e.expression) (AuthTy e.of_type)) h
       (λ kind place b. BrokenRules.InOperand b) (λ e he. TypingRules.AuthRule he)
   unary_judged locals at UnauthOperation tree found h =
       let whole = UnarySyntax at UnauthOperation tree in
-      judges_then (Means locals tree) (Breaks scope locals tree) (Means locals whole) (Breaks scope locals whole) found (λ e. opened (place_of tree) e.expression e.of_type) h
+      behind_part locals tree locals whole found (λ e. opened (place_of tree) e.expression e.of_type) h
       (λ kind place b. BrokenRules.InOperand b) (λ e he. opened_judged locals at tree e.expression e.of_type he)
   unary_judged locals at LenOperation tree found h =
       let whole = UnarySyntax at LenOperation tree in
-      judges_then (λ x. Elaborates scope locals tree x TextTy) (Misfits scope locals TextTy tree) (Means locals whole) (Breaks scope locals whole) (wanted (place_of tree) TextTy found) (λ e. typed (LenE e) IntTy)
-      (wanted_judged locals TextTy tree found h) (misfit_length locals at tree) (λ e he. TypingRules.LenRule he)
+      behind_wanted locals TextTy tree whole found (λ e. typed (LenE e) IntTy)
+      h (misfit_length locals at tree) (λ e he. TypingRules.LenRule he)
   unary_judged locals at NotOperation tree found h =
       let whole = UnarySyntax at NotOperation tree in
-      judges_then (λ x. Elaborates scope locals tree x BoolTy) (Misfits scope locals BoolTy tree) (Means locals whole) (Breaks scope locals whole) (wanted (place_of tree) BoolTy found) (λ e. typed (NotE e) BoolTy)
-      (wanted_judged locals BoolTy tree found h) (misfit_not locals at tree) (λ e he. TypingRules.NotRule he)
+      behind_wanted locals BoolTy tree whole found (λ e. typed (NotE e) BoolTy)
+      h (misfit_not locals at tree) (λ e he. TypingRules.NotRule he)
 
   -- expressions in a row
   abbrev pub AreJudged : List Local → ExpsSyntax → List Ty → Checking Expressions → Type 0
@@ -146,7 +167,8 @@ module _ (scope : Scope) where
       let same : k ≡ f.number = sym (is ∙ zero-add k) in
       let named = subst (λ j. TypingRules.NamesFunction scope name j f.value) same first in
       let ts = f.value.parameters in
-      judges_unless (count_of operands ≡ length ts) (Means locals whole) (Breaks scope locals whole) (nat_eq (count_of operands) (length ts)) WrongCount at _ (equal_decides (count_of operands) (length ts))
+      judges_unless (count_of operands ≡ length ts) (Means locals whole) (Breaks scope locals whole) (nat_eq (count_of operands) (length ts)) WrongCount at _
+      (equal_decides (count_of operands) (length ts))
       (λ never. BrokenRules.OtherArguments named never)
       (λ many. judges_then (λ xs. ElaborateEach scope locals operands xs ts) (OneMisfits scope locals ts operands) (Means locals whole) (Breaks scope locals whole)
       (elaborated_each scope locals operands ts) (λ xs. typed (CallE f.number xs) f.value.result) (each ts many)
@@ -162,7 +184,8 @@ module _ (scope : Scope) where
       let here : NamesConstructor scope name k c.value = record { siblings = siblings; of_type = first; tagged = tagged } in
       let named = subst (λ j. NamesConstructor scope name j c.value) same here in
       let ts = field_types scope c.number c.value in
-      judges_unless (count_of operands ≡ length ts) (Means locals whole) (Breaks scope locals whole) (nat_eq (count_of operands) (length ts)) WrongCount at _ (equal_decides (count_of operands) (length ts))
+      judges_unless (count_of operands ≡ length ts) (Means locals whole) (Breaks scope locals whole) (nat_eq (count_of operands) (length ts)) WrongCount at _
+      (equal_decides (count_of operands) (length ts))
       (λ never. BrokenRules.OtherFields named never)
       (λ many. judges_then (λ xs. ElaborateEach scope locals operands xs ts) (OneMisfits scope locals ts operands) (Means locals whole) (Breaks scope locals whole)
       (elaborated_each scope locals operands ts) (λ xs. typed (ConE c.number c.value xs) (NamedTy c.number)) (each ts many)
@@ -184,11 +207,13 @@ module _ (scope : Scope) where
   body_judged locals None body found h =
       judges_more (Means locals body) (HasBody locals None body) (Breaks scope locals body) (BodyBreaks scope locals None body) found (λ e he. (he, tt)) (λ kind place b. BrokenRules.FirstBody b) h
   body_judged locals (Some t) body found h =
-      judges_then (λ x. Elaborates scope locals body x t) (Misfits scope locals t body) (HasBody locals (Some t) body) (BodyBreaks scope locals (Some t) body) (wanted (place_of body) t found) (λ x. typed x t)
+      judges_then (λ x. Elaborates scope locals body x t) (Misfits scope locals t body) (HasBody locals (Some t) body) (BodyBreaks scope locals (Some t) body)
+      (wanted (place_of body) t found) (λ x. typed x t)
       (wanted_judged locals t body found h) (λ kind place m. BrokenRules.LaterBody m) (λ x hx. (hx, refl))
 
   -- what follows of an arm and of those behind it
-  arm_and_rest : (locals : List Local) (constructor : NameSyntax) (fields : List NameSyntax) (body : ExpSyntax) (rest : ArmsSyntax) (before : Option Ty) (ts : List Ty) (rows : List (List Ty)) (e : Typed) (found : TypedArms)
+  arm_and_rest : (locals : List Local) (constructor : NameSyntax) (fields : List NameSyntax) (body : ExpSyntax) (rest : ArmsSyntax) (before : Option Ty)
+      (ts : List Ty) (rows : List (List Ty)) (e : Typed) (found : TypedArms)
       → length fields ≡ length ts → MayBindAll locals fields → HasBody (with_fields locals fields ts) before body e → HaveMeaning locals rest (Some e.of_type) rows found
       → HaveMeaning locals (AndArmSyntax constructor fields body rest) before (ts ∷ rows) (record { arms = AndArm e.expression found.arms; of_type = found.of_type })
   arm_and_rest locals constructor fields body rest before ts rows e found many may he hrest =
@@ -200,7 +225,9 @@ module _ (scope : Scope) where
       by (Some t) h = hrest.1 ∙ h
 
   match_judged : (locals : List Local) (at : Place) (subject : ExpSyntax) (arms : ArmsSyntax) (e : Expression) (t : Ty) → Elaborates scope locals subject e t
-      → ((rows : List (List Ty)) → length (arm_names arms) ≡ length rows → Judges (HaveMeaning locals arms None rows) (ArmsBreak scope locals arms None rows) (elaborated_arms scope locals arms None rows)) → IsWhole scope
+      → ((rows : List (List Ty)) → length (arm_names arms) ≡ length rows
+      → Judges (HaveMeaning locals arms None rows) (ArmsBreak scope locals arms None rows) (elaborated_arms scope locals arms None rows))
+      → IsWhole scope
       → IsJudged locals (MatchSyntax at subject arms) (matched scope at (place_of subject) e t (arm_names arms) (elaborated_arms scope locals arms None))
   match_judged locals at subject arms e UnitTy h each whole = BrokenRules.MatchesNoSum h (λ n same. absurd (cc))
   match_judged locals at subject arms e BoolTy h each whole = BrokenRules.MatchesNoSum h (λ n same. absurd (cc))
@@ -229,17 +256,17 @@ module _ (scope : Scope) where
       judged locals (LocalSyntax at name) = local_judged locals at name (last_named 0 locals name) (local_by_name locals name)
       judged locals (PairSyntax at first second) =
           let tree = PairSyntax at first second in
-          judges_then (Means locals first) (Breaks scope locals first) (Means locals tree) (Breaks scope locals tree) (elaborated scope locals first) _ (judged locals first) (λ kind place b. BrokenRules.InFirst b)
-          (λ x hx. judges_then (Means locals second) (Breaks scope locals second) (Means locals tree) (Breaks scope locals tree) (elaborated scope locals second) _ (judged locals second)
+          behind_part locals first locals tree (elaborated scope locals first) _ (judged locals first) (λ kind place b. BrokenRules.InFirst b)
+          (λ x hx. behind_part locals second locals tree (elaborated scope locals second) _ (judged locals second)
           (λ kind place b. BrokenRules.InSecond hx b) (λ y hy. TypingRules.PairRule hx hy))
       judged locals (UnarySyntax at operation operand) = unary_judged locals at operation operand (elaborated scope locals operand) (judged locals operand)
       judged locals (BinarySyntax at operation first second) =
           let tree = BinarySyntax at operation first second in
           let t = operand_type operation in
-          judges_then (λ x. Elaborates scope locals first x t) (Misfits scope locals t first) (Means locals tree) (Breaks scope locals tree) (wanted (place_of first) t (elaborated scope locals first)) _
-          (wanted_judged locals t first (elaborated scope locals first) (judged locals first)) (λ kind place m. BrokenRules.InLeft (operates operation) m)
-          (λ x hx. judges_then (λ y. Elaborates scope locals second y t) (Misfits scope locals t second) (Means locals tree) (Breaks scope locals tree) (wanted (place_of second) t (elaborated scope locals second)) _
-          (wanted_judged locals t second (elaborated scope locals second) (judged locals second)) (λ kind place m. BrokenRules.InRight (operates operation) hx m)
+          behind_wanted locals t first tree (elaborated scope locals first) _
+          (judged locals first) (λ kind place m. BrokenRules.InLeft (operates operation) m)
+          (λ x hx. behind_wanted locals t second tree (elaborated scope locals second) _
+          (judged locals second) (λ kind place m. BrokenRules.InRight (operates operation) hx m)
           (λ y hy. TypingRules.BinaryRule (operates operation) hx hy))
       judged locals (CallSyntax at name operands) =
           call_judged locals at name operands (function_named 0 scope.functions name) (function_by_name scope.functions name) (λ ts many. each_judged locals operands ts many)
@@ -247,23 +274,24 @@ module _ (scope : Scope) where
           constructor_judged locals at name operands (constructor_named 0 scope.constructors name) (constructor_by_name scope.constructors name) (λ ts many. each_judged locals operands ts many)
       judged locals (LetSyntax at name bound body) =
           let tree = LetSyntax at name bound body in
-          judges_then (Means locals bound) (Breaks scope locals bound) (Means locals tree) (Breaks scope locals tree) (elaborated scope locals bound) _ (judged locals bound) (λ kind place b. BrokenRules.InBound b)
-          (λ x hx. judges_unless (length locals < most_locals) (Means locals tree) (Breaks scope locals tree) (nat_lt (length locals) most_locals) (Limit Locals) name.at _ (below_decides (length locals) most_locals)
+          behind_part locals bound locals tree (elaborated scope locals bound) _ (judged locals bound) (λ kind place b. BrokenRules.InBound b)
+          (λ x hx. judges_unless (length locals < most_locals) (Means locals tree) (Breaks scope locals tree) (nat_lt (length locals) most_locals)
+          (Limit Locals) name.at _ (below_decides (length locals) most_locals)
           (λ never. BrokenRules.BindsTooMany hx (not_below (length locals) most_locals never))
           (λ room. let inner = with_local locals name.name x.of_type in
-          judges_then (Means inner body) (Breaks scope inner body) (Means locals tree) (Breaks scope locals tree) (elaborated scope inner body) _ (judged inner body)
+          behind_part inner body locals tree (elaborated scope inner body) _ (judged inner body)
           (λ kind place b. BrokenRules.InLetBody hx room b) (λ y hy. TypingRules.LetRule hx room hy)))
       judged locals (IfSyntax at test first other) =
           let tree = IfSyntax at test first other in
-          judges_then (λ c. Elaborates scope locals test c BoolTy) (Misfits scope locals BoolTy test) (Means locals tree) (Breaks scope locals tree) (wanted (place_of test) BoolTy (elaborated scope locals test)) _
-          (wanted_judged locals BoolTy test (elaborated scope locals test) (judged locals test)) (λ kind place m. BrokenRules.InTest m)
-          (λ c hc. judges_then (Means locals first) (Breaks scope locals first) (Means locals tree) (Breaks scope locals tree) (elaborated scope locals first) _ (judged locals first) (λ kind place b. BrokenRules.InThen hc b)
-          (λ x hx. judges_then (λ y. Elaborates scope locals other y x.of_type) (Misfits scope locals x.of_type other) (Means locals tree) (Breaks scope locals tree) (wanted (place_of other) x.of_type (elaborated scope locals other)) _
-          (wanted_judged locals x.of_type other (elaborated scope locals other) (judged locals other)) (λ kind place m. BrokenRules.InElse hc hx m)
+          behind_wanted locals BoolTy test tree (elaborated scope locals test) _
+          (judged locals test) (λ kind place m. BrokenRules.InTest m)
+          (λ c hc. behind_part locals first locals tree (elaborated scope locals first) _ (judged locals first) (λ kind place b. BrokenRules.InThen hc b)
+          (λ x hx. behind_wanted locals x.of_type other tree (elaborated scope locals other) _
+          (judged locals other) (λ kind place m. BrokenRules.InElse hc hx m)
           (λ y hy. TypingRules.IfRule hc hx hy)))
       judged locals (MatchSyntax at subject arms) =
           let tree = MatchSyntax at subject arms in
-          judges_then (Means locals subject) (Breaks scope locals subject) (Means locals tree) (Breaks scope locals tree) (elaborated scope locals subject) _ (judged locals subject) (λ kind place b. BrokenRules.InSubject b)
+          behind_part locals subject locals tree (elaborated scope locals subject) _ (judged locals subject) (λ kind place b. BrokenRules.InSubject b)
           (λ e he. match_judged locals at subject arms e.expression e.of_type he (λ rows many. arms_judged locals arms None rows many) whole)
 
       -- expressions in a row, as many as their types
@@ -276,7 +304,8 @@ module _ (scope : Scope) where
           let R : Expressions → Type 0 = λ xs. ElaborateEach scope locals all xs (t ∷ ts) in
           judges_then (λ x. Elaborates scope locals tree x t) (Misfits scope locals t tree) R (OneMisfits scope locals (t ∷ ts) all) (wanted (place_of tree) t (elaborated scope locals tree)) _
           (wanted_judged locals t tree (elaborated scope locals tree) (judged locals tree)) (λ kind place m. BrokenRules.ThisMisfits m)
-          (λ x hx. judges_then (λ xs. ElaborateEach scope locals rest xs ts) (OneMisfits scope locals ts rest) R (OneMisfits scope locals (t ∷ ts) all) (elaborated_each scope locals rest ts) _ (each_judged locals rest ts (cc))
+          (λ x hx. judges_then (λ xs. ElaborateEach scope locals rest xs ts) (OneMisfits scope locals ts rest) R (OneMisfits scope locals (t ∷ ts) all)
+          (elaborated_each scope locals rest ts) _ (each_judged locals rest ts (cc))
           (λ kind place m. BrokenRules.LaterMisfits hx m) (λ xs hxs. TypingRules.AndRule hx hxs))
 
       -- arms, as many as the constructors
@@ -293,10 +322,12 @@ module _ (scope : Scope) where
           let G = ArmsBreak scope locals arms before (ts ∷ rows) in
           judges_unless (length fields ≡ length ts) R G (nat_eq (length fields) (length ts)) WrongCount constructor.at _ (equal_decides (length fields) (length ts))
           (λ never. BrokenRules.OtherNames never)
-          (λ as_many. judges_then (λ found. MayBindAll locals fields × (found ≡ inner)) (BreaksNames locals fields) R G (bound_names [] locals fields ts) _ (pattern_judged locals fields ts as_many)
+          (λ as_many. judges_then (λ found. MayBindAll locals fields × (found ≡ inner)) (BreaksNames locals fields) R G (bound_names [] locals fields ts) _
+          (pattern_judged locals fields ts as_many)
           (λ kind place b. BrokenRules.InPattern as_many b)
           (λ found (may, is). subst (λ bound. Judges R G (then_checked (wanted_arm before (place_of body) (elaborated scope bound body)) (λ e.
-          then_checked (elaborated_arms scope locals rest (Some e.of_type) rows) (λ typed_arms. Sound (record { arms = AndArm e.expression typed_arms.arms; of_type = typed_arms.of_type }))))) (sym is)
+          then_checked (elaborated_arms scope locals rest (Some e.of_type) rows)
+          (λ typed_arms. Sound (record { arms = AndArm e.expression typed_arms.arms; of_type = typed_arms.of_type }))))) (sym is)
           (judges_then (HasBody inner before body) (BodyBreaks scope inner before body) R G (wanted_arm before (place_of body) (elaborated scope inner body)) _
           (body_judged inner before body (elaborated scope inner body) (judged inner body)) (λ kind place b. BrokenRules.InBody as_many may b)
           (λ e he. judges_then (HaveMeaning locals rest (Some e.of_type) rows) (ArmsBreak scope locals rest (Some e.of_type) rows) R G (elaborated_arms scope locals rest (Some e.of_type) rows) _

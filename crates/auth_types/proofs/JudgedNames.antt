@@ -28,7 +28,8 @@ pub before_decides : (front : List NameSyntax) (before : List (List ℕ)) (name 
 before_decides front before name is =
     Decides-at (is_among name before) (is_among name (names_written front)) (ap (is_among name) is ∙ among_reverse name (names_written front)) (among_decides name (names_written front))
 
-pub before_more : (front : List NameSyntax) (before : List (List ℕ)) (name : NameSyntax) → before ≡ reverse (names_written front) → name.name ∷ before ≡ reverse (names_written (front ++ name ∷ []))
+pub before_more : (front : List NameSyntax) (before : List (List ℕ)) (name : NameSyntax) → before ≡ reverse (names_written front)
+    → name.name ∷ before ≡ reverse (names_written (front ++ name ∷ []))
 before_more front before name is =
     ap (λ b. name.name ∷ b) is
     ∙ sym (ap reverse (map-append (λ (n : NameSyntax). n.name) front (name ∷ [])) ∙ reverse-append (names_written front) (name.name ∷ []))
@@ -38,10 +39,17 @@ one_longer [] x = refl
 one_longer (y ∷ front) x = ap suc (one_longer front x)
 
 module _ (first : List Local) where
+  -- these names may be bound behind those in front, and what breaks that
+  abbrev Binds : List NameSyntax → List NameSyntax → List Local → List Ty → List Local → Type 0
+  Binds front names locals ts inner = EachMeets (MayBind first) front names × (inner ≡ with_fields locals names ts)
+
+  abbrev Misnames : List NameSyntax → List NameSyntax → TypeKind → Place → Type 0
+  Misnames front names = OneBreaks (MayBind first) (BreaksName first) front names
+
   -- where so many locals stand before the pattern, and these names of it
   names_judged : (front : List NameSyntax) (before : List (List ℕ)) (locals : List Local) (names : List NameSyntax) (ts : List Ty)
       → before ≡ reverse (names_written front) → length locals ≡ length first + length front → length names ≡ length ts
-      → Judges (λ inner. EachMeets (MayBind first) front names × (inner ≡ with_fields locals names ts)) (OneBreaks (MayBind first) (BreaksName first) front names) (bound_names before locals names ts)
+      → Judges (Binds front names locals ts) (Misnames front names) (bound_names before locals names ts)
   names_judged front before locals [] [] is many same = (NoMore, refl)
   names_judged front before locals [] (t ∷ ts) is many same = absurd (cc)
   names_judged front before locals (name ∷ names) [] is many same = absurd (cc)
@@ -52,18 +60,18 @@ module _ (first : List Local) where
       (names_judged (front ++ name ∷ []) (name.name ∷ before) inner names ts (before_more front before name is) fuller (cc))
     where
       by : (b : Bool) (found : Checking (List Local)) → Decides b (Contains (names_written front) name.name)
-          → Judges (λ inner. EachMeets (MayBind first) (front ++ name ∷ []) names × (inner ≡ with_fields (with_local locals name.name t) names ts)) (OneBreaks (MayBind first) (BreaksName first) (front ++ name ∷ []) names) found
-          → Judges (λ inner. EachMeets (MayBind first) front (name ∷ names) × (inner ≡ with_fields locals (name ∷ names) (t ∷ ts))) (OneBreaks (MayBind first) (BreaksName first) front (name ∷ names))
+          → Judges (Binds (front ++ name ∷ []) names (with_local locals name.name t) ts) (Misnames (front ++ name ∷ []) names) found
+          → Judges (Binds front (name ∷ names) locals (t ∷ ts)) (Misnames front (name ∷ names))
           (if b then FaultAt Twice name.at else unless_fault (nat_lt (length locals) most_locals) (Limit Locals) name.at found)
       by true found d h = ThisBreaks (NameTwice (d.0 refl))
       by false found d h =
           let new : Contains (names_written front) name.name → ⊥ = λ has. let e : false ≡ true = d.1 has in absurd (cc) in
-          judges_unless (length locals < most_locals) (λ inner. EachMeets (MayBind first) front (name ∷ names) × (inner ≡ with_fields locals (name ∷ names) (t ∷ ts))) (OneBreaks (MayBind first) (BreaksName first) front (name ∷ names))
+          judges_unless (length locals < most_locals) (Binds front (name ∷ names) locals (t ∷ ts)) (Misnames front (name ∷ names))
           (nat_lt (length locals) most_locals) (Limit Locals) name.at found (below_decides (length locals) most_locals)
           (λ never. ThisBreaks (LocalTooMany new (full never)))
           (λ room. let may : MayBind first front name = record { is_new = new; has_room = subst (λ n. n < most_locals) many room } in
-          judges_more (λ inner. EachMeets (MayBind first) (front ++ name ∷ []) names × (inner ≡ with_fields (with_local locals name.name t) names ts)) (λ inner. EachMeets (MayBind first) front (name ∷ names) × (inner ≡ with_fields locals (name ∷ names) (t ∷ ts)))
-          (OneBreaks (MayBind first) (BreaksName first) (front ++ name ∷ []) names) (OneBreaks (MayBind first) (BreaksName first) front (name ∷ names)) found
+          judges_more (Binds (front ++ name ∷ []) names (with_local locals name.name t) ts) (Binds front (name ∷ names) locals (t ∷ ts))
+          (Misnames (front ++ name ∷ []) names) (Misnames front (name ∷ names)) found
           (λ inner h. (AndMore may h.0, h.1)) (λ kind at h. LaterBreaks may h) h)
         where
           full : (length locals < most_locals → ⊥) → most_locals ≤ length first + length front
@@ -71,7 +79,8 @@ module _ (first : List Local) where
 
   -- names that may be bound are, and one that may not is told
   names_bind : {front names : List NameSyntax} → EachMeets (MayBind first) front names → (before : List (List ℕ)) (locals : List Local) (ts : List Ty)
-      → before ≡ reverse (names_written front) → length locals ≡ length first + length front → length names ≡ length ts → bound_names before locals names ts ≡ Sound (with_fields locals names ts)
+      → before ≡ reverse (names_written front) → length locals ≡ length first + length front → length names ≡ length ts
+      → bound_names before locals names ts ≡ Sound (with_fields locals names ts)
   names_bind NoMore before locals [] is many same = refl
   names_bind NoMore before locals (t ∷ ts) is many same = absurd (cc)
   names_bind (AndMore may more) before locals [] is many same = absurd (cc)
@@ -84,15 +93,18 @@ module _ (first : List Local) where
       ∙ ap (λ b. unless_fault b (Limit Locals) name.at (bound_names (name.name ∷ before) inner names ts)) room
       ∙ names_bind more (name.name ∷ before) inner ts (before_more front before name is) fuller (cc)
 
-  names_break : {front names : List NameSyntax} {kind : TypeKind} {at : Place} → OneBreaks (MayBind first) (BreaksName first) front names kind at → (before : List (List ℕ)) (locals : List Local) (ts : List Ty)
+  names_break : {front names : List NameSyntax} {kind : TypeKind} {at : Place} → OneBreaks (MayBind first) (BreaksName first) front names kind at
+      → (before : List (List ℕ)) (locals : List Local) (ts : List Ty)
       → before ≡ reverse (names_written front) → length locals ≡ length first + length front → length names ≡ length ts → bound_names before locals names ts ≡ FaultAt kind at
   names_break (ThisBreaks broken) before locals [] is many same = absurd (cc)
   names_break (LaterBreaks may later) before locals [] is many same = absurd (cc)
   names_break (ThisBreaks {before = front} {x = name} {rest = names} (NameTwice has)) before locals (t ∷ ts) is many same =
-      ap (λ b. if b then FaultAt Twice name.at else unless_fault (nat_lt (length locals) most_locals) (Limit Locals) name.at (bound_names (name.name ∷ before) (with_local locals name.name t) names ts))
+      ap (λ b. if b then FaultAt Twice name.at else unless_fault (nat_lt (length locals) most_locals) (Limit Locals) name.at
+      (bound_names (name.name ∷ before) (with_local locals name.name t) names ts))
       ((before_decides front before name.name is).1 has)
   names_break (ThisBreaks {before = front} {x = name} {rest = names} (LocalTooMany new full)) before locals (t ∷ ts) is many same =
-      ap (λ b. if b then FaultAt Twice name.at else unless_fault (nat_lt (length locals) most_locals) (Limit Locals) name.at (bound_names (name.name ∷ before) (with_local locals name.name t) names ts))
+      ap (λ b. if b then FaultAt Twice name.at else unless_fault (nat_lt (length locals) most_locals) (Limit Locals) name.at
+      (bound_names (name.name ∷ before) (with_local locals name.name t) names ts))
       (fails (is_among name.name before) (before_decides front before name.name is) new)
       ∙ ap (λ b. unless_fault b (Limit Locals) name.at (bound_names (name.name ∷ before) (with_local locals name.name t) names ts))
       (fails (nat_lt (length locals) most_locals) (below_decides (length locals) most_locals) (λ room. absurd (omega (arith, many, full, room))))
@@ -112,5 +124,6 @@ module _ (first : List Local) where
   pub pattern_binds : (names : List NameSyntax) (ts : List Ty) → MayBindAll first names → length names ≡ length ts → bound_names [] first names ts ≡ Sound (with_fields first names ts)
   pattern_binds names ts may same = names_bind may [] first ts refl (sym (add-zero (length first))) same
 
-  pub pattern_breaks : (names : List NameSyntax) (ts : List Ty) (kind : TypeKind) (at : Place) → BreaksNames first names kind at → length names ≡ length ts → bound_names [] first names ts ≡ FaultAt kind at
+  pub pattern_breaks : (names : List NameSyntax) (ts : List Ty) (kind : TypeKind) (at : Place) → BreaksNames first names kind at
+      → length names ≡ length ts → bound_names [] first names ts ≡ FaultAt kind at
   pattern_breaks names ts kind at broken same = names_break broken [] first ts refl (sym (add-zero (length first))) same

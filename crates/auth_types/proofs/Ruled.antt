@@ -28,7 +28,8 @@ pub ruled_same : {A : Type 0} (found other : Checking A) (P : A → Type 0) (F :
 ruled_same found other P F same r = subst (λ c. Ruled c P F) (sym same) r
 
 pub ruled_like : {A : Type 0} (found : Checking A) (P Q : A → Type 0) (F G : TypeKind → Place → Type 0)
-    → ((a : A) → P a → Q a) → ((a : A) → Q a → P a) → ((kind : TypeKind) (at : Place) → F kind at → G kind at) → ((kind : TypeKind) (at : Place) → G kind at → F kind at) → Ruled found P F → Ruled found Q G
+    → ((a : A) → P a → Q a) → ((a : A) → Q a → P a) → ((kind : TypeKind) (at : Place) → F kind at → G kind at)
+    → ((kind : TypeKind) (at : Place) → G kind at → F kind at) → Ruled found P F → Ruled found Q G
 ruled_like found P Q F G forth back faults known r = record {
   judged = judges_more P Q F G found forth faults r.judged;
   passes = λ a q. r.passes a (back a q);
@@ -46,7 +47,8 @@ pub ruled_then : {A B : Type 0} (Q : A → Type 0) (F : TypeKind → Place → T
 ruled_then {A = A} {B = B} Q F R G found go r next = record {
   judged =
       judges_then Q F (λ b. (a : A) × Q a × R a b) (λ kind at. F kind at ⊎ ((a : A) × Q a × G a kind at)) found go r.judged (λ kind at f. inl f)
-      (λ a q. judges_more (R a) (λ b. (a : A) × Q a × R a b) (G a) (λ kind at. F kind at ⊎ ((a : A) × Q a × G a kind at)) (go a) (λ b h. (a, q, h)) (λ kind at g. inr (a, q, g)) (next a q).judged);
+      (λ a q. judges_more (R a) (λ b. (a : A) × Q a × R a b) (G a) (λ kind at. F kind at ⊎ ((a : A) × Q a × G a kind at)) (go a) (λ b h. (a, q, h))
+      (λ kind at g. inr (a, q, g)) (next a q).judged);
   passes = λ b (a, q, h). then_is found go a (r.passes a q) ∙ (next a q).passes b h;
   tells = λ kind at f. by kind at f;
 }
@@ -56,7 +58,8 @@ ruled_then {A = A} {B = B} Q F R G found go r next = record {
     by kind at (inr (a, q, g)) = then_is found go a (r.passes a q) ∙ (next a q).tells kind at g
 
 -- a step behind a test
-pub ruled_unless : {B : Type 0} (P : Type 0) (R : B → Type 0) (G : TypeKind → Place → Type 0) (b : Bool) (kind : TypeKind) (at : Place) (rest : Checking B) → Decides b P → (P → Ruled rest R G)
+pub ruled_unless : {B : Type 0} (P : Type 0) (R : B → Type 0) (G : TypeKind → Place → Type 0) (b : Bool) (kind : TypeKind) (at : Place) (rest : Checking B)
+    → Decides b P → (P → Ruled rest R G)
     → Ruled (unless_fault b kind at rest) (λ b. P × R b) (λ k p. ((P → ⊥) × (kind ≡ k) × (at ≡ p)) ⊎ (P × G k p))
 ruled_unless P R G b kind at rest d next = record {
   judged = judges_unless P (λ b. P × R b) (λ k p. ((P → ⊥) × (kind ≡ k) × (at ≡ p)) ⊎ (P × G k p)) b kind at rest d (λ never. inl (never, refl, refl))
@@ -73,7 +76,8 @@ ruled_unless P R G b kind at rest d next = record {
 pub ruled_sound_is : {A : Type 0} (found : Checking A) (P : A → Type 0) (F : TypeKind → Place → Type 0) (a : A) → Ruled found P F → found ≡ Sound a → P a
 ruled_sound_is found P F a r is = judged_sound P F found a r.judged is
 
-pub ruled_fault_is : {A : Type 0} (found : Checking A) (P : A → Type 0) (F : TypeKind → Place → Type 0) (kind : TypeKind) (at : Place) → Ruled found P F → found ≡ FaultAt kind at → F kind at
+pub ruled_fault_is : {A : Type 0} (found : Checking A) (P : A → Type 0) (F : TypeKind → Place → Type 0) (kind : TypeKind) (at : Place)
+    → Ruled found P F → found ≡ FaultAt kind at → F kind at
 ruled_fault_is found P F kind at r is = judged_fault P F found kind at r.judged is
 
 -- steps as they may be grouped
@@ -85,7 +89,8 @@ pub then_alike : {A B : Type 0} (found : Checking A) (f g : A → Checking B) �
 then_alike (Sound a) f g same = same a
 then_alike (FaultAt kind at) f g same = refl
 
-pub unless_then : {A B : Type 0} (b : Bool) (kind : TypeKind) (at : Place) (rest : Checking A) (go : A → Checking B) → then_checked (unless_fault b kind at rest) go ≡ unless_fault b kind at (then_checked rest go)
+pub unless_then : {A B : Type 0} (b : Bool) (kind : TypeKind) (at : Place) (rest : Checking A) (go : A → Checking B)
+    → then_checked (unless_fault b kind at rest) go ≡ unless_fault b kind at (then_checked rest go)
 unless_then true kind at rest go = refl
 unless_then false kind at rest go = refl
 
@@ -113,10 +118,12 @@ module _ {A : Type 0} (Meets : List A → A → Type 0) (Breaks : List A → A �
       ruled_like (each_checked step before (x ∷ rest)) (λ _. (a : Unit {0}) × Meets before x × EachMeets Meets (before ++ x ∷ []) rest) (λ _. EachMeets Meets before (x ∷ rest))
       (λ kind at. Breaks before x kind at ⊎ ((a : Unit {0}) × Meets before x × OneBreaks Meets Breaks (before ++ x ∷ []) rest kind at)) (OneBreaks Meets Breaks before (x ∷ rest))
       (λ _ (a, m, more). AndMore m more) (λ _ h. (tt, (first_meets h).0, (first_meets h).1)) (λ kind at f. later kind at f) (λ kind at b. again kind at (one_of b))
-      (ruled_then (λ _. Meets before x) (Breaks before x) (λ _ _. EachMeets Meets (before ++ x ∷ []) rest) (λ _. OneBreaks Meets Breaks (before ++ x ∷ []) rest) (step before x) (λ _. each_checked step (before ++ x ∷ []) rest)
+      (ruled_then (λ _. Meets before x) (Breaks before x) (λ _ _. EachMeets Meets (before ++ x ∷ []) rest)
+      (λ _. OneBreaks Meets Breaks (before ++ x ∷ []) rest) (step before x) (λ _. each_checked step (before ++ x ∷ []) rest)
       (each before x) (λ _ m. each_ruled step each (before ++ x ∷ []) rest))
     where
-      later : (kind : TypeKind) (at : Place) → Breaks before x kind at ⊎ ((a : Unit {0}) × Meets before x × OneBreaks Meets Breaks (before ++ x ∷ []) rest kind at) → OneBreaks Meets Breaks before (x ∷ rest) kind at
+      later : (kind : TypeKind) (at : Place)
+          → Breaks before x kind at ⊎ ((a : Unit {0}) × Meets before x × OneBreaks Meets Breaks (before ++ x ∷ []) rest kind at) → OneBreaks Meets Breaks before (x ∷ rest) kind at
       later kind at (inl b) = ThisBreaks b
       later kind at (inr (a, m, b)) = LaterBreaks m b
 

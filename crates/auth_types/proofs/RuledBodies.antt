@@ -47,7 +47,8 @@ no_opened : (at : Place) (e : Expression) (t : Ty) → IsNoAuth t → opened at 
 no_opened at e (AuthTy t) never = absurd (never t refl)
 no_opened at e t never = refl
 
-no_match : (scope : Scope) (at subject : Place) (e : Expression) (t : Ty) (names : List (List ℕ)) (arms : List (List Ty) → Checking TypedArms) → IsNoSum t → matched scope at subject e t names arms ≡ FaultAt NotSum subject
+no_match : (scope : Scope) (at subject : Place) (e : Expression) (t : Ty) (names : List (List ℕ)) (arms : List (List Ty) → Checking TypedArms)
+    → IsNoSum t → matched scope at subject e t names arms ≡ FaultAt NotSum subject
 no_match scope at subject e (NamedTy n) names arms never = absurd (never n refl)
 no_match scope at subject e t names arms never = refl
 
@@ -60,15 +61,75 @@ below : (a b : ℕ) → b ≤ a → a < b → ⊥
 below a b full room = absurd (omega (arith, full, room))
 
 module _ (scope : Scope) where
-  abbrev IsFound : List Local → ExpSyntax → Expression → Ty → Type 0
-  IsFound locals tree x t = elaborated scope locals tree ≡ Sound (record { expression = x; of_type = t })
+  -- what is found of an expression, of one of which a type is wanted, of expressions in a row and of arms
+  abbrev found_at : List Local → ExpSyntax → Checking Typed
+  found_at locals tree = elaborated scope locals tree
 
-  -- what is behind the body of an arm, and behind its pattern
+  abbrev wanted_at : List Local → ExpSyntax → Ty → Checking Expression
+  wanted_at locals tree t = wanted (place_of tree) t (elaborated scope locals tree)
+
+  abbrev each_at : List Local → ExpsSyntax → List Ty → Checking Expressions
+  each_at locals trees ts = elaborated_each scope locals trees ts
+
+  abbrev arms_at : List Local → ArmsSyntax → Option Ty → List (List Ty) → Checking TypedArms
+  arms_at locals arms before rows = elaborated_arms scope locals arms before rows
+
+  abbrev typed_as : Expression → Ty → Typed
+  typed_as x t = record { expression = x; of_type = t }
+
+  -- what is behind a left operand, and behind both
+  abbrev joined : BinaryOperator → Expression → Expression → Checking Typed
+  joined operation x y = typed (binary_expression operation x y) (result_type operation)
+
+  abbrev behind_left : List Local → BinaryOperator → ExpSyntax → Expression → Checking Typed
+  behind_left locals operation second x = then_checked (wanted_at locals second (operand_type operation)) (joined operation x)
+
+  -- what is behind what a name is bound to, and behind the body
+  abbrev bound_in : Ty → Expression → Typed → Checking Typed
+  bound_in a x b = typed (LetE a x b.expression) b.of_type
+
+  abbrev behind_bound : List Local → NameSyntax → ExpSyntax → Typed → Checking Typed
+  behind_bound locals name body e =
+      unless_fault (nat_lt (length locals) most_locals) (Limit Locals) name.at
+      (then_checked (found_at (with_local locals name.name e.of_type) body) (bound_in e.of_type e.expression))
+
+  -- what is behind the first branch of a condition, and behind its test
+  abbrev behind_first : List Local → ExpSyntax → Expression → Typed → Checking Typed
+  behind_first locals other c x = then_checked (wanted_at locals other x.of_type) (λ y. typed (IfE c x.expression y) x.of_type)
+
+  abbrev behind_test : List Local → ExpSyntax → ExpSyntax → Expression → Checking Typed
+  behind_test locals first other c = then_checked (found_at locals first) (behind_first locals other c)
+
+  -- what is behind the subject of a match, and behind its arms
+  abbrev behind_subject : List Local → Place → ExpSyntax → ArmsSyntax → Typed → Checking Typed
+  behind_subject locals at subject arms e = matched scope at (place_of subject) e.expression e.of_type (arm_names arms) (arms_at locals arms None)
+
+  abbrev matched_by : ℕ → Expression → TypedArms → Checking Typed
+  matched_by number x found = typed (MatchE number x found.arms) found.of_type
+
+  -- what is behind the arguments of a call, and behind the fields of a constructor
+  abbrev called_with : ℕ → Signature → Expressions → Checking Typed
+  called_with f signature es = typed (CallE f es) signature.result
+
+  abbrev made_with : ℕ → ℕ → Expressions → Checking Typed
+  made_with number tag es = typed (ConE number tag es) (NamedTy number)
+
+  -- what is behind the first of expressions in a row
+  abbrev behind_one : List Local → ExpsSyntax → List Ty → Expression → Checking Expressions
+  behind_one locals rest ts x = then_checked (each_at locals rest ts) (λ xs. Sound (AndE x xs))
+
+  abbrev IsFound : List Local → ExpSyntax → Expression → Ty → Type 0
+  IsFound locals tree x t = found_at locals tree ≡ Sound (typed_as x t)
+
+  -- what is behind the arms after a body, behind the body of an arm, and behind its pattern
+  abbrev behind_body : Expression → TypedArms → Checking TypedArms
+  behind_body x found = Sound (record { arms = AndArm x found.arms; of_type = found.of_type })
+
   abbrev arm_behind : ArmsSyntax → List Local → List (List Ty) → Typed → Checking TypedArms
-  arm_behind rest locals rows e = then_checked (elaborated_arms scope locals rest (Some e.of_type) rows) (λ found. Sound (record { arms = AndArm e.expression found.arms; of_type = found.of_type }))
+  arm_behind rest locals rows e = then_checked (arms_at locals rest (Some e.of_type) rows) (behind_body e.expression)
 
   abbrev arm_bound : Option Ty → ExpSyntax → ArmsSyntax → List Local → List (List Ty) → List Local → Checking TypedArms
-  arm_bound before body rest locals rows inner = then_checked (wanted_arm before (place_of body) (elaborated scope inner body)) (arm_behind rest locals rows)
+  arm_bound before body rest locals rows inner = then_checked (wanted_arm before (place_of body) (found_at inner body)) (arm_behind rest locals rows)
 
   -- a fault of an operand
   unary_fault : (operation : UnaryOperation) (at : Place) (kind : TypeKind) (place : Place) → unary operation at (FaultAt kind place) ≡ FaultAt kind place
@@ -80,16 +141,17 @@ module _ (scope : Scope) where
   unary_fault NotOperation at kind place = refl
 
   -- the type of the arms, where that of the bodies before is known
-  after_first : (before : Option Ty) (constructor : NameSyntax) (fields : List NameSyntax) (body : ExpSyntax) (rest : ArmsSyntax) (t : Ty) → TypeFits scope before (AndArmSyntax constructor fields body rest) t → IsOfType before t
+  after_first : (before : Option Ty) (constructor : NameSyntax) (fields : List NameSyntax) (body : ExpSyntax) (rest : ArmsSyntax) (t : Ty)
+      → TypeFits scope before (AndArmSyntax constructor fields body rest) t → IsOfType before t
   after_first None constructor fields body rest t fits = tt
   after_first (Some b) constructor fields body rest t fits = fits
 
-  body_passes : (before : Option Ty) (at : Place) (found : Checking Typed) (x : Expression) (t : Ty) → found ≡ Sound (record { expression = x; of_type = t }) → IsOfType before t
-      → wanted_arm before at found ≡ Sound (record { expression = x; of_type = t })
+  body_passes : (before : Option Ty) (at : Place) (found : Checking Typed) (x : Expression) (t : Ty) → found ≡ Sound (typed_as x t) → IsOfType before t
+      → wanted_arm before at found ≡ Sound (typed_as x t)
   body_passes None at found x t is fits = is
   body_passes (Some b) at found x t is fits =
       let same : b ≡ t = sym fits in
-      subst (λ b. then_checked (wanted at b found) (λ e. typed e b) ≡ Sound (record { expression = x; of_type = t })) (sym same)
+      subst (λ b. then_checked (wanted at b found) (λ e. typed e b) ≡ Sound (typed_as x t)) (sym same)
       (then_is (wanted at t found) (λ e. typed e t) x (wanted_is at t found x is))
 
   no_arms : (before : Option Ty) (t : Ty) → TypeFits scope before NoArmSyntax t → unwrap_or before UnitTy ≡ t
@@ -114,64 +176,65 @@ module _ (scope : Scope) where
     passes (TypingRules.NotRule h) = rw (passes h) refl
     passes (TypingRules.BinaryRule {locals = locals} {operation = operation} {first = first} {second = second} {x = x} {y = y} {t = t} {r = r} {made = made} op h j) =
         let is = operates_on op in
-        let left : wanted (place_of first) (operand_type operation) (elaborated scope locals first) ≡ Sound x = ap (λ t. wanted (place_of first) t (elaborated scope locals first)) is ∙ wanted_is (place_of first) t (elaborated scope locals first) x (passes h) in
-        let right : wanted (place_of second) (operand_type operation) (elaborated scope locals second) ≡ Sound y = ap (λ t. wanted (place_of second) t (elaborated scope locals second)) is ∙ wanted_is (place_of second) t (elaborated scope locals second) y (passes j) in
-        then_is (wanted (place_of first) (operand_type operation) (elaborated scope locals first)) (λ x.
-        then_checked (wanted (place_of second) (operand_type operation) (elaborated scope locals second)) (λ y. typed (binary_expression operation x y) (result_type operation))) x left
-        ∙ then_is (wanted (place_of second) (operand_type operation) (elaborated scope locals second)) (λ y. typed (binary_expression operation x y) (result_type operation)) y right
+        let left : wanted_at locals first (operand_type operation) ≡ Sound x = ap (λ t. wanted_at locals first t) is ∙ wanted_is (place_of first) t (found_at locals first) x (passes h) in
+        let right : wanted_at locals second (operand_type operation) ≡ Sound y = ap (λ t. wanted_at locals second t) is ∙ wanted_is (place_of second) t (found_at locals second) y (passes j) in
+        then_is (wanted_at locals first (operand_type operation)) (behind_left locals operation second) x left
+        ∙ then_is (wanted_at locals second (operand_type operation)) (joined operation x) y right
         ∙ gives_type op x y
     passes (TypingRules.CallRule {locals = locals} {at = at} {name = name} {operands = operands} {xs = xs} {f = f} {signature = signature} named h) =
-        ap (λ o. called at (count_of operands) o (elaborated_each scope locals operands)) (function_is_named scope.functions name f signature named)
-        ∙ unless_holds (nat_eq (count_of operands) (length signature.parameters)) WrongCount at (then_checked (elaborated_each scope locals operands signature.parameters) (λ es. typed (CallE f es) signature.result))
+        ap (λ o. called at (count_of operands) o (each_at locals operands)) (function_is_named scope.functions name f signature named)
+        ∙ unless_holds (nat_eq (count_of operands) (length signature.parameters)) WrongCount at
+        (then_checked (each_at locals operands signature.parameters) (called_with f signature))
         (equal_decides (count_of operands) (length signature.parameters)) (each_count h)
-        ∙ then_is (elaborated_each scope locals operands signature.parameters) (λ es. typed (CallE f es) signature.result) xs (each_passes h)
+        ∙ then_is (each_at locals operands signature.parameters) (called_with f signature) xs (each_passes h)
     passes (TypingRules.ConstructorRule {locals = locals} {at = at} {name = name} {operands = operands} {xs = xs} {number = number} {tag = tag} named h) =
         let ts = field_types scope number tag in
-        ap (λ o. constructed at (count_of operands) scope.table o (elaborated_each scope locals operands)) (constructor_is_named scope name number tag named)
-        ∙ unless_holds (nat_eq (count_of operands) (length ts)) WrongCount at (then_checked (elaborated_each scope locals operands ts) (λ es. typed (ConE number tag es) (NamedTy number)))
+        ap (λ o. constructed at (count_of operands) scope.table o (each_at locals operands)) (constructor_is_named scope name number tag named)
+        ∙ unless_holds (nat_eq (count_of operands) (length ts)) WrongCount at (then_checked (each_at locals operands ts) (made_with number tag))
         (equal_decides (count_of operands) (length ts)) (each_count h)
-        ∙ then_is (elaborated_each scope locals operands ts) (λ es. typed (ConE number tag es) (NamedTy number)) xs (each_passes h)
+        ∙ then_is (each_at locals operands ts) (made_with number tag) xs (each_passes h)
     passes (TypingRules.LetRule {locals = locals} {name = name} {bound = bound} {body = body} {x = x} {y = y} {a = a} {b = b} h room j) =
         let inner = with_local locals name.name a in
-        let rest = then_checked (elaborated scope inner body) (λ b. typed (LetE a x b.expression) b.of_type) in
-        then_is (elaborated scope locals bound) (λ e. unless_fault (nat_lt (length locals) most_locals) (Limit Locals) name.at
-        (then_checked (elaborated scope (with_local locals name.name e.of_type) body) (λ b. typed (LetE e.of_type e.expression b.expression) b.of_type))) (record { expression = x; of_type = a }) (passes h)
+        let rest = then_checked (found_at inner body) (bound_in a x) in
+        then_is (found_at locals bound) (behind_bound locals name body) (typed_as x a) (passes h)
         ∙ unless_holds (nat_lt (length locals) most_locals) (Limit Locals) name.at rest (below_decides (length locals) most_locals) room
-        ∙ then_is (elaborated scope inner body) (λ b. typed (LetE a x b.expression) b.of_type) (record { expression = y; of_type = b }) (passes j)
+        ∙ then_is (found_at inner body) (bound_in a x) (typed_as y b) (passes j)
     passes (TypingRules.IfRule {locals = locals} {test = test} {first = first} {other = other} {c = c} {x = x} {y = y} {t = t} h j k) =
-        then_is (wanted (place_of test) BoolTy (elaborated scope locals test)) (λ condition. then_checked (elaborated scope locals first) (λ x.
-        then_checked (wanted (place_of other) x.of_type (elaborated scope locals other)) (λ y. typed (IfE condition x.expression y) x.of_type))) c (wanted_is (place_of test) BoolTy (elaborated scope locals test) c (passes h))
-        ∙ then_is (elaborated scope locals first) (λ x. then_checked (wanted (place_of other) x.of_type (elaborated scope locals other)) (λ y. typed (IfE c x.expression y) x.of_type)) (record { expression = x; of_type = t }) (passes j)
-        ∙ then_is (wanted (place_of other) t (elaborated scope locals other)) (λ y. typed (IfE c x y) t) y (wanted_is (place_of other) t (elaborated scope locals other) y (passes k))
+        then_is (wanted_at locals test BoolTy) (behind_test locals first other) c (wanted_is (place_of test) BoolTy (found_at locals test) c (passes h))
+        ∙ then_is (found_at locals first) (behind_first locals other c) (typed_as x t) (passes j)
+        ∙ then_is (wanted_at locals other t) (λ y. typed (IfE c x y) t) y (wanted_is (place_of other) t (found_at locals other) y (passes k))
     passes (TypingRules.MatchRule {locals = locals} {at = at} {subject = subject} {arms = arms} {x = x} {bodies = bodies} {number = number} {t = t} h same j fits) =
         let rows = constructor_fields scope number in
-        then_is (elaborated scope locals subject) (λ e. matched scope at (place_of subject) e.expression e.of_type (arm_names arms) (elaborated_arms scope locals arms None)) (record { expression = x; of_type = NamedTy number }) (passes h)
-        ∙ unless_holds (same_names (arm_names arms) (constructor_names scope number)) ArmsWrong at (then_checked (elaborated_arms scope locals arms None rows) (λ found. typed (MatchE number x found.arms) found.of_type))
+        then_is (found_at locals subject) (behind_subject locals at subject arms) (typed_as x (NamedTy number)) (passes h)
+        ∙ unless_holds (same_names (arm_names arms) (constructor_names scope number)) ArmsWrong at (then_checked (arms_at locals arms None rows) (matched_by number x))
         (names_decide (arm_names arms) (constructor_names scope number)) same
-        ∙ then_is (elaborated_arms scope locals arms None rows) (λ found. typed (MatchE number x found.arms) found.of_type) (record { arms = bodies; of_type = t }) (arms_pass j None fits)
+        ∙ then_is (arms_at locals arms None rows) (matched_by number x) (record { arms = bodies; of_type = t }) (arms_pass j None fits)
 
     -- expressions in a row
-    pub each_passes : {locals : List Local} {trees : ExpsSyntax} {xs : Expressions} {ts : List Ty} → ElaborateEach scope locals trees xs ts → elaborated_each scope locals trees ts ≡ Sound xs
+    pub each_passes : {locals : List Local} {trees : ExpsSyntax} {xs : Expressions} {ts : List Ty} → ElaborateEach scope locals trees xs ts → each_at locals trees ts ≡ Sound xs
     each_passes TypingRules.NoRule = refl
     each_passes (TypingRules.AndRule {locals = locals} {expression = tree} {rest = rest} {x = x} {xs = xs} {t = t} {ts = ts} h j) =
-        then_is (wanted (place_of tree) t (elaborated scope locals tree)) (λ x. then_checked (elaborated_each scope locals rest ts) (λ xs. Sound (AndE x xs))) x (wanted_is (place_of tree) t (elaborated scope locals tree) x (passes h))
-        ∙ then_is (elaborated_each scope locals rest ts) (λ xs. Sound (AndE x xs)) xs (each_passes j)
+        then_is (wanted_at locals tree t) (behind_one locals rest ts) x (wanted_is (place_of tree) t (found_at locals tree) x (passes h))
+        ∙ then_is (each_at locals rest ts) (λ xs. Sound (AndE x xs)) xs (each_passes j)
 
     -- arms
     pub arms_pass : {locals : List Local} {arms : ArmsSyntax} {rows : List (List Ty)} {bodies : Arms} {t : Ty} → ElaborateArms scope locals arms rows bodies t
-        → (before : Option Ty) → TypeFits scope before arms t → elaborated_arms scope locals arms before rows ≡ Sound (record { arms = bodies; of_type = t })
+        → (before : Option Ty) → TypeFits scope before arms t → arms_at locals arms before rows ≡ Sound (record { arms = bodies; of_type = t })
     arms_pass TypingRules.NoArmRule before fits = ap (λ t. Sound (record { arms = NoArm; of_type = t })) (no_arms before _ fits)
-    arms_pass (TypingRules.AndArmRule {locals = locals} {constructor = constructor} {fields = fields} {body = body} {rest = rest} {ts = ts} {others = rows} {x = x} {bodies = bodies} {t = t} many may h j) before fits =
+    arms_pass (TypingRules.AndArmRule {locals = locals} {constructor = constructor} {fields = fields} {body = body} {rest = rest}
+        {ts = ts} {others = rows} {x = x} {bodies = bodies} {t = t} many may h j) before fits =
         let inner = with_fields locals fields ts in
         let e : Typed = record { expression = x; of_type = t } in
-        unless_holds (nat_eq (length fields) (length ts)) WrongCount constructor.at (then_checked (bound_names [] locals fields ts) (arm_bound before body rest locals rows)) (equal_decides (length fields) (length ts)) many
+        unless_holds (nat_eq (length fields) (length ts)) WrongCount constructor.at (then_checked (bound_names [] locals fields ts) (arm_bound before body rest locals rows))
+        (equal_decides (length fields) (length ts)) many
         ∙ then_is (bound_names [] locals fields ts) (arm_bound before body rest locals rows) inner (pattern_binds locals fields ts may many)
-        ∙ then_is (wanted_arm before (place_of body) (elaborated scope inner body)) (arm_behind rest locals rows) e (body_passes before (place_of body) (elaborated scope inner body) x t (passes h) (after_first before constructor fields body rest t fits))
-        ∙ then_is (elaborated_arms scope locals rest (Some t) rows) (λ found. Sound (record { arms = AndArm x found.arms; of_type = found.of_type })) (record { arms = bodies; of_type = t }) (arms_pass j (Some t) refl)
+        ∙ then_is (wanted_arm before (place_of body) (found_at inner body)) (arm_behind rest locals rows) e (body_passes before (place_of body) (found_at inner body) x t (passes h)
+        (after_first before constructor fields body rest t fits))
+        ∙ then_is (arms_at locals rest (Some t) rows) (behind_body x) (record { arms = bodies; of_type = t }) (arms_pass j (Some t) refl)
 
   mutual
     -- what is broken first is told
-    pub tells : {locals : List Local} {tree : ExpSyntax} {kind : TypeKind} {place : Place} → Breaks scope locals tree kind place → elaborated scope locals tree ≡ FaultAt kind place
+    pub tells : {locals : List Local} {tree : ExpSyntax} {kind : TypeKind} {place : Place} → Breaks scope locals tree kind place → found_at locals tree ≡ FaultAt kind place
     tells (BrokenRules.UnknownLocal {locals = locals} {at = at} {name = name} none) = ap (local_at at locals) (no_local_named locals name none)
     tells (BrokenRules.InFirst b) = rw (tells b) refl
     tells (BrokenRules.InSecond h b) = rw (passes h, tells b) refl
@@ -180,124 +243,125 @@ module _ (scope : Scope) where
     tells (BrokenRules.SecondOfNoPair {operand = operand} {x = x} {t = t} h never) = ap (unary SndOperation (place_of operand)) (passes h) ∙ no_second (place_of operand) x t never
     tells (BrokenRules.OpensNoAuth {operand = operand} {x = x} {t = t} h never) = ap (unary UnauthOperation (place_of operand)) (passes h) ∙ no_opened (place_of operand) x t never
     tells (BrokenRules.LengthOfNoText {locals = locals} {operand = operand} {x = x} {t = t} h never) =
-        ap (λ c. then_checked c (λ e. typed (LenE e) IntTy)) (wanted_other (place_of operand) TextTy t (elaborated scope locals operand) x (passes h) never)
+        ap (λ c. then_checked c (λ e. typed (LenE e) IntTy)) (wanted_other (place_of operand) TextTy t (found_at locals operand) x (passes h) never)
     tells (BrokenRules.NotOfNoBool {locals = locals} {operand = operand} {x = x} {t = t} h never) =
-        ap (λ c. then_checked c (λ e. typed (NotE e) BoolTy)) (wanted_other (place_of operand) BoolTy t (elaborated scope locals operand) x (passes h) never)
+        ap (λ c. then_checked c (λ e. typed (NotE e) BoolTy)) (wanted_other (place_of operand) BoolTy t (found_at locals operand) x (passes h) never)
     tells (BrokenRules.InLeft {locals = locals} {operation = operation} {first = first} {second = second} {t = t} {kind = kind} {place = place} op m) =
-        let left : wanted (place_of first) (operand_type operation) (elaborated scope locals first) ≡ FaultAt kind place = ap (λ t. wanted (place_of first) t (elaborated scope locals first)) (operates_on op) ∙ misfit_told m in
-        then_fault (wanted (place_of first) (operand_type operation) (elaborated scope locals first)) (λ x.
-        then_checked (wanted (place_of second) (operand_type operation) (elaborated scope locals second)) (λ y. typed (binary_expression operation x y) (result_type operation))) kind place left
+        let left : wanted_at locals first (operand_type operation) ≡ FaultAt kind place = ap (λ t. wanted_at locals first t) (operates_on op) ∙ misfit_told m in
+        then_fault (wanted_at locals first (operand_type operation)) (behind_left locals operation second) kind place left
     tells (BrokenRules.InRight {locals = locals} {operation = operation} {first = first} {second = second} {x = x} {t = t} {kind = kind} {place = place} op h m) =
         let is = operates_on op in
-        let left : wanted (place_of first) (operand_type operation) (elaborated scope locals first) ≡ Sound x = ap (λ t. wanted (place_of first) t (elaborated scope locals first)) is ∙ wanted_is (place_of first) t (elaborated scope locals first) x (passes h) in
-        let right : wanted (place_of second) (operand_type operation) (elaborated scope locals second) ≡ FaultAt kind place = ap (λ t. wanted (place_of second) t (elaborated scope locals second)) is ∙ misfit_told m in
-        then_is (wanted (place_of first) (operand_type operation) (elaborated scope locals first)) (λ x.
-        then_checked (wanted (place_of second) (operand_type operation) (elaborated scope locals second)) (λ y. typed (binary_expression operation x y) (result_type operation))) x left
-        ∙ then_fault (wanted (place_of second) (operand_type operation) (elaborated scope locals second)) (λ y. typed (binary_expression operation x y) (result_type operation)) kind place right
+        let left : wanted_at locals first (operand_type operation) ≡ Sound x = ap (λ t. wanted_at locals first t) is ∙ wanted_is (place_of first) t (found_at locals first) x (passes h) in
+        let right : wanted_at locals second (operand_type operation) ≡ FaultAt kind place = ap (λ t. wanted_at locals second t) is ∙ misfit_told m in
+        then_is (wanted_at locals first (operand_type operation)) (behind_left locals operation second) x left
+        ∙ then_fault (wanted_at locals second (operand_type operation)) (joined operation x) kind place right
     tells (BrokenRules.UnknownFunction {locals = locals} {at = at} {name = name} {operands = operands} none) =
-        ap (λ o. called at (count_of operands) o (elaborated_each scope locals operands)) (no_function_named scope.functions name none)
+        ap (λ o. called at (count_of operands) o (each_at locals operands)) (no_function_named scope.functions name none)
     tells (BrokenRules.OtherArguments {locals = locals} {at = at} {name = name} {operands = operands} {f = f} {signature = signature} named never) =
-        ap (λ o. called at (count_of operands) o (elaborated_each scope locals operands)) (function_is_named scope.functions name f signature named)
-        ∙ unless_fails (nat_eq (count_of operands) (length signature.parameters)) WrongCount at (then_checked (elaborated_each scope locals operands signature.parameters) (λ es. typed (CallE f es) signature.result))
+        ap (λ o. called at (count_of operands) o (each_at locals operands)) (function_is_named scope.functions name f signature named)
+        ∙ unless_fails (nat_eq (count_of operands) (length signature.parameters)) WrongCount at
+        (then_checked (each_at locals operands signature.parameters) (called_with f signature))
         (equal_decides (count_of operands) (length signature.parameters)) never
     tells (BrokenRules.InArguments {locals = locals} {at = at} {name = name} {operands = operands} {f = f} {signature = signature} {kind = kind} {place = place} named many m) =
-        ap (λ o. called at (count_of operands) o (elaborated_each scope locals operands)) (function_is_named scope.functions name f signature named)
-        ∙ unless_holds (nat_eq (count_of operands) (length signature.parameters)) WrongCount at (then_checked (elaborated_each scope locals operands signature.parameters) (λ es. typed (CallE f es) signature.result))
+        ap (λ o. called at (count_of operands) o (each_at locals operands)) (function_is_named scope.functions name f signature named)
+        ∙ unless_holds (nat_eq (count_of operands) (length signature.parameters)) WrongCount at
+        (then_checked (each_at locals operands signature.parameters) (called_with f signature))
         (equal_decides (count_of operands) (length signature.parameters)) many
-        ∙ then_fault (elaborated_each scope locals operands signature.parameters) (λ es. typed (CallE f es) signature.result) kind place (one_told m)
+        ∙ then_fault (each_at locals operands signature.parameters) (called_with f signature) kind place (one_told m)
     tells (BrokenRules.UnknownConstructor {locals = locals} {at = at} {name = name} {operands = operands} none) =
-        ap (λ o. constructed at (count_of operands) scope.table o (elaborated_each scope locals operands)) (no_constructor_named scope.constructors name none)
+        ap (λ o. constructed at (count_of operands) scope.table o (each_at locals operands)) (no_constructor_named scope.constructors name none)
     tells (BrokenRules.OtherFields {locals = locals} {at = at} {name = name} {operands = operands} {number = number} {tag = tag} named never) =
         let ts = field_types scope number tag in
-        ap (λ o. constructed at (count_of operands) scope.table o (elaborated_each scope locals operands)) (constructor_is_named scope name number tag named)
-        ∙ unless_fails (nat_eq (count_of operands) (length ts)) WrongCount at (then_checked (elaborated_each scope locals operands ts) (λ es. typed (ConE number tag es) (NamedTy number)))
+        ap (λ o. constructed at (count_of operands) scope.table o (each_at locals operands)) (constructor_is_named scope name number tag named)
+        ∙ unless_fails (nat_eq (count_of operands) (length ts)) WrongCount at (then_checked (each_at locals operands ts) (made_with number tag))
         (equal_decides (count_of operands) (length ts)) never
     tells (BrokenRules.InFields {locals = locals} {at = at} {name = name} {operands = operands} {number = number} {tag = tag} {kind = kind} {place = place} named many m) =
         let ts = field_types scope number tag in
-        ap (λ o. constructed at (count_of operands) scope.table o (elaborated_each scope locals operands)) (constructor_is_named scope name number tag named)
-        ∙ unless_holds (nat_eq (count_of operands) (length ts)) WrongCount at (then_checked (elaborated_each scope locals operands ts) (λ es. typed (ConE number tag es) (NamedTy number)))
+        ap (λ o. constructed at (count_of operands) scope.table o (each_at locals operands)) (constructor_is_named scope name number tag named)
+        ∙ unless_holds (nat_eq (count_of operands) (length ts)) WrongCount at (then_checked (each_at locals operands ts) (made_with number tag))
         (equal_decides (count_of operands) (length ts)) many
-        ∙ then_fault (elaborated_each scope locals operands ts) (λ es. typed (ConE number tag es) (NamedTy number)) kind place (one_told m)
+        ∙ then_fault (each_at locals operands ts) (made_with number tag) kind place (one_told m)
     tells (BrokenRules.InBound {locals = locals} {name = name} {bound = bound} {body = body} {kind = kind} {place = place} b) =
-        then_fault (elaborated scope locals bound) (λ e. unless_fault (nat_lt (length locals) most_locals) (Limit Locals) name.at
-        (then_checked (elaborated scope (with_local locals name.name e.of_type) body) (λ b. typed (LetE e.of_type e.expression b.expression) b.of_type))) kind place (tells b)
+        then_fault (found_at locals bound) (behind_bound locals name body) kind place (tells b)
     tells (BrokenRules.BindsTooMany {locals = locals} {name = name} {bound = bound} {body = body} {x = x} {a = a} h full) =
-        then_is (elaborated scope locals bound) (λ e. unless_fault (nat_lt (length locals) most_locals) (Limit Locals) name.at
-        (then_checked (elaborated scope (with_local locals name.name e.of_type) body) (λ b. typed (LetE e.of_type e.expression b.expression) b.of_type))) (record { expression = x; of_type = a }) (passes h)
-        ∙ unless_fails (nat_lt (length locals) most_locals) (Limit Locals) name.at (then_checked (elaborated scope (with_local locals name.name a) body) (λ b. typed (LetE a x b.expression) b.of_type))
+        then_is (found_at locals bound) (behind_bound locals name body) (typed_as x a) (passes h)
+        ∙ unless_fails (nat_lt (length locals) most_locals) (Limit Locals) name.at (then_checked (found_at (with_local locals name.name a) body) (bound_in a x))
         (below_decides (length locals) most_locals) (below (length locals) most_locals full)
     tells (BrokenRules.InLetBody {locals = locals} {name = name} {bound = bound} {body = body} {x = x} {a = a} {kind = kind} {place = place} h room b) =
-        let rest = then_checked (elaborated scope (with_local locals name.name a) body) (λ b. typed (LetE a x b.expression) b.of_type) in
-        then_is (elaborated scope locals bound) (λ e. unless_fault (nat_lt (length locals) most_locals) (Limit Locals) name.at
-        (then_checked (elaborated scope (with_local locals name.name e.of_type) body) (λ b. typed (LetE e.of_type e.expression b.expression) b.of_type))) (record { expression = x; of_type = a }) (passes h)
+        let rest = then_checked (found_at (with_local locals name.name a) body) (bound_in a x) in
+        then_is (found_at locals bound) (behind_bound locals name body) (typed_as x a) (passes h)
         ∙ unless_holds (nat_lt (length locals) most_locals) (Limit Locals) name.at rest (below_decides (length locals) most_locals) room
-        ∙ then_fault (elaborated scope (with_local locals name.name a) body) (λ b. typed (LetE a x b.expression) b.of_type) kind place (tells b)
+        ∙ then_fault (found_at (with_local locals name.name a) body) (bound_in a x) kind place (tells b)
     tells (BrokenRules.InTest {locals = locals} {test = test} {first = first} {other = other} {kind = kind} {place = place} m) =
-        then_fault (wanted (place_of test) BoolTy (elaborated scope locals test)) (λ condition. then_checked (elaborated scope locals first) (λ x.
-        then_checked (wanted (place_of other) x.of_type (elaborated scope locals other)) (λ y. typed (IfE condition x.expression y) x.of_type))) kind place (misfit_told m)
+        then_fault (wanted_at locals test BoolTy) (behind_test locals first other) kind place (misfit_told m)
     tells (BrokenRules.InThen {locals = locals} {test = test} {first = first} {other = other} {c = c} {kind = kind} {place = place} h b) =
-        then_is (wanted (place_of test) BoolTy (elaborated scope locals test)) (λ condition. then_checked (elaborated scope locals first) (λ x.
-        then_checked (wanted (place_of other) x.of_type (elaborated scope locals other)) (λ y. typed (IfE condition x.expression y) x.of_type))) c (wanted_is (place_of test) BoolTy (elaborated scope locals test) c (passes h))
-        ∙ then_fault (elaborated scope locals first) (λ x. then_checked (wanted (place_of other) x.of_type (elaborated scope locals other)) (λ y. typed (IfE c x.expression y) x.of_type)) kind place (tells b)
+        then_is (wanted_at locals test BoolTy) (behind_test locals first other) c (wanted_is (place_of test) BoolTy (found_at locals test) c (passes h))
+        ∙ then_fault (found_at locals first) (behind_first locals other c) kind place (tells b)
     tells (BrokenRules.InElse {locals = locals} {test = test} {first = first} {other = other} {c = c} {x = x} {t = t} {kind = kind} {place = place} h j m) =
-        then_is (wanted (place_of test) BoolTy (elaborated scope locals test)) (λ condition. then_checked (elaborated scope locals first) (λ x.
-        then_checked (wanted (place_of other) x.of_type (elaborated scope locals other)) (λ y. typed (IfE condition x.expression y) x.of_type))) c (wanted_is (place_of test) BoolTy (elaborated scope locals test) c (passes h))
-        ∙ then_is (elaborated scope locals first) (λ x. then_checked (wanted (place_of other) x.of_type (elaborated scope locals other)) (λ y. typed (IfE c x.expression y) x.of_type)) (record { expression = x; of_type = t }) (passes j)
-        ∙ then_fault (wanted (place_of other) t (elaborated scope locals other)) (λ y. typed (IfE c x y) t) kind place (misfit_told m)
+        then_is (wanted_at locals test BoolTy) (behind_test locals first other) c (wanted_is (place_of test) BoolTy (found_at locals test) c (passes h))
+        ∙ then_is (found_at locals first) (behind_first locals other c) (typed_as x t) (passes j)
+        ∙ then_fault (wanted_at locals other t) (λ y. typed (IfE c x y) t) kind place (misfit_told m)
     tells (BrokenRules.InSubject {locals = locals} {at = at} {subject = subject} {arms = arms} {kind = kind} {place = place} b) =
-        then_fault (elaborated scope locals subject) (λ e. matched scope at (place_of subject) e.expression e.of_type (arm_names arms) (elaborated_arms scope locals arms None)) kind place (tells b)
+        then_fault (found_at locals subject) (behind_subject locals at subject arms) kind place (tells b)
     tells (BrokenRules.MatchesNoSum {locals = locals} {at = at} {subject = subject} {arms = arms} {x = x} {t = t} h never) =
-        then_is (elaborated scope locals subject) (λ e. matched scope at (place_of subject) e.expression e.of_type (arm_names arms) (elaborated_arms scope locals arms None)) (record { expression = x; of_type = t }) (passes h)
-        ∙ no_match scope at (place_of subject) x t (arm_names arms) (elaborated_arms scope locals arms None) never
+        then_is (found_at locals subject) (behind_subject locals at subject arms) (typed_as x t) (passes h)
+        ∙ no_match scope at (place_of subject) x t (arm_names arms) (arms_at locals arms None) never
     tells (BrokenRules.OtherArms {locals = locals} {at = at} {subject = subject} {arms = arms} {x = x} {number = number} h never) =
         let rows = constructor_fields scope number in
-        then_is (elaborated scope locals subject) (λ e. matched scope at (place_of subject) e.expression e.of_type (arm_names arms) (elaborated_arms scope locals arms None)) (record { expression = x; of_type = NamedTy number }) (passes h)
-        ∙ unless_fails (same_names (arm_names arms) (constructor_names scope number)) ArmsWrong at (then_checked (elaborated_arms scope locals arms None rows) (λ found. typed (MatchE number x found.arms) found.of_type))
+        then_is (found_at locals subject) (behind_subject locals at subject arms) (typed_as x (NamedTy number)) (passes h)
+        ∙ unless_fails (same_names (arm_names arms) (constructor_names scope number)) ArmsWrong at (then_checked (arms_at locals arms None rows) (matched_by number x))
         (names_decide (arm_names arms) (constructor_names scope number)) never
     tells (BrokenRules.InArms {locals = locals} {at = at} {subject = subject} {arms = arms} {x = x} {number = number} {kind = kind} {place = place} h same b) =
         let rows = constructor_fields scope number in
-        then_is (elaborated scope locals subject) (λ e. matched scope at (place_of subject) e.expression e.of_type (arm_names arms) (elaborated_arms scope locals arms None)) (record { expression = x; of_type = NamedTy number }) (passes h)
-        ∙ unless_holds (same_names (arm_names arms) (constructor_names scope number)) ArmsWrong at (then_checked (elaborated_arms scope locals arms None rows) (λ found. typed (MatchE number x found.arms) found.of_type))
+        then_is (found_at locals subject) (behind_subject locals at subject arms) (typed_as x (NamedTy number)) (passes h)
+        ∙ unless_holds (same_names (arm_names arms) (constructor_names scope number)) ArmsWrong at (then_checked (arms_at locals arms None rows) (matched_by number x))
         (names_decide (arm_names arms) (constructor_names scope number)) same
-        ∙ then_fault (elaborated_arms scope locals arms None rows) (λ found. typed (MatchE number x found.arms) found.of_type) kind place (arms_told b)
+        ∙ then_fault (arms_at locals arms None rows) (matched_by number x) kind place (arms_told b)
 
     -- a part of which a type is wanted
-    pub misfit_told : {locals : List Local} {t : Ty} {tree : ExpSyntax} {kind : TypeKind} {place : Place} → Misfits scope locals t tree kind place → wanted (place_of tree) t (elaborated scope locals tree) ≡ FaultAt kind place
-    misfit_told (BrokenRules.Inside {locals = locals} {t = t} {expression = tree} {kind = kind} {place = place} b) = wanted_fault (place_of tree) t (elaborated scope locals tree) kind place (tells b)
-    misfit_told (BrokenRules.OtherType {locals = locals} {t = t} {a = a} {expression = tree} {x = x} h never) = wanted_other (place_of tree) t a (elaborated scope locals tree) x (passes h) never
+    pub misfit_told : {locals : List Local} {t : Ty} {tree : ExpSyntax} {kind : TypeKind} {place : Place} → Misfits scope locals t tree kind place → wanted_at locals tree t ≡ FaultAt kind place
+    misfit_told (BrokenRules.Inside {locals = locals} {t = t} {expression = tree} {kind = kind} {place = place} b) = wanted_fault (place_of tree) t (found_at locals tree) kind place (tells b)
+    misfit_told (BrokenRules.OtherType {locals = locals} {t = t} {a = a} {expression = tree} {x = x} h never) = wanted_other (place_of tree) t a (found_at locals tree) x (passes h) never
 
     -- expressions in a row
-    pub one_told : {locals : List Local} {ts : List Ty} {trees : ExpsSyntax} {kind : TypeKind} {place : Place} → OneMisfits scope locals ts trees kind place → elaborated_each scope locals trees ts ≡ FaultAt kind place
+    pub one_told : {locals : List Local} {ts : List Ty} {trees : ExpsSyntax} {kind : TypeKind} {place : Place}
+        → OneMisfits scope locals ts trees kind place → each_at locals trees ts ≡ FaultAt kind place
     one_told (BrokenRules.ThisMisfits {locals = locals} {t = t} {ts = ts} {expression = tree} {rest = rest} {kind = kind} {place = place} m) =
-        then_fault (wanted (place_of tree) t (elaborated scope locals tree)) (λ x. then_checked (elaborated_each scope locals rest ts) (λ xs. Sound (AndE x xs))) kind place (misfit_told m)
+        then_fault (wanted_at locals tree t) (behind_one locals rest ts) kind place (misfit_told m)
     one_told (BrokenRules.LaterMisfits {locals = locals} {t = t} {ts = ts} {expression = tree} {rest = rest} {x = x} {kind = kind} {place = place} h m) =
-        then_is (wanted (place_of tree) t (elaborated scope locals tree)) (λ x. then_checked (elaborated_each scope locals rest ts) (λ xs. Sound (AndE x xs))) x (wanted_is (place_of tree) t (elaborated scope locals tree) x (passes h))
-        ∙ then_fault (elaborated_each scope locals rest ts) (λ xs. Sound (AndE x xs)) kind place (one_told m)
+        then_is (wanted_at locals tree t) (behind_one locals rest ts) x (wanted_is (place_of tree) t (found_at locals tree) x (passes h))
+        ∙ then_fault (each_at locals rest ts) (λ xs. Sound (AndE x xs)) kind place (one_told m)
 
     -- the body of an arm
     pub body_told : {locals : List Local} {before : Option Ty} {body : ExpSyntax} {kind : TypeKind} {place : Place} → BodyBreaks scope locals before body kind place
-        → wanted_arm before (place_of body) (elaborated scope locals body) ≡ FaultAt kind place
+        → wanted_arm before (place_of body) (found_at locals body) ≡ FaultAt kind place
     body_told (BrokenRules.FirstBody b) = tells b
-    body_told (BrokenRules.LaterBody {locals = locals} {t = t} {body = body} {kind = kind} {place = place} m) = then_fault (wanted (place_of body) t (elaborated scope locals body)) (λ e. typed e t) kind place (misfit_told m)
+    body_told (BrokenRules.LaterBody {locals = locals} {t = t} {body = body} {kind = kind} {place = place} m) = then_fault (wanted_at locals body t) (λ e. typed e t) kind place (misfit_told m)
 
     -- arms
     pub arms_told : {locals : List Local} {arms : ArmsSyntax} {before : Option Ty} {rows : List (List Ty)} {kind : TypeKind} {place : Place} → ArmsBreak scope locals arms before rows kind place
-        → elaborated_arms scope locals arms before rows ≡ FaultAt kind place
+        → arms_at locals arms before rows ≡ FaultAt kind place
     arms_told (BrokenRules.OtherNames {locals = locals} {constructor = constructor} {fields = fields} {body = body} {rest = rest} {before = before} {ts = ts} {others = rows} never) =
         unless_fails (nat_eq (length fields) (length ts)) WrongCount constructor.at (then_checked (bound_names [] locals fields ts) (arm_bound before body rest locals rows))
         (equal_decides (length fields) (length ts)) never
-    arms_told (BrokenRules.InPattern {locals = locals} {constructor = constructor} {fields = fields} {body = body} {rest = rest} {before = before} {ts = ts} {others = rows} {kind = kind} {place = place} many b) =
-        unless_holds (nat_eq (length fields) (length ts)) WrongCount constructor.at (then_checked (bound_names [] locals fields ts) (arm_bound before body rest locals rows)) (equal_decides (length fields) (length ts)) many
+    arms_told (BrokenRules.InPattern {locals = locals} {constructor = constructor} {fields = fields} {body = body} {rest = rest} {before = before}
+        {ts = ts} {others = rows} {kind = kind} {place = place} many b) =
+        unless_holds (nat_eq (length fields) (length ts)) WrongCount constructor.at (then_checked (bound_names [] locals fields ts) (arm_bound before body rest locals rows))
+        (equal_decides (length fields) (length ts)) many
         ∙ then_fault (bound_names [] locals fields ts) (arm_bound before body rest locals rows) kind place (pattern_breaks locals fields ts kind place b many)
-    arms_told (BrokenRules.InBody {locals = locals} {constructor = constructor} {fields = fields} {body = body} {rest = rest} {before = before} {ts = ts} {others = rows} {kind = kind} {place = place} many may b) =
+    arms_told (BrokenRules.InBody {locals = locals} {constructor = constructor} {fields = fields} {body = body} {rest = rest} {before = before}
+        {ts = ts} {others = rows} {kind = kind} {place = place} many may b) =
         let inner = with_fields locals fields ts in
-        unless_holds (nat_eq (length fields) (length ts)) WrongCount constructor.at (then_checked (bound_names [] locals fields ts) (arm_bound before body rest locals rows)) (equal_decides (length fields) (length ts)) many
+        unless_holds (nat_eq (length fields) (length ts)) WrongCount constructor.at (then_checked (bound_names [] locals fields ts) (arm_bound before body rest locals rows))
+        (equal_decides (length fields) (length ts)) many
         ∙ then_is (bound_names [] locals fields ts) (arm_bound before body rest locals rows) inner (pattern_binds locals fields ts may many)
-        ∙ then_fault (wanted_arm before (place_of body) (elaborated scope inner body)) (arm_behind rest locals rows) kind place (body_told b)
-    arms_told (BrokenRules.InLaterArm {locals = locals} {constructor = constructor} {fields = fields} {body = body} {rest = rest} {before = before} {ts = ts} {others = rows} {x = x} {t = t} {kind = kind} {place = place} many may h is b) =
+        ∙ then_fault (wanted_arm before (place_of body) (found_at inner body)) (arm_behind rest locals rows) kind place (body_told b)
+    arms_told (BrokenRules.InLaterArm {locals = locals} {constructor = constructor} {fields = fields} {body = body} {rest = rest} {before = before}
+        {ts = ts} {others = rows} {x = x} {t = t} {kind = kind} {place = place} many may h is b) =
         let inner = with_fields locals fields ts in
         let e : Typed = record { expression = x; of_type = t } in
-        unless_holds (nat_eq (length fields) (length ts)) WrongCount constructor.at (then_checked (bound_names [] locals fields ts) (arm_bound before body rest locals rows)) (equal_decides (length fields) (length ts)) many
+        unless_holds (nat_eq (length fields) (length ts)) WrongCount constructor.at (then_checked (bound_names [] locals fields ts) (arm_bound before body rest locals rows))
+        (equal_decides (length fields) (length ts)) many
         ∙ then_is (bound_names [] locals fields ts) (arm_bound before body rest locals rows) inner (pattern_binds locals fields ts may many)
-        ∙ then_is (wanted_arm before (place_of body) (elaborated scope inner body)) (arm_behind rest locals rows) e (body_passes before (place_of body) (elaborated scope inner body) x t (passes h) is)
-        ∙ then_fault (elaborated_arms scope locals rest (Some t) rows) (λ found. Sound (record { arms = AndArm x found.arms; of_type = found.of_type })) kind place (arms_told b)
+        ∙ then_is (wanted_arm before (place_of body) (found_at inner body)) (arm_behind rest locals rows) e (body_passes before (place_of body) (found_at inner body) x t (passes h) is)
+        ∙ then_fault (arms_at locals rest (Some t) rows) (behind_body x) kind place (arms_told b)

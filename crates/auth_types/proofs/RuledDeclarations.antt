@@ -73,7 +73,9 @@ constructors_append (StateDeclaration at of_type ∷ before) d = constructors_ap
 constructors_append (FunctionDeclaration at function ∷ before) d = constructors_append before d
 
 names_append : (before : List DeclarationSyntax) (d : DeclarationSyntax) → function_names (before ++ d ∷ []) ≡ function_names before ++ function_names (d ∷ [])
-names_append before d = ap (map (λ (f : FunctionSyntax). f.name.name)) (functions_append before d) ∙ map-append (λ (f : FunctionSyntax). f.name.name) (functions_in before) (functions_in (d ∷ []))
+names_append before d =
+    ap (map (λ (f : FunctionSyntax). f.name.name)) (functions_append before d)
+    ∙ map-append (λ (f : FunctionSyntax). f.name.name) (functions_in before) (functions_in (d ∷ []))
 
 nothing_more : {A : Type 0} (xs ys : List A) → ys ≡ xs ++ [] → ys ≡ xs
 nothing_more xs ys is = is ∙ append-nil xs
@@ -82,11 +84,13 @@ one_more : {A : Type 0} (xs ys : List A) (x : A) → ys ≡ xs ++ x ∷ [] → r
 one_more xs ys x is = ap reverse is ∙ reverse-append xs (x ∷ [])
 
 with_type : (before : List DeclarationSyntax) (at : Place) (name : NameSyntax) (constructors : List ConstructorDeclaration)
-    → declared_as (name.name ∷ reverse (type_names before)) (reverse (constructor_names_before (constructor_names_in before) constructors)) (reverse (function_names before)) (has_some (states_in before))
+    → declared_as (name.name ∷ reverse (type_names before)) (reverse (constructor_names_before (constructor_names_in before) constructors))
+    (reverse (function_names before)) (has_some (states_in before))
     ≡ declared_by (before ++ TypeDeclaration at name constructors ∷ [])
 with_type before at name constructors =
     let d = TypeDeclaration at name constructors in
-    let types : reverse (type_names (before ++ d ∷ [])) ≡ name.name ∷ reverse (type_names before) = one_more (type_names before) (type_names (before ++ d ∷ [])) name.name (types_append before d) in
+    let types : reverse (type_names (before ++ d ∷ [])) ≡ name.name ∷ reverse (type_names before) =
+    one_more (type_names before) (type_names (before ++ d ∷ [])) name.name (types_append before d) in
     let made : constructor_names_in (before ++ d ∷ []) ≡ constructor_names_before (constructor_names_in before) constructors =
     constructors_append before d ∙ ap (λ l. constructor_names_in before ++ l) (append-nil (map (λ (c : ConstructorDeclaration). c.name.name) constructors)) in
     let functions : function_names (before ++ d ∷ []) ≡ function_names before = nothing_more (function_names before) (function_names (before ++ d ∷ [])) (names_append before d) in
@@ -94,9 +98,11 @@ with_type before at name constructors =
     by (reverse (type_names (before ++ d ∷ []))) (reverse (constructor_names_in (before ++ d ∷ []))) (reverse (function_names (before ++ d ∷ []))) (has_some (states_in (before ++ d ∷ [])))
     types (ap reverse made) (ap reverse functions) (ap has_some states)
   where
-    by : (types made functions : List (List ℕ)) (state : Bool) → types ≡ name.name ∷ reverse (type_names before) → made ≡ reverse (constructor_names_before (constructor_names_in before) constructors)
+    by : (types made functions : List (List ℕ)) (state : Bool) → types ≡ name.name ∷ reverse (type_names before)
+        → made ≡ reverse (constructor_names_before (constructor_names_in before) constructors)
         → functions ≡ reverse (function_names before) → state ≡ has_some (states_in before)
-        → declared_as (name.name ∷ reverse (type_names before)) (reverse (constructor_names_before (constructor_names_in before) constructors)) (reverse (function_names before)) (has_some (states_in before))
+        → declared_as (name.name ∷ reverse (type_names before)) (reverse (constructor_names_before (constructor_names_in before) constructors))
+        (reverse (function_names before)) (has_some (states_in before))
         ≡ declared_as types made functions state
     by types made functions state a b c e = cc
 
@@ -111,7 +117,8 @@ with_state before at of_type =
     (ap reverse (nothing_more (function_names before) (function_names (before ++ d ∷ [])) (names_append before d)))
     (ap has_some (states_append before d) ∙ some_more (states_in before) of_type)
   where
-    by : (types made functions : List (List ℕ)) (state : Bool) → types ≡ reverse (type_names before) → made ≡ reverse (constructor_names_in before) → functions ≡ reverse (function_names before) → state ≡ true
+    by : (types made functions : List (List ℕ)) (state : Bool) → types ≡ reverse (type_names before) → made ≡ reverse (constructor_names_in before)
+        → functions ≡ reverse (function_names before) → state ≡ true
         → declared_as (reverse (type_names before)) (reverse (constructor_names_in before)) (reverse (function_names before)) true
         ≡ declared_as types made functions state
     by types made functions state a b c e = cc
@@ -127,7 +134,8 @@ with_function before at function =
     (one_more (function_names before) (function_names (before ++ d ∷ [])) function.name.name (names_append before d))
     (ap has_some (nothing_more (states_in before) (states_in (before ++ d ∷ [])) (states_append before d)))
   where
-    by : (types made functions : List (List ℕ)) (state : Bool) → types ≡ reverse (type_names before) → made ≡ reverse (constructor_names_in before) → functions ≡ function.name.name ∷ reverse (function_names before)
+    by : (types made functions : List (List ℕ)) (state : Bool) → types ≡ reverse (type_names before) → made ≡ reverse (constructor_names_in before)
+        → functions ≡ function.name.name ∷ reverse (function_names before)
         → state ≡ has_some (states_in before)
         → declared_as (reverse (type_names before)) (reverse (constructor_names_in before)) (function.name.name ∷ reverse (function_names before)) (has_some (states_in before))
         ≡ declared_as types made functions state
@@ -141,12 +149,14 @@ declaration_step before (StateDeclaration at of_type) = unless_fault (not (has_s
 declaration_step before (FunctionDeclaration at function) =
     then_checked (name_step (function_names before) most_functions Functions function.name) (λ _. checked_parameters [] function.parameters)
 
-step_is : (before : List DeclarationSyntax) (d : DeclarationSyntax) → checked_declaration (declared_by before) d ≡ then_checked (declaration_step before d) (λ _. Sound (declared_by (before ++ d ∷ [])))
+step_is : (before : List DeclarationSyntax) (d : DeclarationSyntax)
+    → checked_declaration (declared_by before) d ≡ then_checked (declaration_step before d) (λ _. Sound (declared_by (before ++ d ∷ [])))
 step_is before (TypeDeclaration at name constructors) =
     let d = TypeDeclaration at name constructors in
     let made = constructor_names_in before in
     let steps = each_checked (constructor_step made) [] constructors in
-    let held : List (List ℕ) → Checking Declared = λ names. Sound (declared_as (name.name ∷ reverse (type_names before)) names (reverse (function_names before)) (has_some (states_in before))) in
+    let held : List (List ℕ) → Checking Declared =
+    λ names. Sound (declared_as (name.name ∷ reverse (type_names before)) names (reverse (function_names before)) (has_some (states_in before))) in
     let all = then_checked (checked_constructors 0 (reverse made) constructors) held in
     let whole : all ≡ then_checked steps (λ _. Sound (declared_by (before ++ d ∷ []))) =
     ap (λ c. then_checked c held) (constructors_each made [] constructors 0 (reverse made) refl (ap reverse (sym (append-nil made))))
@@ -162,19 +172,22 @@ step_is before (StateDeclaration at of_type) =
 step_is before (FunctionDeclaration at function) =
     let d = FunctionDeclaration at function in
     let steps = checked_parameters [] function.parameters in
-    let all = then_checked steps (λ _. Sound (declared_as (reverse (type_names before)) (reverse (constructor_names_in before)) (function.name.name ∷ reverse (function_names before)) (has_some (states_in before)))) in
+    let all = then_checked steps (λ _. Sound (declared_as (reverse (type_names before)) (reverse (constructor_names_in before))
+    (function.name.name ∷ reverse (function_names before)) (has_some (states_in before)))) in
     name_reverse (function_names before) most_functions Functions function.name all
     ∙ name_then (function_names before) most_functions Functions function.name all
     ∙ ap (λ v. then_checked (name_step (function_names before) most_functions Functions function.name) (λ _. then_checked steps (λ _. Sound v))) (with_function before at function)
     ∙ sym (then_then (name_step (function_names before) most_functions Functions function.name) (λ _. steps) (λ _. Sound (declared_by (before ++ d ∷ []))))
 
-all_steps : (before rest : List DeclarationSyntax) → checked_declarations (declared_by before) rest ≡ then_checked (each_checked declaration_step before rest) (λ _. Sound (declared_by (before ++ rest)))
+all_steps : (before rest : List DeclarationSyntax)
+    → checked_declarations (declared_by before) rest ≡ then_checked (each_checked declaration_step before rest) (λ _. Sound (declared_by (before ++ rest)))
 all_steps before [] = ap (λ l. Sound (declared_by l)) (sym (append-nil before))
 all_steps before (d ∷ rest) =
     ap (λ c. then_checked c (λ declared. checked_declarations declared rest)) (step_is before d)
     ∙ then_then (declaration_step before d) (λ _. Sound (declared_by (before ++ d ∷ []))) (λ declared. checked_declarations declared rest)
     ∙ ap (λ r. then_checked (declaration_step before d) (λ _. r)) (all_steps (before ++ d ∷ []) rest)
-    ∙ ap (λ l. then_checked (declaration_step before d) (λ _. then_checked (each_checked declaration_step (before ++ d ∷ []) rest) (λ _. Sound (declared_by l)))) (append_assoc before (d ∷ []) rest)
+    ∙ ap (λ l. then_checked (declaration_step before d) (λ _. then_checked (each_checked declaration_step (before ++ d ∷ []) rest)
+    (λ _. Sound (declared_by l)))) (append_assoc before (d ∷ []) rest)
     ∙ sym (then_then (declaration_step before d) (λ _. each_checked declaration_step (before ++ d ∷ []) rest) (λ _. Sound (declared_by (before ++ d ∷ rest))))
 
 pub first_steps : (program : Program) → first_pass program
@@ -187,13 +200,15 @@ first_steps program =
 type_breaks : {before : List DeclarationSyntax} {at : Place} {name : NameSyntax} {constructors : List ConstructorDeclaration} {kind : TypeKind} {place : Place}
     → BreaksDeclaration before (TypeDeclaration at name constructors) kind place
     → BreaksSpace (type_names before) most_types Types name kind place
-    ⊎ ((a : Unit {0}) × MayStand (type_names before) most_types name.name × OneBreaks (MayConstruct (constructor_names_in before)) (BreaksConstructor (constructor_names_in before)) [] constructors kind place)
+    ⊎ ((a : Unit {0}) × MayStand (type_names before) most_types name.name ×
+    OneBreaks (MayConstruct (constructor_names_in before)) (BreaksConstructor (constructor_names_in before)) [] constructors kind place)
 type_breaks (InTypeName b) = inl b
 type_breaks (InConstructors may b) = inr (tt, may, b)
 
 breaks_type : {before : List DeclarationSyntax} {at : Place} {name : NameSyntax} {constructors : List ConstructorDeclaration} {kind : TypeKind} {place : Place}
     → BreaksSpace (type_names before) most_types Types name kind place
-    ⊎ ((a : Unit {0}) × MayStand (type_names before) most_types name.name × OneBreaks (MayConstruct (constructor_names_in before)) (BreaksConstructor (constructor_names_in before)) [] constructors kind place)
+    ⊎ ((a : Unit {0}) × MayStand (type_names before) most_types name.name ×
+    OneBreaks (MayConstruct (constructor_names_in before)) (BreaksConstructor (constructor_names_in before)) [] constructors kind place)
     → BreaksDeclaration before (TypeDeclaration at name constructors) kind place
 breaks_type (inl b) = InTypeName b
 breaks_type (inr (a, may, b)) = InConstructors may b
@@ -249,7 +264,8 @@ declaration_ruled before (FunctionDeclaration at function) =
     ruled_like (declaration_step before d) (λ _. (a : Unit {0}) × Stands × All) (λ _. MayDeclare before d)
     (λ kind place. BreaksSpace (function_names before) most_functions Functions function.name kind place ⊎ ((a : Unit {0}) × Stands × Breaks kind place)) (BreaksDeclaration before d)
     (λ _ (a, stands, all). (stands, all)) (λ _ h. (tt, h.0, h.1)) (λ kind place b. breaks_function b) (λ kind place b. function_breaks b)
-    (ruled_then (λ _. Stands) (BreaksSpace (function_names before) most_functions Functions function.name) (λ _ _. All) (λ _. Breaks) (name_step (function_names before) most_functions Functions function.name)
+    (ruled_then (λ _. Stands) (BreaksSpace (function_names before) most_functions Functions function.name) (λ _ _. All) (λ _. Breaks)
+    (name_step (function_names before) most_functions Functions function.name)
     (λ _. checked_parameters [] function.parameters) (name_ruled (function_names before) most_functions Functions function.name)
     (λ _ _. parameters_ruled function.parameters))
 

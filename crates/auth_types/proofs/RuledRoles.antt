@@ -35,7 +35,8 @@ where_passes : {A : Type 0} (test : A → Bool) (xs : List A) → some_passes te
 where_passes test [] e = absurd (cc)
 where_passes {A} test (y ∷ ys) e = by (test y) refl (λ e. where_passes test ys e) e
   where
-    by : (b : Bool) → test y ≡ b → (some_passes test ys ≡ true → (x : A) × Contains ys x × (test x ≡ true)) → b || some_passes test ys ≡ true → (x : A) × Contains (y ∷ ys) x × (test x ≡ true)
+    by : (b : Bool) → test y ≡ b → (some_passes test ys ≡ true → (x : A) × Contains ys x × (test x ≡ true)) → b || some_passes test ys ≡ true
+        → (x : A) × Contains (y ∷ ys) x × (test x ≡ true)
     by true is rest e = (y, (zero, omega arith, refl), is)
     by false is rest e = let (x, (k, inside, at), passes) = rest e in (x, (suc k, omega (arith, inside), at), passes)
 
@@ -67,12 +68,14 @@ module _ (table : Table) where
   within_stands n (AuthTy t) e = StandsHere
   within_stands n (PairTy a b) e = by (either_true (has_auth_within table n a) (has_auth_within table n b) e) (λ h. within_stands n a h) (λ h. within_stands n b h)
     where
-      by : (has_auth_within table n a ≡ true) ⊎ (has_auth_within table n b ≡ true) → (has_auth_within table n a ≡ true → AuthStandsIn table a) → (has_auth_within table n b ≡ true → AuthStandsIn table b) → AuthStandsIn table (PairTy a b)
+      by : (has_auth_within table n a ≡ true) ⊎ (has_auth_within table n b ≡ true) → (has_auth_within table n a ≡ true → AuthStandsIn table a)
+          → (has_auth_within table n b ≡ true → AuthStandsIn table b) → AuthStandsIn table (PairTy a b)
       by (inl h) f g = StandsInFirst (f h)
       by (inr h) f g = StandsInSecond (g h)
   within_stands (suc n) (NamedTy number) e = by (slice_get table number) refl (λ t h. within_stands n t h) e
     where
-      by : (o : Option (List (List Ty))) → slice_get table number ≡ o → ((t : Ty) → has_auth_within table n t ≡ true → AuthStandsIn table t) → some_passes (some_passes (has_auth_within table n)) (unwrap_or o []) ≡ true → AuthStandsIn table (NamedTy number)
+      by : (o : Option (List (List Ty))) → slice_get table number ≡ o → ((t : Ty) → has_auth_within table n t ≡ true → AuthStandsIn table t)
+          → some_passes (some_passes (has_auth_within table n)) (unwrap_or o []) ≡ true → AuthStandsIn table (NamedTy number)
       by None there find e = absurd (cc)
       by (Some constructors) there find e =
           let (fields, in_type, some) = where_passes (some_passes (has_auth_within table n)) constructors e in
@@ -107,6 +110,20 @@ new_decides names table state (NamedTy number) = (λ e. absurd (cc), λ (a, is).
 new_decides names table state (AuthTy t) = (λ e. absurd (cc), λ (a, is). absurd (cc))
 
 module _ (names : List (List ℕ)) (table : Table) (state : Ty) where
+  -- the type that an argument is written with has `auth` in it
+  abbrev HasAuth : TypeSyntax → Type 0
+  HasAuth argument = AuthStandsIn table (type_meant names argument)
+
+  -- the third pass at a function, and what the rules say of it
+  abbrev role_step : List FunctionSyntax → FunctionSyntax → Checking (Unit {0})
+  role_step before f = checked_role names table state f f.kind f.parameters
+
+  abbrev Fulfils : List FunctionSyntax → FunctionSyntax → Type 0
+  Fulfils = MeetsRole names table state
+
+  abbrev Violates : List FunctionSyntax → FunctionSyntax → TypeKind → Place → Type 0
+  Violates = BreaksRole names table state
+
   -- the shapes, by kind
   inner_shape : {parameters : List ParameterSyntax} {result argument : TypeSyntax} → HasShape names state InnerSyntax parameters result argument → ⊥
   inner_shape h = elim h [ ]
@@ -114,7 +131,8 @@ module _ (names : List (List ℕ)) (table : Table) (state : Ty) where
   init_shape : {p : ParameterSyntax} {result argument : TypeSyntax} → HasShape names state InitSyntax (p ∷ []) result argument → (state ≡ type_meant names result) × (p.of_type ≡ argument)
   init_shape (InitShape is) = (sym is, refl)
 
-  query_shape : {s p : ParameterSyntax} {result argument : TypeSyntax} → HasShape names state QuerySyntax (s ∷ p ∷ []) result argument → (state ≡ type_meant names s.of_type) × (p.of_type ≡ argument)
+  query_shape : {s p : ParameterSyntax} {result argument : TypeSyntax} → HasShape names state QuerySyntax (s ∷ p ∷ []) result argument
+      → (state ≡ type_meant names s.of_type) × (p.of_type ≡ argument)
   query_shape (QueryShape is) = (sym is, refl)
 
   update_shape : {s p : ParameterSyntax} {result argument : TypeSyntax} → HasShape names state UpdateSyntax (s ∷ p ∷ []) result argument
@@ -147,16 +165,25 @@ module _ (names : List (List ℕ)) (table : Table) (state : Ty) where
   update_three h = elim h [ ]
 
   module _ (f : FunctionSyntax) where
+    abbrev IsShape : KindSyntax → List ParameterSyntax → TypeSyntax → Type 0
+    IsShape kind parameters argument = HasShape names state kind parameters f.result_type argument
+
+    -- a fact on its types fails, or its argument has `auth` in it
+    abbrev Misfit : Type 0 → TypeSyntax → TypeKind → Place → Type 0
+    Misfit P argument k p =
+        ((P → ⊥) × (RoleShape ≡ k) × (f.name.at ≡ p))
+        ⊎ (P × ((((HasAuth argument → ⊥) → ⊥) × (AuthInArgument ≡ k) × (place_of_type argument ≡ p)) ⊎ ((HasAuth argument → ⊥) × ⊥)))
+
     -- a function of this kind and with these parameters
     abbrev Meets : KindSyntax → List ParameterSyntax → Type 0
-    Meets kind parameters = (kind ≡ InnerSyntax) ⊎ ((argument : TypeSyntax) × HasShape names state kind parameters f.result_type argument × (AuthStandsIn table (type_meant names argument) → ⊥))
+    Meets kind parameters = (kind ≡ InnerSyntax) ⊎ ((argument : TypeSyntax) × IsShape kind parameters argument × (HasAuth argument → ⊥))
 
     abbrev Breaks : KindSyntax → List ParameterSyntax → TypeKind → Place → Type 0
     Breaks kind parameters k p =
-        ((kind ≡ InnerSyntax → ⊥) × ((argument : TypeSyntax) → HasShape names state kind parameters f.result_type argument → ⊥) × (RoleShape ≡ k) × (f.name.at ≡ p))
-        ⊎ ((argument : TypeSyntax) × HasShape names state kind parameters f.result_type argument × AuthStandsIn table (type_meant names argument) × (AuthInArgument ≡ k) × (place_of_type argument ≡ p))
+        ((kind ≡ InnerSyntax → ⊥) × ((argument : TypeSyntax) → IsShape kind parameters argument → ⊥) × (RoleShape ≡ k) × (f.name.at ≡ p))
+        ⊎ ((argument : TypeSyntax) × IsShape kind parameters argument × HasAuth argument × (AuthInArgument ≡ k) × (place_of_type argument ≡ p))
 
-    misshapen : (kind : KindSyntax) (parameters : List ParameterSyntax) → (kind ≡ InnerSyntax → ⊥) → ((argument : TypeSyntax) → HasShape names state kind parameters f.result_type argument → ⊥)
+    misshapen : (kind : KindSyntax) (parameters : List ParameterSyntax) → (kind ≡ InnerSyntax → ⊥) → ((argument : TypeSyntax) → IsShape kind parameters argument → ⊥)
         → Ruled (refused RoleShape f.name.at) (λ _. Meets kind parameters) (Breaks kind parameters)
     misshapen kind parameters entered never = record { judged = inl (entered, never, refl, refl); passes = λ a h. passed h; tells = λ k p b. told k p b }
       where
@@ -169,10 +196,10 @@ module _ (names : List (List ℕ)) (table : Table) (state : Ty) where
         told k p (inr (argument, shape, auth, same, here)) = absurd (never argument shape)
 
     fitting : (kind : KindSyntax) (parameters : List ParameterSyntax) (argument : TypeSyntax) (b : Bool) (P : Type 0) → (kind ≡ InnerSyntax → ⊥) → Decides b P
-        → (P → HasShape names state kind parameters f.result_type argument) → ((other : TypeSyntax) → HasShape names state kind parameters f.result_type other → P × (argument ≡ other))
+        → (P → IsShape kind parameters argument) → ((other : TypeSyntax) → IsShape kind parameters other → P × (argument ≡ other))
         → Ruled (plain_argument names table f b argument) (λ _. Meets kind parameters) (Breaks kind parameters)
     fitting kind parameters argument b P entered d shaped shape =
-        let Auth = AuthStandsIn table (type_meant names argument) in
+        let Auth = HasAuth argument in
         let Plain : Type 0 = Auth → ⊥ in
         let G : TypeKind → Place → Type 0 = λ k p. ((Plain → ⊥) × (AuthInArgument ≡ k) × (place_of_type argument ≡ p)) ⊎ (Plain × ⊥) in
         let auth = auth_decides table (type_meant names argument) in
@@ -183,12 +210,12 @@ module _ (names : List (List ℕ)) (table : Table) (state : Ty) where
         (λ _. ruled_unless Plain (λ _. Unit {0}) (λ k p. ⊥) (not (has_auth table (type_meant names argument))) AuthInArgument (place_of_type argument) fine
         (Decides-not (has_auth table (type_meant names argument)) auth) (λ _. nothing_left)))
       where
-        met : Meets kind parameters → P × ((AuthStandsIn table (type_meant names argument) → ⊥) × Unit {0})
+        met : Meets kind parameters → P × ((HasAuth argument → ⊥) × Unit {0})
         met (inl inner) = absurd (entered inner)
         met (inr (other, h, plain)) = let (p, same) = shape other h in (p, (subst (λ t. AuthStandsIn table (type_meant names t) → ⊥) (sym same) plain, tt))
 
         breaks : (k : TypeKind) (p : Place)
-            → ((P → ⊥) × (RoleShape ≡ k) × (f.name.at ≡ p)) ⊎ (P × ((((AuthStandsIn table (type_meant names argument) → ⊥) → ⊥) × (AuthInArgument ≡ k) × (place_of_type argument ≡ p)) ⊎ ((AuthStandsIn table (type_meant names argument) → ⊥) × ⊥)))
+            → Misfit P argument k p
             → Breaks kind parameters k p
         breaks k p (inl (never, same, here)) = inl (entered, λ other h. never (shape other h).0, same, here)
         breaks k p (inr (holds, inl (auth, same, here))) =
@@ -196,7 +223,7 @@ module _ (names : List (List ℕ)) (table : Table) (state : Ty) where
         breaks k p (inr (holds, inr (plain, never))) = absurd never
 
         broken : (k : TypeKind) (p : Place) → Breaks kind parameters k p
-            → ((P → ⊥) × (RoleShape ≡ k) × (f.name.at ≡ p)) ⊎ (P × ((((AuthStandsIn table (type_meant names argument) → ⊥) → ⊥) × (AuthInArgument ≡ k) × (place_of_type argument ≡ p)) ⊎ ((AuthStandsIn table (type_meant names argument) → ⊥) × ⊥)))
+            → Misfit P argument k p
         broken k p (inl (entered, never, same, here)) = inl (λ holds. never argument (shaped holds), same, here)
         broken k p (inr (other, h, auth, same, here)) =
             let (holds, is) = shape other h in
@@ -210,13 +237,15 @@ module _ (names : List (List ℕ)) (table : Table) (state : Ty) where
         told k p (inr (argument, shape, auth, same, here)) = absurd (inner_shape shape)
     role_judged InitSyntax [] = misshapen InitSyntax [] (λ e. absurd (cc)) (λ argument h. init_none h)
     role_judged InitSyntax (p ∷ []) =
-        fitting InitSyntax (p ∷ []) p.of_type (same_type state (type_meant names f.result_type)) (state ≡ type_meant names f.result_type) (λ e. absurd (cc)) (type_decides state (type_meant names f.result_type))
+        fitting InitSyntax (p ∷ []) p.of_type (same_type state (type_meant names f.result_type)) (state ≡ type_meant names f.result_type) (λ e. absurd (cc))
+        (type_decides state (type_meant names f.result_type))
         (λ is. InitShape (sym is)) (λ other h. init_shape h)
     role_judged InitSyntax (p ∷ q ∷ rest) = misshapen InitSyntax (p ∷ q ∷ rest) (λ e. absurd (cc)) (λ argument h. init_two h)
     role_judged QuerySyntax [] = misshapen QuerySyntax [] (λ e. absurd (cc)) (λ argument h. query_none h)
     role_judged QuerySyntax (s ∷ []) = misshapen QuerySyntax (s ∷ []) (λ e. absurd (cc)) (λ argument h. query_one h)
     role_judged QuerySyntax (s ∷ p ∷ []) =
-        fitting QuerySyntax (s ∷ p ∷ []) p.of_type (same_type state (type_meant names s.of_type)) (state ≡ type_meant names s.of_type) (λ e. absurd (cc)) (type_decides state (type_meant names s.of_type))
+        fitting QuerySyntax (s ∷ p ∷ []) p.of_type (same_type state (type_meant names s.of_type)) (state ≡ type_meant names s.of_type) (λ e. absurd (cc))
+        (type_decides state (type_meant names s.of_type))
         (λ is. QueryShape (sym is)) (λ other h. query_shape h)
     role_judged QuerySyntax (s ∷ p ∷ q ∷ rest) = misshapen QuerySyntax (s ∷ p ∷ q ∷ rest) (λ e. absurd (cc)) (λ argument h. query_three h)
     role_judged UpdateSyntax [] = misshapen UpdateSyntax [] (λ e. absurd (cc)) (λ argument h. update_none h)
@@ -224,40 +253,41 @@ module _ (names : List (List ℕ)) (table : Table) (state : Ty) where
     role_judged UpdateSyntax (s ∷ p ∷ []) =
         let first = type_meant names s.of_type in
         let result = type_meant names f.result_type in
-        fitting UpdateSyntax (s ∷ p ∷ []) p.of_type (same_type state first && is_new_state names table state result) ((state ≡ first) × ((answer : Ty) × (result ≡ PairTy state answer))) (λ e. absurd (cc))
+        fitting UpdateSyntax (s ∷ p ∷ []) p.of_type (same_type state first && is_new_state names table state result)
+        ((state ≡ first) × ((answer : Ty) × (result ≡ PairTy state answer))) (λ e. absurd (cc))
         (Decides-and (same_type state first) (is_new_state names table state result) (type_decides state first) (new_decides names table state result))
         (λ (is, (answer, gives)). UpdateShape (sym is) gives) (λ other h. update_shape h)
     role_judged UpdateSyntax (s ∷ p ∷ q ∷ rest) = misshapen UpdateSyntax (s ∷ p ∷ q ∷ rest) (λ e. absurd (cc)) (λ argument h. update_three h)
 
-  role_ruled : (before : List FunctionSyntax) (f : FunctionSyntax) → Ruled (checked_role names table state f f.kind f.parameters) (λ _. MeetsRole names table state before f) (BreaksRole names table state before f)
+  role_ruled : (before : List FunctionSyntax) (f : FunctionSyntax) → Ruled (role_step before f) (λ _. Fulfils before f) (Violates before f)
   role_ruled before f =
-      ruled_like (checked_role names table state f f.kind f.parameters) (λ _. Meets f f.kind f.parameters) (λ _. MeetsRole names table state before f) (Breaks f f.kind f.parameters) (BreaksRole names table state before f)
+      ruled_like (role_step before f) (λ _. Meets f f.kind f.parameters) (λ _. Fulfils before f) (Breaks f f.kind f.parameters) (Violates before f)
       (λ _ h. meets h) (λ _ h. met h) (λ k p b. breaks k p b) (λ k p b. broken k p b) (role_judged f f.kind f.parameters)
     where
-      meets : Meets f f.kind f.parameters → MeetsRole names table state before f
+      meets : Meets f f.kind f.parameters → Fulfils before f
       meets (inl inner) = IsInner inner
       meets (inr (argument, shape, plain)) = IsShaped shape plain
 
-      met : MeetsRole names table state before f → Meets f f.kind f.parameters
+      met : Fulfils before f → Meets f f.kind f.parameters
       met (IsInner inner) = inl inner
       met (IsShaped {argument = argument} shape plain) = inr (argument, shape, plain)
 
-      breaks : (k : TypeKind) (p : Place) → Breaks f f.kind f.parameters k p → BreaksRole names table state before f k p
+      breaks : (k : TypeKind) (p : Place) → Breaks f f.kind f.parameters k p → Violates before f k p
       breaks k p (inl (entered, never, same, here)) =
-          subst (λ p. BreaksRole names table state before f k p) here (subst (λ k. BreaksRole names table state before f k f.name.at) same (IsMisshapen entered never))
+          subst (λ p. Violates before f k p) here (subst (λ k. Violates before f k f.name.at) same (IsMisshapen entered never))
       breaks k p (inr (argument, shape, auth, same, here)) =
-          subst (λ p. BreaksRole names table state before f k p) here (subst (λ k. BreaksRole names table state before f k (place_of_type argument)) same (PassesAuth shape auth))
+          subst (λ p. Violates before f k p) here (subst (λ k. Violates before f k (place_of_type argument)) same (PassesAuth shape auth))
 
-      broken : (k : TypeKind) (p : Place) → BreaksRole names table state before f k p → Breaks f f.kind f.parameters k p
+      broken : (k : TypeKind) (p : Place) → Violates before f k p → Breaks f f.kind f.parameters k p
       broken _ _ (IsMisshapen entered never) = inl (entered, never, refl, refl)
       broken _ _ (PassesAuth {argument = argument} shape auth) = inr (argument, shape, auth, refl, refl)
 
-  roles_each : (before fs : List FunctionSyntax) → checked_roles names table state fs ≡ each_checked (λ before f. checked_role names table state f f.kind f.parameters) before fs
+  roles_each : (before fs : List FunctionSyntax) → checked_roles names table state fs ≡ each_checked role_step before fs
   roles_each before [] = refl
-  roles_each before (f ∷ fs) = ap (λ r. then_checked (checked_role names table state f f.kind f.parameters) (λ _. r)) (roles_each (before ++ f ∷ []) fs)
+  roles_each before (f ∷ fs) = ap (λ r. then_checked (role_step before f) (λ _. r)) (roles_each (before ++ f ∷ []) fs)
 
-  pub roles_ruled : (fs : List FunctionSyntax) → Ruled (checked_roles names table state fs) (λ _. EachMeets (MeetsRole names table state) [] fs) (OneBreaks (MeetsRole names table state) (BreaksRole names table state) [] fs)
+  pub roles_ruled : (fs : List FunctionSyntax) → Ruled (checked_roles names table state fs) (λ _. EachMeets Fulfils [] fs) (OneBreaks Fulfils Violates [] fs)
   roles_ruled fs =
-      ruled_same (checked_roles names table state fs) (each_checked (λ before f. checked_role names table state f f.kind f.parameters) [] fs) (λ _. EachMeets (MeetsRole names table state) [] fs)
-      (OneBreaks (MeetsRole names table state) (BreaksRole names table state) [] fs) (roles_each [] fs)
-      (each_ruled (MeetsRole names table state) (BreaksRole names table state) (λ before f. checked_role names table state f f.kind f.parameters) role_ruled [] fs)
+      ruled_same (checked_roles names table state fs) (each_checked role_step [] fs) (λ _. EachMeets Fulfils [] fs)
+      (OneBreaks Fulfils Violates [] fs) (roles_each [] fs)
+      (each_ruled Fulfils Violates role_step role_ruled [] fs)

@@ -118,7 +118,8 @@ fields_ruled fields =
 abbrev pub parameter_step : List ParameterSyntax → ParameterSyntax → Checking (Unit {0})
 parameter_step before parameter = name_step (parameter_names before) most_parameters Parameters parameter.name
 
-parameters_each : (front parameters : List ParameterSyntax) (before : List (List ℕ)) → before ≡ reverse (parameter_names front) → checked_parameters before parameters ≡ each_checked parameter_step front parameters
+parameters_each : (front parameters : List ParameterSyntax) (before : List (List ℕ)) → before ≡ reverse (parameter_names front)
+    → checked_parameters before parameters ≡ each_checked parameter_step front parameters
 parameters_each front [] before is = refl
 parameters_each front (parameter ∷ rest) before is =
     ap (λ r. new_name before most_parameters Parameters parameter.name r) (parameters_each (front ++ parameter ∷ []) rest (parameter.name.name ∷ before) (more is))
@@ -130,9 +131,11 @@ parameters_each front (parameter ∷ rest) before is =
     more is = ap (λ b. parameter.name.name ∷ b) is
         ∙ sym (ap reverse (map-append (λ (p : ParameterSyntax). p.name.name) front (parameter ∷ [])) ∙ reverse-append (parameter_names front) (parameter.name.name ∷ []))
 
-pub parameters_ruled : (parameters : List ParameterSyntax) → Ruled (checked_parameters [] parameters) (λ _. EachMeets MayHaveParameter [] parameters) (OneBreaks MayHaveParameter BreaksParameter [] parameters)
+pub parameters_ruled : (parameters : List ParameterSyntax)
+    → Ruled (checked_parameters [] parameters) (λ _. EachMeets MayHaveParameter [] parameters) (OneBreaks MayHaveParameter BreaksParameter [] parameters)
 parameters_ruled parameters =
-    ruled_same (checked_parameters [] parameters) (each_checked parameter_step [] parameters) (λ _. EachMeets MayHaveParameter [] parameters) (OneBreaks MayHaveParameter BreaksParameter [] parameters)
+    ruled_same (checked_parameters [] parameters) (each_checked parameter_step [] parameters) (λ _. EachMeets MayHaveParameter [] parameters)
+    (OneBreaks MayHaveParameter BreaksParameter [] parameters)
     (parameters_each [] parameters [] refl)
     (each_ruled MayHaveParameter BreaksParameter parameter_step (λ before p. name_ruled (parameter_names before) most_parameters Parameters p.name) [] parameters)
 
@@ -159,19 +162,25 @@ names_more names front constructor held is =
     ∙ ap reverse (sym (append_assoc names (map (λ (c : ConstructorDeclaration). c.name.name) front) (constructor.name.name ∷ [])))
     ∙ reverse-append (constructor_names_before names front) (constructor.name.name ∷ []))
 
-pub constructors_each : (names : List (List ℕ)) (front constructors : List ConstructorDeclaration) (n : ℕ) (held : List (List ℕ)) → n ≡ length front → held ≡ reverse (constructor_names_before names front)
+pub constructors_each : (names : List (List ℕ)) (front constructors : List ConstructorDeclaration) (n : ℕ) (held : List (List ℕ)) → n ≡ length front
+    → held ≡ reverse (constructor_names_before names front)
     → checked_constructors n held constructors ≡ then_checked (each_checked (constructor_step names) front constructors) (λ _. Sound (reverse (constructor_names_before names (front ++ constructors))))
 constructors_each names front [] n held many is = ap Sound (is ∙ ap (λ f. reverse (constructor_names_before names f)) (sym (append-nil front)))
 constructors_each names front (constructor ∷ rest) n held many is =
     let all = Sound (reverse (constructor_names_before names (front ++ constructor ∷ rest))) in
-    let next = then_checked (each_checked (constructor_step names) (front ++ constructor ∷ []) rest) (λ _. Sound (reverse (constructor_names_before names ((front ++ constructor ∷ []) ++ rest)))) in
-    ap (λ r. checked_constructor n held constructor r) (constructors_each names (front ++ constructor ∷ []) rest (n + 1) (constructor.name.name ∷ held) (omega (arith, many, one_longer front constructor)) (names_more names front constructor held is))
+    let next = then_checked (each_checked (constructor_step names) (front ++ constructor ∷ []) rest)
+    (λ _. Sound (reverse (constructor_names_before names ((front ++ constructor ∷ []) ++ rest)))) in
+    ap (λ r. checked_constructor n held constructor r) (constructors_each names (front ++ constructor ∷ []) rest (n + 1) (constructor.name.name ∷ held)
+    (omega (arith, many, one_longer front constructor)) (names_more names front constructor held is))
     ∙ ap (λ n. checked_constructor n held constructor next) many
     ∙ ap (λ h. checked_constructor (length front) h constructor next) is
-    ∙ ap (λ b. unless_fault (not b) Twice constructor.name.at (unless_fault (nat_lt (length front) most_constructors) (Limit Constructors) constructor.name.at (then_checked (checked_fields 0 constructor.fields) (λ _. next))))
+    ∙ ap (λ b. unless_fault (not b) Twice constructor.name.at
+    (unless_fault (nat_lt (length front) most_constructors) (Limit Constructors) constructor.name.at (then_checked (checked_fields 0 constructor.fields) (λ _. next))))
     (among_reverse constructor.name.name (constructor_names_before names front))
     ∙ constructor_then (length front) (constructor_names_before names front) constructor next
-    ∙ ap (λ l. then_checked (constructor_step names front constructor) (λ _. then_checked (each_checked (constructor_step names) (front ++ constructor ∷ []) rest) (λ _. Sound (reverse (constructor_names_before names l))))) (append_assoc front (constructor ∷ []) rest)
+    ∙ ap (λ l. then_checked (constructor_step names front constructor)
+    (λ _. then_checked (each_checked (constructor_step names) (front ++ constructor ∷ []) rest) (λ _. Sound (reverse (constructor_names_before names l)))))
+    (append_assoc front (constructor ∷ []) rest)
     ∙ sym (then_then (constructor_step names front constructor) (λ _. each_checked (constructor_step names) (front ++ constructor ∷ []) rest) (λ _. all))
 
 pub constructor_ruled : (names : List (List ℕ)) (before : List ConstructorDeclaration) (constructor : ConstructorDeclaration)

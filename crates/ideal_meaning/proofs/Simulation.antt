@@ -37,12 +37,25 @@ tag_fields (Some cs) tag us e = e
 rem_fits : (x d : ℤ) → int_fits x ≡ true → int_fits (int_rem x d) ≡ true
 rem_fits x d e = of_mag (int_rem x d) (lt_of_le_of_lt (mag_rem x d) (mag_of x e))
 
+-- the runs of the two modes
+abbrev IdealRun : Type 0 → Type 0
+IdealRun A = Run ⊥ (List Opened) A
+
+abbrev CheckedRun : Type 0 → Type 0
+CheckedRun A = Run Cause Taking A
+
+abbrev IdealStepOnAll : Type 0
+IdealStepOnAll = Values → ℕ → List Opened → IdealRun Value
+
+abbrev CheckedStepOnAll : Type 0
+CheckedStepOnAll = Values → ℕ → Taking → CheckedRun Value
+
 -- what goes on behind a value, and behind two: in the ideal run, in the checked run, and as one step in both
 abbrev IdealStep : Type 0
-IdealStep = Value → ℕ → List Opened → Run ⊥ (List Opened) Value
+IdealStep = Value → ℕ → List Opened → IdealRun Value
 
 abbrev CheckedStep : Type 0
-CheckedStep = Value → ℕ → Taking → Run Cause Taking Value
+CheckedStep = Value → ℕ → Taking → CheckedRun Value
 
 abbrev Step : Type 1
 Step = (C W : Type 0) → Value → ℕ → W → Run C W Value
@@ -66,14 +79,14 @@ module _ (hash : Hash) (P : Program) (format : IsFormat P.format) (Deep : Type 0
   Synced s w = InStep hash P Deep began s w
 
   -- the runs agree at a value of type t, and at values of these types
-  abbrev pub Both : Ty → Run ⊥ (List Opened) Value → Run Cause Taking Value → Type 0
+  abbrev pub Both : Ty → IdealRun Value → CheckedRun Value → Type 0
   Both t ideal checked = Agree hash P Deep began (IsHeld P Deep t) (projection hash P t) ideal checked
 
-  abbrev pub BothAll : List Ty → Run ⊥ (List Opened) Values → Run Cause Taking Values → Type 0
+  abbrev pub BothAll : List Ty → IdealRun Values → CheckedRun Values → Type 0
   BothAll ts ideal checked = Agree hash P Deep began (AreHeld P Deep ts) (projections hash P ts) ideal checked
 
   -- a value, and what goes on behind it
-  after : (a t : Ty) (ideal : Run ⊥ (List Opened) Value) (checked : Run Cause Taking Value) (f : IdealStep) (g : CheckedStep)
+  after : (a t : Ty) (ideal : IdealRun Value) (checked : CheckedRun Value) (f : IdealStep) (g : CheckedStep)
       → Both a ideal checked → ((v : Value) (k : ℕ) (s : List Opened) → Grows s (f v k s))
       → ((v : Value) (k : ℕ) (s : List Opened) (w : Taking) → Held a v → Synced s w → Both t (f v k s) (g (Projected a v) k w))
       → Both t (then_run ideal f) (then_run checked g)
@@ -81,7 +94,7 @@ module _ (hash : Hash) (P : Program) (format : IsFormat P.format) (Deep : Type 0
       agree_then hash P Deep began (IsHeld P Deep a) (projection hash P a) (IsHeld P Deep t) (projection hash P t) ideal checked f g h grow on
 
   -- values, and what goes on behind them
-  after_all : (us : List Ty) (t : Ty) (ideal : Run ⊥ (List Opened) Values) (checked : Run Cause Taking Values) (f : Values → ℕ → List Opened → Run ⊥ (List Opened) Value) (g : Values → ℕ → Taking → Run Cause Taking Value)
+  after_all : (us : List Ty) (t : Ty) (ideal : IdealRun Values) (checked : CheckedRun Values) (f : IdealStepOnAll) (g : CheckedStepOnAll)
       → BothAll us ideal checked → ((vs : Values) (k : ℕ) (s : List Opened) → Grows s (f vs k s))
       → ((vs : Values) (k : ℕ) (s : List Opened) (w : Taking) → AreHeld P Deep us vs → Synced s w → Both t (f vs k s) (g (AllProjected us vs) k w))
       → Both t (then_run ideal f) (then_run checked g)
@@ -95,11 +108,11 @@ module _ (hash : Hash) (P : Program) (format : IsFormat P.format) (Deep : Type 0
   both_traps : (t : Ty) (trap : Trap) (k : ℕ) (s : List Opened) (w : Taking) → Synced s w → Both t (Ends (Traps trap) k s) (Ends (Traps trap) k w)
   both_traps t trap k s w y = agree_traps hash P Deep began (IsHeld P Deep t) (projection hash P t) trap k s w y
 
-  both_if : (t : Ty) (b c : Bool) (r1 r2 : Run ⊥ (List Opened) Value) (q1 q2 : Run Cause Taking Value)
+  both_if : (t : Ty) (b c : Bool) (r1 r2 : IdealRun Value) (q1 q2 : CheckedRun Value)
       → c ≡ b → (b ≡ true → Both t r1 q1) → (b ≡ false → Both t r2 q2) → Both t (if b then r1 else r2) (if c then q1 else q2)
   both_if t b c r1 r2 q1 q2 e h j = agree_if hash P Deep began (IsHeld P Deep t) (projection hash P t) b c r1 r2 q1 q2 e h j
 
-  both_choose : (t : Ty) (b : Bool) (f1 f2 : Values → ℕ → List Opened → Run ⊥ (List Opened) Value) (g1 g2 : Values → ℕ → Taking → Run Cause Taking Value) (env shallow : Values) (k : ℕ) (s : List Opened) (w : Taking)
+  both_choose : (t : Ty) (b : Bool) (f1 f2 : IdealStepOnAll) (g1 g2 : CheckedStepOnAll) (env shallow : Values) (k : ℕ) (s : List Opened) (w : Taking)
       → Both t (f1 env k s) (g1 shallow k w) → Both t (f2 env k s) (g2 shallow k w) → Both t (choose b f1 f2 env k s) (choose b g1 g2 shallow k w)
   both_choose t true f1 f2 g1 g2 env shallow k s w h j = h
   both_choose t false f1 f2 g1 g2 env shallow k s w h j = j
@@ -124,7 +137,8 @@ module _ (hash : Hash) (P : Program) (format : IsFormat P.format) (Deep : Type 0
   both_int b z k s w fits y =
       both_if IntTy b b _ _ _ _ refl (λ q. both_gives IntTy (IntV z) (IntV z) k s w (held_int P format Deep z (fits q)) refl y) (λ q. both_traps IntTy Overflow k s w y)
 
-  both_divided : (z x d : ℤ) (k : ℕ) (s : List Opened) (w : Taking) → (int_fits (int_div x d) ≡ true → int_fits z ≡ true) → Synced s w → Both IntTy (divided z x d k s) (divided z x d k w)
+  both_divided : (z x d : ℤ) (k : ℕ) (s : List Opened) (w : Taking) → (int_fits (int_div x d) ≡ true → int_fits z ≡ true) → Synced s w
+      → Both IntTy (divided z x d k s) (divided z x d k w)
   both_divided z x (pos zero) k s w fits y = both_traps IntTy _ k s w y
   both_divided z x (pos (suc n)) k s w fits y = both_int (int_fits (int_div x (pos (suc n)))) z k s w fits y
   both_divided z x (negsuc n) k s w fits y = both_int (int_fits (int_div x (negsuc n))) z k s w fits y
@@ -138,27 +152,27 @@ module _ (hash : Hash) (P : Program) (format : IsFormat P.format) (Deep : Type 0
 
   -- Expressions, where calls agree.
   module _ (reads_back : (t : Ty) (v : Value) → IsIdeal P.types t v → ReadsBack hash P t v)
-      (ideal_call : ℕ → Values → ℕ → List Opened → Run ⊥ (List Opened) Value) (checked_call : ℕ → Values → ℕ → Taking → Run Cause Taking Value)
+      (ideal_call : ℕ → IdealStepOnAll) (checked_call : ℕ → CheckedStepOnAll)
       (ideal_grows : (f : ℕ) (vs : Values) (k : ℕ) (s : List Opened) → Grows s (ideal_call f vs k s))
       (calls : (f : ℕ) (vs : Values) (k : ℕ) (s : List Opened) (w : Taking) → AreHeld P Deep (function_at P f).parameters vs → Synced s w
       → Both (function_at P f).result (ideal_call f vs k s) (checked_call f (projections hash P (function_at P f).parameters vs) k w)) where
     -- the two runs of an expression, of operands and of arms
-    abbrev ideal_run : Expression → Values → ℕ → List Opened → Run ⊥ (List Opened) Value
+    abbrev ideal_run : Expression → IdealStepOnAll
     ideal_run e env k s = run P ideal_mode ideal_call e env k s
 
-    abbrev checked_run : Expression → Values → ℕ → Taking → Run Cause Taking Value
+    abbrev checked_run : Expression → CheckedStepOnAll
     checked_run e env k w = run P (checked_mode hash P) checked_call e env k w
 
-    abbrev ideal_run_all : Expressions → Values → ℕ → List Opened → Run ⊥ (List Opened) Values
+    abbrev ideal_run_all : Expressions → Values → ℕ → List Opened → IdealRun Values
     ideal_run_all xs env k s = run_all P ideal_mode ideal_call xs env k s
 
-    abbrev checked_run_all : Expressions → Values → ℕ → Taking → Run Cause Taking Values
+    abbrev checked_run_all : Expressions → Values → ℕ → Taking → CheckedRun Values
     checked_run_all xs env k w = run_all P (checked_mode hash P) checked_call xs env k w
 
-    abbrev ideal_arm : Arms → ℕ → Values → ℕ → List Opened → Run ⊥ (List Opened) Value
+    abbrev ideal_arm : Arms → ℕ → IdealStepOnAll
     ideal_arm arms tag env k s = run_arm P ideal_mode ideal_call arms tag env k s
 
-    abbrev checked_arm : Arms → ℕ → Values → ℕ → Taking → Run Cause Taking Value
+    abbrev checked_arm : Arms → ℕ → CheckedStepOnAll
     checked_arm arms tag env k w = run_arm P (checked_mode hash P) checked_call arms tag env k w
 
     -- the ideal run only adds to what was opened
@@ -174,18 +188,24 @@ module _ (hash : Hash) (P : Program) (format : IsFormat P.format) (Deep : Type 0
         → ((v : Value) (k : ℕ) (s : List Opened) → Grows s (step ⊥ (List Opened) v k s))
         → ((v : Value) (k : ℕ) (s : List Opened) (w : Taking) → Held a v → Synced s w → Both t (step ⊥ (List Opened) v k s) (step Cause Taking (Projected a v) k w))
         → Both t (then_run (ideal_run x env k s) (λ v k s. step ⊥ (List Opened) v k s)) (then_run (checked_run x (AllProjected ts env) k w) (λ v k w. step Cause Taking v k w))
-    one x ts env k s w a t step h grow on = after a t (ideal_run x env k s) (checked_run x (AllProjected ts env) k w) (λ v k s. step ⊥ (List Opened) v k s) (λ v k w. step Cause Taking v k w) h grow on
+    one x ts env k s w a t step h grow on =
+        after a t (ideal_run x env k s) (checked_run x (AllProjected ts env) k w) (λ v k s. step ⊥ (List Opened) v k s)
+        (λ v k w. step Cause Taking v k w) h grow on
 
     -- two expressions, and one step behind them
     two : (x z : Expression) (ts : List Ty) (env : Values) (k : ℕ) (s : List Opened) (w : Taking) (a b t : Ty) (step : StepOnTwo) → Agrees x ts env k s w a
         → ((k : ℕ) (s : List Opened) (w : Taking) → Synced s w → Agrees z ts env k s w b)
         → ((u v : Value) (k : ℕ) (s : List Opened) → Grows s (step ⊥ (List Opened) u v k s))
-        → ((u v : Value) (k : ℕ) (s : List Opened) (w : Taking) → Held a u → Held b v → Synced s w → Both t (step ⊥ (List Opened) u v k s) (step Cause Taking (Projected a u) (Projected b v) k w))
-        → Both t (then_run (ideal_run x env k s) (λ u k s. then_run (ideal_run z env k s) (λ v k s. step ⊥ (List Opened) u v k s))) (then_run (checked_run x (AllProjected ts env) k w) (λ u k w. then_run (checked_run z (AllProjected ts env) k w) (λ v k w. step Cause Taking u v k w)))
+        → ((u v : Value) (k : ℕ) (s : List Opened) (w : Taking) → Held a u → Held b v → Synced s w
+        → Both t (step ⊥ (List Opened) u v k s) (step Cause Taking (Projected a u) (Projected b v) k w))
+        → Both t (then_run (ideal_run x env k s) (λ u k s. then_run (ideal_run z env k s) (λ v k s. step ⊥ (List Opened) u v k s)))
+        (then_run (checked_run x (AllProjected ts env) k w) (λ u k w. then_run (checked_run z (AllProjected ts env) k w) (λ v k w. step Cause Taking u v k w)))
     two x z ts env k s w a b t step h j grow_step on =
-        after a t (ideal_run x env k s) (checked_run x (AllProjected ts env) k w) (λ u k s. then_run (ideal_run z env k s) (λ v k s. step ⊥ (List Opened) u v k s)) (λ u k w. then_run (checked_run z (AllProjected ts env) k w) (λ v k w. step Cause Taking u v k w)) h
+        after a t (ideal_run x env k s) (checked_run x (AllProjected ts env) k w)
+        (λ u k s. then_run (ideal_run z env k s) (λ v k s. step ⊥ (List Opened) u v k s)) (λ u k w. then_run (checked_run z (AllProjected ts env) k w) (λ v k w. step Cause Taking u v k w)) h
         (λ u k s. grows_then s (ideal_run z env k s) (λ v k s. step ⊥ (List Opened) u v k s) (grow z env k s) (λ v k s. grow_step u v k s))
-        (λ u k s w hu y. after b t (ideal_run z env k s) (checked_run z (AllProjected ts env) k w) (λ v k s. step ⊥ (List Opened) u v k s) (λ v k w. step Cause Taking (Projected a u) v k w) (j k s w y) (λ v k s. grow_step u v k s) (λ v k s w hv y. on u v k s w hu hv y))
+        (λ u k s w hu y. after b t (ideal_run z env k s) (checked_run z (AllProjected ts env) k w) (λ v k s. step ⊥ (List Opened) u v k s)
+        (λ v k w. step Cause Taking (Projected a u) v k w) (j k s w y) (λ v k s. grow_step u v k s) (λ v k s w hv y. on u v k s w hu hv y))
 
     -- where more locals were added behind the ones there
     joined : (e : Expression) (ts us : List Ty) (t : Ty) (env vs : Values) (k : ℕ) (s : List Opened) (w : Taking) → AreHeld P Deep ts env → Agrees e (ts ++ us) (join env vs) k s w t
@@ -195,7 +215,8 @@ module _ (hash : Hash) (P : Program) (format : IsFormat P.format) (Deep : Type 0
 
     mutual
       -- an expression of type t
-      pub sim : (e : Expression) (ts : List Ty) (t : Ty) → HasType P ts e t → (env : Values) (k : ℕ) (s : List Opened) (w : Taking) → AreHeld P Deep ts env → Synced s w → Agrees e ts env k s w t
+      pub sim : (e : Expression) (ts : List Ty) (t : Ty) → HasType P ts e t → (env : Values) (k : ℕ) (s : List Opened) (w : Taking)
+          → AreHeld P Deep ts env → Synced s w → Agrees e ts env k s w t
       sim UnitE ts t h env k s w i y = subst (Agrees UnitE ts env k s w) h (both_gives UnitTy UnitV UnitV k s w (held_unit P format Deep) refl y)
       sim (BoolE b) ts t h env k s w i y = subst (Agrees (BoolE b) ts env k s w) h (both_gives BoolTy (BoolV b) (BoolV b) k s w (held_bool P format Deep b) refl y)
       sim (IntE z) ts t h env k s w i y = subst (Agrees (IntE z) ts env k s w) h.0 (both_gives IntTy (IntV z) (IntV z) k s w (held_int P format Deep z h.1) refl y)
@@ -225,7 +246,8 @@ module _ (hash : Hash) (P : Program) (format : IsFormat P.format) (Deep : Type 0
           subst (Agrees (LenE x) ts env k s w) h.0
           (one x ts env k s w TextTy IntTy (λ C W v k w. Gives (IntV (pos (length (text_in v)))) k w) (sim x ts TextTy h.1 env k s w i y) (λ v k s. gives _ k s)
           (λ v k s w hv y. let low : length (text_in v) < 2 ^ 63 = omega (arith, length_in P.types v hv.ideal, hv.within.size_fits, format.limit_fits) in
-          both_gives IntTy (IntV (pos (length (text_in v)))) (IntV (pos (length (text_in v)))) k s w (held_int P format Deep (pos (length (text_in v))) (lt-ltb (length (text_in v)) (2 ^ 63) low)) refl y))
+          both_gives IntTy (IntV (pos (length (text_in v)))) (IntV (pos (length (text_in v)))) k s w
+          (held_int P format Deep (pos (length (text_in v))) (lt-ltb (length (text_in v)) (2 ^ 63) low)) refl y))
       sim (AuthE a x) ts t h env k s w i y =
           subst (Agrees (AuthE a x) ts env k s w) h.0
           (after a (AuthTy a) (ideal_run x env k s) (checked_run x (AllProjected ts env) k w) (λ v k s. Gives v k s) (λ v k w. Gives (DigestV (digest_at hash P a (spelling v))) k w)
@@ -233,13 +255,15 @@ module _ (hash : Hash) (P : Program) (format : IsFormat P.format) (Deep : Type 0
           (λ v k s w hv y. both_gives (AuthTy a) v (Projected (AuthTy a) v) k s w (held_auth P format Deep a v hv) refl y))
       sim (UnauthE a x) ts t h env k s w i y =
           subst (Agrees (UnauthE a x) ts env k s w) h.0
-          (after (AuthTy a) a (ideal_run x env k s) (checked_run x (AllProjected ts env) k w) (λ v k s. Gives v k (s ++ record { ty = a; value = v } ∷ [])) (λ v k w. with_fuel k (take_piece hash P a (digest_in v) w.place w.more w))
+          (after (AuthTy a) a (ideal_run x env k s) (checked_run x (AllProjected ts env) k w) (λ v k s. Gives v k (s ++ record { ty = a; value = v } ∷ []))
+          (λ v k w. with_fuel k (take_piece hash P a (digest_in v) w.place w.more w))
           (sim x ts (AuthTy a) h.1 env k s w i y) (λ v k s. record { added = _; is = refl })
           (λ v k s w hv y. opens hash P reads_back Deep began a v hv k s w y))
       sim (ConE number tag xs) ts t h env k s w i y =
           let q = on_fields (fields_at P.types number tag) (λ us. HaveTypes P ts xs us) h.1 in
           subst (Agrees (ConE number tag xs) ts env k s w) h.0
-          (after_all q.0 (NamedTy number) (ideal_run_all xs env k s) (checked_run_all xs (AllProjected ts env) k w) (λ vs k s. limited P.format.limit P.types (NamedTy number) (ConV tag vs) k s) (λ vs k w. limited P.format.limit P.types (NamedTy number) (ConV tag vs) k w)
+          (after_all q.0 (NamedTy number) (ideal_run_all xs env k s) (checked_run_all xs (AllProjected ts env) k w)
+          (λ vs k s. limited P.format.limit P.types (NamedTy number) (ConV tag vs) k s) (λ vs k w. limited P.format.limit P.types (NamedTy number) (ConV tag vs) k w)
           (sim_all xs ts q.0 q.2 env k s w i y) (λ vs k s. grows_limited P (NamedTy number) (ConV tag vs) k s)
           (λ vs k s w hv y. both_limited (NamedTy number) (ConV tag vs) (ConV tag (AllProjected q.0 vs)) k s w
           (ap (λ o. ConV tag (AllProjected (unwrap_or o []) vs)) (sym q.1))
@@ -266,7 +290,8 @@ module _ (hash : Hash) (P : Program) (format : IsFormat P.format) (Deep : Type 0
           (λ u v k s w hu hv y. both_limited TextTy (TextV (text_in u ++ text_in v)) (TextV (text_in u ++ text_in v)) k s w refl
           (λ p d. held_text P format Deep (text_in u ++ text_in v) (IsUtf8-append (text_in u) (text_in v) (utf8_in P.types u hu.ideal) (utf8_in P.types v hv.ideal)) p) y))
       sim (LetE a x body) ts t h env k s w i y =
-          after a t (ideal_run x env k s) (checked_run x (AllProjected ts env) k w) (λ v k s. ideal_run body (join env (AndV v NoV)) k s) (λ v k w. checked_run body (join (AllProjected ts env) (AndV v NoV)) k w)
+          after a t (ideal_run x env k s) (checked_run x (AllProjected ts env) k w) (λ v k s. ideal_run body (join env (AndV v NoV)) k s)
+          (λ v k w. checked_run body (join (AllProjected ts env) (AndV v NoV)) k w)
           (sim x ts a h.0 env k s w i y) (λ v k s. grow body (join env (AndV v NoV)) k s)
           (λ v k s w hv y. joined body ts (a ∷ []) t env (AndV v NoV) k s w i
           (sim body (ts ++ a ∷ []) t h.1 (join env (AndV v NoV)) k s w (held_join P Deep ts (a ∷ []) env (AndV v NoV) i (hv, tt)) y))
@@ -282,24 +307,30 @@ module _ (hash : Hash) (P : Program) (format : IsFormat P.format) (Deep : Type 0
           (λ v k s w hv y. at_con P.types (λ v. Held (NamedTy number) v → Both t (ideal_arm arms (tag_in v) (join env (fields_in v)) k s)
           (checked_arm arms (tag_in (Projected (NamedTy number) v)) (join (AllProjected ts env) (fields_in (Projected (NamedTy number) v))) k w)) number v hv.ideal
           (λ tag vs us e ideals hv. subst (λ o. Both t (ideal_arm arms tag (join env vs) k s) (checked_arm arms tag (join (AllProjected ts env) (AllProjected (unwrap_or o []) vs)) k w)) (sym e)
-          (sim_arm arms ts (unwrap_or (slice_get P.types number) []) t h.1 tag us (tag_fields (slice_get P.types number) tag us e) env vs k s w i (held_parts P Deep number tag us vs e ideals hv) y)) hv)
+          (sim_arm arms ts (unwrap_or (slice_get P.types number) []) t h.1 tag us (tag_fields (slice_get P.types number) tag us e) env vs k s w i
+          (held_parts P Deep number tag us vs e ideals hv) y)) hv)
       sim (CallE f args) ts t h env k s w i y =
-          let typed : ((function_at P f).result ≡ t) × HaveTypes P ts args (function_at P f).parameters = on_function (slice_get P.functions f) (λ g. (g.result ≡ t) × HaveTypes P ts args g.parameters) h in
+          let typed : ((function_at P f).result ≡ t) × HaveTypes P ts args (function_at P f).parameters =
+          on_function (slice_get P.functions f) (λ g. (g.result ≡ t) × HaveTypes P ts args g.parameters) h in
           subst (Agrees (CallE f args) ts env k s w) typed.0
-          (after_all (function_at P f).parameters (function_at P f).result (ideal_run_all args env k s) (checked_run_all args (AllProjected ts env) k w) (λ vs k s. ideal_call f vs k s) (λ vs k w. checked_call f vs k w)
+          (after_all (function_at P f).parameters (function_at P f).result (ideal_run_all args env k s) (checked_run_all args (AllProjected ts env) k w)
+          (λ vs k s. ideal_call f vs k s) (λ vs k w. checked_call f vs k w)
           (sim_all args ts (function_at P f).parameters typed.1 env k s w i y) (λ vs k s. ideal_grows f vs k s) (λ vs k s w hv y. calls f vs k s w hv y))
 
       -- operands
-      sim_all : (xs : Expressions) (ts us : List Ty) → HaveTypes P ts xs us → (env : Values) (k : ℕ) (s : List Opened) (w : Taking) → AreHeld P Deep ts env → Synced s w → BothAll us (ideal_run_all xs env k s) (checked_run_all xs (AllProjected ts env) k w)
+      sim_all : (xs : Expressions) (ts us : List Ty) → HaveTypes P ts xs us → (env : Values) (k : ℕ) (s : List Opened) (w : Taking)
+          → AreHeld P Deep ts env → Synced s w → BothAll us (ideal_run_all xs env k s) (checked_run_all xs (AllProjected ts env) k w)
       sim_all NoE ts [] h env k s w i y = agree_gives hash P Deep began (AreHeld P Deep []) (projections hash P []) NoV NoV k s w tt refl y
       sim_all NoE ts (u ∷ us) h env k s w i y = elim h [ ]
       sim_all (AndE x xs) ts [] h env k s w i y = elim h [ ]
       sim_all (AndE x xs) ts (u ∷ us) h env k s w i y =
-          agree_then hash P Deep began (IsHeld P Deep u) (projection hash P u) (AreHeld P Deep (u ∷ us)) (projections hash P (u ∷ us)) (ideal_run x env k s) (checked_run x (AllProjected ts env) k w)
+          agree_then hash P Deep began (IsHeld P Deep u) (projection hash P u) (AreHeld P Deep (u ∷ us)) (projections hash P (u ∷ us)) (ideal_run x env k s)
+          (checked_run x (AllProjected ts env) k w)
           (λ v k s. then_run (ideal_run_all xs env k s) (λ vs k s. Gives (AndV v vs) k s)) (λ v k w. then_run (checked_run_all xs (AllProjected ts env) k w) (λ vs k w. Gives (AndV v vs) k w))
           (sim x ts u h.0 env k s w i y)
           (λ v k s. grows_then s _ _ (grows_all P ideal_call ideal_grows xs env k s) (λ vs k s. gives _ k s))
-          (λ v k s w hv y. agree_then hash P Deep began (AreHeld P Deep us) (projections hash P us) (AreHeld P Deep (u ∷ us)) (projections hash P (u ∷ us)) (ideal_run_all xs env k s) (checked_run_all xs (AllProjected ts env) k w)
+          (λ v k s w hv y. agree_then hash P Deep began (AreHeld P Deep us) (projections hash P us) (AreHeld P Deep (u ∷ us)) (projections hash P (u ∷ us))
+          (ideal_run_all xs env k s) (checked_run_all xs (AllProjected ts env) k w)
           (λ vs k s. Gives (AndV v vs) k s) (λ vs k w. Gives (AndV (Projected u v) vs) k w)
           (sim_all xs ts us h.1 env k s w i y) (λ vs k s. gives _ k s)
           (λ vs k s w hvs y. agree_gives hash P Deep began (AreHeld P Deep (u ∷ us)) (projections hash P (u ∷ us)) (AndV v vs) (AndV (Projected u v) (AllProjected us vs)) k s w (hv, hvs) refl y))

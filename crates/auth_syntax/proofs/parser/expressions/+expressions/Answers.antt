@@ -6,10 +6,11 @@ use Rattle.lexemes.specs.Readings.{Reading, Found, read_separator}
 use Rattle.auth_syntax.specs.Parsing.{begins_expression, read_expression, read_arm_separator, read_list, read_arms}
 use Rattle.auth_syntax.specs.Arms.{read_arm}
 use Rattle.auth_syntax.specs.LanguageViews.{words_of}
-use Rattle.auth_syntax.specs.Trees.{expression_of, expressions_of, ArmSyntax, arm_of, arms_of, arms_in_a_row}
+use Rattle.auth_syntax.specs.Trees.{boxed_of, expression_of, expressions_of, ArmSyntax, arm_of, arms_of, arms_in_a_row, name_of, names_of}
 use Rattle.lexemes.specs.Remaining.{Reads}
 use Rattle.lexemes.specs.Remaining.{remaining}
 use Rattle.auth_syntax.specs.Syntax.{ExpSyntax}
+use Rattle.auth_syntax.proofs.Faults.{refused_part}
 use Rattle.auth_syntax.proofs.LevelSteps.{read_expression-none, read_expression-step}
 use Rattle.auth_syntax.proofs.MadeOfTokens.{expression_is_tokens}
 use Rattle.auth_syntax.proofs.Loops.{IsReadSoFar, read_so_far-none, read_so_far-other, read_so_far-end, read_so_far-more, one_is_shorter, listed_by_one, arms_by_one, pushed}
@@ -95,3 +96,164 @@ arm_list-each-preserved t c =
     subst (λ (so_far : List ArmSyntax). IsReadSoFar read_arm_separator (read_arm (read_expression (words_of c.args.language) c.args.levels)) (remaining c.args.parser.now) so_far (remaining c.arm_separator.new.parser)) (sym kept)
     (read_so_far-more read_arm_separator (read_arm (read_expression (words_of c.args.language) c.args.levels)) arms_in_a_row (λ tokens. read_arms (read_expression (words_of c.args.language) c.args.levels) (count tokens) tokens) (arms_by_one (words_of c.args.language) c.args.levels) (remaining c.args.parser.now) (map arm_of c.each.arms.items) (remaining c.each.parser) c.each.invariant
     (remaining c.arm.new.parser) (remaining c.arm_separator.new.parser) (arm_of c.in_ok-arm.field-0) c.in_ok-arm.ensures sign)
+
+-- a pair
+pub pair-returns-in_err-first : goal.pair-returns-in_err-first
+pair-returns-in_err-first t c =
+    refused_part boxed_of expression_of _ _ _ (remaining c.boxed.new.parser) c.from_residual.result c.from_residual.ensures.1 c.in_err-first.ensures
+
+pub pair-returns-in_err-mark : goal.pair-returns-in_err-mark
+pair-returns-in_err-mark t c =
+    rw c.in_ok-first.ensures
+    (refused_part (λ (_ : Unit {0}). tt) expression_of _ _ _ (remaining c.mark.new.self)
+    c.from_residual-in_err-mark.result c.from_residual-in_err-mark.ensures.1 c.in_err-mark.ensures)
+
+pub pair-returns-in_err-second : goal.pair-returns-in_err-second
+pair-returns-in_err-second t c =
+    rw (c.in_ok-first.ensures, c.in_ok-mark.ensures)
+    (refused_part boxed_of expression_of _ _ _ (remaining c.boxed-2.new.parser) c.from_residual-in_err-second.result c.from_residual-in_err-second.ensures.1 c.in_err-second.ensures)
+
+pub pair-returns-in_err-mark-2 : goal.pair-returns-in_err-mark-2
+pair-returns-in_err-mark-2 t c =
+    rw (c.in_ok-first.ensures, c.in_ok-mark.ensures, c.in_ok-second.ensures)
+    (refused_part (λ (_ : Unit {0}). tt) expression_of _ _ _ (remaining c.mark-2.new.self)
+    c.from_residual-in_err-mark-2.result c.from_residual-in_err-mark-2.ensures.1 c.in_err-mark-2.ensures)
+
+-- operations
+pub unary-returns-in_err-mark : goal.unary-returns-in_err-mark
+unary-returns-in_err-mark t c =
+    refused_part (λ (_ : Unit {0}). tt) expression_of _ _ _ (remaining c.mark.new.self) c.from_residual.result c.from_residual.ensures.1 c.in_err-mark.ensures
+
+pub unary-returns-in_err-operand : goal.unary-returns-in_err-operand
+unary-returns-in_err-operand t c =
+    rw c.in_ok-mark.ensures
+    (refused_part boxed_of expression_of _ _ _ (remaining c.boxed.new.parser) c.from_residual-in_err-operand.result c.from_residual-in_err-operand.ensures.1 c.in_err-operand.ensures)
+
+pub unary-returns-in_err-mark-2 : goal.unary-returns-in_err-mark-2
+unary-returns-in_err-mark-2 t c =
+    rw (c.in_ok-mark.ensures, c.in_ok-operand.ensures)
+    (refused_part (λ (_ : Unit {0}). tt) expression_of _ _ _ (remaining c.mark-2.new.self)
+    c.from_residual-in_err-mark-2.result c.from_residual-in_err-mark-2.ensures.1 c.in_err-mark-2.ensures)
+
+pub binary-returns-in_err-mark : goal.binary-returns-in_err-mark
+binary-returns-in_err-mark t c =
+    refused_part (λ (_ : Unit {0}). tt) expression_of _ _ _ (remaining c.mark.new.self) c.from_residual.result c.from_residual.ensures.1 c.in_err-mark.ensures
+
+pub binary-returns-in_err-first : goal.binary-returns-in_err-first
+binary-returns-in_err-first t c =
+    rw c.in_ok-mark.ensures
+    (refused_part boxed_of expression_of _ _ _ (remaining c.boxed.new.parser) c.from_residual-in_err-first.result c.from_residual-in_err-first.ensures.1 c.in_err-first.ensures)
+
+pub binary-returns-in_err-mark-2 : goal.binary-returns-in_err-mark-2
+binary-returns-in_err-mark-2 t c =
+    rw (c.in_ok-mark.ensures, c.in_ok-first.ensures)
+    (refused_part (λ (_ : Unit {0}). tt) expression_of _ _ _ (remaining c.mark-2.new.self)
+    c.from_residual-in_err-mark-2.result c.from_residual-in_err-mark-2.ensures.1 c.in_err-mark-2.ensures)
+
+pub binary-returns-in_err-second : goal.binary-returns-in_err-second
+binary-returns-in_err-second t c =
+    rw (c.in_ok-mark.ensures, c.in_ok-first.ensures, c.in_ok-mark-2.ensures)
+    (refused_part boxed_of expression_of _ _ _ (remaining c.boxed-2.new.parser) c.from_residual-in_err-second.result c.from_residual-in_err-second.ensures.1 c.in_err-second.ensures)
+
+pub binary-returns-in_err-mark-3 : goal.binary-returns-in_err-mark-3
+binary-returns-in_err-mark-3 t c =
+    rw (c.in_ok-mark.ensures, c.in_ok-first.ensures, c.in_ok-mark-2.ensures, c.in_ok-second.ensures)
+    (refused_part (λ (_ : Unit {0}). tt) expression_of _ _ _ (remaining c.mark-3.new.self)
+    c.from_residual-in_err-mark-3.result c.from_residual-in_err-mark-3.ensures.1 c.in_err-mark-3.ensures)
+
+-- what binds a name
+pub let_in-returns-in_err-name : goal.let_in-returns-in_err-name
+let_in-returns-in_err-name t c =
+    refused_part name_of expression_of _ _ _ (remaining c.lower.new.parser) c.from_residual.result c.from_residual.ensures.1 c.in_err-name.ensures
+
+pub let_in-returns-in_err-mark : goal.let_in-returns-in_err-mark
+let_in-returns-in_err-mark t c =
+    rw c.in_ok-name.ensures
+    (refused_part (λ (_ : Unit {0}). tt) expression_of _ _ _ (remaining c.mark.new.self)
+    c.from_residual-in_err-mark.result c.from_residual-in_err-mark.ensures.1 c.in_err-mark.ensures)
+
+pub let_in-returns-in_err-bound : goal.let_in-returns-in_err-bound
+let_in-returns-in_err-bound t c =
+    rw (c.in_ok-name.ensures, c.in_ok-mark.ensures)
+    (refused_part boxed_of expression_of _ _ _ (remaining c.boxed.new.parser) c.from_residual-in_err-bound.result c.from_residual-in_err-bound.ensures.1 c.in_err-bound.ensures)
+
+pub let_in-returns-in_err-keyword : goal.let_in-returns-in_err-keyword
+let_in-returns-in_err-keyword t c =
+    rw (c.in_ok-name.ensures, c.in_ok-mark.ensures, c.in_ok-bound.ensures)
+    (refused_part (λ (_ : Unit {0}). tt) expression_of _ _ _ (remaining c.keyword.new.self)
+    c.from_residual-in_err-keyword.result c.from_residual-in_err-keyword.ensures.1 c.in_err-keyword.ensures)
+
+pub let_in-returns-in_err-body : goal.let_in-returns-in_err-body
+let_in-returns-in_err-body t c =
+    rw (c.in_ok-name.ensures, c.in_ok-mark.ensures, c.in_ok-bound.ensures, c.in_ok-keyword.ensures)
+    (refused_part boxed_of expression_of _ _ _ (remaining c.boxed-2.new.parser) c.from_residual-in_err-body.result c.from_residual-in_err-body.ensures.1 c.in_err-body.ensures)
+
+-- conditions
+pub conditional-returns-in_err-test : goal.conditional-returns-in_err-test
+conditional-returns-in_err-test t c =
+    refused_part boxed_of expression_of _ _ _ (remaining c.boxed.new.parser) c.from_residual.result c.from_residual.ensures.1 c.in_err-test.ensures
+
+pub conditional-returns-in_err-keyword : goal.conditional-returns-in_err-keyword
+conditional-returns-in_err-keyword t c =
+    rw c.in_ok-test.ensures
+    (refused_part (λ (_ : Unit {0}). tt) expression_of _ _ _ (remaining c.keyword.new.self)
+    c.from_residual-in_err-keyword.result c.from_residual-in_err-keyword.ensures.1 c.in_err-keyword.ensures)
+
+pub conditional-returns-in_err-first : goal.conditional-returns-in_err-first
+conditional-returns-in_err-first t c =
+    rw (c.in_ok-test.ensures, c.in_ok-keyword.ensures)
+    (refused_part boxed_of expression_of _ _ _ (remaining c.boxed-2.new.parser) c.from_residual-in_err-first.result c.from_residual-in_err-first.ensures.1 c.in_err-first.ensures)
+
+pub conditional-returns-in_err-keyword-2 : goal.conditional-returns-in_err-keyword-2
+conditional-returns-in_err-keyword-2 t c =
+    rw (c.in_ok-test.ensures, c.in_ok-keyword.ensures, c.in_ok-first.ensures)
+    (refused_part (λ (_ : Unit {0}). tt) expression_of _ _ _ (remaining c.keyword-2.new.self)
+    c.from_residual-in_err-keyword-2.result c.from_residual-in_err-keyword-2.ensures.1 c.in_err-keyword-2.ensures)
+
+pub conditional-returns-in_err-other : goal.conditional-returns-in_err-other
+conditional-returns-in_err-other t c =
+    rw (c.in_ok-test.ensures, c.in_ok-keyword.ensures, c.in_ok-first.ensures, c.in_ok-keyword-2.ensures)
+    (refused_part boxed_of expression_of _ _ _ (remaining c.boxed-3.new.parser) c.from_residual-in_err-other.result c.from_residual-in_err-other.ensures.1 c.in_err-other.ensures)
+
+-- matches
+pub matching-returns-in_err-subject : goal.matching-returns-in_err-subject
+matching-returns-in_err-subject t c =
+    refused_part boxed_of expression_of _ _ _ (remaining c.boxed.new.parser) c.from_residual.result c.from_residual.ensures.1 c.in_err-subject.ensures
+
+pub matching-returns-in_err-keyword : goal.matching-returns-in_err-keyword
+matching-returns-in_err-keyword t c =
+    rw c.in_ok-subject.ensures
+    (refused_part (λ (_ : Unit {0}). tt) expression_of _ _ _ (remaining c.keyword.new.self)
+    c.from_residual-in_err-keyword.result c.from_residual-in_err-keyword.ensures.1 c.in_err-keyword.ensures)
+
+pub matching-returns-in_err-mark : goal.matching-returns-in_err-mark
+matching-returns-in_err-mark t c =
+    rw (c.in_ok-subject.ensures, c.in_ok-keyword.ensures)
+    (refused_part (λ (_ : Unit {0}). tt) expression_of _ _ _ (remaining c.mark.new.self)
+    c.from_residual-in_err-mark.result c.from_residual-in_err-mark.ensures.1 c.in_err-mark.ensures)
+
+pub matching-returns-in_err-arms : goal.matching-returns-in_err-arms
+matching-returns-in_err-arms t c =
+    rw (c.in_ok-subject.ensures, c.in_ok-keyword.ensures, c.in_ok-mark.ensures)
+    (refused_part arms_of expression_of _ _ _ (remaining c.arm_list.new.parser) c.from_residual-in_err-arms.result c.from_residual-in_err-arms.ensures.1 c.in_err-arms.ensures)
+
+-- arms
+pub arm-returns-in_err-constructor : goal.arm-returns-in_err-constructor
+arm-returns-in_err-constructor t c =
+    refused_part name_of arm_of _ _ _ (remaining c.upper.new.parser) c.from_residual.result c.from_residual.ensures.1 c.in_err-constructor.ensures
+
+pub arm-returns-in_err-fields : goal.arm-returns-in_err-fields
+arm-returns-in_err-fields t c =
+    rw c.in_ok-constructor.ensures
+    (refused_part names_of arm_of _ _ _ (remaining c.field_names.new.parser) c.from_residual-in_err-fields.result c.from_residual-in_err-fields.ensures.1 c.in_err-fields.ensures)
+
+pub arm-returns-in_err-mark : goal.arm-returns-in_err-mark
+arm-returns-in_err-mark t c =
+    rw (c.in_ok-constructor.ensures, c.in_ok-fields.ensures)
+    (refused_part (λ (_ : Unit {0}). tt) arm_of _ _ _ (remaining c.mark.new.self)
+    c.from_residual-in_err-mark.result c.from_residual-in_err-mark.ensures.1 c.in_err-mark.ensures)
+
+pub arm-returns-in_err-body : goal.arm-returns-in_err-body
+arm-returns-in_err-body t c =
+    rw (c.in_ok-constructor.ensures, c.in_ok-fields.ensures, c.in_ok-mark.ensures)
+    (refused_part expression_of arm_of _ _ _ (remaining c.expression.new.parser) c.from_residual-in_err-body.result c.from_residual-in_err-body.ensures.1 c.in_err-body.ensures)

@@ -14,7 +14,7 @@ use Rattle.core_terms.specs.declared.language.term.Term as term
 use Rattle.auth_syntax.specs.Parsing.{in_a_row}
 use Rattle.lexemes.specs.Places.{start}
 use Rattle.auth_syntax.specs.Syntax.{place_of}
-use Rattle.auth_syntax.specs.Trees.{arm_of, arms_in_a_row, expression_of, name_of, unary_of}
+use Rattle.auth_syntax.specs.Trees.{ArmSyntax, arm_of, arms_in_a_row, expression_of, name_of, unary_of}
 use Rattle.auth_syntax.specs.declared.tree.PlacedName.{PlacedName}
 use Rattle.auth_syntax.specs.declared.tree.ExpTree.{ExpTree}
 use Rattle.auth_syntax.specs.declared.tree.ExpTree.TheViews.{size-ExpTree, size-Arm}
@@ -22,6 +22,7 @@ use Rattle.auth_syntax.specs.declared.tree.Arm.{Arm}
 use Rattle.auth_types.specs.Outcomes.{Finds}
 use Rattle.auth_types.specs.Bodies.{Local, Scope, arm_names, bound_names, elaborated, elaborated_arms, operand_type, unary, wanted, wanted_arm}
 use Rattle.auth_types.specs.Checking.{Sound}
+use Rattle.auth_types.specs.CheckedLaws.{HasGoodLiterals}
 use Rattle.auth_types.specs.Elaborators.{Keeps, Matches, arms_found, arms_of, boxed_of, fields_of, found_at, found_in, locals_of, row_found, row_of, scope_of, typed_of, types_of, want_of}
 use Rattle.auth_types.specs.OverTypes.{FindsOver, Grows}
 use Rattle.auth_types.specs.Scopes.{AreWithin, function_meant}
@@ -30,7 +31,7 @@ use Rattle.auth_types.proofs.BoundNames.{with_local, with_local_is}
 use Rattle.auth_types.proofs.CallSteps.{constructors_count, parameters_count, types_count}
 use Rattle.auth_types.proofs.ElaboratorSteps.{found_kept, keeps_closed, keeps_on, keeps_self, one_outer, scope_is, wanted_kept}
 use Rattle.auth_types.proofs.ExpressionSteps.{call_found, call_refused, constructor_found, constructor_refused, count_row, if_shows, let_shows}
-use Rattle.auth_types.proofs.FindingSteps.{fault_first, finds_is, on_more, on_ok, refused_at, refused_by, shows_is}
+use Rattle.auth_types.proofs.FindingSteps.{fault_first, finds_is, no_value, on_more, on_ok, refused_at, refused_by, shows_is}
 use Rattle.auth_types.proofs.LiteralSteps.{arms_good, arms_good_last, row_good, row_good_last}
 use Rattle.auth_types.proofs.LocalSteps.{int_shows, literal_shows}
 use Rattle.auth_types.proofs.MatchSteps.{match_arms_refused, match_found, match_refused}
@@ -38,177 +39,303 @@ use Rattle.auth_types.proofs.RefusedParts.{body_refused, callee_refused, first_o
 use Rattle.auth_types.proofs.RowSteps.{arms_behind_none, arms_last, arms_more, arms_refused, body_shows, constructor_within, next_mapped, none_mapped, row_behind_none, row_last, row_more, row_refused}
 use Rattle.auth_types.proofs.ScopeStays.{grows_length, type_stays_at}
 use Rattle.auth_types.proofs.TermViews as terms
-use Rattle.auth_types.proofs.TreeViews.{expression-UnitLiteral, expression-BoolLiteral, expression-IntLiteral, expression-TextLiteral, expression-Local, expression-Pair, expression-Unary, expression-Binary, expression-Call, expression-Constructor, expression-Let, expression-If, expression-Match}
+use Rattle.auth_types.proofs.TreeViews.{arm-parts, expression-UnitLiteral, expression-BoolLiteral, expression-IntLiteral, expression-TextLiteral, expression-Local, expression-Pair, expression-Unary, expression-Binary, expression-Call, expression-Constructor, expression-Let, expression-If, expression-Match}
 use Rattle.auth_types.proofs.TypeNumbers.{grows_on, grows_self, shows_grow}
 use Rattle.auth_types.proofs.bodies.elaborator.Elaborator.+bodies.Goals as goal
 
 -- the forms of expressions
-pub term-returns-in-UnitLiteral-clause-found : goal.term-returns-in-UnitLiteral-clause-found
-term-returns-in-UnitLiteral-clause-found t c =
-    c.plain.ensures.found _
-    (λ _. literal_shows (types_of c.plain.new.self) _ term.UnitLiteral UnitE UnitTy
-    (ap (found_at c.args.self.now) (ap expression_of c.in-UnitLiteral.is ∙ expression-UnitLiteral _)) (λ types. terms.expression-UnitLiteral types))
+pub term-returns-in-UnitLiteral : goal.term-returns-in-UnitLiteral
+term-returns-in-UnitLiteral t c = record {
+  keeps = c.plain.ensures.keeps;
+  found = c.plain.ensures.found _
+      (λ _. literal_shows (types_of c.plain.new.self) _ term.UnitLiteral UnitE UnitTy
+      (ap (found_at c.args.self.now) (ap expression_of c.in-UnitLiteral.is ∙ expression-UnitLiteral _)) (λ types. terms.expression-UnitLiteral types));
+  inside = c.plain.ensures.inside;
+  literals = rw (c.in-UnitLiteral.is, expression-UnitLiteral) (on_ok c.plain.result tt);
+}
 
-pub term-returns-in-BoolLiteral-clause-found : goal.term-returns-in-BoolLiteral-clause-found
-term-returns-in-BoolLiteral-clause-found t c =
-    c.plain-in-BoolLiteral.ensures.found _
-    (λ _. literal_shows (types_of c.plain-in-BoolLiteral.new.self) _ (term.BoolLiteral c.in-BoolLiteral.value) (BoolE c.in-BoolLiteral.value) BoolTy
-    (ap (found_at c.args.self.now) (ap expression_of c.in-BoolLiteral.is ∙ expression-BoolLiteral _ _))
-    (λ types. terms.expression-BoolLiteral types c.in-BoolLiteral.value))
+pub term-returns-in-BoolLiteral : goal.term-returns-in-BoolLiteral
+term-returns-in-BoolLiteral t c = record {
+  keeps = c.plain-in-BoolLiteral.ensures.keeps;
+  found = c.plain-in-BoolLiteral.ensures.found _
+      (λ _. literal_shows (types_of c.plain-in-BoolLiteral.new.self) _ (term.BoolLiteral c.in-BoolLiteral.value) (BoolE c.in-BoolLiteral.value) BoolTy
+      (ap (found_at c.args.self.now) (ap expression_of c.in-BoolLiteral.is ∙ expression-BoolLiteral _ _))
+      (λ types. terms.expression-BoolLiteral types c.in-BoolLiteral.value));
+  inside = c.plain-in-BoolLiteral.ensures.inside;
+  literals = rw (c.in-BoolLiteral.is, expression-BoolLiteral) (on_ok c.plain-in-BoolLiteral.result tt);
+}
 
-pub term-returns-in-IntLiteral-clause-found : goal.term-returns-in-IntLiteral-clause-found
-term-returns-in-IntLiteral-clause-found t c =
-    c.plain-in-IntLiteral.ensures.found _
-    (λ _. int_shows (types_of c.plain-in-IntLiteral.new.self) _ c.in-IntLiteral.value _
-    (ap (found_at c.args.self.now) (ap expression_of c.in-IntLiteral.is ∙ expression-IntLiteral _ _)) (search rules))
+pub term-returns-in-IntLiteral : goal.term-returns-in-IntLiteral
+term-returns-in-IntLiteral t c = record {
+  keeps = c.plain-in-IntLiteral.ensures.keeps;
+  found = c.plain-in-IntLiteral.ensures.found _
+      (λ _. int_shows (types_of c.plain-in-IntLiteral.new.self) _ c.in-IntLiteral.value _
+      (ap (found_at c.args.self.now) (ap expression_of c.in-IntLiteral.is ∙ expression-IntLiteral _ _)) (search rules));
+  inside = c.plain-in-IntLiteral.ensures.inside;
+  literals = rw (c.in-IntLiteral.is, expression-IntLiteral) (on_ok c.plain-in-IntLiteral.result (search rules));
+}
 
-pub term-returns-in-TextLiteral-clause-found : goal.term-returns-in-TextLiteral-clause-found
-term-returns-in-TextLiteral-clause-found t c = rw (c.in-TextLiteral.is, expression-TextLiteral) c.text.ensures.found
+pub term-returns-in-TextLiteral : goal.term-returns-in-TextLiteral
+term-returns-in-TextLiteral t c = record {
+  keeps = c.text.ensures.keeps;
+  found = rw (c.in-TextLiteral.is, expression-TextLiteral) c.text.ensures.found;
+  inside = c.text.ensures.inside;
+  literals = rw (c.in-TextLiteral.is, expression-TextLiteral) (on_ok c.text.result
+      (IsUtf8-from_is_utf8 c.in-TextLiteral.text.bytes.items c.in-TextLiteral.text.utf8, c.in-TextLiteral.text.fits));
+}
 
-pub term-returns-in-TextLiteral-clause-literals : goal.term-returns-in-TextLiteral-clause-literals
-term-returns-in-TextLiteral-clause-literals t c =
-    rw (c.in-TextLiteral.is, expression-TextLiteral) (on_ok c.text.result
-    (IsUtf8-from_is_utf8 c.in-TextLiteral.text.bytes.items c.in-TextLiteral.text.utf8, c.in-TextLiteral.text.fits))
+pub term-returns-in-Local : goal.term-returns-in-Local
+term-returns-in-Local t c = record {
+  keeps = on_ok c.local.result (keeps_self c.args.self.now);
+  found = rw (c.in-Local.is, expression-Local) c.local.ensures.found;
+  inside = c.local.ensures.inside;
+  literals = rw (c.in-Local.is, expression-Local) (on_ok c.local.result tt);
+}
 
-pub term-returns-in-Local-clause-found : goal.term-returns-in-Local-clause-found
-term-returns-in-Local-clause-found t c = rw (c.in-Local.is, expression-Local) c.local.ensures.found
+pub term-returns-in-Pair : goal.term-returns-in-Pair
+term-returns-in-Pair t c = record {
+  keeps = c.pair.ensures.keeps;
+  found = rw (c.in-Pair.is, expression-Pair) (rw (c.deref.ensures, c.deref-in-Pair.ensures) at c.pair.ensures.found);
+  inside = c.pair.ensures.inside;
+  literals = rw (c.in-Pair.is, expression-Pair) (rw (c.deref.ensures, c.deref-in-Pair.ensures) at c.pair.ensures.literals);
+}
 
-pub term-returns-in-Pair-clause-found : goal.term-returns-in-Pair-clause-found
-term-returns-in-Pair-clause-found t c = rw (c.in-Pair.is, expression-Pair) (rw (c.deref.ensures, c.deref-in-Pair.ensures) at c.pair.ensures.found)
+pub term-returns-in_err-operand-in-Unary : goal.term-returns-in_err-operand-in-Unary
+term-returns-in_err-operand-in-Unary t c =
+    let r = c.from_residual.result in
+    let e = c.from_residual.ensures.1 in
+    record {
+      keeps = no_value _ _ r e;
+      found = let p = err_from_is_err_and r e in
+          rw (c.in-Unary.is, expression-Unary)
+          (unary_refused (unary_of c.in-Unary.operator) (place_of (expression_of c.in-Unary.operand.value)) (types_of c.term.new.self)
+          _ (found_in c.args.self.now c.in-Unary.operand.value) _ _ (p.1 ∙ ap Err p.2)
+          (finds_is (types_of c.term.new.self) typed_of _ _ (Err c.in_err-operand-in-Unary.field-0.0)
+          (ap (found_in c.args.self.now) c.deref-in-Unary-2.ensures) c.in_err-operand-in-Unary.ensures.found));
+      inside = no_value _ _ r e;
+      literals = no_value _ _ r e;
+    }
 
-pub term-returns-in_err-operand-in-Unary-clause-found : goal.term-returns-in_err-operand-in-Unary-clause-found
-term-returns-in_err-operand-in-Unary-clause-found t c =
-    let p = err_from_is_err_and c.from_residual.result c.from_residual.ensures.1 in
-    rw (c.in-Unary.is, expression-Unary)
-    (unary_refused (unary_of c.in-Unary.operator) (place_of (expression_of c.in-Unary.operand.value)) (types_of c.term.new.self)
-    _ (found_in c.args.self.now c.in-Unary.operand.value) _ _ (p.1 ∙ ap Err p.2)
-    (finds_is (types_of c.term.new.self) typed_of _ _ (Err c.in_err-operand-in-Unary.field-0.0)
-    (ap (found_in c.args.self.now) c.deref-in-Unary-2.ensures) c.in_err-operand-in-Unary.ensures.found))
+pub term-returns-in_ok-operand-in-Unary : goal.term-returns-in_ok-operand-in-Unary
+term-returns-in_ok-operand-in-Unary t c = record {
+  keeps = on_more c.unary.result (λ keeps. keeps_on c.in_ok-operand-in-Unary.ensures.keeps keeps) c.unary.ensures.keeps;
+  found = let whole = found_in c.args.self.now c.in-Unary.operand.value in
+      let place_is : c.place-at.result ≡ place_of (expression_of c.in-Unary.operand.value) =
+      c.place-at.ensures ∙ ap (λ t. place_of (expression_of t)) c.deref-in-Unary.ensures in
+      rw (c.in-Unary.is, expression-Unary)
+      (subst (λ at. FindsOver (types_of c.unary.new.self) typed_of (unary (unary_of c.in-Unary.operator) at whole) c.unary.result) place_is
+      (c.unary.ensures.found whole (rw c.deref-in-Unary-2.ensures at c.in_ok-operand-in-Unary.ensures.found)));
+  inside = c.unary.ensures.inside;
+  literals = rw (c.in-Unary.is, expression-Unary) (on_ok c.unary.result (rw c.deref-in-Unary-2.ensures at c.in_ok-operand-in-Unary.ensures.literals));
+}
 
-pub term-returns-in_ok-operand-in-Unary-clause-found : goal.term-returns-in_ok-operand-in-Unary-clause-found
-term-returns-in_ok-operand-in-Unary-clause-found t c =
-    let whole = found_in c.args.self.now c.in-Unary.operand.value in
-    let place_is : c.place-at.result ≡ place_of (expression_of c.in-Unary.operand.value) =
-    c.place-at.ensures ∙ ap (λ t. place_of (expression_of t)) c.deref-in-Unary.ensures in
-    rw (c.in-Unary.is, expression-Unary)
-    (subst (λ at. FindsOver (types_of c.unary.new.self) typed_of (unary (unary_of c.in-Unary.operator) at whole) c.unary.result) place_is
-    (c.unary.ensures.found whole (rw c.deref-in-Unary-2.ensures at c.in_ok-operand-in-Unary.ensures.found)))
+pub term-returns-in-Binary : goal.term-returns-in-Binary
+term-returns-in-Binary t c = record {
+  keeps = c.binary.ensures.keeps;
+  found = rw (c.in-Binary.is, expression-Binary) (rw (c.deref-in-Binary.ensures, c.deref-in-Binary-2.ensures) at c.binary.ensures.found);
+  inside = c.binary.ensures.inside;
+  literals = rw (c.in-Binary.is, expression-Binary) (rw (c.deref-in-Binary.ensures, c.deref-in-Binary-2.ensures) at c.binary.ensures.literals);
+}
 
-pub term-returns-in-Binary-clause-found : goal.term-returns-in-Binary-clause-found
-term-returns-in-Binary-clause-found t c =
-    rw (c.in-Binary.is, expression-Binary) (rw (c.deref-in-Binary.ensures, c.deref-in-Binary-2.ensures) at c.binary.ensures.found)
+pub term-returns-in-Call : goal.term-returns-in-Call
+term-returns-in-Call t c = record {
+  keeps = c.call.ensures.keeps;
+  found = rw (c.in-Call.is, expression-Call) (rw c.deref-in-Call.ensures.value at c.call.ensures.found);
+  inside = c.call.ensures.inside;
+  literals = rw (c.in-Call.is, expression-Call) (rw c.deref-in-Call.ensures.value at c.call.ensures.literals);
+}
 
-pub term-returns-in-Call-clause-found : goal.term-returns-in-Call-clause-found
-term-returns-in-Call-clause-found t c = rw (c.in-Call.is, expression-Call) (rw c.deref-in-Call.ensures.value at c.call.ensures.found)
+pub term-returns-in-Constructor : goal.term-returns-in-Constructor
+term-returns-in-Constructor t c = record {
+  keeps = c.constructor.ensures.keeps;
+  found = rw (c.in-Constructor.is, expression-Constructor) (rw c.deref-in-Constructor.ensures.value at c.constructor.ensures.found);
+  inside = c.constructor.ensures.inside;
+  literals = rw (c.in-Constructor.is, expression-Constructor) (rw c.deref-in-Constructor.ensures.value at c.constructor.ensures.literals);
+}
 
-pub term-returns-in-Constructor-clause-found : goal.term-returns-in-Constructor-clause-found
-term-returns-in-Constructor-clause-found t c =
-    rw (c.in-Constructor.is, expression-Constructor) (rw c.deref-in-Constructor.ensures.value at c.constructor.ensures.found)
+pub term-returns-in-Let : goal.term-returns-in-Let
+term-returns-in-Let t c = record {
+  keeps = c.let_in.ensures.keeps;
+  found = rw (c.in-Let.is, expression-Let) (rw (c.deref-in-Let.ensures, c.deref-in-Let-2.ensures) at c.let_in.ensures.found);
+  inside = c.let_in.ensures.inside;
+  literals = rw (c.in-Let.is, expression-Let) (rw (c.deref-in-Let.ensures, c.deref-in-Let-2.ensures) at c.let_in.ensures.literals);
+}
 
-pub term-returns-in-Let-clause-found : goal.term-returns-in-Let-clause-found
-term-returns-in-Let-clause-found t c =
-    rw (c.in-Let.is, expression-Let) (rw (c.deref-in-Let.ensures, c.deref-in-Let-2.ensures) at c.let_in.ensures.found)
+pub term-returns-in-If : goal.term-returns-in-If
+term-returns-in-If t c = record {
+  keeps = c.condition.ensures.keeps;
+  found = rw (c.in-If.is, expression-If) (rw (c.deref-in-If.ensures, c.deref-in-If-2.ensures, c.deref-in-If-3.ensures) at c.condition.ensures.found);
+  inside = c.condition.ensures.inside;
+  literals = rw (c.in-If.is, expression-If) (rw (c.deref-in-If.ensures, c.deref-in-If-2.ensures, c.deref-in-If-3.ensures) at c.condition.ensures.literals);
+}
 
-pub term-returns-in-If-clause-found : goal.term-returns-in-If-clause-found
-term-returns-in-If-clause-found t c =
-    rw (c.in-If.is, expression-If) (rw (c.deref-in-If.ensures, c.deref-in-If-2.ensures, c.deref-in-If-3.ensures) at c.condition.ensures.found)
-
-pub term-returns-in-Match-clause-found : goal.term-returns-in-Match-clause-found
-term-returns-in-Match-clause-found t c =
-    rw (c.in-Match.is, expression-Match) (rw (c.deref-in-Match.ensures, c.deref-in-Match-2.ensures.value) at c.match_with.ensures.found)
-
-pub term-returns-in-Match-clause-literals : goal.term-returns-in-Match-clause-literals
-term-returns-in-Match-clause-literals t c =
-    rw (c.in-Match.is, expression-Match) (rw (c.deref-in-Match.ensures, c.deref-in-Match-2.ensures.value) at c.match_with.ensures.literals)
+pub term-returns-in-Match : goal.term-returns-in-Match
+term-returns-in-Match t c = record {
+  keeps = c.match_with.ensures.keeps;
+  found = rw (c.in-Match.is, expression-Match) (rw (c.deref-in-Match.ensures, c.deref-in-Match-2.ensures.value) at c.match_with.ensures.found);
+  inside = c.match_with.ensures.inside;
+  literals = rw (c.in-Match.is, expression-Match) (rw (c.deref-in-Match.ensures, c.deref-in-Match-2.ensures.value) at c.match_with.ensures.literals);
+}
 
 -- a part of a type
-pub part-returns-clause-found : goal.part-returns-clause-found
-part-returns-clause-found t c =
-    let types = types_of c.term.new.self in
-    let found = found_in c.args.self.now c.args.tree.now in
-    finds_is types boxed_of _ _ c.wanted.result
-    (ap (λ at. wanted at (type_at types c.args.ty) found) c.place.ensures
-    ∙ ap (λ t. wanted (place_of (expression_of c.args.tree.now)) t found)
-    (type_stays_at (types_of c.args.self.now) types c.in_ok-part.ensures.keeps.grows c.args.ty c.requires))
-    (c.wanted.ensures found c.in_ok-part.ensures.found)
+pub part-returns : goal.part-returns
+part-returns t c = record {
+  keeps = on_ok c.wanted.result c.in_ok-part.ensures.keeps;
+  found = let types = types_of c.term.new.self in
+      let found = found_in c.args.self.now c.args.tree.now in
+      finds_is types boxed_of _ _ c.wanted.result
+      (ap (λ at. wanted at (type_at types c.args.ty) found) c.place.ensures
+      ∙ ap (λ t. wanted (place_of (expression_of c.args.tree.now)) t found)
+      (type_stays_at (types_of c.args.self.now) types c.in_ok-part.ensures.keeps.grows c.args.ty c.requires))
+      (c.wanted.ensures found c.in_ok-part.ensures.found);
+  literals = on_ok c.wanted.result c.in_ok-part.ensures.literals;
+}
+
+pub part-returns-in_err-part : goal.part-returns-in_err-part
+part-returns-in_err-part t c =
+    let r = c.from_residual.result in
+    let e = c.from_residual.ensures.1 in
+    record {
+      keeps = no_value _ _ r e;
+      found = let p = err_from_is_err_and r e in
+          fault_first (types_of c.term.new.self) _ typed_of boxed_of (found_in c.args.self.now c.args.tree.now) _ _ _ (p.1 ∙ ap Err p.2)
+          c.in_err-part.ensures.found;
+      literals = no_value _ _ r e;
+    }
 
 -- pairs
-pub pair-returns-in_err-second-clause-found : goal.pair-returns-in_err-second-clause-found
-pair-returns-in_err-second-clause-found t c =
-    let p = err_from_is_err_and c.from_residual-in_err-second.result c.from_residual-in_err-second.ensures.1 in
-    pair_refused (types_of c.term.new.self) (types_of c.term-2.new.self) _ (found_in c.args.self.now c.args.first.now)
-    (found_in c.args.self.now c.args.second.now) c.in_ok-first.first _ _ (p.1 ∙ ap Err p.2) c.in_ok-first.ensures.found
-    (finds_is (types_of c.term-2.new.self) typed_of _ _ (Err c.in_err-second.field-0.0)
-    (found_kept c.args.self.now c.term.new.self c.in_ok-first.ensures.keeps (expression_of c.args.second.now)) c.in_err-second.ensures.found)
+pub pair-returns-in_err-second : goal.pair-returns-in_err-second
+pair-returns-in_err-second t c =
+    let r = c.from_residual-in_err-second.result in
+    let e = c.from_residual-in_err-second.ensures.1 in
+    record {
+      keeps = no_value _ _ r e;
+      found = let p = err_from_is_err_and r e in
+          pair_refused (types_of c.term.new.self) (types_of c.term-2.new.self) _ (found_in c.args.self.now c.args.first.now)
+          (found_in c.args.self.now c.args.second.now) c.in_ok-first.first _ _ (p.1 ∙ ap Err p.2) c.in_ok-first.ensures.found
+          (finds_is (types_of c.term-2.new.self) typed_of _ _ (Err c.in_err-second.field-0.0)
+          (found_kept c.args.self.now c.term.new.self c.in_ok-first.ensures.keeps (expression_of c.args.second.now)) c.in_err-second.ensures.found);
+      inside = no_value _ _ r e;
+      literals = no_value _ _ r e;
+    }
 
-pub pair-returns-clause-keeps : goal.pair-returns-clause-keeps
-pair-returns-clause-keeps t c =
-    on_more c.paired.result (λ keeps. keeps_on (keeps_on c.in_ok-first.ensures.keeps c.in_ok-second.ensures.keeps) keeps) c.paired.ensures.keeps
+pub pair-returns : goal.pair-returns
+pair-returns t c = record {
+  keeps = on_more c.paired.result (λ keeps. keeps_on (keeps_on c.in_ok-first.ensures.keeps c.in_ok-second.ensures.keeps) keeps) c.paired.ensures.keeps;
+  found = let first = found_in c.args.self.now c.args.first.now in
+      let second = found_in c.args.self.now c.args.second.now in
+      c.paired.ensures.found first second
+      (shows_grow (types_of c.term.new.self) (types_of c.term-2.new.self) typed_of first c.in_ok-first.first c.in_ok-second.ensures.keeps.grows
+      c.in_ok-first.ensures.found)
+      (shows_is (types_of c.term-2.new.self) typed_of _ second c.in_ok-second.second
+      (found_kept c.args.self.now c.term.new.self c.in_ok-first.ensures.keeps (expression_of c.args.second.now)) c.in_ok-second.ensures.found);
+  inside = c.paired.ensures.inside;
+  literals = on_ok c.paired.result (c.in_ok-first.ensures.literals, c.in_ok-second.ensures.literals);
+}
 
-pub pair-returns-clause-found : goal.pair-returns-clause-found
-pair-returns-clause-found t c =
-    let first = found_in c.args.self.now c.args.first.now in
-    let second = found_in c.args.self.now c.args.second.now in
-    c.paired.ensures.found first second
-    (shows_grow (types_of c.term.new.self) (types_of c.term-2.new.self) typed_of first c.in_ok-first.first c.in_ok-second.ensures.keeps.grows
-    c.in_ok-first.ensures.found)
-    (shows_is (types_of c.term-2.new.self) typed_of _ second c.in_ok-second.second
-    (found_kept c.args.self.now c.term.new.self c.in_ok-first.ensures.keeps (expression_of c.args.second.now)) c.in_ok-second.ensures.found)
+pub pair-returns-in_err-first : goal.pair-returns-in_err-first
+pair-returns-in_err-first t c =
+    let r = c.from_residual.result in
+    let e = c.from_residual.ensures.1 in
+    record {
+      keeps = no_value _ _ r e;
+      found = let p = err_from_is_err_and r e in
+          fault_first (types_of c.term.new.self) _ typed_of typed_of (found_in c.args.self.now c.args.first.now) _ _ _ (p.1 ∙ ap Err p.2)
+          c.in_err-first.ensures.found;
+      inside = no_value _ _ r e;
+      literals = no_value _ _ r e;
+    }
 
 -- operations on two operands
-pub binary-returns-in_err-first-clause-found : goal.binary-returns-in_err-first-clause-found
-binary-returns-in_err-first-clause-found t c =
-    let p = err_from_is_err_and c.from_residual-in_err-first.result c.from_residual-in_err-first.ensures.1 in
-    let op = c.args.operator in
-    let types = types_of c.operand_type.new.self in
-    let first = found_in c.args.self.now c.args.first.now in
-    let second = found_in c.args.self.now c.args.second.now in
-    first_operand_refused op (types_of c.part.new.self) _ _ (type_at types c.in_ok-ty.ty) (operand_type op) first
-    (found_in c.operand_type.new.self c.args.first.now) second second
-    (get_or_from_slice_get types c.in_ok-ty.ty.0 (operand_type op) UnitTy c.in_ok-ty.ensures.found) refl
-    (found_kept c.args.self.now c.operand_type.new.self c.in_ok-ty.ensures.keeps (expression_of c.args.first.now)) refl
-    (types_of c.part.new.self) _ _ (p.1 ∙ ap Err p.2) c.in_err-first.ensures.found
+pub binary-returns-in_err-first : goal.binary-returns-in_err-first
+binary-returns-in_err-first t c =
+    let r = c.from_residual-in_err-first.result in
+    let e = c.from_residual-in_err-first.ensures.1 in
+    record {
+      keeps = no_value _ _ r e;
+      found = let p = err_from_is_err_and r e in
+          let op = c.args.operator in
+          let types = types_of c.operand_type.new.self in
+          let first = found_in c.args.self.now c.args.first.now in
+          let second = found_in c.args.self.now c.args.second.now in
+          first_operand_refused op (types_of c.part.new.self) _ _ (type_at types c.in_ok-ty.ty) (operand_type op) first
+          (found_in c.operand_type.new.self c.args.first.now) second second
+          (get_or_from_slice_get types c.in_ok-ty.ty.0 (operand_type op) UnitTy c.in_ok-ty.ensures.found) refl
+          (found_kept c.args.self.now c.operand_type.new.self c.in_ok-ty.ensures.keeps (expression_of c.args.first.now)) refl
+          (types_of c.part.new.self) _ _ (p.1 ∙ ap Err p.2) c.in_err-first.ensures.found;
+      inside = no_value _ _ r e;
+      literals = no_value _ _ r e;
+    }
 
-pub binary-returns-in_err-second-clause-found : goal.binary-returns-in_err-second-clause-found
-binary-returns-in_err-second-clause-found t c =
-    let p = err_from_is_err_and c.from_residual-in_err-second.result c.from_residual-in_err-second.ensures.1 in
-    let op = c.args.operator in
-    let types = types_of c.operand_type.new.self in
-    let middle = types_of c.part.new.self in
-    let one : type_at types c.in_ok-ty.ty ≡ operand_type op =
-    get_or_from_slice_get types c.in_ok-ty.ty.0 (operand_type op) UnitTy c.in_ok-ty.ensures.found in
-    second_operand_refused op (types_of c.part-2.new.self) _ _ (type_at types c.in_ok-ty.ty) (type_at middle c.in_ok-ty.ty)
-    (found_in c.args.self.now c.args.first.now) (found_in c.operand_type.new.self c.args.first.now) (found_in c.args.self.now c.args.second.now)
-    (found_in c.part.new.self c.args.second.now)
-    one (type_stays_at types middle c.in_ok-first.ensures.keeps.grows c.in_ok-ty.ty c.in_ok-ty.ensures.inside ∙ one)
-    (found_kept c.args.self.now c.operand_type.new.self c.in_ok-ty.ensures.keeps (expression_of c.args.first.now))
-    (found_kept c.args.self.now c.part.new.self (keeps_on c.in_ok-ty.ensures.keeps c.in_ok-first.ensures.keeps) (expression_of c.args.second.now))
-    middle (types_of c.part-2.new.self) c.in_ok-first.first _ _ (p.1 ∙ ap Err p.2) c.in_ok-first.ensures.found c.in_err-second.ensures.found
+pub binary-returns-in_err-second : goal.binary-returns-in_err-second
+binary-returns-in_err-second t c =
+    let r = c.from_residual-in_err-second.result in
+    let e = c.from_residual-in_err-second.ensures.1 in
+    record {
+      keeps = no_value _ _ r e;
+      found = let p = err_from_is_err_and r e in
+          let op = c.args.operator in
+          let types = types_of c.operand_type.new.self in
+          let middle = types_of c.part.new.self in
+          let one : type_at types c.in_ok-ty.ty ≡ operand_type op =
+          get_or_from_slice_get types c.in_ok-ty.ty.0 (operand_type op) UnitTy c.in_ok-ty.ensures.found in
+          second_operand_refused op (types_of c.part-2.new.self) _ _ (type_at types c.in_ok-ty.ty) (type_at middle c.in_ok-ty.ty)
+          (found_in c.args.self.now c.args.first.now) (found_in c.operand_type.new.self c.args.first.now) (found_in c.args.self.now c.args.second.now)
+          (found_in c.part.new.self c.args.second.now)
+          one (type_stays_at types middle c.in_ok-first.ensures.keeps.grows c.in_ok-ty.ty c.in_ok-ty.ensures.inside ∙ one)
+          (found_kept c.args.self.now c.operand_type.new.self c.in_ok-ty.ensures.keeps (expression_of c.args.first.now))
+          (found_kept c.args.self.now c.part.new.self (keeps_on c.in_ok-ty.ensures.keeps c.in_ok-first.ensures.keeps) (expression_of c.args.second.now))
+          middle (types_of c.part-2.new.self) c.in_ok-first.first _ _ (p.1 ∙ ap Err p.2) c.in_ok-first.ensures.found c.in_err-second.ensures.found;
+      inside = no_value _ _ r e;
+      literals = no_value _ _ r e;
+    }
 
-pub binary-returns-clause-found : goal.binary-returns-clause-found
-binary-returns-clause-found t c =
-    let op = c.args.operator in
-    let types = types_of c.operand_type.new.self in
-    let middle = types_of c.part.new.self in
-    let one : type_at types c.in_ok-ty.ty ≡ operand_type op =
-    get_or_from_slice_get types c.in_ok-ty.ty.0 (operand_type op) UnitTy c.in_ok-ty.ensures.found in
-    operands_found op (types_of c.combined.new.self) _ _ (type_at types c.in_ok-ty.ty) (type_at middle c.in_ok-ty.ty)
-    (found_in c.args.self.now c.args.first.now) (found_in c.operand_type.new.self c.args.first.now) (found_in c.args.self.now c.args.second.now)
-    (found_in c.part.new.self c.args.second.now)
-    one (type_stays_at types middle c.in_ok-first.ensures.keeps.grows c.in_ok-ty.ty c.in_ok-ty.ensures.inside ∙ one)
-    (found_kept c.args.self.now c.operand_type.new.self c.in_ok-ty.ensures.keeps (expression_of c.args.first.now))
-    (found_kept c.args.self.now c.part.new.self (keeps_on c.in_ok-ty.ensures.keeps c.in_ok-first.ensures.keeps) (expression_of c.args.second.now))
-    middle (types_of c.part-2.new.self) c.in_ok-first.first c.in_ok-second.second _ c.in_ok-second.ensures.keeps.grows c.in_ok-first.ensures.found
-    c.in_ok-second.ensures.found c.combined.ensures.found
+pub binary-returns : goal.binary-returns
+binary-returns t c = record {
+  keeps = on_more c.combined.result (λ keeps. keeps_on (keeps_on (keeps_on c.in_ok-ty.ensures.keeps c.in_ok-first.ensures.keeps) c.in_ok-second.ensures.keeps) keeps) c.combined.ensures.keeps;
+  found = let op = c.args.operator in
+      let types = types_of c.operand_type.new.self in
+      let middle = types_of c.part.new.self in
+      let one : type_at types c.in_ok-ty.ty ≡ operand_type op =
+      get_or_from_slice_get types c.in_ok-ty.ty.0 (operand_type op) UnitTy c.in_ok-ty.ensures.found in
+      operands_found op (types_of c.combined.new.self) _ _ (type_at types c.in_ok-ty.ty) (type_at middle c.in_ok-ty.ty)
+      (found_in c.args.self.now c.args.first.now) (found_in c.operand_type.new.self c.args.first.now) (found_in c.args.self.now c.args.second.now)
+      (found_in c.part.new.self c.args.second.now)
+      one (type_stays_at types middle c.in_ok-first.ensures.keeps.grows c.in_ok-ty.ty c.in_ok-ty.ensures.inside ∙ one)
+      (found_kept c.args.self.now c.operand_type.new.self c.in_ok-ty.ensures.keeps (expression_of c.args.first.now))
+      (found_kept c.args.self.now c.part.new.self (keeps_on c.in_ok-ty.ensures.keeps c.in_ok-first.ensures.keeps) (expression_of c.args.second.now))
+      middle (types_of c.part-2.new.self) c.in_ok-first.first c.in_ok-second.second _ c.in_ok-second.ensures.keeps.grows c.in_ok-first.ensures.found
+      c.in_ok-second.ensures.found c.combined.ensures.found;
+  inside = c.combined.ensures.inside;
+  literals = on_ok c.combined.result (c.in_ok-first.ensures.literals, c.in_ok-second.ensures.literals);
+}
+
+pub binary-returns-in_err-ty : goal.binary-returns-in_err-ty
+binary-returns-in_err-ty t c =
+    let r = c.from_residual.result in
+    let e = c.from_residual.ensures.1 in
+    record {
+      keeps = no_value _ _ r e;
+      found = let p = err_from_is_err_and r e in rw (p.1, p.2) tt;
+      inside = no_value _ _ r e;
+      literals = no_value _ _ r e;
+    }
 
 -- calls
-pub call-returns-in_err-function-clause-found : goal.call-returns-in_err-function-clause-found
-call-returns-in_err-function-clause-found t c =
-    let p = err_from_is_err_and c.from_residual.result c.from_residual.ensures.1 in
-    let xs = map expression_of c.args.operands.now in
-    callee_refused c.args.at (in_a_row xs) (length c.args.operands.now) _ (function_meant (types_of c.args.self.now) c.args.self.now.scope.now)
-    (row_found c.args.self.now (in_a_row xs)) _ _ _
-    (sym (count_row xs ∙ length-map c.args.operands.now expression_of)) (p.1 ∙ ap Err p.2) c.in_err-function.ensures.found
+pub call-returns-in_err-function : goal.call-returns-in_err-function
+call-returns-in_err-function t c =
+    let r = c.from_residual.result in
+    let e = c.from_residual.ensures.1 in
+    record {
+      keeps = no_value _ _ r e;
+      found = let p = err_from_is_err_and r e in
+          let xs = map expression_of c.args.operands.now in
+          callee_refused c.args.at (in_a_row xs) (length c.args.operands.now) _ (function_meant (types_of c.args.self.now) c.args.self.now.scope.now)
+          (row_found c.args.self.now (in_a_row xs)) _ _ _
+          (sym (count_row xs ∙ length-map c.args.operands.now expression_of)) (p.1 ∙ ap Err p.2) c.in_err-function.ensures.found;
+      inside = no_value _ _ r e;
+      literals = no_value _ _ r e;
+    }
 
 pub call-operands-requires : goal.call-operands-requires
 call-operands-requires t c =
@@ -219,32 +346,43 @@ call-operands-requires t c =
     let within = c.head-head.ensures.within (length types) c.args.self.now.scope_within in
     (search rules, (count, subst (AreWithin (length types)) (sym c.deref.ensures.value) within.parameters))
 
-pub call-returns-in_err-arguments-clause-found : goal.call-returns-in_err-arguments-clause-found
-call-returns-in_err-arguments-clause-found t c =
-    let p = err_from_is_err_and c.from_residual-in_err-arguments.result c.from_residual-in_err-arguments.ensures.1 in
-    let types = types_of c.args.self.now in
-    let xs = map expression_of c.args.operands.now in
-    let each = row_found c.args.self.now (in_a_row xs) in
-    let v = (function_meant types c.args.self.now.scope.now c.in_ok-function.function).value in
-    call_refused types c.args.at (in_a_row xs) (length c.args.operands.now) (sym (count_row xs ∙ length-map c.args.operands.now expression_of)) _ each
-    v c.head-head.result.now c.in_ok-function.function
-    (c.in_ok-function.ensures.found each) (c.head-head.ensures.signature types) (types_of c.operands.new.self) _ _ _ (p.1 ∙ ap Err p.2)
-    (finds_is (types_of c.operands.new.self) row_of _ _ (Err c.in_err-arguments.field-0.0)
-    (ap (λ ids. each (types_at types ids)) c.deref.ensures.value) c.in_err-arguments.ensures.found)
+pub call-returns-in_err-arguments : goal.call-returns-in_err-arguments
+call-returns-in_err-arguments t c =
+    let r = c.from_residual-in_err-arguments.result in
+    let e = c.from_residual-in_err-arguments.ensures.1 in
+    record {
+      keeps = no_value _ _ r e;
+      found = let p = err_from_is_err_and r e in
+          let types = types_of c.args.self.now in
+          let xs = map expression_of c.args.operands.now in
+          let each = row_found c.args.self.now (in_a_row xs) in
+          let v = (function_meant types c.args.self.now.scope.now c.in_ok-function.function).value in
+          call_refused types c.args.at (in_a_row xs) (length c.args.operands.now) (sym (count_row xs ∙ length-map c.args.operands.now expression_of)) _ each
+          v c.head-head.result.now c.in_ok-function.function
+          (c.in_ok-function.ensures.found each) (c.head-head.ensures.signature types) (types_of c.operands.new.self) _ _ _ (p.1 ∙ ap Err p.2)
+          (finds_is (types_of c.operands.new.self) row_of _ _ (Err c.in_err-arguments.field-0.0)
+          (ap (λ ids. each (types_at types ids)) c.deref.ensures.value) c.in_err-arguments.ensures.found);
+      inside = no_value _ _ r e;
+      literals = no_value _ _ r e;
+    }
 
-pub call-returns-clause-found : goal.call-returns-clause-found
-call-returns-clause-found t c =
-    let types = types_of c.args.self.now in
-    let xs = map expression_of c.args.operands.now in
-    let each = row_found c.args.self.now (in_a_row xs) in
-    let v = (function_meant types c.args.self.now.scope.now c.in_ok-function.function).value in
-    let within = c.head-head.ensures.within (length types) c.args.self.now.scope_within in
-    c.typed.ensures.found _
-    (call_found types c.args.at (in_a_row xs) (length c.args.operands.now) (sym (count_row xs ∙ length-map c.args.operands.now expression_of)) _ each
-    v c.head-head.result.now c.in_ok-function.function
-    (c.in_ok-function.ensures.found each) (c.head-head.ensures.signature types) (types_of c.operands.new.self) c.in_ok-arguments.arguments
-    c.in_ok-arguments.ensures.keeps.grows within.result
-    (rw c.deref.ensures.value at c.in_ok-arguments.ensures.found))
+pub call-returns : goal.call-returns
+call-returns t c = record {
+  keeps = on_ok c.typed.result c.in_ok-arguments.ensures.keeps;
+  found = let types = types_of c.args.self.now in
+      let xs = map expression_of c.args.operands.now in
+      let each = row_found c.args.self.now (in_a_row xs) in
+      let v = (function_meant types c.args.self.now.scope.now c.in_ok-function.function).value in
+      let within = c.head-head.ensures.within (length types) c.args.self.now.scope_within in
+      c.typed.ensures.found _
+      (call_found types c.args.at (in_a_row xs) (length c.args.operands.now) (sym (count_row xs ∙ length-map c.args.operands.now expression_of)) _ each
+      v c.head-head.result.now c.in_ok-function.function
+      (c.in_ok-function.ensures.found each) (c.head-head.ensures.signature types) (types_of c.operands.new.self) c.in_ok-arguments.arguments
+      c.in_ok-arguments.ensures.keeps.grows within.result
+      (rw c.deref.ensures.value at c.in_ok-arguments.ensures.found));
+  inside = c.typed.ensures.inside;
+  literals = on_ok c.typed.result c.in_ok-arguments.ensures.literals;
+}
 
 pub call-typed-requires : goal.call-typed-requires
 call-typed-requires t c =
@@ -255,12 +393,19 @@ call-typed-requires t c =
     omega (arith, here, longer)
 
 -- constructors
-pub constructor-returns-in_err-id-clause-found : goal.constructor-returns-in_err-id-clause-found
-constructor-returns-in_err-id-clause-found t c =
-    let p = err_from_is_err_and c.from_residual.result c.from_residual.ensures.1 in
-    let xs = map expression_of c.args.operands.now in
-    maker_refused c.args.at (in_a_row xs) (length c.args.operands.now) _ _ (row_found c.args.self.now (in_a_row xs)) _ _ _
-    (sym (count_row xs ∙ length-map c.args.operands.now expression_of)) (p.1 ∙ ap Err p.2) c.in_err-id.ensures.found
+pub constructor-returns-in_err-id : goal.constructor-returns-in_err-id
+constructor-returns-in_err-id t c =
+    let r = c.from_residual.result in
+    let e = c.from_residual.ensures.1 in
+    record {
+      keeps = no_value _ _ r e;
+      found = let p = err_from_is_err_and r e in
+          let xs = map expression_of c.args.operands.now in
+          maker_refused c.args.at (in_a_row xs) (length c.args.operands.now) _ _ (row_found c.args.self.now (in_a_row xs)) _ _ _
+          (sym (count_row xs ∙ length-map c.args.operands.now expression_of)) (p.1 ∙ ap Err p.2) c.in_err-id.ensures.found;
+      inside = no_value _ _ r e;
+      literals = no_value _ _ r e;
+    }
 
 pub constructor-operands-requires : goal.constructor-operands-requires
 unfolding scope_of
@@ -269,30 +414,52 @@ constructor-operands-requires t c =
     let count = c.in_ok-id.ensures.count ∙ sym (types_count types c.fields-types.result.now _ (c.fields-types.ensures.fields types)) in
     (search rules, (count, c.fields-types.ensures.within (length types) c.args.self.now.scope_within))
 
-pub constructor-returns-in_err-fields-clause-found : goal.constructor-returns-in_err-fields-clause-found
+pub constructor-returns-in_err-fields : goal.constructor-returns-in_err-fields
 unfolding scope_of
-constructor-returns-in_err-fields-clause-found t c =
-    let p = err_from_is_err_and c.from_residual-in_err-fields.result c.from_residual-in_err-fields.ensures.1 in
-    let types = types_of c.args.self.now in
-    let xs = map expression_of c.args.operands.now in
-    let each = row_found c.args.self.now (in_a_row xs) in
-    constructor_refused types c.args.at (in_a_row xs) (length c.args.operands.now) (sym (count_row xs ∙ length-map c.args.operands.now expression_of))
-    _ _ each c.in_ok-id.id.named c.in_ok-id.id.tag c.fields-types.result.now
-    (c.in_ok-id.ensures.found each) (c.fields-types.ensures.fields types) (types_of c.operands.new.self) _ _ _ (p.1 ∙ ap Err p.2)
-    c.in_err-fields.ensures.found
+constructor-returns-in_err-fields t c =
+    let r = c.from_residual-in_err-fields.result in
+    let e = c.from_residual-in_err-fields.ensures.1 in
+    record {
+      keeps = no_value _ _ r e;
+      found = let p = err_from_is_err_and r e in
+          let types = types_of c.args.self.now in
+          let xs = map expression_of c.args.operands.now in
+          let each = row_found c.args.self.now (in_a_row xs) in
+          constructor_refused types c.args.at (in_a_row xs) (length c.args.operands.now) (sym (count_row xs ∙ length-map c.args.operands.now expression_of))
+          _ _ each c.in_ok-id.id.named c.in_ok-id.id.tag c.fields-types.result.now
+          (c.in_ok-id.ensures.found each) (c.fields-types.ensures.fields types) (types_of c.operands.new.self) _ _ _ (p.1 ∙ ap Err p.2)
+          c.in_err-fields.ensures.found;
+      inside = no_value _ _ r e;
+      literals = no_value _ _ r e;
+    }
 
-pub constructor-returns-clause-found : goal.constructor-returns-clause-found
+pub constructor-returns : goal.constructor-returns
 unfolding scope_of
-constructor-returns-clause-found t c =
-    let types = types_of c.args.self.now in
-    let xs = map expression_of c.args.operands.now in
-    let each = row_found c.args.self.now (in_a_row xs) in
-    c.typed.ensures.found _
-    (constructor_found types c.args.at (in_a_row xs) (length c.args.operands.now) (sym (count_row xs ∙ length-map c.args.operands.now expression_of))
-    _ _ each c.in_ok-id.id.named c.in_ok-id.id.tag c.fields-types.result.now
-    (c.in_ok-id.ensures.found each) (c.fields-types.ensures.fields types) (types_of c.operands.new.self) (types_of c.intern.new.self)
-    c.in_ok-fields.fields c.in_ok-ty.ty c.in_ok-ty.ensures.keeps.grows c.in_ok-ty.ensures.number
-    c.in_ok-fields.ensures.found)
+constructor-returns t c = record {
+  keeps = on_ok c.typed.result (keeps_on c.in_ok-fields.ensures.keeps c.in_ok-ty.ensures.keeps);
+  found = let types = types_of c.args.self.now in
+      let xs = map expression_of c.args.operands.now in
+      let each = row_found c.args.self.now (in_a_row xs) in
+      c.typed.ensures.found _
+      (constructor_found types c.args.at (in_a_row xs) (length c.args.operands.now) (sym (count_row xs ∙ length-map c.args.operands.now expression_of))
+      _ _ each c.in_ok-id.id.named c.in_ok-id.id.tag c.fields-types.result.now
+      (c.in_ok-id.ensures.found each) (c.fields-types.ensures.fields types) (types_of c.operands.new.self) (types_of c.intern.new.self)
+      c.in_ok-fields.fields c.in_ok-ty.ty c.in_ok-ty.ensures.keeps.grows c.in_ok-ty.ensures.number
+      c.in_ok-fields.ensures.found);
+  inside = c.typed.ensures.inside;
+  literals = on_ok c.typed.result c.in_ok-fields.ensures.literals;
+}
+
+pub constructor-returns-in_err-ty : goal.constructor-returns-in_err-ty
+constructor-returns-in_err-ty t c =
+    let r = c.from_residual-in_err-ty.result in
+    let e = c.from_residual-in_err-ty.ensures.1 in
+    record {
+      keeps = no_value _ _ r e;
+      found = let p = err_from_is_err_and r e in rw (p.1, p.2) tt;
+      inside = no_value _ _ r e;
+      literals = no_value _ _ r e;
+    }
 
 -- expressions in a row
 pub operands-loop-index-init : goal.operands-loop-index-init
@@ -314,26 +481,32 @@ operands-part-requires t c =
     (at_most size-ExpTree c.args.operands.now c.loop-index.index c.index-operands-index.result c.loop-index-test.true) in
     (omega (arith, deep, c.decreases), omega (arith, here, longer))
 
-pub operands-returns-in_err-part-clause-found : goal.operands-returns-in_err-part-clause-found
-operands-returns-in_err-part-clause-found t c =
-    let p = err_from_is_err_and c.from_residual.result c.from_residual.ensures.1 in
-    let d : TyId = record { 0 = 0 } in
-    let v : TyId = slice_index_or c.args.types.now c.loop-index.index d in
-    let old = types_of c.args.self.now in
-    let types = types_of c.loop-index.self in
-    let x = expression_of c.index-operands-index.result in
-    let inside : c.loop-index.index < length c.args.types.now = omega (arith, c.requires.count, c.loop-index-test.true) in
-    refused_by (types_of c.part.new.self) _ boxed_of row_of (wanted (place_of x) (type_at types v) (found_at c.loop-index.self x))
-    _ _ _ (p.1 ∙ ap Err p.2)
-    (λ kind at is. row_refused (scope_of c.args.self.now) (locals_of c.args.self.now) (map expression_of c.args.operands.now)
-    (types_at old c.args.types.now) c.loop-index.index x (type_at old v)
-    (next_mapped expression_of c.args.operands.now c.loop-index.index c.index-operands-index.result c.index-operands-index.result
-    c.loop-index-test.true c.index-operands-index.is)
-    (next_mapped (type_at old) c.args.types.now c.loop-index.index v d inside refl) c.loop-index.terms.items _ types
-    kind at c.loop-index.invariant.found
-    (sym (wanted_kept c.args.self.now c.loop-index.self c.loop-index.invariant.keeps (place_of x) (type_at types v) (type_at old v) x
-    (type_stays_at old types c.loop-index.invariant.keeps.grows v (c.requires.within c.loop-index.index d inside))) ∙ is))
-    c.in_err-part.ensures.found
+pub operands-returns-in_err-part : goal.operands-returns-in_err-part
+operands-returns-in_err-part t c =
+    let r = c.from_residual.result in
+    let e = c.from_residual.ensures.1 in
+    record {
+      keeps = no_value _ _ r e;
+      found = let p = err_from_is_err_and r e in
+          let d : TyId = record { 0 = 0 } in
+          let v : TyId = slice_index_or c.args.types.now c.loop-index.index d in
+          let old = types_of c.args.self.now in
+          let types = types_of c.loop-index.self in
+          let x = expression_of c.index-operands-index.result in
+          let inside : c.loop-index.index < length c.args.types.now = omega (arith, c.requires.count, c.loop-index-test.true) in
+          refused_by (types_of c.part.new.self) _ boxed_of row_of (wanted (place_of x) (type_at types v) (found_at c.loop-index.self x))
+          _ _ _ (p.1 ∙ ap Err p.2)
+          (λ kind at is. row_refused (scope_of c.args.self.now) (locals_of c.args.self.now) (map expression_of c.args.operands.now)
+          (types_at old c.args.types.now) c.loop-index.index x (type_at old v)
+          (next_mapped expression_of c.args.operands.now c.loop-index.index c.index-operands-index.result c.index-operands-index.result
+          c.loop-index-test.true c.index-operands-index.is)
+          (next_mapped (type_at old) c.args.types.now c.loop-index.index v d inside refl) c.loop-index.terms.items _ types
+          kind at c.loop-index.invariant.found
+          (sym (wanted_kept c.args.self.now c.loop-index.self c.loop-index.invariant.keeps (place_of x) (type_at types v) (type_at old v) x
+          (type_stays_at old types c.loop-index.invariant.keeps.grows v (c.requires.within c.loop-index.index d inside))) ∙ is))
+          c.in_err-part.ensures.found;
+      literals = no_value _ _ r e;
+    }
 
 pub operands-loop-index-preserved : goal.operands-loop-index-preserved
 operands-loop-index-preserved t c =
@@ -360,138 +533,210 @@ operands-loop-index-preserved t c =
           c.loop-index.invariant.literals;
     }
 
-pub operands-returns-clause-found : goal.operands-returns-clause-found
-operands-returns-clause-found t c =
-    row_last (scope_of c.args.self.now) (locals_of c.args.self.now) (types_of c.loop-index.self) (map expression_of c.args.operands.now)
-    (types_at (types_of c.args.self.now) c.args.types.now) c.loop-index.index c.loop-index.terms _
-    (none_mapped expression_of c.args.operands.now c.loop-index.index c.loop-index-test.false) c.loop-index.invariant.found
+pub operands-returns : goal.operands-returns
+operands-returns t c = record {
+  keeps = c.loop-index.invariant.keeps;
+  found = row_last (scope_of c.args.self.now) (locals_of c.args.self.now) (types_of c.loop-index.self) (map expression_of c.args.operands.now)
+      (types_at (types_of c.args.self.now) c.args.types.now) c.loop-index.index c.loop-index.terms _
+      (none_mapped expression_of c.args.operands.now c.loop-index.index c.loop-index-test.false) c.loop-index.invariant.found;
+  literals = row_good_last (map expression_of c.args.operands.now) c.loop-index.index
+      (none_mapped expression_of c.args.operands.now c.loop-index.index c.loop-index-test.false) c.loop-index.invariant.literals;
+}
 
-pub operands-returns-clause-literals : goal.operands-returns-clause-literals
-operands-returns-clause-literals t c =
-    row_good_last (map expression_of c.args.operands.now) c.loop-index.index
-    (none_mapped expression_of c.args.operands.now c.loop-index.index c.loop-index-test.false) c.loop-index.invariant.literals
+pub operands-returns-in_err-push : goal.operands-returns-in_err-push
+operands-returns-in_err-push t c =
+    let r = c.from_residual-in_err-push.result in
+    let e = c.from_residual-in_err-push.ensures.1 in
+    record {
+      keeps = no_value _ _ r e;
+      found = let p = err_from_is_err_and r e in rw (p.1, p.2) tt;
+      literals = no_value _ _ r e;
+    }
 
 -- let
-pub let_in-returns-in_err-bind-clause-found : goal.let_in-returns-in_err-bind-clause-found
-let_in-returns-in_err-bind-clause-found t c =
-    let p = err_from_is_err_and c.from_residual-in_err-bind.result c.from_residual-in_err-bind.ensures.1 in
-    name_refused (scope_of c.args.self.now) (locals_of c.args.self.now) start _ (name_of c.args.name.now) (expression_of c.args.bound.now)
-    (expression_of c.args.body.now) (types_of c.term.new.self) c.in_ok-bound.bound c.in_ok-bound.ensures.found
-    (locals_of c.bind.new.self) _ _ (p.1 ∙ ap Err p.2) (subst
-    (λ (ls : List Local). Finds {A = Unit {0}} {B = List Local} (λ _. ls)
-    (with_local ls (name_of c.args.name.now) (type_at (types_of c.term.new.self) c.in_ok-bound.bound.ty)) (Err c.in_err-bind.field-0.0))
-    c.in_ok-bound.ensures.keeps.locals c.in_err-bind.ensures.found)
+pub let_in-returns-in_err-bind : goal.let_in-returns-in_err-bind
+let_in-returns-in_err-bind t c =
+    let r = c.from_residual-in_err-bind.result in
+    let e = c.from_residual-in_err-bind.ensures.1 in
+    record {
+      keeps = no_value _ _ r e;
+      found = let p = err_from_is_err_and r e in
+          name_refused (scope_of c.args.self.now) (locals_of c.args.self.now) start _ (name_of c.args.name.now) (expression_of c.args.bound.now)
+          (expression_of c.args.body.now) (types_of c.term.new.self) c.in_ok-bound.bound c.in_ok-bound.ensures.found
+          (locals_of c.bind.new.self) _ _ (p.1 ∙ ap Err p.2) (subst
+          (λ (ls : List Local). Finds {A = Unit {0}} {B = List Local} (λ _. ls)
+          (with_local ls (name_of c.args.name.now) (type_at (types_of c.term.new.self) c.in_ok-bound.bound.ty)) (Err c.in_err-bind.field-0.0))
+          c.in_ok-bound.ensures.keeps.locals c.in_err-bind.ensures.found);
+      inside = no_value _ _ r e;
+      literals = no_value _ _ r e;
+    }
 
-pub let_in-returns-in_err-body-clause-found : goal.let_in-returns-in_err-body-clause-found
-let_in-returns-in_err-body-clause-found t c =
-    let p = err_from_is_err_and c.from_residual-in_err-body.result c.from_residual-in_err-body.ensures.1 in
-    let there : with_local (locals_of c.args.self.now) (name_of c.args.name.now)
-    (type_at (types_of c.term.new.self) c.in_ok-bound.bound.ty) ≡ Sound (locals_of c.bind.new.self) =
-    rw c.in_ok-bound.ensures.keeps.locals at c.in_ok-bind.ensures.found in
-    body_refused (scope_of c.args.self.now) (locals_of c.args.self.now) start _ _ _ (p.1 ∙ ap Err p.2) (name_of c.args.name.now)
-    (expression_of c.args.bound.now) (expression_of c.args.body.now) (types_of c.term.new.self) c.in_ok-bound.bound c.in_ok-bound.ensures.found
-    (types_of c.term-2.new.self) (locals_of c.bind.new.self) there
-    (finds_is (types_of c.term-2.new.self) typed_of _ _ (Err c.in_err-body.field-0.0)
-    (ap (λ s. elaborated s (locals_of c.bind.new.self) (expression_of c.args.body.now))
-    (c.in_ok-bind.ensures.scope ∙ c.in_ok-bound.ensures.keeps.scope)) c.in_err-body.ensures.found)
+pub let_in-returns-in_err-body : goal.let_in-returns-in_err-body
+let_in-returns-in_err-body t c =
+    let r = c.from_residual-in_err-body.result in
+    let e = c.from_residual-in_err-body.ensures.1 in
+    record {
+      keeps = no_value _ _ r e;
+      found = let p = err_from_is_err_and r e in
+          let there : with_local (locals_of c.args.self.now) (name_of c.args.name.now)
+          (type_at (types_of c.term.new.self) c.in_ok-bound.bound.ty) ≡ Sound (locals_of c.bind.new.self) =
+          rw c.in_ok-bound.ensures.keeps.locals at c.in_ok-bind.ensures.found in
+          body_refused (scope_of c.args.self.now) (locals_of c.args.self.now) start _ _ _ (p.1 ∙ ap Err p.2) (name_of c.args.name.now)
+          (expression_of c.args.bound.now) (expression_of c.args.body.now) (types_of c.term.new.self) c.in_ok-bound.bound c.in_ok-bound.ensures.found
+          (types_of c.term-2.new.self) (locals_of c.bind.new.self) there
+          (finds_is (types_of c.term-2.new.self) typed_of _ _ (Err c.in_err-body.field-0.0)
+          (ap (λ s. elaborated s (locals_of c.bind.new.self) (expression_of c.args.body.now))
+          (c.in_ok-bind.ensures.scope ∙ c.in_ok-bound.ensures.keeps.scope)) c.in_err-body.ensures.found);
+      inside = no_value _ _ r e;
+      literals = no_value _ _ r e;
+    }
 
-pub let_in-returns-clause-keeps : goal.let_in-returns-clause-keeps
-let_in-returns-clause-keeps t c =
-    let there : with_local (locals_of c.args.self.now) (name_of c.args.name.now)
-    (type_at (types_of c.term.new.self) c.in_ok-bound.bound.ty) ≡ Sound (locals_of c.bind.new.self) =
-    rw c.in_ok-bound.ensures.keeps.locals at c.in_ok-bind.ensures.found in
-    on_ok c.typed.result
-    (keeps_closed c.args.self.now c.bind.new.self c.term-2.new.self c.close.new.self c.depth-outer.result
-    (subst (Grows (types_of c.args.self.now)) (sym c.in_ok-bind.ensures.types) c.in_ok-bound.ensures.keeps.grows)
-    (c.in_ok-bind.ensures.scope ∙ c.in_ok-bound.ensures.keeps.scope)
-    (one_outer (locals_of c.args.self.now) (locals_of c.bind.new.self)
-    _ (with_local_is (locals_of c.args.self.now) (locals_of c.bind.new.self) (name_of c.args.name.now) _ there))
-    c.in_ok-body.ensures.keeps c.close.ensures.types c.close.ensures.scope c.close.ensures.locals c.depth-outer.ensures)
+pub let_in-returns : goal.let_in-returns
+let_in-returns t c = record {
+  keeps = let there : with_local (locals_of c.args.self.now) (name_of c.args.name.now)
+      (type_at (types_of c.term.new.self) c.in_ok-bound.bound.ty) ≡ Sound (locals_of c.bind.new.self) =
+      rw c.in_ok-bound.ensures.keeps.locals at c.in_ok-bind.ensures.found in
+      on_ok c.typed.result
+      (keeps_closed c.args.self.now c.bind.new.self c.term-2.new.self c.close.new.self c.depth-outer.result
+      (subst (Grows (types_of c.args.self.now)) (sym c.in_ok-bind.ensures.types) c.in_ok-bound.ensures.keeps.grows)
+      (c.in_ok-bind.ensures.scope ∙ c.in_ok-bound.ensures.keeps.scope)
+      (one_outer (locals_of c.args.self.now) (locals_of c.bind.new.self)
+      _ (with_local_is (locals_of c.args.self.now) (locals_of c.bind.new.self) (name_of c.args.name.now) _ there))
+      c.in_ok-body.ensures.keeps c.close.ensures.types c.close.ensures.scope c.close.ensures.locals c.depth-outer.ensures);
+  found = let there : with_local (locals_of c.args.self.now) (name_of c.args.name.now)
+      (type_at (types_of c.term.new.self) c.in_ok-bound.bound.ty) ≡ Sound (locals_of c.bind.new.self) =
+      rw c.in_ok-bound.ensures.keeps.locals at c.in_ok-bind.ensures.found in
+      let grows : Grows (types_of c.term.new.self) (types_of c.term-2.new.self) =
+      subst (λ (l : List Ty). Grows l (types_of c.term-2.new.self)) c.in_ok-bind.ensures.types c.in_ok-body.ensures.keeps.grows in
+      c.typed.ensures.found _
+      (rw c.close.ensures.types
+      (let_shows (scope_of c.args.self.now) (locals_of c.args.self.now) start (name_of c.args.name.now) (expression_of c.args.bound.now)
+      (expression_of c.args.body.now) (types_of c.term.new.self) (types_of c.term-2.new.self)
+      c.in_ok-bound.bound c.in_ok-body.body (locals_of c.bind.new.self) grows c.in_ok-bound.ensures.found there
+      (shows_is (types_of c.term-2.new.self) typed_of _ _ c.in_ok-body.body
+      (ap (λ s. elaborated s (locals_of c.bind.new.self) (expression_of c.args.body.now))
+      (c.in_ok-bind.ensures.scope ∙ c.in_ok-bound.ensures.keeps.scope)) c.in_ok-body.ensures.found)));
+  inside = c.typed.ensures.inside;
+  literals = on_ok c.typed.result (c.in_ok-bound.ensures.literals, c.in_ok-body.ensures.literals);
+}
 
-pub let_in-returns-clause-found : goal.let_in-returns-clause-found
-let_in-returns-clause-found t c =
-    let there : with_local (locals_of c.args.self.now) (name_of c.args.name.now)
-    (type_at (types_of c.term.new.self) c.in_ok-bound.bound.ty) ≡ Sound (locals_of c.bind.new.self) =
-    rw c.in_ok-bound.ensures.keeps.locals at c.in_ok-bind.ensures.found in
-    let grows : Grows (types_of c.term.new.self) (types_of c.term-2.new.self) =
-    subst (λ (l : List Ty). Grows l (types_of c.term-2.new.self)) c.in_ok-bind.ensures.types c.in_ok-body.ensures.keeps.grows in
-    c.typed.ensures.found _
-    (rw c.close.ensures.types
-    (let_shows (scope_of c.args.self.now) (locals_of c.args.self.now) start (name_of c.args.name.now) (expression_of c.args.bound.now)
-    (expression_of c.args.body.now) (types_of c.term.new.self) (types_of c.term-2.new.self)
-    c.in_ok-bound.bound c.in_ok-body.body (locals_of c.bind.new.self) grows c.in_ok-bound.ensures.found there
-    (shows_is (types_of c.term-2.new.self) typed_of _ _ c.in_ok-body.body
-    (ap (λ s. elaborated s (locals_of c.bind.new.self) (expression_of c.args.body.now))
-    (c.in_ok-bind.ensures.scope ∙ c.in_ok-bound.ensures.keeps.scope)) c.in_ok-body.ensures.found)))
+pub let_in-returns-in_err-bound : goal.let_in-returns-in_err-bound
+let_in-returns-in_err-bound t c =
+    let r = c.from_residual.result in
+    let e = c.from_residual.ensures.1 in
+    record {
+      keeps = no_value _ _ r e;
+      found = let p = err_from_is_err_and r e in
+          fault_first (types_of c.term.new.self) _ typed_of typed_of (found_in c.args.self.now c.args.bound.now) _ _ _ (p.1 ∙ ap Err p.2)
+          c.in_err-bound.ensures.found;
+      inside = no_value _ _ r e;
+      literals = no_value _ _ r e;
+    }
 
 -- conditions
-pub condition-returns-in_err-test-clause-found : goal.condition-returns-in_err-test-clause-found
-condition-returns-in_err-test-clause-found t c =
-    let p = err_from_is_err_and c.from_residual-in_err-test.result c.from_residual-in_err-test.ensures.1 in
-    let e = c.args.self.now in
-    let test = expression_of c.args.test.now in
-    let truth = type_at (types_of c.intern.new.self) c.in_ok-truth.truth in
-    test_refused (scope_of e) (locals_of e) start _ _ _ (p.1 ∙ ap Err p.2) test (expression_of c.args.first.now) (expression_of c.args.other.now)
-    (types_of c.part.new.self) truth
-    (get_or_from_slice_get (types_of c.intern.new.self) c.in_ok-truth.truth.0 BoolTy UnitTy c.in_ok-truth.ensures.number)
-    (finds_is (types_of c.part.new.self) boxed_of _ _ (Err c.in_err-test.field-0.0)
-    (wanted_kept e c.intern.new.self c.in_ok-truth.ensures.keeps (place_of test) truth truth test refl) c.in_err-test.ensures.found)
+pub condition-returns-in_err-test : goal.condition-returns-in_err-test
+condition-returns-in_err-test t c =
+    let r = c.from_residual-in_err-test.result in
+    let e = c.from_residual-in_err-test.ensures.1 in
+    record {
+      keeps = no_value _ _ r e;
+      found = let p = err_from_is_err_and r e in
+          let e = c.args.self.now in
+          let test = expression_of c.args.test.now in
+          let truth = type_at (types_of c.intern.new.self) c.in_ok-truth.truth in
+          test_refused (scope_of e) (locals_of e) start _ _ _ (p.1 ∙ ap Err p.2) test (expression_of c.args.first.now) (expression_of c.args.other.now)
+          (types_of c.part.new.self) truth
+          (get_or_from_slice_get (types_of c.intern.new.self) c.in_ok-truth.truth.0 BoolTy UnitTy c.in_ok-truth.ensures.number)
+          (finds_is (types_of c.part.new.self) boxed_of _ _ (Err c.in_err-test.field-0.0)
+          (wanted_kept e c.intern.new.self c.in_ok-truth.ensures.keeps (place_of test) truth truth test refl) c.in_err-test.ensures.found);
+      inside = no_value _ _ r e;
+      literals = no_value _ _ r e;
+    }
 
-pub condition-returns-in_err-first-clause-found : goal.condition-returns-in_err-first-clause-found
-condition-returns-in_err-first-clause-found t c =
-    let p = err_from_is_err_and c.from_residual-in_err-first.result c.from_residual-in_err-first.ensures.1 in
-    let e = c.args.self.now in
-    let test = expression_of c.args.test.now in
-    let truth = type_at (types_of c.intern.new.self) c.in_ok-truth.truth in
-    first_refused (scope_of e) (locals_of e) start _ _ _ (p.1 ∙ ap Err p.2) test (expression_of c.args.first.now) (expression_of c.args.other.now)
-    (types_of c.part.new.self) truth c.in_ok-test.test
-    (get_or_from_slice_get (types_of c.intern.new.self) c.in_ok-truth.truth.0 BoolTy UnitTy c.in_ok-truth.ensures.number)
-    (shows_is (types_of c.part.new.self) boxed_of _ _ c.in_ok-test.test
-    (wanted_kept e c.intern.new.self c.in_ok-truth.ensures.keeps (place_of test) truth truth test refl) c.in_ok-test.ensures.found)
-    (types_of c.term.new.self)
-    (finds_is (types_of c.term.new.self) typed_of _ _ (Err c.in_err-first.field-0.0)
-    (found_kept e c.part.new.self (keeps_on c.in_ok-truth.ensures.keeps c.in_ok-test.ensures.keeps) (expression_of c.args.first.now))
-    c.in_err-first.ensures.found)
+pub condition-returns-in_err-first : goal.condition-returns-in_err-first
+condition-returns-in_err-first t c =
+    let r = c.from_residual-in_err-first.result in
+    let e = c.from_residual-in_err-first.ensures.1 in
+    record {
+      keeps = no_value _ _ r e;
+      found = let p = err_from_is_err_and r e in
+          let e = c.args.self.now in
+          let test = expression_of c.args.test.now in
+          let truth = type_at (types_of c.intern.new.self) c.in_ok-truth.truth in
+          first_refused (scope_of e) (locals_of e) start _ _ _ (p.1 ∙ ap Err p.2) test (expression_of c.args.first.now) (expression_of c.args.other.now)
+          (types_of c.part.new.self) truth c.in_ok-test.test
+          (get_or_from_slice_get (types_of c.intern.new.self) c.in_ok-truth.truth.0 BoolTy UnitTy c.in_ok-truth.ensures.number)
+          (shows_is (types_of c.part.new.self) boxed_of _ _ c.in_ok-test.test
+          (wanted_kept e c.intern.new.self c.in_ok-truth.ensures.keeps (place_of test) truth truth test refl) c.in_ok-test.ensures.found)
+          (types_of c.term.new.self)
+          (finds_is (types_of c.term.new.self) typed_of _ _ (Err c.in_err-first.field-0.0)
+          (found_kept e c.part.new.self (keeps_on c.in_ok-truth.ensures.keeps c.in_ok-test.ensures.keeps) (expression_of c.args.first.now))
+          c.in_err-first.ensures.found);
+      inside = no_value _ _ r e;
+      literals = no_value _ _ r e;
+    }
 
-pub condition-returns-in_err-other-clause-found : goal.condition-returns-in_err-other-clause-found
-condition-returns-in_err-other-clause-found t c =
-    let p = err_from_is_err_and c.from_residual-in_err-other.result c.from_residual-in_err-other.ensures.1 in
-    let e = c.args.self.now in
-    let test = expression_of c.args.test.now in
-    let first = expression_of c.args.first.now in
-    let other = expression_of c.args.other.now in
-    let truth = type_at (types_of c.intern.new.self) c.in_ok-truth.truth in
-    let kept : Keeps e c.part.new.self = keeps_on c.in_ok-truth.ensures.keeps c.in_ok-test.ensures.keeps in
-    let u = type_at (types_of c.term.new.self) c.in_ok-first.first.ty in
-    other_refused (scope_of e) (locals_of e) start _ _ _ (p.1 ∙ ap Err p.2) test first other (types_of c.part.new.self) truth c.in_ok-test.test
-    (get_or_from_slice_get (types_of c.intern.new.self) c.in_ok-truth.truth.0 BoolTy UnitTy c.in_ok-truth.ensures.number)
-    (shows_is (types_of c.part.new.self) boxed_of _ _ c.in_ok-test.test
-    (wanted_kept e c.intern.new.self c.in_ok-truth.ensures.keeps (place_of test) truth truth test refl) c.in_ok-test.ensures.found)
-    (types_of c.term.new.self) (types_of c.part-2.new.self) c.in_ok-first.first u refl
-    (shows_is (types_of c.term.new.self) typed_of _ _ c.in_ok-first.first (found_kept e c.part.new.self kept first) c.in_ok-first.ensures.found)
-    (finds_is (types_of c.part-2.new.self) boxed_of _ _ (Err c.in_err-other.field-0.0)
-    (wanted_kept e c.term.new.self (keeps_on kept c.in_ok-first.ensures.keeps) (place_of other) u u other refl) c.in_err-other.ensures.found)
+pub condition-returns-in_err-other : goal.condition-returns-in_err-other
+condition-returns-in_err-other t c =
+    let r = c.from_residual-in_err-other.result in
+    let e = c.from_residual-in_err-other.ensures.1 in
+    record {
+      keeps = no_value _ _ r e;
+      found = let p = err_from_is_err_and r e in
+          let e = c.args.self.now in
+          let test = expression_of c.args.test.now in
+          let first = expression_of c.args.first.now in
+          let other = expression_of c.args.other.now in
+          let truth = type_at (types_of c.intern.new.self) c.in_ok-truth.truth in
+          let kept : Keeps e c.part.new.self = keeps_on c.in_ok-truth.ensures.keeps c.in_ok-test.ensures.keeps in
+          let u = type_at (types_of c.term.new.self) c.in_ok-first.first.ty in
+          other_refused (scope_of e) (locals_of e) start _ _ _ (p.1 ∙ ap Err p.2) test first other (types_of c.part.new.self) truth c.in_ok-test.test
+          (get_or_from_slice_get (types_of c.intern.new.self) c.in_ok-truth.truth.0 BoolTy UnitTy c.in_ok-truth.ensures.number)
+          (shows_is (types_of c.part.new.self) boxed_of _ _ c.in_ok-test.test
+          (wanted_kept e c.intern.new.self c.in_ok-truth.ensures.keeps (place_of test) truth truth test refl) c.in_ok-test.ensures.found)
+          (types_of c.term.new.self) (types_of c.part-2.new.self) c.in_ok-first.first u refl
+          (shows_is (types_of c.term.new.self) typed_of _ _ c.in_ok-first.first (found_kept e c.part.new.self kept first) c.in_ok-first.ensures.found)
+          (finds_is (types_of c.part-2.new.self) boxed_of _ _ (Err c.in_err-other.field-0.0)
+          (wanted_kept e c.term.new.self (keeps_on kept c.in_ok-first.ensures.keeps) (place_of other) u u other refl) c.in_err-other.ensures.found);
+      inside = no_value _ _ r e;
+      literals = no_value _ _ r e;
+    }
 
-pub condition-returns-clause-found : goal.condition-returns-clause-found
-condition-returns-clause-found t c =
-    let e = c.args.self.now in
-    let test = expression_of c.args.test.now in
-    let first = expression_of c.args.first.now in
-    let other = expression_of c.args.other.now in
-    let truth = type_at (types_of c.intern.new.self) c.in_ok-truth.truth in
-    let kept : Keeps e c.part.new.self = keeps_on c.in_ok-truth.ensures.keeps c.in_ok-test.ensures.keeps in
-    let u = type_at (types_of c.term.new.self) c.in_ok-first.first.ty in
-    c.typed.ensures.found _
-    (if_shows (scope_of e) (locals_of e) start test first other (types_of c.part.new.self) (types_of c.term.new.self) (types_of c.part-2.new.self)
-    truth u c.in_ok-test.test c.in_ok-first.first c.in_ok-other.other
-    (grows_on (types_of c.part.new.self) (types_of c.term.new.self) (types_of c.part-2.new.self) c.in_ok-first.ensures.keeps.grows
-    c.in_ok-other.ensures.keeps.grows) c.in_ok-other.ensures.keeps.grows
-    (get_or_from_slice_get (types_of c.intern.new.self) c.in_ok-truth.truth.0 BoolTy UnitTy c.in_ok-truth.ensures.number) refl
-    (shows_is (types_of c.part.new.self) boxed_of _ _ c.in_ok-test.test
-    (wanted_kept e c.intern.new.self c.in_ok-truth.ensures.keeps (place_of test) truth truth test refl) c.in_ok-test.ensures.found)
-    (shows_is (types_of c.term.new.self) typed_of _ _ c.in_ok-first.first (found_kept e c.part.new.self kept first) c.in_ok-first.ensures.found)
-    (shows_is (types_of c.part-2.new.self) boxed_of _ _ c.in_ok-other.other
-    (wanted_kept e c.term.new.self (keeps_on kept c.in_ok-first.ensures.keeps) (place_of other) u u other refl) c.in_ok-other.ensures.found))
+pub condition-returns : goal.condition-returns
+condition-returns t c = record {
+  keeps = on_ok c.typed.result (keeps_on (keeps_on (keeps_on c.in_ok-truth.ensures.keeps c.in_ok-test.ensures.keeps) c.in_ok-first.ensures.keeps) c.in_ok-other.ensures.keeps);
+  found = let e = c.args.self.now in
+      let test = expression_of c.args.test.now in
+      let first = expression_of c.args.first.now in
+      let other = expression_of c.args.other.now in
+      let truth = type_at (types_of c.intern.new.self) c.in_ok-truth.truth in
+      let kept : Keeps e c.part.new.self = keeps_on c.in_ok-truth.ensures.keeps c.in_ok-test.ensures.keeps in
+      let u = type_at (types_of c.term.new.self) c.in_ok-first.first.ty in
+      c.typed.ensures.found _
+      (if_shows (scope_of e) (locals_of e) start test first other (types_of c.part.new.self) (types_of c.term.new.self) (types_of c.part-2.new.self)
+      truth u c.in_ok-test.test c.in_ok-first.first c.in_ok-other.other
+      (grows_on (types_of c.part.new.self) (types_of c.term.new.self) (types_of c.part-2.new.self) c.in_ok-first.ensures.keeps.grows
+      c.in_ok-other.ensures.keeps.grows) c.in_ok-other.ensures.keeps.grows
+      (get_or_from_slice_get (types_of c.intern.new.self) c.in_ok-truth.truth.0 BoolTy UnitTy c.in_ok-truth.ensures.number) refl
+      (shows_is (types_of c.part.new.self) boxed_of _ _ c.in_ok-test.test
+      (wanted_kept e c.intern.new.self c.in_ok-truth.ensures.keeps (place_of test) truth truth test refl) c.in_ok-test.ensures.found)
+      (shows_is (types_of c.term.new.self) typed_of _ _ c.in_ok-first.first (found_kept e c.part.new.self kept first) c.in_ok-first.ensures.found)
+      (shows_is (types_of c.part-2.new.self) boxed_of _ _ c.in_ok-other.other
+      (wanted_kept e c.term.new.self (keeps_on kept c.in_ok-first.ensures.keeps) (place_of other) u u other refl) c.in_ok-other.ensures.found));
+  inside = c.typed.ensures.inside;
+  literals = on_ok c.typed.result (c.in_ok-test.ensures.literals, c.in_ok-first.ensures.literals, c.in_ok-other.ensures.literals);
+}
+
+pub condition-returns-in_err-truth : goal.condition-returns-in_err-truth
+condition-returns-in_err-truth t c =
+    let r = c.from_residual.result in
+    let e = c.from_residual.ensures.1 in
+    record {
+      keeps = no_value _ _ r e;
+      found = let p = err_from_is_err_and r e in rw (p.1, p.2) tt;
+      inside = no_value _ _ r e;
+      literals = no_value _ _ r e;
+    }
 
 -- matches
 pub match_with-arms-requires : goal.match_with-arms-requires
@@ -502,49 +747,80 @@ match_with-arms-requires t c =
     _ (c.constructors-constructors.ensures.fields types)) in
     (search rules, (count, c.constructors-constructors.ensures.within (length types) c.term.new.self.scope_within))
 
-pub match_with-returns-in_err-named-clause-found : goal.match_with-returns-in_err-named-clause-found
-match_with-returns-in_err-named-clause-found t c =
-    let p = err_from_is_err_and c.from_residual-in_err-named.result c.from_residual-in_err-named.ensures.1 in
-    match_refused (scope_of c.args.self.now) (locals_of c.args.self.now) c.args.at c.place-place.result (expression_of c.args.subject.now)
-    (arms_in_a_row (map arm_of c.args.arms.now)) c.place-place.ensures (types_of c.term.new.self) c.in_ok-subject.subject
-    c.in_ok-subject.ensures.found _ _ _ (p.1 ∙ ap Err p.2)
-    (subst (λ (s : Scope). Matches s c.args.at c.place-place.result (type_at (types_of c.term.new.self) c.in_ok-subject.subject.ty)
-    (arm_names (arms_in_a_row (map arm_of c.args.arms.now))) (Err c.in_err-named.field-0.0)) c.in_ok-subject.ensures.keeps.scope
-    c.in_err-named.ensures.found)
+pub match_with-returns-in_err-named : goal.match_with-returns-in_err-named
+match_with-returns-in_err-named t c =
+    let r = c.from_residual-in_err-named.result in
+    let e = c.from_residual-in_err-named.ensures.1 in
+    record {
+      keeps = no_value _ _ r e;
+      found = let p = err_from_is_err_and r e in
+          match_refused (scope_of c.args.self.now) (locals_of c.args.self.now) c.args.at c.place-place.result (expression_of c.args.subject.now)
+          (arms_in_a_row (map arm_of c.args.arms.now)) c.place-place.ensures (types_of c.term.new.self) c.in_ok-subject.subject
+          c.in_ok-subject.ensures.found _ _ _ (p.1 ∙ ap Err p.2)
+          (subst (λ (s : Scope). Matches s c.args.at c.place-place.result (type_at (types_of c.term.new.self) c.in_ok-subject.subject.ty)
+          (arm_names (arms_in_a_row (map arm_of c.args.arms.now))) (Err c.in_err-named.field-0.0)) c.in_ok-subject.ensures.keeps.scope
+          c.in_err-named.ensures.found);
+      inside = no_value _ _ r e;
+      literals = no_value _ _ r e;
+    }
 
-pub match_with-returns-in_err-arms-clause-found : goal.match_with-returns-in_err-arms-clause-found
-match_with-returns-in_err-arms-clause-found t c =
-    let p = err_from_is_err_and c.from_residual-in_err-arms.result c.from_residual-in_err-arms.ensures.1 in
-    let e = c.args.self.now in
-    let types = types_of c.term.new.self in
-    let tss = fields_of types c.constructors-constructors.result.now in
-    let scope = c.in_ok-subject.ensures.keeps.scope in
-    let locals = c.in_ok-subject.ensures.keeps.locals in
-    let arms = arms_in_a_row (map arm_of c.args.arms.now) in
-    match_arms_refused (scope_of e) (locals_of e) c.args.at c.place-place.result (expression_of c.args.subject.now) arms c.place-place.ensures types
-    c.in_ok-subject.subject
-    c.in_ok-subject.ensures.found c.in_ok-named.named tss (rw scope at c.in_ok-named.ensures.found)
-    (c.constructors-constructors.ensures.fields types ∙ ap (λ (s : Scope). unwrap_or (slice_get s.table c.in_ok-named.named.0) [])
-    (sym (scope_is c.term.new.self) ∙ scope)) (types_of c.arms.new.self) _ _ _ (p.1 ∙ ap Err p.2)
-    (finds_is (types_of c.arms.new.self) arms_of _ _ (Err c.in_err-arms.field-0.0)
-    (ap (λ s. elaborated_arms s (locals_of c.term.new.self) arms None tss) scope ∙ ap (λ ls. elaborated_arms (scope_of e) ls arms None tss) locals)
-    c.in_err-arms.ensures.found)
+pub match_with-returns-in_err-arms : goal.match_with-returns-in_err-arms
+match_with-returns-in_err-arms t c =
+    let r = c.from_residual-in_err-arms.result in
+    let e = c.from_residual-in_err-arms.ensures.1 in
+    record {
+      keeps = no_value _ _ r e;
+      found = let p = err_from_is_err_and r e in
+          let e = c.args.self.now in
+          let types = types_of c.term.new.self in
+          let tss = fields_of types c.constructors-constructors.result.now in
+          let scope = c.in_ok-subject.ensures.keeps.scope in
+          let locals = c.in_ok-subject.ensures.keeps.locals in
+          let arms = arms_in_a_row (map arm_of c.args.arms.now) in
+          match_arms_refused (scope_of e) (locals_of e) c.args.at c.place-place.result (expression_of c.args.subject.now) arms c.place-place.ensures types
+          c.in_ok-subject.subject
+          c.in_ok-subject.ensures.found c.in_ok-named.named tss (rw scope at c.in_ok-named.ensures.found)
+          (c.constructors-constructors.ensures.fields types ∙ ap (λ (s : Scope). unwrap_or (slice_get s.table c.in_ok-named.named.0) [])
+          (sym (scope_is c.term.new.self) ∙ scope)) (types_of c.arms.new.self) _ _ _ (p.1 ∙ ap Err p.2)
+          (finds_is (types_of c.arms.new.self) arms_of _ _ (Err c.in_err-arms.field-0.0)
+          (ap (λ s. elaborated_arms s (locals_of c.term.new.self) arms None tss) scope ∙ ap (λ ls. elaborated_arms (scope_of e) ls arms None tss) locals)
+          c.in_err-arms.ensures.found);
+      inside = no_value _ _ r e;
+      literals = no_value _ _ r e;
+    }
 
-pub match_with-returns-clause-found : goal.match_with-returns-clause-found
-match_with-returns-clause-found t c =
-    let e = c.args.self.now in
-    let types = types_of c.term.new.self in
-    let tss = fields_of types c.constructors-constructors.result.now in
-    let scope = c.in_ok-subject.ensures.keeps.scope in
-    let locals = c.in_ok-subject.ensures.keeps.locals in
-    let arms = arms_in_a_row (map arm_of c.args.arms.now) in
-    c.typed.ensures.found _
-    (match_found (scope_of e) (locals_of e) c.args.at c.place-place.result (expression_of c.args.subject.now) arms c.place-place.ensures types
-    c.in_ok-subject.subject
-    c.in_ok-subject.ensures.found c.in_ok-named.named tss (rw scope at c.in_ok-named.ensures.found)
-    (c.constructors-constructors.ensures.fields types ∙ ap (λ (s : Scope). unwrap_or (slice_get s.table c.in_ok-named.named.0) [])
-    (sym (scope_is c.term.new.self) ∙ scope)) (types_of c.arms.new.self) c.in_ok-arms.arms
-    c.in_ok-arms.ensures.keeps.grows c.in_ok-subject.ensures.inside (rw (scope, locals) at c.in_ok-arms.ensures.found))
+pub match_with-returns : goal.match_with-returns
+match_with-returns t c = record {
+  keeps = on_ok c.typed.result (keeps_on c.in_ok-subject.ensures.keeps c.in_ok-arms.ensures.keeps);
+  found = let e = c.args.self.now in
+      let types = types_of c.term.new.self in
+      let tss = fields_of types c.constructors-constructors.result.now in
+      let scope = c.in_ok-subject.ensures.keeps.scope in
+      let locals = c.in_ok-subject.ensures.keeps.locals in
+      let arms = arms_in_a_row (map arm_of c.args.arms.now) in
+      c.typed.ensures.found _
+      (match_found (scope_of e) (locals_of e) c.args.at c.place-place.result (expression_of c.args.subject.now) arms c.place-place.ensures types
+      c.in_ok-subject.subject
+      c.in_ok-subject.ensures.found c.in_ok-named.named tss (rw scope at c.in_ok-named.ensures.found)
+      (c.constructors-constructors.ensures.fields types ∙ ap (λ (s : Scope). unwrap_or (slice_get s.table c.in_ok-named.named.0) [])
+      (sym (scope_is c.term.new.self) ∙ scope)) (types_of c.arms.new.self) c.in_ok-arms.arms
+      c.in_ok-arms.ensures.keeps.grows c.in_ok-subject.ensures.inside (rw (scope, locals) at c.in_ok-arms.ensures.found));
+  inside = c.typed.ensures.inside;
+  literals = on_ok c.typed.result (c.in_ok-subject.ensures.literals, c.in_ok-arms.ensures.literals);
+}
+
+pub match_with-returns-in_err-subject : goal.match_with-returns-in_err-subject
+match_with-returns-in_err-subject t c =
+    let r = c.from_residual.result in
+    let e = c.from_residual.ensures.1 in
+    record {
+      keeps = no_value _ _ r e;
+      found = let p = err_from_is_err_and r e in
+          fault_first (types_of c.term.new.self) _ typed_of typed_of (found_in c.args.self.now c.args.subject.now) _ _ _ (p.1 ∙ ap Err p.2)
+          c.in_err-subject.ensures.found;
+      inside = no_value _ _ r e;
+      literals = no_value _ _ r e;
+    }
 
 -- the arms of a match
 pub arms-loop-index-init : goal.arms-loop-index-init
@@ -568,30 +844,37 @@ arms-arm-requires t c =
     (at_most size-Arm c.args.arms.now c.loop-index.index c.index-arms-index.result c.loop-index-test.true) in
     (omega (arith, deep, c.decreases), (c.loop-index.invariant.inside, within))
 
-pub arms-returns-in_err-body-clause-found : goal.arms-returns-in_err-body-clause-found
-arms-returns-in_err-body-clause-found t c =
-    let p = err_from_is_err_and c.from_residual.result c.from_residual.ensures.1 in
-    let e = c.args.self.now in
-    let old = types_of e in
-    let types = types_of c.loop-index.self in
-    let ids = c.deref.result.now in
-    let arm = arm_of c.index-arms-index.result in
-    let keeps = c.loop-index.invariant.keeps in
-    let inside : c.loop-index.index < length c.args.constructors.now = omega (arith, c.requires.count, c.loop-index-test.true) in
-    let fields : ids ≡ c.index-constructors-index.result.fields.items =
-    c.deref.ensures.value ∙ ap (λ (c : Constructor). c.fields.items) (sym c.index-constructors-index.is) in
-    let within : AreWithin (length old) ids =
-    constructor_within (length old) (length old) c.args.constructors.now c.loop-index.index c.index-constructors-index.result ids (omega arith)
-    c.requires.within inside c.index-constructors-index.is fields in
-    let same = arm_kept e c.loop-index.self keeps (want_of types c.loop-index.wanted) ids within arm in
-    refused_by (types_of c.arm.new.self) _ typed_of arms_of _ _ _ _ (p.1 ∙ ap Err p.2)
-    (λ kind at is. arms_refused (scope_of e) (locals_of e) (map arm_of c.args.arms.now) (fields_of old c.args.constructors.now) c.loop-index.index arm
-    (types_at old ids)
-    (next_mapped arm_of c.args.arms.now c.loop-index.index c.index-arms-index.result c.index-arms-index.result c.loop-index-test.true
-    c.index-arms-index.is)
-    (next_fields old c.args.constructors.now c.loop-index.index c.index-constructors-index.result ids inside c.index-constructors-index.is fields)
-    c.loop-index.wanted c.loop-index.bodies.items _ types kind at c.loop-index.invariant.inside c.loop-index.invariant.found (sym same ∙ is))
-    c.in_err-body.ensures.found
+pub arms-returns-in_err-body : goal.arms-returns-in_err-body
+arms-returns-in_err-body t c =
+    let r = c.from_residual.result in
+    let e = c.from_residual.ensures.1 in
+    record {
+      keeps = no_value _ _ r e;
+      found = let p = err_from_is_err_and r e in
+          let e = c.args.self.now in
+          let old = types_of e in
+          let types = types_of c.loop-index.self in
+          let ids = c.deref.result.now in
+          let arm = arm_of c.index-arms-index.result in
+          let keeps = c.loop-index.invariant.keeps in
+          let inside : c.loop-index.index < length c.args.constructors.now = omega (arith, c.requires.count, c.loop-index-test.true) in
+          let fields : ids ≡ c.index-constructors-index.result.fields.items =
+          c.deref.ensures.value ∙ ap (λ (c : Constructor). c.fields.items) (sym c.index-constructors-index.is) in
+          let within : AreWithin (length old) ids =
+          constructor_within (length old) (length old) c.args.constructors.now c.loop-index.index c.index-constructors-index.result ids (omega arith)
+          c.requires.within inside c.index-constructors-index.is fields in
+          let same = arm_kept e c.loop-index.self keeps (want_of types c.loop-index.wanted) ids within arm in
+          refused_by (types_of c.arm.new.self) _ typed_of arms_of _ _ _ _ (p.1 ∙ ap Err p.2)
+          (λ kind at is. arms_refused (scope_of e) (locals_of e) (map arm_of c.args.arms.now) (fields_of old c.args.constructors.now) c.loop-index.index arm
+          (types_at old ids)
+          (next_mapped arm_of c.args.arms.now c.loop-index.index c.index-arms-index.result c.index-arms-index.result c.loop-index-test.true
+          c.index-arms-index.is)
+          (next_fields old c.args.constructors.now c.loop-index.index c.index-constructors-index.result ids inside c.index-constructors-index.is fields)
+          c.loop-index.wanted c.loop-index.bodies.items _ types kind at c.loop-index.invariant.inside c.loop-index.invariant.found (sym same ∙ is))
+          c.in_err-body.ensures.found;
+      inside = no_value _ _ r e;
+      literals = no_value _ _ r e;
+    }
 
 pub arms-loop-index-preserved : goal.arms-loop-index-preserved
 arms-loop-index-preserved t c =
@@ -624,24 +907,50 @@ arms-loop-index-preserved t c =
       literals = arms_good (map arm_of c.args.arms.now) c.loop-index.index arm here c.in_ok-body.ensures.literals c.loop-index.invariant.literals;
     }
 
-pub arms-returns-clause-found : goal.arms-returns-clause-found
-arms-returns-clause-found t c =
-    let e = c.args.self.now in
-    arms_last (scope_of e) (locals_of e) (types_of c.loop-index.self) (types_of c.wanted_or_unit.new.self) (map arm_of c.args.arms.now)
-    (fields_of (types_of e) c.args.constructors.now) c.loop-index.index c.loop-index.wanted c.loop-index.bodies c.in_ok-ty.ty _
-    c.in_ok-ty.ensures.keeps.grows (none_mapped arm_of c.args.arms.now c.loop-index.index c.loop-index-test.false) c.loop-index.invariant.inside
-    c.in_ok-ty.ensures.found c.loop-index.invariant.found
+pub arms-returns : goal.arms-returns
+arms-returns t c = record {
+  keeps = keeps_on c.loop-index.invariant.keeps c.in_ok-ty.ensures.keeps;
+  found = let e = c.args.self.now in
+      arms_last (scope_of e) (locals_of e) (types_of c.loop-index.self) (types_of c.wanted_or_unit.new.self) (map arm_of c.args.arms.now)
+      (fields_of (types_of e) c.args.constructors.now) c.loop-index.index c.loop-index.wanted c.loop-index.bodies c.in_ok-ty.ty _
+      c.in_ok-ty.ensures.keeps.grows (none_mapped arm_of c.args.arms.now c.loop-index.index c.loop-index-test.false) c.loop-index.invariant.inside
+      c.in_ok-ty.ensures.found c.loop-index.invariant.found;
+  inside = c.in_ok-ty.ensures.inside;
+  literals = arms_good_last (map arm_of c.args.arms.now) c.loop-index.index (none_mapped arm_of c.args.arms.now c.loop-index.index c.loop-index-test.false)
+      c.loop-index.invariant.literals;
+}
 
-pub arms-returns-clause-literals : goal.arms-returns-clause-literals
-arms-returns-clause-literals t c =
-    arms_good_last (map arm_of c.args.arms.now) c.loop-index.index (none_mapped arm_of c.args.arms.now c.loop-index.index c.loop-index-test.false)
-    c.loop-index.invariant.literals
+pub arms-returns-in_err-push : goal.arms-returns-in_err-push
+arms-returns-in_err-push t c =
+    let r = c.from_residual-in_err-push.result in
+    let e = c.from_residual-in_err-push.ensures.1 in
+    record {
+      keeps = no_value _ _ r e;
+      found = let p = err_from_is_err_and r e in rw (p.1, p.2) tt;
+      inside = no_value _ _ r e;
+      literals = no_value _ _ r e;
+    }
+
+pub arms-returns-in_err-ty : goal.arms-returns-in_err-ty
+arms-returns-in_err-ty t c =
+    let r = c.from_residual-in_err-ty.result in
+    let e = c.from_residual-in_err-ty.ensures.1 in
+    record {
+      keeps = no_value _ _ r e;
+      found = let p = err_from_is_err_and r e in rw (p.1, p.2) tt;
+      inside = no_value _ _ r e;
+      literals = no_value _ _ r e;
+    }
 
 -- an arm
-pub arm-returns-then-len-fields-clause-found : goal.arm-returns-then-len-fields-clause-found
-arm-returns-then-len-fields-clause-found t c =
-    arm_miscounted (scope_of c.args.self.now) (locals_of c.args.self.now) (want_of (types_of c.args.self.now) c.args.wanted)
-    (types_of c.args.self.now) c.args.fields.now c.args.arm.now (λ same. let ok = c.args.arm.now.fields.ok in c.if-len-fields.true (cc))
+pub arm-returns-then-len-fields : goal.arm-returns-then-len-fields
+arm-returns-then-len-fields t c = record {
+  keeps = tt;
+  found = arm_miscounted (scope_of c.args.self.now) (locals_of c.args.self.now) (want_of (types_of c.args.self.now) c.args.wanted)
+      (types_of c.args.self.now) c.args.fields.now c.args.arm.now (λ same. let ok = c.args.arm.now.fields.ok in c.if-len-fields.true (cc));
+  inside = tt;
+  literals = tt;
+}
 
 pub arm-bind_each-requires-clause-count : goal.arm-bind_each-requires-clause-count
 arm-bind_each-requires-clause-count t c = let ok = c.args.arm.now.fields.ok in cc
@@ -649,75 +958,107 @@ arm-bind_each-requires-clause-count t c = let ok = c.args.arm.now.fields.ok in c
 pub arm-bind_each-requires-clause-within : goal.arm-bind_each-requires-clause-within
 arm-bind_each-requires-clause-within t c = c.requires.within
 
-pub arm-returns-in_err-bind_each-clause-found : goal.arm-returns-in_err-bind_each-clause-found
-arm-returns-in_err-bind_each-clause-found t c =
-    let p = err_from_is_err_and c.from_residual.result c.from_residual.ensures.1 in
-    let e = c.args.self.now in
-    let ok = c.args.arm.now.fields.ok in
-    let count : length c.args.arm.now.fields.items ≡ length c.args.fields.now = cc in
-    refused_at {A = Unit {0}} _ (λ _. locals_of e) typed_of (names_bound (scope_of e) (locals_of e) (want_of (types_of e) c.args.wanted) (types_of e)
-    c.args.fields.now c.args.arm.now) _ _ _ (p.1 ∙ ap Err p.2)
-    (names_refused (scope_of e) (locals_of e) (want_of (types_of e) c.args.wanted) (types_of e) c.args.fields.now c.args.arm.now count)
-    (subst (λ (ns : List PlacedName). Finds {A = Unit {0}} {B = List Local} (λ _. locals_of e)
-    (bound_names [] (locals_of e) (map name_of ns) (types_at (types_of e) c.args.fields.now)) (Err c.in_err-bind_each.field-0.0))
-    c.deref.ensures.value
-    c.in_err-bind_each.ensures.found)
+pub arm-returns-in_err-bind_each : goal.arm-returns-in_err-bind_each
+arm-returns-in_err-bind_each t c =
+    let r = c.from_residual.result in
+    let e = c.from_residual.ensures.1 in
+    record {
+      keeps = no_value _ _ r e;
+      found = let p = err_from_is_err_and r e in
+          let e = c.args.self.now in
+          let ok = c.args.arm.now.fields.ok in
+          let count : length c.args.arm.now.fields.items ≡ length c.args.fields.now = cc in
+          refused_at {A = Unit {0}} _ (λ _. locals_of e) typed_of (names_bound (scope_of e) (locals_of e) (want_of (types_of e) c.args.wanted) (types_of e)
+          c.args.fields.now c.args.arm.now) _ _ _ (p.1 ∙ ap Err p.2)
+          (names_refused (scope_of e) (locals_of e) (want_of (types_of e) c.args.wanted) (types_of e) c.args.fields.now c.args.arm.now count)
+          (subst (λ (ns : List PlacedName). Finds {A = Unit {0}} {B = List Local} (λ _. locals_of e)
+          (bound_names [] (locals_of e) (map name_of ns) (types_at (types_of e) c.args.fields.now)) (Err c.in_err-bind_each.field-0.0))
+          c.deref.ensures.value
+          c.in_err-bind_each.ensures.found);
+      inside = no_value _ _ r e;
+      literals = no_value _ _ r e;
+    }
 
-pub arm-returns-in_err-body-clause-found : goal.arm-returns-in_err-body-clause-found
-arm-returns-in_err-body-clause-found t c =
-    let p = err_from_is_err_and c.from_residual-in_err-body.result c.from_residual-in_err-body.ensures.1 in
-    let e = c.args.self.now in
-    let names : names_bound (scope_of e) (locals_of e) (want_of (types_of e) c.args.wanted) (types_of e) c.args.fields.now
-    c.args.arm.now ≡ Sound (locals_of c.bind_each.new.self) = rw c.deref.ensures.value at c.in_ok-bind_each.ensures.found in
-    let ok = c.args.arm.now.fields.ok in
-    let count : length c.args.arm.now.fields.items ≡ length c.args.fields.now = cc in
-    let x = expression_of c.args.arm.now.body in
-    let inner = locals_of c.bind_each.new.self in
-    refused_by (types_of c.body.new.self) _ typed_of typed_of
-    (wanted_arm (want_of (types_of e) c.args.wanted) (place_of x) (elaborated (scope_of e) inner x)) _ _ _ (p.1 ∙ ap Err p.2)
-    (arm_refused (scope_of e) (locals_of e) (want_of (types_of e) c.args.wanted) (types_of e) c.args.fields.now c.args.arm.now count inner names)
-    (finds_is (types_of c.body.new.self) typed_of _ _ (Err c.in_err-body.field-0.0)
-    (ap (λ (l : List Ty). wanted_arm (want_of l c.args.wanted) (place_of x) (elaborated (scope_of c.bind_each.new.self) inner x))
-    c.in_ok-bind_each.ensures.types
-    ∙ ap (λ s. wanted_arm (want_of (types_of e) c.args.wanted) (place_of x) (elaborated s inner x)) c.in_ok-bind_each.ensures.scope)
-    c.in_err-body.ensures.found)
+pub arm-returns-in_err-body : goal.arm-returns-in_err-body
+arm-returns-in_err-body t c =
+    let r = c.from_residual-in_err-body.result in
+    let e = c.from_residual-in_err-body.ensures.1 in
+    record {
+      keeps = no_value _ _ r e;
+      found = let p = err_from_is_err_and r e in
+          let e = c.args.self.now in
+          let names : names_bound (scope_of e) (locals_of e) (want_of (types_of e) c.args.wanted) (types_of e) c.args.fields.now
+          c.args.arm.now ≡ Sound (locals_of c.bind_each.new.self) = rw c.deref.ensures.value at c.in_ok-bind_each.ensures.found in
+          let ok = c.args.arm.now.fields.ok in
+          let count : length c.args.arm.now.fields.items ≡ length c.args.fields.now = cc in
+          let x = expression_of c.args.arm.now.body in
+          let inner = locals_of c.bind_each.new.self in
+          refused_by (types_of c.body.new.self) _ typed_of typed_of
+          (wanted_arm (want_of (types_of e) c.args.wanted) (place_of x) (elaborated (scope_of e) inner x)) _ _ _ (p.1 ∙ ap Err p.2)
+          (arm_refused (scope_of e) (locals_of e) (want_of (types_of e) c.args.wanted) (types_of e) c.args.fields.now c.args.arm.now count inner names)
+          (finds_is (types_of c.body.new.self) typed_of _ _ (Err c.in_err-body.field-0.0)
+          (ap (λ (l : List Ty). wanted_arm (want_of l c.args.wanted) (place_of x) (elaborated (scope_of c.bind_each.new.self) inner x))
+          c.in_ok-bind_each.ensures.types
+          ∙ ap (λ s. wanted_arm (want_of (types_of e) c.args.wanted) (place_of x) (elaborated s inner x)) c.in_ok-bind_each.ensures.scope)
+          c.in_err-body.ensures.found);
+      inside = no_value _ _ r e;
+      literals = no_value _ _ r e;
+    }
 
-pub arm-returns-clause-keeps : goal.arm-returns-clause-keeps
-arm-returns-clause-keeps t c =
-    keeps_closed c.args.self.now c.bind_each.new.self c.body.new.self c.close.new.self c.depth-outer.result
-    (subst (Grows (types_of c.args.self.now)) (sym c.in_ok-bind_each.ensures.types) (grows_self (types_of c.args.self.now)))
-    c.in_ok-bind_each.ensures.scope c.in_ok-bind_each.ensures.outer
-    c.in_ok-body.ensures.keeps c.close.ensures.types c.close.ensures.scope c.close.ensures.locals c.depth-outer.ensures
-
-pub arm-returns-clause-found : goal.arm-returns-clause-found
-arm-returns-clause-found t c =
-    let e = c.args.self.now in
-    let names : names_bound (scope_of e) (locals_of e) (want_of (types_of e) c.args.wanted) (types_of e) c.args.fields.now
-    c.args.arm.now ≡ Sound (locals_of c.bind_each.new.self) = rw c.deref.ensures.value at c.in_ok-bind_each.ensures.found in
-    let ok = c.args.arm.now.fields.ok in
-    let count : length c.args.arm.now.fields.items ≡ length c.args.fields.now = cc in
-    rw c.close.ensures.types
-    (arm_finds (scope_of e) (locals_of e) (want_of (types_of e) c.args.wanted) (types_of e) c.args.fields.now c.args.arm.now count
-    (types_of c.body.new.self) (locals_of c.bind_each.new.self) (Ok c.in_ok-body.body) names
-    (rw (c.in_ok-bind_each.ensures.types, c.in_ok-bind_each.ensures.scope) at c.in_ok-body.ensures.found))
+pub arm-returns : goal.arm-returns
+arm-returns t c = record {
+  keeps = keeps_closed c.args.self.now c.bind_each.new.self c.body.new.self c.close.new.self c.depth-outer.result
+      (subst (Grows (types_of c.args.self.now)) (sym c.in_ok-bind_each.ensures.types) (grows_self (types_of c.args.self.now)))
+      c.in_ok-bind_each.ensures.scope c.in_ok-bind_each.ensures.outer
+      c.in_ok-body.ensures.keeps c.close.ensures.types c.close.ensures.scope c.close.ensures.locals c.depth-outer.ensures;
+  found = let e = c.args.self.now in
+      let names : names_bound (scope_of e) (locals_of e) (want_of (types_of e) c.args.wanted) (types_of e) c.args.fields.now
+      c.args.arm.now ≡ Sound (locals_of c.bind_each.new.self) = rw c.deref.ensures.value at c.in_ok-bind_each.ensures.found in
+      let ok = c.args.arm.now.fields.ok in
+      let count : length c.args.arm.now.fields.items ≡ length c.args.fields.now = cc in
+      rw c.close.ensures.types
+      (arm_finds (scope_of e) (locals_of e) (want_of (types_of e) c.args.wanted) (types_of e) c.args.fields.now c.args.arm.now count
+      (types_of c.body.new.self) (locals_of c.bind_each.new.self) (Ok c.in_ok-body.body) names
+      (rw (c.in_ok-bind_each.ensures.types, c.in_ok-bind_each.ensures.scope) at c.in_ok-body.ensures.found));
+  inside = rw c.close.ensures.types c.in_ok-body.ensures.inside;
+  literals = subst (λ (a : ArmSyntax). HasGoodLiterals a.body) (sym (arm-parts c.args.arm.now)) c.in_ok-body.ensures.literals;
+}
 
 -- the body of an arm
-pub body-returns-in_err-term-in-Some-clause-found : goal.body-returns-in_err-term-in-Some-clause-found
-body-returns-in_err-term-in-Some-clause-found t c =
-    let p = err_from_is_err_and c.from_residual.result c.from_residual.ensures.1 in
-    rw c.in-Some.is
-    (fault_first (types_of c.part.new.self) _ boxed_of typed_of
-    (wanted (place_of (expression_of c.args.tree.now)) (type_at (types_of c.args.self.now) c.in-Some.ty) (found_in c.args.self.now c.args.tree.now))
-    (λ e. Sound (record { expression = e; of_type = type_at (types_of c.args.self.now) c.in-Some.ty })) _ _ (p.1 ∙ ap Err p.2)
-    c.in_err-term-in-Some.ensures.found)
+pub body-returns-in_err-term-in-Some : goal.body-returns-in_err-term-in-Some
+body-returns-in_err-term-in-Some t c =
+    let r = c.from_residual.result in
+    let e = c.from_residual.ensures.1 in
+    record {
+      keeps = no_value _ _ r e;
+      found = let p = err_from_is_err_and r e in
+          rw c.in-Some.is
+          (fault_first (types_of c.part.new.self) _ boxed_of typed_of
+          (wanted (place_of (expression_of c.args.tree.now)) (type_at (types_of c.args.self.now) c.in-Some.ty) (found_in c.args.self.now c.args.tree.now))
+          (λ e. Sound (record { expression = e; of_type = type_at (types_of c.args.self.now) c.in-Some.ty })) _ _ (p.1 ∙ ap Err p.2)
+          c.in_err-term-in-Some.ensures.found);
+      inside = no_value _ _ r e;
+      literals = no_value _ _ r e;
+    }
 
-pub body-returns-in_ok-term-in-Some-clause-found : goal.body-returns-in_ok-term-in-Some-clause-found
-body-returns-in_ok-term-in-Some-clause-found t c =
-    let inside : c.in-Some.ty.0 < length (types_of c.args.self.now) = rw c.in-Some.is at c.requires in
-    rw c.in-Some.is
-    (body_shows (types_of c.args.self.now) (types_of c.part.new.self) c.in-Some.ty (place_of (expression_of c.args.tree.now))
-    (found_in c.args.self.now c.args.tree.now) c.in_ok-term-in-Some.term c.in_ok-term-in-Some.ensures.keeps.grows inside
-    c.in_ok-term-in-Some.ensures.found)
+pub body-returns-in_ok-term-in-Some : goal.body-returns-in_ok-term-in-Some
+body-returns-in_ok-term-in-Some t c = record {
+  keeps = c.in_ok-term-in-Some.ensures.keeps;
+  found = let inside : c.in-Some.ty.0 < length (types_of c.args.self.now) = rw c.in-Some.is at c.requires in
+      rw c.in-Some.is
+      (body_shows (types_of c.args.self.now) (types_of c.part.new.self) c.in-Some.ty (place_of (expression_of c.args.tree.now))
+      (found_in c.args.self.now c.args.tree.now) c.in_ok-term-in-Some.term c.in_ok-term-in-Some.ensures.keeps.grows inside
+      c.in_ok-term-in-Some.ensures.found);
+  inside = let inside : c.in-Some.ty.0 < length (types_of c.args.self.now) = rw c.in-Some.is at c.requires in
+      let longer = grows_length (types_of c.args.self.now) (types_of c.part.new.self) c.in_ok-term-in-Some.ensures.keeps.grows in
+      omega (arith, inside, longer);
+  literals = c.in_ok-term-in-Some.ensures.literals;
+}
 
-pub body-returns-in-None-clause-found : goal.body-returns-in-None-clause-found
-body-returns-in-None-clause-found t c = rw c.in-None.is c.term.ensures.found
+pub body-returns-in-None : goal.body-returns-in-None
+body-returns-in-None t c = record {
+  keeps = c.term.ensures.keeps;
+  found = rw c.in-None.is c.term.ensures.found;
+  inside = c.term.ensures.inside;
+  literals = c.term.ensures.literals;
+}
