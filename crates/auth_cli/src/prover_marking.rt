@@ -10,7 +10,7 @@ use core_terms::{Digest, Hash32, TyId};
 use digest_layer::Sha;
 use shallow_codec::spell;
 use std::alloc::{AllocError, Global};
-use value_store::{Held, Marker, Ref, Store};
+use value_store::{Held, Marker, Nodes, Ref, Store};
 
 /// Makes the prover's nodes: each authenticated value is held with the SHA-256 digest of the spelling of its projection.
 #[derive(Drop)]

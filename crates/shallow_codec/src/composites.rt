@@ -4,24 +4,24 @@ ghost use Rattle.shallow_codec.specs.PutValues.{ConIsRead, PairIsRead};
 ghost use Rattle.value_store.specs.CodeNodes.{numbers_of};
 ghost use Rattle.value_store.specs.Nodes.{ConNode, FormFits, PairNode, refers_below};
 ghost use Rattle.value_store.specs.Standing.{Grows};
-ghost use Rattle.value_store.specs.Stores.{nodes_in};
 
 use crate::UnspellFault;
 use crate::reader::{Front, Fronts};
 use core_terms::language::{NamedId, Tag};
-use value_store::Store;
+use value_store::Nodes;
 
 /// The pair of two values that were read one after the other.
-pub(crate) fn put_parts<'a>(
-    store: &mut Store,
+pub(crate) fn put_parts<'a, N: Nodes>(
+    store: &mut N,
     first: Front<'a>,
     second: Front<'a>,
 ) -> Result<Front<'a>, UnspellFault>
-    requires first { first.value.0 < length (nodes_in store.old) }
-    requires second { second.value.0 < length (nodes_in store.old) }
-    requires fits { FormFits (nodes_in store.old) (PairNode first.value.0 second.value.0) }
-    ensures read { PairIsRead (nodes_in store.old) (nodes_in store.new) first.entry second.entry result }
-    ensures grows { Grows (nodes_in store.old) (nodes_in store.new) }
+    requires first { first.value.0 < length (N.nodes store.old) }
+    requires second { second.value.0 < length (N.nodes store.old) }
+    requires fits { FormFits (N.nodes store.old) (PairNode first.value.0 second.value.0) }
+    ensures read { PairIsRead (N.nodes store.old) (N.nodes store.new) first.entry second.entry result }
+    ensures grows { Grows (N.nodes store.old) (N.nodes store.new) }
+    ensures lent { N.lent store.new ≡ N.lent store.old }
 {
     let value = store.put_pair(first.value, second.value)?;
     Ok(Front {
@@ -31,16 +31,17 @@ pub(crate) fn put_parts<'a>(
 }
 
 /// The constructor with this tag, of fields that were read one after another.
-pub(crate) fn put_fields<'a>(
-    store: &mut Store,
+pub(crate) fn put_fields<'a, N: Nodes>(
+    store: &mut N,
     named: NamedId,
     tag: Tag,
     fields: Fronts<'a>,
 ) -> Result<Front<'a>, UnspellFault>
-    requires fields { refers_below (length (nodes_in store.old)) (ConNode named.0 tag.0 (numbers_of fields.values.items)) ≡ true }
-    requires fits { FormFits (nodes_in store.old) (ConNode named.0 tag.0 (numbers_of fields.values.items)) }
-    ensures read { ConIsRead (nodes_in store.old) (nodes_in store.new) named.0 tag.0 fields.entry result }
-    ensures grows { Grows (nodes_in store.old) (nodes_in store.new) }
+    requires fields { refers_below (length (N.nodes store.old)) (ConNode named.0 tag.0 (numbers_of fields.values.items)) ≡ true }
+    requires fits { FormFits (N.nodes store.old) (ConNode named.0 tag.0 (numbers_of fields.values.items)) }
+    ensures read { ConIsRead (N.nodes store.old) (N.nodes store.new) named.0 tag.0 fields.entry result }
+    ensures grows { Grows (N.nodes store.old) (N.nodes store.new) }
+    ensures lent { N.lent store.new ≡ N.lent store.old }
 {
     let value = store.put_constructor(named, tag, &fields.values)?;
     Ok(Front {

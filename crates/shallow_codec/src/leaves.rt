@@ -6,27 +6,34 @@ ghost use Rattle.shallow_codec.specs.KnownNothings.{IsNothingAt};
 ghost use Rattle.shallow_codec.specs.PutValues.{IsRead};
 ghost use Rattle.value_store.specs.Nodes.{size_limit};
 ghost use Rattle.value_store.specs.Standing.{Grows};
-ghost use Rattle.value_store.specs.Stores.{nodes_in};
 
 use crate::UnspellFault;
 use crate::cursor::Cursor;
 use crate::reader::Front;
-use value_store::{Held, Ref, Store};
+use value_store::{Held, Nodes, Ref};
 
 /// The value of `unit`, which is spelled by nothing.
-pub(crate) fn put_unit<'a>(store: &mut Store, at: Cursor<'a>) -> Result<Front<'a>, UnspellFault>
-    ensures read { (types : Table) (levels : ℕ) → IsRead types (nodes_in store.new) (suc levels) UnitTy at.entry (meant.read_value types (suc levels) UnitTy at.entry.rest.now at.entry.offset) result }
-    ensures grows { Grows (nodes_in store.old) (nodes_in store.new) }
+pub(crate) fn put_unit<'a, N: Nodes>(
+    store: &mut N,
+    at: Cursor<'a>,
+) -> Result<Front<'a>, UnspellFault>
+    ensures read { (types : Table) (levels : ℕ) → IsRead types (N.nodes store.new) (suc levels) UnitTy at.entry (meant.read_value types (suc levels) UnitTy at.entry.rest.now at.entry.offset) result }
+    ensures grows { Grows (N.nodes store.old) (N.nodes store.new) }
+    ensures lent { N.lent store.new ≡ N.lent store.old }
 {
     let value = store.put_unit()?;
     Ok(Front { value, behind: at })
 }
 
 /// A bool.
-pub(crate) fn put_bool<'a>(store: &mut Store, at: Cursor<'a>) -> Result<Front<'a>, UnspellFault>
+pub(crate) fn put_bool<'a, N: Nodes>(
+    store: &mut N,
+    at: Cursor<'a>,
+) -> Result<Front<'a>, UnspellFault>
     requires short { at.offset + length at.rest.now ≤ size_limit }
-    ensures read { (types : Table) (levels : ℕ) → IsRead types (nodes_in store.new) (suc levels) BoolTy at.entry (meant.read_value types (suc levels) BoolTy at.entry.rest.now at.entry.offset) result }
-    ensures grows { Grows (nodes_in store.old) (nodes_in store.new) }
+    ensures read { (types : Table) (levels : ℕ) → IsRead types (N.nodes store.new) (suc levels) BoolTy at.entry (meant.read_value types (suc levels) BoolTy at.entry.rest.now at.entry.offset) result }
+    ensures grows { Grows (N.nodes store.old) (N.nodes store.new) }
+    ensures lent { N.lent store.new ≡ N.lent store.old }
 {
     let Some((value, behind)) = at.read_bool() else {
         return Err(at.bad());
@@ -36,10 +43,14 @@ pub(crate) fn put_bool<'a>(store: &mut Store, at: Cursor<'a>) -> Result<Front<'a
 }
 
 /// An int.
-pub(crate) fn put_int<'a>(store: &mut Store, at: Cursor<'a>) -> Result<Front<'a>, UnspellFault>
+pub(crate) fn put_int<'a, N: Nodes>(
+    store: &mut N,
+    at: Cursor<'a>,
+) -> Result<Front<'a>, UnspellFault>
     requires short { at.offset + length at.rest.now ≤ size_limit }
-    ensures read { (types : Table) (levels : ℕ) → IsRead types (nodes_in store.new) (suc levels) IntTy at.entry (meant.read_value types (suc levels) IntTy at.entry.rest.now at.entry.offset) result }
-    ensures grows { Grows (nodes_in store.old) (nodes_in store.new) }
+    ensures read { (types : Table) (levels : ℕ) → IsRead types (N.nodes store.new) (suc levels) IntTy at.entry (meant.read_value types (suc levels) IntTy at.entry.rest.now at.entry.offset) result }
+    ensures grows { Grows (N.nodes store.old) (N.nodes store.new) }
+    ensures lent { N.lent store.new ≡ N.lent store.old }
 {
     let Some((value, behind)) = at.read_int() else {
         return Err(at.bad());
@@ -49,10 +60,14 @@ pub(crate) fn put_int<'a>(store: &mut Store, at: Cursor<'a>) -> Result<Front<'a>
 }
 
 /// A text.
-pub(crate) fn put_text<'a>(store: &mut Store, at: Cursor<'a>) -> Result<Front<'a>, UnspellFault>
+pub(crate) fn put_text<'a, N: Nodes>(
+    store: &mut N,
+    at: Cursor<'a>,
+) -> Result<Front<'a>, UnspellFault>
     requires short { at.offset + length at.rest.now ≤ size_limit }
-    ensures read { (types : Table) (levels : ℕ) → IsRead types (nodes_in store.new) (suc levels) TextTy at.entry (meant.read_value types (suc levels) TextTy at.entry.rest.now at.entry.offset) result }
-    ensures grows { Grows (nodes_in store.old) (nodes_in store.new) }
+    ensures read { (types : Table) (levels : ℕ) → IsRead types (N.nodes store.new) (suc levels) TextTy at.entry (meant.read_value types (suc levels) TextTy at.entry.rest.now at.entry.offset) result }
+    ensures grows { Grows (N.nodes store.old) (N.nodes store.new) }
+    ensures lent { N.lent store.new ≡ N.lent store.old }
 {
     let Some((text, behind)) = at.read_text() else {
         return Err(at.bad());
@@ -62,10 +77,14 @@ pub(crate) fn put_text<'a>(store: &mut Store, at: Cursor<'a>) -> Result<Front<'a
 }
 
 /// The digest of an authenticated value.
-pub(crate) fn put_digest<'a>(store: &mut Store, at: Cursor<'a>) -> Result<Front<'a>, UnspellFault>
+pub(crate) fn put_digest<'a, N: Nodes>(
+    store: &mut N,
+    at: Cursor<'a>,
+) -> Result<Front<'a>, UnspellFault>
     requires short { at.offset + length at.rest.now ≤ size_limit }
-    ensures read { (types : Table) (levels : ℕ) (t : Ty) → IsRead types (nodes_in store.new) (suc levels) (AuthTy t) at.entry (meant.read_value types (suc levels) (AuthTy t) at.entry.rest.now at.entry.offset) result }
-    ensures grows { Grows (nodes_in store.old) (nodes_in store.new) }
+    ensures read { (types : Table) (levels : ℕ) (t : Ty) → IsRead types (N.nodes store.new) (suc levels) (AuthTy t) at.entry (meant.read_value types (suc levels) (AuthTy t) at.entry.rest.now at.entry.offset) result }
+    ensures grows { Grows (N.nodes store.old) (N.nodes store.new) }
+    ensures lent { N.lent store.new ≡ N.lent store.old }
 {
     let Some((digest, behind)) = at.read_digest() else {
         return Err(at.bad());
@@ -75,15 +94,15 @@ pub(crate) fn put_digest<'a>(store: &mut Store, at: Cursor<'a>) -> Result<Front<
 }
 
 /// A value that is spelled by nothing and stands in the store. It needs as many levels as it has.
-pub(crate) fn known_nothing<'a>(
-    store: &Store,
+pub(crate) fn known_nothing<'a, N: Nodes>(
+    store: &N,
     value: Ref,
     levels: u32,
     at: Cursor<'a>,
 ) -> Result<Front<'a>, UnspellFault>
-    requires { value.0 < length (nodes_in store.now) }
-    ensures { (types : Table) (t : Ty) → IsNothingAt types (nodes_in store.now) t value.0
-        → IsRead types (nodes_in store.now) levels t at.entry (meant.read_value types levels t at.entry.rest.now at.entry.offset) result }
+    requires { value.0 < length (N.nodes store.now) }
+    ensures { (types : Table) (t : Ty) → IsNothingAt types (N.nodes store.now) t value.0
+        → IsRead types (N.nodes store.now) levels t at.entry (meant.read_value types levels t at.entry.rest.now at.entry.offset) result }
 {
     if store.shallow_depth(value) > levels {
         return Err(at.bad());

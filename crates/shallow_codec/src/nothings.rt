@@ -5,12 +5,11 @@ ghost use Rattle.core_terms.specs.TypeTables.{type_at};
 ghost use Rattle.core_terms.specs.Values.{Value};
 ghost use Rattle.shallow_codec.specs.PutNodes.{IsThere};
 ghost use Rattle.value_store.specs.Nodes.{size_at};
-ghost use Rattle.value_store.specs.Stores.{nodes_in};
 
 use core_terms::TyId;
 use std::alloc::{AllocError, Global};
 use std::collections::HashMap;
-use value_store::{Ref, Store};
+use value_store::{Nodes, Ref};
 
 /// The values that are spelled by nothing and were put so far, by the numbers of their types. A type has at most one such value, so each
 /// is put once, however often it is a part.
@@ -39,12 +38,12 @@ impl Nothings {
     }
 
     /// Keeps a value of a type if it is spelled by nothing.
-    pub fn note(&mut self, store: &Store, ty: TyId, value: Ref) -> Result<(), AllocError>
-        requires { value.0 < length (nodes_in store.now) }
-        ensures kept { OnOk result (size_at (nodes_in store.now) value.0 ≡ 0 → known self.new ty.0 ≡ Some value) }
+    pub fn note<N: Nodes>(&mut self, store: &N, ty: TyId, value: Ref) -> Result<(), AllocError>
+        requires { value.0 < length (N.nodes store.now) }
+        ensures kept { OnOk result (size_at (N.nodes store.now) value.0 ≡ 0 → known self.new ty.0 ≡ Some value) }
         ensures known { IfOk result
-            (λ _. (types : Table) (tys : List Ty) (v : Value) → AreKnown types tys (nodes_in store.now) self.old
-            → IsThere types (nodes_in store.now) value.0 (type_at tys ty) v → AreKnown types tys (nodes_in store.now) self.new) }
+            (λ _. (types : Table) (tys : List Ty) (v : Value) → AreKnown types tys (N.nodes store.now) self.old
+            → IsThere types (N.nodes store.now) value.0 (type_at tys ty) v → AreKnown types tys (N.nodes store.now) self.new) }
     {
         if store.shallow_size(value) > 0 {
             return Ok(());

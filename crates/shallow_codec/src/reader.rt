@@ -9,7 +9,6 @@ ghost use Rattle.shallow_codec.specs.ProgramTypes.{table, ty_of, tys_of};
 ghost use Rattle.shallow_codec.specs.PutValues.{AreRead, IsRead};
 ghost use Rattle.value_store.specs.Nodes.{size_limit};
 ghost use Rattle.value_store.specs.Standing.{Grows};
-ghost use Rattle.value_store.specs.Stores.{nodes_in};
 
 use crate::UnspellFault;
 use crate::composites::{put_fields, put_parts};
@@ -20,7 +19,7 @@ use crate::nothings::Nothings;
 use core_terms::TyId;
 use core_terms::language::{NamedId, Program, Tag, TyForm};
 use std::alloc::Global;
-use value_store::{Ref, Store};
+use value_store::{Nodes, Ref};
 
 /// A value that was read and put into a store, and the place behind it.
 #[derive(Clone, Copy)]
@@ -47,9 +46,9 @@ pub(crate) struct Reader<'p> {
 impl Reader<'_> {
     /// The value of a type.
     #[cycle(values)]
-    pub fn value<'a>(
+    pub fn value<'a, N: Nodes>(
         &self,
-        store: &mut Store,
+        store: &mut N,
         nothings: &mut Nothings,
         ty: TyId,
         levels: u32,
@@ -57,11 +56,12 @@ impl Reader<'_> {
     ) -> Result<Front<'a>, UnspellFault>
         requires short { at.offset + length at.rest.now ≤ size_limit }
         requires levels { levels ≤ depth_limit }
-        requires known { AreKnown (table self.now.program.now) (types_of self.now.program.now) (nodes_in store.old) nothings.old }
-        ensures read { IsRead (table self.now.program.now) (nodes_in store.new) levels (ty_of self.now.program.now ty) at.entry
+        requires known { AreKnown (table self.now.program.now) (types_of self.now.program.now) (N.nodes store.old) nothings.old }
+        ensures read { IsRead (table self.now.program.now) (N.nodes store.new) levels (ty_of self.now.program.now ty) at.entry
             (meant.read_value (table self.now.program.now) levels (ty_of self.now.program.now ty) at.entry.rest.now at.entry.offset) result }
-        ensures known { IfOk result (λ _. AreKnown (table self.now.program.now) (types_of self.now.program.now) (nodes_in store.new) nothings.new) }
-        ensures grows { Grows (nodes_in store.old) (nodes_in store.new) }
+        ensures known { IfOk result (λ _. AreKnown (table self.now.program.now) (types_of self.now.program.now) (N.nodes store.new) nothings.new) }
+        ensures grows { Grows (N.nodes store.old) (N.nodes store.new) }
+        ensures lent { N.lent store.new ≡ N.lent store.old }
     {
         if levels == 0 {
             return Err(at.bad());
@@ -82,9 +82,9 @@ impl Reader<'_> {
     /// The pair of a type, whose parts have these types and at most so many levels. One that is spelled by nothing is read once for its
     /// type.
     #[cycle(values)]
-    fn pair<'a>(
+    fn pair<'a, N: Nodes>(
         &self,
-        store: &mut Store,
+        store: &mut N,
         nothings: &mut Nothings,
         ty: TyId,
         parts: (TyId, TyId),
@@ -94,11 +94,12 @@ impl Reader<'_> {
         requires short { at.offset + length at.rest.now ≤ size_limit }
         requires levels { levels < depth_limit }
         requires ty { ty_of self.now.program.now ty ≡ PairTy (ty_of self.now.program.now parts.0) (ty_of self.now.program.now parts.1) }
-        requires known { AreKnown (table self.now.program.now) (types_of self.now.program.now) (nodes_in store.old) nothings.old }
-        ensures read { IsRead (table self.now.program.now) (nodes_in store.new) (suc levels) (ty_of self.now.program.now ty) at.entry
+        requires known { AreKnown (table self.now.program.now) (types_of self.now.program.now) (N.nodes store.old) nothings.old }
+        ensures read { IsRead (table self.now.program.now) (N.nodes store.new) (suc levels) (ty_of self.now.program.now ty) at.entry
             (meant.read_value (table self.now.program.now) (suc levels) (ty_of self.now.program.now ty) at.entry.rest.now at.entry.offset) result }
-        ensures known { IfOk result (λ _. AreKnown (table self.now.program.now) (types_of self.now.program.now) (nodes_in store.new) nothings.new) }
-        ensures grows { Grows (nodes_in store.old) (nodes_in store.new) }
+        ensures known { IfOk result (λ _. AreKnown (table self.now.program.now) (types_of self.now.program.now) (N.nodes store.new) nothings.new) }
+        ensures grows { Grows (N.nodes store.old) (N.nodes store.new) }
+        ensures lent { N.lent store.new ≡ N.lent store.old }
     {
         if let Some(value) = nothings.get(ty) {
             return known_nothing(store, value, levels + 1, at);
@@ -110,9 +111,9 @@ impl Reader<'_> {
 
     /// A pair, by its parts: the first and then the second.
     #[cycle(values)]
-    fn parts<'a>(
+    fn parts<'a, N: Nodes>(
         &self,
-        store: &mut Store,
+        store: &mut N,
         nothings: &mut Nothings,
         parts: (TyId, TyId),
         levels: u32,
@@ -120,11 +121,12 @@ impl Reader<'_> {
     ) -> Result<Front<'a>, UnspellFault>
         requires short { at.offset + length at.rest.now ≤ size_limit }
         requires levels { levels < depth_limit }
-        requires known { AreKnown (table self.now.program.now) (types_of self.now.program.now) (nodes_in store.old) nothings.old }
-        ensures read { IsRead (table self.now.program.now) (nodes_in store.new) (suc levels) (PairTy (ty_of self.now.program.now parts.0) (ty_of self.now.program.now parts.1)) at.entry
+        requires known { AreKnown (table self.now.program.now) (types_of self.now.program.now) (N.nodes store.old) nothings.old }
+        ensures read { IsRead (table self.now.program.now) (N.nodes store.new) (suc levels) (PairTy (ty_of self.now.program.now parts.0) (ty_of self.now.program.now parts.1)) at.entry
             (meant.read_value (table self.now.program.now) (suc levels) (PairTy (ty_of self.now.program.now parts.0) (ty_of self.now.program.now parts.1)) at.entry.rest.now at.entry.offset) result }
-        ensures known { IfOk result (λ _. AreKnown (table self.now.program.now) (types_of self.now.program.now) (nodes_in store.new) nothings.new) }
-        ensures grows { Grows (nodes_in store.old) (nodes_in store.new) }
+        ensures known { IfOk result (λ _. AreKnown (table self.now.program.now) (types_of self.now.program.now) (N.nodes store.new) nothings.new) }
+        ensures grows { Grows (N.nodes store.old) (N.nodes store.new) }
+        ensures lent { N.lent store.new ≡ N.lent store.old }
     {
         let first = self.value(store, nothings, parts.0, levels, at)?;
         let second = self.value(store, nothings, parts.1, levels, first.behind)?;
@@ -133,9 +135,9 @@ impl Reader<'_> {
 
     /// A value of a named type: its tag, and then the fields of its constructor, which have at most so many levels.
     #[cycle(values)]
-    fn constructor<'a>(
+    fn constructor<'a, N: Nodes>(
         &self,
-        store: &mut Store,
+        store: &mut N,
         nothings: &mut Nothings,
         named: NamedId,
         levels: u32,
@@ -143,11 +145,12 @@ impl Reader<'_> {
     ) -> Result<Front<'a>, UnspellFault>
         requires short { at.offset + length at.rest.now ≤ size_limit }
         requires levels { levels < depth_limit }
-        requires known { AreKnown (table self.now.program.now) (types_of self.now.program.now) (nodes_in store.old) nothings.old }
-        ensures read { IsRead (table self.now.program.now) (nodes_in store.new) (suc levels) (NamedTy named.0) at.entry
+        requires known { AreKnown (table self.now.program.now) (types_of self.now.program.now) (N.nodes store.old) nothings.old }
+        ensures read { IsRead (table self.now.program.now) (N.nodes store.new) (suc levels) (NamedTy named.0) at.entry
             (meant.read_value (table self.now.program.now) (suc levels) (NamedTy named.0) at.entry.rest.now at.entry.offset) result }
-        ensures known { IfOk result (λ _. AreKnown (table self.now.program.now) (types_of self.now.program.now) (nodes_in store.new) nothings.new) }
-        ensures grows { Grows (nodes_in store.old) (nodes_in store.new) }
+        ensures known { IfOk result (λ _. AreKnown (table self.now.program.now) (types_of self.now.program.now) (N.nodes store.new) nothings.new) }
+        ensures grows { Grows (N.nodes store.old) (N.nodes store.new) }
+        ensures lent { N.lent store.new ≡ N.lent store.old }
     {
         let Some((tag, behind)) = at.read_tag() else {
             return Err(at.bad());
@@ -161,9 +164,9 @@ impl Reader<'_> {
 
     /// Values of these types, one after another.
     #[cycle(values)]
-    fn fields<'a>(
+    fn fields<'a, N: Nodes>(
         &self,
-        store: &mut Store,
+        store: &mut N,
         nothings: &mut Nothings,
         types: &[TyId],
         levels: u32,
@@ -171,11 +174,12 @@ impl Reader<'_> {
     ) -> Result<Fronts<'a>, UnspellFault>
         requires short { at.offset + length at.rest.now ≤ size_limit }
         requires levels { levels < depth_limit }
-        requires known { AreKnown (table self.now.program.now) (types_of self.now.program.now) (nodes_in store.old) nothings.old }
-        ensures read { AreRead (table self.now.program.now) (nodes_in store.new) levels (tys_of self.now.program.now types.now) at.entry
+        requires known { AreKnown (table self.now.program.now) (types_of self.now.program.now) (N.nodes store.old) nothings.old }
+        ensures read { AreRead (table self.now.program.now) (N.nodes store.new) levels (tys_of self.now.program.now types.now) at.entry
             (meant.read_each (meant.read_value (table self.now.program.now) levels) (tys_of self.now.program.now types.now) at.entry.rest.now at.entry.offset) result }
-        ensures known { IfOk result (λ _. AreKnown (table self.now.program.now) (types_of self.now.program.now) (nodes_in store.new) nothings.new) }
-        ensures grows { Grows (nodes_in store.old) (nodes_in store.new) }
+        ensures known { IfOk result (λ _. AreKnown (table self.now.program.now) (types_of self.now.program.now) (N.nodes store.new) nothings.new) }
+        ensures grows { Grows (N.nodes store.old) (N.nodes store.new) }
+        ensures lent { N.lent store.new ≡ N.lent store.old }
     {
         let mut values = Vec::new(self.alloc);
         let mut behind = at;

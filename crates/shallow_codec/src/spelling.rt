@@ -9,29 +9,28 @@ ghost use Rattle.core_terms.specs.Values.{Value};
 ghost use Rattle.shallow_codec.specs.ProgramTypes.{table, ty_of};
 ghost use Rattle.shallow_codec.specs.Spelled.{IsShown, IsSpelledBehind};
 ghost use Rattle.value_store.specs.Standing.{ProverNodes, StandsFor, VerifierNodes};
-ghost use Rattle.value_store.specs.Stores.{nodes_in};
 
 use core_terms::language::Program;
 use core_terms::{Spelling, TyId};
 use std::alloc::{AllocError, Global};
-use value_store::{Held, Ref, Store, View};
+use value_store::{Held, Nodes, Ref, View};
 
 /// The spelling of the shallow value of a type that the node stands for, in memory of its own: each of its authenticated parts carries a
 /// digest, and what else it holds is not looked at. So of a prover's node it is the spelling of the value's projection. Takes time in
 /// proportion to the parts whose spelling has a byte.
-pub fn spell(
+pub fn spell<N: Nodes>(
     alloc: Global,
     program: &Program,
-    store: &Store,
+    store: &N,
     r: Ref,
     ty: TyId,
 ) -> Result<Spelling, AllocError>
-    requires { (v : Value) × StandsFor VerifierNodes (table program.now) (nodes_in store.now) r.0 (ty_of program.now ty) v }
+    requires { (v : Value) × StandsFor VerifierNodes (table program.now) (N.nodes store.now) r.0 (ty_of program.now ty) v }
     ensures spelling { IfOk result
-        (λ bytes. (v : Value) → StandsFor VerifierNodes (table program.now) (nodes_in store.now) r.0 (ty_of program.now ty) v → bytes ≡ spelling v) }
+        (λ bytes. (v : Value) → StandsFor VerifierNodes (table program.now) (N.nodes store.now) r.0 (ty_of program.now ty) v → bytes ≡ spelling v) }
     ensures projected { IfOk result
         (λ bytes. (hash : Hash) (v : Value) → IsHash hash
-        → StandsFor (ProverNodes (digest_at hash (meaning program.now))) (table program.now) (nodes_in store.now) r.0 (ty_of program.now ty) v
+        → StandsFor (ProverNodes (digest_at hash (meaning program.now))) (table program.now) (N.nodes store.now) r.0 (ty_of program.now ty) v
         → bytes ≡ spelling (projection hash (meaning program.now) (ty_of program.now ty) v)) }
 {
     let mut bytes = Vec::with_capacity(alloc, store.shallow_size(r) as usize)?;
@@ -41,9 +40,9 @@ pub fn spell(
 
 /// Writes the spelling of what the node stands for behind the bytes. What is spelled by nothing is passed over at once, however many
 /// units it has.
-fn write(store: &Store, r: Ref, bytes: &mut Vec<u8>) -> Result<(), AllocError>
-    requires { IsShown (nodes_in store.now) r.0 }
-    ensures { IfOk result (λ _. IsSpelledBehind (nodes_in store.now) r.0 bytes.old.items bytes.new.items) }
+fn write<N: Nodes>(store: &N, r: Ref, bytes: &mut Vec<u8>) -> Result<(), AllocError>
+    requires { IsShown (N.nodes store.now) r.0 }
+    ensures { IfOk result (λ _. IsSpelledBehind (N.nodes store.now) r.0 bytes.old.items bytes.new.items) }
 {
     if store.shallow_size(r) == 0 {
         return Ok(());

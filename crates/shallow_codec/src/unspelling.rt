@@ -5,7 +5,6 @@ ghost use Rattle.core_terms.specs.Projection.{read_at};
 ghost use Rattle.shallow_codec.specs.ProgramTypes.{table, ty_of};
 ghost use Rattle.shallow_codec.specs.Unspelled.{IsUnspelled, StandsForSpelled};
 ghost use Rattle.value_store.specs.Standing.{Grows, Keeps};
-ghost use Rattle.value_store.specs.Stores.{nodes_in};
 
 use crate::UnspellFault;
 use crate::cursor::Cursor;
@@ -14,7 +13,7 @@ use crate::reader::Reader;
 use core_terms::TyId;
 use core_terms::language::Program;
 use std::alloc::Global;
-use value_store::{Ref, Store};
+use value_store::{Nodes, Ref};
 
 /// The greatest number of levels of a value: `depth_limit` of the formats.
 const DEPTH_LIMIT: u32 = 512;
@@ -26,18 +25,19 @@ const DEPTH_LIMIT: u32 = 512;
 ///
 /// `Bad` where the bytes spell nothing at the type, with the offset of the first fault. `NoMemory` where there is no memory for the
 /// nodes.
-pub fn unspell(
+pub fn unspell<N: Nodes>(
     alloc: Global,
     program: &Program,
-    store: &mut Store,
+    store: &mut N,
     bytes: &[u8],
     ty: TyId,
 ) -> Result<Ref, UnspellFault>
-    ensures value { IsUnspelled (table program.now) (nodes_in store.new) (ty_of program.now ty) (read_at (meaning program.now) (ty_of program.now ty) bytes.now) result }
-    ensures spelled { IfOk result (StandsForSpelled (table program.now) (nodes_in store.new) (ty_of program.now ty) bytes.now) }
-    ensures grows { Grows (nodes_in store.old) (nodes_in store.new) }
-    ensures keeps { Keeps (nodes_in store.old) (nodes_in store.new) }
-    ensures refused { OnErr result (nodes_in store.new ≡ nodes_in store.old) }
+    ensures value { IsUnspelled (table program.now) (N.nodes store.new) (ty_of program.now ty) (read_at (meaning program.now) (ty_of program.now ty) bytes.now) result }
+    ensures spelled { IfOk result (StandsForSpelled (table program.now) (N.nodes store.new) (ty_of program.now ty) bytes.now) }
+    ensures grows { Grows (N.nodes store.old) (N.nodes store.new) }
+    ensures lent { N.lent store.new ≡ N.lent store.old }
+    ensures keeps { Keeps (N.nodes store.old) (N.nodes store.new) }
+    ensures refused { OnErr result (N.nodes store.new ≡ N.nodes store.old) }
 {
     let mark = store.mark();
     let result = read_whole(alloc, program, store, bytes, ty);
@@ -48,15 +48,16 @@ pub fn unspell(
 }
 
 /// Puts the value that the bytes spell as a whole. After an error nodes may stand behind the others.
-fn read_whole(
+fn read_whole<N: Nodes>(
     alloc: Global,
     program: &Program,
-    store: &mut Store,
+    store: &mut N,
     bytes: &[u8],
     ty: TyId,
 ) -> Result<Ref, UnspellFault>
-    ensures value { IsUnspelled (table program.now) (nodes_in store.new) (ty_of program.now ty) (read_at (meaning program.now) (ty_of program.now ty) bytes.now) result }
-    ensures grows { Grows (nodes_in store.old) (nodes_in store.new) }
+    ensures value { IsUnspelled (table program.now) (N.nodes store.new) (ty_of program.now ty) (read_at (meaning program.now) (ty_of program.now ty) bytes.now) result }
+    ensures grows { Grows (N.nodes store.old) (N.nodes store.new) }
+    ensures lent { N.lent store.new ≡ N.lent store.old }
 {
     let limit = program.spelling_limit();
     if bytes.len() > limit {

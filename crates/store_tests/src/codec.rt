@@ -9,7 +9,7 @@ use core_terms::language::{Program, TyForm, TyTable};
 use shallow_codec::{UnspellFault, spell, unspell};
 use std::alloc::{AllocError, Global};
 use std::test::Fail;
-use value_store::Store;
+use value_store::{Nodes, Store};
 
 /// The offset at which the bytes are refused, where the store is as before; none where they are read, and spelled as they are.
 ///

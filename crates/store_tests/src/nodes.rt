@@ -4,7 +4,7 @@ use core_terms::language::{NamedId, Tag};
 use std::alloc::AllocError;
 use std::process::Abort;
 use std::test::Fail;
-use value_store::{Held, Ref, Store, View};
+use value_store::{Held, Nodes, Ref, Store, View};
 
 /// Puts a pair that is within the limits.
 fn pair_of(rt: &impl Abort, store: &mut Store, first: Ref, second: Ref) -> Result<Ref, AllocError> {

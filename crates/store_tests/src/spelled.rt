@@ -10,7 +10,7 @@ use core_terms::{Digest, TyId};
 use shallow_codec::spell;
 use std::alloc::{AllocError, Global};
 use std::test::Fail;
-use value_store::{Held, Store};
+use value_store::{Held, Nodes, Store};
 
 /// A program without functions and named types.
 pub fn of_types(alloc: Global, types: TyTable, state: TyId) -> Result<Program, AllocError>

@@ -7,7 +7,7 @@ use core_terms::language::Program;
 use core_terms::{Digest, TyId};
 use std::alloc::{AllocError, Global};
 use stored_images::{ImageFault, load_image, save_image};
-use value_store::{Held, Marker, Ref, Store};
+use value_store::{Held, Marker, Nodes, Ref, Store};
 
 /// The longest text of a program, in bytes.
 const MAX_PROGRAM: usize = 262_144;

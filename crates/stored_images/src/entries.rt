@@ -15,13 +15,13 @@ ghost use Rattle.stored_images.specs.declared.record.Record.{Record};
 ghost use Rattle.stored_images.specs.StoredRecords.{AreStored, IsLoaded};
 
 use crate::ImageFault;
-use crate::fields::{depths_fit, earlier, field_refs, sizes_fit};
+use crate::fields::{earlier, field_refs};
 use crate::part_types::PartTypes;
 use crate::record::ConstructorRecord;
 use crate::stored::StoredRecord;
 use core_terms::language::TyForm;
 use std::alloc::Global;
-use value_store::{Marker, Store};
+use value_store::{Marker, Nodes, Store};
 
 /// The number of bytes in which the spelling of a text has its length.
 const LENGTH_BYTES: usize = 4;
@@ -189,10 +189,10 @@ pub(crate) fn constructor(
         return Err(ImageFault::BadRecord(number));
     };
     let fields = refs.as_slice();
-    if !sizes_fit(store, fields, types.size_limit() - 1) {
+    if !store.sizes_fit(fields, types.size_limit() - 1) {
         return Err(ImageFault::TooBig(number));
     }
-    if !depths_fit(store, fields, MOST_DEPTH - 1) {
+    if !store.depths_fit(fields, MOST_DEPTH - 1) {
         return Err(ImageFault::TooDeep(number));
     }
     let value = store.put_constructor(found.named, found.tag, fields)?;

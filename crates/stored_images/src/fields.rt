@@ -1,16 +1,12 @@
 // The fields of a constructor value, as nodes of the store.
-ghost use Rattle.std.specs.Prelude.{◌≡◌, ◌+◌, ◌*◌, true, length, slice_get, nat_eq, nat_lt, nat_le, option_map, IfOk};
-ghost use Rattle.std.specs.List.{list_all};
+ghost use Rattle.std.specs.Prelude.{◌≡◌, ◌*◌, length, slice_get, option_map, IfOk};
 ghost use Rattle.images.specs.Records.{numbers_of};
-ghost use Rattle.value_store.specs.CodeNodes as nodes;
-ghost use Rattle.value_store.specs.Nodes.{greatest_depth, total_size};
-ghost use Rattle.value_store.specs.Stores.{nodes_in};
 ghost use Rattle.stored_images.specs.StoredRecords.{refs_from};
 
 use crate::stored::StoredRecord;
 use core_terms::TyId;
 use std::alloc::{AllocError, Global};
-use value_store::{Ref, Store};
+use value_store::Ref;
 
 /// The record with this number, among those that are loaded.
 pub(crate) fn earlier(loaded: &[StoredRecord], number: u32) -> Option<StoredRecord>
@@ -45,33 +41,4 @@ pub(crate) fn field_refs(
         rest = behind;
     }
     Ok(Some(refs))
-}
-
-/// Whether the sum of the sizes of some nodes is at most `limit`.
-pub(crate) fn sizes_fit(store: &Store, refs: &[Ref], limit: u32) -> bool
-    requires refs { list_all (λ r. nat_lt r (length (nodes_in store.now))) (nodes.numbers_of refs.now) ≡ true }
-    ensures { result ≡ nat_le (total_size (nodes_in store.now) (nodes.numbers_of refs.now)) limit }
-{
-    let mut left = limit;
-    for r in refs {
-        let size = store.shallow_size(*r);
-        if size > left {
-            return false;
-        }
-        left -= size;
-    }
-    true
-}
-
-/// Whether the depth of each of some nodes is at most `limit`.
-pub(crate) fn depths_fit(store: &Store, refs: &[Ref], limit: u32) -> bool
-    requires refs { list_all (λ r. nat_lt r (length (nodes_in store.now))) (nodes.numbers_of refs.now) ≡ true }
-    ensures { result ≡ nat_le (greatest_depth (nodes_in store.now) (nodes.numbers_of refs.now)) limit }
-{
-    for r in refs {
-        if store.shallow_depth(*r) > limit {
-            return false;
-        }
-    }
-    true
 }

@@ -21,7 +21,7 @@ use images::header::{digest_bytes, write_header};
 use record::part;
 use records::Records;
 use std::alloc::{AllocError, Global};
-use value_store::{Ref, Store};
+use value_store::{Nodes, Ref, Store};
 
 /// The image of the state that a node stands for: the distinct parts of the value, each once, in the order in which a walk that visits
 /// parts from left to right before the whole first completes them. The node is read over ideal nodes or the prover's. What is written

@@ -1,5 +1,5 @@
 -- The nodes that the code holds and reads.
-use Rattle.std.proofs.Common.{◌≡◌, ℕ, zero, suc, ◌+◌, ◌<◌, max, true, List, [], ◌∷◌, length, drop, Some, slice_get, slice_index_or, nat_lt, sym, ◌∙◌, ap, subst, arith, ltb-true, drop-cons, add-one}
+use Rattle.std.proofs.Common.{◌≡◌, ℕ, zero, suc, ◌+◌, ◌<◌, max, true, List, [], ◌∷◌, length, drop, Some, None, slice_get, slice_index_or, nat_lt, sym, ◌∙◌, ap, subst, arith, ltb-true, drop-cons, add-one}
 use Rattle.std.proofs.lemmas.List.{length-map}
 use Rattle.std.specs.List.{list_all}
 use Rattle.std.specs.Option.{option_map, option_map_or}
@@ -53,3 +53,15 @@ module _ (nodes : List meant.Node) (refs : List Ref) (i : ℕ) (d : Ref) (below 
       let rest : greatest_depth nodes (numbers_of (drop i refs)) ≡ max (depth_at nodes (slice_index_or refs i d).0) (greatest_depth nodes (numbers_of (drop (i + 1) refs))) =
       ap (greatest_depth nodes) rest_is in
       omega (arith, is, so_far, rest)
+
+-- a number among some that are all below n
+pub number_at : (rs : List ℕ) (n i r : ℕ) → list_all (λ r. nat_lt r n) rs ≡ true → slice_get rs i ≡ Some r → r < n
+number_at [] n i r h e = absurd (none e)
+  where
+    none : None ≡ Some r → ⊥
+    none e = cc
+number_at (x ∷ rs) n zero r h e = subst (λ i. i < n) (one x r e) (ltb-true x n (conjuncts (nat_lt x n) (list_all (λ r. nat_lt r n) rs) h).0)
+  where
+    one : (x r : ℕ) → Some x ≡ Some r → x ≡ r
+    one x r e = cc
+number_at (x ∷ rs) n (suc i) r h e = number_at rs n i r (conjuncts (nat_lt x n) (list_all (λ r. nat_lt r n) rs) h).1 e

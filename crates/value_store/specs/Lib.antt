@@ -4,4 +4,6 @@ pub mod CodeNodes
 pub mod Views
 pub mod Stores
 pub mod Markings
+pub mod Overs
+pub mod Moving
 pub mod Laws

@@ -4,13 +4,18 @@
 //! digested once. `specs/` says which value a node stands for, over ideal nodes, the prover's and the verifier's.
 #![tactic(auto)]
 
+pub mod absorbing;
 pub mod laws;
 pub mod marker;
 pub mod node;
+pub mod nodes;
+pub mod over;
 pub mod store;
 pub mod view;
 
 pub use marker::Marker;
 pub use node::{Held, Ref};
+pub use nodes::Nodes;
+pub use over::{Over, Own};
 pub use store::{Mark, Store};
 pub use view::View;

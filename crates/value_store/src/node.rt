@@ -20,7 +20,7 @@ pub enum Held {
 
 /// The form of a node, with the numbers of its parts.
 #[derive(Drop)]
-pub(crate) enum Form {
+pub enum Form {
     UnitNode,
     BoolNode(bool),
     IntNode(i64),
@@ -32,7 +32,7 @@ pub(crate) enum Form {
 
 /// A node, with the shallow size and depth of the value that it stands for.
 #[derive(Drop)]
-pub(crate) struct Node {
+pub struct Node {
     pub form: Form,
     pub size: u32,
     pub depth: u32,
