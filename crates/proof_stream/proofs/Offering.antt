@@ -24,9 +24,10 @@ module _ (limit : ℕ) (rest : List ℕ) where
       let fewer : length (behind rest) ≤ length rest = omega (arith, length-drop len (drop 4 rest), length-drop 4 rest) in
       let head = le-ltb (length rest) 4 four in
       let short = le-ltb limit len fits in
-      let whole = le-ltb (length rest) (4 + len) long in
-      ( rw (head, short, whole) (ap (Offers (piece_in rest) (length (behind rest))) (frame_bound_is_enough limit (length rest) n recent' (behind rest) fewer))
-      , rw (head, short, whole) (new_piece_bound_is_enough limit (length rest) n recent' (behind rest) fewer) )
+      let whole = le-ltb (length rest) (4 + len) long in (
+        rw (head, short, whole) (ap (Offers (piece_in rest) (length (behind rest))) (frame_bound_is_enough limit (length rest) n recent' (behind rest) fewer)),
+        rw (head, short, whole) (new_piece_bound_is_enough limit (length rest) n recent' (behind rest) fewer),
+      )
 
   pub new_headless : length rest < 4 → OffersNothing limit (0 ∷ rest) IsCut
   new_headless few n recent = let head = lt-ltb (length rest) 4 few in (rw head refl, rw head refl)
@@ -59,11 +60,12 @@ module _ (limit : ℕ) (rest : List ℕ) where
       let k = from_be_bytes w16 (take 2 rest) in
       let whole = le-ltb (length rest) 2 two in
       let fewer : length (drop 2 rest) ≤ length rest = omega (arith, length-drop 2 rest) in
-      let o = slice_get (take n recent) k in
-      ( rw whole (used_alike o k (length (take n recent)) (drop 2 rest) (frames limit (length rest) n recent) (λ rest. offered limit rest n recent)
-        (frame_bound_is_enough limit (length rest) n recent (drop 2 rest) fewer))
-      , rw whole (after_alike o recent (drop 2 rest) (after_within limit (length rest) n) (λ recent rest. after_bytes limit rest n recent)
-        (new_piece_bound_is_enough limit (length rest) n recent (drop 2 rest) fewer)) )
+      let o = slice_get (take n recent) k in (
+        rw whole (used_alike o k (length (take n recent)) (drop 2 rest) (frames limit (length rest) n recent) (λ rest. offered limit rest n recent)
+            (frame_bound_is_enough limit (length rest) n recent (drop 2 rest) fewer)),
+        rw whole (after_alike o recent (drop 2 rest) (after_within limit (length rest) n) (λ recent rest. after_bytes limit rest n recent)
+            (new_piece_bound_is_enough limit (length rest) n recent (drop 2 rest) fewer)),
+      )
 
   pub back_cut : length rest < 2 → OffersNothing limit (1 ∷ rest) IsCut
   back_cut few n recent = let part = lt-ltb (length rest) 2 few in (rw part refl, rw part refl)

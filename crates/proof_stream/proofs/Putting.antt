@@ -9,7 +9,8 @@ pub put_behind : (front back shown before middle now : List ℕ) (result : Resul
     → now ≡ (if is_ok result then middle ++ shown else middle) → Puts (front ++ back) before now result
 put_behind front back shown before middle now (Ok done) first same is =
     is ∙ ap (λ xs. xs ++ shown) first ∙ append_assoc before front shown ∙ ap (λ xs. before ++ (front ++ xs)) same
-put_behind front back shown before middle now (Err e) first same is =
-    ( length front
-    , omega (arith, length-append front back)
-    , is ∙ first ∙ ap (λ xs. before ++ xs) (sym (take-append_seam front back)) )
+put_behind front back shown before middle now (Err e) first same is = (
+  length front,
+  omega (arith, length-append front back),
+  is ∙ first ∙ ap (λ xs. before ++ xs) (sym (take-append_seam front back)),
+)

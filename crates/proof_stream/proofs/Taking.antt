@@ -52,10 +52,11 @@ module _ (limit : ℕ) (rest piece : List ℕ) where
   piece_taken len middle left head came =
       let fits : length_field rest ≤ limit = subst (λ n. n ≤ limit) head.1 head.2 in
       let there : length_field rest ≤ length (drop 4 rest) = subst (λ n. n ≤ length (drop 4 rest)) head.1 came.0 in
-      let is : piece_in rest ≡ piece = sym (came.1 ∙ ap (λ n. take n (drop 4 rest)) head.1) in
-      ( behind rest
-      , subst (λ piece. OffersNew limit (0 ∷ rest) piece (behind rest)) is (new_offered limit rest head.0 fits there)
-      , came.2 ∙ ap (λ n. Some (drop n (drop 4 rest))) head.1 )
+      let is : piece_in rest ≡ piece = sym (came.1 ∙ ap (λ n. take n (drop 4 rest)) head.1) in (
+        behind rest,
+        subst (λ piece. OffersNew limit (0 ∷ rest) piece (behind rest)) is (new_offered limit rest head.0 fits there),
+        came.2 ∙ ap (λ n. Some (drop n (drop 4 rest))) head.1,
+      )
 
   -- the number of a kept piece
   pub number_ends : (left : Option (List ℕ)) (e : FrameEnd) → NumberCame rest left (Err e) → TakesFrame limit (1 ∷ rest) piece left (Err e)

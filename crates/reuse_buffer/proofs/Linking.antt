@@ -49,10 +49,11 @@ first_in_front n bucket place buckets first = record {
 pub linked_front : (count n : ℕ) (ps : List HeldPiece) → AreLinked count ps → AreLinked count (take n ps)
 linked_front count zero ps linked = tt
 linked_front count (suc n) [] linked = tt
-linked_front count (suc n) (p ∷ ps) linked =
-    ( linked.0
-    , subst (IsFirstOf p.bucket p.between) (buckets_front n ps) (first_in_front n p.bucket p.between (buckets_in ps) linked.1)
-    , linked_front count n ps linked.2 )
+linked_front count (suc n) (p ∷ ps) linked = (
+  linked.0,
+  subst (IsFirstOf p.bucket p.between) (buckets_front n ps) (first_in_front n p.bucket p.between (buckets_in ps) linked.1),
+  linked_front count n ps linked.2,
+)
 
 -- a piece that is held stands in its bucket
 pub in_its_bucket : (count k : ℕ) (bytes : List ℕ) (ps : List HeldPiece) → AreLinked count ps → slice_get (bytes_in ps) k ≡ Some bytes
@@ -126,24 +127,24 @@ gone_on count place bytes held ps linked e other come = record { there = there; 
     before : (k : ℕ) → k < place + (held.between + 1) → slice_get (bytes_in ps) k ≢ Some bytes
     before k h =
         elim (cases_lt k place) [
-          inl sooner ↦ come.before k sooner
-        | inr later ↦
-            elim (cases_eq k place) [
-              inl same ↦ subst (λ k. slice_get (bytes_in ps) k ≢ Some bytes) (sym same) here
-            | inr other ↦
-                let j = k - suc place in
-                let e : suc (place + j) ≡ k = omega (arith, later, other) in
-                let within : j < held.between = omega (arith, h, later, other) in
-                subst (λ k. slice_get (bytes_in ps) k ≢ Some bytes) e (behind j within)
-            ]
+          | inl sooner ↦ come.before k sooner
+          | inr later ↦
+              elim (cases_eq k place) [
+                | inl same ↦ subst (λ k. slice_get (bytes_in ps) k ≢ Some bytes) (sym same) here
+                | inr other ↦
+                    let j = k - suc place in
+                    let e : suc (place + j) ≡ k = omega (arith, later, other) in
+                    let within : j < held.between = omega (arith, h, later, other) in
+                    subst (λ k. slice_get (bytes_in ps) k ≢ Some bytes) e (behind j within)
+              ]
         ]
 
 -- no piece has these bytes
 pub all_passed : (bucket place : ℕ) (bytes : List ℕ) (ps : List HeldPiece) → HasCome bucket bytes place ps → length ps ≤ place → (k : ℕ) → slice_get (bytes_in ps) k ≢ Some bytes
 all_passed bucket place bytes ps come past k =
     elim (cases_lt k place) [
-      inl sooner ↦ come.before k sooner
-    | inr later ↦ none_past k bytes (bytes_in ps) (omega (arith, later, past, count_bytes ps))
+      | inl sooner ↦ come.before k sooner
+      | inr later ↦ none_past k bytes (bytes_in ps) (omega (arith, later, past, count_bytes ps))
     ]
 
 -- what a contract sees of the pieces, where one more is pushed
@@ -184,13 +185,14 @@ module _ (count now : ℕ) (newest : List ℕ) (held : HeldPiece) (ps : List Hel
       let soon = led.0 in
       let old = oldest_place count now some in
       let differs : slice_index newest bucket ≢ turn = λ same.
-          let last : suc (place_at count now (slice_index newest bucket)) ≡ count = ap (λ t. suc (place_at count now t)) same ∙ old in
-          absurd (omega (arith, last, soon, short)) in
+      let last : suc (place_at count now (slice_index newest bucket)) ≡ count = ap (λ t. suc (place_at count now t)) same ∙ old in
+      absurd (omega (arith, last, soon, short)) in
       let moved = other_place count now some (slice_index newest bucket) (index.first.turn bucket b) differs in
       let near : suc (place_at count now (slice_index newest bucket)) ≤ suc j = omega (arith, soon) in
-      let within : suc (place_at count now (slice_index newest bucket)) < count = omega (arith, soon, short) in
-      ( subst (λ place. place ≤ suc j) (sym moved) near
-      , ap (slice_get after) moved ∙ of_front count (suc (place_at count now (slice_index newest bucket))) (held.bucket ∷ buckets_in ps) within ∙ led.1 )
+      let within : suc (place_at count now (slice_index newest bucket)) < count = omega (arith, soon, short) in (
+        subst (λ place. place ≤ suc j) (sym moved) near,
+        ap (slice_get after) moved ∙ of_front count (suc (place_at count now (slice_index newest bucket))) (held.bucket ∷ buckets_in ps) within ∙ led.1,
+      )
 
   is_set : slice_index (set newest held.bucket turn) held.bucket ≡ turn
   is_set = get_or-set_same newest held.bucket turn 0 (omega (arith, h, index.each))
@@ -202,15 +204,15 @@ module _ (count now : ℕ) (newest : List ℕ) (held : HeldPiece) (ps : List Hel
   first_of_each = record {
     turn = λ bucket b.
         elim (cases_eq bucket held.bucket) [
-          inl same ↦ subst (λ t. t < count) (sym (ap (slice_index (set newest held.bucket turn)) same ∙ is_set)) (next_within count now some)
-        | inr other ↦ subst (λ t. t < count) (sym (is_kept bucket other)) (index.first.turn bucket b)
+          | inl same ↦ subst (λ t. t < count) (sym (ap (slice_index (set newest held.bucket turn)) same ∙ is_set)) (next_within count now some)
+          | inr other ↦ subst (λ t. t < count) (sym (is_kept bucket other)) (index.first.turn bucket b)
         ];
     leads = λ bucket b.
         elim (cases_eq bucket held.bucket) [
-          inl same ↦
-            subst (λ bucket. LeadsTo count turn (slice_index (set newest held.bucket turn) bucket) bucket after) (sym same)
-            (subst (λ t. LeadsTo count turn t held.bucket after) (sym is_set) its_own)
-        | inr other ↦ subst (λ t. LeadsTo count turn t bucket after) (sym (is_kept bucket other)) (another bucket b other)
+          | inl same ↦
+              subst (λ bucket. LeadsTo count turn (slice_index (set newest held.bucket turn) bucket) bucket after) (sym same)
+              (subst (λ t. LeadsTo count turn t held.bucket after) (sym is_set) its_own)
+          | inr other ↦ subst (λ t. LeadsTo count turn t bucket after) (sym (is_kept bucket other)) (another bucket b other)
         ];
   }
 

@@ -20,22 +20,22 @@ module _ (count now : ℕ) (within : now < count) where
   pub next_within : next_turn count now < count
   next_within =
       elim (cases_lt (now + 1) count) [
-        inl more ↦ subst (λ n. n < count) (sym (next_is count now more)) more
-      | inr last ↦ subst (λ n. n < count) (sym (next_again count now last)) (omega (arith, within))
+        | inl more ↦ subst (λ n. n < count) (sym (next_is count now more)) more
+        | inr last ↦ subst (λ n. n < count) (sym (next_again count now last)) (omega (arith, within))
       ]
 
   -- any other piece goes one place further
   not_last : now + 1 < count → (turn : ℕ) → turn < count → turn ≢ now + 1 → place_at count (now + 1) turn ≡ suc (place_at count now turn)
   not_last more turn t other =
       elim (cases_lt now turn) [
-        inl behind ↦
-          let further : now + 1 < turn = omega (arith, behind, other) in
-          let same : (now + 1 + count) - turn ≡ suc ((now + count) - turn) = omega (arith, t) in
-          behind_now count (now + 1) turn further ∙ same ∙ ap suc (sym (behind_now count now turn behind))
-      | inr before ↦
-          let sooner : turn ≤ now + 1 = omega (arith, before) in
-          let same : (now + 1) - turn ≡ suc (now - turn) = omega (arith, before) in
-          before_now count (now + 1) turn sooner ∙ same ∙ ap suc (sym (before_now count now turn before))
+        | inl behind ↦
+            let further : now + 1 < turn = omega (arith, behind, other) in
+            let same : (now + 1 + count) - turn ≡ suc ((now + count) - turn) = omega (arith, t) in
+            behind_now count (now + 1) turn further ∙ same ∙ ap suc (sym (behind_now count now turn behind))
+        | inr before ↦
+            let sooner : turn ≤ now + 1 = omega (arith, before) in
+            let same : (now + 1) - turn ≡ suc (now - turn) = omega (arith, before) in
+            before_now count (now + 1) turn sooner ∙ same ∙ ap suc (sym (before_now count now turn before))
       ]
 
   from_last : count ≤ now + 1 → (turn : ℕ) → turn < count → turn ≢ 0 → place_at count 0 turn ≡ suc (place_at count now turn)
@@ -48,26 +48,26 @@ module _ (count now : ℕ) (within : now < count) where
   pub other_place : (turn : ℕ) → turn < count → turn ≢ next_turn count now → place_at count (next_turn count now) turn ≡ suc (place_at count now turn)
   other_place turn t other =
       elim (cases_lt (now + 1) count) [
-        inl more ↦
-          let e = next_is count now more in
-          ap (λ n. place_at count n turn) e ∙ not_last more turn t (λ same. other (same ∙ sym e))
-      | inr last ↦
-          let e = next_again count now last in
-          ap (λ n. place_at count n turn) e ∙ from_last last turn t (λ same. other (same ∙ sym e))
+        | inl more ↦
+            let e = next_is count now more in
+            ap (λ n. place_at count n turn) e ∙ not_last more turn t (λ same. other (same ∙ sym e))
+        | inr last ↦
+            let e = next_again count now last in
+            ap (λ n. place_at count n turn) e ∙ from_last last turn t (λ same. other (same ∙ sym e))
       ]
 
   -- the piece that was pushed a whole round ago is at the last place
   pub oldest_place : suc (place_at count now (next_turn count now)) ≡ count
   oldest_place =
       elim (cases_lt (now + 1) count) [
-        inl more ↦
-          let behind : now < now + 1 = omega arith in
-          let same : suc ((now + count) - (now + 1)) ≡ count = omega (arith, within) in
-          ap (λ n. suc (place_at count now n)) (next_is count now more) ∙ ap suc (behind_now count now (now + 1) behind) ∙ same
-      | inr last ↦
-          let before : 0 ≤ now = omega arith in
-          let same : suc (now - 0) ≡ count = omega (arith, within, last) in
-          ap (λ n. suc (place_at count now n)) (next_again count now last) ∙ ap suc (before_now count now 0 before) ∙ same
+        | inl more ↦
+            let behind : now < now + 1 = omega arith in
+            let same : suc ((now + count) - (now + 1)) ≡ count = omega (arith, within) in
+            ap (λ n. suc (place_at count now n)) (next_is count now more) ∙ ap suc (behind_now count now (now + 1) behind) ∙ same
+        | inr last ↦
+            let before : 0 ≤ now = omega arith in
+            let same : suc (now - 0) ≡ count = omega (arith, within, last) in
+            ap (λ n. suc (place_at count now n)) (next_again count now last) ∙ ap suc (before_now count now 0 before) ∙ same
       ]
 
 -- the last piece is at the place 0

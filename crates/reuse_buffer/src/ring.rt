@@ -95,7 +95,7 @@ impl Ring {
         None
     }
 
-    /// Takes a piece in. Where the ring is full, the first one goes.
+    /// Takes a piece in, as the last one. Where the ring is full, the oldest one goes.
     pub fn push(&mut self, piece: Vec<u8>)
         ensures last { (recent : List (List ℕ)) → self.old ≡ kept self.old.size recent → self.new ≡ kept self.old.size (piece.items ∷ recent) }
         ensures pieces { self.new ≡ kept self.old.size (piece.items ∷ self.old.pieces) }
@@ -124,12 +124,7 @@ impl Ring {
 }
 
 /// The place of the last piece in a bucket; where the bucket has none, a number that is no place.
-fn first_of(
-    pieces: &HeapCircularBuffer<HeldPiece>,
-    newest: &[u16],
-    now: u16,
-    bucket: u16,
-) -> u16
+fn first_of(pieces: &HeapCircularBuffer<HeldPiece>, newest: &[u16], now: u16, bucket: u16) -> u16
     requires index { IsIndex pieces.now.capacity now newest.now pieces.now.items }
     requires bucket { bucket < pieces.now.capacity }
     ensures first { IsFirstOf bucket result (buckets_in pieces.now.items) }

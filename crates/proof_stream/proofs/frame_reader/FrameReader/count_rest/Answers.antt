@@ -13,10 +13,11 @@ loop-count-preserved g c =
     omega (arith, length-append taken more, length-take c.in_ok-read.read c.read.new.into, bound, c.loop-count.invariant.came.1) in
     record {
       within = grind (arith, common_steps);
-      came =
-        ( taken ++ more
-        , size
-        , c.loop-count.invariant.came.2 ∙ ap (prepend_known taken) c.in_ok-read.ensures.bytes.fewer_left ∙ prepend_twice (g.S.Source.left c.read.new.self) taken more );
+      came = (
+        taken ++ more,
+        size,
+        c.loop-count.invariant.came.2 ∙ ap (prepend_known taken) c.in_ok-read.ensures.bytes.fewer_left ∙ prepend_twice (g.S.Source.left c.read.new.self) taken more,
+      );
       rest = search rules;
       faults = search rules;
     }
