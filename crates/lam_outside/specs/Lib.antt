@@ -8,3 +8,4 @@ pub mod MemNets
 pub mod MemTold
 pub mod Plans
 pub mod Told
+pub mod Slices

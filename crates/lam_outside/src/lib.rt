@@ -4,6 +4,7 @@
 //! Beside them stand fakes in memory for tests, which tell their bytes and fail by a plan.
 #![tactic(auto)]
 
+mod bytes;
 mod load;
 mod mem_files;
 mod mem_link;
@@ -14,6 +15,7 @@ mod plan;
 mod traits;
 mod whole;
 
+pub use bytes::Bytes;
 pub use load::{Load, load_all};
 pub use mem_files::{MemFile, MemFiles};
 pub use mem_link::MemLink;

@@ -1,0 +1,108 @@
+-- The next frame, from the parts that came.
+use Rattle.std.proofs.Common.{◌≡◌, ◌≢◌, ℕ, zero, suc, ◌+◌, ◌<◌, ◌≤◌, List, [], ◌∷◌, ◌++◌, length, take, drop, Option, Some, None, Result, Ok, Err, IsErrAnd, slice_index, refl, sym, ap, subst, ◌∙◌, arith}
+use Rattle.std.proofs.Math.Seq.{drop-append_seam, drop-append-add}
+use Rattle.std.proofs.lemmas.List.{drop-drop}
+use Rattle.std.specs.Io.KnownBytes.{prepend_known}
+use Rattle.ideal_meaning.specs.Frames.{NoByte, KindIs, LongBy}
+use Rattle.proof_stream.specs.declared.frame.Frame.{Frame}
+use Rattle.proof_stream.specs.declared.frame.Frame.TheVariants.{New, Back}
+use Rattle.proof_stream.specs.declared.frame.FrameEnd.{FrameEnd}
+use Rattle.proof_stream.specs.declared.frame.FrameEnd.TheVariants.{End, BadKind, Cut, PieceLong, ReadFault, NoMemory}
+use Rattle.proof_stream.specs.Incoming.{KindCame, LengthCame, NumberCame, PieceCame, TookAtMost, length_field}
+use Rattle.proof_stream.specs.TakenFrames.{EndsBy, TakesFrame, OffersNothing, OffersNew, OffersBack}
+use Rattle.proof_stream.proofs.Offering.{back_cut, back_offered, behind, new_cut, new_headless, new_long, new_offered, no_byte, other_kind, piece_in}
+
+-- a result that is the end that came
+pub ends_with : {T : Type 0} (P : Result T FrameEnd → Type 0) (e : FrameEnd) (result : Result T FrameEnd) → IsErrAnd result (λ x. x ≡ e) → P (Err e) → P result
+ends_with P e (Ok v) same p = absurd same
+ends_with P e (Err x) same p = subst (λ x. P (Err x)) (sym same) p
+
+-- some bytes more were taken
+took_more : (a b m : ℕ) (bytes : List ℕ) (left : Option (List ℕ)) → a + b ≤ m → TookAtMost b (drop a bytes) left → TookAtMost m bytes left
+took_more a b m bytes left fits (taken, within, is) = (a + taken, omega (arith, within, fits), is ∙ ap Some (drop-drop taken a bytes))
+
+module _ (limit : ℕ) (rest piece : List ℕ) where
+  -- no length came
+  pub length_ends : (left : Option (List ℕ)) (e : FrameEnd) → LengthCame limit rest left (Err e) → TakesFrame limit (0 ∷ rest) piece left (Err e)
+  length_ends left Cut came = (new_headless limit rest came.0, came.1)
+  length_ends left (PieceLong len) came =
+      let long : limit < length_field rest = subst (λ n. limit < n) came.1 came.2 in
+      (subst (λ n. OffersNothing limit (0 ∷ rest) (LongBy n)) (sym came.1) (new_long limit rest came.0 long), came.3)
+  length_ends left ReadFault came = took_more 1 4 (5 + limit) (0 ∷ rest) left (omega arith) came
+  length_ends left End came = absurd came
+  length_ends left (BadKind kind) came = absurd came
+  length_ends left NoMemory came = absurd came
+
+  -- the piece didn't come
+  pub piece_ends : (len : ℕ) (middle left : Option (List ℕ)) (e : FrameEnd) → LengthCame limit rest middle (Ok len) → PieceCame len (drop 4 rest) piece left (Err e)
+      → TakesFrame limit (0 ∷ rest) piece left (Err e)
+  piece_ends len middle left Cut head came =
+      let fits : length_field rest ≤ limit = subst (λ n. n ≤ limit) head.1 head.2 in
+      let few : length (drop 4 rest) < length_field rest = subst (λ n. length (drop 4 rest) < n) head.1 came.0 in
+      (new_cut limit rest head.0 fits few, came.1)
+  piece_ends len middle left ReadFault head came = took_more 5 len (5 + limit) (0 ∷ rest) left (omega (arith, head.2)) came
+  piece_ends len middle left NoMemory head came = took_more 5 len (5 + limit) (0 ∷ rest) left (omega (arith, head.2)) came
+  piece_ends len middle left End head came = absurd came
+  piece_ends len middle left (BadKind kind) head came = absurd came
+  piece_ends len middle left (PieceLong most) head came = absurd came
+
+  -- it came
+  pub piece_taken : (len : ℕ) (middle left : Option (List ℕ)) → LengthCame limit rest middle (Ok len) → PieceCame len (drop 4 rest) piece left (Ok tt)
+      → TakesFrame limit (0 ∷ rest) piece left (Ok New)
+  piece_taken len middle left head came =
+      let fits : length_field rest ≤ limit = subst (λ n. n ≤ limit) head.1 head.2 in
+      let there : length_field rest ≤ length (drop 4 rest) = subst (λ n. n ≤ length (drop 4 rest)) head.1 came.0 in
+      let is : piece_in rest ≡ piece = sym (came.1 ∙ ap (λ n. take n (drop 4 rest)) head.1) in (
+        behind rest,
+        subst (λ piece. OffersNew limit (0 ∷ rest) piece (behind rest)) is (new_offered limit rest head.0 fits there),
+        came.2 ∙ ap (λ n. Some (drop n (drop 4 rest))) head.1,
+      )
+
+  -- the number of a kept piece
+  pub number_ends : (left : Option (List ℕ)) (e : FrameEnd) → NumberCame rest left (Err e) → TakesFrame limit (1 ∷ rest) piece left (Err e)
+  number_ends left Cut came = (back_cut limit rest came.0, came.1)
+  number_ends left ReadFault came = took_more 1 2 (5 + limit) (1 ∷ rest) left (omega arith) came
+  number_ends left End came = absurd came
+  number_ends left (BadKind kind) came = absurd came
+  number_ends left (PieceLong len) came = absurd came
+  number_ends left NoMemory came = absurd came
+
+  pub number_taken : (k : ℕ) (left : Option (List ℕ)) → NumberCame rest left (Ok k) → TakesFrame limit (1 ∷ rest) piece left (Ok (Back k))
+  number_taken k left came =
+      (drop 2 rest, subst (λ k. OffersBack limit (1 ∷ rest) k (drop 2 rest)) (sym came.1) (back_offered limit rest came.0), came.2)
+
+-- the first byte
+pub kind_ends : (limit : ℕ) (bytes piece : List ℕ) (left : Option (List ℕ)) (e : FrameEnd) → KindCame bytes left (Err e) → TakesFrame limit bytes piece left (Err e)
+kind_ends limit bytes piece left End came = (subst (λ bytes. OffersNothing limit bytes NoByte) (sym came.0) (no_byte limit), came.1)
+kind_ends limit bytes piece left ReadFault came = (came.0, omega (arith, came.1), came.2)
+kind_ends limit bytes piece left (BadKind kind) came = absurd came
+kind_ends limit bytes piece left Cut came = absurd came
+kind_ends limit bytes piece left (PieceLong len) came = absurd came
+kind_ends limit bytes piece left NoMemory came = absurd came
+
+-- the bytes, by their first
+pub begun : (kind : ℕ) (bytes : List ℕ) → 1 ≤ length bytes → kind ≡ slice_index bytes 0 → bytes ≡ kind ∷ drop 1 bytes
+begun kind [] some is = absurd (omega (arith, some))
+begun kind (b ∷ bytes) some is = ap (λ b. b ∷ bytes) (sym is)
+
+pub kind_unknown : (limit kind : ℕ) (bytes piece : List ℕ) (left : Option (List ℕ)) → KindCame bytes left (Ok kind) → kind ≢ 0 → kind ≢ 1 → TakesFrame limit bytes piece left (Err (BadKind kind))
+kind_unknown limit kind bytes piece left came not_new not_use =
+    let e = begun kind bytes came.0 came.1 in
+    (subst (λ bytes. OffersNothing limit bytes (KindIs kind)) (sym e) (other_kind limit kind (drop 1 bytes) not_new not_use), came.2)
+
+pub kind_known : (limit kind known : ℕ) (bytes piece : List ℕ) (middle left : Option (List ℕ)) (result : Result Frame FrameEnd) → kind ≡ known → KindCame bytes middle (Ok kind)
+    → TakesFrame limit (known ∷ drop 1 bytes) piece left result → TakesFrame limit bytes piece left result
+kind_known limit kind known bytes piece middle left result same came taken =
+    let e : bytes ≡ known ∷ drop 1 bytes = begun kind bytes came.0 came.1 ∙ ap (λ kind. kind ∷ drop 1 bytes) same in
+    subst (λ bytes. TakesFrame limit bytes piece left result) (sym e) taken
+
+-- two pieces of bytes came
+pub took_two : (len : ℕ) (bytes body more : List ℕ) (left0 left1 left2 : Option (List ℕ)) → left0 ≡ Some bytes → left0 ≡ prepend_known body left1
+    → left1 ≡ prepend_known more left2 → length body + length more ≤ len → TookAtMost len bytes left2
+took_two len bytes body more left0 None left2 told first second fits = absurd (let clash : Some bytes ≡ None = sym told ∙ first in cc)
+took_two len bytes body more left0 (Some rest) None told first second fits = absurd (let clash : Some rest ≡ None = second in cc)
+took_two len bytes body more left0 (Some rest) (Some left) told first second fits =
+    let inner : rest ≡ more ++ left = cc in
+    let same : Some bytes ≡ Some (body ++ rest) = sym told ∙ first in
+    let whole : bytes ≡ body ++ (more ++ left) = let e : bytes ≡ body ++ rest = cc in e ∙ ap (λ r. body ++ r) inner in
+    (length body + length more, fits, ap Some (sym (ap (drop (length body + length more)) whole ∙ drop-append-add body (more ++ left) (length more) ∙ drop-append_seam more left)))

@@ -1,0 +1,4 @@
+pub mod Incoming
+pub mod TakenFrames
+pub mod Written
+pub mod Readers

@@ -1,0 +1,9 @@
+//! Tests of the frames of a proof, read from sources that fail and that have no end, and of the ring of kept pieces.
+#![tactic(auto)]
+
+#[cfg(test)]
+mod frames;
+#[cfg(test)]
+mod rings;
+#[cfg(test)]
+mod sources;

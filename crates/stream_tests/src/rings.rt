@@ -1,0 +1,100 @@
+// The ring of kept pieces, against a plain search.
+ghost use Rattle.std.specs.Prelude.{◌≤◌};
+
+use reuse_buffer::Ring;
+use std::alloc::{AllocError, Global};
+use std::test::Fail;
+
+/// Numbers that repeat, by a fixed rule.
+#[derive(Drop)]
+struct Numbers {
+    state: u64,
+}
+
+impl Numbers {
+    /// The next number, below 65,536.
+    fn next(&mut self) -> u16 {
+        self.state = self
+            .state
+            .wrapping_mul(6_364_136_223_846_793_005)
+            .wrapping_add(1_442_695_040_888_963_407);
+        (self.state >> 48) as u16
+    }
+}
+
+/// The place of the last push of a number, among the last `size`.
+fn plain_place(pushed: &[u16], size: usize, number: u16) -> Option<usize> {
+    pushed
+        .iter()
+        .rev()
+        .take(size)
+        .position(|other| *other == number)
+}
+
+/// Whether the ring answers as the plain search.
+fn agrees(ring: &Ring, pushed: &[u16], number: u16) -> bool {
+    let held = pushed.len().min(ring.size());
+    let found = ring.place_of(&number.to_be_bytes());
+    let last = ring.get((held as u16).saturating_sub(1));
+    let first_kept = pushed.len() - held;
+    found.map(usize::from) == plain_place(pushed, ring.size(), number)
+        && ring.held() == held
+        && ring.get(held as u16).is_none()
+        && last.is_some() == (held > 0)
+        && last.is_none_or(|piece| {
+            pushed
+                .get(first_kept)
+                .is_some_and(|number| piece == number.to_be_bytes().as_slice())
+        })
+}
+
+/// The number of the first push, of so many, behind which a ring answers otherwise than the plain search; the pieces are of so
+/// many kinds.
+fn misplaced(
+    alloc: Global,
+    size: u16,
+    kinds: u16,
+    count: usize,
+) -> Result<Option<usize>, AllocError>
+    requires { size ≤ 1024 }
+{
+    let mut numbers = Numbers { state: 1 };
+    let mut ring = Ring::with_size(alloc, size)?;
+    let mut pushed = Vec::new(alloc);
+    for push in 0..count {
+        let number = numbers.next() % kinds.max(1);
+        ring.push(Vec::from_slice(alloc, &number.to_be_bytes())?);
+        pushed.push(number)?;
+        let other = numbers.next() % kinds.max(1);
+        if !agrees(&ring, &pushed, number) || !agrees(&ring, &pushed, other) {
+            return Ok(Some(push));
+        }
+    }
+    ring.clear();
+    let is_empty = ring.held() == 0
+        && ring.get(0).is_none()
+        && ring.place_of(b"\x00\x00").is_none();
+    Ok(if is_empty { None } else { Some(count) })
+}
+
+#[test]
+fn rings_answer_as_a_plain_search(rt: HostRuntime) -> Result<(), Fail> {
+    for size in [0, 1, 2, 3, 4, 5] {
+        for kinds in [1, 2, 3, 7, 60_000] {
+            if let Some(push) = misplaced(rt.alloc(), size, kinds, 200)? {
+                return Err(Fail::new(format_args!("size {size}, kinds {kinds}, push {push}")));
+            }
+        }
+    }
+    Ok(())
+}
+
+#[test]
+fn a_great_ring_answers_as_a_plain_search(rt: HostRuntime) -> Result<(), Fail> {
+    for kinds in [900, 1500] {
+        if let Some(push) = misplaced(rt.alloc(), 1024, kinds, 2500)? {
+            return Err(Fail::new(format_args!("kinds {kinds}, push {push}")));
+        }
+    }
+    Ok(())
+}
