@@ -21,4 +21,5 @@ pub mod ValueRows
 pub mod ReadingRows
 pub mod TypingRows
 pub mod RoleRows
+pub mod FormatRows
 pub mod Faults
