@@ -220,7 +220,8 @@ module _ (types : Table) (names : ConstructorNames) where
         let r : Ruled (row one unit_parts (λ vs tokens. Means (make vs) tokens) before) (Makes one Is Broken each unit_parts make before) (OnePartBreaks Is Broken unit_parts before)
         = row_ruled one Is Broken each unit_parts make before in
         record {
-          judged = judges_more (Makes one Is Broken each unit_parts make before) (Literally (suc levels) UnitTy before) (OnePartBreaks Is Broken unit_parts before) (BreaksLiteral types names (suc levels) UnitTy before)
+          judged = judges_more (Makes one Is Broken each unit_parts make before) (Literally (suc levels) UnitTy before) (OnePartBreaks Is Broken unit_parts before)
+              (BreaksLiteral types names (suc levels) UnitTy before)
               (unit_literal before) (λ w after (vs, made, there). subst (λ w. Literally (suc levels) UnitTy before w after) made (a_unit before after vs there)) (λ kind offset f. f) r.judged;
           passes = λ w after h. unit_passes w after h;
           tells = r.tells;
@@ -247,11 +248,14 @@ module _ (types : Table) (names : ConstructorNames) where
 
     pair_ruled : (a b : Ty) (before : Tokens) → LiteralRuled (suc levels) (PairTy a b) before (pair_literal (one a) (one b) before)
     pair_ruled a b before =
-        let r : Ruled (row one (pair_parts a b) (λ vs tokens. Means (paired vs) tokens) before) (Makes one Is Broken each (pair_parts a b) paired before) (OnePartBreaks Is Broken (pair_parts a b) before)
+        let r : Ruled (row one (pair_parts a b) (λ vs tokens. Means (paired vs) tokens) before) (Makes one Is Broken each (pair_parts a b) paired before)
+        (OnePartBreaks Is Broken (pair_parts a b) before)
         = row_ruled one Is Broken each (pair_parts a b) paired before in
         record {
-          judged = judges_more (Makes one Is Broken each (pair_parts a b) paired before) (Literally (suc levels) (PairTy a b) before) (OnePartBreaks Is Broken (pair_parts a b) before) (BreaksLiteral types names (suc levels) (PairTy a b) before)
-              (pair_literal (one a) (one b) before) (λ w after (vs, made, there). subst (λ w. Literally (suc levels) (PairTy a b) before w after) made (a_pair a b before after vs there)) (λ kind offset f. f) r.judged;
+          judged = judges_more (Makes one Is Broken each (pair_parts a b) paired before) (Literally (suc levels) (PairTy a b) before) (OnePartBreaks Is Broken (pair_parts a b) before)
+              (BreaksLiteral types names (suc levels) (PairTy a b) before)
+              (pair_literal (one a) (one b) before)
+              (λ w after (vs, made, there). subst (λ w. Literally (suc levels) (PairTy a b) before w after) made (a_pair a b before after vs there)) (λ kind offset f. f) r.judged;
           passes = λ w after h. pair_passes w after h;
           tells = r.tells;
         }

@@ -153,14 +153,16 @@ module _ (one : Ty → Tokens → LiteralReading Value) where
         judges_then (λ _ behind. IsTokenAt (MarkToken mark) before behind) F (Makes (TheMark mark ∷ parts) make before) (OnePartBreaks Is BreaksValue (TheMark mark ∷ parts) before)
         (behind_mark mark before) (λ _ tokens. row parts (λ vs tokens. Means (make vs) tokens) tokens) (mark_ruled mark before).judged
         (λ kind offset f. inl (λ behind h. f.0 tt behind h, f.1))
-        (λ _ behind here. judges_more (Makes parts make behind) (Makes (TheMark mark ∷ parts) make before) (OnePartBreaks Is BreaksValue parts behind) (OnePartBreaks Is BreaksValue (TheMark mark ∷ parts) before)
+        (λ _ behind here. judges_more (Makes parts make behind) (Makes (TheMark mark ∷ parts) make before) (OnePartBreaks Is BreaksValue parts behind)
+        (OnePartBreaks Is BreaksValue (TheMark mark ∷ parts) before)
         (row parts (λ vs tokens. Means (make vs) tokens) behind) (λ w after (vs, made, there). (vs, made, (behind, here, there))) (λ kind offset f. inr (behind, here, f))
         (row_judged parts make behind))
     row_judged (ValueOf t ∷ parts) make before =
         judges_then (λ v after. Is t v before after) (BreaksValue t before) (Makes (ValueOf t ∷ parts) make before) (OnePartBreaks Is BreaksValue (ValueOf t ∷ parts) before)
         (one t before) (λ v tokens. row parts (λ vs tokens. Means (make (AndV v vs)) tokens) tokens) (each t before).judged
         (λ kind offset f. inl f)
-        (λ v behind here. judges_more (Makes parts (λ vs. make (AndV v vs)) behind) (Makes (ValueOf t ∷ parts) make before) (OnePartBreaks Is BreaksValue parts behind) (OnePartBreaks Is BreaksValue (ValueOf t ∷ parts) before)
+        (λ v behind here. judges_more (Makes parts (λ vs. make (AndV v vs)) behind) (Makes (ValueOf t ∷ parts) make before) (OnePartBreaks Is BreaksValue parts behind)
+        (OnePartBreaks Is BreaksValue (ValueOf t ∷ parts) before)
         (row parts (λ vs tokens. Means (make (AndV v vs)) tokens) behind) (λ w after (vs, made, there). (AndV v vs, made, (behind, here, there)))
         (λ kind offset f. inr (behind, (v, here), f)) (row_judged parts (λ vs. make (AndV v vs)) behind))
 
