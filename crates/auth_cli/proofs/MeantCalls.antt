@@ -11,7 +11,7 @@ use Rattle.ideal_meaning.specs.Headline.{call_of}
 use Rattle.ideal_meaning.specs.Ideal.{Outcome, Done, Trapped, Out, honest_pieces}
 use Rattle.printed_lines.specs.Lines.{collision_line}
 use Rattle.printed_lines.specs.declared.refusal.Argument.TheVariants as named
-use Rattle.collision_audit.specs.Audits.{Collides, unless_split, verdict_on}
+use Rattle.collision_audit.specs.Audits.{Collides, unless_split, verdict_on_projections}
 use Rattle.collision_audit.specs.Splits.{Split, offered_in}
 use Rattle.collision_audit.proofs.FirstSplits.{split_is_found}
 use Rattle.auth_cli.specs.Answer.{Answer, answer, audit_told, call_audit_answer, called_answer, command_answer, max_file, outcome_answer, proof_answer, with_file, with_fuel, with_fueled_query, with_ideal_call, with_image, with_kept, with_literal, with_number, with_query, with_root, with_value}
@@ -70,7 +70,7 @@ unfolding call_audit
 split_is_told call proof split is =
     let P = called_program call in
     let found = (split_is_found (digest_at sha256 P) (offered_in P.format proof) (honest_pieces sha256 P call.query.role (call_of call.state call.argument) call.query.fuel) split).1 is in
-    ap (λ found. (audit_told (result_type call) (unless_split found (verdict_on sha256 P (argument_type P call.query.role) call.query.role call.state call.argument call.query.fuel proof))).status) found
+    ap (λ found. (audit_told (result_type call) (unless_split found (verdict_on_projections sha256 P (argument_type P call.query.role) call.query.role call.state call.argument call.query.fuel proof))).status) found
 
 -- a run that has this answer ends with its status, or in a fault
 told_status : (found : Option Answer) (a : Answer) (old new : Outside) (ended : Status) → found ≡ Some a → IsToldAs found old new ended → code ended ≡ code a.status

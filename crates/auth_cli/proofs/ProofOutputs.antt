@@ -22,7 +22,7 @@ use Rattle.printed_lines.specs.Lines.{proof_line}
 use Rattle.prover_mode.specs.Proofs.{IsOutcomeOf, file_of}
 use Rattle.prover_mode.specs.Proofs as prover
 use Rattle.prover_mode.specs.declared.proving.Proved.{Proved}
-use Rattle.verifier_mode.specs.Verdicts.{IsSpelled}
+use Rattle.verifier_mode.specs.Verdicts.{SpellsOutcome}
 use Rattle.auth_cli.specs.Answer.{Answer, proof_answer}
 use Rattle.auth_cli.specs.IdealCalls.{IdealCall, call_frames, call_pieces, call_proof, call_proof_line, called_program, is_new, is_used, projected_outcome, result_type}
 use Rattle.auth_cli.specs.Reporting.{ReportsProof}
@@ -49,7 +49,7 @@ none_used recent (p ∷ pieces) = sum_by-cons (λ frame. cond (is_used frame) 1 
 
 -- a proved outcome is told as a verified one
 outcome_told : (P : Program) → IsFormat P.format → (t : Ty) (o : Outcome) (spelled : code.Outcome Spelling) → IsOutcomeOf P t o
-    → prover.IsSpelled (outcome_projection sha256 P t o) spelled → IsSpelled P t (outcome_projection sha256 P t o) spelled
+    → prover.SpellsOutcome (outcome_projection sha256 P t o) spelled → SpellsOutcome P t (outcome_projection sha256 P t o) spelled
 outcome_told P format t (Done v) (told.Done bytes) ideal is = (_, refl, is_shallow P format t v ideal, sym is)
 outcome_told P format t (Done v) (told.Trapped trap) ideal is = absurd is
 outcome_told P format t (Done v) told.Out ideal is = absurd is
@@ -63,7 +63,7 @@ outcome_told P format t Out (told.Trapped trap) ideal is = absurd is
 -- the file of a proof, and the lines that tell the outcome and the proof, are those of the answer
 pub proof_output : (call : IdealCall) → IsFormat (called_program call).format → (proved : Proved) (report : Report) (file : Vec ℕ Global) (n bytes : ℕ) (t : Ty) → n ≡ 0 → t ≡ result_type call
     → IsOutcomeOf (called_program call) (result_type call) (outcome (ideal_run call))
-    → prover.IsSpelled (outcome_projection sha256 (called_program call) (result_type call) (outcome (ideal_run call))) proved.outcome
+    → prover.SpellsOutcome (outcome_projection sha256 (called_program call) (result_type call) (outcome (ideal_run call))) proved.outcome
     → proved.frames.items ≡ frame_bytes (honest_frames 0 [] (bytes_of (run_pieces call))) → proved.fresh ≡ length (run_pieces call) → proved.again ≡ 0
     → file.items ≡ file_of (called_program call).format n proved.frames.items → bytes ≡ length file.items → ReportsProof (called_program call) t proved bytes report
     → (name : List ℕ) → IsOutput (proof_answer call n name) name (record { report = report; file = Some file })

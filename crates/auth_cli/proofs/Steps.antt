@@ -10,7 +10,7 @@ use Rattle.printed_syntax.specs.LiteralAnswers.{LiteralFault}
 use Rattle.core_terms.specs.declared.fault.Fault.TheVariants as literal_fault
 use Rattle.images.specs.Images.{Root, image_of}
 use Rattle.images.specs.Images as images
-use Rattle.images.specs.Loads.{Tells}
+use Rattle.images.specs.Loads.{TellsFault}
 use Rattle.images.specs.declared.fault.ImageFault.{ImageFault}
 use Rattle.images.specs.declared.fault.ImageFault.TheVariants as image_fault
 use Rattle.printed_lines.specs.declared.refusal.Refusal.TheVariants as refusal
@@ -100,12 +100,12 @@ output_halt name answer (Err other) halt is halts = let same : halt ≡ other = 
 
 -- bytes that are no image are refused
 pub image_refused : {T : Type 0} (p : DigestedProgram) (bytes : List ℕ) (value : T → Value) (fault : ImageFault) (result : Result T Halt)
-    → IsErrAnd result (λ halt. halt ≡ of_image_fault fault) → Tells (λ f. image_of p.program p.digest bytes ≡ images.Refused f) fault → GoesOnInHand (with_image p bytes) value result
+    → IsErrAnd result (λ halt. halt ≡ of_image_fault fault) → TellsFault (λ f. image_of p.program p.digest bytes ≡ images.Refused f) fault → GoesOnInHand (with_image p bytes) value result
 unfolding image_read
 image_refused p bytes value fault (Ok t) halt is = absurd halt
 image_refused p bytes value fault (Err h) halt is = subst (λ h. GoesOnInHand (with_image p bytes) value (Err h)) (sym halt) (by fault is)
   where
-    by : (fault : ImageFault) → Tells (λ f. image_of p.program p.digest bytes ≡ images.Refused f) fault → GoesOnInHand (with_image p bytes) value (Err (of_image_fault fault))
+    by : (fault : ImageFault) → TellsFault (λ f. image_of p.program p.digest bytes ≡ images.Refused f) fault → GoesOnInHand (with_image p bytes) value (Err (of_image_fault fault))
     by image_fault.Magic is = λ go. ap (λ i. with_root i go) is
     by (image_fault.Cut n) is = λ go. ap (λ i. with_root i go) is
     by image_fault.OtherProgram is = λ go. ap (λ i. with_root i go) is
@@ -117,7 +117,7 @@ image_refused p bytes value fault (Err h) halt is = subst (λ h. GoesOnInHand (w
     by image_fault.NoMemory is = λ go. tt
 
 pub image_refused_for : {T : Type 0} (p : DigestedProgram) (bytes : List ℕ) (Stands : T → Value → Type 0) (fault : ImageFault) (result : Result T Halt)
-    → IsErrAnd result (λ halt. halt ≡ of_image_fault fault) → Tells (λ f. image_of p.program p.digest bytes ≡ images.Refused f) fault → GoesOnForInHand (with_image p bytes) Stands result
+    → IsErrAnd result (λ halt. halt ≡ of_image_fault fault) → TellsFault (λ f. image_of p.program p.digest bytes ≡ images.Refused f) fault → GoesOnForInHand (with_image p bytes) Stands result
 image_refused_for p bytes Stands fault (Ok t) halt is = absurd halt
 image_refused_for p bytes Stands fault (Err h) halt is = by h (image_refused {T = Value} p bytes (λ v. v) fault (Err h) halt is)
   where

@@ -16,7 +16,7 @@ use Rattle.ideal_meaning.specs.Headline.{call_of}
 use Rattle.ideal_meaning.specs.Ideal.{honest_pieces}
 use Rattle.plain_meaning.specs.PlainValues.{plain_of}
 use Rattle.plain_meaning.proofs.Within.{plain_is_within}
-use Rattle.collision_audit.specs.Audits.{Audit, Collides, IsOnProof, Judges, verdict_on}
+use Rattle.collision_audit.specs.Audits.{Audit, Collides, IsOnProof, Judges, verdict_on_projections}
 use Rattle.collision_audit.specs.Splits.{offered_in, split_of}
 use Rattle.collision_audit.proofs.AuditHeadline.{agreement_is_true, collides, judges}
 use Rattle.collision_audit.proofs.FirstSplits.{no_split_is_found, split_is_found}
@@ -45,7 +45,7 @@ module _ (call : IdealCall) (proof : List ℕ) (valid : IsIdealCall (ideal_call_
   a = plain_of call.argument
 
   -- the verifier's verdict is the one that the audit comes to
-  client_verdict : call_verdict (client_call (ideal_call_of call)) proof ≡ verdict_on sha256 P (argument_type P f) f s a k proof
+  client_verdict : call_verdict (client_call (ideal_call_of call)) proof ≡ verdict_on_projections sha256 P (argument_type P f) f s a k proof
   unfolding call_verdict state_projection
   client_verdict =
       let role = query_role call.query.program f valid.query.there valid.query.query in
@@ -53,13 +53,13 @@ module _ (call : IdealCall) (proof : List ℕ) (valid : IsIdealCall (ideal_call_
       (plain_is_own_projection (digest_at sha256 P) P.types (argument_type P f) a role.plain valid.argument))
 
   -- where it comes to a verdict, no split was found
-  splits_nowhere : (v : Verdict) → call_audit (ideal_call_of call) proof ≡ Judges v → SplitsNowhere (ideal_call_of call) proof × (verdict_on sha256 P (argument_type P f) f s a k proof ≡ v)
+  splits_nowhere : (v : Verdict) → call_audit (ideal_call_of call) proof ≡ Judges v → SplitsNowhere (ideal_call_of call) proof × (verdict_on_projections sha256 P (argument_type P f) f s a k proof ≡ v)
   unfolding call_audit
   splits_nowhere v e =
-      let none = judges (split_of sha256 P f s a k proof) (verdict_on sha256 P (argument_type P f) f s a k proof) v e in
+      let none = judges (split_of sha256 P f s a k proof) (verdict_on_projections sha256 P (argument_type P f) f s a k proof) v e in
       ((no_split_is_found (digest_at sha256 P) (offered_in P.format proof) (honest_pieces sha256 P f (call_of s a) k)).0 none.0, none.1)
 
-  on_proof : IsOnProof (verdict_on sha256 P (argument_type P f) f s a k proof)
+  on_proof : IsOnProof (verdict_on_projections sha256 P (argument_type P f) f s a k proof)
   on_proof =
       verdict_is_on_proof sha256 length-sha256 P (is_format call.query.program) (argument_type P f) f s a valid.state valid.argument
       (plain_is_within call.query.program P.state call.state valid.state).0 (plain_is_within call.query.program (argument_type P f) call.argument valid.argument).0 k proof
@@ -67,7 +67,7 @@ module _ (call : IdealCall) (proof : List ℕ) (valid : IsIdealCall (ideal_call_
   is_so : (audit : Audit) → call_audit (ideal_call_of call) proof ≡ audit → IsTrueAudit (ideal_call_of call) proof audit
   unfolding call_audit call_pieces projected_outcome
   is_so (Collides split) e =
-      let found = collides (split_of sha256 P f s a k proof) (verdict_on sha256 P (argument_type P f) f s a k proof) split e in
+      let found = collides (split_of sha256 P f s a k proof) (verdict_on_projections sha256 P (argument_type P f) f s a k proof) split e in
       (split_is_found (digest_at sha256 P) (offered_in P.format proof) (honest_pieces sha256 P f (call_of s a) k) split).0 found
   is_so (Judges (Accepted o)) e =
       let nowhere = splits_nowhere (Accepted o) e in

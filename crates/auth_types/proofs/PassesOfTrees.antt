@@ -17,7 +17,7 @@ use Rattle.auth_types.specs.CheckedPrograms.{all_passes, as_checked, first_state
 use Rattle.auth_types.specs.Declarations.{Declared, checked_constructors, checked_declaration, checked_declarations, checked_parameters, first_pass, most_functions, most_types, nothing_declared}
 use Rattle.auth_types.specs.Outcomes.{Checks, Finds, TypeFault}
 use Rattle.auth_types.specs.OverTypes.{Grows}
-use Rattle.auth_types.specs.Passes.{StandsFor, names_known}
+use Rattle.auth_types.specs.Passes.{TableStandsFor, names_known}
 use Rattle.auth_types.specs.RoleRules.{checked_roles}
 use Rattle.auth_types.specs.Scopes.{AreHeadsOf, IsWithin, functions_meant, scope_in, scope_meant}
 use Rattle.auth_types.specs.WrittenTypes.{functions_in, known_declarations, second_pass, states_in}
@@ -141,7 +141,7 @@ state_declared program first = λ none.
     (λ after off. gives_unless (λ _. ⊥) after.state NoState program.end (Sound tt) (λ on. absurd (cc)))) first
 
 -- the parts that the code passes on, in the words of the definition
-module _ (program : Program) (types : List Ty) (scope : CodeScope) (state : TyId) (stands : StandsFor program types scope state) where
+module _ (program : Program) (types : List Ty) (scope : CodeScope) (state : TyId) (stands : TableStandsFor program types scope state) where
   pub heads_signed : AreHeadsOf (names_of program) types scope
   heads_signed = ap (λ (s : Scope). s.functions) stands.scope ∙ ap (map (signature_of (names_of program))) (sym stands.functions)
 
@@ -200,7 +200,7 @@ checks_found found (Err NoMemory) h = tt
 pub scope_stands : (program : Program) (types : List Ty) (scope : CodeScope) (state : TyId) → scope_meant types scope ≡ scope_in program.declarations
     → functions_meant scope ≡ functions_in program.declarations
     → type_names scope.named.items ≡ names_of program → IsWithin (length types) scope → (type_at types state ≡ state_of program)
-    × (state.0 < length types) → StandsFor program types scope state
+    × (state.0 < length types) → TableStandsFor program types scope state
 scope_stands program types scope state meant functions names within (is, inside) = record {
   scope = meant;
   functions = functions;

@@ -27,7 +27,7 @@ use Rattle.auth_types.specs.Checking.{Sound}
 use Rattle.auth_types.specs.CheckedLaws.{HasGoodLiterals}
 use Rattle.auth_types.specs.CheckedPrograms.{all_passes, fourth_pass, signature_of, state_of, table_of_program, third_pass}
 use Rattle.auth_types.specs.OverTypes.{Grows}
-use Rattle.auth_types.specs.Passes.{StandsFor, names_known}
+use Rattle.auth_types.specs.Passes.{TableStandsFor, names_known}
 use Rattle.auth_types.specs.Scopes.{AreHeadsOf, AreWithin, IsConstructorWithin, IsCounted, IsHeadWithin, IsNamedWithin, IsWithin, functions_meant, scope_meant, signature_meant}
 use Rattle.auth_types.specs.WrittenTypes.{type_meant}
 use Rattle.auth_types.specs.declared.scope.Head.{Head}
@@ -88,7 +88,7 @@ functions_below count (f ∷ functions) (h ∷ heads) within parameters results 
     rw (below, inside, rest) refl
 
 module _ (program : Program) (before : List Ty) (forms : List TyForm) (scope : Scope) (state : TyId) (functions : List Function)
-    (grows : Grows before (types_of_forms forms)) (stands : StandsFor program before scope state) where
+    (grows : Grows before (types_of_forms forms)) (stands : TableStandsFor program before scope state) where
   program_within : map (λ (f : Function). f.parameters.items) functions ≡ map (λ (h : Head). h.parameters.items) scope.heads.items
       → map (λ (f : Function). f.result) functions ≡ map (λ (h : Head). h.result) scope.heads.items
       → is_within forms scope.named.items state functions ≡ true
@@ -137,7 +137,7 @@ module _ (program : Program) (before : List Ty) (forms : List TyForm) (scope : S
       }
 
 -- the same as the code tells it, over a table and a scope that are lent and given on
-module _ (program : Program) (given : TyTable) (scope : Scope) (state : TyId) (stands : StandsFor program (types_in given) scope state)
+module _ (program : Program) (given : TyTable) (scope : Scope) (state : TyId) (stands : TableStandsFor program (types_in given) scope state)
     (table : TyTable) (lent last : Scope) where
   pub passed_on : trees.IsWithinLimits program.declarations → table ≡ given → lent ≡ scope → last ≡ scope → (forms : List TyForm) (functions : List Function)
       → Grows (types_in table) (types_of_forms forms) → names_known program ≡ Sound tt → third_pass program ≡ Sound tt

@@ -19,7 +19,7 @@ use Rattle.auth_types.specs.TypingRules.{Elaborates}
 use Rattle.auth_types.specs.BrokenRules.{Misfits}
 use Rattle.auth_types.specs.TypingLaws.{DenotesWhatPasses, IsWhole, TellsTheFirst}
 use Rattle.auth_types.specs.DeclarationRules.{AreDeclared, AreKnown, BreaksDeclared, BreaksTypeNames}
-use Rattle.auth_types.specs.ProgramRules.{AreRoles, BreaksBodies, BreaksBody, BreaksProgram, BreaksRoles, Denotes, HasBody, InBodies, InDeclared, InRoles, InTypeNames, StandsFor}
+use Rattle.auth_types.specs.ProgramRules.{AreRoles, BreaksBodies, BreaksBody, BreaksProgram, BreaksRoles, Denotes, HasBody, InBodies, InDeclared, InRoles, InTypeNames, FunctionStandsFor}
 use Rattle.auth_types.specs.declared.fault.TypeKind.{TypeKind}
 use Rattle.auth_types.proofs.Judging.{wanted_is}
 use Rattle.auth_types.proofs.JudgedBodies.{judged, wanted_judged}
@@ -49,19 +49,19 @@ module _ (names : List (List ℕ)) (scope : Scope) (whole : IsWhole scope) where
     body = body;
   }
 
-  function_ruled : (before : List FunctionSyntax) (f : FunctionSyntax) → Ruled (checked_function names scope f) (StandsFor names scope f) (BreaksBody names scope before f)
+  function_ruled : (before : List FunctionSyntax) (f : FunctionSyntax) → Ruled (checked_function names scope f) (FunctionStandsFor names scope f) (BreaksBody names scope before f)
   function_ruled before f =
       let locals = parameter_locals names f.parameters in
       let t = type_meant names f.result_type in
       let Q : Expression → Type 0 = λ x. Elaborates scope locals f.body x t in
-      ruled_like (checked_function names scope f) (λ g. (x : Expression) × Q x × (with_body f x ≡ g)) (StandsFor names scope f)
+      ruled_like (checked_function names scope f) (λ g. (x : Expression) × Q x × (with_body f x ≡ g)) (FunctionStandsFor names scope f)
       (λ kind at. Misfits scope locals t f.body kind at ⊎ ((x : Expression) × Q x × ⊥)) (BreaksBody names scope before f)
-      (λ g (x, h, is). subst (StandsFor names scope f) is (record { name = refl; kind = refl; parameters = refl; result = refl; body = h }))
+      (λ g (x, h, is). subst (FunctionStandsFor names scope f) is (record { name = refl; kind = refl; parameters = refl; result = refl; body = h }))
       (λ g h. (g.body, h.body, same g h)) (λ kind at b. breaks kind at b) (λ kind at b. inl b)
       (ruled_then Q (Misfits scope locals t f.body) (λ x g. with_body f x ≡ g) (λ x kind at. ⊥) (wanted (place_of f.body) t (elaborated scope locals f.body)) (λ x. Sound (with_body f x))
       (wanted_ruled locals t f.body) (λ x h. ruled_sound (with_body f x)))
     where
-      same : (g : Function) → StandsFor names scope f g → with_body f g.body ≡ g
+      same : (g : Function) → FunctionStandsFor names scope f g → with_body f g.body ≡ g
       same g h = by g.name g.kind g.parameters g.result (sym h.name) (sym h.kind) (sym h.parameters) (sym h.result)
         where
           by : (name : List ℕ) (kind : tree.Kind) (parameters : List Ty) (result : Ty) → f.name.name ≡ name → kind_meant f.kind ≡ kind
@@ -75,7 +75,7 @@ module _ (names : List (List ℕ)) (scope : Scope) (whole : IsWhole scope) where
       breaks kind at (inr (x, h, never)) = absurd never
 
   abbrev Stand : List FunctionSyntax → List Function → Type 0
-  Stand fs gs = AllZip (StandsFor names scope) fs gs
+  Stand fs gs = AllZip (FunctionStandsFor names scope) fs gs
 
   abbrev Broken : List FunctionSyntax → List FunctionSyntax → TypeKind → Place → Type 0
   Broken before fs kind at = OneBreaks (HasBody names scope) (BreaksBody names scope) before fs kind at
@@ -91,27 +91,27 @@ module _ (names : List (List ℕ)) (scope : Scope) (whole : IsWhole scope) where
       let behind = before ++ f ∷ [] in
       let Rest : Function → List Function → Type 0 = λ g gs. (hs : List Function) × Stand rest hs × (g ∷ hs ≡ gs) in
       let Later : TypeKind → Place → Type 0 = λ kind at. Broken behind rest kind at ⊎ ((hs : List Function) × Stand rest hs × ⊥) in
-      ruled_like found (λ gs. (g : Function) × StandsFor names scope f g × Rest g gs) (Stand (f ∷ rest))
-      (λ kind at. BreaksBody names scope before f kind at ⊎ ((g : Function) × StandsFor names scope f g × Later kind at)) (Broken before (f ∷ rest))
+      ruled_like found (λ gs. (g : Function) × FunctionStandsFor names scope f g × Rest g gs) (Stand (f ∷ rest))
+      (λ kind at. BreaksBody names scope before f kind at ⊎ ((g : Function) × FunctionStandsFor names scope f g × Later kind at)) (Broken before (f ∷ rest))
       (λ gs (g, hg, (hs, hhs, is)). subst (Stand (f ∷ rest)) is (hg, hhs)) apart (λ kind at b. breaks kind at b) (λ kind at b. broken kind at b)
-      (ruled_then (StandsFor names scope f) (BreaksBody names scope before f) Rest (λ g. Later) (checked_function names scope f)
+      (ruled_then (FunctionStandsFor names scope f) (BreaksBody names scope before f) Rest (λ g. Later) (checked_function names scope f)
       (λ g. then_checked (checked_functions names scope rest) (λ hs. Sound (g ∷ hs))) (function_ruled before f)
       (λ g hg. ruled_then (Stand rest) (Broken behind rest) (λ hs gs. g ∷ hs ≡ gs) (λ hs kind at. ⊥) (checked_functions names scope rest) (λ hs. Sound (g ∷ hs)) (functions_ruled behind rest)
       (λ hs hhs. ruled_sound (g ∷ hs))))
     where
-      apart : (gs : List Function) → Stand (f ∷ rest) gs → (g : Function) × StandsFor names scope f g × ((hs : List Function) × Stand rest hs × (g ∷ hs ≡ gs))
+      apart : (gs : List Function) → Stand (f ∷ rest) gs → (g : Function) × FunctionStandsFor names scope f g × ((hs : List Function) × Stand rest hs × (g ∷ hs ≡ gs))
       apart [] h = absurd h
       apart (g ∷ gs) h = (g, h.0, (gs, h.1, refl))
 
       breaks : (kind : TypeKind) (at : Place)
-          → BreaksBody names scope before f kind at ⊎ ((g : Function) × StandsFor names scope f g × (Broken (before ++ f ∷ []) rest kind at ⊎ ((hs : List Function) × Stand rest hs × ⊥)))
+          → BreaksBody names scope before f kind at ⊎ ((g : Function) × FunctionStandsFor names scope f g × (Broken (before ++ f ∷ []) rest kind at ⊎ ((hs : List Function) × Stand rest hs × ⊥)))
           → Broken before (f ∷ rest) kind at
       breaks kind at (inl b) = ThisBreaks b
       breaks kind at (inr (g, hg, inl b)) = LaterBreaks (g, hg) b
       breaks kind at (inr (g, hg, inr (hs, hhs, never))) = absurd never
 
       broken : (kind : TypeKind) (at : Place) → Broken before (f ∷ rest) kind at
-          → BreaksBody names scope before f kind at ⊎ ((g : Function) × StandsFor names scope f g × (Broken (before ++ f ∷ []) rest kind at ⊎ ((hs : List Function) × Stand rest hs × ⊥)))
+          → BreaksBody names scope before f kind at ⊎ ((g : Function) × FunctionStandsFor names scope f g × (Broken (before ++ f ∷ []) rest kind at ⊎ ((hs : List Function) × Stand rest hs × ⊥)))
       broken kind at (ThisBreaks b) = inl b
       broken kind at (LaterBreaks (g, hg) b) = inr (g, hg, inl b)
 
@@ -129,7 +129,7 @@ module _ (program : Program) where
   with_functions functions = record { format = program_format; types = table_of_program program; state = state_of program; functions = functions }
 
   abbrev Functions : List Function → Type 0
-  Functions = AllZip (StandsFor (names_of program) (scope_of program)) (functions_in program.declarations)
+  Functions = AllZip (FunctionStandsFor (names_of program) (scope_of program)) (functions_in program.declarations)
 
   -- what is behind a pass
   abbrev behind_third : Checking tree.Program

@@ -17,7 +17,7 @@ abbrev pub names_known : Program → Checking (Unit {0})
 names_known program = then_checked (first_pass program) (λ _. second_pass program)
 
 -- over these types, a scope and the number of the state's type stand for what a program declares
-pub record StandsFor (program : Program) (types : List Ty) (held : Scope) (number : TyId) : Type 0 where
+pub record TableStandsFor (program : Program) (types : List Ty) (held : Scope) (number : TyId) : Type 0 where
   pub scope : scope_meant types held ≡ scope_in program.declarations
   pub functions : functions_meant held ≡ functions_in program.declarations
   pub names : type_names held.named.items ≡ names_of program

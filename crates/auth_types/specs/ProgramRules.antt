@@ -19,7 +19,7 @@ use Rattle.auth_types.specs.RoleShapes.{MeetsRole, BreaksRole}
 use Rattle.auth_types.specs.declared.fault.TypeKind.{TypeKind}
 
 -- A function of the tree stands for this one: its body has the type of its result, where its parameters are the locals.
-pub record StandsFor (names : List (List ℕ)) (scope : Scope) (function : FunctionSyntax) (g : Function) : Type 0 where
+pub record FunctionStandsFor (names : List (List ℕ)) (scope : Scope) (function : FunctionSyntax) (g : Function) : Type 0 where
   pub name : g.name ≡ function.name.name
   pub kind : g.kind ≡ kind_meant function.kind
   pub parameters : g.parameters ≡ map (λ (p : ParameterSyntax). type_meant names p.of_type) function.parameters
@@ -28,7 +28,7 @@ pub record StandsFor (names : List (List ℕ)) (scope : Scope) (function : Funct
 
 -- it stands for some, whatever stands before it; or its body breaks a rule or has another type
 abbrev pub HasBody : List (List ℕ) → Scope → List FunctionSyntax → FunctionSyntax → Type 0
-HasBody names scope before function = (g : Function) × StandsFor names scope function g
+HasBody names scope before function = (g : Function) × FunctionStandsFor names scope function g
 
 abbrev pub BreaksBody : List (List ℕ) → Scope → List FunctionSyntax → FunctionSyntax → TypeKind → Place → Type 0
 BreaksBody names scope before function kind at = Misfits scope (parameter_locals names function.parameters) (type_meant names function.result_type) function.body kind at
@@ -52,7 +52,7 @@ pub record Denotes (program : Program) (P : tree.Program) : Type 0 where
   pub declared : AreDeclared program
   pub known : AreKnown program
   pub roles : AreRoles program
-  pub functions : AllZip (StandsFor (names_of program) (scope_of program)) (functions_in program.declarations) P.functions
+  pub functions : AllZip (FunctionStandsFor (names_of program) (scope_of program)) (functions_in program.declarations) P.functions
   pub types : P.types ≡ table_of_program program
   pub state : P.state ≡ state_of program
   pub format : P.format ≡ program_format

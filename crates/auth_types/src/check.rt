@@ -8,7 +8,7 @@ ghost use Rattle.auth_types.specs.Checking.{Sound};
 ghost use Rattle.auth_types.specs.Declarations.{checked_declarations, nothing_declared};
 ghost use Rattle.auth_types.specs.DeclaredNames.{declared_of};
 ghost use Rattle.auth_types.specs.Outcomes.{Checks, Finds};
-ghost use Rattle.auth_types.specs.Passes.{StandsFor, names_known};
+ghost use Rattle.auth_types.specs.Passes.{TableStandsFor, names_known};
 ghost use Rattle.auth_types.specs.ScopeNames.{constructors_meant};
 ghost use Rattle.auth_types.specs.WrittenTypes.{states_in, type_meant};
 
@@ -84,7 +84,7 @@ fn checked_scope<'a>(
     requires known { names_known (written.program_of ast.now) ≡ Sound tt }
     requires declared { checked_declarations nothing_declared (written.declarations_of ast.now.declarations) ≡ Sound (declared_of declared.value) }
     ensures found { Finds (λ _. tt) (specified.third_pass (written.program_of ast.now)) result }
-    ensures shaped { IfOk result (λ shaped. StandsFor (written.program_of ast.now) (types_in shaped.types.value) shaped.scope.value shaped.state) }
+    ensures shaped { IfOk result (λ shaped. TableStandsFor (written.program_of ast.now) (types_in shaped.types.value) shaped.scope.value shaped.state) }
 {
     let mut types = Box::new(alloc, TyTable::new(alloc))?;
     let state = number(

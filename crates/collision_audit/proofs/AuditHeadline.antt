@@ -15,11 +15,11 @@ use Rattle.ideal_meaning.specs.Headline.{TrueOrSplit, call_of}
 use Rattle.ideal_meaning.specs.Ideal.{Outcome, honest_pieces}
 use Rattle.ideal_meaning.proofs.Headline.{headline}
 use Rattle.ideal_meaning.specs.Told.{cause_told}
-use Rattle.verifier_mode.specs.Verdicts.{IsSpelled}
+use Rattle.verifier_mode.specs.Verdicts.{SpellsOutcome}
 use Rattle.core_terms.proofs.CodePrograms.{is_format, is_typed, query_role}
 use Rattle.collision_audit.specs.AuditAnswers.{AuditsTruly, TellsAudit, split_told}
 use Rattle.collision_audit.specs.AuditLaws.{AgreementIsTrue, AuditShowsCollision, IsTrueOutcome}
-use Rattle.collision_audit.specs.Audits.{Collides, Judges, audit_of, unless_split, verdict_on}
+use Rattle.collision_audit.specs.Audits.{Collides, Judges, audit_of, unless_split, verdict_on_projections}
 use Rattle.collision_audit.specs.Splits.{Split, IsSplit, offered_behind, offered_in, split_of}
 use Rattle.collision_audit.specs.declared.auditing.Audited.{Audited}
 use Rattle.collision_audit.specs.declared.auditing.Audited.TheVariants as audited
@@ -45,7 +45,7 @@ audit_shows_collision hash is_hash P format typed f kind t answer role reads sta
     by (inl h) = inl h
     by (inr h) =
         let there = splits_somewhere (digest_at hash P) h.0 (offered_in P.format bytes) (honest_pieces hash P f (call_of state argument) k) h.1 in
-        inr (there.0, ap (λ split. unless_split split (verdict_on hash P t f state argument k bytes)) there.1, (split_is_found (digest_at hash P) (offered_in P.format bytes) (honest_pieces hash P f (call_of state argument) k) there.0).0 there.1)
+        inr (there.0, ap (λ split. unless_split split (verdict_on_projections hash P t f state argument k bytes)) there.1, (split_is_found (digest_at hash P) (offered_in P.format bytes) (honest_pieces hash P f (call_of state argument) k) there.0).0 there.1)
 
 -- an audit that comes to a verdict found no split
 pub judges : (found : Option Split) (v v' : Verdict) → unless_split found v ≡ Judges v' → (found ≡ None) × (v ≡ v')
@@ -55,8 +55,8 @@ judges (Some s) v v' e = absurd (cc (e))
 pub agreement_is_true : AgreementIsTrue
 agreement_is_true hash is_hash P format typed f kind t answer role reads state argument state_ideal argument_ideal k bytes o agreed = by (audit_shows_collision hash is_hash P format typed f kind t answer role reads state argument state_ideal argument_ideal k bytes o none.1)
   where
-    none : (split_of hash P f state argument k bytes ≡ None) × (verdict_on hash P t f state argument k bytes ≡ Accepted o)
-    none = judges (split_of hash P f state argument k bytes) (verdict_on hash P t f state argument k bytes) (Accepted o) agreed
+    none : (split_of hash P f state argument k bytes ≡ None) × (verdict_on_projections hash P t f state argument k bytes ≡ Accepted o)
+    none = judges (split_of hash P f state argument k bytes) (verdict_on_projections hash P t f state argument k bytes) (Accepted o) agreed
 
     by : IsTrueOutcome hash P f (role_result kind P.state answer) state argument k bytes o
         ⊎ ((s : Split) × (audit_of hash P t f state argument k bytes ≡ Collides s)
@@ -80,17 +80,17 @@ audits_truly hash is_hash p f there query state argument state_ideal argument_id
     let P = meaning p in
     let t = argument_type P f in
     let true_outcome = agreement_is_true hash is_hash P (is_format p) (is_typed p) f Query t (function_at P f).result (query_role p f there query) tt state argument state_ideal argument_ideal k proof o agreed in
-    let none = judges (split_of hash P f state argument k proof) (verdict_on hash P t f state argument k proof) (Accepted o) agreed in (
-      subst (λ (o : Outcome). IsSpelled P (function_at P f).result o told) true_outcome.1 spelled,
+    let none = judges (split_of hash P f state argument k proof) (verdict_on_projections hash P t f state argument k proof) (Accepted o) agreed in (
+      subst (λ (o : Outcome). SpellsOutcome P (function_at P f).result o told) true_outcome.1 spelled,
       true_outcome.0,
       (no_split_is_found (digest_at hash P) (offered_in P.format proof) (honest_pieces hash P f (call_of state argument) k)).0 none.0,
     )
 audits_truly hash is_hash p f there query state argument state_ideal argument_ideal k proof (Ok (audited.Collision c)) told =
     let P = meaning p in
-    let split = collides (split_of hash P f state argument k proof) (verdict_on hash P (argument_type P f) f state argument k proof) (split_told c) told in
+    let split = collides (split_of hash P f state argument k proof) (verdict_on_projections hash P (argument_type P f) f state argument k proof) (split_told c) told in
     (split_is_found (digest_at hash P) (offered_in P.format proof) (honest_pieces hash P f (call_of state argument) k) (split_told c)).0 split
 audits_truly hash is_hash p f there query state argument state_ideal argument_ideal k proof (Ok (audited.Rejected cause)) told =
     let P = meaning p in
-    let none = judges (split_of hash P f state argument k proof) (verdict_on hash P (argument_type P f) f state argument k proof) (Rejected (cause_told cause)) told in
+    let none = judges (split_of hash P f state argument k proof) (verdict_on_projections hash P (argument_type P f) f state argument k proof) (Rejected (cause_told cause)) told in
     (no_split_is_found (digest_at hash P) (offered_in P.format proof) (honest_pieces hash P f (call_of state argument) k)).0 none.0
 audits_truly hash is_hash p f there query state argument state_ideal argument_ideal k proof (Err e) told = tt

@@ -23,21 +23,21 @@ use Rattle.verifier_mode.specs.Verdicts.{Answers}
 use Rattle.verifier_mode.specs.declared.judge.Verdict as code
 use Rattle.verifier_mode.specs.declared.judge.Verdict.TheVariants as verdicts
 use Rattle.collision_audit.specs.AuditAnswers.{TellsProof}
-use Rattle.collision_audit.specs.Audits.{IsOnProof, verdict_on}
+use Rattle.collision_audit.specs.Audits.{IsOnProof, verdict_on_projections}
 use Rattle.collision_audit.proofs.OnProof.{verdict_is_on_proof}
 
 -- what the verifier answers tells a verdict on the proof
 pub tells_proof : (hash : Hash) → IsHash hash → (p : Program) (f : ℕ) (s a : InHand) (k : ℕ) (proof : List ℕ)
     → IsInHand (meaning p) (meaning p).state s → IsInHand (meaning p) (argument_type (meaning p) f) a → (result : Result (Outcome Spelling) code.Verdict)
-    → Answers (meaning p) f (verdict_on hash (meaning p) (argument_type (meaning p) f) f (value_of s) (value_of a) k proof) result → TellsProof result
+    → Answers (meaning p) f (verdict_on_projections hash (meaning p) (argument_type (meaning p) f) f (value_of s) (value_of a) k proof) result → TellsProof result
 tells_proof hash is_hash p f s a k proof state_in_hand argument_in_hand = by
   where
-    of_proof : IsOnProof (verdict_on hash (meaning p) (argument_type (meaning p) f) f (value_of s) (value_of a) k proof)
+    of_proof : IsOnProof (verdict_on_projections hash (meaning p) (argument_type (meaning p) f) f (value_of s) (value_of a) k proof)
     of_proof =
         verdict_is_on_proof hash is_hash (meaning p) (is_format p) (argument_type (meaning p) f) f (value_of s) (value_of a) state_in_hand.0 argument_in_hand.0
         (in_hand_is_within p (meaning p).state s state_in_hand).0 (in_hand_is_within p (argument_type (meaning p) f) a argument_in_hand).0 k proof
 
-    by : (result : Result (Outcome Spelling) code.Verdict) → Answers (meaning p) f (verdict_on hash (meaning p) (argument_type (meaning p) f) f (value_of s) (value_of a) k proof) result → TellsProof result
+    by : (result : Result (Outcome Spelling) code.Verdict) → Answers (meaning p) f (verdict_on_projections hash (meaning p) (argument_type (meaning p) f) f (value_of s) (value_of a) k proof) result → TellsProof result
     by (Ok told) answers = tt
     by (Err (verdicts.Rejected cause)) answers = tt
     by (Err (verdicts.BadState offset)) answers = subst IsOnProof answers of_proof
@@ -60,7 +60,7 @@ spelled_at hash p ty t v lent bytes e is_lent is = is_lent ∙ (is ∙ ap (λ (t
 -- the verdict on these spellings
 pub answers_on : (hash : Hash) (P : tree.Program) (f : ℕ) (s a : Value) (k : ℕ) (proof state argument : List ℕ) (result : Result (Outcome Spelling) code.Verdict)
     → state ≡ spelling (projection hash P P.state s) → argument ≡ spelling (projection hash P (argument_type P f) a)
-    → Answers P f (verdict hash P (argument_type P f) f state argument k proof) result → Answers P f (verdict_on hash P (argument_type P f) f s a k proof) result
+    → Answers P f (verdict hash P (argument_type P f) f state argument k proof) result → Answers P f (verdict_on_projections hash P (argument_type P f) f s a k proof) result
 answers_on hash P f s a k proof state argument result state_is argument_is answers =
     subst (λ (bytes : List ℕ). Answers P f (verdict hash P (argument_type P f) f (spelling (projection hash P P.state s)) bytes k proof) result) argument_is
     (subst (λ (bytes : List ℕ). Answers P f (verdict hash P (argument_type P f) f bytes argument k proof) result) state_is answers)

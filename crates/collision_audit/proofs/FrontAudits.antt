@@ -10,7 +10,7 @@ use Rattle.ideal_meaning.specs.Frames.{header, offered, offered_pieces}
 use Rattle.ideal_meaning.specs.Headline.{call_of}
 use Rattle.ideal_meaning.specs.Ideal.{Piece, honest_pieces}
 use Rattle.collision_audit.specs.AuditLaws.{EndsWithItsFrame}
-use Rattle.collision_audit.specs.Audits.{unless_split, verdict_on}
+use Rattle.collision_audit.specs.Audits.{unless_split, verdict_on_projections}
 use Rattle.collision_audit.specs.Splits.{IsSplit, left_behind, offered_behind, offered_in, split_of}
 use Rattle.collision_audit.proofs.AuditHeadline.{collides}
 use Rattle.collision_audit.proofs.FirstSplits.{split_is_found}
@@ -73,7 +73,7 @@ module _ (format : Format) (front more other : List ℕ) (i n : ℕ) (good : hea
 pub ends_with_its_frame : EndsWithItsFrame
 ends_with_its_frame hash P t f state argument k front more other s shown left =
     let honest = honest_pieces hash P f (call_of state argument) k in
-    let found = collides (split_of hash P f state argument k (front ++ more)) (verdict_on hash P t f state argument k (front ++ more)) s shown in
+    let found = collides (split_of hash P f state argument k (front ++ more)) (verdict_on_projections hash P t f state argument k (front ++ more)) s shown in
     let split = (split_is_found (digest_at hash P) (offered_in P.format (front ++ more)) honest s).0 found in
     let head = behind_header (header P.format (front ++ more)) (λ n. left_behind (offered P.format.limit (drop 6 (front ++ more)) n []) s.place) (length more) left in
     let same = same_pieces P.format front more other s.place head.0 head.1 head.2 in
@@ -83,4 +83,4 @@ ends_with_its_frame hash P t f state argument k front more other s shown left =
       offered_there = piece_alike s.place (offered_in P.format (front ++ more)) (offered_in P.format (front ++ other)) s.offered same split.offered_there;
       honest_there = split.honest_there;
     } in
-    ap (λ found. unless_split found (verdict_on hash P t f state argument k (front ++ other))) ((split_is_found (digest_at hash P) (offered_in P.format (front ++ other)) honest s).1 again)
+    ap (λ found. unless_split found (verdict_on_projections hash P t f state argument k (front ++ other))) ((split_is_found (digest_at hash P) (offered_in P.format (front ++ other)) honest s).1 again)

@@ -13,7 +13,7 @@ use Rattle.ideal_meaning.specs.Run.{Run, Gives, Ends, Traps, IsOut, Rejects}
 use Rattle.ideal_meaning.proofs.Opening.{ReadsBack}
 use Rattle.ideal_meaning.proofs.Projections.{reads_back}
 use Rattle.collision_audit.specs.AuditLaws.{VerdictIsOnProof}
-use Rattle.collision_audit.specs.Audits.{IsOnProof, verdict_on}
+use Rattle.collision_audit.specs.Audits.{IsOnProof, verdict_on_projections}
 
 of_rest : (o : Outcome) (n : ℕ) → IsOnProof (with_rest o n)
 of_rest o zero = tt
@@ -35,7 +35,7 @@ module _ (hash : Hash) (P : Program) (t : Ty) (f : ℕ) (state argument : Value)
       subst IsOnProof (sym (ap (λ r. with_argument hash P (projection hash P P.state state) r f k proof) back.1.1)) (header_is_on_proof hash P (header P.format proof) f _ k proof)
   at_argument (inr refused) = absurd (refused.0 argument_fits)
 
-  at_state : ReadsBack hash P t argument → ReadsBack hash P P.state state → IsOnProof (verdict_on hash P t f state argument k proof)
+  at_state : ReadsBack hash P t argument → ReadsBack hash P P.state state → IsOnProof (verdict_on_projections hash P t f state argument k proof)
   at_state argument_back (inl back) =
       subst IsOnProof (sym (ap (λ r. with_state hash P t r (spelling (projection hash P t argument)) f k proof) back.1.1)) (at_argument argument_back)
   at_state argument_back (inr refused) = absurd (refused.0 state_fits)

@@ -21,7 +21,7 @@ use Rattle.ideal_meaning.proofs.Opening.{ReadsBack}
 use Rattle.ideal_meaning.proofs.Projections.{reads_back}
 use Rattle.ideal_meaning.proofs.RoleCalls.{parameters_are}
 use Rattle.collision_audit.specs.AuditLaws.{EndsWithTheDifference, FirstDifferAt}
-use Rattle.collision_audit.specs.Audits.{unless_split, verdict_on}
+use Rattle.collision_audit.specs.Audits.{unless_split, verdict_on_projections}
 use Rattle.collision_audit.specs.Splits.{Split, first_split, left_behind, offered_behind, offered_in, split_from, split_of}
 use Rattle.collision_audit.proofs.FirstSplits.{splits_somewhere}
 use Rattle.collision_audit.proofs.FrontAudits.{behind_header, same_header, same_pieces}
@@ -302,13 +302,13 @@ module _ (hash : Hash) (is_hash : IsHash hash) (P : Program) (format : IsFormat 
       ∙ (at_frames state_fits back.0
       ∙ sym (ap (λ r. with_argument hash P s r f k bytes') back.1.1 ∙ ap (λ h. with_header hash P h f (call_of s a) k bytes') good')))
 
-  at_state : ReadsBack hash P P.state state → verdict_on hash P t f state argument k bytes ≡ verdict_on hash P t f state argument k bytes'
+  at_state : ReadsBack hash P P.state state → verdict_on_projections hash P t f state argument k bytes ≡ verdict_on_projections hash P t f state argument k bytes'
   at_state (inr refused) = ap (λ r. with_state hash P t r (spelling a) f k bytes) refused.1.1 ∙ sym (ap (λ r. with_state hash P t r (spelling a) f k bytes') refused.1.1)
   at_state (inl back) =
       ap (λ r. with_state hash P t r (spelling a) f k bytes) back.1.1
       ∙ (at_argument back.0 (reads_back hash is_hash P format t argument argument_ideal) ∙ sym (ap (λ r. with_state hash P t r (spelling a) f k bytes') back.1.1))
 
-  one_verdict : verdict_on hash P t f state argument k bytes ≡ verdict_on hash P t f state argument k bytes'
+  one_verdict : verdict_on_projections hash P t f state argument k bytes ≡ verdict_on_projections hash P t f state argument k bytes'
   one_verdict = at_state (reads_back hash is_hash P format P.state state state_ideal)
 
 pub ends_with_the_difference : EndsWithTheDifference
@@ -325,12 +325,12 @@ ends_with_the_difference hash is_hash P format typed f kind t answer role reads 
     found = found_alike (digest_at hash P) 0 i (offered_in P.format (front ++ more)) (offered_in P.format (front ++ other)) (honest_pieces hash P f (call_of state argument) k) same differ
 
     by : (o : Option Split) → split_of hash P f state argument k (front ++ more) ≡ o
-        → unless_split (split_of hash P f state argument k (front ++ other)) (verdict_on hash P t f state argument k (front ++ other))
-        ≡ unless_split (split_of hash P f state argument k (front ++ more)) (verdict_on hash P t f state argument k (front ++ more))
+        → unless_split (split_of hash P f state argument k (front ++ other)) (verdict_on_projections hash P t f state argument k (front ++ other))
+        ≡ unless_split (split_of hash P f state argument k (front ++ more)) (verdict_on_projections hash P t f state argument k (front ++ more))
     by (Some s) e =
-        ap (λ o. unless_split o (verdict_on hash P t f state argument k (front ++ other))) (sym found ∙ e)
-        ∙ sym (ap (λ o. unless_split o (verdict_on hash P t f state argument k (front ++ more))) e)
+        ap (λ o. unless_split o (verdict_on_projections hash P t f state argument k (front ++ other))) (sym found ∙ e)
+        ∙ sym (ap (λ o. unless_split o (verdict_on_projections hash P t f state argument k (front ++ more))) e)
     by None e =
-        ap (λ o. unless_split o (verdict_on hash P t f state argument k (front ++ other))) (sym found)
+        ap (λ o. unless_split o (verdict_on_projections hash P t f state argument k (front ++ other))) (sym found)
         ∙ sym (ap (unless_split (split_of hash P f state argument k (front ++ more)))
         (one_verdict hash is_hash P format typed f kind t answer role reads state argument state_ideal argument_ideal k (front ++ more) (front ++ other) head.0 i head.1 (same_header P.format front more other i head.0 head.1 head.2) same differ e))

@@ -15,7 +15,7 @@ use Rattle.plain_meaning.specs.Telling.{opened_in}
 use Rattle.plain_meaning.specs.declared.running.Opened.{Opened}
 use Rattle.core_terms.specs.Roles.{argument_type}
 use Rattle.collision_audit.specs.AuditAnswers.{TellsAudit, TellsVerdict, honest_of, split_told}
-use Rattle.collision_audit.specs.Audits.{Collides, audit_of, unless_split, verdict_on}
+use Rattle.collision_audit.specs.Audits.{Collides, audit_of, unless_split, verdict_on_projections}
 use Rattle.collision_audit.specs.Splits.{Split, first_split, offered_in, split_of}
 use Rattle.collision_audit.specs.declared.auditing.Audited.{Audited}
 use Rattle.collision_audit.specs.declared.auditing.Audited.TheVariants as audited
@@ -41,13 +41,13 @@ module _ (hash : Hash) (p : Program) (f : ℕ) (s a state argument : Value) (k :
       → option_map split_told found ≡ first_split (digest_at hash (meaning p)) (offered_in (meaning p).format proof) (honest_of hash p opened)
       → audit_of hash (meaning p) (argument_type (meaning p) f) f state argument k proof ≡ Collides (split_told collision)
   tells_collision found collision some is =
-      ap (λ found. unless_split found (verdict_on hash (meaning p) (argument_type (meaning p) f) f state argument k proof)) (sym found_of_call ∙ (sym is ∙ ap (option_map split_told) some))
+      ap (λ found. unless_split found (verdict_on_projections hash (meaning p) (argument_type (meaning p) f) f state argument k proof)) (sym found_of_call ∙ (sym is ∙ ap (option_map split_told) some))
 
   pub tells_judged : (found : Option Collision) (result : Result Audited AllocError) → found ≡ None
       → option_map split_told found ≡ first_split (digest_at hash (meaning p)) (offered_in (meaning p).format proof) (honest_of hash p opened)
-      → TellsVerdict (meaning p) f (verdict_on hash (meaning p) (argument_type (meaning p) f) f s a k proof) result
+      → TellsVerdict (meaning p) f (verdict_on_projections hash (meaning p) (argument_type (meaning p) f) f s a k proof) result
       → TellsAudit (meaning p) f (audit_of hash (meaning p) (argument_type (meaning p) f) f state argument k proof) result
   tells_judged found result none is tells =
       judged_audit (meaning p) f _ _ result (sym found_of_call ∙ (sym is ∙ ap (option_map split_told) none))
-      (subst (λ (v : Value). TellsVerdict (meaning p) f (verdict_on hash (meaning p) (argument_type (meaning p) f) f state v k proof) result) argument_is
-      (subst (λ (v : Value). TellsVerdict (meaning p) f (verdict_on hash (meaning p) (argument_type (meaning p) f) f v a k proof) result) state_is tells))
+      (subst (λ (v : Value). TellsVerdict (meaning p) f (verdict_on_projections hash (meaning p) (argument_type (meaning p) f) f state v k proof) result) argument_is
+      (subst (λ (v : Value). TellsVerdict (meaning p) f (verdict_on_projections hash (meaning p) (argument_type (meaning p) f) f v a k proof) result) state_is tells))

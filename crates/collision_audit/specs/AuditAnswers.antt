@@ -16,7 +16,7 @@ use Rattle.ideal_meaning.specs.Ideal.{Piece, bytes_of, honest_piece, honest_piec
 use Rattle.plain_meaning.specs.Telling.{opened_in}
 use Rattle.plain_meaning.specs.declared.running.Opened.{Opened}
 use Rattle.ideal_meaning.specs.Told.{cause_told}
-use Rattle.verifier_mode.specs.Verdicts.{IsSpelled}
+use Rattle.verifier_mode.specs.Verdicts.{SpellsOutcome}
 use Rattle.verifier_mode.specs.declared.judge.Verdict.{Verdict}
 use Rattle.verifier_mode.specs.declared.judge.Verdict.TheVariants as verdicts
 use Rattle.collision_audit.specs.Audits.{Audit, Collides, Judges}
@@ -41,14 +41,14 @@ TellsProof verdict = ⊤
 
 -- The answer tells the verdict on a call of function f; where memory was wanting it tells nothing.
 abbrev pub TellsVerdict : Program → ℕ → checked.Verdict → Result Audited AllocError → Type 0
-TellsVerdict P f verdict (Ok (audited.Agrees told)) = (o : ideal.Outcome) × (verdict ≡ checked.Accepted o) × IsSpelled P (function_at P f).result o told
+TellsVerdict P f verdict (Ok (audited.Agrees told)) = (o : ideal.Outcome) × (verdict ≡ checked.Accepted o) × SpellsOutcome P (function_at P f).result o told
 TellsVerdict P f verdict (Ok (audited.Collision c)) = ⊥
 TellsVerdict P f verdict (Ok (audited.Rejected cause)) = verdict ≡ checked.Rejected (cause_told cause)
 TellsVerdict P f verdict (Err e) = ⊤
 
 -- The answer tells the audit of a call of function f, with each field; where memory was wanting it tells nothing.
 abbrev pub TellsAudit : Program → ℕ → Audit → Result Audited AllocError → Type 0
-TellsAudit P f audit (Ok (audited.Agrees told)) = (o : ideal.Outcome) × (audit ≡ Judges (checked.Accepted o)) × IsSpelled P (function_at P f).result o told
+TellsAudit P f audit (Ok (audited.Agrees told)) = (o : ideal.Outcome) × (audit ≡ Judges (checked.Accepted o)) × SpellsOutcome P (function_at P f).result o told
 TellsAudit P f audit (Ok (audited.Collision c)) = audit ≡ Collides (split_told c)
 TellsAudit P f audit (Ok (audited.Rejected cause)) = audit ≡ Judges (checked.Rejected (cause_told cause))
 TellsAudit P f audit (Err e) = ⊤
@@ -63,7 +63,7 @@ HasNoSplit hash P f state argument k proof =
 -- shows the two pieces there. What is rejected has no split.
 abbrev pub AuditsTruly : Hash → Program → ℕ → (state argument : Value) → ℕ → List ℕ → Result Audited AllocError → Type 0
 AuditsTruly hash P f state argument k proof (Ok (audited.Agrees told)) =
-    IsSpelled P (function_at P f).result (ideal.outcome_projection hash P (function_at P f).result (ideal.outcome (ideal.ideal P f (call_of state argument) k))) told
+    SpellsOutcome P (function_at P f).result (ideal.outcome_projection hash P (function_at P f).result (ideal.outcome (ideal.ideal P f (call_of state argument) k))) told
     × (offered_in P.format proof ≡ bytes_of (honest_pieces hash P f (call_of state argument) k))
     × HasNoSplit hash P f state argument k proof
 AuditsTruly hash P f state argument k proof (Ok (audited.Collision c)) =

@@ -9,7 +9,7 @@ use Rattle.core_terms.specs.Values.{Value, IsIdeal}
 use Rattle.ideal_meaning.specs.Checked.{Accepted, IsSplitAt}
 use Rattle.ideal_meaning.specs.Headline.{call_of}
 use Rattle.ideal_meaning.specs.Ideal.{Outcome, Piece, bytes_of, honest_pieces, ideal, outcome, outcome_projection}
-use Rattle.collision_audit.specs.Audits.{Collides, IsOnProof, Judges, audit_of, verdict_on}
+use Rattle.collision_audit.specs.Audits.{Collides, IsOnProof, Judges, audit_of, verdict_on_projections}
 use Rattle.collision_audit.specs.Splits.{Split, IsSplit, first_split, offered_in, rest_behind}
 
 -- A split that is found is one in the words of the headline, with its two pieces, and each such one is found.
@@ -36,7 +36,7 @@ AuditShowsCollision = (hash : Hash) → IsHash hash → (P : Program) → IsForm
     → (f : ℕ) (kind : Kind) (t answer : Ty) → IsRole P f kind t answer → ReadsState kind
     → (state argument : Value) → IsIdeal P.types P.state state → IsIdeal P.types t argument
     → (k : ℕ) (bytes : List ℕ) (o : Outcome)
-    → verdict_on hash P t f state argument k bytes ≡ Accepted o
+    → verdict_on_projections hash P t f state argument k bytes ≡ Accepted o
     → IsTrueOutcome hash P f (role_result kind P.state answer) state argument k bytes o
     ⊎ ((s : Split) × (audit_of hash P t f state argument k bytes ≡ Collides s)
     × IsSplit (digest_at hash P) (offered_in P.format bytes) (honest_pieces hash P f (call_of state argument) k) s)
@@ -54,7 +54,7 @@ AgreementIsTrue = (hash : Hash) → IsHash hash → (P : Program) → IsFormat P
 abbrev pub VerdictIsOnProof : Type 0
 VerdictIsOnProof = (hash : Hash) → IsHash hash → (P : Program) → IsFormat P.format
     → (t : Ty) (f : ℕ) (state argument : Value) → IsIdeal P.types P.state state → IsIdeal P.types t argument → Fits P P.state state → Fits P t argument
-    → (k : ℕ) (bytes : List ℕ) → IsOnProof (verdict_on hash P t f state argument k bytes)
+    → (k : ℕ) (bytes : List ℕ) → IsOnProof (verdict_on_projections hash P t f state argument k bytes)
 
 -- A collision depends on no byte behind its frame. Where the frame of the first piece that differs ends with `front`, the audit of
 -- every proof file that begins with `front` shows that collision, whatever follows.

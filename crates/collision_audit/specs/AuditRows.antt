@@ -8,7 +8,7 @@ use Rattle.ideal_meaning.specs.Checked.{Short, WrongPiece, Header, Leftover, Acc
 use Rattle.ideal_meaning.specs.Examples.{function, program, toy, pair_program}
 use Rattle.ideal_meaning.specs.ExampleProofs.{file, forged_file, garbled_file}
 use Rattle.ideal_meaning.specs.Ideal.{Done, Out}
-use Rattle.collision_audit.specs.Audits.{Audit, Collides, Judges, audit_of, verdict_on}
+use Rattle.collision_audit.specs.Audits.{Audit, Collides, Judges, audit_of, verdict_on_projections}
 
 -- Two bools under one digest, true and false. The offered piece `00 01` has the digest of the honest one and is accepted as false
 -- and true; the offered piece `03 02` has it too and is no spelling. Both are shown.
@@ -47,7 +47,7 @@ abbrev pub on_twice : List ℕ → Audit
 on_twice frames = audit_of toy int_program UnitTy 2 (IntV (pos 258)) UnitV 1 (file (0 ∷ 0 ∷ frames))
 
 -- `02 01` in the place of `01 02`: the verifier accepts 513, the audit shows both pieces
-pub swapped_bytes_are_accepted : verdict_on toy int_program UnitTy 1 (IntV (pos 258)) UnitV 1 (file (0 ∷ 0 ∷ frame_of_8 2 1)) ≡ Accepted (Done (IntV (pos 513)))
+pub swapped_bytes_are_accepted : verdict_on_projections toy int_program UnitTy 1 (IntV (pos 258)) UnitV 1 (file (0 ∷ 0 ∷ frame_of_8 2 1)) ≡ Accepted (Done (IntV (pos 513)))
 swapped_bytes_are_accepted = refl
 
 pub swapped_bytes_are_shown : on_get (frame_of_8 2 1) ≡ Collides (record { place = 0; offered = piece_of_8 2 1; honest = piece_of_8 1 2 })

@@ -20,13 +20,13 @@ unless_split (Some split) v = Collides split
 unless_split None v = Judges v
 
 -- what a verifier answers who is given no more of the state and of the argument, which has type t, than the spellings of their projections
-abbrev pub verdict_on : Hash → Program → Ty → ℕ → (state argument : Value) → ℕ → List ℕ → Verdict
-verdict_on hash P t f state argument k bytes = verdict hash P t f (spelling (projection hash P P.state state)) (spelling (projection hash P t argument)) k bytes
+abbrev pub verdict_on_projections : Hash → Program → Ty → ℕ → (state argument : Value) → ℕ → List ℕ → Verdict
+verdict_on_projections hash P t f state argument k bytes = verdict hash P t f (spelling (projection hash P P.state state)) (spelling (projection hash P t argument)) k bytes
 
 -- The audit of the bytes of a proof file, for a call of function f with fuel k on an ideal state and an ideal argument of type t:
 -- the first pieces that differ, offered and honest, where they have one digest; else the verifier's verdict.
 abbrev pub audit_of : Hash → Program → Ty → ℕ → (state argument : Value) → ℕ → List ℕ → Audit
-audit_of hash P t f state argument k bytes = unless_split (split_of hash P f state argument k bytes) (verdict_on hash P t f state argument k bytes)
+audit_of hash P t f state argument k bytes = unless_split (split_of hash P f state argument k bytes) (verdict_on_projections hash P t f state argument k bytes)
 
 -- the verdict is one on the proof, and none on the state or the argument
 abbrev pub IsOnProof : Verdict → Type 0

@@ -9,7 +9,7 @@ ghost use Rattle.plain_meaning.specs.PlainValues.{AreInHand, plain_of, value_of}
 ghost use Rattle.core_terms.specs.Roles.{argument_type};
 ghost use Rattle.verifier_mode.specs.Verdicts.{Answers};
 ghost use Rattle.collision_audit.specs.AuditAnswers.{AuditsTruly, TellsAudit, TellsProof, TellsVerdict};
-ghost use Rattle.collision_audit.specs.Audits.{audit_of, verdict_on};
+ghost use Rattle.collision_audit.specs.Audits.{audit_of, verdict_on_projections};
 
 use crate::collision::{Collision, first_collision};
 use core_terms::{Cause, FunctionId, Hash32, Outcome, Program, Spelling};
@@ -75,7 +75,7 @@ fn judge<H: Hash32>(
     requires typed { AreInHand (meaning program.now) (function_at (meaning program.now) role.0).parameters (state ∷ argument ∷ []) }
     requires fuel_fits { fuel ≤ 10 ^ 12 }
     ensures { let P = meaning program.now in
-        TellsVerdict P role.0 (verdict_on H.hash P (argument_type P role.0) role.0 (value_of state.entry) (value_of argument.entry) fuel proof.now) result }
+        TellsVerdict P role.0 (verdict_on_projections H.hash P (argument_type P role.0) role.0 (value_of state.entry) (value_of argument.entry) fuel proof.now) result }
 {
     // of a query: the state and the argument
     let parameters = &program.function(role).parameters;

@@ -32,3 +32,5 @@ pub mod LanguageConstructors
 -- the fragment's table of types
 pub mod TypeTables
 pub mod TypePushing
+-- the definitions of limits, computed on cases
+mod LimitRows

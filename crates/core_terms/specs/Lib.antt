@@ -25,4 +25,5 @@ pub mod ReadingRows
 pub mod TypingRows
 pub mod RoleRows
 pub mod LimitRows
+pub mod FormatRows
 pub mod Faults

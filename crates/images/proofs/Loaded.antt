@@ -7,7 +7,7 @@ use Rattle.core_terms.specs.declared.program.Program.{Program}
 use Rattle.images.specs.Images.{Entry, Loading, FaultyImage, checked_entry, field_count, load_records, stands_for, with_record}
 use Rattle.images.specs.Images as meant
 use Rattle.images.specs.KeptValues.{entries_of, entry_of}
-use Rattle.images.specs.Loads.{AreLoaded, IsNext, StandsFor, Tells}
+use Rattle.images.specs.Loads.{AreLoaded, IsNext, StandsForEntry, TellsFault}
 use Rattle.images.specs.Parts.{is_part}
 use Rattle.images.specs.Records.{ReadRecord, CutRecord, NoRecord, read_record}
 use Rattle.images.specs.Records as defined
@@ -38,14 +38,14 @@ module _ (p : Program) (file_size i : ℕ) (entries : List Entry) (bytes : List 
 
   module _ (found : defined.Record) (rest : List ℕ) (is_read : read_record (field_count (meaning p) file_size) bytes ≡ ReadRecord found rest) where
     -- the record stands for something
-    pub next_kept : (kept : Kept) → StandsFor (λ go. checked_entry (meaning p) file_size i (stands_for [] entries found) go) (Ok kept)
+    pub next_kept : (kept : Kept) → StandsForEntry (λ go. checked_entry (meaning p) file_size i (stands_for [] entries found) go) (Ok kept)
         → (go : Entry → List ℕ → Loading) → next_of go ≡ go (entry_of kept) rest
     next_kept kept h go = ap (λ r. with_record (meaning p) file_size i entries r go) is_read ∙ h (λ e. go e rest)
 
     -- or for nothing
-    pub next_fault : (fault : ImageFault) → StandsFor (λ go. checked_entry (meaning p) file_size i (stands_for [] entries found) go) (Err fault)
+    pub next_fault : (fault : ImageFault) → StandsForEntry (λ go. checked_entry (meaning p) file_size i (stands_for [] entries found) go) (Err fault)
         → IsNext next_of (Err fault)
-    next_fault fault h = λ go. subst (λ r. Tells (λ f. with_record (meaning p) file_size i entries r go ≡ FaultyImage f) fault) (sym is_read) (h (λ e. go e rest))
+    next_fault fault h = λ go. subst (λ r. TellsFault (λ f. with_record (meaning p) file_size i entries r go ≡ FaultyImage f) fault) (sym is_read) (h (λ e. go e rest))
 
 module _ (p : Program) (file_size count number : ℕ) (kept : List Kept) (bytes : List ℕ) (counted : length kept ≡ number) (more : number < count) where
   abbrev loading : Loading
@@ -65,4 +65,4 @@ module _ (p : Program) (file_size count number : ℕ) (kept : List Kept) (bytes 
       sym (one_more ∙ h _ ∙ ap (λ entries. load_records (meaning p) file_size (count - (number + 1)) entries next.rest.now) (sym (map-append entry_of kept (next.kept ∷ []))))
 
   pub with_fault : (fault : ImageFault) → IsNext (next_of p file_size number (entries_of kept) bytes) (Err fault) → AreLoaded loading (Err fault)
-  with_fault fault h = subst (λ l. Tells (λ f. l ≡ FaultyImage f) fault) (sym one_more) (h _)
+  with_fault fault h = subst (λ l. TellsFault (λ f. l ≡ FaultyImage f) fault) (sym one_more) (h _)

@@ -6,7 +6,7 @@ use Rattle.core_terms.specs.declared.program.Program.{Program}
 use Rattle.images.specs.Images.{Image, FaultyImage, Refused, as_image, headed, image_of, last, load_records, rooted}
 use Rattle.images.specs.Images as meant
 use Rattle.images.specs.KeptValues.{entries_of}
-use Rattle.images.specs.Loads.{AreLoaded, IsHeaded, LoadsAs, Tells}
+use Rattle.images.specs.Loads.{AreLoaded, IsHeaded, LoadsAs, TellsFault}
 use Rattle.images.specs.declared.fault.ImageFault.{ImageFault}
 use Rattle.images.specs.declared.fault.ImageFault.TheVariants.{Magic, Cut, OtherProgram, BadRecord, TooBig, TooDeep, RootType, Leftover, NoMemory}
 use Rattle.images.specs.declared.header.Header.{Header}
@@ -14,7 +14,7 @@ use Rattle.images.specs.declared.load.Records.{Records}
 use Rattle.plain_meaning.specs.declared.values.Plain.{Plain}
 
 -- a fault of which one thing holds, and so another
-told_on : (F G : meant.ImageFault → Type 0) → ((f : meant.ImageFault) → F f → G f) → (fault : ImageFault) → Tells F fault → Tells G fault
+told_on : (F G : meant.ImageFault → Type 0) → ((f : meant.ImageFault) → F f → G f) → (fault : ImageFault) → TellsFault F fault → TellsFault G fault
 told_on F G on Magic h = on _ h
 told_on F G on (Cut n) h = on _ h
 told_on F G on OtherProgram h = on _ h

@@ -8,7 +8,7 @@ use Rattle.core_terms.specs.Programs.{meaning}
 use Rattle.core_terms.specs.declared.program.Program.{Program}
 use Rattle.images.specs.Images.{Entry, entry, Loading, FaultyImage, BadRecord, checked_entry, pair_from, stands_for}
 use Rattle.images.specs.KeptValues.{entries_of, entry_of}
-use Rattle.images.specs.Loads.{StandsFor}
+use Rattle.images.specs.Loads.{StandsForEntry}
 use Rattle.images.specs.Parts.{is_part}
 use Rattle.images.specs.PlainTypes.{type_of, type_of_leaf, within_auth}
 use Rattle.images.specs.ReadRecords.{record_told}
@@ -58,7 +58,7 @@ module _ (p : Program) (state : PlainType) (is_state : type_of state ≡ (meanin
 
   -- a record that is another one
   pub at_record : (entries : List Entry) (found other : Record) (result : Result Kept ImageFault) → found ≡ other
-      → StandsFor (λ go. checked_entry (meaning p) file_size i (stands_for [] entries (record_told other)) go) result
-      → StandsFor (λ go. checked_entry (meaning p) file_size i (stands_for [] entries (record_told found)) go) result
+      → StandsForEntry (λ go. checked_entry (meaning p) file_size i (stands_for [] entries (record_told other)) go) result
+      → StandsForEntry (λ go. checked_entry (meaning p) file_size i (stands_for [] entries (record_told found)) go) result
   at_record entries found other result is h =
-      subst (λ r. StandsFor (λ go. checked_entry (meaning p) file_size i (stands_for [] entries (record_told r)) go) result) (sym is) h
+      subst (λ r. StandsForEntry (λ go. checked_entry (meaning p) file_size i (stands_for [] entries (record_told r)) go) result) (sym is) h

@@ -5,7 +5,7 @@ ghost use Rattle.core_terms.specs.declared.program.Program as code;
 ghost use Rattle.images.specs.Images.{checked_entry, entry, field_count, image_of, last, rooted, with_record};
 ghost use Rattle.images.specs.Images as meant;
 ghost use Rattle.images.specs.KeptValues.{entries_of, entry_of, leaf_type, leaf_value};
-ghost use Rattle.images.specs.Loads.{AreLoaded, IsNext, LoadsAs, StandsFor};
+ghost use Rattle.images.specs.Loads.{AreLoaded, IsNext, LoadsAs, StandsForEntry};
 ghost use Rattle.images.specs.PlainTypes.{type_of};
 ghost use Rattle.plain_meaning.specs.PlainValues.{plain_of};
 ghost use Rattle.images.specs.ReadRecords.{HasText, record_told};
@@ -105,7 +105,7 @@ fn stands_for<'a>(
     found: Record<'a>,
 ) -> Result<Kept<'a>, ImageFault>
     requires { HasText found }
-    ensures { (p : code.Program) → type_of state ≡ (meaning p).state → (size : ℕ) → StandsFor (λ go. checked_entry (meaning p) size number (meant.stands_for [] (entries_of kept.now) (record_told found.entry)) go) result }
+    ensures { (p : code.Program) → type_of state ≡ (meaning p).state → (size : ℕ) → StandsForEntry (λ go. checked_entry (meaning p) size number (meant.stands_for [] (entries_of kept.now) (record_told found.entry)) go) result }
 {
     match found {
         Record::UnitRecord => leaf(state, number, Leaf::UnitValue),
@@ -119,7 +119,7 @@ fn stands_for<'a>(
 
 /// A value of a type without parts, which must be a part of the state's. No such value is beyond the limits.
 fn leaf<'a>(state: PlainType, number: u32, leaf: Leaf<'a>) -> Result<Kept<'a>, ImageFault>
-    ensures { (p : code.Program) → type_of state ≡ (meaning p).state → (size : ℕ) → StandsFor (λ go. checked_entry (meaning p) size number (Some (entry (leaf_type leaf.entry) (leaf_value leaf.entry))) go) result }
+    ensures { (p : code.Program) → type_of state ≡ (meaning p).state → (size : ℕ) → StandsForEntry (λ go. checked_entry (meaning p) size number (Some (entry (leaf_type leaf.entry) (leaf_value leaf.entry))) go) result }
 {
     let kept = Kept { leaf, layers: 0 };
     if !kept.plain_type().is_part_of(state) {
@@ -131,7 +131,7 @@ fn leaf<'a>(state: PlainType, number: u32, leaf: Leaf<'a>) -> Result<Kept<'a>, I
 /// A text, where it is a part of the state's type and within the limits.
 fn text<'a>(state: PlainType, number: u32, bytes: &'a [u8]) -> Result<Kept<'a>, ImageFault>
     requires { is_utf8 bytes.now ≡ true }
-    ensures { (p : code.Program) → type_of state ≡ (meaning p).state → (size : ℕ) → StandsFor (λ go. checked_entry (meaning p) size number (Some (entry TextTy (TextV bytes.now))) go) result }
+    ensures { (p : code.Program) → type_of state ≡ (meaning p).state → (size : ℕ) → StandsForEntry (λ go. checked_entry (meaning p) size number (Some (entry TextTy (TextV bytes.now))) go) result }
 {
     let of_type = PlainType {
         leaf: LeafType::TextLeaf,
@@ -154,7 +154,7 @@ fn authenticated<'a>(
     number: u32,
     inner: u32,
 ) -> Result<Kept<'a>, ImageFault>
-    ensures { (p : code.Program) → type_of state ≡ (meaning p).state → (size : ℕ) → StandsFor (λ go. checked_entry (meaning p) size number (meant.stands_for [] (entries_of kept.now) (defined.AuthRecord inner)) go) result }
+    ensures { (p : code.Program) → type_of state ≡ (meaning p).state → (size : ℕ) → StandsForEntry (λ go. checked_entry (meaning p) size number (meant.stands_for [] (entries_of kept.now) (defined.AuthRecord inner)) go) result }
 {
     let Some(inner) = kept.get(inner as usize) else {
         return Err(ImageFault::BadRecord(number));

@@ -5,14 +5,14 @@ use Rattle.lexemes.specs.Tokens.{Token, Tokens, Next, End, Faulty, count}
 use Rattle.auth_syntax.specs.Grammar.{Written}
 use Rattle.auth_syntax.proofs.Beginnings.{Begins, Begin}
 
-abbrev pub Tells : Tokens → List Written → Tokens → Type 0
-Tells tokens [] left = tokens ≡ left
-Tells (Next at token rest) (written ∷ others) left = (token ≡ written.token) × Tells rest others left
-Tells tokens (written ∷ others) left = ⊥
+abbrev pub TellsTokens : Tokens → List Written → Tokens → Type 0
+TellsTokens tokens [] left = tokens ≡ left
+TellsTokens (Next at token rest) (written ∷ others) left = (token ≡ written.token) × TellsTokens rest others left
+TellsTokens tokens (written ∷ others) left = ⊥
 
 -- the first of these tokens are those of the tree, and behind them come those that are left
 pub record TellAnywhere (tokens : Tokens) (written : List Written) (left : Tokens) : Type 0 where
-  pub is : Tells tokens written left
+  pub is : TellsTokens tokens written left
 
 pub tell-none : (tokens : Tokens) → TellAnywhere tokens [] tokens
 tell-none tokens = record { is = refl }
@@ -24,9 +24,9 @@ tell-next at token written h told = record { is = (h, told.is) }
 pub tell-append : {tokens : Tokens} {ws : List Written} {middle : Tokens} {vs : List Written} {left : Tokens} → TellAnywhere tokens ws middle
     → TellAnywhere middle vs left → TellAnywhere tokens (ws ++ vs) left
 tell-append {tokens} {ws} {middle} {vs} {left} h h' = record { is = joined ws tokens middle vs left h.is h'.is } where
-  joined : (ws : List Written) (tokens middle : Tokens) (vs : List Written) (left : Tokens) → Tells tokens ws middle → Tells middle vs left
-      → Tells tokens (ws ++ vs) left
-  joined [] tokens middle vs left h h' = subst (λ (t : Tokens). Tells t vs left) (sym h) h'
+  joined : (ws : List Written) (tokens middle : Tokens) (vs : List Written) (left : Tokens) → TellsTokens tokens ws middle → TellsTokens middle vs left
+      → TellsTokens tokens (ws ++ vs) left
+  joined [] tokens middle vs left h h' = subst (λ (t : Tokens). TellsTokens t vs left) (sym h) h'
   joined (w ∷ ws) (Next at token rest) middle vs left h h' = (h.0, joined ws rest middle vs left h.1 h')
   joined (w ∷ ws) (End at) middle vs left h h' = absurd h
   joined (w ∷ ws) (Faulty at kind) middle vs left h h' = absurd h
@@ -39,7 +39,7 @@ pub record ToldApart (tokens : Tokens) (ws vs : List Written) (left : Tokens) : 
 
 pub tell-parted : (ws vs : List Written) (tokens left : Tokens) → TellAnywhere tokens (ws ++ vs) left → ToldApart tokens ws vs left
 tell-parted ws vs tokens left h = parted ws tokens vs left h.is where
-  parted : (ws : List Written) (tokens : Tokens) (vs : List Written) (left : Tokens) → Tells tokens (ws ++ vs) left → ToldApart tokens ws vs left
+  parted : (ws : List Written) (tokens : Tokens) (vs : List Written) (left : Tokens) → TellsTokens tokens (ws ++ vs) left → ToldApart tokens ws vs left
   parted [] tokens vs left h = record { middle = tokens; first = record { is = refl }; second = record { is = h } }
   parted (w ∷ ws) (Next at token rest) vs left h =
       let p = parted ws rest vs left h.1 in record { middle = p.middle; first = record { is = (h.0, p.first.is) }; second = p.second }
@@ -48,7 +48,7 @@ tell-parted ws vs tokens left h = parted ws tokens vs left h.is where
 
 pub tell-count : (ws : List Written) (tokens left : Tokens) → TellAnywhere tokens ws left → count tokens ≡ length ws + count left
 tell-count ws tokens left h = counted ws tokens left h.is where
-  counted : (ws : List Written) (tokens left : Tokens) → Tells tokens ws left → count tokens ≡ length ws + count left
+  counted : (ws : List Written) (tokens left : Tokens) → TellsTokens tokens ws left → count tokens ≡ length ws + count left
   counted [] tokens left h = ap count h ∙ (omega arith)
   counted (w ∷ ws) (Next at token rest) left h = let more = counted ws rest left h.1 in omega arith
   counted (w ∷ ws) (End at) left h = absurd h
@@ -57,7 +57,7 @@ tell-count ws tokens left h = counted ws tokens left h.is where
 -- what stands where the tree keeps it stands somewhere
 pub begin-tell : (ws : List Written) (tokens left : Tokens) → Begin tokens ws left → TellAnywhere tokens ws left
 begin-tell ws tokens left h = record { is = told ws tokens left h.is } where
-  told : (ws : List Written) (tokens left : Tokens) → Begins tokens ws left → Tells tokens ws left
+  told : (ws : List Written) (tokens left : Tokens) → Begins tokens ws left → TellsTokens tokens ws left
   told [] tokens left h = h
   told (w ∷ ws) (Next at token rest) left h = (h.0, told ws rest left h.2)
   told (w ∷ ws) (End at) left h = absurd h

@@ -28,3 +28,6 @@ pub mod LiteralsReadBack
 mod LiteralRows
 mod PrintedRows
 mod PrintedProgramRows
+-- the law literals_are_by_their_tokens
+mod RuledReadings
+mod LiteralsByTokens

@@ -6,7 +6,7 @@ use Rattle.lexemes.specs.Tokens.{Tokens, Next, End, Faulty, tokens}
 use Rattle.auth_syntax.specs.Syntax.{Program}
 use Rattle.auth_syntax.specs.Grammar.{Written, AreWritten, declarations_tokens, nesting_limit, IsProgramText}
 use Rattle.printed_syntax.specs.PrintedPrograms.{program_text}
-use Rattle.printed_syntax.specs.PrintedProgramLaws.{CanBeWritten, PrintedIsReadBack, ParsedIsReadBack}
+use Rattle.printed_syntax.specs.PrintedProgramLaws.{CanBeWritten, PrintedProgramIsReadBack, ParsedIsReadBack}
 use Rattle.auth_syntax.proofs.Beginnings.{Begins}
 use Rattle.auth_syntax.proofs.Exact.{parsed_is_written, written_is_parsed}
 use Rattle.printed_syntax.proofs.PrintedLines.{declarations_read_back}
@@ -21,7 +21,7 @@ begin_to_end (w ∷ ws) (Next at token rest) end h = (h.0, h.1, begin_to_end ws 
 begin_to_end (w ∷ ws) (End at) end h = absurd h
 begin_to_end (w ∷ ws) (Faulty at kind) end h = absurd h
 
-pub printed_is_read_back : PrintedIsReadBack
+pub printed_is_read_back : PrintedProgramIsReadBack
 printed_is_read_back words program h =
     let text = program_text program in
     let read = declarations_read_back program.declarations start h.tokens in

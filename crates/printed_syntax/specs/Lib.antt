@@ -1,6 +1,7 @@
 pub mod Literals
 pub mod LiteralAnswers
 pub mod LiteralSteps
+pub mod LiteralRules
 pub mod LiteralLaws
 pub mod PrintedValues
 pub mod PrintedPrograms

@@ -44,8 +44,8 @@ pub record IsReadBack (words : Vocabulary) (text : List ℕ) (program : Program)
   pub is_printed : program_text again ≡ program_text program
 
 -- The printed text of such a program is read back.
-abbrev pub PrintedIsReadBack : Type 0
-PrintedIsReadBack = (words : Vocabulary) (program : Program) → CanBeWritten words program → IsReadBack words (program_text program) program
+abbrev pub PrintedProgramIsReadBack : Type 0
+PrintedProgramIsReadBack = (words : Vocabulary) (program : Program) → CanBeWritten words program → IsReadBack words (program_text program) program
 
 -- What a text is parsed to is such a program, so that it can be printed and is read back.
 abbrev pub ParsedIsReadBack : Type 0

@@ -17,11 +17,11 @@ use Rattle.ideal_meaning.specs.Headline.{call_of}
 use Rattle.ideal_meaning.specs.Told.{trap_told}
 
 -- the outcome of the code is this one, with the spelling of its value
-abbrev pub IsSpelled : Outcome → code.Outcome Spelling → Type 0
-IsSpelled (Done v) (told.Done bytes) = bytes ≡ spelling v
-IsSpelled (Trapped trap) (told.Trapped trap') = trap_told trap' ≡ trap
-IsSpelled Out told.Out = Unit {0}
-IsSpelled o other = ⊥
+abbrev pub HasSpelling : Outcome → code.Outcome Spelling → Type 0
+HasSpelling (Done v) (told.Done bytes) = bytes ≡ spelling v
+HasSpelling (Trapped trap) (told.Trapped trap') = trap_told trap' ≡ trap
+HasSpelling Out told.Out = Unit {0}
+HasSpelling o other = ⊥
 
 -- the value of the outcome, if it has one, is an ideal value of this type
 abbrev pub IsOutcomeOf : Program → Ty → Outcome → Type 0

@@ -12,7 +12,7 @@ ghost use Rattle.ideal_meaning.specs.Ideal.{bytes_of, honest_bytes, honest_piece
 ghost use Rattle.plain_meaning.specs.PlainValues.{plain_of};
 ghost use Rattle.plain_meaning.specs.Telling.{AreOpened, HasShape, opened_in, outcome_of};
 ghost use Rattle.core_terms.specs.Roles.{argument_type};
-ghost use Rattle.prover_mode.specs.Proofs.{IsAccepted, IsOutcomeOf, IsSpelled, file_of};
+ghost use Rattle.prover_mode.specs.Proofs.{IsAccepted, IsOutcomeOf, HasSpelling, file_of};
 
 use crate::projection::project;
 use core_terms::{FunctionId, Hash32, Outcome, Program, Spelling, TyId};
@@ -53,7 +53,7 @@ pub fn prove<'a, H: Hash32>(
     requires state { IsIdeal (meaning program.now).types (meaning program.now).state (plain_of state.now) }
     requires argument { IsIdeal (meaning program.now).types (argument_type (meaning program.now) role.0) (plain_of argument.now) }
     ensures outcome { let P = meaning program.now in let run = ideal P role.0 (call_of (plain_of state.now) (plain_of argument.now)) fuel in
-        IfOk result (λ proved. IsSpelled (outcome_projection H.hash P (function_at P role.0).result (outcome run)) proved.outcome) }
+        IfOk result (λ proved. HasSpelling (outcome_projection H.hash P (function_at P role.0).result (outcome run)) proved.outcome) }
     ensures ideal { let P = meaning program.now in let run = ideal P role.0 (call_of (plain_of state.now) (plain_of argument.now)) fuel in
         IfOk result (λ _. IsOutcomeOf P (function_at P role.0).result (outcome run)) }
     ensures frames { let pieces = bytes_of (honest_pieces H.hash (meaning program.now) role.0 (call_of (plain_of state.now) (plain_of argument.now)) fuel) in
@@ -77,7 +77,7 @@ fn written<H: Hash32>(
 ) -> Result<Proved, AllocError>
     requires outcome { HasShape (meaning program.now) (type_at (types_of program.now) ty) run.now.outcome }
     requires opened { AreOpened program.now run.now.opened.items }
-    ensures outcome { IfOk result (λ proved. IsSpelled (outcome_projection H.hash (meaning program.now) (type_at (types_of program.now) ty) (outcome_of run.now.outcome)) proved.outcome) }
+    ensures outcome { IfOk result (λ proved. HasSpelling (outcome_projection H.hash (meaning program.now) (type_at (types_of program.now) ty) (outcome_of run.now.outcome)) proved.outcome) }
     ensures frames { IfOk result (λ proved. proved.frames.items ≡ frame_bytes (honest_frames 0 [] (map (honest_bytes H.hash (meaning program.now)) (opened_in program.now run.now.opened.items)))) }
     ensures fresh { IfOk result (λ proved. proved.fresh ≡ length (opened_in program.now run.now.opened.items)) }
     ensures again { IfOk result (λ proved. proved.again ≡ 0) }
@@ -98,7 +98,7 @@ fn projected<H: Hash32>(
     outcome: Outcome<InHand>,
 ) -> Result<Outcome<Spelling>, AllocError>
     requires { HasShape (meaning program.now) (type_at (types_of program.now) ty) outcome }
-    ensures { IfOk result (IsSpelled (outcome_projection H.hash (meaning program.now) (type_at (types_of program.now) ty) (outcome_of outcome.entry))) }
+    ensures { IfOk result (HasSpelling (outcome_projection H.hash (meaning program.now) (type_at (types_of program.now) ty) (outcome_of outcome.entry))) }
 {
     Ok(match outcome {
         Outcome::Done(value) => Outcome::Done(project::<H>(alloc, program, ty, value)?),

@@ -52,3 +52,6 @@ mod WholeLast
 mod ReadEntries
 mod LoadedAgain
 mod SavedLoads
+-- the laws saved_parts_are_once and parts_are_found
+mod SavedOnce
+mod PartsFound

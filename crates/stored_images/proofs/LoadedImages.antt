@@ -5,7 +5,7 @@ use Rattle.core_terms.specs.Values.{Value}
 use Rattle.core_terms.specs.declared.language.program.Program.{Program}
 use Rattle.images.specs.Images.{Entry, Image, Loaded, FaultyImage, Refused, Root, as_image, headed, image_of, last, load_records, rooted}
 use Rattle.images.specs.Images as meant
-use Rattle.images.specs.Loads.{IsHeaded, Tells}
+use Rattle.images.specs.Loads.{IsHeaded, TellsFault}
 use Rattle.images.specs.declared.fault.ImageFault.{ImageFault}
 use Rattle.images.specs.declared.fault.ImageFault.TheVariants.{Magic, Cut, OtherProgram, BadRecord, TooBig, TooDeep, RootType, Leftover, NoMemory}
 use Rattle.images.specs.declared.header.Header.{Header}
@@ -14,7 +14,7 @@ use Rattle.stored_images.specs.LoadedRoots.{LoadsOver}
 use Rattle.stored_images.specs.declared.load.Loaded as code
 
 -- a fault of which one thing holds, and so another
-told_on : (F G : meant.ImageFault → Type 0) → ((f : meant.ImageFault) → F f → G f) → (fault : ImageFault) → Tells F fault → Tells G fault
+told_on : (F G : meant.ImageFault → Type 0) → ((f : meant.ImageFault) → F f → G f) → (fault : ImageFault) → TellsFault F fault → TellsFault G fault
 told_on F G on Magic h = on _ h
 told_on F G on (Cut n) h = on _ h
 told_on F G on OtherProgram h = on _ h
@@ -31,20 +31,20 @@ module _ (marking : Marking) (p : Program) (digest bytes : List ℕ) where
 
   -- the fault of an image is what is told of it
   pub fault_told : (fault : ImageFault) (result : Result code.Loaded ImageFault) → result ≡ Err fault
-      → Tells (λ f. image_of (meaning p) digest bytes ≡ Refused f) fault → LoadsOver marking (meaning p) (image_of (meaning p) digest bytes) result
+      → TellsFault (λ f. image_of (meaning p) digest bytes ≡ Refused f) fault → LoadsOver marking (meaning p) (image_of (meaning p) digest bytes) result
   fault_told fault result is h = subst (λ r. LoadsOver marking (meaning p) (image_of (meaning p) digest bytes) r) (sym is) h
 
   module _ (told : List ℕ) (is_digest : told ≡ digest) where
-    pub header_fault : (fault : ImageFault) → IsHeaded (λ go. headed told bytes go) (Err fault) → Tells (λ f. image_of (meaning p) digest bytes ≡ Refused f) fault
-    header_fault fault h = subst (λ (d : List ℕ). Tells (λ f. image_of (meaning p) d bytes ≡ Refused f) fault) is_digest (h go)
+    pub header_fault : (fault : ImageFault) → IsHeaded (λ go. headed told bytes go) (Err fault) → TellsFault (λ f. image_of (meaning p) digest bytes ≡ Refused f) fault
+    header_fault fault h = subst (λ (d : List ℕ). TellsFault (λ f. image_of (meaning p) d bytes ≡ Refused f) fault) is_digest (h go)
 
     pub with_header : (header : Header) → IsHeaded (λ go. headed told bytes go) (Ok header)
         → image_of (meaning p) digest bytes ≡ go header.count header.records.now
     with_header header h = sym (ap (λ d. image_of (meaning p) d bytes) is_digest) ∙ h go
 
   module _ (count : ℕ) (behind : List ℕ) (is : image_of (meaning p) digest bytes ≡ go count behind) where
-    pub records_fault : (fault : ImageFault) → Tells (λ f. load_records (meaning p) (length bytes) count [] behind ≡ FaultyImage f) fault
-        → Tells (λ f. image_of (meaning p) digest bytes ≡ Refused f) fault
+    pub records_fault : (fault : ImageFault) → TellsFault (λ f. load_records (meaning p) (length bytes) count [] behind ≡ FaultyImage f) fault
+        → TellsFault (λ f. image_of (meaning p) digest bytes ≡ Refused f) fault
     records_fault fault h =
         told_on (λ f. load_records (meaning p) (length bytes) count [] behind ≡ FaultyImage f) (λ f. image_of (meaning p) digest bytes ≡ Refused f)
         (λ f loading. is ∙ ap (as_image (meaning p).state) loading) fault h
@@ -53,8 +53,8 @@ module _ (marking : Marking) (p : Program) (digest bytes : List ℕ) where
       with_records : image_of (meaning p) digest bytes ≡ rooted (meaning p).state (last entries) rest
       with_records = is ∙ ap (as_image (meaning p).state) loading
 
-      pub root_fault : (fault : ImageFault) → Tells (λ f. rooted (meaning p).state (last entries) rest ≡ Refused f) fault
-          → Tells (λ f. image_of (meaning p) digest bytes ≡ Refused f) fault
+      pub root_fault : (fault : ImageFault) → TellsFault (λ f. rooted (meaning p).state (last entries) rest ≡ Refused f) fault
+          → TellsFault (λ f. image_of (meaning p) digest bytes ≡ Refused f) fault
       root_fault fault h =
           told_on (λ f. rooted (meaning p).state (last entries) rest ≡ Refused f) (λ f. image_of (meaning p) digest bytes ≡ Refused f) (λ f refused. with_records ∙ refused) fault h
 

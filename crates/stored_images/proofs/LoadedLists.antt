@@ -3,10 +3,10 @@ use Rattle.std.proofs.Common.{◌≡◌, ℕ, suc, ◌+◌, ◌-◌, ◌<◌, Li
 use Rattle.core_terms.specs.LanguagePrograms.{meaning, types_of}
 use Rattle.core_terms.specs.declared.language.program.Program.{Program}
 use Rattle.images.specs.Images.{Entry, Loading, FaultyImage, checked_entry, field_count, load_records, stands_for, with_record}
-use Rattle.images.specs.Loads.{Tells}
+use Rattle.images.specs.Loads.{TellsFault}
 use Rattle.images.specs.Records.{ReadRecord, read_record}
 use Rattle.images.specs.declared.fault.ImageFault.{ImageFault}
-use Rattle.stored_images.specs.LoadedRecords.{IsFront}
+use Rattle.stored_images.specs.LoadedRecords.{IsRecordFront}
 use Rattle.stored_images.specs.ReadRecords.{record_told}
 use Rattle.stored_images.specs.StoredRecords.{AreStored, IsLoaded}
 use Rattle.stored_images.specs.declared.record.Front.{Front}
@@ -32,9 +32,9 @@ module _ (p : Program) (file_size count number : ℕ) (entries : List Entry) (by
       ap (λ left. load_records (meaning p) file_size left entries bytes) left
       ∙ ap (λ i. with_record (meaning p) file_size i entries (read_record (field_count (meaning p) file_size) bytes) loading_on) counted
 
-  pub front_fault : (fault : ImageFault) → IsFront (meaning p) file_size number (read_record (field_count (meaning p) file_size) bytes) (Err fault)
-      → Tells (λ f. loading ≡ FaultyImage f) fault
-  front_fault fault h = subst (λ l. Tells (λ f. l ≡ FaultyImage f) fault) (sym one_more) (h entries loading_on)
+  pub front_fault : (fault : ImageFault) → IsRecordFront (meaning p) file_size number (read_record (field_count (meaning p) file_size) bytes) (Err fault)
+      → TellsFault (λ f. loading ≡ FaultyImage f) fault
+  front_fault fault h = subst (λ l. TellsFault (λ f. l ≡ FaultyImage f) fault) (sym one_more) (h entries loading_on)
 
   module _ (front : Front) (read : read_record (field_count (meaning p) file_size) bytes ≡ ReadRecord (record_told front.record) front.rest.now) where
     -- what loading goes on with, behind the record
@@ -44,8 +44,8 @@ module _ (p : Program) (file_size count number : ℕ) (entries : List Entry) (by
     by_front : loading ≡ at_front (λ e. loading_on e front.rest.now)
     by_front = one_more ∙ ap (λ read. with_record (meaning p) file_size number entries read loading_on) read
 
-    pub stored_fault : (fault : ImageFault) → ((go : Entry → Loading) → Tells (λ f. at_front go ≡ FaultyImage f) fault) → Tells (λ f. loading ≡ FaultyImage f) fault
-    stored_fault fault h = subst (λ l. Tells (λ f. l ≡ FaultyImage f) fault) (sym by_front) (h (λ e. loading_on e front.rest.now))
+    pub stored_fault : (fault : ImageFault) → ((go : Entry → Loading) → TellsFault (λ f. at_front go ≡ FaultyImage f) fault) → TellsFault (λ f. loading ≡ FaultyImage f) fault
+    stored_fault fault h = subst (λ l. TellsFault (λ f. l ≡ FaultyImage f) fault) (sym by_front) (h (λ e. loading_on e front.rest.now))
 
     pub stored_next : (e : Entry) → ((go : Entry → Loading) → at_front go ≡ go e) → loading_on e front.rest.now ≡ loading
     stored_next e h = sym (by_front ∙ h (λ e. loading_on e front.rest.now))
@@ -59,10 +59,10 @@ SoFar marking p file_size count all number nodes records rest =
 module _ (marking : Marking) (p : Program) (file_size count : ℕ) (all : List ℕ) (number : ℕ) (nodes : List Node) (records : List StoredRecord) (rest : List ℕ)
     (so_far : SoFar marking p file_size count all number nodes records rest) (more : number < count) where
   -- the fault of the next record is that of all
-  pub next_fault : (fault : ImageFault) → IsFront (meaning p) file_size number (read_record (field_count (meaning p) file_size) rest) (Err fault)
-      → Tells (λ f. load_records (meaning p) file_size count [] all ≡ FaultyImage f) fault
+  pub next_fault : (fault : ImageFault) → IsRecordFront (meaning p) file_size number (read_record (field_count (meaning p) file_size) rest) (Err fault)
+      → TellsFault (λ f. load_records (meaning p) file_size count [] all ≡ FaultyImage f) fault
   next_fault fault h =
-      subst (λ l. Tells (λ f. l ≡ FaultyImage f) fault) so_far.3 (front_fault p file_size count number so_far.0 rest so_far.1 more fault h)
+      subst (λ l. TellsFault (λ f. l ≡ FaultyImage f) fault) so_far.3 (front_fault p file_size count number so_far.0 rest so_far.1 more fault h)
 
   module _ (front : Front) (read : read_record (field_count (meaning p) file_size) rest ≡ ReadRecord (record_told front.record) front.rest.now)
       (lent : List StoredRecord) (same : lent ≡ records) (new : List Node) (result : Result StoredRecord ImageFault)
@@ -71,9 +71,9 @@ module _ (marking : Marking) (p : Program) (file_size count : ℕ) (all : List �
     loaded_next : IsLoaded marking (meaning p) (types_of p) new (at_front p file_size count number so_far.0 rest so_far.1 more front read) result
     loaded_next = loads so_far.0 (subst (λ records. AreStored marking (meaning p) (types_of p) nodes records so_far.0) (sym same) so_far.2) file_size
 
-    pub loaded_fault : (fault : ImageFault) → result ≡ Err fault → Tells (λ f. load_records (meaning p) file_size count [] all ≡ FaultyImage f) fault
+    pub loaded_fault : (fault : ImageFault) → result ≡ Err fault → TellsFault (λ f. load_records (meaning p) file_size count [] all ≡ FaultyImage f) fault
     loaded_fault fault is =
-        subst (λ l. Tells (λ f. l ≡ FaultyImage f) fault) so_far.3
+        subst (λ l. TellsFault (λ f. l ≡ FaultyImage f) fault) so_far.3
         (stored_fault p file_size count number so_far.0 rest so_far.1 more front read fault
         (subst (IsLoaded marking (meaning p) (types_of p) new (at_front p file_size count number so_far.0 rest so_far.1 more front read)) is loaded_next))
 

@@ -1,11 +1,12 @@
 -- The numbers of entries among others.
-use Rattle.std.proofs.Common.{◌≡◌, ℕ, suc, ◌<◌, ◌≤◌, Bool, true, false, ◌||◌, List, [], ◌∷◌, ◌++◌, length, Some, slice_get, if◌then◌else◌, refl, sym, ap, ◌∙◌, arith, true≢false}
+use Rattle.std.proofs.Common.{◌≡◌, ◌⊎◌, inl, inr, ℕ, suc, ◌<◌, ◌≤◌, Bool, true, false, ◌||◌, List, [], ◌∷◌, ◌++◌, length, Some, slice_get, if◌then◌else◌, refl, sym, ap, ◌∙◌, arith, true≢false}
 use Rattle.std.specs.Int.{w32, from_be_bytes, to_be_bytes}
 use Rattle.std.proofs.lemmas.Nat.{from_be_bytes-to_be_bytes_4}
 use Rattle.images.specs.Images.{Entry}
 use Rattle.images.specs.SavedImages.{same_entry, is_entry_of, number_among}
 use Rattle.stored_images.proofs.SameEntries.{entry_sound, entry_self}
-use Rattle.stored_images.proofs.AmongEntries.{IsAmong, not_first, not_second}
+use Rattle.stored_images.proofs.AmongEntries.{IsAmong, among_at, not_first, not_second}
+use Rattle.stored_images.proofs.SavingLists.{at_push}
 
 pub number_within : (e : Entry) (xs : List Entry) → IsAmong xs e → number_among xs e < length xs
 number_within e [] h = absurd (true≢false (sym h))
@@ -46,3 +47,10 @@ number_new e (x ∷ xs) h =
 -- each stands once
 abbrev pub AreOnce : List Entry → Type 0
 AreOnce xs = (i : ℕ) (e : Entry) → slice_get xs i ≡ Some e → number_among xs e ≡ i
+
+pub once_more : (done : List Entry) (e : Entry) → AreOnce done → is_entry_of e done ≡ false → AreOnce (done ++ e ∷ [])
+once_more done e once new i x h = by (at_push done e i x h)
+  where
+    by : (slice_get done i ≡ Some x) ⊎ ((i ≡ length done) × (e ≡ x)) → number_among (done ++ e ∷ []) x ≡ i
+    by (inl at) = number_more x done (e ∷ []) (among_at x done i at) ∙ once i x at
+    by (inr s) = ap (number_among (done ++ e ∷ [])) (sym s.1) ∙ number_new e done new ∙ sym s.0

@@ -75,7 +75,7 @@ module _ (types : Table) where
       elim (or_cases (same_type t (PairTy a b)) _ h) [ inl e ↦ inl (same_sound t (PairTy a b) e) | inr e ↦ inr (or_cases (is_part_within types (suc k) t a) _ e) ]
 
   -- a part that is found in a field of one of these constructors
-  abbrev InField : ℕ → Ty → ℕ → Type 0
+  abbrev pub InField : ℕ → Ty → ℕ → Type 0
   InField k t n = (f : Ty) × (field : IsField f n) × IsPart k t f
 
   found_field : (k : ℕ) (t : Ty) (n : ℕ) → some_passes (some_passes (is_part_within types k t)) (unwrap_or (slice_get types n) []) ≡ true → InField k t n
@@ -84,7 +84,7 @@ module _ (types : Table) where
       let field = passer (is_part_within types k t) constructor.1 constructor.3 in
       (field.1, (constructor.0, constructor.1, constructor.2, field.0, field.2), field.3)
 
-  named_cases : (k : ℕ) (t : Ty) (n : ℕ) → IsPart (suc k) t (NamedTy n) → (t ≡ NamedTy n) ⊎ InField k t n
+  pub named_cases : (k : ℕ) (t : Ty) (n : ℕ) → IsPart (suc k) t (NamedTy n) → (t ≡ NamedTy n) ⊎ InField k t n
   named_cases k t n h =
       elim (or_cases (same_type t (NamedTy n)) _ h) [ inl e ↦ inl (same_sound t (NamedTy n) e) | inr e ↦ inr (found_field k t n e) ]
 

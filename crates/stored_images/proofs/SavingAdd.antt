@@ -15,7 +15,7 @@ use Rattle.stored_images.proofs.AmongEntries.{IsAmong, AreAmong, among_at, among
 use Rattle.stored_images.proofs.DistinctEntries.{distinct_new, distinct_there}
 use Rattle.stored_images.proofs.EntryParts.{among_parts, among_walks, parts, walks, walk_parts}
 use Rattle.stored_images.proofs.NodeEntries.{HaveNumbers, StandsAs, StandAs, parts_stand, record_stands, refs_at}
-use Rattle.stored_images.proofs.NumberedEntries.{AreOnce, entry_numbered, number_more, number_new}
+use Rattle.stored_images.proofs.NumberedEntries.{entry_numbered, once_more}
 use Rattle.stored_images.proofs.RecordBytes.{record_more}
 use Rattle.stored_images.proofs.RecordReading.{one_record, record_of}
 use Rattle.stored_images.proofs.Saving.{AreNumbered, IsPlaced}
@@ -143,13 +143,6 @@ module _ (types : Table) (few_types : length types ≤ 65536) (nodes : List Node
       by : IsAmong done x ⊎ (e ≡ x) → IsPlaced types (done ++ e ∷ []) x
       by (inl g) = let place = placed x g in record { ideal = place.ideal; walked = are_more done (e ∷ []) (walk types x.of_type x.value) place.walked }
       by (inr s) = subst (λ x. IsPlaced types (done ++ e ∷ []) x) s own
-
-  once_more : (done : List Entry) (e : Entry) → AreOnce done → is_entry_of e done ≡ false → AreOnce (done ++ e ∷ [])
-  once_more done e once new i x h = by (at_push done e i x h)
-    where
-      by : (slice_get done i ≡ Some x) ⊎ ((i ≡ length done) × (e ≡ x)) → number_among (done ++ e ∷ []) x ≡ i
-      by (inl at) = number_more x done (e ∷ []) (among_at x done i at) ∙ once i x at
-      by (inr s) = ap (number_among (done ++ e ∷ [])) (sym s.1) ∙ number_new e done new ∙ sym s.0
 
   -- the record is new
   extended_new : (done : List Entry) (old new : Records) (r n : ℕ) (form : Form) (e : Entry) → AreNumbered types nodes done old → Whole done old r form e

@@ -6,3 +6,4 @@ pub mod LoadedRecords
 pub mod FormRecords
 pub mod SavedRecords
 pub mod Frames
+pub mod ImageLaws

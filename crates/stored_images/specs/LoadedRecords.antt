@@ -4,7 +4,7 @@ use Rattle.core_terms.specs.Types.{Ty}
 use Rattle.core_terms.specs.Values.{Value}
 use Rattle.core_terms.specs.Terms.{Program}
 use Rattle.images.specs.Images.{Entry, Image, Loading, FaultyImage, Loaded, Refused, Root, with_record}
-use Rattle.images.specs.Loads.{Tells}
+use Rattle.images.specs.Loads.{TellsFault}
 use Rattle.images.specs.Records.{RecordRead, ReadRecord}
 use Rattle.images.specs.declared.fault.ImageFault.{ImageFault}
 use Rattle.value_store.specs.Markings.{Marking, kind_of, seen_as}
@@ -19,18 +19,18 @@ use Rattle.stored_images.specs.declared.record.Front.{Front}
 
 -- The result tells what stands at the front, a record and the bytes behind it; or the fault of the record with this number, in an image of
 -- so many bytes.
-abbrev pub IsFront : Program → (size number : ℕ) → RecordRead → Result Front ImageFault → Type 0
-IsFront P size number read (Ok front) = read ≡ ReadRecord (record_told front.record) front.rest.now
-IsFront P size number read (Err fault) =
-    (entries : List Entry) (go : Entry → List ℕ → Loading) → Tells (λ f. with_record P size number entries read go ≡ FaultyImage f) fault
+abbrev pub IsRecordFront : Program → (size number : ℕ) → RecordRead → Result Front ImageFault → Type 0
+IsRecordFront P size number read (Ok front) = read ≡ ReadRecord (record_told front.record) front.rest.now
+IsRecordFront P size number read (Err fault) =
+    (entries : List Entry) (go : Entry → List ℕ → Loading) → TellsFault (λ f. with_record P size number entries read go ≡ FaultyImage f) fault
 
 -- the result tells what loading gives: all records, each stored, and the bytes behind them; or the fault
 abbrev pub AreLoaded : Marking → Program → List Ty → Loading → Result Records ImageFault → Type 0
 AreLoaded marking P types loading (Ok records) =
     (entries : List Entry) × (loading ≡ Loaded entries records.rest.now) × AreStored marking P types (nodes_in records.store) records.loaded.items entries
-AreLoaded marking P types loading (Err fault) = Tells (λ f. loading ≡ FaultyImage f) fault
+AreLoaded marking P types loading (Err fault) = TellsFault (λ f. loading ≡ FaultyImage f) fault
 
 -- the result tells the root, which stands for the value of the image's; or the fault
 abbrev pub IsRoot : Marking → Program → List Node → Image → Result Ref ImageFault → Type 0
 IsRoot marking P nodes image (Ok root) = (v : Value) × (image ≡ Root v) × StandsFor (kind_of marking P) P.types nodes root.0 P.state (seen_as marking P P.state v)
-IsRoot marking P nodes image (Err fault) = Tells (λ f. image ≡ Refused f) fault
+IsRoot marking P nodes image (Err fault) = TellsFault (λ f. image ≡ Refused f) fault

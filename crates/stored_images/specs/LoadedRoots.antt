@@ -3,7 +3,7 @@ use Rattle.std.specs.Prelude.{◌≡◌, Result, Ok, Err}
 use Rattle.core_terms.specs.Values.{Value}
 use Rattle.core_terms.specs.Terms.{Program}
 use Rattle.images.specs.Images.{Image, Root, Refused}
-use Rattle.images.specs.Loads.{Tells}
+use Rattle.images.specs.Loads.{TellsFault}
 use Rattle.images.specs.declared.fault.ImageFault.{ImageFault}
 use Rattle.value_store.specs.Markings.{Marking, kind_of, seen_as}
 use Rattle.value_store.specs.Standing.{IdealNodes, StandsFor}
@@ -21,4 +21,4 @@ IsStateAt P store root v = StandsFor IdealNodes P.types (nodes_in store) root.0 
 abbrev pub LoadsOver : Marking → Program → Image → Result Loaded ImageFault → Type 0
 LoadsOver marking P image (Ok loaded) =
     (v : Value) × (image ≡ Root v) × StandsFor (kind_of marking P) P.types (nodes_in loaded.store) loaded.root.0 P.state (seen_as marking P P.state v)
-LoadsOver marking P image (Err fault) = Tells (λ f. image ≡ Refused f) fault
+LoadsOver marking P image (Err fault) = TellsFault (λ f. image ≡ Refused f) fault

@@ -4,7 +4,7 @@ use Rattle.std.specs.Option.{option_and_then}
 use Rattle.core_terms.specs.Types.{Ty}
 use Rattle.core_terms.specs.Terms.{Program}
 use Rattle.images.specs.Images.{Entry, Loading, FaultyImage}
-use Rattle.images.specs.Loads.{Tells}
+use Rattle.images.specs.Loads.{TellsFault}
 use Rattle.images.specs.declared.fault.ImageFault.{ImageFault}
 use Rattle.value_store.specs.Markings.{Marking, kind_of, seen_as}
 use Rattle.value_store.specs.Nodes.{Node}
@@ -29,7 +29,7 @@ module _ (marking : Marking) (P : Program) (types : List Ty) (nodes : List Node)
   -- the result tells what a record stands for, with which loading goes on, and where that is stored; or the fault
   abbrev pub IsLoaded : ((Entry → Loading) → Loading) → Result StoredRecord ImageFault → Type 0
   IsLoaded loading (Ok stored) = (e : Entry) × IsStored stored e × ((go : Entry → Loading) → loading go ≡ go e)
-  IsLoaded loading (Err fault) = (go : Entry → Loading) → Tells (λ f. loading go ≡ FaultyImage f) fault
+  IsLoaded loading (Err fault) = (go : Entry → Loading) → TellsFault (λ f. loading go ≡ FaultyImage f) fault
 
 -- the nodes of the records with these numbers, where each is one of the type with the number beside it
 abbrev pub refs_from : List StoredRecord → List ℕ → List TyId → Option (List Ref)

@@ -7,6 +7,7 @@
 
 mod entries;
 mod fields;
+pub mod laws;
 mod load;
 mod part_types;
 mod parts;

@@ -5,7 +5,7 @@ ghost use Rattle.images.specs.Images.{Entry, checked_entry, field_count, image_o
 ghost use Rattle.images.specs.Images as meant;
 ghost use Rattle.images.specs.Records as defined;
 ghost use Rattle.stored_images.specs.LoadedRoots.{LoadsOver};
-ghost use Rattle.stored_images.specs.LoadedRecords.{AreLoaded, IsFront, IsRoot};
+ghost use Rattle.stored_images.specs.LoadedRecords.{AreLoaded, IsRecordFront, IsRoot};
 ghost use Rattle.stored_images.specs.PartMarks.{IsMarksOf};
 ghost use Rattle.stored_images.specs.ReadRecords.{HasConstructor, record_told};
 ghost use Rattle.stored_images.specs.StoredRecords.{AreStored, IsLoaded};
@@ -111,7 +111,7 @@ fn next_front<'a>(
     bytes: &'a [u8],
 ) -> Result<Front<'a>, ImageFault>
     requires marked { IsMarksOf types.now.program.now types.now.parts.now }
-    ensures front { IsFront (meaning types.now.program.now) size number (defined.read_record (field_count (meaning types.now.program.now) size) bytes.now) result }
+    ensures front { IsRecordFront (meaning types.now.program.now) size number (defined.read_record (field_count (meaning types.now.program.now) size) bytes.now) result }
     ensures constructor { IfOk result (λ front. HasConstructor types.now.program.now front.record) }
 {
     match read_record(types.program, types.parts, bytes) {

@@ -20,7 +20,7 @@ use Rattle.ideal_meaning.specs.Told.{trap_told}
 use Rattle.verifier_mode.specs.Shallow.{IsReadAs, value_of, values_of}
 use Rattle.verifier_mode.specs.Standing.{CallEndsAs, HasShape, IsSpelledAs, standing}
 use Rattle.core_terms.specs.Roles.{argument_type}
-use Rattle.verifier_mode.specs.Verdicts.{IsSpelled}
+use Rattle.verifier_mode.specs.Verdicts.{SpellsOutcome}
 use Rattle.core_terms.specs.Values.{Value}
 use Rattle.verifier_mode.specs.declared.reading.Shallow.{Shallow}
 
@@ -62,7 +62,7 @@ good_header hash p f args k proof rest place good is_rest first =
 
 answered_at : (p : Program) (t : Ty) (o : Outcome Shallow) (with_spelling : Outcome Spelling) (place : ℕ) (run : Run Cause Taking Value)
     → CallEndsAs (standing p [] place) (Ok o) run → HasShape p t o → IsSpelledAs o with_spelling
-    → (outcome : ideal.Outcome) × (judged run ≡ Accepted outcome) × IsSpelled (meaning p) t outcome with_spelling
+    → (outcome : ideal.Outcome) × (judged run ≡ Accepted outcome) × SpellsOutcome (meaning p) t outcome with_spelling
 answered_at p t (told.Done s) (told.Done bytes) place run ends in_hand e = (ideal.Done (value_of s), ap judged ends.1, (value_of s, refl, in_hand.0, sym e))
 answered_at p t (told.Trapped trap) (told.Trapped trap') place run ends in_hand e = (_, ap judged ends.1, ap (λ trap. ideal.Trapped (trap_told trap)) e)
 answered_at p t told.Out told.Out place run ends in_hand e = (ideal.Out, ap judged ends.1, refl)
@@ -76,7 +76,7 @@ answered_at p t told.Out (told.Trapped trap) place run ends in_hand e = absurd e
 -- where no byte is left, the outcome is accepted
 pub answered : (p : Program) (t : Ty) (o : Outcome Shallow) (with_spelling : Outcome Spelling) (rest : List ℕ) (place : ℕ) (run : Run Cause Taking Value) (v : Verdict)
     → v ≡ judged run → CallEndsAs (standing p rest place) (Ok o) run → rest ≡ [] → HasShape p t o → IsSpelledAs o with_spelling
-    → (outcome : ideal.Outcome) × (v ≡ Accepted outcome) × IsSpelled (meaning p) t outcome with_spelling
+    → (outcome : ideal.Outcome) × (v ≡ Accepted outcome) × SpellsOutcome (meaning p) t outcome with_spelling
 answered p t o with_spelling rest place run v h ends none in_hand e =
     let told = answered_at p t o with_spelling place run (subst (λ rest. CallEndsAs (standing p rest place) (Ok o) run) none ends) in_hand e in
     (told.0, h ∙ told.1, told.2)

@@ -12,7 +12,7 @@ use Rattle.core_terms.specs.Reading.{Good, BadAt, whole, read, read_bytes, read_
 use Rattle.core_terms.specs.TypeTables.{type_of_form}
 use Rattle.core_terms.specs.declared.types.TyForm.{TyForm}
 use Rattle.core_terms.specs.declared.types.TyForm.TheVariants.{UnitForm}
-use Rattle.verifier_mode.specs.Shallow.{IsFront}
+use Rattle.verifier_mode.specs.Shallow.{IsShallowFront}
 use Rattle.verifier_mode.specs.declared.reading.Front.{Front}
 
 -- n bytes at the front, made into a value
@@ -59,8 +59,8 @@ module _ (bytes head behind text rest : List ℕ) (len : ℕ) (is_head : head �
 
 -- what is read at the front at a form's type
 pub at_form : (types : List Ty) (form other : TyForm) (bytes : List ℕ) (found : Option Front) → form ≡ other
-    → IsFront bytes (read_value [] 512 (type_of_form types other) bytes 0) found → IsFront bytes (read_value [] 512 (type_of_form types form) bytes 0) found
-at_form types form other bytes found e h = subst (λ form. IsFront bytes (read_value [] 512 (type_of_form types form) bytes 0) found) (sym e) h
+    → IsShallowFront bytes (read_value [] 512 (type_of_form types other) bytes 0) found → IsShallowFront bytes (read_value [] 512 (type_of_form types form) bytes 0) found
+at_form types form other bytes found e h = subst (λ form. IsShallowFront bytes (read_value [] 512 (type_of_form types form) bytes 0) found) (sym e) h
 
 pub unit_is : (types : List Ty) (form : TyForm) (bytes : List ℕ) → form ≡ UnitForm
     → (place : ℕ) × (read_value [] 512 (type_of_form types form) bytes 0 ≡ Good UnitV bytes place) × (place + length bytes ≡ length bytes)

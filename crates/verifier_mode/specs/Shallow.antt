@@ -40,6 +40,6 @@ IsReadAs read (Ok v) = (place : ℕ) × (read ≡ Good (value_of v) [] place)
 IsReadAs read (Err offset) = read ≡ BadAt offset
 
 -- what was read at the front of these bytes: the value and the bytes behind it; or a fault at the first of them
-abbrev pub IsFront : List ℕ → Read Value → Option Front → Type 0
-IsFront bytes read (Some front) = (place : ℕ) × (read ≡ Good (value_of front.value) front.rest.now place) × (place + length front.rest.now ≡ length bytes)
-IsFront bytes read None = read ≡ BadAt 0
+abbrev pub IsShallowFront : List ℕ → Read Value → Option Front → Type 0
+IsShallowFront bytes read (Some front) = (place : ℕ) × (read ≡ Good (value_of front.value) front.rest.now place) × (place + length front.rest.now ≡ length bytes)
+IsShallowFront bytes read None = read ≡ BadAt 0

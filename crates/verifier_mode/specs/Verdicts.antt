@@ -26,14 +26,14 @@ verdict_of (refusals.Rejected cause) = Rejected cause
 verdict_of refusals.NoMemory = NoMemory
 
 -- The outcome of the definitions that an outcome with a spelling tells: its value is a shallow one of type t, with this spelling.
-abbrev pub IsSpelled : Program → Ty → ideal.Outcome → Outcome Spelling → Type 0
-IsSpelled P t o (told.Done bytes) = (v : Value) × (o ≡ ideal.Done v) × IsShallow P.types t v × (spelling v ≡ bytes)
-IsSpelled P t o (told.Trapped trap) = o ≡ ideal.Trapped (trap_told trap)
-IsSpelled P t o told.Out = o ≡ ideal.Out
+abbrev pub SpellsOutcome : Program → Ty → ideal.Outcome → Outcome Spelling → Type 0
+SpellsOutcome P t o (told.Done bytes) = (v : Value) × (o ≡ ideal.Done v) × IsShallow P.types t v × (spelling v ≡ bytes)
+SpellsOutcome P t o (told.Trapped trap) = o ≡ ideal.Trapped (trap_told trap)
+SpellsOutcome P t o told.Out = o ≡ ideal.Out
 
 -- The call of function f answers the verdict, with its cause or its offset, or finds no memory.
 abbrev pub Answers : Program → ℕ → checked.Verdict → Result (Outcome Spelling) Verdict → Type 0
-Answers P f verdict (Ok told) = (o : ideal.Outcome) × (verdict ≡ checked.Accepted o) × IsSpelled P (function_at P f).result o told
+Answers P f verdict (Ok told) = (o : ideal.Outcome) × (verdict ≡ checked.Accepted o) × SpellsOutcome P (function_at P f).result o told
 Answers P f verdict (Err (Rejected cause)) = verdict ≡ checked.Rejected (cause_told cause)
 Answers P f verdict (Err (BadState offset)) = verdict ≡ checked.BadState offset
 Answers P f verdict (Err (BadArgument offset)) = verdict ≡ checked.BadArgument offset
@@ -45,7 +45,7 @@ abbrev pub SaysTrue : Hash → Program → ℕ → (state argument : List ℕ) �
 SaysTrue hash P f state argument k proof (Ok told) =
     (v a : Value) → IsIdeal P.types P.state v → IsIdeal P.types (argument_type P f) a
     → state ≡ spelling (projection hash P P.state v) → argument ≡ spelling (projection hash P (argument_type P f) a)
-    → (o : ideal.Outcome) × IsSpelled P (function_at P f).result o told
+    → (o : ideal.Outcome) × SpellsOutcome P (function_at P f).result o told
     × ((n : ℕ) × (header P.format proof ≡ Some n)
     × TrueOrSplit hash P f (function_at P f).result (call_of v a) k (offered_pieces (offered P.format.limit (drop 6 proof) n [])) o)
 SaysTrue hash P f state argument k proof (Err refusal) = ⊤

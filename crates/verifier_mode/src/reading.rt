@@ -9,7 +9,7 @@ ghost use Rattle.core_terms.specs.Spelling.{spelling};
 ghost use Rattle.core_terms.specs.Types.{Ty};
 ghost use Rattle.core_terms.specs.TypeTables.{type_at, type_of_form};
 ghost use Rattle.core_terms.specs.Values.{DigestV, IntV};
-ghost use Rattle.verifier_mode.specs.Shallow.{IsFront, IsInHand, IsReadAs, IsShort, value_of};
+ghost use Rattle.verifier_mode.specs.Shallow.{IsShallowFront, IsInHand, IsReadAs, IsShort, value_of};
 
 use core_terms::{Digest, Program, Spelling, TyForm, TyId};
 use std::alloc::{AllocError, Global};
@@ -93,7 +93,7 @@ fn spelled_text(alloc: Global, text: &[u8]) -> Result<Vec<u8>, AllocError>
 /// What the bytes begin with at a type of this form. A type of the fragment has no parts in its spelling, so a fault stands
 /// at the first byte.
 fn read_front(form: TyForm, bytes: &[u8]) -> Option<Front<'_>>
-    ensures { (types : List Ty) → IsFront bytes.now (meant.read_value [] depth_limit (type_of_form types form) bytes.now 0) result }
+    ensures { (types : List Ty) → IsShallowFront bytes.now (meant.read_value [] depth_limit (type_of_form types form) bytes.now 0) result }
 {
     match form {
         TyForm::UnitForm => Some(Front {
@@ -109,7 +109,7 @@ fn read_front(form: TyForm, bytes: &[u8]) -> Option<Front<'_>>
 
 /// A bool: a byte 0 or 1.
 fn read_bool(bytes: &[u8]) -> Option<Front<'_>>
-    ensures { IsFront bytes.now (meant.read_bool bytes.now 0) result }
+    ensures { IsShallowFront bytes.now (meant.read_bool bytes.now 0) result }
 {
     let (byte, rest) = bytes.split_first()?;
     match *byte {
@@ -127,7 +127,7 @@ fn read_bool(bytes: &[u8]) -> Option<Front<'_>>
 
 /// An int: 8 bytes of two's complement.
 fn read_int(bytes: &[u8]) -> Option<Front<'_>>
-    ensures { IsFront bytes.now (meant.read_bytes 8 (λ bs. IntV (cast_signed w64 (from_be_bytes w64 bs))) bytes.now 0) result }
+    ensures { IsShallowFront bytes.now (meant.read_bytes 8 (λ bs. IntV (cast_signed w64 (from_be_bytes w64 bs))) bytes.now 0) result }
 {
     let (number, rest) = bytes.split_first_chunk::<8>()?;
     Some(Front {
@@ -138,7 +138,7 @@ fn read_int(bytes: &[u8]) -> Option<Front<'_>>
 
 /// A text: its length in 4 bytes, and that many bytes of UTF-8.
 fn read_text(bytes: &[u8]) -> Option<Front<'_>>
-    ensures { IsFront bytes.now (meant.read_text bytes.now 0) result }
+    ensures { IsShallowFront bytes.now (meant.read_text bytes.now 0) result }
 {
     let (len, behind) = bytes.split_first_chunk::<4>()?;
     let (text, rest) = behind.split_at_checked(u32::from_be_bytes(*len) as usize)?;
@@ -153,7 +153,7 @@ fn read_text(bytes: &[u8]) -> Option<Front<'_>>
 
 /// A digest: 32 bytes.
 fn read_digest(bytes: &[u8]) -> Option<Front<'_>>
-    ensures { IsFront bytes.now (meant.read_bytes 32 DigestV bytes.now 0) result }
+    ensures { IsShallowFront bytes.now (meant.read_bytes 32 DigestV bytes.now 0) result }
 {
     let (digest, rest) = bytes.split_first_chunk::<32>()?;
     Some(Front {

@@ -6,7 +6,7 @@ use Rattle.auth_syntax.specs.Syntax.{Program}
 use Rattle.auth_syntax.specs.Trees.{declaration_of, program_of, type_of}
 use Rattle.auth_syntax.specs.declared.tree.Declaration.{Declaration}
 use Rattle.auth_types.specs.Checking.{Sound}
-use Rattle.auth_types.specs.Passes.{StandsFor}
+use Rattle.auth_types.specs.Passes.{TableStandsFor}
 use Rattle.auth_types.specs.ScopeNames.{names_in}
 use Rattle.auth_types.specs.WrittenTypes.{states_in, type_meant}
 use Rattle.auth_types.proofs.NamesOfDeclarations.{types_named}
@@ -39,7 +39,7 @@ returns-in_err-third_pass-clause-found c =
     state_numbered program names (types_in c.number.new.types) types c.in_ok-state.state (type_meant names (type_of c.declared_state.result.now))
     (types_named c.args.declared.value program.declarations c.requires.declared) (rw c.deref-2.ensures.value at (c.declared_state.ensures names))
     (rw c.deref_mut-2.ensures.value at c.declared_scope.ensures.grows) (rw c.deref.ensures at c.in_ok-state.ensures.found) in
-    let stands : StandsFor program types c.in_ok-scope.scope.value c.in_ok-state.state =
+    let stands : TableStandsFor program types c.in_ok-scope.scope.value c.in_ok-state.state =
     scope_stands program types c.in_ok-scope.scope.value c.in_ok-state.state
     (rw c.deref-3.ensures.value at c.in_ok-scope.ensures.scope) (rw c.deref-3.ensures.value at c.in_ok-scope.ensures.functions)
     (rw c.deref-3.ensures.value at c.in_ok-scope.ensures.names) c.in_ok-scope.ensures.within state in
@@ -59,7 +59,7 @@ returns-clause-found c =
     state_numbered program names (types_in c.number.new.types) types c.in_ok-state.state (type_meant names (type_of c.declared_state.result.now))
     (types_named c.args.declared.value program.declarations c.requires.declared) (rw c.deref-2.ensures.value at (c.declared_state.ensures names))
     (rw c.deref_mut-2.ensures.value at c.declared_scope.ensures.grows) (rw c.deref.ensures at c.in_ok-state.ensures.found) in
-    let stands : StandsFor program types c.in_ok-scope.scope.value c.in_ok-state.state =
+    let stands : TableStandsFor program types c.in_ok-scope.scope.value c.in_ok-state.state =
     scope_stands program types c.in_ok-scope.scope.value c.in_ok-state.state
     (rw c.deref-3.ensures.value at c.in_ok-scope.ensures.scope) (rw c.deref-3.ensures.value at c.in_ok-scope.ensures.functions)
     (rw c.deref-3.ensures.value at c.in_ok-scope.ensures.names) c.in_ok-scope.ensures.within state in
@@ -76,7 +76,7 @@ returns-clause-shaped c =
     state_numbered program names (types_in c.number.new.types) types c.in_ok-state.state (type_meant names (type_of c.declared_state.result.now))
     (types_named c.args.declared.value program.declarations c.requires.declared) (rw c.deref-2.ensures.value at (c.declared_state.ensures names))
     (rw c.deref_mut-2.ensures.value at c.declared_scope.ensures.grows) (rw c.deref.ensures at c.in_ok-state.ensures.found) in
-    let stands : StandsFor program types c.in_ok-scope.scope.value c.in_ok-state.state =
+    let stands : TableStandsFor program types c.in_ok-scope.scope.value c.in_ok-state.state =
     scope_stands program types c.in_ok-scope.scope.value c.in_ok-state.state
     (rw c.deref-3.ensures.value at c.in_ok-scope.ensures.scope) (rw c.deref-3.ensures.value at c.in_ok-scope.ensures.functions)
     (rw c.deref-3.ensures.value at c.in_ok-scope.ensures.names) c.in_ok-scope.ensures.within state in

@@ -7,7 +7,7 @@ use Rattle.plain_meaning.specs.PlainValues.{IsInHand, value_of}
 use Rattle.verifier_mode.specs.Verdicts.{Answers}
 use Rattle.core_terms.specs.Roles.{argument_type}
 use Rattle.core_terms.proofs.CodePrograms.{two_parameters, second_type}
-use Rattle.collision_audit.specs.Audits.{verdict_on}
+use Rattle.collision_audit.specs.Audits.{verdict_on_projections}
 use Rattle.collision_audit.proofs.CallsInHand.{answers_on, spelled_at, taken, tells_proof}
 use Rattle.collision_audit.proofs.auditing.judge.Goals as goal
 use Rattle.collision_audit.proofs.auditing.judge.Goals.{After-verify}
@@ -30,7 +30,7 @@ project-requires-2-after_bounds g c κs within =
 -- what the verifier answers, as the verdict on the projected state and argument
 answered : (g : Over) (c : After-verify g)
     → Answers (meaning c.args.program.now) c.args.role.0
-    (verdict_on g.H.Hash32.hash (meaning c.args.program.now) (argument_type (meaning c.args.program.now) c.args.role.0) c.args.role.0 (value_of c.args.state) (value_of c.args.argument) c.args.fuel c.args.proof.now)
+    (verdict_on_projections g.H.Hash32.hash (meaning c.args.program.now) (argument_type (meaning c.args.program.now) c.args.role.0) c.args.role.0 (value_of c.args.state) (value_of c.args.argument) c.args.fuel c.args.proof.now)
     c.verify.result
 answered g c =
     let p = c.args.program.now in
@@ -50,5 +50,5 @@ told-requires g c =
 pub returns : goal.returns
 returns g c =
     let P = meaning c.args.program.now in
-    c.told.ensures P c.args.role.0 (verdict_on g.H.Hash32.hash P (argument_type P c.args.role.0) c.args.role.0 (value_of c.args.state) (value_of c.args.argument) c.args.fuel c.args.proof.now)
+    c.told.ensures P c.args.role.0 (verdict_on_projections g.H.Hash32.hash P (argument_type P c.args.role.0) c.args.role.0 (value_of c.args.state) (value_of c.args.argument) c.args.fuel c.args.proof.now)
     (answered g (goal.at.returns g c).After-verify)

@@ -6,7 +6,7 @@ use Rattle.core_terms.specs.Types.{IntTy}
 use Rattle.core_terms.specs.Values.{IntV}
 use Rattle.core_terms.specs.Programs.{meaning}
 use Rattle.images.specs.Images.{checked_entry, entry}
-use Rattle.images.specs.Loads.{StandsFor}
+use Rattle.images.specs.Loads.{StandsForEntry}
 use Rattle.images.specs.KeptValues.{entries_of}
 use Rattle.images.specs.declared.record.Record.TheVariants.{UnitRecord, BoolRecord, IntRecord, TextRecord, AuthRecord}
 use Rattle.images.proofs.Standing.{at_record, no_pair}
@@ -24,7 +24,7 @@ returns-in-IntRecord c = λ p is size.
     let same : cast_signed w64 (cast_unsigned w64 c.in-IntRecord.value) ≡ c.in-IntRecord.value =
     (let small : mag c.in-IntRecord.value < 2 ^ 63 = omega arith in to_z-of_z w64 c.in-IntRecord.value (record { sfits = small })) in
     at_record p c.args.state is size c.args.number (entries_of c.args.kept.now) c.args.found (IntRecord c.in-IntRecord.value) _ c.in-IntRecord.is
-    (subst (λ z. StandsFor (λ go. checked_entry (meaning p) size c.args.number (Some (entry IntTy (IntV z))) go) c.leaf-in-IntRecord.result) same (c.leaf-in-IntRecord.ensures p is size))
+    (subst (λ z. StandsForEntry (λ go. checked_entry (meaning p) size c.args.number (Some (entry IntTy (IntV z))) go) c.leaf-in-IntRecord.result) same (c.leaf-in-IntRecord.ensures p is size))
 
 pub returns-in-TextRecord : goal.returns-in-TextRecord
 returns-in-TextRecord c =

@@ -10,7 +10,7 @@ use Rattle.shallow_codec.specs.ProgramTypes.{table, ty_of, tys_of}
 use Rattle.shallow_codec.specs.PutNodes.{IsThere}
 use Rattle.shallow_codec.proofs.FieldLoops.{IsPutSoFar}
 use Rattle.shallow_codec.proofs.GrownNodes.{grows_refl, grows_then}
-use Rattle.shallow_codec.specs.PutValues.{IsFront, IsRead}
+use Rattle.shallow_codec.specs.PutValues.{IsNodeFront, IsRead}
 use Rattle.shallow_codec.proofs.ReadNodes.{at_form, fields_fit, leaf_is_read, length_types, not_ok, on_level, pair_fits, so_far_all, so_far_fault, so_far_more, so_far_none, still_known, ty_at}
 use Rattle.shallow_codec.proofs.reader.Reader.+values.Goals as goal
 
@@ -161,7 +161,7 @@ fields-loop-ty-preserved g t c =
     let mid = c.loop-ty.behind in
     let front = c.in_ok-front.front in
     let new = g.N.Nodes.nodes c.value.new.store in
-    let at_i = subst (λ a. IsFront types new c.args.levels a front.value.0 mid front.behind (read_value types c.args.levels a mid.rest.now mid.offset))
+    let at_i = subst (λ a. IsNodeFront types new c.args.levels a front.value.0 mid front.behind (read_value types c.args.levels a mid.rest.now mid.offset))
     (ty_at tys c.args.types.now c.loop-ty.ty-index (record { 0 = 0 }) (omega arith)) c.in_ok-front.ensures.read in
     record {
       so_far = so_far_more types c.args.levels ts c.args.at c.loop-ty.ty-index (g.N.Nodes.nodes c.loop-ty.store) new c.loop-ty.values.items c.push.new.self.items front.value mid front.behind
