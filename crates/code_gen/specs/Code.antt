@@ -16,6 +16,11 @@ abbrev pub unbind_code : ℕ → List Instruction
 unbind_code zero = []
 unbind_code (suc n) = Unbind (suc n) ∷ []
 
+-- the jump that begins this many instructions, past the others; none where there are none
+abbrev pub jump_code : ℕ → List Instruction
+jump_code zero = []
+jump_code (suc n) = Jump n ∷ []
+
 -- what stands behind an arm: where there are later arms, a jump past them, and they
 abbrev pub behind : List (List Instruction) → List Instruction → List Instruction
 behind [] rest = rest
@@ -30,6 +35,10 @@ laid (arm ∷ later) = arm ++ behind later (laid later)
 abbrev pub places : ℕ → List (List Instruction) → List ℕ
 places start [] = []
 places start (arm ∷ later) = start ∷ places (start + length arm + 1) later
+
+-- a match behind its subject
+abbrev pub match_code : ℕ → List (List Instruction) → List Instruction
+match_code number arms = Switch number (places 0 arms) ∷ laid arms
 
 -- the number of fields of a constructor; 0 where there is none
 abbrev pub field_count : Table → ℕ → ℕ → ℕ
@@ -58,9 +67,7 @@ module _ (types : Table) where
     code_of (CatE x y) = code_of x ++ (code_of y ++ Cat ∷ [])
     code_of (LetE a x body) = code_of x ++ (Bind ∷ (code_of body ++ Unbind 1 ∷ []))
     code_of (IfE test first other) = if_code (code_of test) (code_of first) (code_of other)
-    code_of (MatchE number x arms) =
-        let codes = arm_codes arms (unwrap_or (slice_get types number) []) in
-        code_of x ++ (Switch number (places 0 codes) ∷ laid codes)
+    code_of (MatchE number x arms) = code_of x ++ match_code number (arm_codes arms (unwrap_or (slice_get types number) []))
     code_of (CallE f args) = code_all args ++ Call f ∷ []
 
     pub code_all : Expressions → List Instruction
