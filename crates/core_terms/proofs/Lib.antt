@@ -34,3 +34,5 @@ pub mod TypeTables
 pub mod TypePushing
 -- the definitions of limits, computed on cases
 mod LimitRows
+-- for the crates above: what terms stand for, by their forms
+pub mod TermViews

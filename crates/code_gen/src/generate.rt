@@ -1,0 +1,197 @@
+// The generator: from terms to instructions.
+ghost use Rattle.std.specs.Prelude.{◌≡◌, ◌++◌, ◌∷◌, [], List, map, slice_get, unwrap_or, IfOk, OnOk};
+ghost use Rattle.core_terms.specs.LanguagePrograms.{meaning, types_of};
+ghost use Rattle.core_terms.specs.LanguageTrees.{arms_in_a_row, expression_of, function_of};
+ghost use Rattle.code_gen.specs.CodeTrees.{all_of, codes_of, instruction_of, instructions_of};
+ghost use Rattle.code_gen.specs.Code as meant;
+ghost use Rattle.code_gen.specs.Instructions as instruction;
+
+use crate::instruction::Instruction;
+use crate::pieces::{choose, put, put_text, put_unbind};
+use crate::arms::select;
+use core_terms::language::{Function, NamedId, Program, Term};
+use std::alloc::{AllocError, Global};
+
+/// The instructions of each function of a program.
+pub(crate) fn function_codes(program: &Program, alloc: Global) -> Result<Vec<Vec<Instruction>>, AllocError>
+    ensures { IfOk result (λ codes. map (λ c. instructions_of (types_of program.now) c.items) codes.items ≡ codes_of program.now) }
+{
+    let mut codes = Vec::new(alloc);
+    for function in program.functions() {
+        let code = function_code(program, function, alloc)?;
+        codes.push(code)?;
+    }
+    Ok(codes)
+}
+
+/// The instructions of a function: those of its body, and the return.
+fn function_code(program: &Program, function: &Function, alloc: Global) -> Result<Vec<Instruction>, AllocError>
+    ensures { IfOk result (λ code. instructions_of (types_of program.now) code.items ≡ (meant.function_code (meaning program.now).types (function_of (types_of program.now) function.now)).code) }
+{
+    let mut code = Vec::new(alloc);
+    emit(&mut code, program, &function.body, alloc)?;
+    put(&mut code, program, Instruction::Return)?;
+    Ok(code)
+}
+
+/// Adds the instructions of a term.
+#[cycle(terms)]
+fn emit(code: &mut Vec<Instruction>, program: &Program, term: &Term, alloc: Global) -> Result<(), AllocError>
+    ensures { OnOk result (instructions_of (types_of program.now) code.new.items ≡ instructions_of (types_of program.now) code.old.items ++ meant.code_of (meaning program.now).types (expression_of (types_of program.now) term.now)) }
+{
+    match term {
+        Term::UnitLiteral => put(code, program, Instruction::PushUnit),
+        Term::BoolLiteral(value) => put(code, program, Instruction::PushBool(*value)),
+        Term::IntLiteral(value) => put(code, program, Instruction::PushInt(*value)),
+        Term::TextLiteral(text) => put_text(code, program, text, alloc),
+        Term::Local(local) => put(code, program, Instruction::Load(*local)),
+        Term::Pair(_, _, x, y) => emit_two(code, program, x, y, Instruction::Pair, alloc),
+        Term::Fst(_, _, pair) => emit_one(code, program, pair, Instruction::Fst, alloc),
+        Term::Snd(_, _, pair) => emit_one(code, program, pair, Instruction::Snd, alloc),
+        Term::Not(test) => emit_one(code, program, test, Instruction::Not, alloc),
+        Term::Len(text) => emit_one(code, program, text, Instruction::Len, alloc),
+        Term::Auth(ty, x) => emit_one(code, program, x, Instruction::Auth(*ty), alloc),
+        Term::Unauth(ty, x) => emit_one(code, program, x, Instruction::Unauth(*ty), alloc),
+        Term::Constructor(named, tag, fields) => {
+            emit_all(code, program, fields, Instruction::Make(*named, *tag), alloc)
+        }
+        Term::Arith(op, x, y) => emit_two(code, program, x, y, Instruction::Arith(*op), alloc),
+        Term::Compare(op, x, y) => emit_two(code, program, x, y, Instruction::Compare(*op), alloc),
+        Term::TextCompare(op, x, y) => {
+            emit_two(code, program, x, y, Instruction::TextCompare(*op), alloc)
+        }
+        Term::Cat(x, y) => emit_two(code, program, x, y, Instruction::Cat, alloc),
+        Term::Let { bound_type: _, bound, body } => emit_let(code, program, bound, body, alloc),
+        Term::If { test, first, other } => emit_if(code, program, test, first, other, alloc),
+        Term::Match { named, subject, arms } => {
+            emit_match(code, program, *named, subject, arms, alloc)
+        }
+        Term::Call(function, arguments) => {
+            emit_all(code, program, arguments, Instruction::Call(*function), alloc)
+        }
+    }
+}
+
+/// Adds the instructions of a term, and an instruction.
+#[cycle(terms)]
+fn emit_one(code: &mut Vec<Instruction>, program: &Program, x: &Term, instruction: Instruction, alloc: Global) -> Result<(), AllocError>
+    ensures { OnOk result (instructions_of (types_of program.now) code.new.items ≡ instructions_of (types_of program.now) code.old.items ++ (meant.code_of (meaning program.now).types (expression_of (types_of program.now) x.now) ++ instruction_of (types_of program.now) instruction ∷ [])) }
+{
+    emit(code, program, x, alloc)?;
+    put(code, program, instruction)
+}
+
+/// Adds the instructions of two terms, and an instruction.
+#[cycle(terms)]
+fn emit_two(
+    code: &mut Vec<Instruction>,
+    program: &Program,
+    x: &Term,
+    y: &Term,
+    instruction: Instruction,
+    alloc: Global,
+) -> Result<(), AllocError>
+    ensures { OnOk result (instructions_of (types_of program.now) code.new.items ≡ instructions_of (types_of program.now) code.old.items ++ (meant.code_of (meaning program.now).types (expression_of (types_of program.now) x.now) ++ (meant.code_of (meaning program.now).types (expression_of (types_of program.now) y.now) ++ instruction_of (types_of program.now) instruction ∷ []))) }
+{
+    emit(code, program, x, alloc)?;
+    emit(code, program, y, alloc)?;
+    put(code, program, instruction)
+}
+
+/// Adds the instructions of terms in a row, and an instruction.
+#[cycle(terms)]
+fn emit_all(
+    code: &mut Vec<Instruction>,
+    program: &Program,
+    terms: &[Term],
+    instruction: Instruction,
+    alloc: Global,
+) -> Result<(), AllocError>
+    ensures { OnOk result (instructions_of (types_of program.now) code.new.items ≡ instructions_of (types_of program.now) code.old.items ++ (all_of (meaning program.now).types (map (expression_of (types_of program.now)) terms.now) ++ instruction_of (types_of program.now) instruction ∷ [])) }
+{
+    emit_row(code, program, terms, alloc)?;
+    put(code, program, instruction)
+}
+
+/// Adds the instructions of terms in a row.
+#[cycle(terms)]
+fn emit_row(code: &mut Vec<Instruction>, program: &Program, terms: &[Term], alloc: Global) -> Result<(), AllocError>
+    ensures { OnOk result (instructions_of (types_of program.now) code.new.items ≡ instructions_of (types_of program.now) code.old.items ++ all_of (meaning program.now).types (map (expression_of (types_of program.now)) terms.now)) }
+{
+    for term in terms {
+        emit(code, program, term, alloc)?;
+    }
+    Ok(())
+}
+
+/// Adds the instructions of a term, and those of a body in which its value is the next local.
+#[cycle(terms)]
+fn emit_let(code: &mut Vec<Instruction>, program: &Program, bound: &Term, body: &Term, alloc: Global) -> Result<(), AllocError>
+    ensures { OnOk result (instructions_of (types_of program.now) code.new.items ≡ instructions_of (types_of program.now) code.old.items ++ (meant.code_of (meaning program.now).types (expression_of (types_of program.now) bound.now) ++ (instruction.Bind ∷ (meant.code_of (meaning program.now).types (expression_of (types_of program.now) body.now) ++ instruction.Unbind 1 ∷ [])))) }
+{
+    emit(code, program, bound, alloc)?;
+    put(code, program, Instruction::Bind)?;
+    emit(code, program, body, alloc)?;
+    put(code, program, Instruction::Unbind(1))
+}
+
+/// Adds the instructions of a test, and those of its two sides.
+#[cycle(terms)]
+fn emit_if(
+    code: &mut Vec<Instruction>,
+    program: &Program,
+    test: &Term,
+    first: &Term,
+    other: &Term,
+    alloc: Global,
+) -> Result<(), AllocError>
+    ensures { OnOk result (instructions_of (types_of program.now) code.new.items ≡ instructions_of (types_of program.now) code.old.items ++ meant.if_code (meant.code_of (meaning program.now).types (expression_of (types_of program.now) test.now)) (meant.code_of (meaning program.now).types (expression_of (types_of program.now) first.now)) (meant.code_of (meaning program.now).types (expression_of (types_of program.now) other.now))) }
+{
+    emit(code, program, test, alloc)?;
+    let mut first_code = Vec::new(alloc);
+    emit(&mut first_code, program, first, alloc)?;
+    let mut other_code = Vec::new(alloc);
+    emit(&mut other_code, program, other, alloc)?;
+    choose(code, program, first_code, other_code)
+}
+
+/// Adds the instructions of a subject, and those of the arms for its constructors.
+#[cycle(terms)]
+fn emit_match(
+    code: &mut Vec<Instruction>,
+    program: &Program,
+    named: NamedId,
+    subject: &Term,
+    arms: &[Term],
+    alloc: Global,
+) -> Result<(), AllocError>
+    ensures { OnOk result (instructions_of (types_of program.now) code.new.items ≡ instructions_of (types_of program.now) code.old.items ++ (meant.code_of (meaning program.now).types (expression_of (types_of program.now) subject.now) ++ meant.match_code named.0 (meant.arm_codes (meaning program.now).types (arms_in_a_row (map (expression_of (types_of program.now)) arms.now)) (unwrap_or (slice_get (meaning program.now).types named.0) [])))) }
+{
+    emit(code, program, subject, alloc)?;
+    let arm_codes = arm_codes(program, named, arms, alloc)?;
+    select(code, program, named, arm_codes, alloc)
+}
+
+/// The instructions of each arm: those of its body, and behind it the end of its fields.
+#[cycle(terms)]
+fn arm_codes(program: &Program, named: NamedId, arms: &[Term], alloc: Global) -> Result<Vec<Vec<Instruction>>, AllocError>
+    ensures { IfOk result (λ codes. map (λ c. instructions_of (types_of program.now) c.items) codes.items ≡ meant.arm_codes (meaning program.now).types (arms_in_a_row (map (expression_of (types_of program.now)) arms.now)) (unwrap_or (slice_get (meaning program.now).types named.0) [])) }
+{
+    let mut codes = Vec::new(alloc);
+    for (tag, arm) in arms.iter().enumerate() {
+        let code = arm_code(program, named, tag, arm, alloc)?;
+        codes.push(code)?;
+    }
+    Ok(codes)
+}
+
+/// The instructions of the arm for a constructor, by its number.
+#[cycle(terms)]
+fn arm_code(program: &Program, named: NamedId, tag: usize, arm: &Term, alloc: Global) -> Result<Vec<Instruction>, AllocError>
+    ensures { IfOk result (λ code. instructions_of (types_of program.now) code.items ≡ meant.code_of (meaning program.now).types (expression_of (types_of program.now) arm.now) ++ meant.unbind_code (meant.field_count (meaning program.now).types named.0 tag)) }
+{
+    let mut code = Vec::new(alloc);
+    emit(&mut code, program, arm, alloc)?;
+    put_unbind(&mut code, program, named, tag)?;
+    Ok(code)
+}
