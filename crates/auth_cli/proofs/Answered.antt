@@ -1,5 +1,5 @@
 -- How a run ended, by the number of its status: where no count rose, and what it stored.
-use Rattle.std.proofs.Common.{◌≡◌, ◌≢◌, ◌<◌, ◌^◌, ◌-◌, ℕ, List, [], Option, Some, None, refl, ap, inl, inr, sym, ◌∙◌, arith}
+use Rattle.std.proofs.Common.{◌≡◌, ◌≢◌, ◌⊎◌, ◌<◌, ◌^◌, ◌-◌, ℕ, List, [], Option, Some, None, refl, ap, inl, inr, sym, ◌∙◌, arith}
 use Rattle.std.specs.List.{concat}
 use Rattle.std.specs.Option.{ForSome}
 use Rattle.lam_outside.specs.Causes.{Rose}
@@ -91,3 +91,40 @@ module _ (answer : Contents → Option Answer) (old new : Outside) where
   stored_first below status.ProgramRefused ends rose = absurd (no_rise below ends.stores rose)
   stored_first below status.InputRefused ends rose = absurd (no_rise below ends.stores rose)
   stored_first below status.Collision ends rose = absurd (no_rise below ends.stores rose)
+
+  -- 8 where the read count of the files rose, 9 and 10 aside
+  pub fault_told : old.read_faults < 2 ^ 64 - 1 → (ended : Status) → EndsAs answer old new ended → Rose old.read_faults new.read_faults
+      → (code ended ≡ 8) ⊎ ((code ended ≡ 9) ⊎ (code ended ≡ 10))
+  fault_told below status.ReadFault ends rose = inl refl
+  fault_told below status.WriteFault ends rose = inr (inl refl)
+  fault_told below status.NoMemory ends rose = inr (inr refl)
+  fault_told below status.Done ends rose = absurd (no_rise below ends.reads rose)
+  fault_told below status.Usage ends rose = absurd (no_rise below ends.reads rose)
+  fault_told below status.Trap ends rose = absurd (no_rise below ends.reads rose)
+  fault_told below status.OutOfFuel ends rose = absurd (no_rise below ends.reads rose)
+  fault_told below status.Rejected ends rose = absurd (no_rise below ends.reads rose)
+  fault_told below status.ProgramRefused ends rose = absurd (no_rise below ends.reads rose)
+  fault_told below status.InputRefused ends rose = absurd (no_rise below ends.reads rose)
+  fault_told below status.Collision ends rose = absurd (no_rise below ends.reads rose)
+
+  -- and there alone
+  pub fault_rose : (ended : Status) → EndsAs answer old new ended → code ended ≡ 8 → Rose old.read_faults new.read_faults
+  fault_rose status.ReadFault ends is = ends.rose
+  fault_rose status.WriteFault ends is = absurd (omega arith)
+  fault_rose status.NoMemory ends is = absurd (omega arith)
+  fault_rose status.Done ends is = absurd (omega arith)
+  fault_rose status.Usage ends is = absurd (omega arith)
+  fault_rose status.Trap ends is = absurd (omega arith)
+  fault_rose status.OutOfFuel ends is = absurd (omega arith)
+  fault_rose status.Rejected ends is = absurd (omega arith)
+  fault_rose status.ProgramRefused ends is = absurd (omega arith)
+  fault_rose status.InputRefused ends is = absurd (omega arith)
+  fault_rose status.Collision ends is = absurd (omega arith)
+
+-- four counts that stand where they stood didn't rise
+pub none_rose : (links listens accepts dials : ℕ) → links < 2 ^ 64 - 1 → listens < 2 ^ 64 - 1 → accepts < 2 ^ 64 - 1 → dials < 2 ^ 64 - 1
+    → Rose links links ⊎ (Rose listens listens ⊎ (Rose accepts accepts ⊎ Rose dials dials)) → ⊥
+none_rose links listens accepts dials a b c d (inl rose) = no_rise a refl rose
+none_rose links listens accepts dials a b c d (inr (inl rose)) = no_rise b refl rose
+none_rose links listens accepts dials a b c d (inr (inr (inl rose))) = no_rise c refl rose
+none_rose links listens accepts dials a b c d (inr (inr (inr rose))) = no_rise d refl rose

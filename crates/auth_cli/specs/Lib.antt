@@ -7,6 +7,7 @@ pub mod FueledQueries
 pub mod Halting
 pub mod IdealCalls
 pub mod NamedCalls
+pub mod NetFaults
 pub mod PlainArguments
 pub mod ProvedCalls
 pub mod AuditedCalls

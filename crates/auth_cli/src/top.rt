@@ -13,6 +13,7 @@ ghost use Rattle.auth_cli.specs.AuditedCalls.{CallsAudit, IsAudited, IsAuditedBy
 ghost use Rattle.auth_cli.specs.Codes.{code};
 ghost use Rattle.auth_cli.specs.Ending.{outside, EndsAs, IsOfFault, IsOfRefused, IsToldByCode, MayWrite, NoneRose, StoresSome, WritesPart, no_memory_text};
 ghost use Rattle.auth_cli.specs.IdealCalls.{IdealCall};
+ghost use Rattle.auth_cli.specs.NetFaults.{NetRose, net_faults};
 ghost use Rattle.auth_cli.specs.ProvedCalls.{CallsProve, IsProved, IsProvedBy};
 ghost use Rattle.auth_cli.specs.Reaching.{IsReached, ReachedAt};
 ghost use Rattle.auth_cli.specs.Statuses.{MayAnswer};
@@ -25,7 +26,7 @@ use crate::{
     verify_command,
 };
 use command_words::{Command, WordsFault, read};
-use lam_outside::{Files, Sink};
+use lam_outside::{Files, Net, Sink};
 use std::alloc::Global;
 
 /// Runs the words of a command line, the program's name first, and answers the exit status.
@@ -82,11 +83,21 @@ use std::alloc::Global;
 /// The program's text has at most 262,144 bytes, each other file at most 67,108,864. What is refused first in this order
 /// ends the run: the words, the program, the role, the fuel, the number of pieces that are kept, the state or the image, the
 /// argument, the proof. A file is opened when all that stands before it is well-formed, so `read fault` comes only from a file
-/// that this order had reached. A file is stored before any line is written.
-pub fn run<F: Files, O: Sink>(alloc: Global, words: &[&str], files: &mut F, out: &mut O) -> u8
+/// that this order had reached. A file is stored before any line is written. No command of these uses the net.
+pub fn run<F: Files, O: Sink, N: Net>(
+    alloc: Global,
+    words: &[&str],
+    files: &mut F,
+    out: &mut O,
+    net: &mut N,
+) -> u8
     requires reads_below { F.faults files.old < 2 ^ 64 - 1 }
     requires stores_below { F.store_faults files.old < 2 ^ 64 - 1 }
     requires writes_below { O.faults out.old < 2 ^ 64 - 1 }
+    requires links_below { N.faults net.old < 2 ^ 64 - 1 }
+    requires listens_below { N.listen_faults net.old < 2 ^ 64 - 1 }
+    requires accepts_below { N.accept_faults net.old < 2 ^ 64 - 1 }
+    requires dials_below { N.dial_faults net.old < 2 ^ 64 - 1 }
 
     // The one sentence from which the others follow: what was written and stored, and which counts rose, by the status.
     ensures ends { let seen = outside F.contents F.stores F.faults F.store_faults O.written O.faults in
@@ -132,10 +143,15 @@ pub fn run<F: Files, O: Sink>(alloc: Global, words: &[&str], files: &mut F, out:
     ensures usage { result ≡ 2 → AreRefused (texts words.now) }
     ensures refused { AreRefused (texts words.now) → (result ≡ 2) ⊎ ((result ≡ 9) ⊎ (result ≡ 10)) }
 
-    // 8 exactly where the read count rose, 9 and 10 aside, and then `read fault` alone was written.
-    ensures read_fault { result ≡ 8 → Rose (F.faults files.old) (F.faults files.new) }
-    ensures read_rose { Rose (F.faults files.old) (F.faults files.new) → (result ≡ 8) ⊎ ((result ≡ 9) ⊎ (result ≡ 10)) }
+    // 8 exactly where the read count of the files or the count of the net rose, 9 and 10 aside, and then `read fault` alone was written.
+    ensures fault { let counts = net_faults N.faults N.listen_faults N.accept_faults N.dial_faults in
+        result ≡ 8 → Rose (F.faults files.old) (F.faults files.new) ⊎ NetRose (counts net.old) (counts net.new) }
+    ensures rose { let counts = net_faults N.faults N.listen_faults N.accept_faults N.dial_faults in
+        Rose (F.faults files.old) (F.faults files.new) ⊎ NetRose (counts net.old) (counts net.new) → (result ≡ 8) ⊎ ((result ≡ 9) ⊎ (result ≡ 10)) }
     ensures read_fault_line { result ≡ 8 → O.written out.new ≡ append_known (O.written out.old) (codes "read fault\n") }
+
+    // No command uses the net yet: it is left as it was.
+    ensures unused { net.new ≡ net.old }
 
     // And 8 comes only from a file that the order of refusals had reached: the one that was asked for last, without which these words and
     // the other files have no answer.

@@ -1,7 +1,7 @@
-// Runs over files and a sink in memory.
+// Runs over files, a sink and a net in memory.
 ghost use Rattle.std.specs.Prelude.{◌<◌};
 
-use crate::stage::{Stage, files, sink, staged};
+use crate::stage::{Stage, files, net, sink, staged};
 use auth_cli::run;
 use lam_outside::{MemFiles, MemSink};
 use std::alloc::{AllocError, Global};
@@ -78,7 +78,7 @@ pub fn run_failing(
     let words = with_name(alloc, words)?;
     let mut out = sink(alloc, most, failing_writes)?;
     let mut files = files(alloc, stage, failing)?;
-    let status = run(alloc, &words, &mut files, &mut out);
+    let status = run(alloc, &words, &mut files, &mut out, &mut net(alloc));
     told(alloc, status, &files, &out)
 }
 

@@ -1,8 +1,9 @@
-// Files and a sink in memory, and what lies in the files.
+// Files, a sink and a net in memory, and what lies in the files.
 ghost use Rattle.std.specs.Prelude.{◌≡◌, ◌<◌, IfOk};
+ghost use Rattle.lam_outside.specs.MemNets.{net_accept_faults, net_dial_faults, net_faults, net_listen_faults};
 ghost use Rattle.lam_outside.specs.MemTold.{IsFresh, sink_faults};
 
-use lam_outside::{MemFile, MemFiles, MemSink, Plan};
+use lam_outside::{MemFile, MemFiles, MemNet, MemSink, Plan};
 use std::alloc::{AllocError, Global};
 
 /// The SHA-256 digest of no bytes: the spelling of the state of `()`.
@@ -65,4 +66,14 @@ pub fn sink(alloc: Global, most: usize, failing: &[u64]) -> Result<MemSink, Allo
     ensures { IfOk result (λ sink. sink_faults sink ≡ 0) }
 {
     Ok(MemSink::new(alloc, most, Plan::new(Vec::from_slice(alloc, failing)?)))
+}
+
+/// A net on whose links nothing comes.
+pub fn net(alloc: Global) -> MemNet
+    ensures links { net_faults result ≡ 0 }
+    ensures listens { net_listen_faults result ≡ 0 }
+    ensures accepts { net_accept_faults result ≡ 0 }
+    ensures dials { net_dial_faults result ≡ 0 }
+{
+    MemNet::new(alloc, Vec::new(alloc), 1, Plan::new(Vec::new(alloc)))
 }

@@ -1,10 +1,12 @@
-//! `lamauth COMMAND ARGUMENTS`: the real files and standard output, handed to the top call.
+//! `lamauth COMMAND ARGUMENTS`: the real files, standard output and links of this machine, handed to the top call.
 #![tactic(auto)]
 
 mod host;
+mod net;
 
 use auth_cli::{Halt, run, tell};
 use host::{HostFiles, HostSink};
+use net::HostNet;
 use std::env;
 use std::io::ErrorKind;
 use std::process::ExitCode;
@@ -33,7 +35,8 @@ fn run_words(rt: &HostRuntime, words: &[String]) -> Result<u8, Halt> {
     let words: Vec<&str> = words.iter().map(|word| word.as_str()).collect(rt.alloc())?;
     let mut files = HostFiles::new(rt);
     let mut out = HostSink::new(rt);
-    Ok(run(rt.alloc(), &words, &mut files, &mut out))
+    let mut net = HostNet::new(rt);
+    Ok(run(rt.alloc(), &words, &mut files, &mut out, &mut net))
 }
 
 #[cfg(test)]

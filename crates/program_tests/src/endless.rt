@@ -2,7 +2,7 @@
 ghost use Rattle.std.specs.Prelude.{◌≡◌, ℕ, None, refl};
 
 use auth_cli::run;
-use cli_stage::stage::sink;
+use cli_stage::stage::{net, sink};
 use lam_outside::{Failed, Files, Load, Source, load_all};
 use std::test::Fail;
 
@@ -84,7 +84,15 @@ fn an_endless_program_is_too_long(rt: HostRuntime) -> Result<(), Fail> {
     let alloc = rt.alloc();
     let mut out = sink(alloc, 100, &[])?;
     let words = ["lamauth", "verify", "p", "open", "s", "()", "1", "q"];
-    assert!(rt; run(alloc, &words, &mut Endless::new(), &mut out) == 7);
+    assert!(rt;
+        run(
+            alloc,
+            &words,
+            &mut Endless::new(),
+            &mut out,
+            &mut net(alloc)
+        ) == 7
+    );
     assert!(rt; out.bytes() == b"input refused: too long P\n".as_slice());
     Ok(())
 }

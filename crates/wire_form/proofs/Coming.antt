@@ -50,7 +50,7 @@ whole_came bytes left (Err (TooLong len)) four fits came = absurd came
 whole_came bytes left (Err (BadMessage kind offset)) four fits came = absurd came
 
 -- which the definitions read
-whole_read : {A : Type 0} (of : ℕ → List ℕ → meant.Body A) (bytes : List ℕ) → 4 ≤ length bytes → length_field bytes ≤ message_limit
+pub whole_read : {A : Type 0} (of : ℕ → List ℕ → meant.Body A) (bytes : List ℕ) → 4 ≤ length bytes → length_field bytes ≤ message_limit
     → length_field bytes ≤ length (drop 4 bytes)
     → meant.read_message of bytes ≡ meant.read_body of (take (length_field bytes) (drop 4 bytes)) (drop (length_field bytes) (drop 4 bytes))
 whole_read of [] four fits there = absurd (omega (arith, four))

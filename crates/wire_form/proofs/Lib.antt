@@ -1,5 +1,6 @@
--- reading: the fields of a body, and the bytes that come
+-- reading: the fields of a body, the bytes that come, and that what is read is a message
 mod Bodies
 mod Coming
+mod OnlyMessages
 -- writing
 mod Sending

@@ -1,9 +1,10 @@
 // The bytes of a message as they come: its length field, and its body.
-ghost use Rattle.std.specs.Prelude.{◌≡◌, ◌≤◌};
+ghost use Rattle.std.specs.Prelude.{◌≡◌, ◌≤◌, length, IfOk};
 ghost use Rattle.std.specs.Option.{ForSome};
 ghost use Rattle.std.specs.Io.{ReadsAtMost};
 ghost use Rattle.lam_outside.specs.Causes.{HasCause};
 ghost use Rattle.lam_outside.specs.Told.{Reads};
+ghost use Rattle.session_meaning.specs.Messages.{message_limit};
 ghost use Rattle.wire_form.specs.Incoming.{BodyCame, IsWithinLimit, LengthCame, ReadCause};
 
 use crate::ReadStop;
@@ -20,6 +21,7 @@ const CHUNK: usize = 4096;
 /// The length field of the next message.
 pub fn read_length<L: Link>(link: &mut L) -> Result<u32, ReadStop>
     ensures came { ForSome (L.left link.old) (λ bytes. LengthCame bytes (L.left link.new) result) }
+    ensures fits { IfOk result (λ len. len ≤ message_limit) }
     ensures sent { L.sent link.new ≡ L.sent link.old }
     ensures beyond { L.beyond link.new ≡ L.beyond link.old }
     ensures cause { ReadCause (L.faults link.old) (L.faults link.new) result }
@@ -45,6 +47,7 @@ fn within_limit(len: u32) -> Result<u32, ReadStop>
 /// The body of so many bytes. It takes no more memory than comes.
 pub fn read_body<L: Link>(alloc: Global, link: &mut L, len: usize) -> Result<Vec<u8>, ReadStop>
     ensures came { ForSome (L.left link.old) (λ bytes. BodyCame len bytes (L.left link.new) result) }
+    ensures whole { IfOk result (λ body. length body.items ≡ len) }
     ensures sent { L.sent link.new ≡ L.sent link.old }
     ensures beyond { L.beyond link.new ≡ L.beyond link.old }
     ensures cause { ReadCause (L.faults link.old) (L.faults link.new) result }

@@ -1,5 +1,5 @@
 // Messages that are read from a link.
-ghost use Rattle.std.specs.Prelude.{◌≡◌};
+ghost use Rattle.std.specs.Prelude.{◌≡◌, ◌≤◌, length, IfOk};
 ghost use Rattle.std.specs.Option.{ForSome};
 ghost use Rattle.session_meaning.specs.Messages as meant;
 ghost use Rattle.wire_form.specs.Incoming.{ReadCause, WholeCame};
@@ -12,7 +12,7 @@ use crate::{ReadStop, Reply, Request};
 use lam_outside::Link;
 use std::alloc::Global;
 
-/// Reads the next message, which must be a request, and no byte behind it.
+/// Reads the next message, which must be a request, and no byte behind it. What it gives is one that `write_request` takes.
 ///
 /// - `End` where there is no byte at all, `Cut` where the input ends inside the message.
 /// - `TooLong` where its length field says more than 16,777,216; the field was taken, and nothing behind it.
@@ -21,6 +21,7 @@ use std::alloc::Global;
 /// - `NoMemory` where what came found no memory. A length that is announced and not sent takes none.
 pub fn read_request<L: Link>(alloc: Global, link: &mut L) -> Result<Request, ReadStop>
     ensures reads { ForSome (L.left link.old) (λ bytes. ReadsMessage request_meant meant.read_request bytes (L.left link.new) result) }
+    ensures message { IfOk result (λ request. meant.IsRequest (request_meant request)) }
     ensures sent { L.sent link.new ≡ L.sent link.old }
     ensures beyond { L.beyond link.new ≡ L.beyond link.old }
     ensures cause { ReadCause (L.faults link.old) (L.faults link.new) result }
@@ -29,9 +30,11 @@ pub fn read_request<L: Link>(alloc: Global, link: &mut L) -> Result<Request, Rea
     request_in(alloc, &body)
 }
 
-/// Reads the next message, which must be a reply, and no byte behind it. The answers are those of `read_request`.
+/// Reads the next message, which must be a reply, and no byte behind it. The answers are those of `read_request`, and what it
+/// gives is one that `write_reply` takes.
 pub fn read_reply<L: Link>(alloc: Global, link: &mut L) -> Result<Reply, ReadStop>
     ensures reads { ForSome (L.left link.old) (λ bytes. ReadsMessage reply_meant meant.read_reply bytes (L.left link.new) result) }
+    ensures message { IfOk result (λ reply. meant.IsReply (reply_meant reply)) }
     ensures sent { L.sent link.new ≡ L.sent link.old }
     ensures beyond { L.beyond link.new ≡ L.beyond link.old }
     ensures cause { ReadCause (L.faults link.old) (L.faults link.new) result }
@@ -43,6 +46,7 @@ pub fn read_reply<L: Link>(alloc: Global, link: &mut L) -> Result<Reply, ReadSto
 /// The body of the next message, with its kind.
 fn read_whole<L: Link>(alloc: Global, link: &mut L) -> Result<Vec<u8>, ReadStop>
     ensures came { ForSome (L.left link.old) (λ bytes. WholeCame bytes (L.left link.new) result) }
+    ensures fits { IfOk result (λ body. length body.items ≤ meant.message_limit) }
     ensures sent { L.sent link.new ≡ L.sent link.old }
     ensures beyond { L.beyond link.new ≡ L.beyond link.old }
     ensures cause { ReadCause (L.faults link.old) (L.faults link.new) result }
@@ -53,7 +57,9 @@ fn read_whole<L: Link>(alloc: Global, link: &mut L) -> Result<Vec<u8>, ReadStop>
 
 /// The request in the body of a message.
 fn request_in(alloc: Global, body: &[u8]) -> Result<Request, ReadStop>
-    ensures { SaysWhole request_meant meant.request_of body.now result }
+    requires { length body.now ≤ meant.message_limit }
+    ensures says { SaysWhole request_meant meant.request_of body.now result }
+    ensures message { IfOk result (λ request. meant.IsRequest (request_meant request)) }
 {
     let Some((kind, fields)) = body.split_first() else {
         return Err(ReadStop::BadMessage(0, 0));
@@ -67,7 +73,9 @@ fn request_in(alloc: Global, body: &[u8]) -> Result<Request, ReadStop>
 
 /// The reply in the body of a message.
 fn reply_in(alloc: Global, body: &[u8]) -> Result<Reply, ReadStop>
-    ensures { SaysWhole reply_meant meant.reply_of body.now result }
+    requires { length body.now ≤ meant.message_limit }
+    ensures says { SaysWhole reply_meant meant.reply_of body.now result }
+    ensures message { IfOk result (λ reply. meant.IsReply (reply_meant reply)) }
 {
     let Some((kind, fields)) = body.split_first() else {
         return Err(ReadStop::BadMessage(0, 0));

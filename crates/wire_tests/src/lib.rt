@@ -1,5 +1,8 @@
-//! Tests of the messages of a session: each kind whole, cut, with faulty fields and over links that fail.
+//! Tests of the messages of a session: each kind read whole, cut, with faulty fields and over links that fail, and written over
+//! links that take a few bytes a call, fail or take no more.
 #![tactic(auto)]
 
 #[cfg(test)]
 mod messages;
+#[cfg(test)]
+mod writes;

@@ -8,7 +8,7 @@ use wire_form::{ReadStop, Reply, Request, read_reply, read_request};
 
 /// Who sends a message.
 #[derive(Clone, Copy)]
-enum Sender {
+pub enum Sender {
     Client,
     Server,
 }
@@ -28,7 +28,7 @@ enum Want {
 }
 
 /// One message of each kind, as who sends it writes it.
-const MESSAGES: [(Sender, &[u8]); 9] = [
+pub const MESSAGES: [(Sender, &[u8]); 9] = [
     (
         Sender::Client,
         b"\x00\x00\x00\x27\x01\x00\x01\x07\x07\x07\x07\x07\x07\x07\x07\x07\x07\x07\x07\x07\x07\x07\x07\x07\x07\x07\x07\x07\x07\x07\x07\x07\x07\x07\x07\x07\x07\x07\x07\x04\x00ab",
@@ -129,7 +129,13 @@ struct Told {
     last: Vec<u8>,
 }
 
-fn link(alloc: Global, coming: &[u8], most: usize, failing: &[u64]) -> Result<MemLink, AllocError>
+/// A link on which these bytes come, by so many a call, and of which these calls fail.
+pub fn link(
+    alloc: Global,
+    coming: &[u8],
+    most: usize,
+    failing: &[u64],
+) -> Result<MemLink, AllocError>
     requires { 0 < most }
 {
     let plan = Plan::new(Vec::from_slice(alloc, failing)?);

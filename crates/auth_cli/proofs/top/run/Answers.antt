@@ -1,10 +1,10 @@
-use Rattle.std.proofs.Common.{◌≡◌, ◌⊎◌, ℕ, ap, sym, subst, ◌∙◌}
+use Rattle.std.proofs.Common.{◌≡◌, ◌⊎◌, ℕ, inl, inr, ap, sym, subst, ◌∙◌}
 use Rattle.command_words.specs.Commands.{texts}
 use Rattle.command_words.proofs.Judging.{refused_exactly}
 use Rattle.auth_cli.specs.Answer.{answer}
 use Rattle.auth_cli.specs.Ending.{IsOfFault}
 use Rattle.auth_cli.specs.TrueLines.{TellsOutcome}
-use Rattle.auth_cli.proofs.Answered.{answered, part_written, stored, stored_first}
+use Rattle.auth_cli.proofs.Answered.{answered, fault_rose, fault_told, none_rose, part_written, stored, stored_first}
 use Rattle.auth_cli.proofs.AuditedRuns.{audited_run}
 use Rattle.auth_cli.proofs.Called.{refused_code}
 use Rattle.auth_cli.proofs.MeantCalls.{proved_run_tells, split_run}
@@ -67,3 +67,12 @@ returns-clause-stored g c = stored (answer (texts c.args.words.now)) _ _ c.ended
 
 pub returns-clause-reached : goal.returns-clause-reached
 returns-clause-reached g c = λ is. c.ended.ensures.reached (read_fault_of_code c.ended.result (sym c.code.ensures ∙ is))
+
+pub returns-clause-fault : goal.returns-clause-fault
+returns-clause-fault g c = λ is. inl (fault_rose (answer (texts c.args.words.now)) _ _ c.ended.result c.ended.ensures.ends (sym c.code.ensures ∙ is))
+
+pub returns-clause-rose : goal.returns-clause-rose
+returns-clause-rose g c = λ rose. elim rose [
+  | inl files ↦ rw c.code.ensures (fault_told (answer (texts c.args.words.now)) _ _ c.requires.reads_below c.ended.result c.ended.ensures.ends files)
+  | inr net ↦ absurd (none_rose _ _ _ _ c.requires.links_below c.requires.listens_below c.requires.accepts_below c.requires.dials_below net)
+]

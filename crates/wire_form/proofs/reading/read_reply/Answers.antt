@@ -5,4 +5,4 @@ use Rattle.wire_form.proofs.reading.read_reply.Goals as goal
 
 pub returns-clause-reads : goal.returns-clause-reads
 returns-clause-reads g c = λ bytes told.
-    reads_whole reply_meant meant.reply_of bytes c.in_ok-body.body.items _ _ _ c.deref.ensures.value (c.in_ok-body.ensures.came bytes told) c.reply_in.ensures
+    reads_whole reply_meant meant.reply_of bytes c.in_ok-body.body.items _ _ _ c.deref.ensures.value (c.in_ok-body.ensures.came bytes told) c.reply_in.ensures.says
