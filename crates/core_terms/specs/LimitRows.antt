@@ -1,6 +1,6 @@
 -- Expressions at their limits. Each equation holds by computing both sides.
-use Rattle.std.specs.Prelude.{◌≡◌, ℕ, zero, suc, true, false, List, [], ◌∷◌, nat_le, refl}
-use Rattle.core_terms.specs.Types.{Ty, IntTy, BoolTy, PairTy, AuthTy, Table}
+use Rattle.std.specs.Prelude.{◌≡◌, ℕ, zero, suc, true, false, [], ◌∷◌, nat_le, refl}
+use Rattle.core_terms.specs.Types.{IntTy, BoolTy, PairTy, AuthTy, Table}
 use Rattle.core_terms.specs.Terms.{Expression, UnitE, BoolE, LocalE, NotE, LetE, IfE, MatchE, CallE, ConE, NoE, AndE, NoArm, AndArm}
 use Rattle.core_terms.specs.ProgramLimits.{expressions_in, levels_of, levels_of_type, locals_in, most_levels, most_locals}
 
