@@ -1,7 +1,7 @@
 -- What bytes offer, by their next frame.
-use Rattle.std.proofs.Common.{◌≡◌, ◌≢◌, ℕ, zero, suc, ◌+◌, ◌<◌, ◌≤◌, List, [], ◌∷◌, length, take, drop, Option, Some, None, slice_get, nat_lt, if◌then◌else◌, refl, sym, ap, ◌∙◌, arith, length-drop, le-ltb, lt-ltb}
-use Rattle.std.specs.Int.{w16, w32, from_be_bytes}
-use Rattle.ideal_meaning.specs.Frames.{NoByte, IsCut, KindIs, LongBy, Offer, NoMore, Offers, frames, offered, used_piece}
+use Rattle.std.proofs.Common.{◌≡◌, ◌≢◌, ℕ, zero, suc, ◌+◌, ◌<◌, ◌≤◌, List, [], ◌∷◌, length, take, drop, Option, Some, None, slice_get, refl, ap, arith, length-drop, le-ltb, lt-ltb}
+use Rattle.std.specs.Int.{w16, from_be_bytes}
+use Rattle.ideal_meaning.specs.Frames.{NoByte, IsCut, KindIs, LongBy, Offer, Offers, frames, offered, used_piece}
 use Rattle.ideal_meaning.specs.Following.{after_bytes, after_used, after_within}
 use Rattle.ideal_meaning.proofs.FramesBound.{frame_bound_is_enough}
 use Rattle.ideal_meaning.proofs.NewPieces.{new_piece_bound_is_enough}

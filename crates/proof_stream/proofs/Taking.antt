@@ -1,5 +1,5 @@
 -- The next frame, from the parts that came.
-use Rattle.std.proofs.Common.{◌≡◌, ◌≢◌, ℕ, zero, suc, ◌+◌, ◌<◌, ◌≤◌, List, [], ◌∷◌, ◌++◌, length, take, drop, Option, Some, None, Result, Ok, Err, IsErrAnd, slice_index, refl, sym, ap, subst, ◌∙◌, arith}
+use Rattle.std.proofs.Common.{◌≡◌, ◌≢◌, ℕ, ◌+◌, ◌<◌, ◌≤◌, List, [], ◌∷◌, ◌++◌, length, take, drop, Option, Some, None, Result, Ok, Err, IsErrAnd, slice_index, sym, ap, subst, ◌∙◌, arith}
 use Rattle.std.proofs.Math.Seq.{drop-append_seam, drop-append-add}
 use Rattle.std.proofs.lemmas.List.{drop-drop}
 use Rattle.std.specs.Io.KnownBytes.{prepend_known}
@@ -9,7 +9,7 @@ use Rattle.proof_stream.specs.declared.frame.Frame.TheVariants.{New, Back}
 use Rattle.proof_stream.specs.declared.frame.FrameEnd.{FrameEnd}
 use Rattle.proof_stream.specs.declared.frame.FrameEnd.TheVariants.{End, BadKind, Cut, PieceLong, ReadFault, NoMemory}
 use Rattle.proof_stream.specs.Incoming.{KindCame, LengthCame, NumberCame, PieceCame, TookAtMost, length_field}
-use Rattle.proof_stream.specs.TakenFrames.{EndsBy, TakesFrame, OffersNothing, OffersNew, OffersBack}
+use Rattle.proof_stream.specs.TakenFrames.{TakesFrame, OffersNothing, OffersNew, OffersBack}
 use Rattle.proof_stream.proofs.Offering.{back_cut, back_offered, behind, new_cut, new_headless, new_long, new_offered, no_byte, other_kind, piece_in}
 
 -- a result that is the end that came

@@ -1,5 +1,5 @@
 -- Pieces that lead to the next ones of their buckets.
-use Rattle.std.proofs.Common.{◌≡◌, ◌≢◌, ◌⊎◌, inl, inr, ℕ, zero, suc, ◌+◌, ◌-◌, ◌<◌, ◌≤◌, List, [], ◌∷◌, length, take, Option, Some, slice_get, slice_index, set, refl, sym, ap, subst, ◌∙◌, arith, length-set, length-take, zero-add, get_or-set_same, get_or-set_other}
+use Rattle.std.proofs.Common.{◌≡◌, ◌≢◌, inl, inr, ℕ, zero, suc, ◌+◌, ◌-◌, ◌<◌, ◌≤◌, List, [], ◌∷◌, length, take, Some, slice_get, slice_index, set, refl, sym, ap, subst, ◌∙◌, arith, length-set, length-take, zero-add, get_or-set_same, get_or-set_other}
 use Rattle.std.proofs.lemmas.Bool.{cases_eq, cases_lt}
 use Rattle.std.proofs.lemmas.Option.{slice_get_within}
 use Rattle.reuse_buffer.specs.declared.held_piece.HeldPiece.{HeldPiece}

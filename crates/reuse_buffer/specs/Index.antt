@@ -1,6 +1,6 @@
 -- How a ring finds a piece by its bytes: pieces stand in buckets by their hash, and each leads to the next older one of its bucket.
 -- No contract of a ring speaks of this.
-use Rattle.std.specs.Prelude.{◌≡◌, ◌≢◌, ℕ, ◌+◌, ◌-◌, ◌<◌, ◌≤◌, ◌%◌, List, [], ◌∷◌, length, map, Option, Some, slice_get, slice_index, nat_le, nat_lt, if◌then◌else◌}
+use Rattle.std.specs.Prelude.{◌≡◌, ◌≢◌, ℕ, ◌+◌, ◌-◌, ◌<◌, ◌≤◌, ◌%◌, List, [], ◌∷◌, length, map, Some, slice_get, slice_index, nat_le, nat_lt, if◌then◌else◌}
 use Rattle.std.specs.Hash.FoldHasher.{initial, write, finish}
 use Rattle.reuse_buffer.specs.declared.held_piece.HeldPiece.{HeldPiece}
 

@@ -273,9 +273,9 @@ fn frames_offer_their_pieces(rt: HostRuntime) -> Result<(), Fail> {
 #[test]
 fn what_is_left_is_counted(rt: HostRuntime) -> Result<(), Fail> {
     let alloc = rt.alloc();
-    let long = Vec::from_elem(alloc, 7, 65_538)?;
     for count in [0, 1, 4096, 4097, 65_535, 65_536, 65_537] {
-        let mut source = bytes(alloc, &long[..count], 4096, &[])?;
+        let coming = Vec::from_elem(alloc, 7, count)?;
+        let mut source = bytes(alloc, &coming, 4096, &[])?;
         let mut reader = FrameReader::new(alloc, LIMIT);
         let told = reader.count_rest(&mut source);
         let want = count.min(65_536);

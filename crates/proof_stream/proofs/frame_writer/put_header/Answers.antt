@@ -1,4 +1,3 @@
-use Rattle.std.proofs.Common.{refl}
 use Rattle.std.specs.Int.{w16, to_be_bytes}
 use Rattle.proof_stream.proofs.Putting.{put_behind}
 use Rattle.proof_stream.proofs.frame_writer.put_header.Goals as goal

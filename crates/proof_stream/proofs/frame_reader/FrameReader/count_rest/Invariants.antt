@@ -1,6 +1,5 @@
 use Rattle.std.proofs.Common.{◌≡◌, ◌≤◌, ◌-◌, ℕ, List, length}
 use Rattle.std.specs.Io.KnownBytes.{prepend_known}
-use Rattle.proof_stream.specs.Readers.{limit_of, piece_of}
 use Rattle.proof_stream.proofs.frame_reader.FrameReader.count_rest.Given as goal
 
 abbrev pub invariant-loop-count : goal.invariant-loop-count

@@ -1,4 +1,4 @@
-use Rattle.std.proofs.Common.{rules, ◌≡◌, ◌<◌, ◌∷◌, List, ap₂, ◌∙◌, arith}
+use Rattle.std.proofs.Common.{rules, ◌≡◌, ◌<◌, ap₂, ◌∙◌, arith}
 use Rattle.reuse_buffer.specs.declared.held_piece.HeldPiece.{HeldPiece}
 use Rattle.reuse_buffer.specs.Index.{bucket_of}
 use Rattle.reuse_buffer.proofs.Linking.{pushed, seen, seen_last}
