@@ -1,7 +1,7 @@
 -- The arms of a match, one after the other.
 use Rattle.std.proofs.Common.{◌≡◌, ℕ, zero, suc, ◌+◌, ◌<◌, List, [], ◌∷◌, ◌++◌, length, map, take, slice_index_or, slice_get, unwrap_or, Option, Some, None, refl, sym, ap, ap₂, ◌∙◌, append-nil, arith}
 use Rattle.std.specs.Option.{option_and_then}
-use Rattle.core_terms.specs.Types.{Ty, Table, fields_at}
+use Rattle.core_terms.specs.Types.{Ty, Table}
 use Rattle.core_terms.specs.Terms.{Expression}
 use Rattle.core_terms.specs.LanguageTrees.{arms_in_a_row}
 use Rattle.code_gen.specs.Instructions.{Instruction}
@@ -34,6 +34,6 @@ arms_more types f g number xs i d x now after y h at e is same =
     let cs = unwrap_or (slice_get types number) [] in
     ap (map g) is ∙ mapped_more g now y
     ∙ ap₂ (λ l c. l ++ c ∷ []) e
-      (same ∙ ap (λ ts. code_of types (f x) ++ unbind_code (length ts)) (fields_of (slice_get types number) i ∙ ap (λ n. unwrap_or (slice_get cs n) []) (sym (length_taken f xs i h))))
+    (same ∙ ap (λ ts. code_of types (f x) ++ unbind_code (length ts)) (fields_of (slice_get types number) i ∙ ap (λ n. unwrap_or (slice_get cs n) []) (sym (length_taken f xs i h))))
     ∙ sym (arms_append types (map f (take i xs)) (f x) cs)
     ∙ ap (λ l. arm_codes types (arms_in_a_row l) cs) (ap (λ x. map f (take i xs) ++ f x ∷ []) (sym at) ∙ sym (taken f xs i d h))

@@ -1,12 +1,12 @@
 -- The parts of the proof that code generation is right.
-use Rattle.std.proofs.Common.{◌≡◌, ℕ, zero, suc, ◌+◌, ◌-◌, ◌≤◌, Bool, true, false, List, [], ◌∷◌, ◌++◌, length, Option, Some, None, unwrap_or, slice_get, take, length-append, ℤ, pos, negsuc, ◌+ℤ◌, ◌-ℤ◌, ◌*ℤ◌, int_div, int_rem, nat_lt, nat_le, refl, sym, ap, ◌∙◌, subst, arith, if◌then◌else◌, le-leb}
-use Rattle.core_terms.specs.Types.{Ty, UnitTy, BoolTy, IntTy, TextTy, PairTy, NamedTy, AuthTy, Table, fields_at, OnFields}
-use Rattle.core_terms.specs.Values.{Value, UnitV, BoolV, IntV, TextV, PairV, ConV, Values, NoV, AndV, int_fits, size, depth}
+use Rattle.std.proofs.Common.{◌≡◌, ℕ, zero, suc, ◌+◌, ◌-◌, ◌≤◌, Bool, true, false, List, [], ◌∷◌, ◌++◌, length, Option, Some, None, unwrap_or, slice_get, take, length-append, ℤ, pos, negsuc, ◌+ℤ◌, ◌-ℤ◌, ◌*ℤ◌, int_div, int_rem, nat_lt, refl, ap, ◌∙◌, subst, arith, if◌then◌else◌, le-leb}
+use Rattle.core_terms.specs.Types.{Ty, BoolTy, IntTy, TextTy, PairTy, NamedTy, Table, fields_at, OnFields}
+use Rattle.core_terms.specs.Values.{Value, BoolV, IntV, TextV, PairV, ConV, Values, NoV, AndV, int_fits, size, depth}
 use Rattle.core_terms.specs.Formats.{depth_limit}
 use Rattle.core_terms.specs.declared.language.term.Arith.{Arith}
 use Rattle.core_terms.specs.declared.language.term.Arith.TheVariants.{Add, Sub, Mul, Div, Rem}
 use Rattle.ideal_meaning.specs.Run.{Run, Gives, Ends, then_run, exact, divided, arith_of, limited, local, join}
-use Rattle.code_meaning.specs.Execution.{Coded, Ran, Stuck, then_code, Held, held, tie, without_last, popped}
+use Rattle.code_meaning.specs.Execution.{Coded, Ran, then_code, Held, held, tie, without_last, popped}
 use Rattle.code_meaning.specs.Right.{IsOf, AreOf, Holds}
 
 module _ (C W : Type 0) where
@@ -55,7 +55,7 @@ abbrev pub push_all : List Ty → Values → List Held → List Held
 push_all (t ∷ ts) (AndV v vs) ops = push_all ts vs (held t v ∷ ops)
 push_all ts vs ops = ops
 
-join_nil : (vs : Values) → join vs NoV ≡ vs
+pub join_nil : (vs : Values) → join vs NoV ≡ vs
 join_nil NoV = refl
 join_nil (AndV v vs) = ap (AndV v) (join_nil vs)
 
