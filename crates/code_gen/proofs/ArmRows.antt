@@ -26,7 +26,8 @@ length_taken f [] i h = absurd (omega (arith, h))
 length_taken f (x ∷ xs) zero h = refl
 length_taken f (x ∷ xs) (suc i) h = let k : i < length xs = omega (arith, h) in ap suc (length_taken f xs i k)
 
-pub arms_more : {A B : Type 0} (types : Table) (f : A → Expression) (g : B → List Instruction) (number : ℕ) (xs : List A) (i : ℕ) (d x : A) (now after : List B) (y : B) → i < length xs → slice_index_or xs i d ≡ x
+pub arms_more : {A B : Type 0} (types : Table) (f : A → Expression) (g : B → List Instruction) (number : ℕ) (xs : List A) (i : ℕ) (d x : A) (now after : List B) (y : B)
+    → i < length xs → slice_index_or xs i d ≡ x
     → map g now ≡ arm_codes types (arms_in_a_row (map f (take i xs))) (unwrap_or (slice_get types number) [])
     → after ≡ now ++ y ∷ [] → g y ≡ code_of types (f x) ++ unbind_code (field_count types number i)
     → map g after ≡ arm_codes types (arms_in_a_row (map f (take (i + 1) xs))) (unwrap_or (slice_get types number) [])

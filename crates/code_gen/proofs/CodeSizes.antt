@@ -44,7 +44,8 @@ if_short c d e m n o h j i =
     let k = length-append d (Jump (length e) ∷ e) in
     omega (arith, h, j, i, l, k)
 
-match_short : (c : List Instruction) (number : ℕ) (arms : List (List Instruction)) (m n : ℕ) → length c + 2 ≤ 4 * m → length (laid arms) ≤ 4 * n → length (c ++ match_code number arms) + 2 ≤ 4 * (1 + m + n)
+match_short : (c : List Instruction) (number : ℕ) (arms : List (List Instruction)) (m n : ℕ) → length c + 2 ≤ 4 * m → length (laid arms) ≤ 4 * n
+    → length (c ++ match_code number arms) + 2 ≤ 4 * (1 + m + n)
 match_short c number arms m n h j =
     let l = length-append c (Switch number (places 0 arms) ∷ laid arms) in
     omega (arith, h, j, l)

@@ -52,19 +52,23 @@ module _ (hash : Hash) (is_hash : IsHash hash) (format : Format) (is_format : Is
         AreIdeal types g.parameters args → AllFit (over format types) g.parameters args
         → BothRan (λ ideal checked. Follows hash (over format types) (projection hash (over format types) g.result) began ideal checked ⊎ Parts hash (over format types) began ideal checked)
         (call_code (record { limit = format.limit; types = types; functions = functions }) ideal_mode n f args k [])
-        (call_code (record { limit = format.limit; types = types; functions = functions }) (checked_mode hash (over format types)) n f (projections hash (over format types) g.parameters args) k began)
+        (call_code (record { limit = format.limit; types = types; functions = functions }) (checked_mode hash (over format types)) n f
+        (projections hash (over format types) g.parameters args) k began)
     agreed accepted n f args k ideals fits =
         let g = code_at B f in
         both_ran g.result _ _ _ _
         (never ⊥ (List Opened) B ideal_mode (ideal_kind types) (ideal_laws types) accepted n f args k [] (ideals_are types g.parameters args ideals))
-        (never Cause Taking B (checked_mode hash P) digest_kind (checked_laws hash P) accepted n f (projections hash P g.parameters args) k began (shallows_are types g.parameters _ (projections_are g.parameters args ideals)))
+        (never Cause Taking B (checked_mode hash P) digest_kind (checked_laws hash P) accepted n f (projections hash P g.parameters args) k began
+        (shallows_are types g.parameters _ (projections_are g.parameters args ideals)))
         (called hash format is_format ⊥ began types functions (reads_back hash is_hash P is_format) accepted n f args k [] began
         (held_inputs P ⊥ g.parameters args ideals fits (λ l. absurd l)) at_start)
 
 pub code_agreement : CodeAgreement
 code_agreement hash is_hash format is_format B e accepted n f args k began ideals fits =
     subst (λ limit. IsAccepted (record { limit = limit; types = B.types; functions = B.functions })
-    → BothRan (λ ideal checked. Follows hash (over format B.types) (projection hash (over format B.types) (code_at B f).result) began ideal checked ⊎ Parts hash (over format B.types) began ideal checked)
+    → BothRan (λ ideal checked. Follows hash (over format B.types) (projection hash (over format B.types) (code_at B f).result) began ideal checked ⊎ Parts hash
+    (over format B.types) began ideal checked)
     (call_code (record { limit = limit; types = B.types; functions = B.functions }) ideal_mode n f args k [])
-    (call_code (record { limit = limit; types = B.types; functions = B.functions }) (checked_mode hash (over format B.types)) n f (projections hash (over format B.types) (code_at B f).parameters args) k began))
+    (call_code (record { limit = limit; types = B.types; functions = B.functions }) (checked_mode hash (over format B.types)) n f
+    (projections hash (over format B.types) (code_at B f).parameters args) k began))
     (sym e) (λ accepted. agreed hash is_hash format is_format B.types B.functions began accepted n f args k ideals fits) accepted

@@ -52,7 +52,8 @@ module _ (P : Program) (z : Ty) where
     fine = λ rest more h f. (let e : length d ≡ length d + 0 = omega arith in ap (λ n. slice_get (b.shapes ++ more) n) e ∙ past b.shapes more (length d) 0 u b.long h, b.fine rest more h f);
   }
 
-  choice : (env os : List Ty) (t : Ty) (c d : List Instruction) → Acc (shape env os) (shape env (t ∷ os)) c → Acc (shape env os) (shape env (t ∷ os)) d → Acc (shape env (BoolTy ∷ os)) (shape env (t ∷ os)) (Branch (length c + 1) ∷ (c ++ (Jump (length d) ∷ d)))
+  choice : (env os : List Ty) (t : Ty) (c d : List Instruction) → Acc (shape env os) (shape env (t ∷ os)) c → Acc (shape env os) (shape env (t ∷ os)) d
+      → Acc (shape env (BoolTy ∷ os)) (shape env (t ∷ os)) (Branch (length c + 1) ∷ (c ++ (Jump (length d) ∷ d)))
   choice env os t c d a b =
       let u = shape env (t ∷ os) in
       let s = shape env os in
@@ -75,22 +76,29 @@ module _ (P : Program) (z : Ty) where
   record Laid (env os : List Ty) (t : Ty) (cs : List (List Ty)) (codes : List (List Instruction)) : Type 0 where
     shapes : List Shape
     long : length shapes ≡ length (laid codes)
-    jumps : (more : List Shape) → At more 0 (shape env (t ∷ os)) → (tag : ℕ) (ts : List Ty) → slice_get cs tag ≡ Some ts → (start : ℕ) → (n : ℕ) × (slice_get (places start codes) tag ≡ Some (start + n)) × At (shapes ++ more) n (shape (env ++ ts) os)
+    jumps : (more : List Shape) → At more 0 (shape env (t ∷ os)) → (tag : ℕ) (ts : List Ty) → slice_get cs tag ≡ Some ts → (start : ℕ)
+        → (n : ℕ) × (slice_get (places start codes) tag ≡ Some (start + n)) × At (shapes ++ more) n (shape (env ++ ts) os)
     fine : (rest : List Instruction) (more : List Shape) → At more 0 (shape env (t ∷ os)) → IsFine (generated P) z rest more → IsFine (generated P) z (laid codes ++ rest) (shapes ++ more)
 
-  abbrev over_arms : (env os : List Ty) (t : Ty) (cs : List (List Ty)) (codes : List (List Instruction)) → Laid env os t cs codes → Acc (shape env (t ∷ os)) (shape env (t ∷ os)) (Jump (length (laid codes)) ∷ laid codes)
+  abbrev over_arms : (env os : List Ty) (t : Ty) (cs : List (List Ty)) (codes : List (List Instruction)) → Laid env os t cs codes
+      → Acc (shape env (t ∷ os)) (shape env (t ∷ os)) (Jump (length (laid codes)) ∷ laid codes)
   over_arms env os t cs codes L = record {
     shapes = shape env (t ∷ os) ∷ L.shapes;
     long = ap suc L.long;
     starts = λ more h. refl;
-    fine = λ rest more h f. (let e : length (laid codes) ≡ length (laid codes) + 0 = omega arith in ap (λ n. slice_get (L.shapes ++ more) n) e ∙ past L.shapes more (length (laid codes)) 0 (shape env (t ∷ os)) L.long h, L.fine rest more h f);
+    fine = λ rest more h f. (
+      let e : length (laid codes) ≡ length (laid codes) + 0 =
+          omega arith in ap (λ n. slice_get (L.shapes ++ more) n) e ∙ past L.shapes more (length (laid codes)) 0 (shape env (t ∷ os)) L.long h,
+      L.fine rest more h f,
+    );
   }
 
   unbinds : (env c us : List Ty) → Acc (shape (env ++ c) us) (shape env us) (unbind_code (length c))
   unbinds env [] us = subst (λ l. Acc (shape (env ++ []) us) (shape l us) []) (append-nil env) (none (shape (env ++ []) us))
   unbinds env (t ∷ c) us = single _ _ (Unbind (suc (length c))) (λ more h. (env, t ∷ c, refl, refl, h))
 
-  switch : (env os : List Ty) (t : Ty) (number : ℕ) (codes : List (List Instruction)) → Laid env os t (unwrap_or (slice_get P.types number) []) codes → Acc (shape env (NamedTy number ∷ os)) (shape env (t ∷ os)) (Switch number (places 0 codes) ∷ laid codes)
+  switch : (env os : List Ty) (t : Ty) (number : ℕ) (codes : List (List Instruction)) → Laid env os t (unwrap_or (slice_get P.types number) []) codes
+      → Acc (shape env (NamedTy number ∷ os)) (shape env (t ∷ os)) (Switch number (places 0 codes) ∷ laid codes)
   switch env os t number codes L = record {
     shapes = shape env (NamedTy number ∷ os) ∷ L.shapes;
     long = ap suc L.long;
@@ -110,14 +118,18 @@ module _ (P : Program) (z : Ty) where
   abbrev At_type : List Ty → List Ty → List Instruction → Ty → Type 0
   At_type env os c t = Acc (shape env os) (shape env (t ∷ os)) c
 
-  first_arm : (env os c : List Ty) (l : List Shape) → At l 0 (shape (env ++ c) os) → (tag : ℕ) (ts : List Ty) → slice_get (c ∷ []) tag ≡ Some ts → (start : ℕ) → (n : ℕ) × (slice_get (start ∷ []) tag ≡ Some (start + n)) × At l n (shape (env ++ ts) os)
+  first_arm : (env os c : List Ty) (l : List Shape) → At l 0 (shape (env ++ c) os) → (tag : ℕ) (ts : List Ty) → slice_get (c ∷ []) tag ≡ Some ts → (start : ℕ)
+      → (n : ℕ) × (slice_get (start ∷ []) tag ≡ Some (start + n)) × At l n (shape (env ++ ts) os)
   first_arm env os c l h zero ts e start =
       let s : c ≡ ts = cc in
       let z : start ≡ start + 0 = omega arith in
       (0, ap Some z, h ∙ ap (λ c. Some (shape (env ++ c) os)) s)
   first_arm env os c l h (suc tag) ts e start = absurd (cc)
 
-  arm_at : (env os : List Ty) (t : Ty) (c : List Ty) (cs : List (List Ty)) (code : List Instruction) (later : List (List Instruction)) (L : Laid env os t cs later) (xs : List Shape) → length xs ≡ length code → (more : List Shape) → At more 0 (shape env (t ∷ os)) → At ((xs ++ shape env (t ∷ os) ∷ L.shapes) ++ more) 0 (shape (env ++ c) os) → (tag : ℕ) (ts : List Ty) → slice_get (c ∷ cs) tag ≡ Some ts → (start : ℕ) → (n : ℕ) × (slice_get (places start (code ∷ later)) tag ≡ Some (start + n)) × At ((xs ++ shape env (t ∷ os) ∷ L.shapes) ++ more) n (shape (env ++ ts) os)
+  arm_at : (env os : List Ty) (t : Ty) (c : List Ty) (cs : List (List Ty)) (code : List Instruction) (later : List (List Instruction)) (L : Laid env os t cs later)
+      (xs : List Shape) → length xs ≡ length code → (more : List Shape) → At more 0 (shape env (t ∷ os))
+      → At ((xs ++ shape env (t ∷ os) ∷ L.shapes) ++ more) 0 (shape (env ++ c) os) → (tag : ℕ) (ts : List Ty) → slice_get (c ∷ cs) tag ≡ Some ts → (start : ℕ)
+      → (n : ℕ) × (slice_get (places start (code ∷ later)) tag ≡ Some (start + n)) × At ((xs ++ shape env (t ∷ os) ∷ L.shapes) ++ more) n (shape (env ++ ts) os)
   arm_at env os t c cs code later L xs l more j h zero ts e start =
       let s : c ≡ ts = cc in
       let z : start ≡ start + 0 = omega arith in
@@ -148,15 +160,25 @@ module _ (P : Program) (z : Ty) where
     acc env (BoolE b) t h os = subst (At_type env os (PushBool b ∷ [])) h (single _ _ (PushBool b) (λ more h. h))
     acc env (IntE n) t h os = subst (At_type env os (PushInt n ∷ [])) h.0 (single _ _ (PushInt n) (λ more j. (h.1, j)))
     acc env (TextE b) t h os = subst (At_type env os (PushText b ∷ [])) h.0 (single _ _ (PushText b) (λ more j. (h.1, h.2, j)))
-    acc env (FstE a b x) t h os = subst (At_type env os (code_of P.types (FstE a b x))) h.0 (seq _ (shape env ((PairTy a b) ∷ os)) _ _ _ (acc env x (PairTy a b) h.1 os) (single _ _ Fst (λ more h. h)))
-    acc env (SndE a b x) t h os = subst (At_type env os (code_of P.types (SndE a b x))) h.0 (seq _ (shape env ((PairTy a b) ∷ os)) _ _ _ (acc env x (PairTy a b) h.1 os) (single _ _ Snd (λ more h. h)))
+    acc env (FstE a b x) t h os = subst (At_type env os (code_of P.types (FstE a b x))) h.0
+        (seq _ (shape env ((PairTy a b) ∷ os)) _ _ _ (acc env x (PairTy a b) h.1 os) (single _ _ Fst (λ more h. h)))
+    acc env (SndE a b x) t h os = subst (At_type env os (code_of P.types (SndE a b x))) h.0
+        (seq _ (shape env ((PairTy a b) ∷ os)) _ _ _ (acc env x (PairTy a b) h.1 os) (single _ _ Snd (λ more h. h)))
     acc env (NotE x) t h os = subst (At_type env os (code_of P.types (NotE x))) h.0 (seq _ (shape env (BoolTy ∷ os)) _ _ _ (acc env x BoolTy h.1 os) (single _ _ Not (λ more h. h)))
     acc env (LenE x) t h os = subst (At_type env os (code_of P.types (LenE x))) h.0 (seq _ (shape env (TextTy ∷ os)) _ _ _ (acc env x TextTy h.1 os) (single _ _ Len (λ more h. h)))
     acc env (AuthE a x) t h os = subst (At_type env os (code_of P.types (AuthE a x))) h.0 (seq _ (shape env (a ∷ os)) _ _ _ (acc env x a h.1 os) (single _ _ (Auth a) (λ more h. (refl, h))))
-    acc env (ArithE op x y) t h os = subst (At_type env os (code_of P.types (ArithE op x y))) h.0 (seq _ (shape env (IntTy ∷ os)) _ _ _ (acc env x IntTy h.1 os) (seq _ (shape env (IntTy ∷ (IntTy ∷ os))) _ _ _ (acc env y IntTy h.2 (IntTy ∷ os)) (single _ _ (ArithOp op) (λ more h. h))))
-    acc env (CompareE op x y) t h os = subst (At_type env os (code_of P.types (CompareE op x y))) h.0 (seq _ (shape env (IntTy ∷ os)) _ _ _ (acc env x IntTy h.1 os) (seq _ (shape env (IntTy ∷ (IntTy ∷ os))) _ _ _ (acc env y IntTy h.2 (IntTy ∷ os)) (single _ _ (CompareOp op) (λ more h. h))))
-    acc env (TextCompareE op x y) t h os = subst (At_type env os (code_of P.types (TextCompareE op x y))) h.0 (seq _ (shape env (TextTy ∷ os)) _ _ _ (acc env x TextTy h.1 os) (seq _ (shape env (TextTy ∷ (TextTy ∷ os))) _ _ _ (acc env y TextTy h.2 (TextTy ∷ os)) (single _ _ (TextCompareOp op) (λ more h. h))))
-    acc env (CatE x y) t h os = subst (At_type env os (code_of P.types (CatE x y))) h.0 (seq _ (shape env (TextTy ∷ os)) _ _ _ (acc env x TextTy h.1 os) (seq _ (shape env (TextTy ∷ (TextTy ∷ os))) _ _ _ (acc env y TextTy h.2 (TextTy ∷ os)) (single _ _ Cat (λ more h. h))))
+    acc env (ArithE op x y) t h os =
+        subst (At_type env os (code_of P.types (ArithE op x y))) h.0
+        (seq _ (shape env (IntTy ∷ os)) _ _ _ (acc env x IntTy h.1 os) (seq _ (shape env (IntTy ∷ (IntTy ∷ os))) _ _ _ (acc env y IntTy h.2 (IntTy ∷ os)) (single _ _ (ArithOp op) (λ more h. h))))
+    acc env (CompareE op x y) t h os =
+        subst (At_type env os (code_of P.types (CompareE op x y))) h.0
+        (seq _ (shape env (IntTy ∷ os)) _ _ _ (acc env x IntTy h.1 os) (seq _ (shape env (IntTy ∷ (IntTy ∷ os))) _ _ _ (acc env y IntTy h.2 (IntTy ∷ os)) (single _ _ (CompareOp op) (λ more h. h))))
+    acc env (TextCompareE op x y) t h os =
+        subst (At_type env os (code_of P.types (TextCompareE op x y))) h.0
+        (seq _ (shape env (TextTy ∷ os)) _ _ _ (acc env x TextTy h.1 os)
+        (seq _ (shape env (TextTy ∷ (TextTy ∷ os))) _ _ _ (acc env y TextTy h.2 (TextTy ∷ os)) (single _ _ (TextCompareOp op) (λ more h. h))))
+    acc env (CatE x y) t h os = subst (At_type env os (code_of P.types (CatE x y))) h.0
+        (seq _ (shape env (TextTy ∷ os)) _ _ _ (acc env x TextTy h.1 os) (seq _ (shape env (TextTy ∷ (TextTy ∷ os))) _ _ _ (acc env y TextTy h.2 (TextTy ∷ os)) (single _ _ Cat (λ more h. h))))
     acc env (ConE number tag xs) t h os =
         let r = on_fields P.types (λ t v. true) (fields_at P.types number tag) (λ ts. HaveTypes P env xs ts) h.1 in
         subst (At_type env os (code_of P.types (ConE number tag xs))) h.0

@@ -24,7 +24,8 @@ behind : (s t added : List Opened) → t ≡ s ++ added → (c : Result) → Add
 behind s t added e (Ran r) g = record { added = added ++ g.added; is = g.is ∙ ap (λ l. l ++ g.added) e ∙ append_assoc s added g.added }
 behind s t added e Stuck g = tt
 
-adds_then : {A : Type 0} (s : List Opened) (r : Run ⊥ (List Opened) A) (f : A → ℕ → List Opened → Result) → Grows s r → ((a : A) (k : ℕ) (t : List Opened) → Adds t (f a k t)) → Adds s (then_code r f)
+adds_then : {A : Type 0} (s : List Opened) (r : Run ⊥ (List Opened) A) (f : A → ℕ → List Opened → Result) → Grows s r
+    → ((a : A) (k : ℕ) (t : List Opened) → Adds t (f a k t)) → Adds s (then_code r f)
 adds_then s (Gives a k t) f g h = behind s t g.added g.is (f a k t) (h a k t)
 adds_then s (Ends stop k t) f g h = record { added = g.added; is = g.is }
 
@@ -69,7 +70,8 @@ module _ (B : Body) (called : ℕ → Values → ℕ → List Opened → Coded �
   adds_text s (TextV bytes) f h = h bytes
   adds_text s v f h = tt
 
-  adds_act : (i : Instruction) (next : Next ⊥ (List Opened)) → ((n : ℕ) (env ops : List Held) (k : ℕ) (s : List Opened) → Adds s (next n env ops k s)) → (env ops : List Held) (k : ℕ) (s : List Opened) → Adds s (act B ideal_mode called i next env ops k s)
+  adds_act : (i : Instruction) (next : Next ⊥ (List Opened)) → ((n : ℕ) (env ops : List Held) (k : ℕ) (s : List Opened) → Adds s (next n env ops k s))
+      → (env ops : List Held) (k : ℕ) (s : List Opened) → Adds s (act B ideal_mode called i next env ops k s)
   adds_act PushUnit next h env ops k s = h 0 env _ k s
   adds_act (PushBool b) next h env ops k s = h 0 env _ k s
   adds_act (PushInt z) next h env ops k s = h 0 env _ k s
@@ -79,7 +81,8 @@ module _ (B : Body) (called : ℕ → Values → ℕ → List Opened → Coded �
   adds_act Bind next h env [] k s = tt
   adds_act (Unbind n) next h env ops k s = adds_some s (without_last n env) (λ env. next 0 env ops k s) (λ env. h 0 env ops k s)
   adds_act Pair next h env (y ∷ (x ∷ ops)) k s =
-      adds_then s (limited B.limit B.types (PairTy x.ty y.ty) (PairV x.value y.value) k s) (λ v k s. next 0 env (held (PairTy x.ty y.ty) v ∷ ops) k s) (grows_limited P (PairTy x.ty y.ty) (PairV x.value y.value) k s) (λ v k s. h 0 env _ k s)
+      adds_then s (limited B.limit B.types (PairTy x.ty y.ty) (PairV x.value y.value) k s) (λ v k s. next 0 env (held (PairTy x.ty y.ty) v ∷ ops) k s)
+      (grows_limited P (PairTy x.ty y.ty) (PairV x.value y.value) k s) (λ v k s. h 0 env _ k s)
   adds_act Pair next h env (y ∷ []) k s = tt
   adds_act Pair next h env [] k s = tt
   adds_act Fst next h env (x ∷ ops) k s = adds_pair s x.ty x.value _ (λ a b u v. h 0 env (held a u ∷ ops) k s)
@@ -87,8 +90,10 @@ module _ (B : Body) (called : ℕ → Values → ℕ → List Opened → Coded �
   adds_act Snd next h env (x ∷ ops) k s = adds_pair s x.ty x.value _ (λ a b u v. h 0 env (held b v ∷ ops) k s)
   adds_act Snd next h env [] k s = tt
   adds_act (Make number tag) next h env ops k s =
-      adds_popped s (field_count B.types number tag) ops NoV (λ vs ops. then_code (limited B.limit B.types (NamedTy number) (ConV tag vs) k s) (λ v k s. next 0 env (held (NamedTy number) v ∷ ops) k s))
-      (λ vs ops. adds_then s (limited B.limit B.types (NamedTy number) (ConV tag vs) k s) (λ v k s. next 0 env (held (NamedTy number) v ∷ ops) k s) (grows_limited P (NamedTy number) (ConV tag vs) k s) (λ v k s. h 0 env _ k s))
+      adds_popped s (field_count B.types number tag) ops NoV
+      (λ vs ops. then_code (limited B.limit B.types (NamedTy number) (ConV tag vs) k s) (λ v k s. next 0 env (held (NamedTy number) v ∷ ops) k s))
+      (λ vs ops. adds_then s (limited B.limit B.types (NamedTy number) (ConV tag vs) k s) (λ v k s. next 0 env (held (NamedTy number) v ∷ ops) k s)
+      (grows_limited P (NamedTy number) (ConV tag vs) k s) (λ v k s. h 0 env _ k s))
   adds_act (Switch number places) next h env (x ∷ ops) k s =
       adds_con s x.value _ (λ tag vs. adds_some s (slice_get places tag) (λ n. next n (env ++ tie (unwrap_or (fields_at B.types number tag) []) vs) ops k s) (λ n. h n _ ops k s))
   adds_act (Switch number places) next h env [] k s = tt
@@ -104,7 +109,8 @@ module _ (B : Body) (called : ℕ → Values → ℕ → List Opened → Coded �
   adds_act (Auth t) next h env (x ∷ ops) k s = h 0 env _ k s
   adds_act (Auth t) next h env [] k s = tt
   adds_act (Unauth t) next h env (x ∷ ops) k s =
-      behind s (s ++ record { ty = t; value = x.value } ∷ []) (record { ty = t; value = x.value } ∷ []) refl (next 0 env (held t x.value ∷ ops) k (s ++ record { ty = t; value = x.value } ∷ [])) (h 0 env (held t x.value ∷ ops) k _)
+      behind s (s ++ record { ty = t; value = x.value } ∷ []) (record { ty = t; value = x.value } ∷ []) refl
+      (next 0 env (held t x.value ∷ ops) k (s ++ record { ty = t; value = x.value } ∷ [])) (h 0 env (held t x.value ∷ ops) k _)
   adds_act (Unauth t) next h env [] k s = tt
   adds_act (ArithOp op) next h env (y ∷ (x ∷ ops)) k s =
       adds_int s x.value _ (λ m. adds_int s y.value _ (λ n. adds_then s (arith_of op m n k s) (λ v k s. next 0 env (held IntTy v ∷ ops) k s) (grows_arith op m n k s) (λ v k s. h 0 env _ k s)))
@@ -117,7 +123,9 @@ module _ (B : Body) (called : ℕ → Values → ℕ → List Opened → Coded �
   adds_act (TextCompareOp op) next h env (y ∷ []) k s = tt
   adds_act (TextCompareOp op) next h env [] k s = tt
   adds_act Cat next h env (y ∷ (x ∷ ops)) k s =
-      adds_text s x.value _ (λ m. adds_text s y.value _ (λ n. adds_then s (limited B.limit B.types TextTy (TextV (m ++ n)) k s) (λ v k s. next 0 env (held TextTy v ∷ ops) k s) (grows_limited P TextTy (TextV (m ++ n)) k s) (λ v k s. h 0 env _ k s)))
+      adds_text s x.value _ (λ m. adds_text s y.value _
+      (λ n. adds_then s (limited B.limit B.types TextTy (TextV (m ++ n)) k s) (λ v k s. next 0 env (held TextTy v ∷ ops) k s)
+      (grows_limited P TextTy (TextV (m ++ n)) k s) (λ v k s. h 0 env _ k s)))
   adds_act Cat next h env (y ∷ []) k s = tt
   adds_act Cat next h env [] k s = tt
   adds_act Len next h env (x ∷ ops) k s = adds_text s x.value _ (λ m. h 0 env (held IntTy (IntV (pos (length m))) ∷ ops) k s)

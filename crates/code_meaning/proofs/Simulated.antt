@@ -84,7 +84,8 @@ module _ (hash : Hash) (format : Format) (is_format : IsFormat format) (Deep : T
       subst (λ r. Same t r q') a (subst (λ q. Same t r q) b h)
 
   -- runs that have parted stay so, whatever follows
-  parted_later : (t z : Ty) (ideal : Run ⊥ (List Opened) Value) (checked : Run Cause Taking Value) (g : Value → ℕ → Taking → Coded Cause Taking) (r : Run ⊥ (List Opened) Value) (q : Run Cause Taking Value)
+  parted_later : (t z : Ty) (ideal : Run ⊥ (List Opened) Value) (checked : Run Cause Taking Value) (g : Value → ℕ → Taking → Coded Cause Taking)
+      (r : Run ⊥ (List Opened) Value) (q : Run Cause Taking Value)
       → Parted hash P Deep began ideal checked → (added : List Opened) → state_of r ≡ state_of ideal ++ added → then_code checked g ≡ Ran q → Same z r q
   parted_later t z ideal checked g r q p added grown d =
       inr (record {
@@ -131,7 +132,8 @@ module _ (hash : Hash) (format : Format) (is_format : IsFormat format) (Deep : T
   after_coded t z (Ran r) Stuck f g h adds on = λ r' q' e d. absurd (cc)
   after_coded t z Stuck d f g h adds on = λ r q e d'. absurd (cc)
 
-  branches : (z : Ty) (b : Bool) (n : ℕ) (F : ℕ → Coded ⊥ (List Opened)) (G : ℕ → Coded Cause Taking) → Meets z (F 0) (G 0) → Meets z (F n) (G n) → Meets z (F (if b then 0 else n)) (G (if b then 0 else n))
+  branches : (z : Ty) (b : Bool) (n : ℕ) (F : ℕ → Coded ⊥ (List Opened)) (G : ℕ → Coded Cause Taking) → Meets z (F 0) (G 0) → Meets z (F n) (G n)
+      → Meets z (F (if b then 0 else n)) (G (if b then 0 else n))
   branches z true n F G h j = h
   branches z false n F G h j = j
 
@@ -151,7 +153,8 @@ module _ (hash : Hash) (format : Format) (is_format : IsFormat format) (Deep : T
       → (vs : Values) → AllKnown ls vs → Meets z (where_some (without_last n (tie ls vs)) F) (where_some (without_last n (tie ls (AllProjected ls vs))) G)
   fewer_locals z ls kept dropped n e c F G h vs l =
       subst (λ ls. AllKnown ls vs → Meets z (where_some (without_last n (tie ls vs)) F) (where_some (without_last n (tie ls (AllProjected ls vs))) G)) (sym e)
-      (λ l. held_split P Deep (λ vs. Meets z (where_some (without_last n (tie (kept ++ dropped) vs)) F) (where_some (without_last n (tie (kept ++ dropped) (AllProjected (kept ++ dropped) vs))) G)) kept dropped vs l both) l
+      (λ l. held_split P Deep (λ vs. Meets z (where_some (without_last n (tie (kept ++ dropped) vs)) F)
+      (where_some (without_last n (tie (kept ++ dropped) (AllProjected (kept ++ dropped) vs))) G)) kept dropped vs l both) l
     where
       both : (xs ys : Values) → AllKnown kept xs → AllKnown dropped ys
           → Meets z (where_some (without_last n (tie (kept ++ dropped) (join xs ys))) F) (where_some (without_last n (tie (kept ++ dropped) (AllProjected (kept ++ dropped) (join xs ys)))) G)
@@ -160,7 +163,8 @@ module _ (hash : Hash) (format : Format) (is_format : IsFormat format) (Deep : T
           (subst (λ o. Meets z (where_some o F) (where_some (without_last n (tie kept (AllProjected kept xs) ++ tie dropped (AllProjected dropped ys))) G))
           (sym (last_dropped (tie kept xs) (tie dropped ys) n (length_tied dropped ys (even_held P Deep dropped ys b) ∙ c)))
           (subst (λ o. Meets z (F (tie kept xs)) (where_some o G))
-          (sym (last_dropped (tie kept (AllProjected kept xs)) (tie dropped (AllProjected dropped ys)) n (length_tied dropped (AllProjected dropped ys) (even_projected P Deep hash dropped ys b) ∙ c)))
+          (sym (last_dropped (tie kept (AllProjected kept xs)) (tie dropped (AllProjected dropped ys)) n
+          (length_tied dropped (AllProjected dropped ys) (even_projected P Deep hash dropped ys b) ∙ c)))
           (h xs a)))
         where
           more_locals_back : (F : List Held → Coded ⊥ (List Opened)) (G : List Held → Coded Cause Taking)
@@ -168,7 +172,8 @@ module _ (hash : Hash) (format : Format) (is_format : IsFormat format) (Deep : T
               → Meets z (F (tie (kept ++ dropped) (join xs ys))) (G (tie (kept ++ dropped) (AllProjected (kept ++ dropped) (join xs ys))))
           more_locals_back F G h =
               let e = join_tied kept dropped xs ys (even_held P Deep kept xs a) in
-              let d = ap (tie (kept ++ dropped)) (join_projection P Deep hash kept dropped xs ys a) ∙ sym (join_tied kept dropped (AllProjected kept xs) (AllProjected dropped ys) (even_projected P Deep hash kept xs a)) in
+              let d = ap (tie (kept ++ dropped)) (join_projection P Deep hash kept dropped xs ys a)
+              ∙ sym (join_tied kept dropped (AllProjected kept xs) (AllProjected dropped ys) (even_projected P Deep hash kept xs a)) in
               subst (λ env. Meets z (F env) (G (tie (kept ++ dropped) (AllProjected (kept ++ dropped) (join xs ys))))) e
               (subst (λ env. Meets z (F (tie kept xs ++ tie dropped ys)) (G env)) (sym d) h)
 
@@ -178,7 +183,8 @@ module _ (hash : Hash) (format : Format) (is_format : IsFormat format) (Deep : T
       → (us : Values) → AllKnown os us → Meets z (popped n (tie os us) NoV F) (popped n (tie os (AllProjected os us)) NoV G)
   pops z n os ts under e c F G h us o =
       subst (λ os. AllKnown os us → Meets z (popped n (tie os us) NoV F) (popped n (tie os (AllProjected os us)) NoV G)) (sym e)
-      (λ o. held_pushed P Deep (λ us. Meets z (popped n (tie (push_types ts under) us) NoV F) (popped n (tie (push_types ts under) (AllProjected (push_types ts under) us)) NoV G)) ts under us o both) o
+      (λ o. held_pushed P Deep (λ us. Meets z (popped n (tie (push_types ts under) us) NoV F)
+      (popped n (tie (push_types ts under) (AllProjected (push_types ts under) us)) NoV G)) ts under us o both) o
     where
       both : (xs rest : Values) → AllKnown ts xs → AllKnown under rest
           → Meets z (popped n (tie (push_types ts under) (push_values xs rest)) NoV F) (popped n (tie (push_types ts under) (AllProjected (push_types ts under) (push_values xs rest))) NoV G)
@@ -256,7 +262,8 @@ module _ (hash : Hash) (format : Format) (is_format : IsFormat format) (Deep : T
         (λ xs ops. then_code (limited format.limit types (NamedTy number) (ConV tag xs) k s) (λ x k s. next 0 (tie ls vs) (held (NamedTy number) x ∷ ops) k s))
         (λ xs ops. then_code (limited format.limit types (NamedTy number) (ConV tag xs) k w) (λ x k w. next' 0 (tie ls (AllProjected ls vs)) (held (NamedTy number) x ∷ ops) k w))
         (λ xs rest a r. after (NamedTy number) z (limited format.limit types (NamedTy number) (ConV tag xs) k s) (limited format.limit types (NamedTy number) (ConV tag (AllProjected ts xs)) k w)
-        (λ x k s. next 0 (tie ls vs) (held (NamedTy number) x ∷ tie fit.1 rest) k s) (λ x k w. next' 0 (tie ls (AllProjected ls vs)) (held (NamedTy number) x ∷ tie fit.1 (AllProjected fit.1 rest)) k w)
+        (λ x k s. next 0 (tie ls vs) (held (NamedTy number) x ∷ tie fit.1 rest) k s)
+        (λ x k w. next' 0 (tie ls (AllProjected ls vs)) (held (NamedTy number) x ∷ tie fit.1 (AllProjected fit.1 rest)) k w)
         (both_limited hash P is_format Deep began (NamedTy number) (ConV tag xs) (ConV tag (AllProjected ts xs)) k s w (ap (λ o. ConV tag (AllProjected (unwrap_or o []) xs)) (sym fit.2))
         (λ p q. held_con P Deep number tag ts xs fit.2 a p q) y)
         (λ x k s. grow 0 _ _ k s) (λ x k s w h y. go 0 ls (NamedTy number ∷ fit.1) fit.4 vs (AndV x rest) k s w l (h, r) y)) us o
@@ -270,7 +277,8 @@ module _ (hash : Hash) (format : Format) (is_format : IsFormat format) (Deep : T
         let G = λ (n : ℕ) (env : List Held). next' n env (tie os (AllProjected os us)) k w in
         subst (λ p. Meets z (where_some p (λ n. F n (tie ls vs ++ tie (unwrap_or (fields_at types number tag) []) xs)))
         (where_some p (λ n. G n (tie ls (AllProjected ls vs) ++ tie (unwrap_or (fields_at types number tag) []) (AllProjected (unwrap_or (fields_at types m tag) []) xs))))) (sym d.1)
-        (subst (λ p. Meets z (F d.0 (tie ls vs ++ tie (unwrap_or p []) xs)) (G d.0 (tie ls (AllProjected ls vs) ++ tie (unwrap_or p []) (AllProjected (unwrap_or (fields_at types m tag) []) xs)))) (sym g)
+        (subst (λ p. Meets z (F d.0 (tie ls vs ++ tie (unwrap_or p []) xs))
+        (G d.0 (tie ls (AllProjected ls vs) ++ tie (unwrap_or p []) (AllProjected (unwrap_or (fields_at types m tag) []) xs)))) (sym g)
         (subst (λ p. Meets z (F d.0 (tie ls vs ++ tie ts xs)) (G d.0 (tie ls (AllProjected ls vs) ++ tie ts (AllProjected (unwrap_or p []) xs)))) (sym f)
         (more_locals z ls ts vs xs (F d.0) (G d.0) l
         (go d.0 (ls ++ ts) os d.2 (join vs xs) us k s w (held_join P Deep ls ts vs xs l (held_parts P Deep m tag ts xs f ideals h)) o.1 y))))) o.0
@@ -307,7 +315,8 @@ module _ (hash : Hash) (format : Format) (is_format : IsFormat format) (Deep : T
         (checked_act (ArithOp op) next' (tie ls (AllProjected ls vs)) (held IntTy (Projected IntTy v) ∷ (held IntTy (Projected IntTy u) ∷ tie os (AllProjected os us))) k w)) u o.1.0.ideal
         (λ m h. at_int types (λ v. Meets z (ideal_act (ArithOp op) next (tie ls vs) (held IntTy v ∷ (held IntTy (IntV m) ∷ tie os us)) k s)
         (checked_act (ArithOp op) next' (tie ls (AllProjected ls vs)) (held IntTy (Projected IntTy v) ∷ (held IntTy (IntV m) ∷ tie os (AllProjected os us))) k w)) v o.0.ideal
-        (λ n. after IntTy z (arith_of op m n k s) (arith_of op m n k w) (λ x k s. next 0 (tie ls vs) (held IntTy x ∷ tie os us) k s) (λ x k w. next' 0 (tie ls (AllProjected ls vs)) (held IntTy x ∷ tie os (AllProjected os us)) k w)
+        (λ n. after IntTy z (arith_of op m n k s) (arith_of op m n k w) (λ x k s. next 0 (tie ls vs) (held IntTy x ∷ tie os us) k s)
+        (λ x k w. next' 0 (tie ls (AllProjected ls vs)) (held IntTy x ∷ tie os (AllProjected os us)) k w)
         (both_arith hash P is_format Deep began op m n k s w h.ideal y) (λ x k s. grow 0 _ _ k s) (λ x k s w h y. go 0 ls (IntTy ∷ os) fit vs (AndV x us) k s w l (h, o.1.1) y))) o.1.0
     acts (CompareOp op) ls (IntTy ∷ (IntTy ∷ os)) to fit next next' grow go vs (AndV v (AndV u us)) k s w l o y =
         at_int types (λ u. Meets z (ideal_act (CompareOp op) next (tie ls vs) (held IntTy v ∷ (held IntTy u ∷ tie os us)) k s)
@@ -347,7 +356,8 @@ module _ (hash : Hash) (format : Format) (is_format : IsFormat format) (Deep : T
 
     goes : (is : List Instruction) (shapes : List Shape) → IsFine B z is shapes → (skip : ℕ) (ls os : List Ty) → slice_get shapes skip ≡ Some (shape ls os)
         → (vs us : Values) (k : ℕ) (s : List Opened) (w : Taking) → AllKnown ls vs → AllKnown os us → Synced s w
-        → Meets z (exec B ideal_mode ideal_call is skip (tie ls vs) (tie os us) k s) (exec B (checked_mode hash P) checked_call is skip (tie ls (AllProjected ls vs)) (tie os (AllProjected os us)) k w)
+        → Meets z (exec B ideal_mode ideal_call is skip (tie ls vs) (tie os us) k s)
+        (exec B (checked_mode hash P) checked_call is skip (tie ls (AllProjected ls vs)) (tie os (AllProjected os us)) k w)
     goes [] [] f skip ls os at vs us k s w l o y = absurd (cc)
     goes [] (sh ∷ shapes) f skip ls os at vs us k s w l o y = elim f [ ]
     goes (i ∷ is) [] f skip ls os at vs us k s w l o y = elim f [ ]

@@ -89,7 +89,8 @@ module _ (P : Program) (Deep : Type 0) where
   held_split Q (t ∷ ts) us NoV h f = elim h [ ]
 
   -- and of types pushed on others
-  pub held_pushed : (Q : Values → Type 0) (ts under : List Ty) (vs : Values) → AreHeld P Deep (push_types ts under) vs → ((xs rest : Values) → AreHeld P Deep ts xs → AreHeld P Deep under rest → Q (push_values xs rest)) → Q vs
+  pub held_pushed : (Q : Values → Type 0) (ts under : List Ty) (vs : Values) → AreHeld P Deep (push_types ts under) vs
+      → ((xs rest : Values) → AreHeld P Deep ts xs → AreHeld P Deep under rest → Q (push_values xs rest)) → Q vs
   held_pushed Q [] under vs h f = f NoV vs tt h
   held_pushed Q (t ∷ ts) under vs h f = held_pushed Q ts (t ∷ under) vs h (λ xs rest a b. one xs rest a b)
     where

@@ -19,5 +19,6 @@ returns c =
     let T = types_of c.args.program.now in
     let all = all_before c.args.arms.now c.loop-arm.arm-index c.loop-arm-test.false in (
       c.loop-arm.invariant.0 ∙ ap (λ l. meant.places 0 (map (λ v. instructions_of T v.items) l)) all,
-      c.saturating_sub.ensures ∙ ap (λ n. n - 1) (c.loop-arm.invariant.1 ∙ ap (λ l. end_of (map (λ v. instructions_of T v.items) l)) all) ∙ sym (length_laid (map (λ v. instructions_of T v.items) c.args.arms.now)),
+      c.saturating_sub.ensures ∙ ap (λ n. n - 1) (c.loop-arm.invariant.1 ∙ ap (λ l. end_of (map (λ v. instructions_of T v.items) l)) all)
+          ∙ sym (length_laid (map (λ v. instructions_of T v.items) c.args.arms.now)),
     )

@@ -41,13 +41,15 @@ emit_row-loop-term-preserved n c =
     let T = types_of c.args.program.now in
     let types = (meaning c.args.program.now).types in
     let emitted = subst (λ t. instructions_of T c.emit.new.code.items ≡ instructions_of T c.loop-term.code.items ++ code_of types (expression_of T t)) c.term-item.is c.in_ok-emit.ensures in
-    one_more types (expression_of T) c.args.terms.now c.loop-term.term-index _ (instructions_of T c.args.code.now.items) (instructions_of T c.loop-term.code.items) (instructions_of T c.emit.new.code.items)
+    one_more types (expression_of T) c.args.terms.now c.loop-term.term-index _ (instructions_of T c.args.code.now.items) (instructions_of T c.loop-term.code.items)
+    (instructions_of T c.emit.new.code.items)
     c.loop-term-test.true c.loop-term.invariant emitted
 
 pub emit_row-returns : goal.emit_row-returns
 emit_row-returns n c =
     let T = types_of c.args.program.now in
-    c.loop-term.invariant ∙ ap (λ l. instructions_of T c.args.code.now.items ++ all_of (meaning c.args.program.now).types (map (expression_of T) l)) (all_before c.args.terms.now c.loop-term.term-index c.loop-term-test.false)
+    c.loop-term.invariant ∙ ap (λ l. instructions_of T c.args.code.now.items ++ all_of (meaning c.args.program.now).types (map (expression_of T) l))
+    (all_before c.args.terms.now c.loop-term.term-index c.loop-term-test.false)
 
 pub arm_codes-loop-tag-preserved : goal.arm_codes-loop-tag-preserved
 arm_codes-loop-tag-preserved n c =
@@ -59,4 +61,5 @@ pub arm_codes-returns : goal.arm_codes-returns
 arm_codes-returns n c =
     let T = types_of c.args.program.now in
     let types = (meaning c.args.program.now).types in
-    c.loop-tag.invariant ∙ ap (λ l. arm_codes types (arms_in_a_row (map (expression_of T) l)) (unwrap_or (slice_get types c.args.named.0) [])) (all_before c.args.arms.now c.loop-tag.tag c.loop-tag-test.false)
+    c.loop-tag.invariant ∙ ap (λ l. arm_codes types (arms_in_a_row (map (expression_of T) l)) (unwrap_or (slice_get types c.args.named.0) []))
+    (all_before c.args.arms.now c.loop-tag.tag c.loop-tag-test.false)
