@@ -1,7 +1,7 @@
 -- The arms of a match, one after the other.
 use Rattle.std.proofs.Common.{◌≡◌, ℕ, zero, suc, ◌+◌, ◌<◌, List, [], ◌∷◌, ◌++◌, length, map, take, slice_index_or, slice_get, unwrap_or, Option, Some, None, refl, sym, ap, ap₂, ◌∙◌, append-nil, arith}
 use Rattle.std.specs.Option.{option_and_then}
-use Rattle.core_terms.specs.Types.{Ty, Table, fields_at}
+use Rattle.core_terms.specs.Types.{Ty, Table}
 use Rattle.core_terms.specs.Terms.{Expression}
 use Rattle.core_terms.specs.LanguageTrees.{arms_in_a_row}
 use Rattle.code_gen.specs.Instructions.{Instruction}
@@ -26,7 +26,8 @@ length_taken f [] i h = absurd (omega (arith, h))
 length_taken f (x ∷ xs) zero h = refl
 length_taken f (x ∷ xs) (suc i) h = let k : i < length xs = omega (arith, h) in ap suc (length_taken f xs i k)
 
-pub arms_more : {A B : Type 0} (types : Table) (f : A → Expression) (g : B → List Instruction) (number : ℕ) (xs : List A) (i : ℕ) (d x : A) (now after : List B) (y : B) → i < length xs → slice_index_or xs i d ≡ x
+pub arms_more : {A B : Type 0} (types : Table) (f : A → Expression) (g : B → List Instruction) (number : ℕ) (xs : List A) (i : ℕ) (d x : A) (now after : List B) (y : B)
+    → i < length xs → slice_index_or xs i d ≡ x
     → map g now ≡ arm_codes types (arms_in_a_row (map f (take i xs))) (unwrap_or (slice_get types number) [])
     → after ≡ now ++ y ∷ [] → g y ≡ code_of types (f x) ++ unbind_code (field_count types number i)
     → map g after ≡ arm_codes types (arms_in_a_row (map f (take (i + 1) xs))) (unwrap_or (slice_get types number) [])
@@ -34,6 +35,6 @@ arms_more types f g number xs i d x now after y h at e is same =
     let cs = unwrap_or (slice_get types number) [] in
     ap (map g) is ∙ mapped_more g now y
     ∙ ap₂ (λ l c. l ++ c ∷ []) e
-      (same ∙ ap (λ ts. code_of types (f x) ++ unbind_code (length ts)) (fields_of (slice_get types number) i ∙ ap (λ n. unwrap_or (slice_get cs n) []) (sym (length_taken f xs i h))))
+    (same ∙ ap (λ ts. code_of types (f x) ++ unbind_code (length ts)) (fields_of (slice_get types number) i ∙ ap (λ n. unwrap_or (slice_get cs n) []) (sym (length_taken f xs i h))))
     ∙ sym (arms_append types (map f (take i xs)) (f x) cs)
     ∙ ap (λ l. arm_codes types (arms_in_a_row l) cs) (ap (λ x. map f (take i xs) ++ f x ∷ []) (sym at) ∙ sym (taken f xs i d h))

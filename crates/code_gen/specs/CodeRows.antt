@@ -1,11 +1,11 @@
 -- The code of a few expressions. Each equation holds by computing both sides.
-use Rattle.std.specs.Prelude.{◌≡◌, List, [], ◌∷◌, pos, true, refl}
-use Rattle.core_terms.specs.Types.{UnitTy, BoolTy, IntTy, PairTy, Table}
+use Rattle.std.specs.Prelude.{◌≡◌, [], ◌∷◌, pos, true, refl}
+use Rattle.core_terms.specs.Types.{BoolTy, IntTy, Table}
 use Rattle.core_terms.specs.Terms.{UnitE, BoolE, IntE, LocalE, PairE, FstE, NotE, UnauthE, ConE, ArithE, CompareE, LetE, IfE, MatchE, CallE, NoE, AndE, NoArm, AndArm, Inner}
-use Rattle.core_terms.specs.declared.language.term.Arith.TheVariants.{Add, Sub}
+use Rattle.core_terms.specs.declared.language.term.Arith.TheVariants.{Sub}
 use Rattle.core_terms.specs.declared.language.term.Compare.TheVariants.{Le}
-use Rattle.code_gen.specs.Instructions.{Instruction, PushUnit, PushBool, PushInt, Load, Bind, Unbind, Pair, Fst, Make, Switch, Branch, Jump, Call, Return, Unauth, ArithOp, CompareOp, Not}
-use Rattle.code_gen.specs.Code.{FunctionCode, code_of, function_code}
+use Rattle.code_gen.specs.Instructions.{PushUnit, PushBool, PushInt, Load, Bind, Unbind, Pair, Fst, Make, Switch, Branch, Jump, Call, Return, Unauth, ArithOp, CompareOp, Not}
+use Rattle.code_gen.specs.Code.{code_of, function_code}
 
 -- one named type, whose constructors have no field, one and two
 abbrev pub three : Table

@@ -32,7 +32,11 @@ struct Layout {
 }
 
 /// How arms are laid.
-fn laid_out(program: &Program, arms: &[Vec<Instruction>], alloc: Global) -> Result<Layout, AllocError>
+fn laid_out(
+    program: &Program,
+    arms: &[Vec<Instruction>],
+    alloc: Global,
+) -> Result<Layout, AllocError>
     ensures { IfOk result (λ layout. let codes = map (λ c. instructions_of (types_of program.now) c.items) arms.now in (layout.places.items ≡ meant.places 0 codes) × (layout.length ≡ length (meant.laid codes))) }
 {
     let mut places = Vec::new(alloc);
@@ -42,7 +46,10 @@ fn laid_out(program: &Program, arms: &[Vec<Instruction>], alloc: Global) -> Resu
         places.push(end)?;
         end = next;
     }
-    Ok(Layout { places, length: end.saturating_sub(1) })
+    Ok(Layout {
+        places,
+        length: end.saturating_sub(1),
+    })
 }
 
 /// Where an arm begins behind one that begins at `start`. So many instructions are more than memory holds.
@@ -53,7 +60,12 @@ fn behind(start: usize, arm: &[Instruction]) -> Result<usize, AllocError>
 }
 
 /// Adds arms, each but the last one with a jump past the later ones; `total` is the number of instructions added.
-fn lay(code: &mut Vec<Instruction>, program: &Program, arms: Vec<Vec<Instruction>>, total: usize) -> Result<(), AllocError>
+fn lay(
+    code: &mut Vec<Instruction>,
+    program: &Program,
+    arms: Vec<Vec<Instruction>>,
+    total: usize,
+) -> Result<(), AllocError>
     requires { total ≡ length (meant.laid (map (λ c. instructions_of (types_of program.now) c.items) arms.items)) }
     ensures { OnOk result (instructions_of (types_of program.now) code.new.items ≡ instructions_of (types_of program.now) code.old.items ++ meant.laid (map (λ c. instructions_of (types_of program.now) c.items) arms.items)) }
 {
@@ -66,7 +78,12 @@ fn lay(code: &mut Vec<Instruction>, program: &Program, arms: Vec<Vec<Instruction
 
 /// Adds an arm, and the jump behind it where there are later ones. Of the arm and what stands behind it `left` instructions are
 /// to be added; it gives how many the later arms have.
-fn lay_arm(code: &mut Vec<Instruction>, program: &Program, arm: Vec<Instruction>, left: usize) -> Result<usize, AllocError>
+fn lay_arm(
+    code: &mut Vec<Instruction>,
+    program: &Program,
+    arm: Vec<Instruction>,
+    left: usize,
+) -> Result<usize, AllocError>
     requires { length arm.items ≤ left }
     ensures code { OnOk result (instructions_of (types_of program.now) code.new.items ≡ (instructions_of (types_of program.now) code.old.items ++ instructions_of (types_of program.now) arm.items) ++ meant.jump_code (left - length arm.items)) }
     ensures later { IfOk result (λ later. later ≡ left - length arm.items - 1) }

@@ -6,14 +6,17 @@ ghost use Rattle.code_gen.specs.CodeTrees.{all_of, codes_of, instruction_of, ins
 ghost use Rattle.code_gen.specs.Code as meant;
 ghost use Rattle.code_gen.specs.Instructions as instruction;
 
+use crate::arms::select;
 use crate::instruction::Instruction;
 use crate::pieces::{choose, put, put_text, put_unbind};
-use crate::arms::select;
 use core_terms::language::{Function, NamedId, Program, Term};
 use std::alloc::{AllocError, Global};
 
 /// The instructions of each function of a program.
-pub(crate) fn function_codes(program: &Program, alloc: Global) -> Result<Vec<Vec<Instruction>>, AllocError>
+pub(crate) fn function_codes(
+    program: &Program,
+    alloc: Global,
+) -> Result<Vec<Vec<Instruction>>, AllocError>
     ensures { IfOk result (λ codes. map (λ c. instructions_of (types_of program.now) c.items) codes.items ≡ codes_of program.now) }
 {
     let mut codes = Vec::new(alloc);
@@ -25,7 +28,11 @@ pub(crate) fn function_codes(program: &Program, alloc: Global) -> Result<Vec<Vec
 }
 
 /// The instructions of a function: those of its body, and the return.
-fn function_code(program: &Program, function: &Function, alloc: Global) -> Result<Vec<Instruction>, AllocError>
+fn function_code(
+    program: &Program,
+    function: &Function,
+    alloc: Global,
+) -> Result<Vec<Instruction>, AllocError>
     ensures { IfOk result (λ code. instructions_of (types_of program.now) code.items ≡ (meant.function_code (meaning program.now).types (function_of (types_of program.now) function.now)).code) }
 {
     let mut code = Vec::new(alloc);
@@ -36,7 +43,12 @@ fn function_code(program: &Program, function: &Function, alloc: Global) -> Resul
 
 /// Adds the instructions of a term.
 #[cycle(terms)]
-fn emit(code: &mut Vec<Instruction>, program: &Program, term: &Term, alloc: Global) -> Result<(), AllocError>
+fn emit(
+    code: &mut Vec<Instruction>,
+    program: &Program,
+    term: &Term,
+    alloc: Global,
+) -> Result<(), AllocError>
     ensures { OnOk result (instructions_of (types_of program.now) code.new.items ≡ instructions_of (types_of program.now) code.old.items ++ meant.code_of (meaning program.now).types (expression_of (types_of program.now) term.now)) }
 {
     match term {
@@ -53,7 +65,13 @@ fn emit(code: &mut Vec<Instruction>, program: &Program, term: &Term, alloc: Glob
         Term::Auth(ty, x) => emit_one(code, program, x, Instruction::Auth(*ty), alloc),
         Term::Unauth(ty, x) => emit_one(code, program, x, Instruction::Unauth(*ty), alloc),
         Term::Constructor(named, tag, fields) => {
-            emit_all(code, program, fields, Instruction::Make(*named, *tag), alloc)
+            emit_all(
+                code,
+                program,
+                fields,
+                Instruction::Make(*named, *tag),
+                alloc,
+            )
         }
         Term::Arith(op, x, y) => emit_two(code, program, x, y, Instruction::Arith(*op), alloc),
         Term::Compare(op, x, y) => emit_two(code, program, x, y, Instruction::Compare(*op), alloc),
@@ -61,20 +79,38 @@ fn emit(code: &mut Vec<Instruction>, program: &Program, term: &Term, alloc: Glob
             emit_two(code, program, x, y, Instruction::TextCompare(*op), alloc)
         }
         Term::Cat(x, y) => emit_two(code, program, x, y, Instruction::Cat, alloc),
-        Term::Let { bound_type: _, bound, body } => emit_let(code, program, bound, body, alloc),
+        Term::Let {
+            bound_type: _,
+            bound,
+            body,
+        } => emit_let(code, program, bound, body, alloc),
         Term::If { test, first, other } => emit_if(code, program, test, first, other, alloc),
-        Term::Match { named, subject, arms } => {
-            emit_match(code, program, *named, subject, arms, alloc)
-        }
+        Term::Match {
+            named,
+            subject,
+            arms,
+        } => { emit_match(code, program, *named, subject, arms, alloc) }
         Term::Call(function, arguments) => {
-            emit_all(code, program, arguments, Instruction::Call(*function), alloc)
+            emit_all(
+                code,
+                program,
+                arguments,
+                Instruction::Call(*function),
+                alloc,
+            )
         }
     }
 }
 
 /// Adds the instructions of a term, and an instruction.
 #[cycle(terms)]
-fn emit_one(code: &mut Vec<Instruction>, program: &Program, x: &Term, instruction: Instruction, alloc: Global) -> Result<(), AllocError>
+fn emit_one(
+    code: &mut Vec<Instruction>,
+    program: &Program,
+    x: &Term,
+    instruction: Instruction,
+    alloc: Global,
+) -> Result<(), AllocError>
     ensures { OnOk result (instructions_of (types_of program.now) code.new.items ≡ instructions_of (types_of program.now) code.old.items ++ (meant.code_of (meaning program.now).types (expression_of (types_of program.now) x.now) ++ instruction_of (types_of program.now) instruction ∷ [])) }
 {
     emit(code, program, x, alloc)?;
@@ -115,7 +151,12 @@ fn emit_all(
 
 /// Adds the instructions of terms in a row.
 #[cycle(terms)]
-fn emit_row(code: &mut Vec<Instruction>, program: &Program, terms: &[Term], alloc: Global) -> Result<(), AllocError>
+fn emit_row(
+    code: &mut Vec<Instruction>,
+    program: &Program,
+    terms: &[Term],
+    alloc: Global,
+) -> Result<(), AllocError>
     ensures { OnOk result (instructions_of (types_of program.now) code.new.items ≡ instructions_of (types_of program.now) code.old.items ++ all_of (meaning program.now).types (map (expression_of (types_of program.now)) terms.now)) }
 {
     for term in terms {
@@ -126,7 +167,13 @@ fn emit_row(code: &mut Vec<Instruction>, program: &Program, terms: &[Term], allo
 
 /// Adds the instructions of a term, and those of a body in which its value is the next local.
 #[cycle(terms)]
-fn emit_let(code: &mut Vec<Instruction>, program: &Program, bound: &Term, body: &Term, alloc: Global) -> Result<(), AllocError>
+fn emit_let(
+    code: &mut Vec<Instruction>,
+    program: &Program,
+    bound: &Term,
+    body: &Term,
+    alloc: Global,
+) -> Result<(), AllocError>
     ensures { OnOk result (instructions_of (types_of program.now) code.new.items ≡ instructions_of (types_of program.now) code.old.items ++ (meant.code_of (meaning program.now).types (expression_of (types_of program.now) bound.now) ++ (instruction.Bind ∷ (meant.code_of (meaning program.now).types (expression_of (types_of program.now) body.now) ++ instruction.Unbind 1 ∷ [])))) }
 {
     emit(code, program, bound, alloc)?;
@@ -174,7 +221,12 @@ fn emit_match(
 
 /// The instructions of each arm: those of its body, and behind it the end of its fields.
 #[cycle(terms)]
-fn arm_codes(program: &Program, named: NamedId, arms: &[Term], alloc: Global) -> Result<Vec<Vec<Instruction>>, AllocError>
+fn arm_codes(
+    program: &Program,
+    named: NamedId,
+    arms: &[Term],
+    alloc: Global,
+) -> Result<Vec<Vec<Instruction>>, AllocError>
     ensures { IfOk result (λ codes. map (λ c. instructions_of (types_of program.now) c.items) codes.items ≡ meant.arm_codes (meaning program.now).types (arms_in_a_row (map (expression_of (types_of program.now)) arms.now)) (unwrap_or (slice_get (meaning program.now).types named.0) [])) }
 {
     let mut codes = Vec::new(alloc);
@@ -187,7 +239,13 @@ fn arm_codes(program: &Program, named: NamedId, arms: &[Term], alloc: Global) ->
 
 /// The instructions of the arm for a constructor, by its number.
 #[cycle(terms)]
-fn arm_code(program: &Program, named: NamedId, tag: usize, arm: &Term, alloc: Global) -> Result<Vec<Instruction>, AllocError>
+fn arm_code(
+    program: &Program,
+    named: NamedId,
+    tag: usize,
+    arm: &Term,
+    alloc: Global,
+) -> Result<Vec<Instruction>, AllocError>
     ensures { IfOk result (λ code. instructions_of (types_of program.now) code.items ≡ meant.code_of (meaning program.now).types (expression_of (types_of program.now) arm.now) ++ meant.unbind_code (meant.field_count (meaning program.now).types named.0 tag)) }
 {
     let mut code = Vec::new(alloc);

@@ -12,7 +12,11 @@ use core_terms::language::{NamedId, Program};
 use std::alloc::{AllocError, Global};
 
 /// Adds an instruction.
-pub(crate) fn put(code: &mut Vec<Instruction>, program: &Program, instruction: Instruction) -> Result<(), AllocError>
+pub(crate) fn put(
+    code: &mut Vec<Instruction>,
+    program: &Program,
+    instruction: Instruction,
+) -> Result<(), AllocError>
     ensures { OnOk result (instructions_of (types_of program.now) code.new.items ≡ instructions_of (types_of program.now) code.old.items ++ instruction_of (types_of program.now) instruction ∷ []) }
 {
     code.push(instruction)?;
@@ -20,7 +24,11 @@ pub(crate) fn put(code: &mut Vec<Instruction>, program: &Program, instruction: I
 }
 
 /// Adds instructions.
-pub(crate) fn append(code: &mut Vec<Instruction>, program: &Program, more: Vec<Instruction>) -> Result<(), AllocError>
+pub(crate) fn append(
+    code: &mut Vec<Instruction>,
+    program: &Program,
+    more: Vec<Instruction>,
+) -> Result<(), AllocError>
     ensures { OnOk result (instructions_of (types_of program.now) code.new.items ≡ instructions_of (types_of program.now) code.old.items ++ instructions_of (types_of program.now) more.items) }
 {
     let mut more = more;
@@ -29,7 +37,12 @@ pub(crate) fn append(code: &mut Vec<Instruction>, program: &Program, more: Vec<I
 }
 
 /// Adds a text literal of the same bytes.
-pub(crate) fn put_text(code: &mut Vec<Instruction>, program: &Program, text: &Text, alloc: Global) -> Result<(), AllocError>
+pub(crate) fn put_text(
+    code: &mut Vec<Instruction>,
+    program: &Program,
+    text: &Text,
+    alloc: Global,
+) -> Result<(), AllocError>
     ensures { OnOk result (instructions_of (types_of program.now) code.new.items ≡ instructions_of (types_of program.now) code.old.items ++ instruction.PushText (bytes_of text.now) ∷ []) }
 {
     let copy = copied(text, alloc)?;
@@ -45,7 +58,12 @@ fn copied(text: &Text, alloc: Global) -> Result<Text, AllocError>
 }
 
 /// Adds the end of an arm: its fields are dropped, where the constructor has any.
-pub(crate) fn put_unbind(code: &mut Vec<Instruction>, program: &Program, named: NamedId, tag: usize) -> Result<(), AllocError>
+pub(crate) fn put_unbind(
+    code: &mut Vec<Instruction>,
+    program: &Program,
+    named: NamedId,
+    tag: usize,
+) -> Result<(), AllocError>
     ensures { OnOk result (instructions_of (types_of program.now) code.new.items ≡ instructions_of (types_of program.now) code.old.items ++ meant.unbind_code (meant.field_count (meaning program.now).types named.0 tag)) }
 {
     match field_count(program, named, tag) {
@@ -68,7 +86,12 @@ fn field_count(program: &Program, named: NamedId, tag: usize) -> usize
 }
 
 /// Adds a choice: where the test is false, the first side and the jump behind it are passed over.
-pub(crate) fn choose(code: &mut Vec<Instruction>, program: &Program, first: Vec<Instruction>, other: Vec<Instruction>) -> Result<(), AllocError>
+pub(crate) fn choose(
+    code: &mut Vec<Instruction>,
+    program: &Program,
+    first: Vec<Instruction>,
+    other: Vec<Instruction>,
+) -> Result<(), AllocError>
     ensures { OnOk result (instructions_of (types_of program.now) code.new.items ≡ instructions_of (types_of program.now) code.old.items ++ meant.if_code [] (instructions_of (types_of program.now) first.items) (instructions_of (types_of program.now) other.items)) }
 {
     put(code, program, Instruction::Branch(first.len() + 1))?;

@@ -1,12 +1,12 @@
 -- The parts of the proof that code generation is right.
-use Rattle.std.proofs.Common.{◌≡◌, ℕ, zero, suc, ◌+◌, ◌-◌, ◌≤◌, Bool, true, false, List, [], ◌∷◌, ◌++◌, length, Option, Some, None, unwrap_or, slice_get, take, length-append, ℤ, pos, negsuc, ◌+ℤ◌, ◌-ℤ◌, ◌*ℤ◌, int_div, int_rem, nat_lt, nat_le, refl, sym, ap, ◌∙◌, subst, arith, if◌then◌else◌, le-leb}
-use Rattle.core_terms.specs.Types.{Ty, UnitTy, BoolTy, IntTy, TextTy, PairTy, NamedTy, AuthTy, Table, fields_at, OnFields}
-use Rattle.core_terms.specs.Values.{Value, UnitV, BoolV, IntV, TextV, PairV, ConV, Values, NoV, AndV, int_fits, size, depth}
+use Rattle.std.proofs.Common.{◌≡◌, ℕ, zero, suc, ◌+◌, ◌-◌, ◌≤◌, Bool, true, false, List, [], ◌∷◌, ◌++◌, length, Option, Some, None, unwrap_or, slice_get, take, length-append, ℤ, pos, negsuc, ◌+ℤ◌, ◌-ℤ◌, ◌*ℤ◌, int_div, int_rem, nat_lt, refl, ap, ◌∙◌, subst, arith, if◌then◌else◌, le-leb}
+use Rattle.core_terms.specs.Types.{Ty, BoolTy, IntTy, TextTy, PairTy, NamedTy, Table, fields_at, OnFields}
+use Rattle.core_terms.specs.Values.{Value, BoolV, IntV, TextV, PairV, ConV, Values, NoV, AndV, int_fits, size, depth}
 use Rattle.core_terms.specs.Formats.{depth_limit}
 use Rattle.core_terms.specs.declared.language.term.Arith.{Arith}
 use Rattle.core_terms.specs.declared.language.term.Arith.TheVariants.{Add, Sub, Mul, Div, Rem}
 use Rattle.ideal_meaning.specs.Run.{Run, Gives, Ends, then_run, exact, divided, arith_of, limited, local, join}
-use Rattle.code_meaning.specs.Execution.{Coded, Ran, Stuck, then_code, Held, held, tie, without_last, popped}
+use Rattle.code_meaning.specs.Execution.{Coded, Ran, then_code, Held, held, tie, without_last, popped}
 use Rattle.code_meaning.specs.Right.{IsOf, AreOf, Holds}
 
 module _ (C W : Type 0) where
@@ -19,7 +19,8 @@ module _ (C W : Type 0) where
   on_holds Q (Gives a k w) f g h e = e a k w h
   on_holds Q (Ends stop k w) f g h e = refl
 
-  pub holds_then : {A B : Type 0} (Q : A → Type 0) (R : B → Type 0) (r : Run C W A) (f : A → ℕ → W → Run C W B) → Holds Q r → ((a : A) (k : ℕ) (w : W) → Q a → Holds R (f a k w)) → Holds R (then_run r f)
+  pub holds_then : {A B : Type 0} (Q : A → Type 0) (R : B → Type 0) (r : Run C W A) (f : A → ℕ → W → Run C W B) → Holds Q r
+      → ((a : A) (k : ℕ) (w : W) → Q a → Holds R (f a k w)) → Holds R (then_run r f)
   holds_then Q R (Gives a k w) f h e = e a k w h
   holds_then Q R (Ends stop k w) f h e = tt
 
@@ -55,7 +56,7 @@ abbrev pub push_all : List Ty → Values → List Held → List Held
 push_all (t ∷ ts) (AndV v vs) ops = push_all ts vs (held t v ∷ ops)
 push_all ts vs ops = ops
 
-join_nil : (vs : Values) → join vs NoV ≡ vs
+pub join_nil : (vs : Values) → join vs NoV ≡ vs
 join_nil NoV = refl
 join_nil (AndV v vs) = ap (AndV v) (join_nil vs)
 
@@ -73,7 +74,8 @@ last_dropped xs ys n h =
     ∙ ap Some (take_front xs ys)
 
 module _ (types : Table) (A : Ty → Value → Bool) where
-  popped_back : {C W : Type 0} (ts : List Ty) (vs : Values) → AreOf types A ts vs → (n : ℕ) (ops : List Held) (acc : Values) (go : Values → List Held → Coded C W) → popped (length ts + n) (push_all ts vs ops) acc go ≡ popped n ops (join vs acc) go
+  popped_back : {C W : Type 0} (ts : List Ty) (vs : Values) → AreOf types A ts vs → (n : ℕ) (ops : List Held) (acc : Values) (go : Values → List Held → Coded C W)
+      → popped (length ts + n) (push_all ts vs ops) acc go ≡ popped n ops (join vs acc) go
   popped_back [] NoV h n ops acc go = let e : 0 + n ≡ n = omega arith in ap (λ m. popped m ops acc go) e
   popped_back (t ∷ ts) (AndV v vs) h n ops acc go =
       let e : length (t ∷ ts) + n ≡ length ts + suc n = omega arith in
@@ -81,7 +83,8 @@ module _ (types : Table) (A : Ty → Value → Bool) where
   popped_back [] (AndV v vs) h n ops acc go = elim h [ ]
   popped_back (t ∷ ts) NoV h n ops acc go = elim h [ ]
 
-  pub popped_all : {C W : Type 0} (ts : List Ty) (vs : Values) → AreOf types A ts vs → (n : ℕ) (ops : List Held) (go : Values → List Held → Coded C W) → length ts ≡ n → popped n (push_all ts vs ops) NoV go ≡ go vs ops
+  pub popped_all : {C W : Type 0} (ts : List Ty) (vs : Values) → AreOf types A ts vs → (n : ℕ) (ops : List Held) (go : Values → List Held → Coded C W) → length ts ≡ n
+      → popped n (push_all ts vs ops) NoV go ≡ go vs ops
   popped_all ts vs a n ops go h =
       let e : n ≡ length ts + 0 = omega (arith, h) in
       ap (λ m. popped m (push_all ts vs ops) NoV go) e ∙ popped_back ts vs a 0 ops NoV go ∙ ap (λ us. go us ops) (join_nil vs)
@@ -138,11 +141,14 @@ module _ (types : Table) (A : Ty → Value → Bool) where
   on_fields (Some ts) Q h = (ts, refl, h)
   on_fields None Q h = elim h [ ]
 
-  pub in_table : (o : Option (List (List Ty))) (tag : ℕ) (ts : List Ty) → (elim o as (λ o. Option (List Ty)) [ Some cs ↦ slice_get cs tag | None ↦ None ]) ≡ Some ts → slice_get (unwrap_or o []) tag ≡ Some ts
+  pub in_table : (o : Option (List (List Ty))) (tag : ℕ) (ts : List Ty) → (elim o as (λ o. Option (List Ty)) [ Some cs ↦ slice_get cs tag | None ↦ None ]) ≡ Some ts
+      → slice_get (unwrap_or o []) tag ≡ Some ts
   in_table (Some cs) tag ts h = h
   in_table None tag ts h = absurd (cc)
 
-  pub at_con : (Q : Value → Type 0) (number : ℕ) (v : Value) → IsOf types A (NamedTy number) v → ((tag : ℕ) (vs : Values) (ts : List Ty) → fields_at types number tag ≡ Some ts → slice_get (unwrap_or (slice_get types number) []) tag ≡ Some ts → AreOf types A ts vs → Q (ConV tag vs)) → Q v
+  pub at_con : (Q : Value → Type 0) (number : ℕ) (v : Value) → IsOf types A (NamedTy number) v
+      → ((tag : ℕ) (vs : Values) (ts : List Ty) → fields_at types number tag ≡ Some ts → slice_get (unwrap_or (slice_get types number) []) tag ≡ Some ts
+      → AreOf types A ts vs → Q (ConV tag vs)) → Q v
   at_con Q number (ConV tag vs) h f =
       let r = on_fields (fields_at types number tag) (λ ts. AreOf types A ts vs) h in
       f tag vs r.0 r.1 (in_table (slice_get types number) tag r.0 r.1) r.2

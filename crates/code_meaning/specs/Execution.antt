@@ -1,11 +1,11 @@
 -- The meaning of code, for any meaning of `auth` and `unauth`.
 use Rattle.std.specs.Prelude.{ℕ, zero, suc, ◌-◌, Bool, not, ℤ, List, [], ◌∷◌, ◌++◌, length, Option, Some, None, slice_get, take, unwrap_or, pos, nat_le, if◌then◌else◌}
-use Rattle.core_terms.specs.Types.{Ty, UnitTy, BoolTy, IntTy, TextTy, PairTy, NamedTy, AuthTy, Table, fields_at}
+use Rattle.core_terms.specs.Types.{Ty, UnitTy, BoolTy, IntTy, TextTy, PairTy, NamedTy, AuthTy, fields_at}
 use Rattle.core_terms.specs.Values.{Value, UnitV, BoolV, IntV, TextV, PairV, ConV, Values, NoV, AndV}
 use Rattle.ideal_meaning.specs.Run.{IsOut, Run, Gives, Ends, Mode, limited, with_fuel, arith_of, compare_of, text_compare_of}
 use Rattle.code_gen.specs.Instructions.{Instruction, PushUnit, PushBool, PushInt, PushText, Load, Bind, Unbind, Pair, Fst, Snd, Make, Switch, Branch, Jump, Call, Return, Auth, Unauth}
 use Rattle.code_gen.specs.Instructions.{ArithOp, CompareOp, TextCompareOp, Cat, Len, Not}
-use Rattle.code_gen.specs.Code.{FunctionCode, Body, code_at, field_count}
+use Rattle.code_gen.specs.Code.{Body, code_at, field_count}
 
 -- How code ends: as a run; or stuck, at an operand, a local or a place that isn't there, or at one of another kind.
 pub data Coded (C W : Type 0) : Type 0 where

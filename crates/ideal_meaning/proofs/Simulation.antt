@@ -118,7 +118,7 @@ module _ (hash : Hash) (P : Program) (format : IsFormat P.format) (Deep : Type 0
   both_choose t false f1 f2 g1 g2 env shallow k s w h j = j
 
   -- a new value is within the limits in both runs, or in neither
-  both_limited : (t : Ty) (v shallow : Value) (k : ℕ) (s : List Opened) (w : Taking) → shallow ≡ Projected t v
+  pub both_limited : (t : Ty) (v shallow : Value) (k : ℕ) (s : List Opened) (w : Taking) → shallow ≡ Projected t v
       → (size P.types t v ≤ P.format.limit → depth P.types t v ≤ depth_limit → Held t v) → Synced s w
       → Both t (limited P.format.limit P.types t v k s) (limited P.format.limit P.types t shallow k w)
   both_limited t v shallow k s w e held y =
@@ -143,7 +143,7 @@ module _ (hash : Hash) (P : Program) (format : IsFormat P.format) (Deep : Type 0
   both_divided z x (pos (suc n)) k s w fits y = both_int (int_fits (int_div x (pos (suc n)))) z k s w fits y
   both_divided z x (negsuc n) k s w fits y = both_int (int_fits (int_div x (negsuc n))) z k s w fits y
 
-  both_arith : (op : Arith) (x d : ℤ) (k : ℕ) (s : List Opened) (w : Taking) → int_fits x ≡ true → Synced s w → Both IntTy (arith_of op x d k s) (arith_of op x d k w)
+  pub both_arith : (op : Arith) (x d : ℤ) (k : ℕ) (s : List Opened) (w : Taking) → int_fits x ≡ true → Synced s w → Both IntTy (arith_of op x d k s) (arith_of op x d k w)
   both_arith Add x d k s w fx y = both_int (int_fits (x +ℤ d)) (x +ℤ d) k s w (λ q. q) y
   both_arith Sub x d k s w fx y = both_int (int_fits (x -ℤ d)) (x -ℤ d) k s w (λ q. q) y
   both_arith Mul x d k s w fx y = both_int (int_fits (x *ℤ d)) (x *ℤ d) k s w (λ q. q) y

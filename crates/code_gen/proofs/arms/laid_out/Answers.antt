@@ -11,12 +11,14 @@ pub loop-arm-preserved : goal.loop-arm-preserved
 loop-arm-preserved c =
     let T = types_of c.args.program.now in
     one_placed (λ v. instructions_of T v.items) c.args.arms.now c.loop-arm.arm-index _ c.arm-item.result c.loop-arm.places.items c.push.new.self.items c.loop-arm.end _ _
-        c.loop-arm-test.true (sym c.arm-item.is) (length-map c.arm-item.result.items (instruction_of T)) c.loop-arm.invariant c.in_ok-push.ensures.items
-        (c.in_ok-next.ensures ∙ ap (λ l. c.loop-arm.end + (length l + 1)) c.deref.ensures.value)
+    c.loop-arm-test.true (sym c.arm-item.is) (length-map c.arm-item.result.items (instruction_of T)) c.loop-arm.invariant c.in_ok-push.ensures.items
+    (c.in_ok-next.ensures ∙ ap (λ l. c.loop-arm.end + (length l + 1)) c.deref.ensures.value)
 
 pub returns : goal.returns
 returns c =
     let T = types_of c.args.program.now in
-    let all = all_before c.args.arms.now c.loop-arm.arm-index c.loop-arm-test.false in
-    (c.loop-arm.invariant.0 ∙ ap (λ l. meant.places 0 (map (λ v. instructions_of T v.items) l)) all,
-     c.saturating_sub.ensures ∙ ap (λ n. n - 1) (c.loop-arm.invariant.1 ∙ ap (λ l. end_of (map (λ v. instructions_of T v.items) l)) all) ∙ sym (length_laid (map (λ v. instructions_of T v.items) c.args.arms.now)))
+    let all = all_before c.args.arms.now c.loop-arm.arm-index c.loop-arm-test.false in (
+      c.loop-arm.invariant.0 ∙ ap (λ l. meant.places 0 (map (λ v. instructions_of T v.items) l)) all,
+      c.saturating_sub.ensures ∙ ap (λ n. n - 1) (c.loop-arm.invariant.1 ∙ ap (λ l. end_of (map (λ v. instructions_of T v.items) l)) all)
+          ∙ sym (length_laid (map (λ v. instructions_of T v.items) c.args.arms.now)),
+    )
