@@ -1,0 +1,2 @@
+-- `of_types` and its callers
+pub mod EmptyPrograms

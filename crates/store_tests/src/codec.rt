@@ -173,12 +173,15 @@ fn nested_pairs(types: &mut TyTable, inner: TyId, levels: usize) -> Result<TyId,
     Ok(ty)
 }
 
-/// A program of units in pairs of so many levels.
-fn many_units(alloc: Global, levels: usize) -> Result<Program, AllocError> {
+/// A program, and one of its types: units in pairs of so many levels. Its state is a unit, since a type that is written has at most 100
+/// levels.
+#[tactic(auto, using(crate::proofs::EmptyPrograms::is_flat))]
+fn many_units(alloc: Global, levels: usize) -> Result<(Program, TyId), AllocError> {
     let mut types = TyTable::new(alloc);
     let unit = types.intern(TyForm::UnitForm)?;
     let long = nested_pairs(&mut types, unit, levels)?;
-    of_types(alloc, types, long)
+    let state = types.intern(TyForm::UnitForm)?;
+    Ok((of_types(alloc, types, state)?, long))
 }
 
 /// The levels of pairs around a unit, bytes, and the offset at which they are refused. Such values are spelled by nothing: they are read
@@ -193,8 +196,8 @@ const UNITS: [(usize, &[u8], Option<u32>); 4] = [
 #[test]
 fn units_are_read_by_their_type(rt: HostRuntime) -> Result<(), Fail> {
     for (number, (levels, bytes, offset)) in UNITS.iter().enumerate() {
-        let program = many_units(rt.alloc(), *levels)?;
-        if refused_at(rt.alloc(), &program, bytes, program.state_type())? != *offset {
+        let (program, long) = many_units(rt.alloc(), *levels)?;
+        if refused_at(rt.alloc(), &program, bytes, long)? != *offset {
             return Err(Fail::new(format_args!("row {number}")));
         }
     }

@@ -1,9 +1,10 @@
 // A node of the prover's, spelled by its digest.
 ghost use Rattle.std.specs.Prelude.{◌≡◌, [], true, IfOk};
 ghost use Rattle.core_terms.specs.LanguagePrograms.{meaning, types_in};
-ghost use Rattle.core_terms.specs.LanguageTrees.{is_within, table_of};
+ghost use Rattle.core_terms.specs.LanguageTrees.{is_within};
+ghost use Rattle.core_terms.specs.ProgramLimits.{IsFlatType};
 ghost use Rattle.core_terms.specs.TypeTables.{type_at};
-ghost use Rattle.core_terms.specs.Types.{AuthTy, Ty, has_numbers, has_tags};
+ghost use Rattle.core_terms.specs.Types.{AuthTy, Ty};
 
 use core_terms::language::{Program, TyForm, TyTable};
 use core_terms::{Digest, TyId};
@@ -13,10 +14,10 @@ use std::test::Fail;
 use value_store::{Held, Nodes, Store};
 
 /// A program without functions and named types.
+#[tactic(auto, using(crate::proofs::EmptyPrograms::are_named, crate::proofs::EmptyPrograms::is_limited))]
 pub fn of_types(alloc: Global, types: TyTable, state: TyId) -> Result<Program, AllocError>
     requires within { is_within types.forms.keys [] state [] ≡ true }
-    requires numbers { has_numbers (table_of (types_in types) []) ≡ true }
-    requires tags { has_tags (table_of (types_in types) []) ≡ true }
+    requires flat { IsFlatType (type_at (types_in types) state) }
     ensures { IfOk result (λ program. (meaning program).state ≡ type_at (types_in types) state) }
 {
     Program::new(

@@ -1,0 +1,48 @@
+-- Programs without functions and named types.
+use Rattle.std.proofs.Common.{◌≡◌, ℕ, zero, suc, ◌≤◌, List, [], ◌∷◌, length, Some, slice_get, slice_index_or, sym, subst, arith}
+use Rattle.std.specs.Prelude.{All}
+use Rattle.std.proofs.lemmas.List.Elements.{All-nil}
+use Rattle.core_terms.specs.Types.{Ty, UnitTy}
+use Rattle.core_terms.specs.TypeTables.{type_at}
+use Rattle.core_terms.specs.LanguageNames.{AreNamed}
+use Rattle.core_terms.specs.LanguageTrees.{program_of}
+use Rattle.core_terms.specs.LanguageTypes.{types_of_forms}
+use Rattle.core_terms.specs.ProgramLimits.{IsFlatType, IsFunctionWithin, IsName, IsWithinLimits, most_constructors, most_fields}
+use Rattle.core_terms.specs.declared.types.TyId.{TyId}
+use Rattle.core_terms.specs.declared.language.types.TyForm.{TyForm}
+use Rattle.core_terms.specs.declared.language.term.Function.{Function}
+use Rattle.core_terms.specs.declared.language.term.NamedType.{NamedType}
+
+-- the element with a number
+pub at_number : (ts : List Ty) (i : ℕ) (t : Ty) → slice_get ts i ≡ Some t → slice_index_or ts i UnitTy ≡ t
+at_number [] i t h = absurd (cc (h))
+at_number (u ∷ ts) zero t h = cc (h)
+at_number (u ∷ ts) (suc i) t h = at_number ts i t h
+
+none_named : AreNamed []
+none_named = record { types = All-nil IsName; constructors = All-nil (All IsName) }
+
+pub are_named : (named : List NamedType) → named ≡ [] → AreNamed named
+are_named named none = subst AreNamed (sym none) none_named
+
+none_limited : (forms : List TyForm) (state : TyId) → IsFlatType (type_at (types_of_forms forms) state) → IsWithinLimits (program_of forms [] state [])
+none_limited forms state flat = record {
+  types = omega arith;
+  constructors = All-nil (λ (constructors : List (List Ty)). length constructors ≤ most_constructors);
+  fields = All-nil (All (λ (fields : List Ty). length fields ≤ most_fields));
+  field_types = All-nil (All (All IsFlatType));
+  state_type = flat;
+  functions = omega arith;
+  each = All-nil (IsFunctionWithin []);
+  expressions = omega arith;
+}
+
+pub is_limited : (forms : List TyForm) (named : List NamedType) (state : TyId) (functions : List Function) → named ≡ [] → functions ≡ []
+    → IsFlatType (type_at (types_of_forms forms) state) → IsWithinLimits (program_of forms named state functions)
+is_limited forms named state functions none nothing flat =
+    subst (λ (fs : List Function). IsWithinLimits (program_of forms named state fs)) (sym nothing)
+    (subst (λ (ns : List NamedType). IsWithinLimits (program_of forms ns state [])) (sym none) (none_limited forms state flat))
+
+-- a type that was given a number
+pub is_flat : (ts : List Ty) (id : TyId) (t : Ty) → slice_get ts id.0 ≡ Some t → IsFlatType t → IsFlatType (type_at ts id)
+is_flat ts id t at flat = subst IsFlatType (sym (at_number ts id.0 t at)) flat
