@@ -55,10 +55,10 @@ module _ (m : Marking) (P : Program) (z : Ty) (old : List Node) (before : State)
       → StandsFor (kind_of m P) P.types new r.0 (AuthTy t) ((mode_of m P).auth t operand.x) → GoesTo m P z new true before.fuel cs after
   authenticated new keeps after entered r at others stands =
       lifted m P old new keeps (Unit {0}) z before after cs shows entered others.entered others.fuel others.waiting None
-          (pushes m P old new keeps before.top after.top (Auth t) cs.top here kept r (AuthTy t) ((mode_of m P).auth t operand.x) operand.below_types operand.below at operand.goes stands operand.others
-              (λ next k w.
-                  ap (λ os. act (generated P) (mode_of m P) (calls m P cs.top.depth) (Auth t) next (tie cs.top.local_types cs.top.locals) (tie os cs.top.operands) k w) operand.types_are
-                  ∙ ap (λ us. act (generated P) (mode_of m P) (calls m P cs.top.depth) (Auth t) next (tie cs.top.local_types cs.top.locals) (tie (t ∷ operand.below_types) us) k w) operand.are))
+      (pushes m P old new keeps before.top after.top (Auth t) cs.top here kept r (AuthTy t) ((mode_of m P).auth t operand.x) operand.below_types operand.below at operand.goes stands operand.others
+      (λ next k w.
+      ap (λ os. act (generated P) (mode_of m P) (calls m P cs.top.depth) (Auth t) next (tie cs.top.local_types cs.top.locals) (tie os cs.top.operands) k w) operand.types_are
+      ∙ ap (λ us. act (generated P) (mode_of m P) (calls m P cs.top.depth) (Auth t) next (tie cs.top.local_types cs.top.locals) (tie (t ∷ operand.below_types) us) k w) operand.are))
 
 pub only_memory : (m : Marking) (P : Program) (z : Ty) {F : Type 0} (cause : F → Option (CauseOf m)) (New : StateOf m → Type 0) (nodes : List Node) (k : ℕ) (run : RunOf m) (A : Type 0) (stop : Stop F) → OnlyMemory {A = A} (Err stop) → StopIs m P z cause New nodes k stop run
 only_memory m P z cause New nodes k run A NoMemory h = tt

@@ -49,16 +49,16 @@ module _ (m : Marking) (P : Program) (nodes : List Node) (frame : Frame) (c : Va
   bound after at =
       let here : frame.place + 1 ≡ frame.place + 1 + 0 = omega arith in
       goes_on m P nodes nodes frame after Bind c b 0 (frame.locals.items ++ r ∷ []) last (c.local_types ++ binds.t ∷ []) binds.below (join c.locals (AndV one.x NoV)) one.below
-          (subst (λ p. IsAt frame p (frame.locals.items ++ r ∷ []) last after) here at)
-          binds.goes
-          (subst (λ l. AllStandFor (kind_of m P) P.types nodes l (c.local_types ++ binds.t ∷ []) (join c.locals (AndV one.x NoV))) (sym (numbers_append frame.locals.items (r ∷ [])))
-              (all_joined (kind_of m P) P.types nodes (numbers_of frame.locals.items) (r.0 ∷ []) c.local_types (binds.t ∷ []) c.locals (AndV one.x NoV) b.top.is.locals (one.stands, tt)))
-          one.rest
-          (λ next k w.
-              ap (λ os. act (generated P) (mode_of m P) (calls m P c.depth) Bind next (tie c.local_types c.locals) (tie os c.operands) k w) binds.is
-              ∙ ap (λ us. act (generated P) (mode_of m P) (calls m P c.depth) Bind next (tie c.local_types c.locals) (tie (binds.t ∷ binds.below) us) k w) one.is
-              ∙ ap (λ env. next 0 env (tie binds.below one.below) k w)
-                  (tie_joined (kind_of m P) P.types nodes (numbers_of frame.locals.items) c.local_types (binds.t ∷ []) c.locals (AndV one.x NoV) b.top.is.locals))
+      (subst (λ p. IsAt frame p (frame.locals.items ++ r ∷ []) last after) here at)
+      binds.goes
+      (subst (λ l. AllStandFor (kind_of m P) P.types nodes l (c.local_types ++ binds.t ∷ []) (join c.locals (AndV one.x NoV))) (sym (numbers_append frame.locals.items (r ∷ [])))
+      (all_joined (kind_of m P) P.types nodes (numbers_of frame.locals.items) (r.0 ∷ []) c.local_types (binds.t ∷ []) c.locals (AndV one.x NoV) b.top.is.locals (one.stands, tt)))
+      one.rest
+      (λ next k w.
+      ap (λ os. act (generated P) (mode_of m P) (calls m P c.depth) Bind next (tie c.local_types c.locals) (tie os c.operands) k w) binds.is
+      ∙ ap (λ us. act (generated P) (mode_of m P) (calls m P c.depth) Bind next (tie c.local_types c.locals) (tie (binds.t ∷ binds.below) us) k w) one.is
+      ∙ ap (λ env. next 0 env (tie binds.below one.below) k w)
+      (tie_joined (kind_of m P) P.types nodes (numbers_of frame.locals.items) c.local_types (binds.t ∷ []) c.locals (AndV one.x NoV) b.top.is.locals))
 
 module _ (kind : Kind) (types : Table) (nodes : List Node) where
   -- locals, and the last of them
@@ -113,15 +113,15 @@ module _ (m : Marking) (P : Program) (nodes : List Node) (frame : Frame) (n : �
       let kept = take (length unbinds.0) frame.locals.items in
       let ops = tie c.operand_types c.operands in
       goes_on m P nodes nodes frame after (Unbind n) c b 0 kept frame.operands.items unbinds.0 c.operand_types parts.front c.operands
-          (subst (λ p. IsAt frame p kept frame.operands.items after) here (subst (λ k. IsAt frame (frame.place + 1) (take k frame.locals.items) frame.operands.items after) left at))
-          unbinds.4
-          (subst (λ l. AllStandFor (kind_of m P) P.types nodes l unbinds.0 parts.front) (take-map (λ (r : Ref). r.0) (length unbinds.0) frame.locals.items) parts.stand)
-          b.top.is.operands
-          (λ next k w.
-              ap (λ ts. where_some (without_last n (tie ts c.locals)) (λ env. next 0 env ops k w)) unbinds.2
-              ∙ ap (λ vs. where_some (without_last n (tie (unbinds.0 ++ unbinds.1) vs)) (λ env. next 0 env ops k w)) parts.is
-              ∙ ap (λ env. where_some (without_last n env) (λ env. next 0 env ops k w))
-                  (sym (tie_joined (kind_of m P) P.types nodes (take (length unbinds.0) (numbers_of frame.locals.items)) unbinds.0 unbinds.1 parts.front parts.back parts.stand))
-              ∙ ap (λ o. where_some o (λ env. next 0 env ops k w))
-                  (last_dropped (tie unbinds.0 parts.front) (tie unbinds.1 parts.back) n
-                      (tied_length (kind_of m P) P.types nodes (drop (length unbinds.0) (numbers_of frame.locals.items)) unbinds.1 parts.back parts.rest ∙ unbinds.3)))
+      (subst (λ p. IsAt frame p kept frame.operands.items after) here (subst (λ k. IsAt frame (frame.place + 1) (take k frame.locals.items) frame.operands.items after) left at))
+      unbinds.4
+      (subst (λ l. AllStandFor (kind_of m P) P.types nodes l unbinds.0 parts.front) (take-map (λ (r : Ref). r.0) (length unbinds.0) frame.locals.items) parts.stand)
+      b.top.is.operands
+      (λ next k w.
+      ap (λ ts. where_some (without_last n (tie ts c.locals)) (λ env. next 0 env ops k w)) unbinds.2
+      ∙ ap (λ vs. where_some (without_last n (tie (unbinds.0 ++ unbinds.1) vs)) (λ env. next 0 env ops k w)) parts.is
+      ∙ ap (λ env. where_some (without_last n env) (λ env. next 0 env ops k w))
+      (sym (tie_joined (kind_of m P) P.types nodes (take (length unbinds.0) (numbers_of frame.locals.items)) unbinds.0 unbinds.1 parts.front parts.back parts.stand))
+      ∙ ap (λ o. where_some o (λ env. next 0 env ops k w))
+      (last_dropped (tie unbinds.0 parts.front) (tie unbinds.1 parts.back) n
+      (tied_length (kind_of m P) P.types nodes (drop (length unbinds.0) (numbers_of frame.locals.items)) unbinds.1 parts.back parts.rest ∙ unbinds.3)))

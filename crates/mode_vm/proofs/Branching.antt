@@ -38,7 +38,7 @@ module _ (m : Marking) (P : Program) (nodes : List Node) (frame : Frame) (c : Va
       → (result : Result (Option Trap) E) → Finishes mid (Ok put) after result → Acts m P new c after result
   not_acts new keeps mid after at put value is stands =
       one_acts m P nodes frame Not c b last r top BoolTy BoolTy negates run same new keeps mid after at (Ok put)
-          (λ v h. (BoolV (not value), stands, λ k w. ap (λ v. Gives (BoolV (not (bool_in v))) k w) (is v h)))
+      (λ v h. (BoolV (not value), stands, λ k w. ap (λ v. Gives (BoolV (not (bool_in v))) k w) (is v h)))
     where
       run : Value → ℕ → StateOf m → Run (CauseOf m) (StateOf m) Value
       run v k w = Gives (BoolV (not (bool_in v))) k w
@@ -86,10 +86,10 @@ module _ (m : Marking) (P : Program) (nodes : List Node) (frame : Frame) (skip :
   branched after is at =
       let here : frame.place + 1 ≡ frame.place + 1 + 0 = omega arith in
       goes_on m P nodes nodes frame after (Branch skip) c b 0 frame.locals.items last c.local_types decides.below c.locals one.below
-          (subst (λ p. IsAt frame p frame.locals.items last after) here at) decides.goes b.top.is.locals one.rest (same true (is one.x one.stands))
+      (subst (λ p. IsAt frame p frame.locals.items last after) here at) decides.goes b.top.is.locals one.rest (same true (is one.x one.stands))
 
   pub skipped : (after : Frame) → ((v : Value) → StandsFor (kind_of m P) P.types nodes r.0 BoolTy v → v ≡ BoolV false)
       → IsAt frame (frame.place + 1 + skip) frame.locals.items last after → GoesOn m P nodes c after
   skipped after is at =
       goes_on m P nodes nodes frame after (Branch skip) c b skip frame.locals.items last c.local_types decides.below c.locals one.below
-          at decides.skips b.top.is.locals one.rest (same false (is one.x one.stands))
+      at decides.skips b.top.is.locals one.rest (same false (is one.x one.stands))

@@ -117,10 +117,10 @@ module _ (m : Marking) (P : Program) (typed : IsTyped P) (z : Ty) (nodes : List 
     split =
         let l = length-map args (λ (r : Ref). r.0) in
         let e : numbers_of (reverse old.top.operands.items) ≡ reverse (numbers_of args) ++ numbers_of (reverse kept) =
-            ap (λ l. numbers_of (reverse l)) begins.operands ∙ ap numbers_of (reverse-append kept args) ∙ numbers_append (reverse args) (reverse kept) ∙ ap (λ l. l ++ numbers_of (reverse kept)) (numbers_reverse args) in
+        ap (λ l. numbers_of (reverse l)) begins.operands ∙ ap numbers_of (reverse-append kept args) ∙ numbers_append (reverse args) (reverse kept) ∙ ap (λ l. l ++ numbers_of (reverse kept)) (numbers_reverse args) in
         pushed (kind_of m P) P.types nodes (code_at B f).parameters found.0 (numbers_of args) (numbers_of (reverse kept)) cs.top.operands (l ∙ long)
-            (subst (λ l. AllStandFor (kind_of m P) P.types nodes l (push_types (code_at B f).parameters found.0) cs.top.operands) e
-                (subst (λ os. AllStandFor (kind_of m P) P.types nodes (numbers_of (reverse old.top.operands.items)) os cs.top.operands) found.1 shows.top.is.operands))
+        (subst (λ l. AllStandFor (kind_of m P) P.types nodes l (push_types (code_at B f).parameters found.0) cs.top.operands) e
+        (subst (λ os. AllStandFor (kind_of m P) P.types nodes (numbers_of (reverse old.top.operands.items)) os cs.top.operands) found.1 shows.top.is.operands))
 
     abbrev accepted : (shapes : List Shape) × IsFine B (code_at B f).result (code_at B f).code shapes × (slice_get shapes 0 ≡ Some (shape (code_at B f).parameters []))
     accepted = generated_accepted P typed f
@@ -167,37 +167,38 @@ module _ (m : Marking) (P : Program) (typed : IsTyped P) (z : Ty) (nodes : List 
 
     pub call_leads : GoesTo m P z nodes true old.fuel cs new
     call_leads =
-        let length_functions = length-map P.functions (function_code P.types) in
-        ( record { top = called; waits = caller ∷ cs.waits }
-        , record
-            { top = record
-                { is = record
-                    { there = omega (arith, found.3, begins.function, length_functions)
-                    ; result = ap (λ f. (code_at B f).result) (sym begins.function)
-                    ; left = ap (λ p. drop p (code_at B f).code) (sym begins.place) ∙ ap (λ f. drop new.top.place (code_at B f).code) (sym begins.function)
-                    ; fine = accepted.1
-                    ; locals = subst (λ l. AllStandFor (kind_of m P) P.types nodes (numbers_of l) (code_at B f).parameters split.vs) (sym begins.locals) split.args_stand
-                    ; operands = subst (λ l. AllStandFor (kind_of m P) P.types nodes (numbers_of (reverse l)) [] NoV) (sym begins.no_operands) tt
-                    }
-                ; starts = accepted.2
-                }
-            ; waits = subst (λ l. AreWaiting m P nodes z (code_at B f).result l (caller ∷ cs.waits)) (sym (ap reverse begins.waiting ∙ reverse-append old.waiting.items (begins.caller ∷ [])))
-                ( record
-                    { is = record
-                        { there = subst (λ f. f.0 < length P.functions) (sym begins.waits.function) shows.top.is.there
-                        ; result = shows.top.is.result ∙ ap (λ f. (code_at B f.0).result) (sym begins.waits.function)
-                        ; left = behind
-                        ; fine = fine_rest B cs.top.result (Call f) next.rest cs.top.shapes fine_here
-                        ; locals = subst (λ l. AllStandFor (kind_of m P) P.types nodes (numbers_of l) cs.top.local_types cs.top.locals) (sym begins.waits.locals) shows.top.is.locals
-                        ; operands = subst (λ l. AllStandFor (kind_of m P) P.types nodes (numbers_of (reverse l)) found.0 split.below) (sym begins.waits.operands) split.rest_stand
-                        }
-                    ; starts = found.2
-                    }
-                , shows.waits )
-            ; deep = subst (λ b. IsDeep b new.fuel called) (sym begins.entered) (subst (λ k. k ≤ suc (pred cs.top.depth)) (sym begins.fuel) deep_called)
-            ; deep_below = subst (λ k. AreDeep k (caller ∷ cs.waits)) (sym begins.fuel) (deep_here, shows.deep_below)
-            }
-        , λ w. same_end w ∙ ap₂ (λ b k. end_of m P b (record { top = called; waits = caller ∷ cs.waits }) k w) (sym begins.entered) (sym begins.fuel)
-        , subst (λ b. stack_steps P b new.fuel (record { top = called; waits = caller ∷ cs.waits }) < stack_steps P true old.fuel cs) (sym begins.entered)
-            (subst (λ k. stack_steps P false k (record { top = called; waits = caller ∷ cs.waits }) < stack_steps P true old.fuel cs) (sym begins.fuel) (let l = ap length next.is in omega (arith, l)))
+        let length_functions = length-map P.functions (function_code P.types) in (
+          record { top = called; waits = caller ∷ cs.waits },
+          record {
+            top = record {
+              is = record {
+                there = omega (arith, found.3, begins.function, length_functions);
+                result = ap (λ f. (code_at B f).result) (sym begins.function);
+                left = ap (λ p. drop p (code_at B f).code) (sym begins.place) ∙ ap (λ f. drop new.top.place (code_at B f).code) (sym begins.function);
+                fine = accepted.1;
+                locals = subst (λ l. AllStandFor (kind_of m P) P.types nodes (numbers_of l) (code_at B f).parameters split.vs) (sym begins.locals) split.args_stand;
+                operands = subst (λ l. AllStandFor (kind_of m P) P.types nodes (numbers_of (reverse l)) [] NoV) (sym begins.no_operands) tt;
+              };
+              starts = accepted.2;
+            };
+            waits = subst (λ l. AreWaiting m P nodes z (code_at B f).result l (caller ∷ cs.waits)) (sym (ap reverse begins.waiting ∙ reverse-append old.waiting.items (begins.caller ∷ []))) (
+              record {
+                is = record {
+                  there = subst (λ f. f.0 < length P.functions) (sym begins.waits.function) shows.top.is.there;
+                  result = shows.top.is.result ∙ ap (λ f. (code_at B f.0).result) (sym begins.waits.function);
+                  left = behind;
+                  fine = fine_rest B cs.top.result (Call f) next.rest cs.top.shapes fine_here;
+                  locals = subst (λ l. AllStandFor (kind_of m P) P.types nodes (numbers_of l) cs.top.local_types cs.top.locals) (sym begins.waits.locals) shows.top.is.locals;
+                  operands = subst (λ l. AllStandFor (kind_of m P) P.types nodes (numbers_of (reverse l)) found.0 split.below) (sym begins.waits.operands) split.rest_stand;
+                };
+                starts = found.2;
+              },
+              shows.waits,
+            );
+            deep = subst (λ b. IsDeep b new.fuel called) (sym begins.entered) (subst (λ k. k ≤ suc (pred cs.top.depth)) (sym begins.fuel) deep_called);
+            deep_below = subst (λ k. AreDeep k (caller ∷ cs.waits)) (sym begins.fuel) (deep_here, shows.deep_below);
+          },
+          λ w. same_end w ∙ ap₂ (λ b k. end_of m P b (record { top = called; waits = caller ∷ cs.waits }) k w) (sym begins.entered) (sym begins.fuel),
+          subst (λ b. stack_steps P b new.fuel (record { top = called; waits = caller ∷ cs.waits }) < stack_steps P true old.fuel cs) (sym begins.entered)
+              (subst (λ k. stack_steps P false k (record { top = called; waits = caller ∷ cs.waits }) < stack_steps P true old.fuel cs) (sym begins.fuel) (let l = ap length next.is in omega (arith, l))),
         )

@@ -63,32 +63,32 @@ module _ (m : Marking) (P : Program) (nodes : List Node) (frame : Frame) (number
     split =
         let l = length-map fields (λ (r : Ref). r.0) in
         let e : numbers_of (reverse frame.operands.items) ≡ reverse (numbers_of fields) ++ numbers_of (reverse kept) =
-            ap (λ l. numbers_of (reverse l)) is ∙ ap numbers_of (reverse-append kept fields) ∙ numbers_append (reverse fields) (reverse kept)
-            ∙ ap (λ l. l ++ numbers_of (reverse kept)) (numbers_reverse fields) in
+        ap (λ l. numbers_of (reverse l)) is ∙ ap numbers_of (reverse-append kept fields) ∙ numbers_append (reverse fields) (reverse kept)
+        ∙ ap (λ l. l ++ numbers_of (reverse kept)) (numbers_reverse fields) in
         pushed (kind_of m P) P.types nodes makes_of.0 makes_of.1 (numbers_of fields) (numbers_of (reverse kept)) c.operands (l ∙ long ∙ counted)
-            (subst (λ l. AllStandFor (kind_of m P) P.types nodes l (push_types makes_of.0 makes_of.1) c.operands) e
-                (subst (λ os. AllStandFor (kind_of m P) P.types nodes (numbers_of (reverse frame.operands.items)) os c.operands) makes_of.3 b.top.is.operands))
+        (subst (λ l. AllStandFor (kind_of m P) P.types nodes l (push_types makes_of.0 makes_of.1) c.operands) e
+        (subst (λ os. AllStandFor (kind_of m P) P.types nodes (numbers_of (reverse frame.operands.items)) os c.operands) makes_of.3 b.top.is.operands))
 
     pub fields_there : list_all (λ r. nat_lt r (length nodes)) (numbers_of fields) ≡ true
     fields_there = all_there (kind_of m P) P.types nodes (numbers_of fields) makes_of.0 split.vs split.args_stand
 
     pub make_acts : {E : Type 0} (new : List Node) → Keeps nodes new → (mid after : Frame) → IsAt frame frame.place frame.locals.items kept mid → (made : Result Ref Trap)
         → ((ts : List Ty) (vs : Values) → fields_at P.types number tag ≡ Some ts → AllStandFor (kind_of m P) P.types nodes (numbers_of fields) ts vs
-            → Makes m (kind_of m P) P.types new (NamedTy number) (limited P.format.limit P.types (NamedTy number) (ConV tag vs)) made)
+        → Makes m (kind_of m P) P.types new (NamedTy number) (limited P.format.limit P.types (NamedTy number) (ConV tag vs)) made)
         → (result : Result (Option Trap) E) → Finishes mid made after result → Acts m P new c after result
     make_acts new keeps mid after at made makes result finishes =
         made_acts m P nodes new keeps frame after (Make number tag) c b kept (NamedTy number) makes_of.1 split.below
-            (limited P.format.limit P.types (NamedTy number) (ConV tag split.vs)) acts makes_of.4 split.rest_stand made
-            (makes makes_of.0 split.vs makes_of.2 split.args_stand) result (finishes_on frame mid after kept at made result finishes)
+        (limited P.format.limit P.types (NamedTy number) (ConV tag split.vs)) acts makes_of.4 split.rest_stand made
+        (makes makes_of.0 split.vs makes_of.2 split.args_stand) result (finishes_on frame mid after kept at made result finishes)
       where
         acts : (next : Next (CauseOf m) (StateOf m)) (k : ℕ) (w : StateOf m)
             → act (generated P) (mode_of m P) (calls m P c.depth) (Make number tag) next (tie c.local_types c.locals) (tie c.operand_types c.operands) k w
             ≡ then_code (limited P.format.limit P.types (NamedTy number) (ConV tag split.vs) k w)
-                (λ v k w. next 0 (tie c.local_types c.locals) (held (NamedTy number) v ∷ tie makes_of.1 split.below) k w)
+            (λ v k w. next 0 (tie c.local_types c.locals) (held (NamedTy number) v ∷ tie makes_of.1 split.below) k w)
         acts next k w =
             let env = tie c.local_types c.locals in
             let go : Values → List Held → Ends (CauseOf m) (StateOf m) =
-                λ vs ops. then_code (limited P.format.limit P.types (NamedTy number) (ConV tag vs) k w) (λ v k w. next 0 env (held (NamedTy number) v ∷ ops) k w) in
+            λ vs ops. then_code (limited P.format.limit P.types (NamedTy number) (ConV tag vs) k w) (λ v k w. next 0 env (held (NamedTy number) v ∷ ops) k w) in
             ap (λ os. popped (field_count P.types number tag) (tie os c.operands) NoV go) makes_of.3
             ∙ ap (λ ops. popped (field_count P.types number tag) ops NoV go) split.tied
             ∙ ap (λ n. popped n (push_all makes_of.0 split.vs (tie makes_of.1 split.below)) NoV go) counted

@@ -21,12 +21,12 @@ module _ (m : Marking) (P : Program) (z : Ty) (nodes : List Node) (state : State
   deep_in k n e h = omega (arith, e, h)
 
   pub entered_shows : (n : ℕ) → state.fuel ≡ suc n → Represents m P z nodes (record { fuel = n; entered = true; top = state.top; waiting = state.waiting }) cs
-  entered_shows n e = record
-      { top = shows.top
-      ; waits = shows.waits
-      ; deep = deep_in state.fuel n e (subst (λ b. IsDeep b state.fuel cs.top) waits shows.deep)
-      ; deep_below = less_deep n cs.waits (subst (λ k. AreDeep k cs.waits) e shows.deep_below)
-      }
+  entered_shows n e = record {
+    top = shows.top;
+    waits = shows.waits;
+    deep = deep_in state.fuel n e (subst (λ b. IsDeep b state.fuel cs.top) waits shows.deep);
+    deep_below = less_deep n cs.waits (subst (λ k. AreDeep k cs.waits) e shows.deep_below);
+  }
 
   pub entered_same : (n : ℕ) → state.fuel ≡ suc n → (w : StateOf m) → end_of m P false cs state.fuel w ≡ end_of m P true cs n w
   entered_same n e w = ap (λ k. end_of m P false cs k w) e

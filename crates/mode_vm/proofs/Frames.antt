@@ -70,7 +70,7 @@ module _ (m : Marking) (P : Program) where
   pub fits_next : (nodes : List Node) (frame : Frame) (i : Instruction) (c : ValueFrame) → Before m P nodes frame i c → Fits (generated P) c.result i c.local_types c.operand_types (ToNext (generated P) c.result c.shapes)
   fits_next nodes frame i c b =
       fits_first (generated P) c.result i b.next.rest c.shapes c.local_types c.operand_types
-          (subst (λ is. IsFine (generated P) c.result is c.shapes) b.next.is b.top.is.fine) b.top.starts
+      (subst (λ is. IsFine (generated P) c.result is c.shapes) b.next.is b.top.is.fine) b.top.starts
 
   -- the frame behind its next instruction, `skip` instructions further
   abbrev pub moved : (c : ValueFrame) → List Instruction → (skip : ℕ) (ls os : List Ty) (vs us : Values) → ValueFrame
@@ -88,18 +88,18 @@ module _ (m : Marking) (P : Program) where
       let rest = b.next.rest in
       let code = (code_at B frame.function.0).code in
       let behind : drop (frame.place + 1 + skip) code ≡ drop skip rest =
-          sym (drop_more code (frame.place + 1) skip) ∙ ap (drop skip) (sym (drop_more code frame.place 1) ∙ ap (drop 1) (sym b.top.is.left ∙ b.next.is)) in
-      record
-          { is = record
-              { there = subst (λ f. f.0 < length P.functions) (sym at.function) b.top.is.there
-              ; result = b.top.is.result ∙ ap (λ f. (code_at B f.0).result) (sym at.function)
-              ; left = sym behind ∙ ap (λ p. drop p code) (sym at.place) ∙ ap (λ f. drop after.place (code_at B f.0).code) (sym at.function)
-              ; fine = fine_drop B c.result skip rest (drop 1 c.shapes) (fine_rest B c.result i rest c.shapes (subst (λ is. IsFine B c.result is c.shapes) b.next.is b.top.is.fine))
-              ; locals = subst (λ l. AllStandFor (kind_of m P) P.types new (numbers_of l) ls vs) (sym at.locals) locals
-              ; operands = subst (λ l. AllStandFor (kind_of m P) P.types new (numbers_of (reverse l)) os us) (sym at.operands) operands
-              }
-          ; starts = dropped_head (drop 1 c.shapes) skip ∙ to
-          }
+      sym (drop_more code (frame.place + 1) skip) ∙ ap (drop skip) (sym (drop_more code frame.place 1) ∙ ap (drop 1) (sym b.top.is.left ∙ b.next.is)) in
+      record {
+        is = record {
+          there = subst (λ f. f.0 < length P.functions) (sym at.function) b.top.is.there;
+          result = b.top.is.result ∙ ap (λ f. (code_at B f.0).result) (sym at.function);
+          left = sym behind ∙ ap (λ p. drop p code) (sym at.place) ∙ ap (λ f. drop after.place (code_at B f.0).code) (sym at.function);
+          fine = fine_drop B c.result skip rest (drop 1 c.shapes) (fine_rest B c.result i rest c.shapes (subst (λ is. IsFine B c.result is c.shapes) b.next.is b.top.is.fine));
+          locals = subst (λ l. AllStandFor (kind_of m P) P.types new (numbers_of l) ls vs) (sym at.locals) locals;
+          operands = subst (λ l. AllStandFor (kind_of m P) P.types new (numbers_of (reverse l)) os us) (sym at.operands) operands;
+        };
+        starts = dropped_head (drop 1 c.shapes) skip ∙ to;
+      }
 
   -- the frame goes on with these locals and operands, `skip` instructions further than the next one
   pub goes_on : (nodes new : List Node) (frame after : Frame) (i : Instruction) (c : ValueFrame) → Before m P nodes frame i c
@@ -110,15 +110,15 @@ module _ (m : Marking) (P : Program) where
       → AllStandFor (kind_of m P) P.types new (numbers_of (reverse works_on)) os us
       → ((next : Next (CauseOf m) (StateOf m)) (k : ℕ) (w : StateOf m) → act (generated P) (mode_of m P) (calls c.depth) i next (tie c.local_types c.locals) (tie c.operand_types c.operands) k w ≡ next skip (tie ls vs) (tie os us) k w)
       → GoesOn m P new c after
-  goes_on nodes new frame after i c b skip has works_on ls os vs us at to locals operands same =
-      ( moved c b.next.rest skip ls os vs us
-      , moved_top nodes new frame after i c b skip has works_on ls os vs us at to locals operands
-      , record { depth = refl; result = refl; shorter = shorter_behind i b.next.rest skip c.left b.next.is }
-      , λ k w.
-          ap (λ is. exec (generated P) (mode_of m P) (calls c.depth) is 0 (tie c.local_types c.locals) (tie c.operand_types c.operands) k w) b.next.is
-          ∙ same (exec (generated P) (mode_of m P) (calls c.depth) b.next.rest) k w
-          ∙ jump (CauseOf m) (StateOf m) (generated P) (mode_of m P) c.depth skip b.next.rest (tie ls vs) (tie os us) k w
-      )
+  goes_on nodes new frame after i c b skip has works_on ls os vs us at to locals operands same = (
+    moved c b.next.rest skip ls os vs us,
+    moved_top nodes new frame after i c b skip has works_on ls os vs us at to locals operands,
+    record { depth = refl; result = refl; shorter = shorter_behind i b.next.rest skip c.left b.next.is },
+    λ k w.
+        ap (λ is. exec (generated P) (mode_of m P) (calls c.depth) is 0 (tie c.local_types c.locals) (tie c.operand_types c.operands) k w) b.next.is
+        ∙ same (exec (generated P) (mode_of m P) (calls c.depth) b.next.rest) k w
+        ∙ jump (CauseOf m) (StateOf m) (generated P) (mode_of m P) c.depth skip b.next.rest (tie ls vs) (tie os us) k w,
+  )
 
 pub all_keep : (kind : Kind) (types : List (List (List Ty))) (old new : List Node) → Keeps old new → (rs : List ℕ) (ts : List Ty) (vs : Values) → AllStandFor kind types old rs ts vs → AllStandFor kind types new rs ts vs
 all_keep kind types old new k [] [] NoV h = h
@@ -143,10 +143,10 @@ module _ (m : Marking) (P : Program) (nodes new : List Node) (keeps : Keeps node
   pushes kept r t v os us at to stands below same =
       let here : frame.place + 1 ≡ frame.place + 1 + 0 = omega arith in
       goes_on m P nodes new frame after i c b 0 frame.locals.items (kept ++ r ∷ []) c.local_types (t ∷ os) c.locals (AndV v us)
-          (subst (λ p. IsAt frame p frame.locals.items (kept ++ r ∷ []) after) here at) to
-          (all_keep (kind_of m P) P.types nodes new keeps _ _ _ b.top.is.locals)
-          (subst (λ l. AllStandFor (kind_of m P) P.types new (numbers_of l) (t ∷ os) (AndV v us)) (sym (reverse_push kept r)) (stands, all_keep (kind_of m P) P.types nodes new keeps _ _ _ below))
-          same
+      (subst (λ p. IsAt frame p frame.locals.items (kept ++ r ∷ []) after) here at) to
+      (all_keep (kind_of m P) P.types nodes new keeps _ _ _ b.top.is.locals)
+      (subst (λ l. AllStandFor (kind_of m P) P.types new (numbers_of l) (t ∷ os) (AndV v us)) (sym (reverse_push kept r)) (stands, all_keep (kind_of m P) P.types nodes new keeps _ _ _ below))
+      same
 
 module _ (m : Marking) (P : Program) (nodes : List Node) (frame : Frame) (i : Instruction) (c : ValueFrame) (b : Before m P nodes frame i c) where
   -- the run of the frame is that of its next instruction

@@ -13,12 +13,12 @@ use Rattle.mode_vm.proofs.Lifting.{frame_keeps, waits_keep}
 
 module _ (m : Marking) (P : Program) (z : Ty) (old new : List Node) (keeps : Keeps old new) (state : State) where
   shows_on : (cs : ValueStack) → Represents m P z old state cs → Represents m P z new state cs
-  shows_on cs h = record
-      { top = record { is = frame_keeps m P old new keeps state.top cs.top h.top.is; starts = h.top.starts }
-      ; waits = waits_keep m P old new keeps z cs.top.result (reverse state.waiting.items) cs.waits h.waits
-      ; deep = h.deep
-      ; deep_below = h.deep_below
-      }
+  shows_on cs h = record {
+    top = record { is = frame_keeps m P old new keeps state.top cs.top h.top.is; starts = h.top.starts };
+    waits = waits_keep m P old new keeps z cs.top.result (reverse state.waiting.items) cs.waits h.waits;
+    deep = h.deep;
+    deep_below = h.deep_below;
+  }
 
   pub ready_on : Ready m P z old state → Ready m P z new state
   ready_on h = (h.0, shows_on h.0 h.1)

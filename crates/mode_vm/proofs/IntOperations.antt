@@ -37,7 +37,7 @@ module _ (m : Marking) (P : Program) (nodes : List Node) (frame : Frame) (op : A
 
   pub arith_acts : {E : Type 0} (new : List Node) → Keeps nodes new → (mid after : Frame) → IsAt frame frame.place frame.locals.items last mid → (made : Result Ref Trap)
       → ((x y : Value) → StandsFor (kind_of m P) P.types nodes first.0 IntTy x → StandsFor (kind_of m P) P.types nodes second.0 IntTy y
-          → Makes m (kind_of m P) P.types new IntTy (arith_of op (int_in x) (int_in y)) made)
+      → Makes m (kind_of m P) P.types new IntTy (arith_of op (int_in x) (int_in y)) made)
       → (result : Result (Option Trap) E) → Finishes mid made after result → Acts m P new c after result
   arith_acts = two_acts m P nodes frame (ArithOp op) c b last first second top IntTy IntTy IntTy takes (λ x y. arith_of op (int_in x) (int_in y)) same
     where
@@ -63,7 +63,7 @@ module _ (m : Marking) (P : Program) (nodes : List Node) (frame : Frame) (op : C
       → (result : Result (Option Trap) E) → Finishes mid (Ok r) after result → Acts m P new c after result
   compare_acts new keeps mid after at r x y first_is second_is stands =
       two_acts m P nodes frame (CompareOp op) c b last first second top IntTy IntTy BoolTy compares run same new keeps mid after at (Ok r)
-          (λ u v h j. (BoolV (compare_of op x y), stands, λ k w. ap₂ (λ u v. Gives (BoolV (compare_of op (int_in u) (int_in v))) k w) (first_is u h) (second_is v j)))
+      (λ u v h j. (BoolV (compare_of op x y), stands, λ k w. ap₂ (λ u v. Gives (BoolV (compare_of op (int_in u) (int_in v))) k w) (first_is u h) (second_is v j)))
     where
       run : Value → Value → ℕ → StateOf m → Run (CauseOf m) (StateOf m) Value
       run u v k w = Gives (BoolV (compare_of op (int_in u) (int_in v))) k w

@@ -22,10 +22,14 @@ use Rattle.mode_vm.proofs.Frames.{all_keep}
 
 module _ (m : Marking) (P : Program) (old new : List Node) (keeps : Keeps old new) where
   pub frame_keeps : (frame : Frame) (c : ValueFrame) → IsFrame m P old frame c → IsFrame m P new frame c
-  frame_keeps frame c h = record
-      { there = h.there; result = h.result; left = h.left; fine = h.fine
-      ; locals = all_keep (kind_of m P) P.types old new keeps _ _ _ h.locals
-      ; operands = all_keep (kind_of m P) P.types old new keeps _ _ _ h.operands }
+  frame_keeps frame c h = record {
+    there = h.there;
+    result = h.result;
+    left = h.left;
+    fine = h.fine;
+    locals = all_keep (kind_of m P) P.types old new keeps _ _ _ h.locals;
+    operands = all_keep (kind_of m P) P.types old new keeps _ _ _ h.operands;
+  }
 
   pub waits_keep : (z t : Ty) (fs : List Frame) (cs : List ValueFrame) → AreWaiting m P old z t fs cs → AreWaiting m P new z t fs cs
   waits_keep z t [] [] h = h
@@ -36,21 +40,21 @@ module _ (m : Marking) (P : Program) (old new : List Node) (keeps : Keeps old ne
   -- from the running frame to the machine
   pub lifted : (E : Type 0) (z : Ty) (before after : State) (cs : ValueStack) → Represents m P z old before cs → before.entered ≡ true → after.entered ≡ before.entered → after.fuel ≡ before.fuel → after.waiting ≡ before.waiting
       → (trapped : Option Trap) → Acts m P new {E = E} cs.top after.top (Ok trapped) → Leads m P z new {E = E} true before.fuel cs after (Ok (step_told trapped))
-  lifted E z before after cs shows entered stays fuel waiting None acts =
-      ( record { top = acts.0; waits = cs.waits }
-      , record
-          { top = acts.1
-          ; waits = subst (λ t. AreWaiting m P new z t (reverse after.waiting.items) cs.waits) (sym acts.2.result)
-              (subst (λ v. AreWaiting m P new z cs.top.result (reverse v.items) cs.waits) (sym waiting) (waits_keep z cs.top.result (reverse before.waiting.items) cs.waits shows.waits))
-          ; deep = subst (λ b. IsDeep b after.fuel acts.0) (sym (stays ∙ entered)) (subst (λ d. after.fuel ≤ d) (sym acts.2.depth) (subst (λ k. k ≤ cs.top.depth) (sym fuel) (subst (λ b. IsDeep b before.fuel cs.top) entered shows.deep)))
-          ; deep_below = subst (λ k. AreDeep k cs.waits) (sym fuel) shows.deep_below
-          }
-      , λ w. ap (λ c. then_coded c (steps.rest_of (generated P) (mode_of m P) (waiting_of cs.top.result cs.waits))) (acts.3 before.fuel w)
-          ∙ ap (λ t. then_coded (runs_on m P acts.0 before.fuel w) (steps.rest_of (generated P) (mode_of m P) (waiting_of t cs.waits))) (sym acts.2.result)
-          ∙ ap₂ (λ b k. end_of m P b (record { top = acts.0; waits = cs.waits }) k w) (sym (stays ∙ entered)) (sym fuel)
-      , subst (λ b. stack_steps P b after.fuel (record { top = acts.0; waits = cs.waits }) < stack_steps P true before.fuel cs) (sym (stays ∙ entered))
-          (subst (λ k. stack_steps P true k (record { top = acts.0; waits = cs.waits }) < stack_steps P true before.fuel cs) (sym fuel) (let h = acts.2.shorter in omega (arith, h)))
-      )
+  lifted E z before after cs shows entered stays fuel waiting None acts = (
+    record { top = acts.0; waits = cs.waits },
+    record {
+      top = acts.1;
+      waits = subst (λ t. AreWaiting m P new z t (reverse after.waiting.items) cs.waits) (sym acts.2.result)
+          (subst (λ v. AreWaiting m P new z cs.top.result (reverse v.items) cs.waits) (sym waiting) (waits_keep z cs.top.result (reverse before.waiting.items) cs.waits shows.waits));
+      deep = subst (λ b. IsDeep b after.fuel acts.0) (sym (stays ∙ entered)) (subst (λ d. after.fuel ≤ d) (sym acts.2.depth) (subst (λ k. k ≤ cs.top.depth) (sym fuel) (subst (λ b. IsDeep b before.fuel cs.top) entered shows.deep)));
+      deep_below = subst (λ k. AreDeep k cs.waits) (sym fuel) shows.deep_below;
+    },
+    λ w. ap (λ c. then_coded c (steps.rest_of (generated P) (mode_of m P) (waiting_of cs.top.result cs.waits))) (acts.3 before.fuel w)
+        ∙ ap (λ t. then_coded (runs_on m P acts.0 before.fuel w) (steps.rest_of (generated P) (mode_of m P) (waiting_of t cs.waits))) (sym acts.2.result)
+        ∙ ap₂ (λ b k. end_of m P b (record { top = acts.0; waits = cs.waits }) k w) (sym (stays ∙ entered)) (sym fuel),
+    subst (λ b. stack_steps P b after.fuel (record { top = acts.0; waits = cs.waits }) < stack_steps P true before.fuel cs) (sym (stays ∙ entered))
+        (subst (λ k. stack_steps P true k (record { top = acts.0; waits = cs.waits }) < stack_steps P true before.fuel cs) (sym fuel) (let h = acts.2.shorter in omega (arith, h))),
+  )
   lifted E z before after cs shows entered stays fuel waiting (Some trap) acts =
       ((λ w. ap (λ c. then_coded c (steps.rest_of (generated P) (mode_of m P) (waiting_of cs.top.result cs.waits))) (acts before.fuel w)), fuel)
 

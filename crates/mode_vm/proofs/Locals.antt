@@ -69,6 +69,6 @@ module _ (m : Marking) (P : Program) (nodes : List Node) (frame : Frame) (i : �
   load_acts after r is result finishes =
       let same : here.r ≡ r = some_same here.r r (sym here.there ∙ is) in
       made_acts m P nodes nodes (λ kind types r t v h. h) frame after (Load i) c b frame.operands.items found.0 c.operand_types c.operands (λ k w. Gives here.v k w)
-          (λ next k w. ap (λ o. where_some o (λ x. next 0 (tie c.local_types c.locals) (x ∷ tie c.operand_types c.operands) k w)) here.tied)
-          found.2 b.top.is.operands (Ok r)
-          (here.v, subst (λ r. StandsFor (kind_of m P) P.types nodes r.0 found.0 here.v) same here.stands, λ k w. refl) result finishes
+      (λ next k w. ap (λ o. where_some o (λ x. next 0 (tie c.local_types c.locals) (x ∷ tie c.operand_types c.operands) k w)) here.tied)
+      found.2 b.top.is.operands (Ok r)
+      (here.v, subst (λ r. StandsFor (kind_of m P) P.types nodes r.0 found.0 here.v) same here.stands, λ k w. refl) result finishes

@@ -25,11 +25,12 @@ use Rattle.mode_vm.proofs.Operands.{One, Two, TakesOne, TakesTwo, one_popped, tw
 
 module _ (frame mid after : Frame) (kept : List Ref) (popped : IsAt frame frame.place frame.locals.items kept mid) where
   pub from_popped : (r : Ref) → IsAt mid (mid.place + 1) mid.locals.items (mid.operands.items ++ r ∷ []) after → IsAt frame (frame.place + 1) frame.locals.items (kept ++ r ∷ []) after
-  from_popped r at = record
-      { function = at.function ∙ popped.function
-      ; place = at.place ∙ ap (λ p. p + 1) popped.place
-      ; locals = at.locals ∙ popped.locals
-      ; operands = at.operands ∙ ap (λ l. l ++ r ∷ []) popped.operands }
+  from_popped r at = record {
+    function = at.function ∙ popped.function;
+    place = at.place ∙ ap (λ p. p + 1) popped.place;
+    locals = at.locals ∙ popped.locals;
+    operands = at.operands ∙ ap (λ l. l ++ r ∷ []) popped.operands;
+  }
 
   pub finishes_on : {E : Type 0} (made : Result Ref Trap) (result : Result (Option Trap) E) → Finishes mid made after result → FinishesOn frame kept made after result
   finishes_on (Ok r) (Ok None) h = from_popped r h
@@ -49,7 +50,7 @@ module _ (m : Marking) (P : Program) (nodes new : List Node) (keeps : Keeps node
       → (made : Result Ref Trap) → Makes m (kind_of m P) P.types new t run made → (result : Result (Option Trap) E) → FinishesOn frame kept made after result → Acts m P new c after result
   made_acts acts to below (Ok r) tells (Ok None) at =
       pushes m P nodes new keeps frame after i c b kept r t tells.0 ts us at to tells.1 below
-          (λ next k w. acts next k w ∙ ap (λ r. then_code r (λ v k w. next 0 (tie c.local_types c.locals) (held t v ∷ tie ts us) k w)) (tells.2 k w))
+      (λ next k w. acts next k w ∙ ap (λ r. then_code r (λ v k w. next 0 (tie c.local_types c.locals) (held t v ∷ tie ts us) k w)) (tells.2 k w))
   made_acts acts to below (Err trap) tells (Ok (Some told)) same =
       λ k w. let next = exec (generated P) (mode_of m P) (calls m P c.depth) b.next.rest in
       runs_first m P nodes frame i c b k w ∙ acts next k w
@@ -89,8 +90,8 @@ module _ (m : Marking) (P : Program) (nodes : List Node) (frame : Frame) (i : In
       → (result : Result (Option Trap) E) → Finishes mid made after result → Acts m P new c after result
   one_acts run acts new keeps mid after at made makes result finishes =
       made_acts m P nodes new keeps frame after i c b last u takes.below on_one.below (run on_one.x)
-          (λ next k w. acts_one next k w ∙ acts on_one.x on_one.stands next (tie c.local_types c.locals) (tie takes.below on_one.below) k w)
-          takes.goes on_one.rest made (makes on_one.x on_one.stands) result (finishes_on frame mid after last at made result finishes)
+      (λ next k w. acts_one next k w ∙ acts on_one.x on_one.stands next (tie c.local_types c.locals) (tie takes.below on_one.below) k w)
+      takes.goes on_one.rest made (makes on_one.x on_one.stands) result (finishes_on frame mid after last at made result finishes)
 
 -- two operands
 module _ (m : Marking) (P : Program) (nodes : List Node) (frame : Frame) (i : Instruction) (c : ValueFrame) (b : Before m P nodes frame i c)
@@ -122,9 +123,9 @@ module _ (m : Marking) (P : Program) (nodes : List Node) (frame : Frame) (i : In
   pub two_acts : {E : Type 0} (run : Value → Value → ℕ → StateOf m → Run (CauseOf m) (StateOf m) Value) → ActsOnTwo run
       → (new : List Node) → Keeps nodes new → (mid after : Frame) → IsAt frame frame.place frame.locals.items last mid → (made : Result Ref Trap)
       → ((x y : Value) → StandsFor (kind_of m P) P.types nodes first.0 s x → StandsFor (kind_of m P) P.types nodes second.0 t y
-          → Makes m (kind_of m P) P.types new u (run x y) made)
+      → Makes m (kind_of m P) P.types new u (run x y) made)
       → (result : Result (Option Trap) E) → Finishes mid made after result → Acts m P new c after result
   two_acts run acts new keeps mid after at made makes result finishes =
       made_acts m P nodes new keeps frame after i c b last u takes.below on_two.below (run on_two.x on_two.y)
-          (λ next k w. acts_two next k w ∙ acts on_two.x on_two.y on_two.first_stands on_two.second_stands next (tie c.local_types c.locals) (tie takes.below on_two.below) k w)
-          takes.goes on_two.rest made (makes on_two.x on_two.y on_two.first_stands on_two.second_stands) result (finishes_on frame mid after last at made result finishes)
+      (λ next k w. acts_two next k w ∙ acts on_two.x on_two.y on_two.first_stands on_two.second_stands next (tie c.local_types c.locals) (tie takes.below on_two.below) k w)
+      takes.goes on_two.rest made (makes on_two.x on_two.y on_two.first_stands on_two.second_stands) result (finishes_on frame mid after last at made result finishes)

@@ -81,14 +81,14 @@ module _ (m : Marking) (P : Program) (z : Ty) (old new : List Node) (keeps : Kee
     pub opened_shows : Represents m P z new after opened_cores
     opened_shows =
         let here_place : before.top.place + 1 ≡ before.top.place + 1 + 0 = omega arith in
-        record
-        { top = moved_top m P old new before.top after.top (Unauth t) cs.top here 0 before.top.locals.items (kept ++ r ∷ []) cs.top.local_types (t ∷ operand.below_types) cs.top.locals (AndV y operand.below)
-            (subst (λ p. IsAt before.top p before.top.locals.items (kept ++ r ∷ []) after.top) here_place at) operand.goes
-            (all_keep (kind_of m P) P.types old new keeps _ _ _ shows.top.is.locals)
-            (subst (λ l. AllStandFor (kind_of m P) P.types new (numbers_of l) (t ∷ operand.below_types) (AndV y operand.below)) (sym (reverse_push kept r)) (stands, all_keep (kind_of m P) P.types old new keeps _ _ _ operand.others))
-        ; waits = subst (λ v. AreWaiting m P new z cs.top.result (reverse v.items) cs.waits) (sym others.waiting) (waits_keep m P old new keeps z cs.top.result (reverse before.waiting.items) cs.waits shows.waits)
-        ; deep = subst (λ b. IsDeep b after.fuel opened_cores.top) (sym (others.entered ∙ entered)) (subst (λ k. k ≤ cs.top.depth) (sym others.fuel) (subst (λ b. IsDeep b before.fuel cs.top) entered shows.deep))
-        ; deep_below = subst (λ k. AreDeep k cs.waits) (sym others.fuel) shows.deep_below
+        record {
+          top = moved_top m P old new before.top after.top (Unauth t) cs.top here 0 before.top.locals.items (kept ++ r ∷ []) cs.top.local_types (t ∷ operand.below_types) cs.top.locals (AndV y operand.below)
+              (subst (λ p. IsAt before.top p before.top.locals.items (kept ++ r ∷ []) after.top) here_place at) operand.goes
+              (all_keep (kind_of m P) P.types old new keeps _ _ _ shows.top.is.locals)
+              (subst (λ l. AllStandFor (kind_of m P) P.types new (numbers_of l) (t ∷ operand.below_types) (AndV y operand.below)) (sym (reverse_push kept r)) (stands, all_keep (kind_of m P) P.types old new keeps _ _ _ operand.others));
+          waits = subst (λ v. AreWaiting m P new z cs.top.result (reverse v.items) cs.waits) (sym others.waiting) (waits_keep m P old new keeps z cs.top.result (reverse before.waiting.items) cs.waits shows.waits);
+          deep = subst (λ b. IsDeep b after.fuel opened_cores.top) (sym (others.entered ∙ entered)) (subst (λ k. k ≤ cs.top.depth) (sym others.fuel) (subst (λ b. IsDeep b before.fuel cs.top) entered shows.deep));
+          deep_below = subst (λ k. AreDeep k cs.waits) (sym others.fuel) shows.deep_below;
         }
 
     -- another value that the node stands for is the same

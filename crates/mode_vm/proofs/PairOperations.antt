@@ -36,11 +36,11 @@ module _ (m : Marking) (P : Program) (nodes : List Node) (frame : Frame) (c : Va
 
   pub pair_acts : {E : Type 0} (new : List Node) → Keeps nodes new → (mid after : Frame) → IsAt frame frame.place frame.locals.items last mid → (made : Result Ref Trap)
       → ((s t : Ty) (x y : Value) → StandsFor (kind_of m P) P.types nodes first.0 s x → StandsFor (kind_of m P) P.types nodes second.0 t y
-          → Makes m (kind_of m P) P.types new (PairTy s t) (limited P.format.limit P.types (PairTy s t) (PairV x y)) made)
+      → Makes m (kind_of m P) P.types new (PairTy s t) (limited P.format.limit P.types (PairTy s t) (PairV x y)) made)
       → (result : Result (Option Trap) E) → Finishes mid made after result → Acts m P new c after result
   pair_acts new keeps mid after at made makes =
       two_acts m P nodes frame Pair c b last first second top parts.0 parts.1 (PairTy parts.0 parts.1) parts.2
-          (λ x y. limited P.format.limit P.types (PairTy parts.0 parts.1) (PairV x y)) (λ x y h j next env ops k w. refl) new keeps mid after at made (makes parts.0 parts.1)
+      (λ x y. limited P.format.limit P.types (PairTy parts.0 parts.1) (PairV x y)) (λ x y h j next env ops k w. refl) new keeps mid after at made (makes parts.0 parts.1)
 
 module _ (m : Marking) (P : Program) (nodes : List Node) (frame : Frame) (c : ValueFrame) (b : Before m P nodes frame Fst c)
     (last : List Ref) (r : Ref) (top : frame.operands.items ≡ last ++ r ∷ []) where
@@ -54,11 +54,11 @@ module _ (m : Marking) (P : Program) (nodes : List Node) (frame : Frame) (c : Va
 
   pub first_acts : {E : Type 0} (mid after : Frame) → IsAt frame frame.place frame.locals.items last mid → (part : Ref)
       → ((s t : Ty) (v : Value) → StandsFor (kind_of m P) P.types nodes r.0 (PairTy s t) v
-          → (x : Value) × (y : Value) × (v ≡ PairV x y) × StandsFor (kind_of m P) P.types nodes part.0 s x)
+      → (x : Value) × (y : Value) × (v ≡ PairV x y) × StandsFor (kind_of m P) P.types nodes part.0 s x)
       → (result : Result (Option Trap) E) → Finishes mid (Ok part) after result → Acts m P nodes c after result
   first_acts mid after at part is =
       one_acts m P nodes frame Fst c b last r top (PairTy first_takes.0 first_takes.1) first_takes.0 first_takes.2 run same nodes (λ kind types r t v h. h) mid after at (Ok part)
-          (λ v h. let p = is first_takes.0 first_takes.1 v h in (p.0, p.3, λ k w. ap (λ v. Gives (first_in v) k w) p.2))
+      (λ v h. let p = is first_takes.0 first_takes.1 v h in (p.0, p.3, λ k w. ap (λ v. Gives (first_in v) k w) p.2))
     where
       run : Value → ℕ → StateOf m → Run (CauseOf m) (StateOf m) Value
       run v k w = Gives (first_in v) k w
@@ -79,11 +79,11 @@ module _ (m : Marking) (P : Program) (nodes : List Node) (frame : Frame) (c : Va
 
   pub second_acts : {E : Type 0} (mid after : Frame) → IsAt frame frame.place frame.locals.items last mid → (part : Ref)
       → ((s t : Ty) (v : Value) → StandsFor (kind_of m P) P.types nodes r.0 (PairTy s t) v
-          → (x : Value) × (y : Value) × (v ≡ PairV x y) × StandsFor (kind_of m P) P.types nodes part.0 t y)
+      → (x : Value) × (y : Value) × (v ≡ PairV x y) × StandsFor (kind_of m P) P.types nodes part.0 t y)
       → (result : Result (Option Trap) E) → Finishes mid (Ok part) after result → Acts m P nodes c after result
   second_acts mid after at part is =
       one_acts m P nodes frame Snd c b last r top (PairTy second_takes.0 second_takes.1) second_takes.1 second_takes.2 run same nodes (λ kind types r t v h. h) mid after at (Ok part)
-          (λ v h. let p = is second_takes.0 second_takes.1 v h in (p.1, p.3, λ k w. ap (λ v. Gives (second_in v) k w) p.2))
+      (λ v h. let p = is second_takes.0 second_takes.1 v h in (p.1, p.3, λ k w. ap (λ v. Gives (second_in v) k w) p.2))
     where
       run : Value → ℕ → StateOf m → Run (CauseOf m) (StateOf m) Value
       run v k w = Gives (second_in v) k w

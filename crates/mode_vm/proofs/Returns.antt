@@ -68,31 +68,34 @@ module _ (m : Marking) (P : Program) (z : Ty) (nodes : List Node) (old : State) 
         × (length after.top.left + all_left after.waits ≡ all_left ws)
     back t v [] h d s = elim h [ ]
     back t v (c ∷ ws) h d s =
-        let values : ValueFrame = record { depth = c.depth; left = c.left; shapes = c.shapes; result = c.result; local_types = c.local_types; locals = c.locals; operand_types = t ∷ c.operand_types; operands = AndV v c.operands } in
-        ( record { top = values; waits = ws }
-        , record
-            { top = record
-                { is = record
-                    { there = subst (λ f. f.0 < length P.functions) (sym at.function) h.0.is.there
-                    ; result = h.0.is.result ∙ ap (λ f. (code_at B f.0).result) (sym at.function)
-                    ; left = h.0.is.left ∙ ap (λ p. drop p (code_at B caller.function.0).code) (sym at.place) ∙ ap (λ f. drop new.top.place (code_at B f.0).code) (sym at.function)
-                    ; fine = h.0.is.fine
-                    ; locals = subst (λ l. AllStandFor (kind_of m P) P.types nodes (numbers_of l) c.local_types c.locals) (sym at.locals) h.0.is.locals
-                    ; operands = subst (λ l. AllStandFor (kind_of m P) P.types nodes (numbers_of l) (t ∷ c.operand_types) (AndV v c.operands)) (sym (ap reverse at.operands ∙ reverse_push caller.operands.items r)) (s, h.0.is.operands)
-                    }
-                ; starts = h.0.starts
-                }
-            ; waits = subst (λ l. AreWaiting m P nodes z c.result (reverse l) ws) (sym waiting) h.1
-            ; deep = subst (λ b. IsDeep b new.fuel values) (sym (stays ∙ entered)) (subst (λ k. k ≤ c.depth) (sym fuel) d.0)
-            ; deep_below = subst (λ k. AreDeep k ws) (sym fuel) d.1
-            }
-        , (λ k w. refl)
-        , refl
+        let values : ValueFrame = record { depth = c.depth; left = c.left; shapes = c.shapes; result = c.result; local_types = c.local_types; locals = c.locals; operand_types = t ∷ c.operand_types; operands = AndV v c.operands } in (
+          record { top = values; waits = ws },
+          record {
+            top = record {
+              is = record {
+                there = subst (λ f. f.0 < length P.functions) (sym at.function) h.0.is.there;
+                result = h.0.is.result ∙ ap (λ f. (code_at B f.0).result) (sym at.function);
+                left = h.0.is.left ∙ ap (λ p. drop p (code_at B caller.function.0).code) (sym at.place) ∙ ap (λ f. drop new.top.place (code_at B f.0).code) (sym at.function);
+                fine = h.0.is.fine;
+                locals = subst (λ l. AllStandFor (kind_of m P) P.types nodes (numbers_of l) c.local_types c.locals) (sym at.locals) h.0.is.locals;
+                operands = subst (λ l. AllStandFor (kind_of m P) P.types nodes (numbers_of l) (t ∷ c.operand_types) (AndV v c.operands)) (sym (ap reverse at.operands ∙ reverse_push caller.operands.items r)) (s, h.0.is.operands);
+              };
+              starts = h.0.starts;
+            };
+            waits = subst (λ l. AreWaiting m P nodes z c.result (reverse l) ws) (sym waiting) h.1;
+            deep = subst (λ b. IsDeep b new.fuel values) (sym (stays ∙ entered)) (subst (λ k. k ≤ c.depth) (sym fuel) d.0);
+            deep_below = subst (λ k. AreDeep k ws) (sym fuel) d.1;
+          },
+          (λ k w. refl),
+          refl,
         )
 
     pub return_leads : GoesTo m P z nodes true old.fuel cs new
     return_leads =
-        let b = back cs.top.result given.v cs.waits (subst (λ l. AreWaiting m P nodes z cs.top.result l cs.waits) (ap reverse waited ∙ reverse-append others (caller ∷ [])) shows.waits) shows.deep_below given.stands in
-        ( b.0, b.1, (λ w. gives old.fuel w ∙ b.2 old.fuel w ∙ ap₂ (λ e k. end_of m P e b.0 k w) (sym (stays ∙ entered)) (sym fuel))
-        , subst (λ e. stack_steps P e new.fuel b.0 < stack_steps P true old.fuel cs) (sym (stays ∙ entered))
-            (subst (λ k. stack_steps P true k b.0 < stack_steps P true old.fuel cs) (sym fuel) (let l = ap length next.is in let h = b.3 in omega (arith, l, h))) )
+        let b = back cs.top.result given.v cs.waits (subst (λ l. AreWaiting m P nodes z cs.top.result l cs.waits) (ap reverse waited ∙ reverse-append others (caller ∷ [])) shows.waits) shows.deep_below given.stands in (
+          b.0,
+          b.1,
+          (λ w. gives old.fuel w ∙ b.2 old.fuel w ∙ ap₂ (λ e k. end_of m P e b.0 k w) (sym (stays ∙ entered)) (sym fuel)),
+          subst (λ e. stack_steps P e new.fuel b.0 < stack_steps P true old.fuel cs) (sym (stays ∙ entered))
+              (subst (λ k. stack_steps P true k b.0 < stack_steps P true old.fuel cs) (sym fuel) (let l = ap length next.is in let h = b.3 in omega (arith, l, h))),
+        )

@@ -83,23 +83,23 @@ module _ (m : Marking) (P : Program) (typed : IsTyped P) (f : ℕ) (there : f < 
   deep (suc k) = omega arith
 
   shown : Represents m P (function_at P f).result nodes state started
-  shown = record
-      { top = record
-          { is = record
-              { there = subst (λ f. f < length P.functions) (sym starts.function) there
-              ; result = ap (λ f. (code_at B f).result) (sym starts.function)
-              ; left = ap (λ p. drop p (code_at B f).code) (sym starts.place) ∙ ap (λ f. drop state.top.place (code_at B f).code) (sym starts.function)
-              ; fine = accepted.1
-              ; locals = subst (λ l. AllStandFor (kind_of m P) P.types nodes (numbers_of l) (code_at B f).parameters vs) (sym starts.locals)
-                  (subst (λ ts. AllStandFor (kind_of m P) P.types nodes (numbers_of args) ts vs) parameters_same stand)
-              ; operands = subst (λ l. AllStandFor (kind_of m P) P.types nodes (numbers_of (reverse l)) [] NoV) (sym starts.no_operands) tt
-              }
-          ; starts = accepted.2
-          }
-      ; waits = subst (λ l. AreWaiting m P nodes (function_at P f).result (code_at B f).result (reverse l) []) (sym starts.nothing_waits) (ap (λ c. c.result) (code_found P f))
-      ; deep = subst (λ b. IsDeep b state.fuel (values k)) (sym starts.entered) (subst (λ n. n ≤ suc (pred k)) (sym starts.fuel) (deep k))
-      ; deep_below = tt
-      }
+  shown = record {
+    top = record {
+      is = record {
+        there = subst (λ f. f < length P.functions) (sym starts.function) there;
+        result = ap (λ f. (code_at B f).result) (sym starts.function);
+        left = ap (λ p. drop p (code_at B f).code) (sym starts.place) ∙ ap (λ f. drop state.top.place (code_at B f).code) (sym starts.function);
+        fine = accepted.1;
+        locals = subst (λ l. AllStandFor (kind_of m P) P.types nodes (numbers_of l) (code_at B f).parameters vs) (sym starts.locals)
+            (subst (λ ts. AllStandFor (kind_of m P) P.types nodes (numbers_of args) ts vs) parameters_same stand);
+        operands = subst (λ l. AllStandFor (kind_of m P) P.types nodes (numbers_of (reverse l)) [] NoV) (sym starts.no_operands) tt;
+      };
+      starts = accepted.2;
+    };
+    waits = subst (λ l. AreWaiting m P nodes (function_at P f).result (code_at B f).result (reverse l) []) (sym starts.nothing_waits) (ap (λ c. c.result) (code_found P f));
+    deep = subst (λ b. IsDeep b state.fuel (values k)) (sym starts.entered) (subst (λ n. n ≤ suc (pred k)) (sym starts.fuel) (deep k));
+    deep_below = tt;
+  }
 
   pub is_ready : Ready m P (function_at P f).result nodes state
   is_ready = (started, shown)
@@ -114,12 +114,12 @@ module _ (m : Marking) (P : Program) (typed : IsTyped P) (f : ℕ) (there : f < 
   ends_there Stuck = refl
 
   pub will_call : (w : StateOf m) → WillRun m P (function_at P f).result nodes state w (call_from P (mode_of m P) f vs k w)
-  will_call w = record
-      { stack = started
-      ; shows = shown
-      ; ends = ap₂ (λ b n. end_of m P b started n w) starts.entered starts.fuel
-          ∙ ends_there (enters m P (values k) k w) ∙ sym (enters_call k w) ∙ code_is_right P nodes typed m f (numbers_of args) vs stand k w
-      }
+  will_call w = record {
+    stack = started;
+    shows = shown;
+    ends = ap₂ (λ b n. end_of m P b started n w) starts.entered starts.fuel
+        ∙ ends_there (enters m P (values k) k w) ∙ sym (enters_call k w) ∙ code_is_right P nodes typed m f (numbers_of args) vs stand k w;
+  }
 
 pub starts_steps : (P : Program) (f : ℕ) (args : List Ref) (k : ℕ) (state : State) → Starts f args k state → steps_left P state ≡ k * (code_size (generated P).functions + 1)
 starts_steps P f args k state starts =

@@ -70,8 +70,23 @@ module _ (kind : Kind) (types : Table) (nodes : List Node) where
         by (ConV tag vs) s =
             let o = on_some (fields_at types number tag) (λ ts. AllStandFor kind types nodes s.0 ts vs) s.2 in
             let j = f.1 tag o.0 (subst (λ types. fields_at types number tag ≡ Some o.0) (sym same) o.1) in
-            record { tag = tag; fields = s.0; field_types = o.0; values = vs; below_types = os; below = us; skip = j.0
-              ; types_are = ap (λ n. NamedTy n ∷ os) f.0; are = refl; form = s.1; found = o.1; stand = o.2; others = h.1; place = j.1; goes = j.2 }
+            record {
+              tag = tag;
+              fields = s.0;
+              field_types = o.0;
+              values = vs;
+              below_types = os;
+              below = us;
+              skip = j.0;
+              types_are = ap (λ n. NamedTy n ∷ os) f.0;
+              are = refl;
+              form = s.1;
+              found = o.1;
+              stand = o.2;
+              others = h.1;
+              place = j.1;
+              goes = j.2;
+            }
         by v s = elim s [ ]
     taken r rs (NamedTy n ∷ os) NoV f h = elim h [ ]
     taken r rs os us f h = elim f [ ]
@@ -89,16 +104,16 @@ module _ (m : Marking) (P : Program) (nodes : List Node) (frame : Frame) (number
   switched after fields same at =
       let ops = λ (os : List Ty) (us : Values). tie os us in
       goes_on m P nodes nodes frame after (Switch number places) c b apart.skip (frame.locals.items ++ fields) kept (c.local_types ++ apart.field_types) apart.below_types (join c.locals apart.values) apart.below at
-          apart.goes
-          (subst (λ l. AllStandFor (kind_of m P) P.types nodes l (c.local_types ++ apart.field_types) (join c.locals apart.values)) (sym (numbers_append frame.locals.items fields ∙ ap (λ l. numbers_of frame.locals.items ++ l) same))
-              (all_joined (kind_of m P) P.types nodes (numbers_of frame.locals.items) apart.fields c.local_types apart.field_types c.locals apart.values b.top.is.locals apart.stand))
-          apart.others
-          (λ next k w.
-              ap (λ os. act (generated P) (mode_of m P) (calls m P c.depth) (Switch number places) next (tie c.local_types c.locals) (tie os c.operands) k w) apart.types_are
-              ∙ ap (λ us. act (generated P) (mode_of m P) (calls m P c.depth) (Switch number places) next (tie c.local_types c.locals) (tie (NamedTy number ∷ apart.below_types) us) k w) apart.are
-              ∙ ap (λ o. where_some o (λ n. next n (tie c.local_types c.locals ++ tie (unwrap_or (fields_at P.types number apart.tag) []) apart.values) (tie apart.below_types apart.below) k w)) apart.place
-              ∙ ap (λ o. next apart.skip (tie c.local_types c.locals ++ tie (unwrap_or o []) apart.values) (tie apart.below_types apart.below) k w) apart.found
-              ∙ ap (λ l. next apart.skip l (tie apart.below_types apart.below) k w) (tie_joined (kind_of m P) P.types nodes (numbers_of frame.locals.items) c.local_types apart.field_types c.locals apart.values b.top.is.locals))
+      apart.goes
+      (subst (λ l. AllStandFor (kind_of m P) P.types nodes l (c.local_types ++ apart.field_types) (join c.locals apart.values)) (sym (numbers_append frame.locals.items fields ∙ ap (λ l. numbers_of frame.locals.items ++ l) same))
+      (all_joined (kind_of m P) P.types nodes (numbers_of frame.locals.items) apart.fields c.local_types apart.field_types c.locals apart.values b.top.is.locals apart.stand))
+      apart.others
+      (λ next k w.
+      ap (λ os. act (generated P) (mode_of m P) (calls m P c.depth) (Switch number places) next (tie c.local_types c.locals) (tie os c.operands) k w) apart.types_are
+      ∙ ap (λ us. act (generated P) (mode_of m P) (calls m P c.depth) (Switch number places) next (tie c.local_types c.locals) (tie (NamedTy number ∷ apart.below_types) us) k w) apart.are
+      ∙ ap (λ o. where_some o (λ n. next n (tie c.local_types c.locals ++ tie (unwrap_or (fields_at P.types number apart.tag) []) apart.values) (tie apart.below_types apart.below) k w)) apart.place
+      ∙ ap (λ o. next apart.skip (tie c.local_types c.locals ++ tie (unwrap_or o []) apart.values) (tie apart.below_types apart.below) k w) apart.found
+      ∙ ap (λ l. next apart.skip l (tie apart.below_types apart.below) k w) (tie_joined (kind_of m P) P.types nodes (numbers_of frame.locals.items) c.local_types apart.field_types c.locals apart.values b.top.is.locals))
 
 con_same : (a b d e : ℕ) (fs gs : List ℕ) → Some (ConNode a b fs) ≡ Some (ConNode d e gs) → (b ≡ e) × (fs ≡ gs)
 con_same a b d e fs gs h = (cc, cc)

@@ -41,7 +41,7 @@ module _ (m : Marking) (P : Program) (nodes : List Node) (frame : Frame) (op : T
       → (result : Result (Option Trap) E) → Finishes mid (Ok r) after result → Acts m P new c after result
   compare_acts new keeps mid after at r x y first_is second_is stands =
       two_acts m P nodes frame (TextCompareOp op) c b last first second top TextTy TextTy BoolTy compares run same new keeps mid after at (Ok r)
-          (λ u v h j. (BoolV (text_compare_of op x y), stands, λ k w. ap₂ (λ u v. Gives (BoolV (text_compare_of op (text_in u) (text_in v))) k w) (first_is u h) (second_is v j)))
+      (λ u v h j. (BoolV (text_compare_of op x y), stands, λ k w. ap₂ (λ u v. Gives (BoolV (text_compare_of op (text_in u) (text_in v))) k w) (first_is u h) (second_is v j)))
     where
       run : Value → Value → ℕ → StateOf m → Run (CauseOf m) (StateOf m) Value
       run u v k w = Gives (BoolV (text_compare_of op (text_in u) (text_in v))) k w
@@ -64,7 +64,7 @@ module _ (m : Marking) (P : Program) (nodes : List Node) (frame : Frame) (c : Va
 
   pub concat_acts : {E : Type 0} (new : List Node) → Keeps nodes new → (mid after : Frame) → IsAt frame frame.place frame.locals.items last mid → (made : Result Ref Trap)
       → ((x y : Value) → StandsFor (kind_of m P) P.types nodes first.0 TextTy x → StandsFor (kind_of m P) P.types nodes second.0 TextTy y
-          → Makes m (kind_of m P) P.types new TextTy (limited P.format.limit P.types TextTy (TextV (text_in x ++ text_in y))) made)
+      → Makes m (kind_of m P) P.types new TextTy (limited P.format.limit P.types TextTy (TextV (text_in x ++ text_in y))) made)
       → (result : Result (Option Trap) E) → Finishes mid made after result → Acts m P new c after result
   concat_acts = two_acts m P nodes frame Cat c b last first second top TextTy TextTy TextTy joins (λ x y. limited P.format.limit P.types TextTy (TextV (text_in x ++ text_in y))) same
     where
@@ -87,7 +87,7 @@ module _ (m : Marking) (P : Program) (nodes : List Node) (frame : Frame) (c : Va
       → (result : Result (Option Trap) E) → Finishes mid (Ok r) after result → Acts m P new c after result
   length_acts new keeps mid after at r bytes is stands =
       one_acts m P nodes frame Len c b last first top TextTy IntTy counts run same new keeps mid after at (Ok r)
-          (λ v h. (IntV (pos (length bytes)), stands, λ k w. ap (λ v. Gives (IntV (pos (length (text_in v)))) k w) (is v h)))
+      (λ v h. (IntV (pos (length bytes)), stands, λ k w. ap (λ v. Gives (IntV (pos (length (text_in v)))) k w) (is v h)))
     where
       run : Value → ℕ → StateOf m → Run (CauseOf m) (StateOf m) Value
       run v k w = Gives (IntV (pos (length (text_in v)))) k w

@@ -96,7 +96,11 @@ impl Frame {
 }
 
 /// Puts a pair, where it is within the limits.
-fn new_pair<N: Nodes>(store: &mut N, first: Ref, second: Ref) -> Result<Result<Ref, Trap>, AllocError>
+fn new_pair<N: Nodes>(
+    store: &mut N,
+    first: Ref,
+    second: Ref,
+) -> Result<Result<Ref, Trap>, AllocError>
     requires first { first.0 < length (N.nodes store.old) }
     requires second { second.0 < length (N.nodes store.old) }
     ensures makes { (m : Marking) (kind : Kind) (types : Table) (a b : Ty) (x y : Value) → StandsFor kind types (N.nodes store.old) first.0 a x → StandsFor kind types (N.nodes store.old) second.0 b y

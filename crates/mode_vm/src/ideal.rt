@@ -17,6 +17,7 @@ pub enum Never {}
 
 impl Mode for IdealMode {
     type Fault = Never;
+
     type World = ();
 
     ghost marking = { IdealMarking };

@@ -62,7 +62,12 @@ impl Frame {
 }
 
 /// Puts the result of an operation on two ints.
-fn new_result<N: Nodes>(store: &mut N, op: Arith, first: Ref, second: Ref) -> Result<Result<Ref, Trap>, AllocError>
+fn new_result<N: Nodes>(
+    store: &mut N,
+    op: Arith,
+    first: Ref,
+    second: Ref,
+) -> Result<Result<Ref, Trap>, AllocError>
     requires first { (kind : Kind) × (types : Table) × (v : Value) × StandsFor kind types (N.nodes store.old) first.0 IntTy v }
     requires second { (kind : Kind) × (types : Table) × (v : Value) × StandsFor kind types (N.nodes store.old) second.0 IntTy v }
     ensures makes { (m : Marking) (kind : Kind) (types : Table) (x y : Value) → StandsFor kind types (N.nodes store.old) first.0 IntTy x → StandsFor kind types (N.nodes store.old) second.0 IntTy y

@@ -36,7 +36,14 @@ impl<M: Mode> Machine<M> {
     ghost use Rattle.mode_vm.specs.Runs.{OnGoes, Ready, RunIs, RunStands, Slices, StepIs, StepStands, WillRun};
 
     /// A machine that is to call a function on these arguments, with this much fuel.
-    pub fn start(code: &Code, function: FunctionId, args: &[Ref], fuel: u64, mode: M, alloc: Global) -> Result<Self, AllocError>
+    pub fn start(
+        code: &Code,
+        function: FunctionId,
+        args: &[Ref],
+        fuel: u64,
+        mode: M,
+        alloc: Global,
+    ) -> Result<Self, AllocError>
         requires there { function.0 < length (meaning (program_in code.now)).functions }
         ensures ready { IfOk result (λ machine. (nodes : List Node) (vs : Values) → AllStandFor (kind_of M.marking (meaning (program_in code.now))) (meaning (program_in code.now)).types nodes (numbers_of args.now) (function_at (meaning (program_in code.now)) function.0).parameters vs
             → Ready M.marking (meaning (program_in code.now)) (function_at (meaning (program_in code.now)) function.0).result nodes machine.state) }
@@ -50,7 +57,13 @@ impl<M: Mode> Machine<M> {
     }
 
     /// Authenticates the top operand, by the mode.
-    fn auth<N: Nodes>(&mut self, code: &Code, store: &mut N, world: &M::World, ty: TyId) -> Result<Step, Stop<M::Fault>>
+    fn auth<N: Nodes>(
+        &mut self,
+        code: &Code,
+        store: &mut N,
+        world: &M::World,
+        ty: TyId,
+    ) -> Result<Step, Stop<M::Fault>>
         requires before { (z : Ty) × (cs : ValueStack) × Represents M.marking (meaning (program_in code.now)) z (N.nodes store.old) self.old.state cs × IsNext (instruction_of (types_of (program_in code.now)) (Instruction.Auth ty)) cs.top }
         requires entered { self.old.state.entered ≡ true }
         requires room { self.old.state.top.place + 1 < 2 ^ 64 }
@@ -78,7 +91,13 @@ impl<M: Mode> Machine<M> {
     }
 
     /// Opens the top operand, by the mode.
-    fn unauth<N: Nodes>(&mut self, code: &Code, store: &mut N, world: &mut M::World, ty: TyId) -> Result<Step, Stop<M::Fault>>
+    fn unauth<N: Nodes>(
+        &mut self,
+        code: &Code,
+        store: &mut N,
+        world: &mut M::World,
+        ty: TyId,
+    ) -> Result<Step, Stop<M::Fault>>
         requires before { (z : Ty) × (cs : ValueStack) × Represents M.marking (meaning (program_in code.now)) z (N.nodes store.old) self.old.state cs × IsNext (instruction_of (types_of (program_in code.now)) (Instruction.Unauth ty)) cs.top }
         requires entered { self.old.state.entered ≡ true }
         requires few { M.opened self.old.mode < 2 ^ 63 }
@@ -108,7 +127,12 @@ impl<M: Mode> Machine<M> {
     }
 
     /// Does one instruction, or enters a function that is called.
-    fn step<N: Nodes>(&mut self, code: &Code, store: &mut N, world: &mut M::World) -> Result<Step, Stop<M::Fault>>
+    fn step<N: Nodes>(
+        &mut self,
+        code: &Code,
+        store: &mut N,
+        world: &mut M::World,
+    ) -> Result<Step, Stop<M::Fault>>
         requires ready { (z : Ty) × Ready M.marking (meaning (program_in code.now)) z (N.nodes store.old) self.old.state }
         requires few { M.opened self.old.mode < 2 ^ 63 }
         ensures stands { (z : Ty) → Ready M.marking (meaning (program_in code.now)) z (N.nodes store.old) self.old.state → StepStands M.marking (meaning (program_in code.now)) z (N.nodes store.new) self.new.state result }
@@ -139,7 +163,13 @@ impl<M: Mode> Machine<M> {
     }
 
     /// Runs until a further call is due when `units` calls were made in this slice and fuel is left, and there pauses; or to the end.
-    pub fn run_slice<N: Nodes>(&mut self, code: &Code, store: &mut N, world: &mut M::World, units: u64) -> Result<Step, Stop<M::Fault>>
+    pub fn run_slice<N: Nodes>(
+        &mut self,
+        code: &Code,
+        store: &mut N,
+        world: &mut M::World,
+        units: u64,
+    ) -> Result<Step, Stop<M::Fault>>
         requires ready { (z : Ty) × Ready M.marking (meaning (program_in code.now)) z (N.nodes store.old) self.old.state }
         requires few { M.opened self.old.mode + steps_left (meaning (program_in code.now)) self.old.state < 2 ^ 63 }
         requires some { 0 < units }
@@ -169,7 +199,12 @@ impl<M: Mode> Machine<M> {
     }
 
     /// Runs to the end.
-    pub fn run<N: Nodes>(&mut self, code: &Code, store: &mut N, world: &mut M::World) -> Result<Outcome<Ref>, Stop<M::Fault>>
+    pub fn run<N: Nodes>(
+        &mut self,
+        code: &Code,
+        store: &mut N,
+        world: &mut M::World,
+    ) -> Result<Outcome<Ref>, Stop<M::Fault>>
         requires ready { (z : Ty) × Ready M.marking (meaning (program_in code.now)) z (N.nodes store.old) self.old.state }
         requires few { M.opened self.old.mode + steps_left (meaning (program_in code.now)) self.old.state < 2 ^ 63 }
         ensures stands { (z : Ty) → Ready M.marking (meaning (program_in code.now)) z (N.nodes store.old) self.old.state → RunStands M.marking (meaning (program_in code.now)) z (N.nodes store.new) result }
@@ -193,7 +228,11 @@ impl<M: Mode> Machine<M> {
     pub fn into_mode(self) -> M
         ensures { result ≡ self.mode }
     {
-        let Machine { mode, state, alloc: _ } = self;
+        let Machine {
+            mode,
+            state,
+            alloc: _,
+        } = self;
         drop(state);
         mode
     }

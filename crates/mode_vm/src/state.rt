@@ -44,7 +44,12 @@ impl State {
     ghost use Rattle.mode_vm.specs.StateParts.{Begins, IsAt, IsElseSame, Spent, Starts};
 
     /// The state in which a function is to be called on these arguments.
-    pub(crate) fn start(function: FunctionId, args: &[Ref], fuel: u64, alloc: Global) -> Result<State, AllocError>
+    pub(crate) fn start(
+        function: FunctionId,
+        args: &[Ref],
+        fuel: u64,
+        alloc: Global,
+    ) -> Result<State, AllocError>
         ensures { IfOk result (Starts function.0 args.now fuel) }
     {
         let locals = args.to_vec(alloc)?;
@@ -169,7 +174,13 @@ impl State {
     }
 
     /// Does an instruction that asks nothing of the mode.
-    pub(crate) fn act<N: Nodes>(&mut self, code: &Code, store: &mut N, instruction: &Instruction, alloc: Global) -> Result<Step, AllocError>
+    pub(crate) fn act<N: Nodes>(
+        &mut self,
+        code: &Code,
+        store: &mut N,
+        instruction: &Instruction,
+        alloc: Global,
+    ) -> Result<Step, AllocError>
         requires before { (m : Marking) × (z : Ty) × (cs : ValueStack) × Represents m (meaning (program_in code.now)) z (N.nodes store.old) self.old cs × IsNext (instruction_of (types_of (program_in code.now)) instruction.now) cs.top }
         requires plain { is_plain (instruction_of (types_of (program_in code.now)) instruction.now) ≡ true }
         requires entered { self.old.entered ≡ true }

@@ -9,10 +9,10 @@ pub returns-in-Some : goal.returns-in-Some
 returns-in-Some c =
     let p = c.program.result.now in
     fields_counted p _ c.args.named.0 c.args.tag.0 c.len.result _ c.program.ensures c.field_types.ensures
-        (c.len.ensures ∙ sym (length-map c.in-Some.types.now _) ∙ sym (ap (λ o. length (unwrap_or (option_map (λ ids. tys_of p ids.now) o) [])) c.in-Some.is))
+    (c.len.ensures ∙ sym (length-map c.in-Some.types.now _) ∙ sym (ap (λ o. length (unwrap_or (option_map (λ ids. tys_of p ids.now) o) [])) c.in-Some.is))
 
 pub returns-in-None : goal.returns-in-None
 returns-in-None c =
     let p = c.program.result.now in
     fields_counted p _ c.args.named.0 c.args.tag.0 0 _ c.program.ensures c.field_types.ensures
-        (sym (ap (λ o. length (unwrap_or (option_map (λ ids. tys_of p ids.now) o) [])) c.in-None.is))
+    (sym (ap (λ o. length (unwrap_or (option_map (λ ids. tys_of p ids.now) o) [])) c.in-None.is))

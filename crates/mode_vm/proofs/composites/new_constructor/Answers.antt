@@ -52,6 +52,8 @@ returns-clause-makes g c m kind types ts vs at stand =
     let fits = leb-true (total_size nodes rs) 65535 (sym c.sizes_fit.ensures ∙ c.if-not-sizes_fit.false) in
     let within = leb-true (greatest_depth nodes rs) 511 (sym c.depths_fit.ensures ∙ c.if-not-depths_fit.false) in
     let small : size types (NamedTy number) (ConV tag vs) ≤ size_limit = omega (arith, size_is, fits) in
-    let shallow : depth types (NamedTy number) (ConV tag vs) ≤ depth_limit = omega (arith, depth_is, within) in
-    (ConV tag vs, c.in_ok-r.ensures.stands kind types ts vs at stand,
-      λ k w. limited_gives size_limit types (NamedTy number) (ConV tag vs) k w (le-ltb _ _ small) (le-ltb _ _ shallow))
+    let shallow : depth types (NamedTy number) (ConV tag vs) ≤ depth_limit = omega (arith, depth_is, within) in (
+      ConV tag vs,
+      c.in_ok-r.ensures.stands kind types ts vs at stand,
+      λ k w. limited_gives size_limit types (NamedTy number) (ConV tag vs) k w (le-ltb _ _ small) (le-ltb _ _ shallow),
+    )

@@ -16,4 +16,4 @@ returns-in-Ok-clause-outcome g c vs stand =
     let P = meaning (program_in c.args.code.now) in
     let z = (function_at P c.args.function.0).result in
     tells_outcome P z {F = Unit {0}} (λ f. None) (λ w. Unit {0}) (g.N.Nodes.nodes c.run.new.store) _ c.in-Ok.outcome (ideal P c.args.function.0 vs c.args.fuel)
-        (c.in-Ok.ensures.is z [] (ideal P c.args.function.0 vs c.args.fuel) tt (c.in_ok-machine.ensures.will (g.N.Nodes.nodes c.args.store.now) vs [] stand))
+    (c.in-Ok.ensures.is z [] (ideal P c.args.function.0 vs c.args.fuel) tt (c.in_ok-machine.ensures.will (g.N.Nodes.nodes c.args.store.now) vs [] stand))

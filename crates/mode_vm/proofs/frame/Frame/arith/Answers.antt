@@ -8,8 +8,8 @@ pub returns-clause-does : goal.returns-clause-does
 returns-clause-does g c m values b =
     let P = meaning (program_in c.args.code.now) in
     arith_acts m P (g.N.Nodes.nodes c.args.store.now) c.args.self.now c.args.op values b c.pop_two.new.self.operands.items _ _ c.pop_two.ensures.top
-        (g.N.Nodes.nodes c.new_result.new.store) c.new_result.ensures.keeps c.pop_two.new.self c.finish.new.self c.pop_two.ensures.at c.in_ok-made.made
-        (λ x y h j. c.in_ok-made.ensures.makes m (kind_of m P) P.types x y h j) c.finish.result c.finish.ensures
+    (g.N.Nodes.nodes c.new_result.new.store) c.new_result.ensures.keeps c.pop_two.new.self c.finish.new.self c.pop_two.ensures.at c.in_ok-made.made
+    (λ x y h j. c.in_ok-made.ensures.makes m (kind_of m P) P.types x y h j) c.finish.result c.finish.ensures
 
 pub new_result-requires-clause-first : goal.new_result-requires-clause-first
 new_result-requires-clause-first g c =

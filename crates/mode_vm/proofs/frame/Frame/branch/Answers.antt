@@ -16,18 +16,22 @@ bool_in-requires g c =
 
 pub returns-then-bool_in : goal.returns-then-bool_in
 returns-then-bool_in g c =
-    record { does = λ m values b.
-      let P = meaning (program_in c.args.code.now) in
-      let at = c.pop-r.ensures.at in
-      branched m P (g.N.Nodes.nodes c.args.store.now) c.args.self.now c.args.skip values b c.pop-r.new.self.operands.items _ c.pop-r.ensures.top _
+    record {
+      does = λ m values b.
+          let P = meaning (program_in c.args.code.now) in
+          let at = c.pop-r.ensures.at in
+          branched m P (g.N.Nodes.nodes c.args.store.now) c.args.self.now c.args.skip values b c.pop-r.new.self.operands.items _ c.pop-r.ensures.top _
           (λ v h. c.bool_in.ensures (kind_of m P) P.types v h ∙ ap BoolV c.if-bool_in.true)
-          (record { function = at.function; place = ap (λ p. p + 1) at.place; locals = at.locals; operands = refl }) }
+          (record { function = at.function; place = ap (λ p. p + 1) at.place; locals = at.locals; operands = refl });
+    }
 
 pub returns : goal.returns
 returns g c =
-    record { does = λ m values b.
-      let P = meaning (program_in c.args.code.now) in
-      let at = c.pop-r.ensures.at in
-      skipped m P (g.N.Nodes.nodes c.args.store.now) c.args.self.now c.args.skip values b c.pop-r.new.self.operands.items _ c.pop-r.ensures.top _
+    record {
+      does = λ m values b.
+          let P = meaning (program_in c.args.code.now) in
+          let at = c.pop-r.ensures.at in
+          skipped m P (g.N.Nodes.nodes c.args.store.now) c.args.self.now c.args.skip values b c.pop-r.new.self.operands.items _ c.pop-r.ensures.top _
           (λ v h. c.bool_in.ensures (kind_of m P) P.types v h ∙ ap BoolV c.if-bool_in.false)
-          (record { function = at.function; place = ap (λ p. p + 1 + c.args.skip) at.place; locals = at.locals; operands = refl }) }
+          (record { function = at.function; place = ap (λ p. p + 1 + c.args.skip) at.place; locals = at.locals; operands = refl });
+    }

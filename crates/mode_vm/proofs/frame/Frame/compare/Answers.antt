@@ -33,7 +33,7 @@ returns-clause-does g c m values b =
     let new = g.N.Nodes.nodes c.put_bool.new.self in
     let is = c.compared.ensures ∙ ap₂ (λ x y. compare_of c.args.op x y) (kept c.int_in-x.result (omega arith)) (kept c.int_in-y.result (omega arith)) in
     compare_acts m P nodes c.args.self.now c.args.op values b c.pop_two.new.self.operands.items _ _ c.pop_two.ensures.top new c.put_bool.ensures.keeps
-        c.pop_two.new.self c.finish.new.self c.pop_two.ensures.at c.in_ok-r.r c.int_in-x.result c.int_in-y.result
-        (λ v h. c.int_in-x.ensures (kind_of m P) P.types v h) (λ v h. c.int_in-y.ensures (kind_of m P) P.types v h)
-        (subst (λ z. StandsFor (kind_of m P) P.types new c.in_ok-r.r.0 BoolTy (BoolV z)) is (c.in_ok-r.ensures.stands (kind_of m P) P.types))
-        c.finish.result c.finish.ensures
+    c.pop_two.new.self c.finish.new.self c.pop_two.ensures.at c.in_ok-r.r c.int_in-x.result c.int_in-y.result
+    (λ v h. c.int_in-x.ensures (kind_of m P) P.types v h) (λ v h. c.int_in-y.ensures (kind_of m P) P.types v h)
+    (subst (λ z. StandsFor (kind_of m P) P.types new c.in_ok-r.r.0 BoolTy (BoolV z)) is (c.in_ok-r.ensures.stands (kind_of m P) P.types))
+    c.finish.result c.finish.ensures

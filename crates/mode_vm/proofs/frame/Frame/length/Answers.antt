@@ -23,8 +23,8 @@ returns-clause-does g c m values b =
     let nodes = g.N.Nodes.nodes c.args.store.now in
     let new = g.N.Nodes.nodes c.put_int.new.self in
     length_acts m P nodes c.args.self.now values b c.pop-r.new.self.operands.items _ c.pop-r.ensures.top new c.put_int.ensures.keeps
-        c.pop-r.new.self c.finish.new.self c.pop-r.ensures.at c.in_ok-made.made c.text_in-text.result.now
-        (λ v h. c.text_in-text.ensures (kind_of m P) P.types v h)
-        (subst (λ z. StandsFor (kind_of m P) P.types new c.in_ok-made.made.0 IntTy (IntV z)) (kept (pos (length c.text_in-text.result.now)) (omega arith))
-            (c.in_ok-made.ensures.stands (kind_of m P) P.types))
-        c.finish.result c.finish.ensures
+    c.pop-r.new.self c.finish.new.self c.pop-r.ensures.at c.in_ok-made.made c.text_in-text.result.now
+    (λ v h. c.text_in-text.ensures (kind_of m P) P.types v h)
+    (subst (λ z. StandsFor (kind_of m P) P.types new c.in_ok-made.made.0 IntTy (IntV z)) (kept (pos (length c.text_in-text.result.now)) (omega arith))
+    (c.in_ok-made.ensures.stands (kind_of m P) P.types))
+    c.finish.result c.finish.ensures

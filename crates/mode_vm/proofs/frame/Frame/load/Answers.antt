@@ -12,5 +12,7 @@ index-r-requires g c =
     omega (arith, h, l)
 
 pub returns : goal.returns
-returns g c = record { does = λ m values b.
-    load_acts m (meaning (program_in c.args.code.now)) (g.N.Nodes.nodes c.args.store.now) c.args.self.now c.args.local.0 values b c.finish.new.self c.index-r.result.now (read_there c.args.self.now.locals.items c.args.local.0 _ (local_there m (meaning (program_in c.args.code.now)) (g.N.Nodes.nodes c.args.store.now) c.args.self.now c.args.local.0 values b) ∙ ap Some (sym c.index-r.ensures)) c.finish.result c.finish.ensures }
+returns g c = record {
+  does = λ m values b.
+      load_acts m (meaning (program_in c.args.code.now)) (g.N.Nodes.nodes c.args.store.now) c.args.self.now c.args.local.0 values b c.finish.new.self c.index-r.result.now (read_there c.args.self.now.locals.items c.args.local.0 _ (local_there m (meaning (program_in c.args.code.now)) (g.N.Nodes.nodes c.args.store.now) c.args.self.now c.args.local.0 values b) ∙ ap Some (sym c.index-r.ensures)) c.finish.result c.finish.ensures;
+}

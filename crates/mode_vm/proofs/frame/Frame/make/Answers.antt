@@ -33,8 +33,8 @@ returns-clause-does g c m values b =
     let P = meaning (program_in c.args.code.now) in
     let nodes = g.N.Nodes.nodes c.args.store.now in
     make_acts m P nodes c.args.self.now c.args.named.0 c.args.tag.0 values b c.in_ok-fields.fields.items c.pop_many.new.self.operands.items
-        (c.in_ok-fields.ensures.count ∙ c.field_count-count.ensures) c.in_ok-fields.ensures.top
-        (g.N.Nodes.nodes c.new_constructor.new.store) c.new_constructor.ensures.keeps c.pop_many.new.self c.finish.new.self c.in_ok-fields.ensures.at c.in_ok-made.made
-        (λ ts vs at h. c.in_ok-made.ensures.makes m (kind_of m P) P.types ts vs at
-            (subst (λ (rs : List Ref). AllStandFor (kind_of m P) P.types nodes (numbers_of rs) ts vs) (sym c.deref.ensures.value) h))
-        c.finish.result c.finish.ensures
+    (c.in_ok-fields.ensures.count ∙ c.field_count-count.ensures) c.in_ok-fields.ensures.top
+    (g.N.Nodes.nodes c.new_constructor.new.store) c.new_constructor.ensures.keeps c.pop_many.new.self c.finish.new.self c.in_ok-fields.ensures.at c.in_ok-made.made
+    (λ ts vs at h. c.in_ok-made.ensures.makes m (kind_of m P) P.types ts vs at
+    (subst (λ (rs : List Ref). AllStandFor (kind_of m P) P.types nodes (numbers_of rs) ts vs) (sym c.deref.ensures.value) h))
+    c.finish.result c.finish.ensures

@@ -17,6 +17,6 @@ returns-clause-does g c m values b =
     let P = meaning (program_in c.args.code.now) in
     let nodes = g.N.Nodes.nodes c.args.store.now in
     not_acts m P nodes c.args.self.now values b c.pop-r.new.self.operands.items _ c.pop-r.ensures.top (g.N.Nodes.nodes c.put_bool.new.self) c.put_bool.ensures.keeps
-        c.pop-r.new.self c.finish.new.self c.pop-r.ensures.at c.in_ok-made.made c.bool_in-value.result
-        (λ v h. c.bool_in-value.ensures (kind_of m P) P.types v h) (c.in_ok-made.ensures.stands (kind_of m P) P.types)
-        c.finish.result c.finish.ensures
+    c.pop-r.new.self c.finish.new.self c.pop-r.ensures.at c.in_ok-made.made c.bool_in-value.result
+    (λ v h. c.bool_in-value.ensures (kind_of m P) P.types v h) (c.in_ok-made.ensures.stands (kind_of m P) P.types)
+    c.finish.result c.finish.ensures

@@ -18,5 +18,5 @@ pub returns-clause-does : goal.returns-clause-does
 returns-clause-does g c m values b =
     let P = meaning (program_in c.args.code.now) in
     pair_acts m P (g.N.Nodes.nodes c.args.store.now) c.args.self.now values b c.pop_two.new.self.operands.items _ _ c.pop_two.ensures.top
-        (g.N.Nodes.nodes c.new_pair.new.store) c.new_pair.ensures.keeps c.pop_two.new.self c.finish.new.self c.pop_two.ensures.at c.in_ok-made.made
-        (λ a b x y h j. c.in_ok-made.ensures.makes m (kind_of m P) P.types a b x y h j) c.finish.result c.finish.ensures
+    (g.N.Nodes.nodes c.new_pair.new.store) c.new_pair.ensures.keeps c.pop_two.new.self c.finish.new.self c.pop_two.ensures.at c.in_ok-made.made
+    (λ a b x y h j. c.in_ok-made.ensures.makes m (kind_of m P) P.types a b x y h j) c.finish.result c.finish.ensures

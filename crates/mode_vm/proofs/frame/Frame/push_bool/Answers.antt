@@ -16,10 +16,10 @@ returns-clause-does g c m values b =
     let nodes = g.N.Nodes.nodes c.args.store.now in
     let i = instruction.PushBool c.args.value in
     made_acts m P nodes (g.N.Nodes.nodes c.put_bool.new.self) c.put_bool.ensures.keeps c.args.self.now c.finish.new.self i values b
-        c.args.self.now.operands.items BoolTy values.operand_types values.operands (λ k w. Gives (BoolV c.args.value) k w)
-        (λ next k w. refl)
-        (fits_next m P nodes c.args.self.now i values b)
-        b.top.is.operands
-        (Ok c.in_ok-r.r)
-        (BoolV c.args.value, c.in_ok-r.ensures.stands (kind_of m P) P.types, λ k w. refl)
-        c.finish.result c.finish.ensures
+    c.args.self.now.operands.items BoolTy values.operand_types values.operands (λ k w. Gives (BoolV c.args.value) k w)
+    (λ next k w. refl)
+    (fits_next m P nodes c.args.self.now i values b)
+    b.top.is.operands
+    (Ok c.in_ok-r.r)
+    (BoolV c.args.value, c.in_ok-r.ensures.stands (kind_of m P) P.types, λ k w. refl)
+    c.finish.result c.finish.ensures

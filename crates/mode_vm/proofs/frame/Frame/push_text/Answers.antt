@@ -20,15 +20,16 @@ returns-clause-does g c m values b =
     let i = instruction.PushText (bytes_of c.args.text.now) in
     let same : c.in-Ok.text.now ≡ bytes_of c.args.text.now = c.in-Ok.ensures.cases.0 ∙ c.as_bytes.ensures in
     made_acts m P nodes (g.N.Nodes.nodes c.put_text.new.self) c.put_text.ensures.keeps c.args.self.now c.finish.new.self i values b
-        c.args.self.now.operands.items TextTy values.operand_types values.operands (λ k w. Gives (TextV (bytes_of c.args.text.now)) k w)
-        (λ next k w. refl)
-        (fits_next m P nodes c.args.self.now i values b)
-        b.top.is.operands
-        (Ok c.in_ok-r.r)
-        (TextV (bytes_of c.args.text.now),
-          subst (λ bytes. StandsFor (kind_of m P) P.types (g.N.Nodes.nodes c.put_text.new.self) c.in_ok-r.r.0 TextTy (TextV bytes)) same (c.in_ok-r.ensures.stands (kind_of m P) P.types),
-          λ k w. refl)
-        c.finish.result c.finish.ensures
+    c.args.self.now.operands.items TextTy values.operand_types values.operands (λ k w. Gives (TextV (bytes_of c.args.text.now)) k w)
+    (λ next k w. refl)
+    (fits_next m P nodes c.args.self.now i values b).2
+    b.top.is.operands
+    (Ok c.in_ok-r.r) (
+      TextV (bytes_of c.args.text.now),
+      subst (λ bytes. StandsFor (kind_of m P) P.types (g.N.Nodes.nodes c.put_text.new.self) c.in_ok-r.r.0 TextTy (TextV bytes)) same (c.in_ok-r.ensures.stands (kind_of m P) P.types),
+      λ k w. refl,
+    )
+    c.finish.result c.finish.ensures
 
 pub put_text-requires : goal.put_text-requires
 put_text-requires g c =

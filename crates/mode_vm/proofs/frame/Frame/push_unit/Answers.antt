@@ -14,10 +14,10 @@ pub returns-clause-does : goal.returns-clause-does
 returns-clause-does g c m values b =
     let P = meaning (program_in c.args.code.now) in
     made_acts m P (g.N.Nodes.nodes c.args.store.now) (g.N.Nodes.nodes c.put_unit.new.self) c.put_unit.ensures.keeps c.args.self.now c.finish.new.self instruction.PushUnit values b
-        c.args.self.now.operands.items UnitTy values.operand_types values.operands (λ k w. Gives UnitV k w)
-        (λ next k w. refl)
-        (fits_next m P (g.N.Nodes.nodes c.args.store.now) c.args.self.now instruction.PushUnit values b)
-        b.top.is.operands
-        (Ok c.in_ok-r.r)
-        (UnitV, c.in_ok-r.ensures.stands (kind_of m P) P.types, λ k w. refl)
-        c.finish.result c.finish.ensures
+    c.args.self.now.operands.items UnitTy values.operand_types values.operands (λ k w. Gives UnitV k w)
+    (λ next k w. refl)
+    (fits_next m P (g.N.Nodes.nodes c.args.store.now) c.args.self.now instruction.PushUnit values b)
+    b.top.is.operands
+    (Ok c.in_ok-r.r)
+    (UnitV, c.in_ok-r.ensures.stands (kind_of m P) P.types, λ k w. refl)
+    c.finish.result c.finish.ensures

@@ -17,6 +17,6 @@ returns-clause-does g c m values b =
     let P = meaning (program_in c.args.code.now) in
     let nodes = g.N.Nodes.nodes c.args.store.now in
     second_acts m P nodes c.args.self.now values b c.pop-r.new.self.operands.items c.pop-r.result c.pop-r.ensures.top
-        c.pop-r.new.self c.finish.new.self c.pop-r.ensures.at c.parts_in.result.1
-        (λ s t v h. let p = c.parts_in.ensures (kind_of m P) P.types s t v h in (p.0, p.1, p.2, p.4))
-        c.finish.result c.finish.ensures
+    c.pop-r.new.self c.finish.new.self c.pop-r.ensures.at c.parts_in.result.1
+    (λ s t v h. let p = c.parts_in.ensures (kind_of m P) P.types s t v h in (p.0, p.1, p.2, p.4))
+    c.finish.result c.finish.ensures

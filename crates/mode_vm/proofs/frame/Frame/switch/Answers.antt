@@ -31,9 +31,11 @@ overflow_add-self-in-Constructor g c =
     record { fits = omega (arith, h, l, is, p) }
 
 pub returns : goal.returns
-returns g c = record { does = λ m values b.
-    let P = meaning (program_in c.args.code.now) in
-    let k = seen_skip m P (g.N.Nodes.nodes c.args.store.now) c.args.self.now c.args.named.0 c.args.skips.now values b c.pop-r.new.self.operands.items c.pop-r.result c.pop-r.ensures.top _ _ _ c.in-Constructor.ensures.form in
-    let is = skip_read c.args.skips.now c.in-Constructor.tag.0 c.from.result _ c.from.ensures k in
-    switched m P (g.N.Nodes.nodes c.args.store.now) c.args.self.now c.args.named.0 c.args.skips.now values b c.pop-r.new.self.operands.items c.pop-r.result c.pop-r.ensures.top _ c.in-Constructor.fields.now (seen_fields m P (g.N.Nodes.nodes c.args.store.now) c.args.self.now c.args.named.0 c.args.skips.now values b c.pop-r.new.self.operands.items c.pop-r.result c.pop-r.ensures.top _ _ _ c.in-Constructor.ensures.form)
-        (record { function = c.pop-r.ensures.at.function; place = ap₂ (λ p n. p + 1 + n) c.pop-r.ensures.at.place is; locals = c.in_ok-extend_from_slice-in-Constructor.ensures.items ∙ ap (λ l. l ++ c.in-Constructor.fields.now) c.pop-r.ensures.at.locals; operands = refl }) }
+returns g c = record {
+  does = λ m values b.
+      let P = meaning (program_in c.args.code.now) in
+      let k = seen_skip m P (g.N.Nodes.nodes c.args.store.now) c.args.self.now c.args.named.0 c.args.skips.now values b c.pop-r.new.self.operands.items c.pop-r.result c.pop-r.ensures.top _ _ _ c.in-Constructor.ensures.form in
+      let is = skip_read c.args.skips.now c.in-Constructor.tag.0 c.from.result _ c.from.ensures k in
+      switched m P (g.N.Nodes.nodes c.args.store.now) c.args.self.now c.args.named.0 c.args.skips.now values b c.pop-r.new.self.operands.items c.pop-r.result c.pop-r.ensures.top _ c.in-Constructor.fields.now (seen_fields m P (g.N.Nodes.nodes c.args.store.now) c.args.self.now c.args.named.0 c.args.skips.now values b c.pop-r.new.self.operands.items c.pop-r.result c.pop-r.ensures.top _ _ _ c.in-Constructor.ensures.form)
+      (record { function = c.pop-r.ensures.at.function; place = ap₂ (λ p n. p + 1 + n) c.pop-r.ensures.at.place is; locals = c.in_ok-extend_from_slice-in-Constructor.ensures.items ∙ ap (λ l. l ++ c.in-Constructor.fields.now) c.pop-r.ensures.at.locals; operands = refl });
+}

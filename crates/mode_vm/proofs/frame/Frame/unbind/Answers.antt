@@ -14,8 +14,14 @@ overflow_sub-kept g c =
 
 pub returns : goal.returns
 returns g c =
-    record { does = λ m values b.
-      let items = c.args.self.now.locals.items in
-      unbound m (meaning (program_in c.args.code.now)) (g.N.Nodes.nodes c.args.store.now) c.args.self.now c.args.count values b _
-          (record { function = refl; place = refl
-            ; locals = c.truncate.ensures.items ∙ ap (λ n. take (n - c.args.count) items) (c.len.ensures ∙ c.args.self.now.locals.ok.0); operands = refl }) }
+    record {
+      does = λ m values b.
+          let items = c.args.self.now.locals.items in
+          unbound m (meaning (program_in c.args.code.now)) (g.N.Nodes.nodes c.args.store.now) c.args.self.now c.args.count values b _
+          (record {
+            function = refl;
+            place = refl;
+            locals = c.truncate.ensures.items ∙ ap (λ n. take (n - c.args.count) items) (c.len.ensures ∙ c.args.self.now.locals.ok.0);
+            operands = refl;
+          });
+    }

@@ -32,8 +32,8 @@ returns-in-Ok-push_top-clause-stands g c z cs shows next =
     let o = operand m (meaning p) z old before (type_at (types_of p) c.args.ty) cs shows next mid.top.operands.items c.pop_top-v.result c.pop_top-v.ensures.top in
     let made = subst (λ p. (x : Value) → Stands m (meaning p) old c.pop_top-v.result.0 (type_at (types_of p) c.args.ty) x → Stands m (meaning p) new c.in-Ok.made.0 (AuthTy (type_at (types_of p) c.args.ty)) ((mode_of m (meaning p)).auth (type_at (types_of p) c.args.ty) x)) c.program.ensures c.in-Ok.ensures.stands in
     let led = authenticated m (meaning p) z old before (type_at (types_of p) c.args.ty) cs shows next mid.top.operands.items c.pop_top-v.result c.pop_top-v.ensures.top new c.in-Ok.ensures.keeps c.push_top.new.self c.requires.entered c.in-Ok.made
-        (from_popped before.top mid.top c.push_top.new.self.top mid.top.operands.items c.pop_top-v.ensures.at c.in-Ok.made c.in-Ok-push_top.ensures.at)
-        (rest_then before mid c.push_top.new.self c.pop_top-v.ensures.rest c.in-Ok-push_top.ensures.rest) (made o.x o.stands) in
+    (from_popped before.top mid.top c.push_top.new.self.top mid.top.operands.items c.pop_top-v.ensures.at c.in-Ok.made c.in-Ok-push_top.ensures.at)
+    (rest_then before mid c.push_top.new.self c.pop_top-v.ensures.rest c.in-Ok-push_top.ensures.rest) (made o.x o.stands) in
     (led.0, led.1)
 
 pub returns-in-Ok-push_top-clause-is : goal.returns-in-Ok-push_top-clause-is
@@ -48,11 +48,11 @@ returns-in-Ok-push_top-clause-is g c z w run follows will next =
     let o = operand m (meaning p) z old before (type_at (types_of p) c.args.ty) cs will.shows next mid.top.operands.items c.pop_top-v.result c.pop_top-v.ensures.top in
     let made = subst (λ p. (x : Value) → Stands m (meaning p) old c.pop_top-v.result.0 (type_at (types_of p) c.args.ty) x → Stands m (meaning p) new c.in-Ok.made.0 (AuthTy (type_at (types_of p) c.args.ty)) ((mode_of m (meaning p)).auth (type_at (types_of p) c.args.ty) x)) c.program.ensures c.in-Ok.ensures.stands in
     let led = authenticated m (meaning p) z old before (type_at (types_of p) c.args.ty) cs will.shows next mid.top.operands.items c.pop_top-v.result c.pop_top-v.ensures.top new c.in-Ok.ensures.keeps c.push_top.new.self c.requires.entered c.in-Ok.made
-        (from_popped before.top mid.top c.push_top.new.self.top mid.top.operands.items c.pop_top-v.ensures.at c.in-Ok.made c.in-Ok-push_top.ensures.at)
-        (rest_then before mid c.push_top.new.self c.pop_top-v.ensures.rest c.in-Ok-push_top.ensures.rest) (made o.x o.stands) in
+    (from_popped before.top mid.top c.push_top.new.self.top mid.top.operands.items c.pop_top-v.ensures.at c.in-Ok.made c.in-Ok-push_top.ensures.at)
+    (rest_then before mid c.push_top.new.self c.pop_top-v.ensures.rest c.in-Ok-push_top.ensures.rest) (made o.x o.stands) in
     let kept = subst (λ mode. g.M.Mode.Follows p mode c.args.world.now new w) (sym c.in-Ok.ensures.mode) (g.met.M.Mode.follows_on p c.args.self.now.mode c.args.world.now old new w c.in-Ok.ensures.keeps follows) in
     leads_is m (meaning p) z new true before.fuel cs c.push_top.new.self g.M.Mode.cause (g.M.Mode.Follows p c.auth.new.self c.args.world.now new) w kept run
-        (subst (λ b. end_of m (meaning p) b cs before.fuel w ≡ Ran run) c.requires.entered will.ends) (Unit {0}) Paused led
+    (subst (λ b. end_of m (meaning p) b cs before.fuel w ≡ Ran run) c.requires.entered will.ends) (Unit {0}) Paused led
 
 pub returns-in-Err-clause-is : goal.returns-in-Err-clause-is
 returns-in-Err-clause-is g c z w run follows will next =

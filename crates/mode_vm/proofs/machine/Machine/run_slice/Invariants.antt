@@ -14,8 +14,8 @@ abbrev pub invariant-loop-units : goal.invariant-loop-units
 invariant-loop-units g l =
     ((z : Ty) → Ready g.M.Mode.marking (meaning (program_in l.code)) z (g.N.Nodes.nodes l.fn.store) l.fn.self.state → Ready g.M.Mode.marking (meaning (program_in l.code)) z (g.N.Nodes.nodes l.store) l.self.state)
     × ((z : Ty) (w : StateOf g.M.Mode.marking) (run : RunOf g.M.Mode.marking) → g.M.Mode.Follows (program_in l.code) l.fn.self.mode l.fn.world (g.N.Nodes.nodes l.fn.store) w
-        → WillRun g.M.Mode.marking (meaning (program_in l.code)) z (g.N.Nodes.nodes l.fn.store) l.fn.self.state w run
-        → (w' : StateOf g.M.Mode.marking) × g.M.Mode.Follows (program_in l.code) l.self.mode l.world (g.N.Nodes.nodes l.store) w' × WillRun g.M.Mode.marking (meaning (program_in l.code)) z (g.N.Nodes.nodes l.store) l.self.state w' run)
+    → WillRun g.M.Mode.marking (meaning (program_in l.code)) z (g.N.Nodes.nodes l.fn.store) l.fn.self.state w run
+    → (w' : StateOf g.M.Mode.marking) × g.M.Mode.Follows (program_in l.code) l.self.mode l.world (g.N.Nodes.nodes l.store) w' × WillRun g.M.Mode.marking (meaning (program_in l.code)) z (g.N.Nodes.nodes l.store) l.self.state w' run)
     × (g.M.Mode.opened l.self.mode + steps_left (meaning (program_in l.code)) l.self.state < 2 ^ 63)
     × Keeps (g.N.Nodes.nodes l.fn.store) (g.N.Nodes.nodes l.store)
     × (l.self.state.fuel ≤ l.fn.self.state.fuel)
