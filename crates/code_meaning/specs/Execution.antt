@@ -3,14 +3,16 @@ use Rattle.std.specs.Prelude.{ℕ, zero, suc, ◌-◌, Bool, not, ℤ, List, [],
 use Rattle.core_terms.specs.Types.{Ty, UnitTy, BoolTy, IntTy, TextTy, PairTy, NamedTy, AuthTy, Table, fields_at}
 use Rattle.core_terms.specs.Values.{Value, UnitV, BoolV, IntV, TextV, PairV, ConV, Values, NoV, AndV}
 use Rattle.ideal_meaning.specs.Run.{IsOut, Run, Gives, Ends, Mode, limited, with_fuel, arith_of, compare_of, text_compare_of}
-use Rattle.code_gen.specs.Instructions.{Instruction, PushUnit, PushBool, PushInt, PushText, Load, Bind, Unbind, Pair, Fst, Snd, Make, Switch, Branch, Jump, Call, Return, Auth, Unauth, ArithOp, CompareOp, TextCompareOp, Cat, Len, Not}
+use Rattle.code_gen.specs.Instructions.{Instruction, PushUnit, PushBool, PushInt, PushText, Load, Bind, Unbind, Pair, Fst, Snd, Make, Switch, Branch, Jump, Call, Return, Auth, Unauth}
+use Rattle.code_gen.specs.Instructions.{ArithOp, CompareOp, TextCompareOp, Cat, Len, Not}
 use Rattle.code_gen.specs.Code.{FunctionCode, Body, code_at, field_count}
 
--- how code ends: as a run, or at an operand, a local or a place that isn't there or is of another kind
+-- How code ends: as a run; or stuck, at an operand, a local or a place that isn't there, or at one of another kind.
 pub data Coded (C W : Type 0) : Type 0 where
   Ran : (r : Run C W Value) → Coded C W
   Stuck : Coded C W
 
+-- goes on behind a run, and behind code
 abbrev pub then_code : {C W A : Type 0} → Run C W A → (A → ℕ → W → Coded C W) → Coded C W
 then_code (Gives a k w) go = go a k w
 then_code (Ends stop k w) go = Ran (Ends stop k w)
@@ -19,7 +21,7 @@ abbrev pub then_coded : {C W : Type 0} → Coded C W → (Value → ℕ → W �
 then_coded (Ran r) go = then_code r go
 then_coded Stuck go = Stuck
 
--- goes on with what is there
+-- goes on with what is there, or is stuck
 abbrev pub where_some : {C W A : Type 0} → Option A → (A → Coded C W) → Coded C W
 where_some (Some a) go = go a
 where_some None go = Stuck
@@ -37,17 +39,19 @@ abbrev pub tie : List Ty → Values → List Held
 tie (t ∷ ts) (AndV v vs) = held t v ∷ tie ts vs
 tie ts vs = []
 
--- the last n values dropped
+-- without the last n values; none where there are fewer
 abbrev pub without_last : ℕ → List Held → Option (List Held)
 without_last n env = if nat_le n (length env) then Some (take (length env - n) env) else None
 
--- goes on with the n topmost operands, the last of them being the top, and with those below
+-- Goes on with the values of the n topmost operands, in the order in which they were pushed, and with the operands below them;
+-- those that are popped already are given.
 abbrev pub popped : {C W : Type 0} → ℕ → List Held → Values → (Values → List Held → Coded C W) → Coded C W
 popped zero ops vs go = go vs ops
 popped (suc n) (x ∷ ops) vs go = popped n ops (AndV x.value vs) go
 popped (suc n) [] vs go = Stuck
 
--- what comes next: how many instructions are passed over first, the locals, the operands, the fuel and the mode's state
+-- What comes next, given how many instructions are passed over first, the locals, the operands, the top one first, the fuel and
+-- the mode's state.
 abbrev pub Next : Type 0 → Type 0 → Type 0
 Next C W = ℕ → List Held → List Held → ℕ → W → Coded C W
 
@@ -57,7 +61,7 @@ module _ (B : Body) where
     abbrev pub pushed : Ty → Run C W Value → Next C W → List Held → List Held → Coded C W
     pushed t r next env ops = then_code r (λ v k w. next 0 env (held t v ∷ ops) k w)
 
-    -- what is done with the values of the topmost operands
+    -- what is done with an operand of a kind; stuck at one of another kind
     abbrev pub on_pair : Ty → Value → (Ty → Ty → Value → Value → Coded C W) → Coded C W
     on_pair (PairTy a b) (PairV u v) go = go a b u v
     on_pair t v go = Stuck
@@ -78,7 +82,7 @@ module _ (B : Body) where
     on_text (TextV bytes) go = go bytes
     on_text v go = Stuck
 
-    -- one instruction
+    -- One instruction, and what comes next. It is stuck where none of these lines fits the operands.
     abbrev pub act : Instruction → Next C W → List Held → List Held → ℕ → W → Coded C W
     act PushUnit next env ops k w = next 0 env (held UnitTy UnitV ∷ ops) k w
     act (PushBool b) next env ops k w = next 0 env (held BoolTy (BoolV b) ∷ ops) k w
@@ -109,17 +113,19 @@ module _ (B : Body) where
     act Not next env (x ∷ ops) k w = on_bool x.value (λ b. next 0 env (held BoolTy (BoolV (not b)) ∷ ops) k w)
     act _ next env ops k w = Stuck
 
-    -- the instructions that are left, of which so many are passed over first
+    -- The instructions that are left, of which so many are passed over first. Behind the last one code is stuck.
     abbrev pub exec : List Instruction → Next C W
     exec [] skip env ops k w = Stuck
     exec (i ∷ is) (suc skip) env ops k w = exec is skip env ops k w
     exec (i ∷ is) zero env ops k w = act i (exec is) env ops k w
 
-  -- a call of a function with so much fuel; `nesting` bounds how deep calls nest, and is never below the fuel
+  -- A call of a function with so much fuel, of which it takes one unit; Out where none is left. `nesting` bounds how deep calls
+  -- nest. It starts at the fuel and is never below it, so it never ends a run.
   abbrev pub call_code : {C W : Type 0} → Mode C W → ℕ → ℕ → Values → ℕ → W → Coded C W
   call_code mode zero f args k w = Ran (Ends IsOut k w)
   call_code mode (suc nesting) f args zero w = Ran (Ends IsOut zero w)
   call_code mode (suc nesting) f args (suc k) w = exec mode (call_code mode nesting) (code_at B f).code 0 (tie (code_at B f).parameters args) [] k w
 
+  -- a call with all its fuel
   abbrev pub call_code_from : {C W : Type 0} → Mode C W → ℕ → Values → ℕ → W → Coded C W
   call_code_from mode f args k w = call_code mode k f args k w
