@@ -1,5 +1,5 @@
 -- Locals are bound and dropped.
-use Rattle.std.proofs.Common.{◌≡◌, ℕ, ◌+◌, ◌-◌, ◌≤◌, List, [], ◌∷◌, ◌++◌, length, length-append, take, drop, reverse, Some, refl, sym, ap, ◌∙◌, subst, arith}
+use Rattle.std.proofs.Common.{◌≡◌, ℕ, suc, ◌+◌, ◌-◌, ◌≤◌, List, [], ◌∷◌, ◌++◌, length, length-append, take, drop, reverse, Some, refl, sym, ap, ◌∙◌, subst, arith}
 use Rattle.std.proofs.lemmas.List.{length-map, take-map}
 use Rattle.core_terms.specs.Types.{Ty, Table}
 use Rattle.core_terms.specs.Values.{Value, Values, NoV, AndV}
@@ -79,7 +79,7 @@ module _ (kind : Kind) (types : Table) (nodes : List Node) where
 
   tied_length : (rs : List ℕ) (ts : List Ty) (vs : Values) → AllStandFor kind types nodes rs ts vs → length (tie ts vs) ≡ length ts
   tied_length [] [] NoV h = refl
-  tied_length (r ∷ rs) (t ∷ ts) (AndV v vs) h = ap (λ n. 1 + n) (tied_length rs ts vs h.1)
+  tied_length (r ∷ rs) (t ∷ ts) (AndV v vs) h = ap suc (tied_length rs ts vs h.1)
   tied_length [] [] (AndV v vs) h = elim h [ ]
   tied_length [] (t ∷ ts) vs h = elim h [ ]
   tied_length (r ∷ rs) [] vs h = elim h [ ]

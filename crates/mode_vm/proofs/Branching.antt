@@ -7,7 +7,7 @@ use Rattle.core_terms.specs.declared.outcome.Trap.{Trap}
 use Rattle.ideal_meaning.specs.Run.{Run, Gives, bool_in}
 use Rattle.code_gen.specs.Instructions.{Branch, Not}
 use Rattle.code_gen.specs.Code.{Body, code_at, generated}
-use Rattle.code_meaning.specs.Execution.{held, tie, act, on_bool}
+use Rattle.code_meaning.specs.Execution.{held, tie, act}
 use Rattle.code_meaning.specs.Accept.{Fits}
 use Rattle.value_store.specs.Nodes.{Node}
 use Rattle.value_store.specs.Standing.{AllStandFor, Keeps, StandsFor}
@@ -79,7 +79,7 @@ module _ (m : Marking) (P : Program) (nodes : List Node) (frame : Frame) (skip :
   same value is next k w =
       ap (λ os. act (generated P) (mode_of m P) (calls m P c.depth) (Branch skip) next (tie c.local_types c.locals) (tie os c.operands) k w) decides.is
       ∙ ap (λ us. act (generated P) (mode_of m P) (calls m P c.depth) (Branch skip) next (tie c.local_types c.locals) (tie (BoolTy ∷ decides.below) us) k w) one.is
-      ∙ ap (λ x. on_bool x (λ b. next (if b then 0 else skip) (tie c.local_types c.locals) (tie decides.below one.below) k w)) is
+      ∙ ap (λ x. act (generated P) (mode_of m P) (calls m P c.depth) (Branch skip) next (tie c.local_types c.locals) (held BoolTy x ∷ tie decides.below one.below) k w) is
 
   pub branched : (after : Frame) → ((v : Value) → StandsFor (kind_of m P) P.types nodes r.0 BoolTy v → v ≡ BoolV true)
       → IsAt frame (frame.place + 1) frame.locals.items last after → GoesOn m P nodes c after

@@ -12,7 +12,7 @@ use Rattle.mode_vm.specs.Outcomes.{GoesOn}
 use Rattle.mode_vm.specs.StateParts.{IsAt}
 use Rattle.mode_vm.specs.declared.frame.Frame.{Frame}
 use Rattle.mode_vm.proofs.Frames.{fits_next, goes_on}
-use Rattle.mode_vm.proofs.Locals.{short}
+use Rattle.mode_vm.proofs.LoadedLocals.{short}
 
 as_long : (B : Body) (z : Ty) (is : List Instruction) (shapes : List Shape) → IsFine B z is shapes → length shapes ≡ length is
 as_long B z [] [] h = refl

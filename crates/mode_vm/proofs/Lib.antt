@@ -3,14 +3,14 @@ pub mod Frames
 pub mod Operands
 pub mod Made
 -- the literals and ints: an int that is passed
-pub mod Ints
+pub mod PassedInts
 -- arith and compare; compare_texts, concat and length; pair, first and second
 pub mod IntOperations
 pub mod TextOperations
 pub mod Parts
 pub mod PairOperations
 -- load
-pub mod Locals
+pub mod LoadedLocals
 -- call, begin, parameter_count and give_back
 pub mod Calls
 pub mod ParameterCounts
@@ -22,7 +22,7 @@ pub mod Branching
 pub mod Binding
 pub mod Constructing
 -- State's act and next, enter
-pub mod Kinds
+pub mod OwnInstructions
 pub mod Lifting
 pub mod Entering
 -- the machine: start, auth, unauth, step, run_slice

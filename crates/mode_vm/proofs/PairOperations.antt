@@ -1,5 +1,5 @@
 -- The instructions on pairs.
-use Rattle.std.proofs.Common.{◌≡◌, ℕ, ◌++◌, List, [], ◌∷◌, Result, Ok, Option, refl, ap, ap₂, ◌∙◌, ◌<◌}
+use Rattle.std.proofs.Common.{◌≡◌, length, ℕ, ◌++◌, List, [], ◌∷◌, Result, Ok, Option, refl, ap, ap₂, ◌∙◌, ◌<◌}
 use Rattle.core_terms.specs.Types.{Ty, PairTy}
 use Rattle.core_terms.specs.Values.{Value, PairV}
 use Rattle.core_terms.specs.Terms.{Program}
@@ -47,8 +47,8 @@ module _ (m : Marking) (P : Program) (nodes : List Node) (frame : Frame) (c : Va
   first_takes : (s : Ty) × (t : Ty) × TakesOne (generated P) c.result c.local_types (ToNext (generated P) c.result c.shapes) (PairTy s t) s c.operand_types
   first_takes = first_parts (generated P) c.result c.local_types (ToNext (generated P) c.result c.shapes) c.operand_types (fits_next m P nodes frame Fst c b)
 
-  pub first_operand : (s : Ty) × (t : Ty) × (v : Value) × StandsFor (kind_of m P) P.types nodes r.0 (PairTy s t) v
-  first_operand =
+  pub first_pair : (s : Ty) × (t : Ty) × (v : Value) × StandsFor (kind_of m P) P.types nodes r.0 (PairTy s t) v
+  first_pair =
       let x = operand m P nodes frame Fst c b last r top (PairTy first_takes.0 first_takes.1) first_takes.0 first_takes.2 in
       (first_takes.0, first_takes.1, x.0, x.1)
 
@@ -72,8 +72,8 @@ module _ (m : Marking) (P : Program) (nodes : List Node) (frame : Frame) (c : Va
   second_takes : (s : Ty) × (t : Ty) × TakesOne (generated P) c.result c.local_types (ToNext (generated P) c.result c.shapes) (PairTy s t) t c.operand_types
   second_takes = second_parts (generated P) c.result c.local_types (ToNext (generated P) c.result c.shapes) c.operand_types (fits_next m P nodes frame Snd c b)
 
-  pub second_operand : (s : Ty) × (t : Ty) × (v : Value) × StandsFor (kind_of m P) P.types nodes r.0 (PairTy s t) v
-  second_operand =
+  pub second_pair : (s : Ty) × (t : Ty) × (v : Value) × StandsFor (kind_of m P) P.types nodes r.0 (PairTy s t) v
+  second_pair =
       let x = operand m P nodes frame Snd c b last r top (PairTy second_takes.0 second_takes.1) second_takes.1 second_takes.2 in
       (second_takes.0, second_takes.1, x.0, x.1)
 

@@ -22,7 +22,7 @@ use Rattle.mode_vm.specs.declared.frame.Frame.{Frame}
 use Rattle.mode_vm.proofs.Frames.{ToNext, fits_next, goes_on, calls, reverse_push}
 use Rattle.mode_vm.proofs.Calls.{numbers_append}
 use Rattle.mode_vm.proofs.Jumps.{skip_within}
-use Rattle.mode_vm.proofs.Locals.{short, some_same, read_there}
+use Rattle.mode_vm.proofs.LoadedLocals.{short, some_same, read_there}
 
 module _ (kind : Kind) (types : Table) (nodes : List Node) where
   pub tie_joined : (rs : List ℕ) (ts us : List Ty) (vs ws : Values) → AllStandFor kind types nodes rs ts vs → tie ts vs ++ tie us ws ≡ tie (ts ++ us) (join vs ws)

@@ -60,13 +60,13 @@ impl Frame {
         &mut self,
         code: &Code,
         store: &N,
-        skip: usize,
+        count: usize,
     ) -> Result<Option<Trap>, AllocError>
-        requires before { IsBefore (meaning (program_in code.now)) (N.nodes store.now) self.old (instruction.Jump skip) }
+        requires before { IsBefore (meaning (program_in code.now)) (N.nodes store.now) self.old (instruction.Jump count) }
         requires length { length (code_at (generated (meaning (program_in code.now))) self.old.function.0).code < 2 ^ 64 }
-        ensures does { Does (meaning (program_in code.now)) (instruction.Jump skip) (N.nodes store.now) (N.nodes store.now) self.old self.new result }
+        ensures does { Does (meaning (program_in code.now)) (instruction.Jump count) (N.nodes store.now) (N.nodes store.now) self.old self.new result }
     {
-        self.place = self.place + 1 + skip;
+        self.place = self.place + 1 + count;
         Ok(None)
     }
 

@@ -56,7 +56,8 @@ impl Frame {
         let (first, second) = self.pop_two();
         let x = int_in(store, first);
         let y = int_in(store, second);
-        let r = store.put_bool(compared(op, x, y))?;
+        let holds = compared(op, x, y);
+        let r = store.put_bool(holds)?;
         self.finish(Ok(r))
     }
 }

@@ -42,7 +42,8 @@ impl Frame {
         let (first, second) = self.pop_two();
         let x = text_in(store, first);
         let y = text_in(store, second);
-        let r = store.put_bool(compared(op, x, y))?;
+        let holds = compared(op, x, y);
+        let r = store.put_bool(holds)?;
         self.finish(Ok(r))
     }
 
@@ -77,7 +78,8 @@ impl Frame {
     {
         let r = self.pop();
         let text = text_in(store, r);
-        let made = store.put_int(text.len() as i64)?;
+        let len = text.len() as i64;
+        let made = store.put_int(len)?;
         self.finish(Ok(made))
     }
 }

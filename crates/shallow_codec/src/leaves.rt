@@ -13,7 +13,10 @@ use crate::reader::Front;
 use value_store::{Held, Nodes, Ref};
 
 /// The value of `unit`, which is spelled by nothing.
-pub(crate) fn put_unit<'a, N: Nodes>(store: &mut N, at: Cursor<'a>) -> Result<Front<'a>, UnspellFault>
+pub(crate) fn put_unit<'a, N: Nodes>(
+    store: &mut N,
+    at: Cursor<'a>,
+) -> Result<Front<'a>, UnspellFault>
     ensures read { (types : Table) (levels : ℕ) → IsRead types (N.nodes store.new) (suc levels) UnitTy at.entry (meant.read_value types (suc levels) UnitTy at.entry.rest.now at.entry.offset) result }
     ensures grows { Grows (N.nodes store.old) (N.nodes store.new) }
     ensures lent { N.lent store.new ≡ N.lent store.old }
@@ -23,7 +26,10 @@ pub(crate) fn put_unit<'a, N: Nodes>(store: &mut N, at: Cursor<'a>) -> Result<Fr
 }
 
 /// A bool.
-pub(crate) fn put_bool<'a, N: Nodes>(store: &mut N, at: Cursor<'a>) -> Result<Front<'a>, UnspellFault>
+pub(crate) fn put_bool<'a, N: Nodes>(
+    store: &mut N,
+    at: Cursor<'a>,
+) -> Result<Front<'a>, UnspellFault>
     requires short { at.offset + length at.rest.now ≤ size_limit }
     ensures read { (types : Table) (levels : ℕ) → IsRead types (N.nodes store.new) (suc levels) BoolTy at.entry (meant.read_value types (suc levels) BoolTy at.entry.rest.now at.entry.offset) result }
     ensures grows { Grows (N.nodes store.old) (N.nodes store.new) }
@@ -37,7 +43,10 @@ pub(crate) fn put_bool<'a, N: Nodes>(store: &mut N, at: Cursor<'a>) -> Result<Fr
 }
 
 /// An int.
-pub(crate) fn put_int<'a, N: Nodes>(store: &mut N, at: Cursor<'a>) -> Result<Front<'a>, UnspellFault>
+pub(crate) fn put_int<'a, N: Nodes>(
+    store: &mut N,
+    at: Cursor<'a>,
+) -> Result<Front<'a>, UnspellFault>
     requires short { at.offset + length at.rest.now ≤ size_limit }
     ensures read { (types : Table) (levels : ℕ) → IsRead types (N.nodes store.new) (suc levels) IntTy at.entry (meant.read_value types (suc levels) IntTy at.entry.rest.now at.entry.offset) result }
     ensures grows { Grows (N.nodes store.old) (N.nodes store.new) }
@@ -51,7 +60,10 @@ pub(crate) fn put_int<'a, N: Nodes>(store: &mut N, at: Cursor<'a>) -> Result<Fro
 }
 
 /// A text.
-pub(crate) fn put_text<'a, N: Nodes>(store: &mut N, at: Cursor<'a>) -> Result<Front<'a>, UnspellFault>
+pub(crate) fn put_text<'a, N: Nodes>(
+    store: &mut N,
+    at: Cursor<'a>,
+) -> Result<Front<'a>, UnspellFault>
     requires short { at.offset + length at.rest.now ≤ size_limit }
     ensures read { (types : Table) (levels : ℕ) → IsRead types (N.nodes store.new) (suc levels) TextTy at.entry (meant.read_value types (suc levels) TextTy at.entry.rest.now at.entry.offset) result }
     ensures grows { Grows (N.nodes store.old) (N.nodes store.new) }
@@ -65,7 +77,10 @@ pub(crate) fn put_text<'a, N: Nodes>(store: &mut N, at: Cursor<'a>) -> Result<Fr
 }
 
 /// The digest of an authenticated value.
-pub(crate) fn put_digest<'a, N: Nodes>(store: &mut N, at: Cursor<'a>) -> Result<Front<'a>, UnspellFault>
+pub(crate) fn put_digest<'a, N: Nodes>(
+    store: &mut N,
+    at: Cursor<'a>,
+) -> Result<Front<'a>, UnspellFault>
     requires short { at.offset + length at.rest.now ≤ size_limit }
     ensures read { (types : Table) (levels : ℕ) (t : Ty) → IsRead types (N.nodes store.new) (suc levels) (AuthTy t) at.entry (meant.read_value types (suc levels) (AuthTy t) at.entry.rest.now at.entry.offset) result }
     ensures grows { Grows (N.nodes store.old) (N.nodes store.new) }

@@ -3,7 +3,7 @@ use Rattle.core_terms.specs.Types.{IntTy}
 use Rattle.core_terms.specs.Values.{IntV}
 use Rattle.ideal_meaning.specs.Run as meant
 use Rattle.value_store.specs.Standing.{StandsFor}
-use Rattle.mode_vm.proofs.Ints.{kept}
+use Rattle.mode_vm.proofs.PassedInts.{kept}
 use Rattle.mode_vm.proofs.ints.new_result.Goals as goal
 
 pub returns-in_ok-put_int-in-Ok-clause-makes : goal.returns-in_ok-put_int-in-Ok-clause-makes

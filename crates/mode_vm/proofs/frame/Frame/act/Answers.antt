@@ -4,7 +4,7 @@ use Rattle.code_gen.specs.CodeTrees.{instruction_of}
 use Rattle.code_gen.specs.Instructions as instruction
 use Rattle.code_gen.specs.Programs.{program_in}
 use Rattle.mode_vm.specs.Machines.{Before}
-use Rattle.mode_vm.proofs.Ints.{kept}
+use Rattle.mode_vm.proofs.PassedInts.{kept}
 use Rattle.mode_vm.proofs.frame.Frame.act.Goals as goal
 
 pub push_int-requires-clause-before : goal.push_int-requires-clause-before

@@ -35,3 +35,13 @@ returns g c =
           (λ v h. c.bool_in.ensures (kind_of m P) P.types v h ∙ ap BoolV c.if-bool_in.false)
           (record { function = at.function; place = ap (λ p. p + 1 + c.args.skip) at.place; locals = at.locals; operands = refl });
     }
+
+pub overflow_add-self-3 : goal.overflow_add-self-3
+overflow_add-self-3 g c =
+    let b = c.requires.before in
+    let within =
+    branch_within b.0 (meaning (program_in c.args.code.now)) (g.N.Nodes.nodes c.args.store.now) c.args.self.now c.args.skip b.1 b.2
+    c.pop-r.new.self.operands.items _ c.pop-r.ensures.top in
+    let long = c.requires.length in
+    let place = c.pop-r.ensures.at.place in
+    record { fits = omega (arith, within, long, place) }

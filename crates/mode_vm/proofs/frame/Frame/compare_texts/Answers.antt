@@ -32,5 +32,5 @@ returns-clause-does g c m values b =
     compare_acts m P nodes c.args.self.now c.args.op values b c.pop_two.new.self.operands.items _ _ c.pop_two.ensures.top new c.put_bool.ensures.keeps
     c.pop_two.new.self c.finish.new.self c.pop_two.ensures.at c.in_ok-r.r c.text_in-x.result.now c.text_in-y.result.now
     (λ v h. c.text_in-x.ensures (kind_of m P) P.types v h) (λ v h. c.text_in-y.ensures (kind_of m P) P.types v h)
-    (subst (λ z. StandsFor (kind_of m P) P.types new c.in_ok-r.r.0 BoolTy (BoolV z)) c.compared.ensures (c.in_ok-r.ensures.stands (kind_of m P) P.types))
+    (subst (λ z. StandsFor (kind_of m P) P.types new c.in_ok-r.r.0 BoolTy (BoolV z)) c.compared-holds.ensures (c.in_ok-r.ensures.stands (kind_of m P) P.types))
     c.finish.result c.finish.ensures

@@ -5,7 +5,7 @@ use Rattle.core_terms.specs.Values.{IntV}
 use Rattle.value_store.specs.Markings.{kind_of}
 use Rattle.value_store.specs.Standing.{StandsFor}
 use Rattle.code_gen.specs.Programs.{program_in}
-use Rattle.mode_vm.proofs.Ints.{kept}
+use Rattle.mode_vm.proofs.PassedInts.{kept}
 use Rattle.mode_vm.proofs.TextOperations.{length_acts, length_operand}
 use Rattle.mode_vm.proofs.frame.Frame.length.Goals as goal
 

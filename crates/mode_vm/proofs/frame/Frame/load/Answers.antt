@@ -1,7 +1,7 @@
 use Rattle.std.proofs.Common.{refl, Ok, Some, arith, ap, sym, ◌∙◌}
 use Rattle.core_terms.specs.LanguagePrograms.{meaning}
 use Rattle.code_gen.specs.Programs.{program_in}
-use Rattle.mode_vm.proofs.Locals.{read_there, local_there, load_acts}
+use Rattle.mode_vm.proofs.LoadedLocals.{read_there, local_there, load_acts}
 use Rattle.mode_vm.proofs.frame.Frame.load.Goals as goal
 
 pub index-r-requires : goal.index-r-requires

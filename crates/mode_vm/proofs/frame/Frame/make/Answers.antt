@@ -9,8 +9,8 @@ use Rattle.code_gen.specs.Programs.{program_in}
 use Rattle.mode_vm.proofs.Constructing.{fields_there, make_acts, make_enough}
 use Rattle.mode_vm.proofs.frame.Frame.make.Goals as goal
 
-pub pop_many-fields-requires : goal.pop_many-fields-requires
-pop_many-fields-requires g c =
+pub pop_many-requires : goal.pop_many-requires
+pop_many-requires g c =
     let P = meaning (program_in c.args.code.now) in
     let nodes = g.N.Nodes.nodes c.args.store.now in
     let b = c.requires.before in

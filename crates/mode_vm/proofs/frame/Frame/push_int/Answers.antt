@@ -7,7 +7,7 @@ use Rattle.value_store.specs.Markings.{kind_of}
 use Rattle.code_gen.specs.Programs.{program_in}
 use Rattle.code_gen.specs.Instructions as instruction
 use Rattle.value_store.specs.Standing.{StandsFor}
-use Rattle.mode_vm.proofs.Ints.{kept}
+use Rattle.mode_vm.proofs.PassedInts.{kept}
 use Rattle.mode_vm.proofs.Frames.{fits_next}
 use Rattle.mode_vm.proofs.Made.{made_acts}
 use Rattle.mode_vm.proofs.frame.Frame.push_int.Goals as goal

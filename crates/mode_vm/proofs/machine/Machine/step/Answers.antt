@@ -7,7 +7,7 @@ use Rattle.mode_vm.specs.Meanings.{StateOf}
 use Rattle.mode_vm.specs.StateParts.{fuel_after}
 use Rattle.mode_vm.specs.Machines.{IsNext, end_of}
 use Rattle.code_meaning.specs.Execution.{Ran}
-use Rattle.mode_vm.proofs.Kinds.{plain}
+use Rattle.mode_vm.proofs.OwnInstructions.{plain}
 use Rattle.mode_vm.proofs.Stepping.{leads_stands, leads_is, fewer_left}
 use Rattle.mode_vm.proofs.machine.Machine.step.Goals as goal
 

@@ -5,7 +5,7 @@ use Rattle.code_gen.specs.Programs.{program_in}
 use Rattle.code_gen.specs.CodeTrees.{instruction_of}
 use Rattle.mode_vm.specs.Machines.{IsNext}
 use Rattle.mode_vm.specs.Outcomes.{Leads}
-use Rattle.mode_vm.proofs.Kinds.{own}
+use Rattle.mode_vm.proofs.OwnInstructions.{own}
 use Rattle.mode_vm.proofs.Lifting.{lifted}
 use Rattle.mode_vm.proofs.state.State.act.Goals as goal
 

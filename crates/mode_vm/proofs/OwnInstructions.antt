@@ -1,5 +1,5 @@
 -- Which instructions change the running frame alone, and which ask nothing of the mode.
-use Rattle.std.proofs.Common.{◌≡◌, true, List, refl, absurd}
+use Rattle.std.proofs.Common.{◌≡◌, true, List, refl}
 use Rattle.core_terms.specs.Types.{Ty}
 use Rattle.core_terms.specs.declared.program.FunctionId.{FunctionId}
 use Rattle.core_terms.specs.declared.types.TyId.{TyId}
