@@ -1,5 +1,5 @@
 -- The machine authenticates its top operand.
-use Rattle.std.proofs.Common.{◌≡◌, ℕ, ◌+◌, true, List, [], ◌∷◌, ◌++◌, reverse, Ok, Err, Option, None, refl, sym, ap, ◌∙◌, subst}
+use Rattle.std.proofs.Common.{◌≡◌, ℕ, ◌+◌, true, List, [], ◌∷◌, ◌++◌, reverse, Err, Option, None, refl, ap, ◌∙◌, subst}
 use Rattle.core_terms.specs.Types.{Ty, AuthTy}
 use Rattle.core_terms.specs.Values.{Value, Values, NoV, AndV}
 use Rattle.core_terms.specs.Terms.{Program}
@@ -17,8 +17,8 @@ use Rattle.mode_vm.specs.Openings.{OnlyMemory}
 use Rattle.mode_vm.specs.Runs.{StopIs}
 use Rattle.mode_vm.specs.declared.mode.Stop.{Stop}
 use Rattle.mode_vm.specs.declared.mode.Stop.TheVariants.{Mode as ModeStops, NoMemory}
-use Rattle.mode_vm.specs.Machines.{ValueFrame, ValueStack, Represents, IsNext, Before}
-use Rattle.mode_vm.specs.Outcomes.{GoesOn, GoesTo}
+use Rattle.mode_vm.specs.Machines.{ValueStack, Represents, IsNext, Before}
+use Rattle.mode_vm.specs.Outcomes.{GoesTo}
 use Rattle.mode_vm.specs.StateParts.{IsAt, IsElseSame}
 use Rattle.mode_vm.specs.declared.state.State.{State}
 use Rattle.mode_vm.proofs.Frames.{ToNext, fits_next, pushes, calls, reverse_push}

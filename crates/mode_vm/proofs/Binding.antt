@@ -1,13 +1,13 @@
 -- Locals are bound and dropped.
-use Rattle.std.proofs.Common.{◌≡◌, ℕ, suc, ◌+◌, ◌-◌, ◌≤◌, List, [], ◌∷◌, ◌++◌, length, length-append, take, drop, reverse, Some, refl, sym, ap, ◌∙◌, subst, arith}
+use Rattle.std.proofs.Common.{◌≡◌, ℕ, suc, ◌+◌, ◌-◌, ◌≤◌, List, [], ◌∷◌, ◌++◌, length, length-append, take, drop, reverse, refl, sym, ap, ◌∙◌, subst, arith}
 use Rattle.std.proofs.lemmas.List.{length-map, take-map}
 use Rattle.core_terms.specs.Types.{Ty, Table}
-use Rattle.core_terms.specs.Values.{Value, Values, NoV, AndV}
+use Rattle.core_terms.specs.Values.{Values, NoV, AndV}
 use Rattle.core_terms.specs.Terms.{Program}
 use Rattle.ideal_meaning.specs.Run.{join}
 use Rattle.code_gen.specs.Instructions.{Bind, Unbind}
 use Rattle.code_gen.specs.Code.{Body, generated}
-use Rattle.code_meaning.specs.Execution.{held, tie, act, where_some, without_last}
+use Rattle.code_meaning.specs.Execution.{tie, act, where_some, without_last}
 use Rattle.code_meaning.specs.Accept.{Fits}
 use Rattle.code_meaning.proofs.Parts.{last_dropped}
 use Rattle.value_store.specs.Nodes.{Node}
@@ -15,7 +15,7 @@ use Rattle.value_store.specs.Standing.{Kind, AllStandFor}
 use Rattle.value_store.specs.Markings.{Marking, kind_of}
 use Rattle.value_store.specs.CodeNodes.{numbers_of}
 use Rattle.value_store.specs.declared.node.Ref.{Ref}
-use Rattle.mode_vm.specs.Meanings.{CauseOf, StateOf, mode_of}
+use Rattle.mode_vm.specs.Meanings.{mode_of}
 use Rattle.mode_vm.specs.Machines.{ValueFrame, Before}
 use Rattle.mode_vm.specs.Outcomes.{GoesOn}
 use Rattle.mode_vm.specs.StateParts.{IsAt}

@@ -1,7 +1,7 @@
 -- A bool is negated, or decides how to go on.
 use Rattle.std.proofs.Common.{◌≡◌, ℕ, ◌+◌, ◌<◌, Bool, true, false, not, List, [], ◌∷◌, ◌++◌, length, reverse, Result, Ok, Option, refl, ap, ◌∙◌, subst, arith, if◌then◌else◌}
 use Rattle.core_terms.specs.Types.{Ty, BoolTy}
-use Rattle.core_terms.specs.Values.{Value, BoolV, AndV}
+use Rattle.core_terms.specs.Values.{Value, BoolV}
 use Rattle.core_terms.specs.Terms.{Program}
 use Rattle.core_terms.specs.declared.outcome.Trap.{Trap}
 use Rattle.ideal_meaning.specs.Run.{Run, Gives, bool_in}

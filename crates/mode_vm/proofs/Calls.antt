@@ -1,32 +1,30 @@
 -- A call begins, and gives back.
-use Rattle.std.proofs.Common.{◌≡◌, ℕ, zero, suc, pred, ◌+◌, ◌<◌, ◌≤◌, Bool, true, false, List, [], ◌∷◌, ◌++◌, length, drop, map, reverse, Ok, Err, Some, None, slice_get, refl, sym, ap, ap₂, ◌∙◌, subst, arith, append_assoc}
+use Rattle.std.proofs.Common.{◌≡◌, ℕ, zero, suc, pred, ◌+◌, ◌<◌, ◌≤◌, true, false, List, [], ◌∷◌, ◌++◌, length, drop, reverse, Some, slice_get, refl, sym, ap, ap₂, ◌∙◌, subst, arith, append_assoc}
 use Rattle.std.proofs.lemmas.List.{reverse-append, length-map, length-reverse}
 use Rattle.core_terms.specs.Types.{Ty, Table}
-use Rattle.core_terms.specs.Values.{Value, Values, NoV, AndV}
-use Rattle.core_terms.specs.Terms.{Program, Function, function_at, IsTyped}
-use Rattle.ideal_meaning.specs.Run.{Run, Gives, Ends, IsOut, join}
-use Rattle.code_gen.specs.Instructions.{Instruction, Call, Return}
+use Rattle.core_terms.specs.Values.{Values, NoV, AndV}
+use Rattle.core_terms.specs.Terms.{Program, IsTyped}
+use Rattle.ideal_meaning.specs.Run.{join}
+use Rattle.code_gen.specs.Instructions.{Call}
 use Rattle.code_gen.specs.Code.{Body, code_at, generated, function_code}
-use Rattle.code_meaning.specs.Execution.{Coded, Ran, held, tie, Held, Next, popped, then_coded, exec, act, call_code}
-use Rattle.code_meaning.specs.Accept.{Shape, shape, push_types, IsFine, Fits}
+use Rattle.code_meaning.specs.Execution.{Coded, held, tie, Held, popped, then_coded, exec, call_code}
+use Rattle.code_meaning.specs.Accept.{Shape, shape, push_types, IsFine}
 use Rattle.code_meaning.specs.Steps as steps
 use Rattle.code_meaning.proofs.Parts.{push_all}
 use Rattle.code_meaning.proofs.Loop.{then_twice}
 use Rattle.code_meaning.proofs.Generated.{generated_accepted}
 use Rattle.value_store.specs.Nodes.{Node}
-use Rattle.value_store.specs.Standing.{Kind, StandsFor, AllStandFor}
+use Rattle.value_store.specs.Standing.{Kind, AllStandFor}
 use Rattle.value_store.specs.Markings.{Marking, kind_of}
 use Rattle.value_store.specs.CodeNodes.{numbers_of}
 use Rattle.value_store.specs.declared.node.Ref.{Ref}
 use Rattle.mode_vm.specs.Meanings.{CauseOf, StateOf, mode_of}
-use Rattle.mode_vm.specs.Machines.{ValueFrame, ValueStack, stack_steps, frame_of, waiting_of, runs_on, enters, goes, end_of, IsFrame, IsTop, IsWaiting, AreWaiting, AreDeep, IsDeep, Represents, IsNext}
-use Rattle.mode_vm.specs.Outcomes.{GoesTo, EndsAs}
-use Rattle.mode_vm.specs.StateParts.{IsAt, Begins}
-use Rattle.mode_vm.specs.declared.frame.Frame.{Frame}
+use Rattle.mode_vm.specs.Machines.{ValueFrame, ValueStack, stack_steps, waiting_of, enters, end_of, AreWaiting, AreDeep, IsDeep, Represents, IsNext}
+use Rattle.mode_vm.specs.Outcomes.{GoesTo}
+use Rattle.mode_vm.specs.StateParts.{Begins}
 use Rattle.mode_vm.specs.declared.state.State.{State}
-use Rattle.mode_vm.specs.declared.state.Step.TheVariants.{Paused, Ended}
 use Rattle.mode_vm.proofs.Operands.{as_many}
-use Rattle.mode_vm.proofs.Frames.{ToNext, fits_first, fine_rest, drop_more, reverse_push, calls}
+use Rattle.mode_vm.proofs.Frames.{ToNext, fits_first, fine_rest, drop_more, calls}
 
 module _ (kind : Kind) (types : Table) (nodes : List Node) where
   -- the topmost operands are args, the last of them being the top, and rest are those below

@@ -1,17 +1,17 @@
 -- A constructor value is made of the topmost operands.
-use Rattle.std.proofs.Common.{◌≡◌, ℕ, ◌+◌, ◌≤◌, true, ◌&&◌, List, [], ◌∷◌, ◌++◌, length, reverse, nat_lt, Result, Option, Some, unwrap_or, refl, sym, ap, ◌∙◌, subst, arith, lt-ltb}
+use Rattle.std.proofs.Common.{◌≡◌, ℕ, ◌≤◌, true, ◌&&◌, List, [], ◌∷◌, ◌++◌, length, reverse, nat_lt, Result, Option, Some, unwrap_or, refl, ap, ◌∙◌, subst, arith, lt-ltb}
 use Rattle.std.specs.List.{list_all}
 use Rattle.std.proofs.lemmas.List.{reverse-append, length-map, length-reverse}
 use Rattle.core_terms.specs.Types.{Ty, Table, NamedTy, fields_at}
-use Rattle.core_terms.specs.Values.{Value, Values, NoV, AndV, ConV}
+use Rattle.core_terms.specs.Values.{Values, NoV, AndV, ConV}
 use Rattle.core_terms.specs.Terms.{Program}
 use Rattle.core_terms.specs.LanguagePrograms.{meaning}
 use Rattle.core_terms.specs.declared.language.program.Program.{Program as Coded}
 use Rattle.core_terms.specs.declared.outcome.Trap.{Trap}
-use Rattle.ideal_meaning.specs.Run.{Run, limited}
+use Rattle.ideal_meaning.specs.Run.{limited}
 use Rattle.code_gen.specs.Instructions.{Make}
 use Rattle.code_gen.specs.Code.{generated, field_count}
-use Rattle.code_meaning.specs.Execution.{Coded as Ends, Held, Next, held, tie, act, popped, pushed as given, then_code}
+use Rattle.code_meaning.specs.Execution.{Coded as Ends, Held, Next, held, tie, act, popped, then_code}
 use Rattle.code_meaning.specs.Accept.{push_types}
 use Rattle.code_meaning.proofs.Parts.{push_all}
 use Rattle.value_store.specs.Nodes.{Node}

@@ -1,10 +1,9 @@
 -- A frame goes on behind an instruction.
-use Rattle.std.proofs.Common.{◌≡◌, ℕ, zero, suc, ◌+◌, ◌<◌, ◌≤◌, List, [], ◌∷◌, ◌++◌, drop, reverse, map, length, Ok, Err, Some, None, slice_get, refl, sym, ap, ◌∙◌, subst, arith}
+use Rattle.std.proofs.Common.{◌≡◌, ℕ, zero, suc, ◌+◌, ◌<◌, ◌≤◌, List, [], ◌∷◌, ◌++◌, drop, reverse, length, Some, slice_get, refl, sym, ap, ◌∙◌, subst, arith}
 use Rattle.std.proofs.lemmas.List.{reverse-append}
 use Rattle.core_terms.specs.Types.{Ty}
 use Rattle.core_terms.specs.Values.{Value, Values, NoV, AndV}
 use Rattle.core_terms.specs.Terms.{Program}
-use Rattle.ideal_meaning.specs.Run.{Mode}
 use Rattle.code_gen.specs.Instructions.{Instruction}
 use Rattle.code_gen.specs.Code.{Body, code_at, generated}
 use Rattle.code_meaning.specs.Execution.{Coded, tie, act, exec, call_code, Next}
@@ -16,7 +15,7 @@ use Rattle.value_store.specs.Markings.{Marking, kind_of}
 use Rattle.value_store.specs.CodeNodes.{numbers_of}
 use Rattle.value_store.specs.declared.node.Ref.{Ref}
 use Rattle.mode_vm.specs.Meanings.{CauseOf, StateOf, mode_of}
-use Rattle.mode_vm.specs.Machines.{ValueFrame, frame_of, runs_on, IsFrame, IsTop, IsNext, Before, IsSameCall}
+use Rattle.mode_vm.specs.Machines.{ValueFrame, runs_on, IsTop, Before}
 use Rattle.mode_vm.specs.Outcomes.{GoesOn}
 use Rattle.mode_vm.specs.StateParts.{IsAt}
 use Rattle.mode_vm.specs.declared.frame.Frame.{Frame}

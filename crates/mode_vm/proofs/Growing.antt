@@ -1,5 +1,5 @@
 -- A machine that waits, while the store grows.
-use Rattle.std.proofs.Common.{◌≡◌, ℕ, List, reverse}
+use Rattle.std.proofs.Common.{List, reverse}
 use Rattle.core_terms.specs.Types.{Ty}
 use Rattle.core_terms.specs.Terms.{Program}
 use Rattle.value_store.specs.Nodes.{Node}

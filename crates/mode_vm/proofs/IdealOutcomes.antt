@@ -1,5 +1,5 @@
 -- What a run in ideal mode comes to, as an outcome of the definitions.
-use Rattle.std.proofs.Common.{◌≡◌, ℕ, List, Option, ap}
+use Rattle.std.proofs.Common.{ℕ, List, Option, ap}
 use Rattle.core_terms.specs.Types.{Ty}
 use Rattle.core_terms.specs.Terms.{Program}
 use Rattle.core_terms.specs.declared.outcome.Outcome.{Outcome}

@@ -1,5 +1,5 @@
 -- The instructions on two ints.
-use Rattle.std.proofs.Common.{◌≡◌, ℕ, ℤ, ◌++◌, List, [], ◌∷◌, Result, Ok, Option, refl, ap, ap₂, ◌∙◌}
+use Rattle.std.proofs.Common.{◌≡◌, ℕ, ℤ, ◌++◌, List, [], ◌∷◌, Result, Ok, Option, refl, ap₂}
 use Rattle.core_terms.specs.Types.{IntTy, BoolTy}
 use Rattle.core_terms.specs.Values.{Value, IntV, BoolV}
 use Rattle.core_terms.specs.Terms.{Program}
@@ -7,20 +7,19 @@ use Rattle.core_terms.specs.declared.language.term.Arith.{Arith}
 use Rattle.core_terms.specs.declared.language.term.Compare.{Compare}
 use Rattle.core_terms.specs.declared.outcome.Trap.{Trap}
 use Rattle.ideal_meaning.specs.Run.{Run, Gives, arith_of, compare_of, int_in}
-use Rattle.code_gen.specs.Instructions.{Instruction, ArithOp, CompareOp}
+use Rattle.code_gen.specs.Instructions.{ArithOp, CompareOp}
 use Rattle.code_gen.specs.Code.{generated}
-use Rattle.code_meaning.specs.Execution.{Held, held, Next, act, then_code}
 use Rattle.value_store.specs.Nodes.{Node}
 use Rattle.value_store.specs.Standing.{StandsFor, Keeps}
 use Rattle.value_store.specs.Markings.{Marking, kind_of}
 use Rattle.value_store.specs.declared.node.Ref.{Ref}
-use Rattle.mode_vm.specs.Meanings.{CauseOf, StateOf, mode_of}
+use Rattle.mode_vm.specs.Meanings.{CauseOf, StateOf}
 use Rattle.mode_vm.specs.Machines.{ValueFrame, Before}
 use Rattle.mode_vm.specs.Calculations.{Makes}
 use Rattle.mode_vm.specs.Outcomes.{Acts}
 use Rattle.mode_vm.specs.StateParts.{IsAt, Finishes}
 use Rattle.mode_vm.specs.declared.frame.Frame.{Frame}
-use Rattle.mode_vm.proofs.Frames.{ToNext, fits_next, calls}
+use Rattle.mode_vm.proofs.Frames.{ToNext, fits_next}
 use Rattle.mode_vm.proofs.Made.{ActsOnTwo, first_operand, second_operand, two_acts}
 use Rattle.mode_vm.proofs.Operands.{TakesTwo, arith_parts, compare_parts}
 

@@ -1,20 +1,18 @@
 -- What an instruction does to the running frame, it does to the machine.
-use Rattle.std.proofs.Common.{◌≡◌, ℕ, zero, suc, ◌+◌, ◌<◌, ◌≤◌, Bool, true, false, List, [], ◌∷◌, ◌++◌, length, drop, map, reverse, Result, Option, Ok, Err, Some, None, slice_get, slice_index_or, refl, sym, ap, ap₂, ◌∙◌, subst, arith}
-use Rattle.std.proofs.lemmas.List.{length-map}
-use Rattle.core_terms.specs.Types.{Ty, Table}
-use Rattle.core_terms.specs.Values.{Value, Values, NoV, AndV}
+use Rattle.std.proofs.Common.{◌≡◌, ℕ, zero, suc, ◌<◌, ◌≤◌, true, List, [], ◌∷◌, length, drop, map, reverse, Option, Ok, Some, None, slice_get, slice_index_or, refl, sym, ap, ap₂, ◌∙◌, subst, arith}
+use Rattle.core_terms.specs.Types.{Ty}
 use Rattle.core_terms.specs.Terms.{Program}
 use Rattle.core_terms.specs.declared.outcome.Trap.{Trap}
 use Rattle.code_gen.specs.Instructions.{Instruction}
 use Rattle.code_gen.specs.Code.{Body, code_at, generated}
-use Rattle.code_meaning.specs.Execution.{Ran, then_coded}
-use Rattle.code_meaning.specs.Accept.{Shape, shape, IsFine}
+use Rattle.code_meaning.specs.Execution.{then_coded}
+use Rattle.code_meaning.specs.Accept.{Shape, IsFine}
 use Rattle.code_meaning.specs.Steps as steps
 use Rattle.value_store.specs.Nodes.{Node}
-use Rattle.value_store.specs.Standing.{Kind, AllStandFor, Keeps}
+use Rattle.value_store.specs.Standing.{Keeps}
 use Rattle.value_store.specs.Markings.{Marking, kind_of}
-use Rattle.mode_vm.specs.Meanings.{CauseOf, StateOf, mode_of}
-use Rattle.mode_vm.specs.Machines.{ValueFrame, ValueStack, stack_steps, waiting_of, runs_on, end_of, IsFrame, IsTop, IsWaiting, AreWaiting, AreDeep, IsDeep, Represents, IsNext, Before}
+use Rattle.mode_vm.specs.Meanings.{mode_of}
+use Rattle.mode_vm.specs.Machines.{ValueFrame, ValueStack, stack_steps, waiting_of, runs_on, end_of, IsFrame, AreWaiting, AreDeep, IsDeep, Represents, IsNext}
 use Rattle.mode_vm.specs.Outcomes.{Acts, Leads, step_told}
 use Rattle.mode_vm.specs.declared.frame.Frame.{Frame}
 use Rattle.mode_vm.specs.declared.state.State.{State}

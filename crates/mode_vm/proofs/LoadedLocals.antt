@@ -1,14 +1,12 @@
 -- A local.
-use Rattle.std.proofs.Common.{◌≡◌, ℕ, zero, suc, ◌+◌, ◌<◌, ◌≤◌, List, [], ◌∷◌, ◌++◌, length, drop, map, reverse, Result, Ok, Err, Option, Some, None, slice_get, slice_index_or, refl, sym, ap, ◌∙◌, subst, arith}
-use Rattle.std.proofs.lemmas.List.{length-map}
+use Rattle.std.proofs.Common.{◌≡◌, ℕ, zero, suc, ◌<◌, List, [], ◌∷◌, length, drop, Result, Ok, Option, Some, slice_get, slice_index_or, refl, sym, ap, ◌∙◌, subst, arith}
 use Rattle.core_terms.specs.Types.{Ty, Table}
 use Rattle.core_terms.specs.Values.{Value, Values, NoV, AndV}
 use Rattle.core_terms.specs.Terms.{Program}
 use Rattle.core_terms.specs.declared.outcome.Trap.{Trap}
 use Rattle.ideal_meaning.specs.Run.{Gives}
 use Rattle.code_gen.specs.Instructions.{Load}
-use Rattle.code_gen.specs.Code.{generated}
-use Rattle.code_meaning.specs.Execution.{Held, held, tie, where_some}
+use Rattle.code_meaning.specs.Execution.{held, tie, where_some}
 use Rattle.code_meaning.specs.Accept.{shape}
 use Rattle.value_store.specs.Nodes.{Node}
 use Rattle.value_store.specs.Standing.{Kind, StandsFor, AllStandFor}
@@ -20,7 +18,6 @@ use Rattle.mode_vm.specs.Outcomes.{Acts}
 use Rattle.mode_vm.specs.StateParts.{Finishes}
 use Rattle.mode_vm.specs.declared.frame.Frame.{Frame}
 use Rattle.mode_vm.proofs.Frames.{fits_next}
-use Rattle.mode_vm.proofs.Operands.{as_many}
 use Rattle.mode_vm.proofs.Made.{made_acts}
 
 module _ (kind : Kind) (types : Table) (nodes : List Node) where

@@ -1,5 +1,5 @@
 -- An instruction that gives what was made, or traps.
-use Rattle.std.proofs.Common.{◌≡◌, ℕ, ◌+◌, ◌<◌, ◌≤◌, List, [], ◌∷◌, ◌++◌, length, reverse, Result, Ok, Err, Option, Some, None, refl, sym, ap, ◌∙◌, subst}
+use Rattle.std.proofs.Common.{◌≡◌, ℕ, ◌+◌, List, [], ◌∷◌, ◌++◌, reverse, Result, Ok, Err, Option, Some, None, sym, ap, ◌∙◌, subst}
 use Rattle.core_terms.specs.Types.{Ty}
 use Rattle.core_terms.specs.Values.{Value, Values}
 use Rattle.core_terms.specs.Terms.{Program}
@@ -15,12 +15,12 @@ use Rattle.value_store.specs.Markings.{Marking, kind_of}
 use Rattle.value_store.specs.CodeNodes.{numbers_of}
 use Rattle.value_store.specs.declared.node.Ref.{Ref}
 use Rattle.mode_vm.specs.Meanings.{CauseOf, StateOf, mode_of}
-use Rattle.mode_vm.specs.Machines.{ValueFrame, runs_on, Before}
+use Rattle.mode_vm.specs.Machines.{ValueFrame, Before}
 use Rattle.mode_vm.specs.Calculations.{Makes}
 use Rattle.mode_vm.specs.Outcomes.{Acts}
 use Rattle.mode_vm.specs.StateParts.{IsAt, Finishes, FinishesOn}
 use Rattle.mode_vm.specs.declared.frame.Frame.{Frame}
-use Rattle.mode_vm.proofs.Frames.{ToNext, fits_next, pushes, calls, runs_first}
+use Rattle.mode_vm.proofs.Frames.{ToNext, pushes, calls, runs_first}
 use Rattle.mode_vm.proofs.Operands.{One, Two, TakesOne, TakesTwo, one_popped, two_popped}
 
 module _ (frame mid after : Frame) (kept : List Ref) (popped : IsAt frame frame.place frame.locals.items kept mid) where

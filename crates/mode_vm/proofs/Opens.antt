@@ -1,13 +1,13 @@
 -- The machine opens its top operand.
-use Rattle.std.proofs.Common.{◌≡◌, ℕ, zero, suc, ◌+◌, ◌<◌, ◌≤◌, Bool, true, false, List, [], ◌∷◌, ◌++◌, length, drop, map, reverse, Result, Option, Ok, Err, Some, None, slice_get, refl, sym, ap, ap₂, ◌∙◌, subst, arith}
+use Rattle.std.proofs.Common.{◌≡◌, ℕ, ◌+◌, ◌≤◌, true, List, [], ◌∷◌, ◌++◌, reverse, Option, Err, refl, sym, ap, ap₂, ◌∙◌, subst, arith}
 use Rattle.core_terms.specs.Types.{Ty, AuthTy}
 use Rattle.core_terms.specs.Values.{Value, Values, NoV, AndV}
 use Rattle.core_terms.specs.Terms.{Program}
-use Rattle.ideal_meaning.specs.Run.{Run, Gives, Ends, Rejects, Opening, Opens, Refuses, with_fuel}
-use Rattle.code_gen.specs.Instructions.{Instruction, Unauth}
-use Rattle.code_gen.specs.Code.{Body, code_at, generated}
+use Rattle.ideal_meaning.specs.Run.{Run, Ends, Rejects, Opens, Refuses, with_fuel}
+use Rattle.code_gen.specs.Instructions.{Unauth}
+use Rattle.code_gen.specs.Code.{Body, generated}
 use Rattle.code_meaning.specs.Execution.{Coded, Ran, held, tie, then_code, then_coded, exec, act}
-use Rattle.code_meaning.specs.Accept.{Shape, shape, IsFine, Fits}
+use Rattle.code_meaning.specs.Accept.{Fits}
 use Rattle.code_meaning.specs.Steps as steps
 use Rattle.value_store.specs.Nodes.{Node}
 use Rattle.value_store.specs.Standing.{Kind, StandsFor, AllStandFor, Keeps}
@@ -16,13 +16,12 @@ use Rattle.value_store.specs.CodeNodes.{numbers_of}
 use Rattle.value_store.specs.declared.node.Ref.{Ref}
 use Rattle.value_store.proofs.OneValue.{one_value}
 use Rattle.mode_vm.specs.Meanings.{CauseOf, StateOf, RunOf, mode_of}
-use Rattle.mode_vm.specs.Machines.{ValueFrame, ValueStack, waiting_of, runs_on, end_of, IsFrame, IsTop, AreWaiting, AreDeep, IsDeep, Represents, IsNext, Before}
+use Rattle.mode_vm.specs.Machines.{ValueStack, waiting_of, end_of, AreWaiting, AreDeep, IsDeep, Represents, IsNext, Before}
 use Rattle.mode_vm.specs.StateParts.{IsAt, IsElseSame}
 use Rattle.mode_vm.specs.Openings.{OpensAs}
 use Rattle.mode_vm.specs.Runs.{StopIs}
 use Rattle.mode_vm.specs.declared.mode.Stop.{Stop}
 use Rattle.mode_vm.specs.declared.mode.Stop.TheVariants.{Mode as ModeStops, NoMemory}
-use Rattle.mode_vm.specs.declared.frame.Frame.{Frame}
 use Rattle.mode_vm.specs.declared.state.State.{State}
 use Rattle.mode_vm.proofs.Frames.{ToNext, fits_next, moved, moved_top, all_keep, reverse_push, calls}
 use Rattle.mode_vm.proofs.Lifting.{waits_keep}

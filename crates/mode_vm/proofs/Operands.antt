@@ -1,16 +1,15 @@
 -- The topmost operands, by their types.
-use Rattle.std.proofs.Common.{◌≡◌, ℕ, zero, suc, ◌+◌, ◌≤◌, ◌<◌, List, [], ◌∷◌, ◌++◌, length, reverse, Option, Some, None, slice_get, nat_lt, refl, sym, ap, ap₂, ◌∙◌, subst, arith, Bool, true, false, if◌then◌else◌}
+use Rattle.std.proofs.Common.{◌≡◌, ℕ, suc, List, [], ◌∷◌, ◌++◌, length, reverse, nat_lt, refl, ap, ◌∙◌, subst, true, false}
 use Rattle.std.proofs.lemmas.List.{reverse-append}
 use Rattle.core_terms.specs.Types.{Ty, Table, PairTy, IntTy, BoolTy, TextTy}
-use Rattle.core_terms.specs.Values.{Value, Values, NoV, AndV, PairV, IntV, size, depth}
+use Rattle.core_terms.specs.Values.{Value, Values, NoV, AndV, size, depth}
 use Rattle.core_terms.specs.Formats.{depth_limit}
 use Rattle.core_terms.specs.declared.language.term.Arith.{Arith}
 use Rattle.core_terms.specs.declared.language.term.Compare.{Compare}
 use Rattle.core_terms.specs.declared.language.term.TextCompare.{TextCompare}
-use Rattle.ideal_meaning.specs.Run.{Run, Gives, Ends, Traps, TooBig, TooDeep, limited}
-use Rattle.code_gen.specs.Instructions.{Instruction, Pair, Fst, Snd, ArithOp, CompareOp, TextCompareOp, Cat, Len, Not}
+use Rattle.ideal_meaning.specs.Run.{Gives, Ends, Traps, TooBig, TooDeep, limited}
+use Rattle.code_gen.specs.Instructions.{Pair, Fst, Snd, ArithOp, CompareOp, TextCompareOp, Cat, Len, Not}
 use Rattle.code_gen.specs.Code.{Body}
-use Rattle.code_meaning.specs.Execution.{Held, held, tie}
 use Rattle.code_meaning.specs.Accept.{Fits}
 use Rattle.value_store.specs.Nodes.{Node}
 use Rattle.value_store.specs.Standing.{Kind, StandsFor, AllStandFor}

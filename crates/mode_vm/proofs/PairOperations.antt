@@ -1,26 +1,25 @@
 -- The instructions on pairs.
-use Rattle.std.proofs.Common.{◌≡◌, length, ℕ, ◌++◌, List, [], ◌∷◌, Result, Ok, Option, refl, ap, ap₂, ◌∙◌, ◌<◌}
+use Rattle.std.proofs.Common.{◌≡◌, length, ℕ, ◌++◌, List, [], ◌∷◌, Result, Ok, Option, refl, ap, ◌<◌}
 use Rattle.core_terms.specs.Types.{Ty, PairTy}
 use Rattle.core_terms.specs.Values.{Value, PairV}
 use Rattle.core_terms.specs.Terms.{Program}
 use Rattle.core_terms.specs.declared.outcome.Trap.{Trap}
 use Rattle.ideal_meaning.specs.Run.{Run, Gives, limited, first_in, second_in}
-use Rattle.code_gen.specs.Instructions.{Instruction, Pair, Fst, Snd}
+use Rattle.code_gen.specs.Instructions.{Pair, Fst, Snd}
 use Rattle.code_gen.specs.Code.{generated}
-use Rattle.code_meaning.specs.Execution.{Held, held, Next, act, then_code}
 use Rattle.value_store.specs.Nodes.{Node}
 use Rattle.value_store.specs.Standing.{StandsFor, Keeps}
 use Rattle.value_store.specs.Markings.{Marking, kind_of}
 use Rattle.value_store.specs.declared.node.Ref.{Ref}
 use Rattle.value_store.proofs.StandingNodes.{there_stands}
-use Rattle.mode_vm.specs.Meanings.{CauseOf, StateOf, mode_of}
+use Rattle.mode_vm.specs.Meanings.{CauseOf, StateOf}
 use Rattle.mode_vm.specs.Machines.{ValueFrame, Before}
 use Rattle.mode_vm.specs.Calculations.{Makes}
 use Rattle.mode_vm.specs.Outcomes.{Acts}
 use Rattle.mode_vm.specs.StateParts.{IsAt, Finishes}
 use Rattle.mode_vm.specs.declared.frame.Frame.{Frame}
-use Rattle.mode_vm.proofs.Frames.{ToNext, fits_next, calls}
-use Rattle.mode_vm.proofs.Made.{ActsOnOne, ActsOnTwo, first_operand, on_two, operand, one_acts, second_operand, two_acts}
+use Rattle.mode_vm.proofs.Frames.{ToNext, fits_next}
+use Rattle.mode_vm.proofs.Made.{ActsOnOne, first_operand, operand, one_acts, second_operand, two_acts}
 use Rattle.mode_vm.proofs.Operands.{TakesOne, TakesTwo, pair_parts, first_parts, second_parts}
 
 module _ (m : Marking) (P : Program) (nodes : List Node) (frame : Frame) (c : ValueFrame) (b : Before m P nodes frame Pair c)

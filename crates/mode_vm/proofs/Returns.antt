@@ -1,22 +1,22 @@
 -- A function gives its value back.
-use Rattle.std.proofs.Common.{◌≡◌, ℕ, zero, suc, ◌+◌, ◌<◌, ◌≤◌, Bool, true, false, List, [], ◌∷◌, ◌++◌, length, drop, map, reverse, Ok, Err, Some, None, slice_get, refl, sym, ap, ap₂, ◌∙◌, subst, arith}
+use Rattle.std.proofs.Common.{◌≡◌, ℕ, ◌+◌, ◌<◌, ◌≤◌, true, List, [], ◌∷◌, ◌++◌, length, drop, reverse, refl, sym, ap, ap₂, ◌∙◌, subst, arith}
 use Rattle.std.proofs.lemmas.List.{reverse-append}
 use Rattle.core_terms.specs.Types.{Ty, Table}
 use Rattle.core_terms.specs.Values.{Value, Values, NoV, AndV}
 use Rattle.core_terms.specs.Terms.{Program}
 use Rattle.ideal_meaning.specs.Run.{Gives}
-use Rattle.code_gen.specs.Instructions.{Instruction, Return}
+use Rattle.code_gen.specs.Instructions.{Return}
 use Rattle.code_gen.specs.Code.{Body, code_at, generated}
-use Rattle.code_meaning.specs.Execution.{Ran, held, tie, then_coded, exec, act}
-use Rattle.code_meaning.specs.Accept.{Shape, shape, IsFine, Fits}
+use Rattle.code_meaning.specs.Execution.{Ran, tie, then_coded, exec, act}
+use Rattle.code_meaning.specs.Accept.{IsFine, Fits}
 use Rattle.code_meaning.specs.Steps as steps
 use Rattle.value_store.specs.Nodes.{Node}
 use Rattle.value_store.specs.Standing.{Kind, StandsFor, AllStandFor}
 use Rattle.value_store.specs.Markings.{Marking, kind_of}
 use Rattle.value_store.specs.CodeNodes.{numbers_of}
 use Rattle.value_store.specs.declared.node.Ref.{Ref}
-use Rattle.mode_vm.specs.Meanings.{CauseOf, StateOf, mode_of}
-use Rattle.mode_vm.specs.Machines.{ValueFrame, ValueStack, all_left, stack_steps, frame_of, waiting_of, runs_on, end_of, IsFrame, IsTop, IsWaiting, AreWaiting, AreDeep, IsDeep, Represents, IsNext}
+use Rattle.mode_vm.specs.Meanings.{StateOf, mode_of}
+use Rattle.mode_vm.specs.Machines.{ValueFrame, ValueStack, all_left, stack_steps, waiting_of, end_of, AreWaiting, AreDeep, IsDeep, Represents, IsNext}
 use Rattle.mode_vm.specs.Outcomes.{GoesTo}
 use Rattle.mode_vm.specs.StateParts.{IsAt}
 use Rattle.mode_vm.specs.declared.frame.Frame.{Frame}

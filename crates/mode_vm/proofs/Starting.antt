@@ -1,14 +1,14 @@
 -- A machine that was started will come to what the definitions' call comes to.
-use Rattle.std.proofs.Common.{◌≡◌, ℕ, zero, suc, pred, ◌+◌, ◌*◌, ◌<◌, ◌≤◌, Bool, true, false, List, [], ◌∷◌, length, drop, reverse, Some, slice_get, refl, sym, ap, ap₂, ◌∙◌, subst, arith}
+use Rattle.std.proofs.Common.{◌≡◌, ℕ, zero, suc, pred, ◌+◌, ◌*◌, ◌<◌, ◌≤◌, List, [], ◌∷◌, length, drop, reverse, Some, slice_get, refl, sym, ap, ap₂, ◌∙◌, subst, arith}
 use Rattle.core_terms.specs.Types.{Ty}
-use Rattle.core_terms.specs.Values.{Value, Values, NoV, AndV, AreIdeal, AreShallow}
+use Rattle.core_terms.specs.Values.{Values, NoV, AndV, AreIdeal, AreShallow}
 use Rattle.core_terms.specs.Terms.{Program, IsTyped, function_at}
 use Rattle.core_terms.specs.Projection.{digest_at}
-use Rattle.ideal_meaning.specs.Run.{Run, Gives, Ends, call_from}
+use Rattle.ideal_meaning.specs.Run.{Gives, Ends, call_from}
 use Rattle.ideal_meaning.specs.Ideal.{Opened, ideal_mode}
 use Rattle.ideal_meaning.specs.Checked.{Cause, Taking, checked_mode}
-use Rattle.code_gen.specs.Code.{Body, code_at, generated, function_code}
-use Rattle.code_meaning.specs.Execution.{Coded, Ran, Stuck, then_coded, call_code, call_code_from, tie}
+use Rattle.code_gen.specs.Code.{Body, code_at, generated}
+use Rattle.code_meaning.specs.Execution.{Coded, Ran, Stuck, then_coded, call_code_from}
 use Rattle.code_meaning.specs.Accept.{Shape, shape, IsFine}
 use Rattle.code_meaning.specs.Modes.{ideal_kind, digest_kind}
 use Rattle.code_meaning.proofs.Follows.{right, code_found}
@@ -21,7 +21,7 @@ use Rattle.value_store.specs.CodeNodes.{numbers_of}
 use Rattle.value_store.specs.declared.node.Ref.{Ref}
 use Rattle.value_store.proofs.TypedNodes.{ideal_refers, ideal_stands, prover_refers, shallow_stands}
 use Rattle.mode_vm.specs.Meanings.{CauseOf, StateOf, mode_of}
-use Rattle.mode_vm.specs.Machines.{ValueFrame, ValueStack, enters, end_of, AreWaiting, IsDeep, IsTop, Represents, code_size, frame_left, frames_left, left_if, steps_left}
+use Rattle.mode_vm.specs.Machines.{ValueFrame, ValueStack, enters, end_of, AreWaiting, IsDeep, Represents, code_size, frame_left, frames_left, left_if, steps_left}
 use Rattle.mode_vm.specs.Runs.{Ready, WillRun}
 use Rattle.mode_vm.specs.StateParts.{Starts}
 use Rattle.mode_vm.specs.declared.state.State.{State}

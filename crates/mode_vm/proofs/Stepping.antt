@@ -1,20 +1,18 @@
 -- What a step leads to, as what the machine will come to.
-use Rattle.std.proofs.Common.{◌≡◌, ℕ, zero, suc, ◌≤◌, ◌<◌, Bool, true, false, List, [], ◌∷◌, Result, Option, Ok, Err, Some, None, refl, sym, ap, ap₂, ◌∙◌, subst, arith}
+use Rattle.std.proofs.Common.{◌≡◌, ℕ, ◌<◌, Bool, List, Option, Ok, sym, ap, ◌∙◌, subst, arith}
 use Rattle.core_terms.specs.Types.{Ty}
 use Rattle.core_terms.specs.Terms.{Program}
 use Rattle.core_terms.specs.declared.outcome.Outcome.{Outcome}
 use Rattle.core_terms.specs.declared.outcome.Outcome.TheVariants.{Done, Trapped, Out}
-use Rattle.ideal_meaning.specs.Run.{Run, Gives, Ends, Traps, IsOut}
+use Rattle.ideal_meaning.specs.Run.{Gives, Ends, Traps, IsOut}
 use Rattle.ideal_meaning.specs.Told.{trap_told}
 use Rattle.code_meaning.specs.Execution.{Ran}
 use Rattle.value_store.specs.Nodes.{Node}
 use Rattle.value_store.specs.Markings.{Marking}
 use Rattle.mode_vm.specs.Meanings.{CauseOf, StateOf, RunOf}
-use Rattle.mode_vm.specs.Machines.{ValueFrame, ValueStack, Represents, end_of, AreDeep, stack_steps, steps_left}
-use Rattle.mode_vm.specs.Outcomes.{Leads, EndsAs, GoesTo}
+use Rattle.mode_vm.specs.Machines.{ValueStack, Represents, end_of, stack_steps, steps_left}
+use Rattle.mode_vm.specs.Outcomes.{Leads}
 use Rattle.mode_vm.specs.Runs.{Ready, WillRun, OnGoes, OutcomeIs, OutcomeStands, StepIs, StepStands}
-use Rattle.mode_vm.specs.declared.mode.Stop.{Stop}
-use Rattle.mode_vm.specs.declared.mode.Stop.TheVariants.{Mode as ModeStops, NoMemory}
 use Rattle.value_store.specs.declared.node.Ref.{Ref}
 use Rattle.mode_vm.specs.declared.state.State.{State}
 use Rattle.mode_vm.specs.declared.state.Step.{Step}

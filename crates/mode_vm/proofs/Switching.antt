@@ -1,20 +1,20 @@
 -- A value of a named type is taken apart.
-use Rattle.std.proofs.Common.{◌≡◌, ℕ, zero, suc, ◌+◌, ◌<◌, ◌≤◌, List, [], ◌∷◌, ◌++◌, length, drop, map, reverse, Option, slice_get, slice_index_or, Some, None, refl, sym, ap, ◌∙◌, subst, arith}
+use Rattle.std.proofs.Common.{◌≡◌, ℕ, ◌+◌, ◌<◌, List, [], ◌∷◌, ◌++◌, length, reverse, Option, slice_get, slice_index_or, Some, None, refl, sym, ap, ◌∙◌, subst}
 use Rattle.std.specs.Prelude.{unwrap_or}
 use Rattle.core_terms.specs.Types.{Ty, Table, NamedTy, fields_at, OnFields}
 use Rattle.core_terms.specs.Values.{Value, Values, NoV, AndV, ConV}
 use Rattle.core_terms.specs.Terms.{Program}
 use Rattle.ideal_meaning.specs.Run.{join}
-use Rattle.code_gen.specs.Instructions.{Instruction, Switch}
+use Rattle.code_gen.specs.Instructions.{Switch}
 use Rattle.code_gen.specs.Code.{Body, code_at, generated}
-use Rattle.code_meaning.specs.Execution.{Held, held, tie, act, Next, where_some}
-use Rattle.code_meaning.specs.Accept.{Shape, shape, Fits}
+use Rattle.code_meaning.specs.Execution.{held, tie, act, where_some}
+use Rattle.code_meaning.specs.Accept.{Fits}
 use Rattle.value_store.specs.Nodes.{Node, ConNode, form_at}
 use Rattle.value_store.specs.Standing.{Kind, StandsFor, AllStandFor}
 use Rattle.value_store.specs.Markings.{Marking, kind_of}
 use Rattle.value_store.specs.CodeNodes.{numbers_of}
 use Rattle.value_store.specs.declared.node.Ref.{Ref}
-use Rattle.mode_vm.specs.Meanings.{CauseOf, StateOf, mode_of}
+use Rattle.mode_vm.specs.Meanings.{mode_of}
 use Rattle.mode_vm.specs.Machines.{ValueFrame, Before}
 use Rattle.mode_vm.specs.Outcomes.{GoesOn}
 use Rattle.mode_vm.specs.StateParts.{IsAt}

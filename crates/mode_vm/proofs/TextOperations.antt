@@ -1,25 +1,24 @@
 -- The instructions on texts.
-use Rattle.std.proofs.Common.{◌≡◌, ℕ, ◌++◌, List, [], ◌∷◌, Result, Ok, Option, refl, ap, ap₂, ◌∙◌, length, pos}
+use Rattle.std.proofs.Common.{◌≡◌, ℕ, ◌++◌, List, [], ◌∷◌, Result, Ok, Option, refl, ap, ap₂, length, pos}
 use Rattle.core_terms.specs.Types.{TextTy, IntTy, BoolTy}
 use Rattle.core_terms.specs.Values.{Value, TextV, IntV, BoolV}
 use Rattle.core_terms.specs.Terms.{Program}
 use Rattle.core_terms.specs.declared.language.term.TextCompare.{TextCompare}
 use Rattle.core_terms.specs.declared.outcome.Trap.{Trap}
 use Rattle.ideal_meaning.specs.Run.{Run, Gives, limited, text_compare_of, text_in}
-use Rattle.code_gen.specs.Instructions.{Instruction, TextCompareOp, Cat, Len}
+use Rattle.code_gen.specs.Instructions.{TextCompareOp, Cat, Len}
 use Rattle.code_gen.specs.Code.{generated}
-use Rattle.code_meaning.specs.Execution.{Held, held, Next, act, then_code}
 use Rattle.value_store.specs.Nodes.{Node}
 use Rattle.value_store.specs.Standing.{StandsFor, Keeps}
 use Rattle.value_store.specs.Markings.{Marking, kind_of}
 use Rattle.value_store.specs.declared.node.Ref.{Ref}
-use Rattle.mode_vm.specs.Meanings.{CauseOf, StateOf, mode_of}
+use Rattle.mode_vm.specs.Meanings.{CauseOf, StateOf}
 use Rattle.mode_vm.specs.Machines.{ValueFrame, Before}
 use Rattle.mode_vm.specs.Calculations.{Makes}
 use Rattle.mode_vm.specs.Outcomes.{Acts}
 use Rattle.mode_vm.specs.StateParts.{IsAt, Finishes}
 use Rattle.mode_vm.specs.declared.frame.Frame.{Frame}
-use Rattle.mode_vm.proofs.Frames.{ToNext, fits_next, calls}
+use Rattle.mode_vm.proofs.Frames.{ToNext, fits_next}
 use Rattle.mode_vm.proofs.Made.{ActsOnOne, ActsOnTwo, operand, first_operand, second_operand, one_acts, two_acts}
 use Rattle.mode_vm.proofs.Operands.{TakesOne, TakesTwo, text_compare_parts, concat_parts, length_parts}
 

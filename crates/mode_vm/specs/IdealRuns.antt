@@ -1,5 +1,5 @@
 -- An ideal run, as the code tells it.
-use Rattle.std.specs.Prelude.{◌≡◌, ℕ, List}
+use Rattle.std.specs.Prelude.{◌≡◌, List}
 use Rattle.core_terms.specs.Types.{Ty, Table}
 use Rattle.core_terms.specs.Values.{Value}
 use Rattle.core_terms.specs.declared.outcome.Outcome.{Outcome}

@@ -1,12 +1,12 @@
 -- The state of the virtual machine, as that of the definitions.
 use Rattle.std.specs.Prelude.{◌≡◌, ℕ, zero, suc, ◌+◌, ◌*◌, ◌≤◌, ◌<◌, Bool, true, false, List, [], ◌∷◌, length, drop, reverse, Some, slice_get}
 use Rattle.core_terms.specs.Types.{Ty}
-use Rattle.core_terms.specs.Values.{Value, Values}
+use Rattle.core_terms.specs.Values.{Values}
 use Rattle.core_terms.specs.Terms.{Program}
 use Rattle.ideal_meaning.specs.Run.{Ends, IsOut}
 use Rattle.code_gen.specs.Instructions.{Instruction, Call, Return, Auth, Unauth}
 use Rattle.code_gen.specs.Code.{FunctionCode, code_at, generated}
-use Rattle.code_meaning.specs.Execution.{Coded, Ran, held, tie, then_coded}
+use Rattle.code_meaning.specs.Execution.{Coded, Ran, tie, then_coded}
 use Rattle.code_meaning.specs.Steps as steps
 use Rattle.code_meaning.specs.Accept.{Shape, shape, IsFine}
 use Rattle.value_store.specs.Nodes.{Node}

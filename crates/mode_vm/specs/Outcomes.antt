@@ -1,5 +1,5 @@
 -- What a step of the machine leads to.
-use Rattle.std.specs.Prelude.{◌≡◌, ◌<◌, ℕ, Bool, true, List, Result, Ok, Err, Option, Some, None}
+use Rattle.std.specs.Prelude.{◌≡◌, ◌<◌, ℕ, Bool, List, Result, Ok, Err, Option, Some, None}
 use Rattle.core_terms.specs.Types.{Ty}
 use Rattle.core_terms.specs.Values.{Value}
 use Rattle.core_terms.specs.Terms.{Program}
@@ -14,7 +14,7 @@ use Rattle.value_store.specs.Nodes.{Node}
 use Rattle.value_store.specs.Standing.{StandsFor}
 use Rattle.value_store.specs.Markings.{Marking, kind_of}
 use Rattle.value_store.specs.declared.node.Ref.{Ref}
-use Rattle.mode_vm.specs.Meanings.{CauseOf, StateOf, mode_of}
+use Rattle.mode_vm.specs.Meanings.{StateOf}
 use Rattle.mode_vm.specs.Machines.{Before, ValueFrame, ValueStack, IsSameCall, stack_steps, IsTop, Represents, end_of, runs_on}
 use Rattle.mode_vm.specs.declared.frame.Frame.{Frame}
 use Rattle.mode_vm.specs.declared.state.State.{State}

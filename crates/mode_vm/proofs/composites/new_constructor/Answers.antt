@@ -1,6 +1,6 @@
-use Rattle.std.proofs.Common.{◌≡◌, ◌≤◌, ◌<◌, ◌+◌, ◌∙◌, ℕ, Some, sym, ap, arith, leb-true, leb-false, le-ltb, lt-ltb, unwrap_or, []}
+use Rattle.std.proofs.Common.{◌≡◌, ◌≤◌, ◌<◌, ◌+◌, ◌∙◌, Some, sym, ap, arith, leb-true, leb-false, le-ltb, lt-ltb, unwrap_or, []}
 use Rattle.core_terms.specs.Formats.{depth_limit}
-use Rattle.core_terms.specs.Types.{NamedTy, fields_at}
+use Rattle.core_terms.specs.Types.{NamedTy}
 use Rattle.core_terms.specs.Values.{ConV, depth, depths, size, sizes}
 use Rattle.value_store.specs.CodeNodes.{numbers_of}
 use Rattle.value_store.specs.Nodes.{greatest_depth, size_limit, total_size}

@@ -1,4 +1,4 @@
-use Rattle.std.proofs.Common.{rules, ◌≡◌, ◌≤◌, ◌<◌, ◌+◌, nat_lt, max, false, sym, ap, ap₂, ◌∙◌, arith, ℕ, le-ltb}
+use Rattle.std.proofs.Common.{◌≤◌, max, sym, ap₂, ◌∙◌, arith, le-ltb}
 use Rattle.core_terms.specs.Types.{PairTy}
 use Rattle.core_terms.specs.Values.{PairV, size, depth}
 use Rattle.core_terms.specs.Formats.{depth_limit}

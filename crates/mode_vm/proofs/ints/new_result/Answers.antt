@@ -1,4 +1,4 @@
-use Rattle.std.proofs.Common.{refl, sym, ap, ap₂, ◌∙◌, subst, ◌<◌, ◌^◌, ◌≡◌, w64, arith}
+use Rattle.std.proofs.Common.{sym, ap₂, ◌∙◌, subst, arith}
 use Rattle.core_terms.specs.Types.{IntTy}
 use Rattle.core_terms.specs.Values.{IntV}
 use Rattle.ideal_meaning.specs.Run as meant

@@ -1,4 +1,4 @@
-use Rattle.std.proofs.Common.{◌≡◌, ◌≤◌, ◌++◌, ◌∙◌, ap, ap₂, length, length-append, subst, arith, le-ltb}
+use Rattle.std.proofs.Common.{◌≡◌, ◌≤◌, ◌++◌, ◌∙◌, ap, ap₂, length-append, subst, arith, le-ltb}
 use Rattle.core_terms.specs.Formats.{depth_limit}
 use Rattle.core_terms.specs.Types.{TextTy}
 use Rattle.core_terms.specs.Values.{TextV, depth, size}

@@ -1,7 +1,7 @@
-use Rattle.std.proofs.Common.{◌∙◌, sym, ap, ap₂, subst, arith}
+use Rattle.std.proofs.Common.{◌∙◌, ap₂, subst, arith}
 use Rattle.core_terms.specs.LanguagePrograms.{meaning}
 use Rattle.core_terms.specs.Types.{BoolTy}
-use Rattle.core_terms.specs.Values.{BoolV, IntV}
+use Rattle.core_terms.specs.Values.{BoolV}
 use Rattle.ideal_meaning.specs.Run.{compare_of}
 use Rattle.value_store.specs.Markings.{kind_of}
 use Rattle.value_store.specs.Standing.{StandsFor}

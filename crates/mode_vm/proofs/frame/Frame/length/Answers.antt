@@ -1,4 +1,4 @@
-use Rattle.std.proofs.Common.{◌≡◌, ◌∙◌, length, pos, sym, ap, subst, arith}
+use Rattle.std.proofs.Common.{length, pos, subst, arith}
 use Rattle.core_terms.specs.LanguagePrograms.{meaning}
 use Rattle.core_terms.specs.Types.{IntTy}
 use Rattle.core_terms.specs.Values.{IntV}

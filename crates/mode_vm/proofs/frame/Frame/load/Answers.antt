@@ -1,4 +1,4 @@
-use Rattle.std.proofs.Common.{refl, Ok, Some, arith, ap, sym, ◌∙◌}
+use Rattle.std.proofs.Common.{Some, arith, ap, sym, ◌∙◌}
 use Rattle.core_terms.specs.LanguagePrograms.{meaning}
 use Rattle.code_gen.specs.Programs.{program_in}
 use Rattle.mode_vm.proofs.LoadedLocals.{read_there, local_there, load_acts}

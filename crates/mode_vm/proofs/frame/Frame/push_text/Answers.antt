@@ -1,5 +1,4 @@
-use Rattle.std.proofs.Common.{◌≡◌, ◌∙◌, refl, Ok, subst, arith, length, ap, sym}
-use Rattle.std.proofs.lemmas.Str.{IsUtf8-from_is_utf8}
+use Rattle.std.proofs.Common.{◌≡◌, ◌∙◌, refl, Ok, subst, arith, length, ap}
 use Rattle.core_terms.specs.LanguagePrograms.{meaning}
 use Rattle.core_terms.specs.Texts.{bytes_of}
 use Rattle.core_terms.specs.Types.{TextTy}

@@ -1,9 +1,8 @@
-use Rattle.std.proofs.Common.{refl, arith, sym, ap, ap₂, ◌++◌, ◌∙◌, ◌<◌, ◌≡◌, length, Some, subst, ◌+◌}
+use Rattle.std.proofs.Common.{refl, arith, sym, ap, ap₂, ◌++◌, ◌∙◌, ◌<◌, length, subst, ◌+◌}
 use Rattle.core_terms.specs.LanguagePrograms.{meaning}
 use Rattle.value_store.proofs.NodeLists.{form_within}
 use Rattle.code_gen.specs.Programs.{program_in}
-use Rattle.mode_vm.specs.StateParts.{IsAt}
-use Rattle.mode_vm.proofs.LoadedLocals.{short, some_same, read_there}
+use Rattle.mode_vm.proofs.LoadedLocals.{short}
 use Rattle.mode_vm.proofs.Switching.{apart, seen_fields, seen_skip, switched, switch_within, skip_read}
 use Rattle.mode_vm.proofs.frame.Frame.switch.Goals as goal
 

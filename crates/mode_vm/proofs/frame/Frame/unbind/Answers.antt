@@ -1,4 +1,4 @@
-use Rattle.std.proofs.Common.{◌≡◌, ◌∙◌, ◌-◌, ap, take, length, refl, arith}
+use Rattle.std.proofs.Common.{◌∙◌, ◌-◌, ap, take, refl, arith}
 use Rattle.core_terms.specs.LanguagePrograms.{meaning}
 use Rattle.code_gen.specs.Programs.{program_in}
 use Rattle.mode_vm.proofs.Binding.{unbind_enough, unbound}

@@ -1,11 +1,11 @@
-use Rattle.std.proofs.Common.{subst, true, refl, ap, sym, ◌∙◌, Ok, Err, ◌≡◌, Some}
+use Rattle.std.proofs.Common.{subst, true, sym, ◌≡◌}
 use Rattle.core_terms.specs.LanguagePrograms.{meaning, types_of}
 use Rattle.core_terms.specs.TypeTables.{type_at}
 use Rattle.core_terms.specs.Types.{AuthTy}
 use Rattle.core_terms.specs.Values.{Value}
 use Rattle.code_gen.specs.Programs.{program_in}
 use Rattle.code_meaning.specs.Execution.{Ran}
-use Rattle.mode_vm.specs.Meanings.{StateOf, mode_of}
+use Rattle.mode_vm.specs.Meanings.{mode_of}
 use Rattle.mode_vm.specs.Machines.{end_of}
 use Rattle.mode_vm.specs.Openings.{Stands}
 use Rattle.mode_vm.specs.declared.state.Step.TheVariants.{Paused}

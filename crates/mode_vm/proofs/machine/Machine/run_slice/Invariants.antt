@@ -1,4 +1,4 @@
-use Rattle.std.proofs.Common.{ℕ, ◌+◌, ◌<◌, ◌≤◌, ◌≡◌, ◌^◌, false}
+use Rattle.std.proofs.Common.{◌+◌, ◌<◌, ◌≤◌, ◌≡◌, ◌^◌, false}
 use Rattle.core_terms.specs.Types.{Ty}
 use Rattle.core_terms.specs.LanguagePrograms.{meaning}
 use Rattle.value_store.specs.Standing.{Keeps}

@@ -1,9 +1,8 @@
 use Rattle.std.specs.declared.alloc.AllocError.{AllocError}
-use Rattle.std.proofs.Common.{subst, arith, true, false, refl, ap, sym, ◌∙◌, Ok, Err, ◌≡◌, Some}
+use Rattle.std.proofs.Common.{subst, arith, true, false, refl, ap, sym, ◌∙◌, ◌≡◌}
 use Rattle.core_terms.specs.LanguagePrograms.{meaning, types_of}
 use Rattle.code_gen.specs.Programs.{program_in}
 use Rattle.code_gen.specs.CodeTrees.{instruction_of}
-use Rattle.mode_vm.specs.Meanings.{StateOf}
 use Rattle.mode_vm.specs.StateParts.{fuel_after}
 use Rattle.mode_vm.specs.Machines.{IsNext, end_of}
 use Rattle.code_meaning.specs.Execution.{Ran}

@@ -1,14 +1,13 @@
-use Rattle.std.proofs.Common.{subst, true, refl, ap, sym, ◌∙◌, Ok, Err, ◌≡◌, Some}
+use Rattle.std.proofs.Common.{subst, sym, ◌∙◌, Ok, Err, ◌≡◌}
 use Rattle.core_terms.specs.LanguagePrograms.{meaning, types_of}
 use Rattle.core_terms.specs.TypeTables.{type_at}
 use Rattle.core_terms.specs.Types.{AuthTy}
 use Rattle.core_terms.specs.Values.{Value}
 use Rattle.code_gen.specs.Programs.{program_in}
 use Rattle.mode_vm.specs.Meanings.{StateOf}
-use Rattle.mode_vm.specs.Machines.{IsNext, end_of}
+use Rattle.mode_vm.specs.Machines.{end_of}
 use Rattle.code_meaning.specs.Execution.{Ran}
 use Rattle.mode_vm.specs.Openings.{OpensSome, OpensAs, Stands}
-use Rattle.mode_vm.specs.Runs.{StepIs}
 use Rattle.mode_vm.proofs.Made.{from_popped}
 use Rattle.mode_vm.proofs.Opens.{operand, stop_is, ran_is, refused, opened_cores, opened_shows, opened_same, rest_then}
 use Rattle.mode_vm.proofs.machine.Machine.unauth.Goals as goal

@@ -1,4 +1,4 @@
-use Rattle.std.proofs.Common.{subst, refl, ap, sym, ◌∙◌, true, Ok}
+use Rattle.std.proofs.Common.{subst, refl, sym, true, Ok}
 use Rattle.mode_vm.specs.declared.state.State.{State}
 use Rattle.core_terms.specs.LanguagePrograms.{meaning, types_of}
 use Rattle.code_gen.specs.Programs.{program_in}
