@@ -29,7 +29,7 @@ use Rattle.auth_types.specs.Outcomes.{TypeFault}
 use Rattle.auth_types.proofs.BoundNames.{named_local, with_local}
 use Rattle.auth_types.proofs.FindingSteps.{fault_first, finds_is, grown}
 use Rattle.auth_types.proofs.ScopeStays.{type_stays_at}
-use Rattle.auth_types.proofs.TermViews.{expression-Call, expression-Constructor, expression-If, expression-Let}
+use Rattle.core_terms.proofs.TermViews.{expression-Call, expression-Constructor, expression-If, expression-Let}
 use Rattle.auth_types.proofs.TypeNumbers.{shows_grow, shows_now, type_stays}
 
 -- how many expressions stand in a row

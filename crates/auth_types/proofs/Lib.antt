@@ -17,7 +17,6 @@ pub mod ScopeLookups
 pub mod RolesOfHeads
 -- the fourth pass, what its functions share: the forms of trees and of terms, where an elaborator stands, what is found of a part
 pub mod TreeViews
-pub mod TermViews
 pub mod ElaboratorSteps
 pub mod FindingSteps
 -- `local`, `plain` and `text` of elaborator.rt; operations.rt; calls.rt; `bind_each` of binders.rt

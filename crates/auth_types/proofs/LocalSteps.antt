@@ -17,7 +17,7 @@ use Rattle.auth_types.specs.declared.fault.TypeKind.TheVariants.{UnknownName}
 use Rattle.auth_types.specs.declared.bodies.elaborator.Elaborator.{Elaborator}
 use Rattle.auth_types.specs.declared.bodies.elaborator.Local.{Local as CodeLocal}
 use Rattle.auth_types.proofs.ScopeStays.{type_stays_at}
-use Rattle.auth_types.proofs.TermViews.{expression-IntLiteral, expression-Local}
+use Rattle.core_terms.proofs.TermViews.{expression-IntLiteral, expression-Local}
 
 type_of_local : (types : List Ty) (locals : List CodeLocal) (i : ℕ) (l d : CodeLocal) → i < length locals → l ≡ slice_index_or locals i d
     → slice_index_or (map (λ (l : Local). l.of_type) (locals_meant types locals)) i UnitTy ≡ type_at types l.ty

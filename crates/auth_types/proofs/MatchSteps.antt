@@ -17,7 +17,7 @@ use Rattle.auth_types.specs.declared.bodies.TypedArms.{TypedArms as TypedBodies}
 use Rattle.auth_types.specs.Outcomes.{TypeFault}
 use Rattle.auth_types.proofs.FindingSteps.{grown}
 use Rattle.auth_types.proofs.ScopeStays.{type_stays_at}
-use Rattle.auth_types.proofs.TermViews.{expression-Match}
+use Rattle.core_terms.proofs.TermViews.{expression-Match}
 use Rattle.auth_types.proofs.TypeNumbers.{shows_grow, shows_now}
 
 module _ (scope : Scope) (locals : List Local) (at place : Place) (subject : ExpSyntax) (arms : ArmsSyntax) (here : place ≡ place_of subject)

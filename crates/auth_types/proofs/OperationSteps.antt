@@ -29,7 +29,7 @@ use Rattle.auth_types.specs.declared.bodies.Typed.{Typed as TypedTerm}
 use Rattle.auth_types.specs.Outcomes.{TypeFault}
 use Rattle.auth_types.proofs.FindingSteps.{fault_first, grown}
 use Rattle.auth_types.proofs.ScopeStays.{type_stays_at}
-use Rattle.auth_types.proofs.TermViews.{expression-Pair, expression-Fst, expression-Snd, expression-Auth, expression-Unauth, expression-Len, expression-Not}
+use Rattle.core_terms.proofs.TermViews.{expression-Pair, expression-Fst, expression-Snd, expression-Auth, expression-Unauth, expression-Len, expression-Not, expression-Arith, expression-Compare, expression-TextCompare, expression-Cat}
 use Rattle.auth_types.proofs.TypeNumbers.{shows_grow, shows_now, type_stays}
 
 -- a pair
@@ -233,3 +233,5 @@ pub negated_refused : (types new : List Ty) (truth : TyId) (at : Place) (found :
 negated_refused types new truth at found fault r there is h =
     fault_first types new boxed_of typed_of (wanted at BoolTy found) (λ e. typed (NotE e) BoolTy) fault r is
     (subst (λ t. FindsOver types boxed_of (wanted at t found) (Err fault)) (get_or_from_slice_get types truth.0 BoolTy UnitTy there) h)
+
+pub ruleset operations_meant = (expression-Arith, expression-Compare, expression-TextCompare, expression-Cat)

@@ -30,3 +30,5 @@ pub mod LanguageConstructors
 -- the fragment's table of types
 pub mod TypeTables
 pub mod TypePushing
+-- for the crates above: what terms stand for, by their forms
+pub mod TermViews

@@ -46,7 +46,7 @@ fn result_form(operator: BinaryOperator) -> TyForm
 }
 
 /// The term of an operation on two terms.
-#[tactic(auto, using(crate::proofs::TermViews::operations_meant))]
+#[tactic(auto, using(crate::proofs::OperationSteps::operations_meant))]
 fn operation(operator: BinaryOperator, first: Box<Term>, second: Box<Term>) -> Term
     ensures { (types : List Ty) → expression_of types result ≡ binary_expression operator (expression_of types first.value) (expression_of types second.value) }
 {

@@ -37,7 +37,7 @@ use Rattle.auth_types.proofs.MatchSteps.{match_arms_refused, match_found, match_
 use Rattle.auth_types.proofs.RefusedParts.{body_refused, callee_refused, first_operand_refused, first_refused, maker_refused, name_refused, operands_found, other_refused, pair_refused, second_operand_refused, test_refused, unary_refused}
 use Rattle.auth_types.proofs.RowSteps.{arms_behind_none, arms_last, arms_more, arms_refused, body_shows, constructor_within, next_mapped, none_mapped, row_behind_none, row_last, row_more, row_refused}
 use Rattle.auth_types.proofs.ScopeStays.{grows_length, type_stays_at}
-use Rattle.auth_types.proofs.TermViews as terms
+use Rattle.core_terms.proofs.TermViews as terms
 use Rattle.auth_types.proofs.TreeViews.{expression-UnitLiteral, expression-BoolLiteral, expression-IntLiteral, expression-TextLiteral, expression-Local, expression-Pair, expression-Unary, expression-Binary, expression-Call, expression-Constructor, expression-Let, expression-If, expression-Match}
 use Rattle.auth_types.proofs.TypeNumbers.{grows_on, grows_self, shows_grow}
 use Rattle.auth_types.proofs.bodies.elaborator.Elaborator.+bodies.Goals as goal

@@ -4,7 +4,7 @@ use Rattle.core_terms.specs.Types.{TextTy}
 use Rattle.core_terms.specs.Texts.{bytes_of}
 use Rattle.auth_types.specs.Bodies.{typed}
 use Rattle.auth_types.specs.Elaborators.{types_of}
-use Rattle.auth_types.proofs.TermViews.{expression-TextLiteral}
+use Rattle.core_terms.proofs.TermViews.{expression-TextLiteral}
 use Rattle.auth_types.proofs.bodies.elaborator.Elaborator.text.Goals as goal
 
 pub returns-clause-found : goal.returns-clause-found

@@ -1,0 +1,103 @@
+-- The code of expressions, and of programs.
+use Rattle.std.specs.Prelude.{ℕ, zero, suc, ◌+◌, List, [], ◌∷◌, ◌++◌, length, map, unwrap_or, slice_get}
+use Rattle.core_terms.specs.Types.{Ty, UnitTy, Table, fields_at}
+use Rattle.core_terms.specs.Terms.{Expression, UnitE, BoolE, IntE, TextE, LocalE, PairE, FstE, SndE, NotE, LenE, AuthE, UnauthE, ConE, ArithE, CompareE, TextCompareE, CatE, LetE, IfE, MatchE, CallE}
+use Rattle.core_terms.specs.Terms.{Expressions, NoE, AndE, Arms, NoArm, AndArm, Function, Program}
+use Rattle.code_gen.specs.Instructions.{Instruction, PushUnit, PushBool, PushInt, PushText, Load, Bind, Unbind, Pair, Fst, Snd, Make, Switch, Branch, Jump, Call, Return, Auth, Unauth}
+use Rattle.code_gen.specs.Instructions.{ArithOp, CompareOp, TextCompareOp, Cat, Len, Not}
+
+-- A choice between two sides: where the test is false, the first side and the jump behind it are passed over; that jump passes
+-- over the other side.
+abbrev pub if_code : List Instruction → List Instruction → List Instruction → List Instruction
+if_code test first other = test ++ (Branch (length first + 1) ∷ (first ++ (Jump (length other) ∷ other)))
+
+-- drops the fields of an arm, where it has any
+abbrev pub unbind_code : ℕ → List Instruction
+unbind_code zero = []
+unbind_code (suc n) = Unbind (suc n) ∷ []
+
+-- what stands behind an arm: where there are later arms, a jump past them, and they
+abbrev pub behind : List (List Instruction) → List Instruction → List Instruction
+behind [] rest = rest
+behind (arm ∷ later) rest = Jump (length rest) ∷ rest
+
+-- the arms, one behind the other
+abbrev pub laid : List (List Instruction) → List Instruction
+laid [] = []
+laid (arm ∷ later) = arm ++ behind later (laid later)
+
+-- where each of the arms begins, the first one at `start`: an arm and the jump behind it stand before the next one
+abbrev pub places : ℕ → List (List Instruction) → List ℕ
+places start [] = []
+places start (arm ∷ later) = start ∷ places (start + length arm + 1) later
+
+-- the number of fields of a constructor; 0 where there is none
+abbrev pub field_count : Table → ℕ → ℕ → ℕ
+field_count types number tag = length (unwrap_or (fields_at types number tag) [])
+
+module _ (types : Table) where
+  abbrev mutual
+    -- the operands from left to right, then the instruction
+    pub code_of : Expression → List Instruction
+    code_of UnitE = PushUnit ∷ []
+    code_of (BoolE b) = PushBool b ∷ []
+    code_of (IntE z) = PushInt z ∷ []
+    code_of (TextE bytes) = PushText bytes ∷ []
+    code_of (LocalE i) = Load i ∷ []
+    code_of (PairE a b x y) = code_of x ++ (code_of y ++ Pair ∷ [])
+    code_of (FstE a b x) = code_of x ++ Fst ∷ []
+    code_of (SndE a b x) = code_of x ++ Snd ∷ []
+    code_of (NotE x) = code_of x ++ Not ∷ []
+    code_of (LenE x) = code_of x ++ Len ∷ []
+    code_of (AuthE t x) = code_of x ++ Auth t ∷ []
+    code_of (UnauthE t x) = code_of x ++ Unauth t ∷ []
+    code_of (ConE number tag xs) = code_all xs ++ Make number tag ∷ []
+    code_of (ArithE op x y) = code_of x ++ (code_of y ++ ArithOp op ∷ [])
+    code_of (CompareE op x y) = code_of x ++ (code_of y ++ CompareOp op ∷ [])
+    code_of (TextCompareE op x y) = code_of x ++ (code_of y ++ TextCompareOp op ∷ [])
+    code_of (CatE x y) = code_of x ++ (code_of y ++ Cat ∷ [])
+    code_of (LetE a x body) = code_of x ++ (Bind ∷ (code_of body ++ Unbind 1 ∷ []))
+    code_of (IfE test first other) = if_code (code_of test) (code_of first) (code_of other)
+    code_of (MatchE number x arms) =
+        let codes = arm_codes arms (unwrap_or (slice_get types number) []) in
+        code_of x ++ (Switch number (places 0 codes) ∷ laid codes)
+    code_of (CallE f args) = code_all args ++ Call f ∷ []
+
+    pub code_all : Expressions → List Instruction
+    code_all NoE = []
+    code_all (AndE x xs) = code_of x ++ code_all xs
+
+    -- the arms, by the field types of their constructors: the body, and behind it the end of its fields
+    pub arm_codes : Arms → List (List Ty) → List (List Instruction)
+    arm_codes NoArm cs = []
+    arm_codes (AndArm body arms) [] = code_of body ∷ arm_codes arms []
+    arm_codes (AndArm body arms) (c ∷ cs) = (code_of body ++ unbind_code (length c)) ∷ arm_codes arms cs
+
+-- the code of a function: the types of its parameters, that of its result, and its instructions
+pub record FunctionCode : Type 0 where
+  pub parameters : List Ty
+  pub result : Ty
+  pub code : List Instruction
+
+-- What a machine runs, with no source behind it: the greatest number of bytes of a spelling, the named types, and the functions
+-- by number.
+pub record Body : Type 0 where
+  pub limit : ℕ
+  pub types : Table
+  pub functions : List FunctionCode
+
+-- a function's body, and the return
+abbrev pub function_code : Table → Function → FunctionCode
+function_code types f = record { parameters = f.parameters; result = f.result; code = code_of types f.body ++ Return ∷ [] }
+
+-- the code of a program
+abbrev pub generated : Program → Body
+generated P = record { limit = P.format.limit; types = P.types; functions = map (function_code P.types) P.functions }
+
+-- in the place of a function that isn't there
+abbrev pub no_function_code : FunctionCode
+no_function_code = record { parameters = []; result = UnitTy; code = PushUnit ∷ Return ∷ [] }
+
+-- the function with a number
+abbrev pub code_at : Body → ℕ → FunctionCode
+code_at B f = unwrap_or (slice_get B.functions f) no_function_code
