@@ -1,0 +1,38 @@
+-- Which functions the files serve. A frame that goes on behind an instruction, by its values:
+pub mod Frames
+pub mod Operands
+pub mod Made
+-- the literals and ints: an int that is passed
+pub mod PassedInts
+-- arith and compare; compare_texts, concat and length; pair, first and second
+pub mod IntOperations
+pub mod TextOperations
+pub mod Parts
+pub mod PairOperations
+-- load
+pub mod LoadedLocals
+-- call, begin, parameter_count and give_back
+pub mod Calls
+pub mod ParameterCounts
+pub mod Returns
+-- jump and switch; not and branch; bind and unbind; make
+pub mod Jumps
+pub mod Switching
+pub mod Branching
+pub mod Binding
+pub mod Constructing
+-- State's act and next, enter
+pub mod OwnInstructions
+pub mod Lifting
+pub mod Entering
+-- the machine: start, auth, unauth, step, run_slice
+pub mod Starting
+pub mod Authenticating
+pub mod Opens
+pub mod Stepping
+pub mod Slicing
+-- the ideal mode, and a run in it
+pub mod IdealOpenings
+pub mod IdealOutcomes
+-- the law `growing`
+pub mod Growing

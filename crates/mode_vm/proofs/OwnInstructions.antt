@@ -1,0 +1,22 @@
+-- Which instructions change the running frame alone, and which ask nothing of the mode.
+use Rattle.std.proofs.Common.{◌≡◌, true, List, refl}
+use Rattle.core_terms.specs.Types.{Ty}
+use Rattle.core_terms.specs.declared.program.FunctionId.{FunctionId}
+use Rattle.core_terms.specs.declared.types.TyId.{TyId}
+use Rattle.code_gen.specs.CodeTrees.{instruction_of}
+use Rattle.code_gen.specs.declared.instruction.Instruction.{Instruction}
+use Rattle.code_gen.specs.declared.instruction.Instruction.TheVariants.{Call, Return, Auth, Unauth}
+use Rattle.mode_vm.specs.Machines.{is_own, is_plain}
+
+-- what is no call and no return, and asks nothing of the mode, changes the running frame alone
+pub own : (types : List Ty) (i : Instruction) → ((f : FunctionId) → i ≡ Call f → ⊥) → (i ≡ Return → ⊥) → is_plain (instruction_of types i) ≡ true
+    → is_own (instruction_of types i) ≡ true
+own types (Call f) call back plain = absurd (call f refl)
+own types Return call back plain = absurd (back refl)
+own types i call back plain = plain
+
+-- what is no `auth` and no `unauth` asks nothing of the mode
+pub plain : (types : List Ty) (i : Instruction) → ((t : TyId) → i ≡ Auth t → ⊥) → ((t : TyId) → i ≡ Unauth t → ⊥) → is_plain (instruction_of types i) ≡ true
+plain types (Auth t) auth unauth = absurd (auth t refl)
+plain types (Unauth t) auth unauth = absurd (unauth t refl)
+plain types i auth unauth = refl

@@ -1,0 +1,39 @@
+use Rattle.std.proofs.Common.{◌∙◌, ap₂, subst, arith}
+use Rattle.core_terms.specs.LanguagePrograms.{meaning}
+use Rattle.core_terms.specs.Types.{BoolTy}
+use Rattle.core_terms.specs.Values.{BoolV}
+use Rattle.ideal_meaning.specs.Run.{compare_of}
+use Rattle.value_store.specs.Markings.{kind_of}
+use Rattle.value_store.specs.Standing.{StandsFor}
+use Rattle.code_gen.specs.Programs.{program_in}
+use Rattle.mode_vm.proofs.PassedInts.{kept}
+use Rattle.mode_vm.proofs.IntOperations.{compare_acts, compare_first, compare_second}
+use Rattle.mode_vm.proofs.frame.Frame.compare.Goals as goal
+
+pub int_in-x-requires : goal.int_in-x-requires
+int_in-x-requires g c =
+    let P = meaning (program_in c.args.code.now) in
+    let nodes = g.N.Nodes.nodes c.args.store.now in
+    let b = c.requires.before in
+    let x = compare_first b.0 P nodes c.args.self.now c.args.op b.1 b.2 c.pop_two.new.self.operands.items _ _ c.pop_two.ensures.top in
+    (kind_of b.0 P, P.types, x.0, x.1)
+
+pub int_in-y-requires : goal.int_in-y-requires
+int_in-y-requires g c =
+    let P = meaning (program_in c.args.code.now) in
+    let nodes = g.N.Nodes.nodes c.args.store.now in
+    let b = c.requires.before in
+    let x = compare_second b.0 P nodes c.args.self.now c.args.op b.1 b.2 c.pop_two.new.self.operands.items _ _ c.pop_two.ensures.top in
+    (kind_of b.0 P, P.types, x.0, x.1)
+
+pub returns-clause-does : goal.returns-clause-does
+returns-clause-does g c m values b =
+    let P = meaning (program_in c.args.code.now) in
+    let nodes = g.N.Nodes.nodes c.args.store.now in
+    let new = g.N.Nodes.nodes c.put_bool.new.self in
+    let is = c.compared-holds.ensures ∙ ap₂ (λ x y. compare_of c.args.op x y) (kept c.int_in-x.result (omega arith)) (kept c.int_in-y.result (omega arith)) in
+    compare_acts m P nodes c.args.self.now c.args.op values b c.pop_two.new.self.operands.items _ _ c.pop_two.ensures.top new c.put_bool.ensures.keeps
+    c.pop_two.new.self c.finish.new.self c.pop_two.ensures.at c.in_ok-r.r c.int_in-x.result c.int_in-y.result
+    (λ v h. c.int_in-x.ensures (kind_of m P) P.types v h) (λ v h. c.int_in-y.ensures (kind_of m P) P.types v h)
+    (subst (λ z. StandsFor (kind_of m P) P.types new c.in_ok-r.r.0 BoolTy (BoolV z)) is (c.in_ok-r.ensures.stands (kind_of m P) P.types))
+    c.finish.result c.finish.ensures

@@ -1,0 +1,69 @@
+-- How an instruction changes the parts of a frame.
+use Rattle.std.specs.Prelude.{◌≡◌, ◌<◌, ◌≤◌, ◌-◌, ℕ, Bool, true, false, ◌+◌, List, [], ◌∷◌, ◌++◌, Result, Ok, Err, Option, Some, None}
+use Rattle.core_terms.specs.declared.outcome.Trap.{Trap}
+use Rattle.value_store.specs.declared.node.Ref.{Ref}
+use Rattle.mode_vm.specs.declared.frame.Frame.{Frame}
+use Rattle.mode_vm.specs.declared.state.State.{State}
+
+-- the frame of the same function at this place, with these locals and operands
+pub record IsAt (old : Frame) (at : ℕ) (has : List Ref) (works_on : List Ref) (new : Frame) : Type 0 where
+  pub function : new.function ≡ old.function
+  pub place : new.place ≡ at
+  pub locals : new.locals.items ≡ has
+  pub operands : new.operands.items ≡ works_on
+
+-- the frame went one instruction further, with what was made on these operands; or it traps
+abbrev pub FinishesOn : {E : Type 0} → (old : Frame) (kept : List Ref) → Result Ref Trap → (new : Frame) → Result (Option Trap) E → Type 0
+FinishesOn old kept (Ok r) new (Ok None) = IsAt old (old.place + 1) old.locals.items (kept ++ r ∷ []) new
+FinishesOn old kept (Err trap) new (Ok (Some told)) = told ≡ trap
+FinishesOn old kept made new (Err e) = Unit {0}
+FinishesOn old kept made new (Ok o) = ⊥
+
+abbrev pub Finishes : {E : Type 0} → (old : Frame) → Result Ref Trap → (new : Frame) → Result (Option Trap) E → Type 0
+Finishes old = FinishesOn old old.operands.items
+
+-- a call was begun: the running frame waits behind its call, and the function called runs from its beginning
+pub record Begins (old : State) (callee : ℕ) (args kept : List Ref) (new : State) : Type 0 where
+  pub operands : old.top.operands.items ≡ kept ++ args
+  pub entered : new.entered ≡ false
+  pub fuel : new.fuel ≡ old.fuel
+  pub function : new.top.function.0 ≡ callee
+  pub place : new.top.place ≡ 0
+  pub locals : new.top.locals.items ≡ args
+  pub no_operands : new.top.operands.items ≡ []
+  pub caller : Frame
+  pub waiting : new.waiting.items ≡ old.waiting.items ++ caller ∷ []
+  pub waits : IsAt old.top (old.top.place + 1) old.top.locals.items kept caller
+
+-- all but the running frame is as before
+pub record IsElseSame (old new : State) : Type 0 where
+  pub entered : new.entered ≡ old.entered
+  pub fuel : new.fuel ≡ old.fuel
+  pub waiting : new.waiting ≡ old.waiting
+
+-- a function is to be called on these arguments, with this much fuel
+pub record Starts (callee : ℕ) (args : List Ref) (units : ℕ) (state : State) : Type 0 where
+  pub fuel : state.fuel ≡ units
+  pub entered : state.entered ≡ false
+  pub function : state.top.function.0 ≡ callee
+  pub place : state.top.place ≡ 0
+  pub locals : state.top.locals.items ≡ args
+  pub no_operands : state.top.operands.items ≡ []
+  pub nothing_waits : state.waiting.items ≡ []
+
+-- a further call is due, fuel is left, and this many calls were made since there was so much fuel
+pub record Spent (units start : ℕ) (new : State) : Type 0 where
+  pub due : new.entered ≡ false
+  pub some : 0 < new.fuel
+  pub made : start ≡ new.fuel + units
+
+-- the fuel after a step: that of a frame which is not entered yet is taken
+abbrev pub fuel_after : Bool → ℕ → ℕ
+fuel_after true k = k
+fuel_after false k = k - 1
+
+-- At most so many calls were made, and where one was due with fuel left, one was made.
+pub record Calls (units : ℕ) (old new : State) : Type 0 where
+  pub down : new.fuel ≤ old.fuel
+  pub most : old.fuel ≤ new.fuel + units
+  pub some : old.entered ≡ false → 0 < old.fuel → new.fuel < old.fuel

@@ -1,0 +1,129 @@
+// A frame: a function that runs or waits, and what its instructions do to it.
+ghost use Rattle.std.specs.Prelude.{◌≡◌, ◌+◌, ◌<◌, ◌≤◌, ◌^◌, ◌++◌, ◌∷◌, [], true, IfOk, OnOk, length};
+ghost use Rattle.core_terms.specs.LanguagePrograms.{meaning, types_of};
+ghost use Rattle.value_store.specs.Standing.{Keeps};
+ghost use Rattle.code_gen.specs.Code.{code_at, generated};
+ghost use Rattle.code_gen.specs.CodeTrees.{instruction_of};
+ghost use Rattle.code_gen.specs.Programs.{program_in};
+
+use code_gen::{Code, Instruction};
+use core_terms::{FunctionId, Trap};
+use std::alloc::AllocError;
+use value_store::{Nodes, Ref};
+
+/// A function that runs or waits: the place of its next instruction, its locals and its operands, the top one last.
+#[derive(Drop)]
+pub struct Frame {
+    pub(crate) function: FunctionId,
+    pub(crate) place: usize,
+    pub(crate) locals: Vec<Ref>,
+    pub(crate) operands: Vec<Ref>,
+}
+
+impl Frame {
+    ghost use Rattle.mode_vm.specs.Machines.{is_own};
+    ghost use Rattle.mode_vm.specs.Outcomes.{Does, IsBefore};
+    ghost use Rattle.mode_vm.specs.StateParts.{Finishes, IsAt};
+
+    /// Pushes what an instruction gives, and goes to the next one.
+    pub(crate) fn push(&mut self, r: Ref) -> Result<(), AllocError>
+        requires { self.old.place + 1 < 2 ^ 64 }
+        ensures { OnOk result (IsAt self.old (self.old.place + 1) self.old.locals.items (self.old.operands.items ++ r ∷ []) self.new) }
+    {
+        self.operands.push(r)?;
+        self.place += 1;
+        Ok(())
+    }
+
+    /// Pops the top operand.
+    pub(crate) fn pop(&mut self) -> Ref
+        requires { 0 < length self.old.operands.items }
+        ensures at { IsAt self.old self.old.place self.old.locals.items self.new.operands.items self.new }
+        ensures top { self.old.operands.items ≡ self.new.operands.items ++ result ∷ [] }
+    {
+        match self.operands.pop() {
+            Some(r) => r,
+            None => unreachable!(),
+        }
+    }
+
+    /// Pops the two top operands.
+    pub(crate) fn pop_two(&mut self) -> (Ref, Ref)
+        requires { 1 < length self.old.operands.items }
+        ensures at { IsAt self.old self.old.place self.old.locals.items self.new.operands.items self.new }
+        ensures top { self.old.operands.items ≡ self.new.operands.items ++ result.0 ∷ result.1 ∷ [] }
+    {
+        let second = self.pop();
+        let first = self.pop();
+        (first, second)
+    }
+
+    /// Pops as many operands, the last of which was the top one.
+    pub(crate) fn pop_many(&mut self, count: usize) -> Result<Vec<Ref>, AllocError>
+        requires { count ≤ length self.old.operands.items }
+        ensures at { OnOk result (IsAt self.old self.old.place self.old.locals.items self.new.operands.items self.new) }
+        ensures top { IfOk result (λ popped. self.old.operands.items ≡ self.new.operands.items ++ popped.items) }
+        ensures count { IfOk result (λ popped. length popped.items ≡ count) }
+    {
+        let kept = self.operands.len() - count;
+        let popped = self.operands.split_off(kept)?;
+        Ok(popped)
+    }
+
+    /// Pushes what was made, and goes to the next instruction; or traps.
+    pub(crate) fn finish(&mut self, made: Result<Ref, Trap>) -> Result<Option<Trap>, AllocError>
+        requires { self.old.place + 1 < 2 ^ 64 }
+        ensures { Finishes self.old made self.new result }
+    {
+        match made {
+            Ok(r) => {
+                self.push(r)?;
+                Ok(None)
+            }
+            Err(trap) => Ok(Some(trap)),
+        }
+    }
+
+    /// Does an instruction that changes the running frame alone: it goes on behind the instruction, or it traps.
+    pub(crate) fn act<N: Nodes>(
+        &mut self,
+        code: &Code,
+        store: &mut N,
+        instruction: &Instruction,
+    ) -> Result<Option<Trap>, AllocError>
+        requires before { IsBefore (meaning (program_in code.now)) (N.nodes store.old) self.old (instruction_of (types_of (program_in code.now)) instruction.now) }
+        requires own { is_own (instruction_of (types_of (program_in code.now)) instruction.now) ≡ true }
+        requires room { self.old.place + 1 < 2 ^ 64 }
+        requires length { length (code_at (generated (meaning (program_in code.now))) self.old.function.0).code < 2 ^ 64 }
+        ensures does { Does (meaning (program_in code.now)) (instruction_of (types_of (program_in code.now)) instruction.now) (N.nodes store.old) (N.nodes store.new) self.old self.new result }
+        ensures keeps { Keeps (N.nodes store.old) (N.nodes store.new) }
+        ensures lent { N.lent store.new ≡ N.lent store.old }
+    {
+        match instruction {
+            Instruction::PushUnit => self.push_unit(code, store),
+            Instruction::PushBool(value) => self.push_bool(code, store, *value),
+            Instruction::PushInt(value) => self.push_int(code, store, *value),
+            Instruction::PushText(text) => self.push_text(code, store, text),
+            Instruction::Load(local) => self.load(code, store, *local),
+            Instruction::Bind => self.bind(code, store),
+            Instruction::Unbind(count) => self.unbind(code, store, *count),
+            Instruction::Pair => self.pair(code, store),
+            Instruction::Fst => self.first(code, store),
+            Instruction::Snd => self.second(code, store),
+            Instruction::Make(named, tag) => self.make(code, store, *named, *tag),
+            Instruction::Switch(named, skips) => self.switch(code, store, *named, skips),
+            Instruction::Branch(skip) => self.branch(code, store, *skip),
+            Instruction::Jump(skip) => self.jump(code, store, *skip),
+            Instruction::Arith(op) => self.arith(code, store, *op),
+            Instruction::Compare(op) => self.compare(code, store, *op),
+            Instruction::TextCompare(op) => self.compare_texts(code, store, *op),
+            Instruction::Cat => self.concat(code, store),
+            Instruction::Len => self.length(code, store),
+            Instruction::Not => self.not(code, store),
+            Instruction::Call(_) => unreachable!(),
+            Instruction::Return => unreachable!(),
+            Instruction::Auth(_) => unreachable!(),
+            Instruction::Unauth(_) => unreachable!(),
+        }
+    }
+}

@@ -1,0 +1,74 @@
+// The ideal mode.
+ghost use Rattle.std.specs.Prelude.{Some, None};
+ghost use Rattle.value_store.specs.Markings.{IdealMarking};
+
+use crate::mode::{Mode, Stop};
+use core_terms::TyId;
+use core_terms::language::Program;
+use value_store::{Held, Nodes, Ref, View};
+
+/// The ideal mode: an authenticated value is the value.
+#[derive(Clone, Copy)]
+pub struct IdealMode;
+
+/// The ideal mode stops no run.
+#[derive(Clone, Copy)]
+pub enum Never {}
+
+impl Mode for IdealMode {
+    type Fault = Never;
+
+    type World = ();
+
+    ghost marking = { IdealMarking };
+
+    ghost Follows = { λ p mode world nodes w. Unit {0} };
+
+    ghost cause = { λ f. None };
+
+    ghost faults = { λ world. 0 };
+
+    ghost Rose = { λ old new. ⊥ };
+
+    ghost opened = { λ mode. 0 };
+
+    ghost Rest = { Unit {0} };
+
+    ghost rest = { λ world. tt };
+
+    ghost Moves = { λ P a v b w. Unit {0} };
+
+    ghost moves_not = { λ P a v. tt };
+
+    ghost moves_on = { λ P a b c v w x h k. tt };
+
+    ghost follows_on = { λ p mode world old new w k h. h };
+
+    fn auth<N: Nodes>(
+        &mut self,
+        _program: &Program,
+        store: &mut N,
+        _ty: TyId,
+        v: Ref,
+    ) -> Result<Ref, Stop<Never>> {
+        match store.put_auth(Held::Inner(v)) {
+            Ok(r) => Ok(r),
+            Err(_) => Err(Stop::NoMemory),
+        }
+    }
+
+    fn unauth<N: Nodes>(
+        &mut self,
+        _world: &mut (),
+        _program: &Program,
+        store: &mut N,
+        _ty: TyId,
+        v: Ref,
+    ) -> Result<Ref, Stop<Never>> {
+        match store.view(v) {
+            View::Auth(Held::Inner(inner)) => Ok(*inner),
+            View::Auth(Held::Both(_, inner)) => Ok(*inner),
+            _ => unreachable!(),
+        }
+    }
+}

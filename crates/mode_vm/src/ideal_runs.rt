@@ -1,0 +1,45 @@
+// Runs in ideal mode.
+ghost use Rattle.std.specs.Prelude.{◌≡◌, ◌<◌, ◌+◌, ◌*◌, ◌^◌, length, IfOk};
+ghost use Rattle.core_terms.specs.LanguagePrograms.{meaning};
+ghost use Rattle.core_terms.specs.Terms.{function_at};
+ghost use Rattle.core_terms.specs.Values.{Values};
+ghost use Rattle.ideal_meaning.specs.Ideal.{ideal, outcome};
+ghost use Rattle.value_store.specs.Standing.{AllStandFor, IdealNodes, Keeps};
+ghost use Rattle.value_store.specs.CodeNodes.{numbers_of};
+ghost use Rattle.code_gen.specs.Programs.{program_in};
+ghost use Rattle.code_gen.specs.Code.{generated};
+ghost use Rattle.mode_vm.specs.IdealRuns.{IsOutcome};
+ghost use Rattle.mode_vm.specs.Machines.{code_size};
+
+use crate::ideal::IdealMode;
+use crate::machine::Machine;
+use code_gen::Code;
+use core_terms::{FunctionId, Outcome};
+use std::alloc::{AllocError, Global};
+use value_store::{Nodes, Ref};
+
+/// Calls a function in ideal mode, on arguments that stand among the nodes, with so much fuel: its outcome, whose value stands among the
+/// nodes then.
+pub fn ideal_run<N: Nodes>(
+    code: &Code,
+    store: &mut N,
+    function: FunctionId,
+    args: &[Ref],
+    fuel: u64,
+    alloc: Global,
+) -> Result<Outcome<Ref>, AllocError>
+    requires there { function.0 < length (meaning (program_in code.now)).functions }
+    requires stand { (vs : Values) × AllStandFor IdealNodes (meaning (program_in code.now)).types (N.nodes store.old) (numbers_of args.now) (function_at (meaning (program_in code.now)) function.0).parameters vs }
+    requires few { fuel * (code_size (generated (meaning (program_in code.now))).functions + 1) < 2 ^ 63 }
+    ensures outcome { IfOk result (λ o. (vs : Values)
+        → AllStandFor IdealNodes (meaning (program_in code.now)).types (N.nodes store.old) (numbers_of args.now) (function_at (meaning (program_in code.now)) function.0).parameters vs
+        → IsOutcome (meaning (program_in code.now)).types (N.nodes store.new) (function_at (meaning (program_in code.now)) function.0).result o (outcome (ideal (meaning (program_in code.now)) function.0 vs fuel))) }
+    ensures keeps { Keeps (N.nodes store.old) (N.nodes store.new) }
+    ensures lent { N.lent store.new ≡ N.lent store.old }
+{
+    let mut machine = Machine::start(code, function, args, fuel, IdealMode, alloc)?;
+    match machine.run(code, store, &mut ()) {
+        Ok(outcome) => Ok(outcome),
+        Err(_) => Err(AllocError),
+    }
+}

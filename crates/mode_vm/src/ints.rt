@@ -1,0 +1,119 @@
+// The instructions on ints.
+ghost use Rattle.std.specs.Prelude.{◌≡◌, ◌+◌, ◌<◌, ◌^◌, ℕ, IfOk};
+ghost use Rattle.core_terms.specs.LanguagePrograms.{meaning};
+ghost use Rattle.code_gen.specs.Instructions as instruction;
+ghost use Rattle.code_gen.specs.Programs.{program_in};
+ghost use Rattle.core_terms.specs.Types.{IntTy, Table};
+ghost use Rattle.core_terms.specs.Values.{Value};
+ghost use Rattle.ideal_meaning.specs.Run as meant;
+ghost use Rattle.value_store.specs.Markings.{Marking};
+ghost use Rattle.value_store.specs.Standing.{Keeps, Kind, StandsFor};
+ghost use Rattle.mode_vm.specs.Calculations.{Makes, calculation_of};
+ghost use Rattle.mode_vm.specs.Meanings.{CauseOf, StateOf};
+
+use crate::frame::Frame;
+use crate::values::int_in;
+use code_gen::Code;
+use core_terms::Trap;
+use core_terms::language::{Arith, Compare};
+use std::alloc::AllocError;
+use value_store::{Nodes, Ref};
+
+impl Frame {
+    ghost use Rattle.mode_vm.specs.Outcomes.{Does, IsBefore};
+
+    /// Pushes the result of an operation on two ints, or traps.
+    pub(crate) fn arith<N: Nodes>(
+        &mut self,
+        code: &Code,
+        store: &mut N,
+        op: Arith,
+    ) -> Result<Option<Trap>, AllocError>
+        requires before { IsBefore (meaning (program_in code.now)) (N.nodes store.old) self.old (instruction.ArithOp op) }
+        requires room { self.old.place + 1 < 2 ^ 64 }
+        ensures does { Does (meaning (program_in code.now)) (instruction.ArithOp op) (N.nodes store.old) (N.nodes store.new) self.old self.new result }
+        ensures keeps { Keeps (N.nodes store.old) (N.nodes store.new) }
+        ensures lent { N.lent store.new ≡ N.lent store.old }
+    {
+        let (first, second) = self.pop_two();
+        let made = new_result(store, op, first, second)?;
+        self.finish(made)
+    }
+
+    /// Pushes whether a comparison of two ints holds.
+    pub(crate) fn compare<N: Nodes>(
+        &mut self,
+        code: &Code,
+        store: &mut N,
+        op: Compare,
+    ) -> Result<Option<Trap>, AllocError>
+        requires before { IsBefore (meaning (program_in code.now)) (N.nodes store.old) self.old (instruction.CompareOp op) }
+        requires room { self.old.place + 1 < 2 ^ 64 }
+        ensures does { Does (meaning (program_in code.now)) (instruction.CompareOp op) (N.nodes store.old) (N.nodes store.new) self.old self.new result }
+        ensures keeps { Keeps (N.nodes store.old) (N.nodes store.new) }
+        ensures lent { N.lent store.new ≡ N.lent store.old }
+    {
+        let (first, second) = self.pop_two();
+        let x = int_in(store, first);
+        let y = int_in(store, second);
+        let holds = compared(op, x, y);
+        let r = store.put_bool(holds)?;
+        self.finish(Ok(r))
+    }
+}
+
+/// Puts the result of an operation on two ints.
+fn new_result<N: Nodes>(
+    store: &mut N,
+    op: Arith,
+    first: Ref,
+    second: Ref,
+) -> Result<Result<Ref, Trap>, AllocError>
+    requires first { (kind : Kind) × (types : Table) × (v : Value) × StandsFor kind types (N.nodes store.old) first.0 IntTy v }
+    requires second { (kind : Kind) × (types : Table) × (v : Value) × StandsFor kind types (N.nodes store.old) second.0 IntTy v }
+    ensures makes { (m : Marking) (kind : Kind) (types : Table) (x y : Value) → StandsFor kind types (N.nodes store.old) first.0 IntTy x → StandsFor kind types (N.nodes store.old) second.0 IntTy y
+        → IfOk result (Makes m kind types (N.nodes store.new) IntTy (meant.arith_of op (meant.int_in x) (meant.int_in y))) }
+    ensures keeps { Keeps (N.nodes store.old) (N.nodes store.new) }
+    ensures lent { N.lent store.new ≡ N.lent store.old }
+{
+    let x = int_in(store, first);
+    let y = int_in(store, second);
+    match calculated(op, x, y) {
+        Ok(z) => Ok(Ok(store.put_int(z)?)),
+        Err(trap) => Ok(Err(trap)),
+    }
+}
+
+/// The result of an operation on two ints.
+fn calculated(op: Arith, x: i64, y: i64) -> Result<i64, Trap>
+    ensures { (m : Marking) (k : ℕ) (w : StateOf m) → meant.arith_of {C = CauseOf m} op x y k w ≡ calculation_of result k w }
+{
+    match op {
+        Arith::Add => x.checked_add(y).ok_or(Trap::Overflow),
+        Arith::Sub => x.checked_sub(y).ok_or(Trap::Overflow),
+        Arith::Mul => x.checked_mul(y).ok_or(Trap::Overflow),
+        Arith::Div => {
+            if y == 0 {
+                return Err(Trap::DivZero);
+            }
+            x.checked_div(y).ok_or(Trap::Overflow)
+        }
+        Arith::Rem => {
+            if y == 0 {
+                return Err(Trap::DivZero);
+            }
+            x.checked_rem(y).ok_or(Trap::Overflow)
+        }
+    }
+}
+
+/// Whether a comparison of two ints holds.
+fn compared(op: Compare, x: i64, y: i64) -> bool
+    ensures { result ≡ meant.compare_of op x y }
+{
+    match op {
+        Compare::Eq => x == y,
+        Compare::Lt => x < y,
+        Compare::Le => x <= y,
+    }
+}

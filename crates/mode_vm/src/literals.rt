@@ -1,0 +1,88 @@
+// The instructions that push a literal.
+ghost use Rattle.std.specs.Prelude.{◌≡◌, ◌+◌, ◌<◌, ◌^◌};
+ghost use Rattle.core_terms.specs.LanguagePrograms.{meaning};
+ghost use Rattle.value_store.specs.Standing.{Keeps};
+ghost use Rattle.code_gen.specs.Instructions as instruction;
+ghost use Rattle.code_gen.specs.Programs.{program_in};
+ghost use Rattle.core_terms.specs.Texts.{bytes_of};
+
+use crate::frame::Frame;
+use code_gen::Code;
+use core_terms::{Text, Trap};
+use std::alloc::AllocError;
+use std::str::from_utf8;
+use value_store::Nodes;
+
+impl Frame {
+    ghost use Rattle.mode_vm.specs.Outcomes.{Does, IsBefore};
+
+    /// Pushes the value of `unit`.
+    pub(crate) fn push_unit<N: Nodes>(
+        &mut self,
+        code: &Code,
+        store: &mut N,
+    ) -> Result<Option<Trap>, AllocError>
+        requires before { IsBefore (meaning (program_in code.now)) (N.nodes store.old) self.old instruction.PushUnit }
+        requires room { self.old.place + 1 < 2 ^ 64 }
+        ensures does { Does (meaning (program_in code.now)) instruction.PushUnit (N.nodes store.old) (N.nodes store.new) self.old self.new result }
+        ensures keeps { Keeps (N.nodes store.old) (N.nodes store.new) }
+        ensures lent { N.lent store.new ≡ N.lent store.old }
+    {
+        let r = store.put_unit()?;
+        self.finish(Ok(r))
+    }
+
+    /// Pushes a bool.
+    pub(crate) fn push_bool<N: Nodes>(
+        &mut self,
+        code: &Code,
+        store: &mut N,
+        value: bool,
+    ) -> Result<Option<Trap>, AllocError>
+        requires before { IsBefore (meaning (program_in code.now)) (N.nodes store.old) self.old (instruction.PushBool value) }
+        requires room { self.old.place + 1 < 2 ^ 64 }
+        ensures does { Does (meaning (program_in code.now)) (instruction.PushBool value) (N.nodes store.old) (N.nodes store.new) self.old self.new result }
+        ensures keeps { Keeps (N.nodes store.old) (N.nodes store.new) }
+        ensures lent { N.lent store.new ≡ N.lent store.old }
+    {
+        let r = store.put_bool(value)?;
+        self.finish(Ok(r))
+    }
+
+    /// Pushes an int.
+    pub(crate) fn push_int<N: Nodes>(
+        &mut self,
+        code: &Code,
+        store: &mut N,
+        value: i64,
+    ) -> Result<Option<Trap>, AllocError>
+        requires before { IsBefore (meaning (program_in code.now)) (N.nodes store.old) self.old (instruction.PushInt value) }
+        requires room { self.old.place + 1 < 2 ^ 64 }
+        ensures does { Does (meaning (program_in code.now)) (instruction.PushInt value) (N.nodes store.old) (N.nodes store.new) self.old self.new result }
+        ensures keeps { Keeps (N.nodes store.old) (N.nodes store.new) }
+        ensures lent { N.lent store.new ≡ N.lent store.old }
+    {
+        let r = store.put_int(value)?;
+        self.finish(Ok(r))
+    }
+
+    /// Pushes a text.
+    pub(crate) fn push_text<N: Nodes>(
+        &mut self,
+        code: &Code,
+        store: &mut N,
+        text: &Text,
+    ) -> Result<Option<Trap>, AllocError>
+        requires before { IsBefore (meaning (program_in code.now)) (N.nodes store.old) self.old (instruction.PushText (bytes_of text.now)) }
+        requires room { self.old.place + 1 < 2 ^ 64 }
+        ensures does { Does (meaning (program_in code.now)) (instruction.PushText (bytes_of text.now)) (N.nodes store.old) (N.nodes store.new) self.old self.new result }
+        ensures keeps { Keeps (N.nodes store.old) (N.nodes store.new) }
+        ensures lent { N.lent store.new ≡ N.lent store.old }
+    {
+        let Ok(text) = from_utf8(text.as_bytes()) else {
+            unreachable!();
+        };
+        let r = store.put_text(text)?;
+        self.finish(Ok(r))
+    }
+}

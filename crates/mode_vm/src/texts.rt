@@ -1,0 +1,119 @@
+// The instructions on texts.
+ghost use Rattle.std.specs.Prelude.{◌≡◌, ◌+◌, ◌<◌, ◌^◌, ◌++◌, List, IfOk, length};
+ghost use Rattle.core_terms.specs.LanguagePrograms.{meaning};
+ghost use Rattle.code_gen.specs.Instructions as instruction;
+ghost use Rattle.code_gen.specs.Programs.{program_in};
+ghost use Rattle.core_terms.specs.Types.{Table, TextTy};
+ghost use Rattle.core_terms.specs.Values.{TextV, Value};
+ghost use Rattle.ideal_meaning.specs.Run as meant;
+ghost use Rattle.value_store.specs.Markings.{Marking};
+ghost use Rattle.value_store.specs.Nodes.{size_limit};
+ghost use Rattle.value_store.specs.Standing.{Keeps, Kind, StandsFor};
+ghost use Rattle.mode_vm.specs.Calculations.{Makes};
+
+use crate::frame::Frame;
+use crate::limits::SIZE_LIMIT;
+use crate::values::text_in;
+use code_gen::Code;
+use core_terms::Trap;
+use core_terms::language::TextCompare;
+use std::alloc::AllocError;
+use value_store::{Nodes, Ref};
+
+/// The number of bytes of the length in the spelling of a text.
+const TEXT_LENGTH_SIZE: u32 = 4;
+
+impl Frame {
+    ghost use Rattle.mode_vm.specs.Outcomes.{Does, IsBefore};
+
+    /// Pushes whether a comparison of two texts holds.
+    pub(crate) fn compare_texts<N: Nodes>(
+        &mut self,
+        code: &Code,
+        store: &mut N,
+        op: TextCompare,
+    ) -> Result<Option<Trap>, AllocError>
+        requires before { IsBefore (meaning (program_in code.now)) (N.nodes store.old) self.old (instruction.TextCompareOp op) }
+        requires room { self.old.place + 1 < 2 ^ 64 }
+        ensures does { Does (meaning (program_in code.now)) (instruction.TextCompareOp op) (N.nodes store.old) (N.nodes store.new) self.old self.new result }
+        ensures keeps { Keeps (N.nodes store.old) (N.nodes store.new) }
+        ensures lent { N.lent store.new ≡ N.lent store.old }
+    {
+        let (first, second) = self.pop_two();
+        let x = text_in(store, first);
+        let y = text_in(store, second);
+        let holds = compared(op, x, y);
+        let r = store.put_bool(holds)?;
+        self.finish(Ok(r))
+    }
+
+    /// Pushes two texts, joined, where that is within the limits.
+    pub(crate) fn concat<N: Nodes>(
+        &mut self,
+        code: &Code,
+        store: &mut N,
+    ) -> Result<Option<Trap>, AllocError>
+        requires before { IsBefore (meaning (program_in code.now)) (N.nodes store.old) self.old instruction.Cat }
+        requires room { self.old.place + 1 < 2 ^ 64 }
+        ensures does { Does (meaning (program_in code.now)) instruction.Cat (N.nodes store.old) (N.nodes store.new) self.old self.new result }
+        ensures keeps { Keeps (N.nodes store.old) (N.nodes store.new) }
+        ensures lent { N.lent store.new ≡ N.lent store.old }
+    {
+        let (first, second) = self.pop_two();
+        let made = new_text(store, first, second)?;
+        self.finish(made)
+    }
+
+    /// Pushes the number of bytes of a text.
+    pub(crate) fn length<N: Nodes>(
+        &mut self,
+        code: &Code,
+        store: &mut N,
+    ) -> Result<Option<Trap>, AllocError>
+        requires before { IsBefore (meaning (program_in code.now)) (N.nodes store.old) self.old instruction.Len }
+        requires room { self.old.place + 1 < 2 ^ 64 }
+        ensures does { Does (meaning (program_in code.now)) instruction.Len (N.nodes store.old) (N.nodes store.new) self.old self.new result }
+        ensures keeps { Keeps (N.nodes store.old) (N.nodes store.new) }
+        ensures lent { N.lent store.new ≡ N.lent store.old }
+    {
+        let r = self.pop();
+        let text = text_in(store, r);
+        let len = text.len() as i64;
+        let made = store.put_int(len)?;
+        self.finish(Ok(made))
+    }
+}
+
+/// Puts two texts, joined, where that is within the limits.
+fn new_text<N: Nodes>(
+    store: &mut N,
+    first: Ref,
+    second: Ref,
+) -> Result<Result<Ref, Trap>, AllocError>
+    requires first { (kind : Kind) × (types : Table) × (v : Value) × StandsFor kind types (N.nodes store.old) first.0 TextTy v }
+    requires second { (kind : Kind) × (types : Table) × (v : Value) × StandsFor kind types (N.nodes store.old) second.0 TextTy v }
+    ensures makes { (m : Marking) (kind : Kind) (types : Table) (x y : Value) → StandsFor kind types (N.nodes store.old) first.0 TextTy x → StandsFor kind types (N.nodes store.old) second.0 TextTy y
+        → IfOk result (Makes m kind types (N.nodes store.new) TextTy (meant.limited size_limit types TextTy (TextV (meant.text_in x ++ meant.text_in y)))) }
+    ensures keeps { Keeps (N.nodes store.old) (N.nodes store.new) }
+    ensures lent { N.lent store.new ≡ N.lent store.old }
+{
+    let x = text_in(store, first);
+    let y = text_in(store, second);
+    if x.len() + y.len() > (SIZE_LIMIT - TEXT_LENGTH_SIZE) as usize {
+        return Ok(Err(Trap::TooBig));
+    }
+    let mut text = String::from_str(store.alloc(), x)?;
+    text.push_str(y)?;
+    let r = store.put_text(&text)?;
+    Ok(Ok(r))
+}
+
+/// Whether a comparison of two texts holds.
+fn compared(op: TextCompare, x: &str, y: &str) -> bool
+    ensures { result ≡ meant.text_compare_of op x.now y.now }
+{
+    match op {
+        TextCompare::Eq => x == y,
+        TextCompare::Lt => x < y,
+    }
+}
