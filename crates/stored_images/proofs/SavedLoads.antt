@@ -83,4 +83,4 @@ state_loads p store root v image long stands saved =
     let P = meaning p in
     let whole = itself P.types (length P.types) P.state in
     let fit = fit_walk P (nodes_in store) store.sound refl P.state v root.0 stands whole in
-    ap (image_of P p.text_digest.0) saved.0 ∙ loads_again P p.text_digest.0 v p.numbers (omega arith) long fit (let short = saved.1 in omega (arith, short))
+    ap (image_of P p.text_digest.0) saved.0 ∙ loads_again P p.text_digest.0 v p.types.numbers (omega arith) long fit (let short = saved.1 in omega (arith, short))

@@ -30,7 +30,7 @@ returns-in_err-records c =
     record {
       saved = λ (v : Value) h.
           let entries = distinct [] (walk P.types P.state v) in
-          let refused = subst (AreSaved P.types entries) c.in_err-records.was (c.records_of.ensures.saved P.types P.state v c.args.program.now.numbers h) in
+          let refused = subst (AreSaved P.types entries) c.in_err-records.was (c.records_of.ensures.saved P.types P.state v c.args.program.now.types.numbers h) in
           subst (IsSaved (saved_image P digest v)) (sym (same_error c.from_residual.result c.in_err-records.field-0.0 c.from_residual.ensures))
           (image_refused P digest digest_length v c.in_err-records.field-0.0 refused);
       loads = λ (v : Value) h.
@@ -46,7 +46,7 @@ returns c =
     let digest_length : length digest ≡ 32 = ap length (sym is_digest) ∙ c.digest_bytes-digest.ensures.length in
     let saved = λ (v : Value) (h : IsStateAt P c.args.store.now c.args.root v).
     image_made P digest digest_length v c.in_ok-records.records c.digest_bytes-digest.result.now c.in_ok-image.image.items c.count.result c.write.new.image
-    (c.in_ok-records.ensures.saved P.types P.state v c.args.program.now.numbers h) is_digest c.count.ensures.count c.in_ok-image.ensures c.in_ok-write.ensures in
+    (c.in_ok-records.ensures.saved P.types P.state v c.args.program.now.types.numbers h) is_digest c.count.ensures.count c.in_ok-image.ensures c.in_ok-write.ensures in
     record {
       saved = saved;
       loads = λ (v : Value) h. state_loads c.args.program.now c.args.store.now c.args.root v c.write.new.image digest_length h (saved v h);
