@@ -49,7 +49,7 @@ none_used recent (p ∷ pieces) = sum_by-cons (λ frame. cond (is_used frame) 1 
 
 -- a proved outcome is told as a verified one
 outcome_told : (P : Program) → IsFormat P.format → (t : Ty) (o : Outcome) (spelled : code.Outcome Spelling) → IsOutcomeOf P t o
-    → prover.SpellsOutcome (outcome_projection sha256 P t o) spelled → SpellsOutcome P t (outcome_projection sha256 P t o) spelled
+    → prover.HasSpelling (outcome_projection sha256 P t o) spelled → SpellsOutcome P t (outcome_projection sha256 P t o) spelled
 outcome_told P format t (Done v) (told.Done bytes) ideal is = (_, refl, is_shallow P format t v ideal, sym is)
 outcome_told P format t (Done v) (told.Trapped trap) ideal is = absurd is
 outcome_told P format t (Done v) told.Out ideal is = absurd is
@@ -63,7 +63,7 @@ outcome_told P format t Out (told.Trapped trap) ideal is = absurd is
 -- the file of a proof, and the lines that tell the outcome and the proof, are those of the answer
 pub proof_output : (call : IdealCall) → IsFormat (called_program call).format → (proved : Proved) (report : Report) (file : Vec ℕ Global) (n bytes : ℕ) (t : Ty) → n ≡ 0 → t ≡ result_type call
     → IsOutcomeOf (called_program call) (result_type call) (outcome (ideal_run call))
-    → prover.SpellsOutcome (outcome_projection sha256 (called_program call) (result_type call) (outcome (ideal_run call))) proved.outcome
+    → prover.HasSpelling (outcome_projection sha256 (called_program call) (result_type call) (outcome (ideal_run call))) proved.outcome
     → proved.frames.items ≡ frame_bytes (honest_frames 0 [] (bytes_of (run_pieces call))) → proved.fresh ≡ length (run_pieces call) → proved.again ≡ 0
     → file.items ≡ file_of (called_program call).format n proved.frames.items → bytes ≡ length file.items → ReportsProof (called_program call) t proved bytes report
     → (name : List ℕ) → IsOutput (proof_answer call n name) name (record { report = report; file = Some file })
