@@ -2,20 +2,22 @@
 use Rattle.std.proofs.Common.{ℕ, zero, suc, ◌+◌, ◌*◌, ◌≤◌, List, [], ◌∷◌, ◌++◌, length, map, slice_get, unwrap_or, arith, length-append}
 use Rattle.core_terms.specs.Types.{Ty, Table}
 use Rattle.core_terms.specs.Terms.{Expression, UnitE, BoolE, IntE, TextE, LocalE, PairE, FstE, SndE, NotE, LenE, AuthE, UnauthE, ConE, ArithE, CompareE, TextCompareE, CatE, LetE, IfE, MatchE, CallE, Expressions, NoE, AndE, Arms, NoArm, AndArm, Function}
+use Rattle.core_terms.specs.LanguagePrograms.{meaning}
 use Rattle.code_gen.specs.Instructions.{Instruction, Fst, Snd, Not, Len, Auth, Unauth, Make, Call, Pair, ArithOp, CompareOp, TextCompareOp, Cat, Bind, Unbind, Branch, Jump, Switch, Return}
 use Rattle.code_gen.specs.Code.{behind, laid, places, match_code, if_code, unbind_code, code_of, code_all, arm_codes, function_code}
-use Rattle.code_gen.specs.CodeSizes.{expressions_in, expressions_in_all, expressions_in_arms, expressions_of, code_size, CodeIsShort}
+use Rattle.core_terms.specs.ProgramLimits.{expressions_in, expressions_in_row, expressions_in_arms, expressions_in_all}
+use Rattle.code_gen.specs.CodeSizes.{code_size, CodeIsShort, CodeHasALimit}
 
-one : (c : List Instruction) (i : Instruction) (n : ℕ) → length c + 2 ≤ 4 * n → length (c ++ i ∷ []) + 2 ≤ 4 * (1 + n)
+one : (c : List Instruction) (i : Instruction) (n : ℕ) → length c + 2 ≤ 4 * n → length (c ++ i ∷ []) + 2 ≤ 4 * suc n
 one c i n h = let l = length-append c (i ∷ []) in omega (arith, h, l)
 
-two : (c d : List Instruction) (i : Instruction) (m n : ℕ) → length c + 2 ≤ 4 * m → length d + 2 ≤ 4 * n → length (c ++ (d ++ i ∷ [])) + 2 ≤ 4 * (1 + m + n)
+two : (c d : List Instruction) (i : Instruction) (m n : ℕ) → length c + 2 ≤ 4 * m → length d + 2 ≤ 4 * n → length (c ++ (d ++ i ∷ [])) + 2 ≤ 4 * suc (m + n)
 two c d i m n h j =
     let l = length-append c (d ++ i ∷ []) in
     let k = length-append d (i ∷ []) in
     omega (arith, h, j, l, k)
 
-row : (c : List Instruction) (i : Instruction) (n : ℕ) → length c ≤ 4 * n → length (c ++ i ∷ []) + 2 ≤ 4 * (1 + n)
+row : (c : List Instruction) (i : Instruction) (n : ℕ) → length c ≤ 4 * n → length (c ++ i ∷ []) + 2 ≤ 4 * suc n
 row c i n h = let l = length-append c (i ∷ []) in omega (arith, h, l)
 
 behind_short : (later : List (List Instruction)) → length (behind later (laid later)) ≤ 1 + length (laid later)
@@ -32,20 +34,20 @@ arm_short c later m n h j =
     let b = behind_short later in
     omega (arith, h, j, l, b)
 
-let_short : (c d : List Instruction) (m n : ℕ) → length c + 2 ≤ 4 * m → length d + 2 ≤ 4 * n → length (c ++ (Bind ∷ (d ++ Unbind 1 ∷ []))) + 2 ≤ 4 * (1 + m + n)
+let_short : (c d : List Instruction) (m n : ℕ) → length c + 2 ≤ 4 * m → length d + 2 ≤ 4 * n → length (c ++ (Bind ∷ (d ++ Unbind 1 ∷ []))) + 2 ≤ 4 * suc (m + n)
 let_short c d m n h j =
     let l = length-append c (Bind ∷ (d ++ Unbind 1 ∷ [])) in
     let k = length-append d (Unbind 1 ∷ []) in
     omega (arith, h, j, l, k)
 
-if_short : (c d e : List Instruction) (m n o : ℕ) → length c + 2 ≤ 4 * m → length d + 2 ≤ 4 * n → length e + 2 ≤ 4 * o → length (if_code c d e) + 2 ≤ 4 * (1 + m + n + o)
+if_short : (c d e : List Instruction) (m n o : ℕ) → length c + 2 ≤ 4 * m → length d + 2 ≤ 4 * n → length e + 2 ≤ 4 * o → length (if_code c d e) + 2 ≤ 4 * suc (m + n + o)
 if_short c d e m n o h j i =
     let l = length-append c (Branch (length d + 1) ∷ (d ++ (Jump (length e) ∷ e))) in
     let k = length-append d (Jump (length e) ∷ e) in
     omega (arith, h, j, i, l, k)
 
 match_short : (c : List Instruction) (number : ℕ) (arms : List (List Instruction)) (m n : ℕ) → length c + 2 ≤ 4 * m → length (laid arms) ≤ 4 * n
-    → length (c ++ match_code number arms) + 2 ≤ 4 * (1 + m + n)
+    → length (c ++ match_code number arms) + 2 ≤ 4 * suc (m + n)
 match_short c number arms m n h j =
     let l = length-append c (Switch number (places 0 arms) ∷ laid arms) in
     omega (arith, h, j, l)
@@ -65,7 +67,7 @@ module _ (types : Table) where
     short (LenE x) = one (code_of types x) Len (expressions_in x) (short x)
     short (AuthE t x) = one (code_of types x) (Auth t) (expressions_in x) (short x)
     short (UnauthE t x) = one (code_of types x) (Unauth t) (expressions_in x) (short x)
-    short (ConE number tag xs) = row (code_all types xs) (Make number tag) (expressions_in_all xs) (short_all xs)
+    short (ConE number tag xs) = row (code_all types xs) (Make number tag) (expressions_in_row xs) (short_all xs)
     short (ArithE op x y) = two (code_of types x) (code_of types y) (ArithOp op) (expressions_in x) (expressions_in y) (short x) (short y)
     short (CompareE op x y) = two (code_of types x) (code_of types y) (CompareOp op) (expressions_in x) (expressions_in y) (short x) (short y)
     short (TextCompareE op x y) = two (code_of types x) (code_of types y) (TextCompareOp op) (expressions_in x) (expressions_in y) (short x) (short y)
@@ -76,9 +78,9 @@ module _ (types : Table) where
     short (MatchE number x arms) =
         let cs = unwrap_or (slice_get types number) [] in
         match_short (code_of types x) number (arm_codes types arms cs) (expressions_in x) (expressions_in_arms arms) (short x) (short_arms arms cs)
-    short (CallE f args) = row (code_all types args) (Call f) (expressions_in_all args) (short_all args)
+    short (CallE f args) = row (code_all types args) (Call f) (expressions_in_row args) (short_all args)
 
-    short_all : (xs : Expressions) → length (code_all types xs) ≤ 4 * expressions_in_all xs
+    short_all : (xs : Expressions) → length (code_all types xs) ≤ 4 * expressions_in_row xs
     short_all NoE = omega arith
     short_all (AndE x xs) =
         let l = length-append (code_of types x) (code_all types xs) in
@@ -97,7 +99,7 @@ module _ (types : Table) where
         let u = unbind_short (length c) in
         arm_short (code_of types body ++ unbind_code (length c)) (arm_codes types arms cs) (expressions_in body) (expressions_in_arms arms) (omega (arith, h, l, u)) (short_arms arms cs)
 
-  short_functions : (fs : List Function) → code_size (map (function_code types) fs) ≤ 4 * expressions_of fs + length fs
+  short_functions : (fs : List Function) → code_size (map (function_code types) fs) ≤ 4 * expressions_in_all fs + length fs
   short_functions [] = omega arith
   short_functions (f ∷ fs) =
       let l = length-append (code_of types f.body) (Return ∷ []) in
@@ -107,3 +109,10 @@ module _ (types : Table) where
 
 pub code_is_short : CodeIsShort
 code_is_short P = short_functions P.types P.functions
+
+pub code_has_a_limit : CodeHasALimit
+code_has_a_limit code =
+    let short = code_is_short (meaning code.program) in
+    let expressions = code.program.limits.expressions in
+    let functions = code.program.limits.functions in
+    omega (arith, short, expressions, functions)

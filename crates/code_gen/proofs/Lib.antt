@@ -5,5 +5,5 @@ pub mod Rows
 pub mod ArmRows
 -- arms.rt
 pub mod Layouts
--- the law of laws.rt
+-- the laws of laws.rt
 pub mod CodeSizes
