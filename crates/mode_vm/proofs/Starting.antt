@@ -1,6 +1,6 @@
 -- A machine that was started will come to what the definitions' call comes to.
 use Rattle.std.proofs.Common.{◌≡◌, ℕ, zero, suc, pred, ◌+◌, ◌*◌, ◌<◌, ◌≤◌, List, [], ◌∷◌, length, drop, reverse, Some, slice_get, ◌^◌, refl, sym, ap, ap₂, ◌∙◌, subst, arith}
-use Rattle.std.proofs.Math.Nat.{mul-le}
+use Rattle.std.proofs.Math.Nat.{mul-le-mul}
 use Rattle.core_terms.specs.Types.{Ty}
 use Rattle.core_terms.specs.Values.{Values, NoV, AndV, AreIdeal, AreShallow}
 use Rattle.core_terms.specs.Terms.{Program, IsTyped, function_at}
@@ -151,5 +151,5 @@ starts_few code f args k state starts most opened before =
     let size = code_size (generated (program_of code)).functions in
     let short = code_has_a_limit code in
     let steps = starts_steps (program_of code) f args k state starts in
-    let calls = mul-le k (size + 1) (10 ^ 12) (most_instructions + 1) most (omega (arith, short)) in
+    let calls : k * (size + 1) ≤ 10 ^ 12 * 1049601 = mul-le-mul {n₁ = k} {m₁ = size + 1} {n₂ = 10 ^ 12} {m₂ = 1049601} most (omega (arith, short)) in
     omega (arith, steps, calls, before)
