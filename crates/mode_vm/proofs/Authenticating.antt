@@ -46,12 +46,15 @@ module _ (m : Marking) (P : Program) (z : Ty) (old : List Node) (before : State)
   abbrev here : Before m P old before.top (Auth t) cs.top
   here = record { top = shows.top; next = next }
 
-  pub operand : Plain (kind_of m P) P.types old (generated P) cs.top.result t cs.top.local_types (ToNext (generated P) cs.top.result cs.top.shapes) v.0 (numbers_of (reverse kept)) cs.top.operand_types cs.top.operands
-  operand = plain (kind_of m P) P.types old (generated P) cs.top.result t cs.top.local_types (ToNext (generated P) cs.top.result cs.top.shapes) v.0 (numbers_of (reverse kept)) cs.top.operand_types cs.top.operands
+  pub operand : Plain (kind_of m P) P.types old (generated P) cs.top.result t cs.top.local_types (ToNext (generated P) cs.top.result cs.top.shapes) v.0
+      (numbers_of (reverse kept)) cs.top.operand_types cs.top.operands
+  operand = plain (kind_of m P) P.types old (generated P) cs.top.result t cs.top.local_types (ToNext (generated P) cs.top.result cs.top.shapes) v.0
+      (numbers_of (reverse kept)) cs.top.operand_types cs.top.operands
       (fits_next m P old before.top (Auth t) cs.top here)
       (subst (λ l. AllStandFor (kind_of m P) P.types old (numbers_of l) cs.top.operand_types cs.top.operands) (ap reverse top ∙ reverse_push kept v) shows.top.is.operands)
 
-  pub authenticated : (new : List Node) → Keeps old new → (after : State) → before.entered ≡ true → (r : Ref) → IsAt before.top (before.top.place + 1) before.top.locals.items (kept ++ r ∷ []) after.top → IsElseSame before after
+  pub authenticated : (new : List Node) → Keeps old new → (after : State) → before.entered ≡ true → (r : Ref)
+      → IsAt before.top (before.top.place + 1) before.top.locals.items (kept ++ r ∷ []) after.top → IsElseSame before after
       → StandsFor (kind_of m P) P.types new r.0 (AuthTy t) ((mode_of m P).auth t operand.x) → GoesTo m P z new true before.fuel cs after
   authenticated new keeps after entered r at others stands =
       lifted m P old new keeps (Unit {0}) z before after cs shows entered others.entered others.fuel others.waiting None
@@ -60,6 +63,7 @@ module _ (m : Marking) (P : Program) (z : Ty) (old : List Node) (before : State)
       ap (λ os. act (generated P) (mode_of m P) (calls m P cs.top.depth) (Auth t) next (tie cs.top.local_types cs.top.locals) (tie os cs.top.operands) k w) operand.types_are
       ∙ ap (λ us. act (generated P) (mode_of m P) (calls m P cs.top.depth) (Auth t) next (tie cs.top.local_types cs.top.locals) (tie (t ∷ operand.below_types) us) k w) operand.are))
 
-pub only_memory : (m : Marking) (P : Program) (z : Ty) {F : Type 0} (cause : F → Option (CauseOf m)) (New : StateOf m → Type 0) (nodes : List Node) (k : ℕ) (run : RunOf m) (A : Type 0) (stop : Stop F) → OnlyMemory {A = A} (Err stop) → StopIs m P z cause New nodes k stop run
+pub only_memory : (m : Marking) (P : Program) (z : Ty) {F : Type 0} (cause : F → Option (CauseOf m)) (New : StateOf m → Type 0) (nodes : List Node) (k : ℕ) (run : RunOf m) (A : Type 0)
+    (stop : Stop F) → OnlyMemory {A = A} (Err stop) → StopIs m P z cause New nodes k stop run
 only_memory m P z cause New nodes k run A NoMemory h = tt
 only_memory m P z cause New nodes k run A (ModeStops f) h = elim h [ ]

@@ -40,7 +40,8 @@ module _ (kind : Kind) (types : Table) (nodes : List Node) where
   one_more t ts under a args rest us vs (AndV v below) h j e = record { vs = AndV v vs; below = below; args_stand = (j.0, h); rest_stand = j.1; tied = e }
   one_more t ts under a args rest us vs NoV h j e = elim j [ ]
 
-  pub pushed : (ts under : List Ty) (args rest : List ℕ) (us : Values) → length args ≡ length ts → AllStandFor kind types nodes (reverse args ++ rest) (push_types ts under) us → Pushed ts under args rest us
+  pub pushed : (ts under : List Ty) (args rest : List ℕ) (us : Values) → length args ≡ length ts → AllStandFor kind types nodes (reverse args ++ rest) (push_types ts under) us
+      → Pushed ts under args rest us
   pushed [] under [] rest us e h = record { vs = NoV; below = us; args_stand = tt; rest_stand = h; tied = refl }
   pushed (t ∷ ts) under (a ∷ args) rest us e h =
       let same : reverse (a ∷ args) ++ rest ≡ reverse args ++ (a ∷ rest) = ap (λ l. l ++ rest) (reverse-append (a ∷ []) args) ∙ append_assoc (reverse args) (a ∷ []) rest in
@@ -54,7 +55,8 @@ module _ (kind : Kind) (types : Table) (nodes : List Node) where
   join_nil NoV = refl
   join_nil (AndV v vs) = ap (AndV v) (join_nil vs)
 
-  popped_back : {C W : Type 0} (args : List ℕ) (ts : List Ty) (vs : Values) → AllStandFor kind types nodes args ts vs → (n : ℕ) (ops : List Held) (acc : Values) (go : Values → List Held → Coded C W) → popped (length ts + n) (push_all ts vs ops) acc go ≡ popped n ops (join vs acc) go
+  popped_back : {C W : Type 0} (args : List ℕ) (ts : List Ty) (vs : Values) → AllStandFor kind types nodes args ts vs
+      → (n : ℕ) (ops : List Held) (acc : Values) (go : Values → List Held → Coded C W) → popped (length ts + n) (push_all ts vs ops) acc go ≡ popped n ops (join vs acc) go
   popped_back [] [] NoV h n ops acc go = let e : 0 + n ≡ n = omega arith in ap (λ m. popped m ops acc go) e
   popped_back (a ∷ args) (t ∷ ts) (AndV v vs) h n ops acc go =
       let e : length (t ∷ ts) + n ≡ length ts + suc n = omega arith in
@@ -64,7 +66,8 @@ module _ (kind : Kind) (types : Table) (nodes : List Node) where
   popped_back (a ∷ args) [] vs h n ops acc go = elim h [ ]
   popped_back (a ∷ args) (t ∷ ts) NoV h n ops acc go = elim h [ ]
 
-  pub popped_args : {C W : Type 0} (args : List ℕ) (ts : List Ty) (vs : Values) → AllStandFor kind types nodes args ts vs → (ops : List Held) (go : Values → List Held → Coded C W) → popped (length ts) (push_all ts vs ops) NoV go ≡ go vs ops
+  pub popped_args : {C W : Type 0} (args : List ℕ) (ts : List Ty) (vs : Values) → AllStandFor kind types nodes args ts vs → (ops : List Held) (go : Values → List Held → Coded C W)
+      → popped (length ts) (push_all ts vs ops) NoV go ≡ go vs ops
   popped_args args ts vs h ops go =
       let e : length ts ≡ length ts + 0 = omega arith in
       ap (λ m. popped m (push_all ts vs ops) NoV go) e ∙ popped_back args ts vs h 0 ops NoV go ∙ ap (λ us. go us ops) (join_nil vs)
@@ -86,12 +89,14 @@ pub length_push : (ts us : List Ty) → length (push_types ts us) ≡ length ts 
 length_push [] us = omega arith
 length_push (t ∷ ts) us = let h = length_push ts (t ∷ us) in omega (arith, h)
 
-module _ (m : Marking) (P : Program) (typed : IsTyped P) (z : Ty) (nodes : List Node) (old new : State) (f : ℕ) (cs : ValueStack) (shows : Represents m P z nodes old cs) (next : IsNext (Call f) cs.top) (entered : old.entered ≡ true) where
+module _ (m : Marking) (P : Program) (typed : IsTyped P) (z : Ty) (nodes : List Node) (old new : State) (f : ℕ) (cs : ValueStack) (shows : Represents m P z nodes old cs)
+    (next : IsNext (Call f) cs.top) (entered : old.entered ≡ true) where
   abbrev B : Body
   B = generated P
 
   abbrev callee : Type 0
-  callee = (under : List Ty) × (cs.top.operand_types ≡ push_types (code_at B f).parameters under) × ToNext B cs.top.result cs.top.shapes 0 cs.top.local_types ((code_at B f).result ∷ under) × (f < length B.functions)
+  callee = (under : List Ty) × (cs.top.operand_types ≡ push_types (code_at B f).parameters under) × ToNext B cs.top.result cs.top.shapes 0 cs.top.local_types ((code_at B f).result ∷ under)
+      × (f < length B.functions)
 
   fine_here : IsFine B cs.top.result (Call f ∷ next.rest) cs.top.shapes
   fine_here = subst (λ is. IsFine B cs.top.result is cs.top.shapes) next.is shows.top.is.fine
@@ -115,7 +120,8 @@ module _ (m : Marking) (P : Program) (typed : IsTyped P) (z : Ty) (nodes : List 
     split =
         let l = length-map args (λ (r : Ref). r.0) in
         let e : numbers_of (reverse old.top.operands.items) ≡ reverse (numbers_of args) ++ numbers_of (reverse kept) =
-        ap (λ l. numbers_of (reverse l)) begins.operands ∙ ap numbers_of (reverse-append kept args) ∙ numbers_append (reverse args) (reverse kept) ∙ ap (λ l. l ++ numbers_of (reverse kept)) (numbers_reverse args) in
+        ap (λ l. numbers_of (reverse l)) begins.operands ∙ ap numbers_of (reverse-append kept args) ∙ numbers_append (reverse args) (reverse kept)
+        ∙ ap (λ l. l ++ numbers_of (reverse kept)) (numbers_reverse args) in
         pushed (kind_of m P) P.types nodes (code_at B f).parameters found.0 (numbers_of args) (numbers_of (reverse kept)) cs.top.operands (l ∙ long)
         (subst (λ l. AllStandFor (kind_of m P) P.types nodes l (push_types (code_at B f).parameters found.0) cs.top.operands) e
         (subst (λ os. AllStandFor (kind_of m P) P.types nodes (numbers_of (reverse old.top.operands.items)) os cs.top.operands) found.1 shows.top.is.operands))
@@ -124,10 +130,28 @@ module _ (m : Marking) (P : Program) (typed : IsTyped P) (z : Ty) (nodes : List 
     accepted = generated_accepted P typed f
 
     abbrev called : ValueFrame
-    called = record { depth = pred cs.top.depth; left = (code_at B f).code; shapes = accepted.0; result = (code_at B f).result; local_types = (code_at B f).parameters; locals = split.vs; operand_types = []; operands = NoV }
+    called = record {
+      depth = pred cs.top.depth;
+      left = (code_at B f).code;
+      shapes = accepted.0;
+      result = (code_at B f).result;
+      local_types = (code_at B f).parameters;
+      locals = split.vs;
+      operand_types = [];
+      operands = NoV;
+    }
 
     abbrev caller : ValueFrame
-    caller = record { depth = cs.top.depth; left = next.rest; shapes = drop 1 cs.top.shapes; result = cs.top.result; local_types = cs.top.local_types; locals = cs.top.locals; operand_types = found.0; operands = split.below }
+    caller = record {
+      depth = cs.top.depth;
+      left = next.rest;
+      shapes = drop 1 cs.top.shapes;
+      result = cs.top.result;
+      local_types = cs.top.local_types;
+      locals = cs.top.locals;
+      operand_types = found.0;
+      operands = split.below;
+    }
 
     deep_here : old.fuel ≤ cs.top.depth
     deep_here = subst (λ b. IsDeep b old.fuel cs.top) entered shows.deep
@@ -145,7 +169,17 @@ module _ (m : Marking) (P : Program) (typed : IsTyped P) (z : Ty) (nodes : List 
         ∙ ap (λ p. drop p (code_at B old.top.function.0).code) (sym begins.waits.place) ∙ ap (λ f. drop begins.caller.place (code_at B f.0).code) (sym begins.waits.function)
 
     -- a call of the definitions takes its unit of fuel where the frame is entered
-    enters_call : (n k : ℕ) (w : StateOf m) → k ≤ n → call_code B (mode_of m P) n f split.vs k w ≡ enters m P (record { depth = pred n; left = (code_at B f).code; shapes = accepted.0; result = (code_at B f).result; local_types = (code_at B f).parameters; locals = split.vs; operand_types = []; operands = NoV }) k w
+    enters_call : (n k : ℕ) (w : StateOf m) → k ≤ n → call_code B (mode_of m P) n f split.vs k w ≡ enters m P
+        (record {
+          depth = pred n;
+          left = (code_at B f).code;
+          shapes = accepted.0;
+          result = (code_at B f).result;
+          local_types = (code_at B f).parameters;
+          locals = split.vs;
+          operand_types = [];
+          operands = NoV;
+        }) k w
     enters_call zero zero w h = refl
     enters_call zero (suc k) w h = absurd (omega (arith, h))
     enters_call (suc n) zero w h = refl
@@ -155,7 +189,8 @@ module _ (m : Marking) (P : Program) (typed : IsTyped P) (z : Ty) (nodes : List 
     same_end w =
         let call = calls m P cs.top.depth in
         let rest = steps.rest_of B (mode_of m P) (waiting_of cs.top.result cs.waits) in
-        let go : Values → List Held → Coded (CauseOf m) (StateOf m) = λ vs ops. then_coded (call f vs old.fuel w) (λ v k w. exec B (mode_of m P) call next.rest 0 (tie cs.top.local_types cs.top.locals) (held (code_at B f).result v ∷ ops) k w) in
+        let go : Values → List Held → Coded (CauseOf m) (StateOf m) =
+        λ vs ops. then_coded (call f vs old.fuel w) (λ v k w. exec B (mode_of m P) call next.rest 0 (tie cs.top.local_types cs.top.locals) (held (code_at B f).result v ∷ ops) k w) in
         ap (λ is. then_coded (exec B (mode_of m P) call is 0 (tie cs.top.local_types cs.top.locals) (tie cs.top.operand_types cs.top.operands) old.fuel w) rest) next.is
         ∙ ap (λ os. then_coded (popped (length (code_at B f).parameters) (tie os cs.top.operands) NoV go) rest) found.1
         ∙ ap (λ ops. then_coded (popped (length (code_at B f).parameters) ops NoV go) rest) split.tied
@@ -198,5 +233,6 @@ module _ (m : Marking) (P : Program) (typed : IsTyped P) (z : Ty) (nodes : List 
           },
           λ w. same_end w ∙ ap₂ (λ b k. end_of m P b (record { top = called; waits = caller ∷ cs.waits }) k w) (sym begins.entered) (sym begins.fuel),
           subst (λ b. stack_steps P b new.fuel (record { top = called; waits = caller ∷ cs.waits }) < stack_steps P true old.fuel cs) (sym begins.entered)
-              (subst (λ k. stack_steps P false k (record { top = called; waits = caller ∷ cs.waits }) < stack_steps P true old.fuel cs) (sym begins.fuel) (let l = ap length next.is in omega (arith, l))),
+              (subst (λ k. stack_steps P false k (record { top = called; waits = caller ∷ cs.waits }) < stack_steps P true old.fuel cs) (sym begins.fuel) (let l = ap length next.is in
+              omega (arith, l))),
         )

@@ -9,7 +9,8 @@ use Rattle.core_terms.specs.Terms.{Program}
 use Rattle.value_store.specs.Nodes.{Node}
 use Rattle.value_store.specs.Markings.{Marking}
 use Rattle.mode_vm.specs.Meanings.{StateOf}
-use Rattle.mode_vm.specs.Machines.{ValueFrame, ValueStack, Represents, end_of, AreDeep, AreWaiting, IsDeep, all_left, code_size, stack_steps, frames_left, left_if, steps_left}
+use Rattle.code_gen.specs.CodeSizes.{code_size}
+use Rattle.mode_vm.specs.Machines.{ValueFrame, ValueStack, Represents, end_of, AreDeep, AreWaiting, IsDeep, all_left, stack_steps, frames_left, left_if, steps_left}
 use Rattle.mode_vm.specs.declared.state.State.{State}
 
 pub less_deep : (k : ℕ) (cs : List ValueFrame) → AreDeep (suc k) cs → AreDeep k cs
@@ -66,4 +67,5 @@ module _ (m : Marking) (P : Program) (z : Ty) (nodes : List Node) (state : State
 
   -- the steps of a machine are those of what it shows
   pub steps_same : steps_left P state ≡ stack_steps P state.entered state.fuel cs
-  steps_same = ap₂ (λ a b. state.fuel * (code_size (generated P).functions + 1) + (left_if state.entered a + b)) (ap length (sym shows.top.is.left)) (frames_same cs.top.result (reverse state.waiting.items) cs.waits shows.waits)
+  steps_same = ap₂ (λ a b. state.fuel * (code_size (generated P).functions + 1) + (left_if state.entered a + b)) (ap length (sym shows.top.is.left))
+      (frames_same cs.top.result (reverse state.waiting.items) cs.waits shows.waits)

@@ -44,7 +44,8 @@ module _ (B : Body) (z : Ty) where
   abbrev pub ToNext : List Shape → ℕ → List Ty → List Ty → Type 0
   ToNext shapes n ls os = slice_get (drop 1 shapes) n ≡ Some (shape ls os)
 
-  pub fits_first : (i : Instruction) (is : List Instruction) (shapes : List Shape) (ls os : List Ty) → IsFine B z (i ∷ is) shapes → slice_get shapes 0 ≡ Some (shape ls os) → Fits B z i ls os (ToNext shapes)
+  pub fits_first : (i : Instruction) (is : List Instruction) (shapes : List Shape) (ls os : List Ty) → IsFine B z (i ∷ is) shapes → slice_get shapes 0 ≡ Some (shape ls os)
+      → Fits B z i ls os (ToNext shapes)
   fits_first i is [] ls os h e = elim h [ ]
   fits_first i is (s ∷ shapes) ls os h e =
       let same : s ≡ shape ls os = cc in
@@ -66,14 +67,24 @@ module _ (m : Marking) (P : Program) where
   calls depth = call_code (generated P) (mode_of m P) depth
 
   -- what the next instruction finds
-  pub fits_next : (nodes : List Node) (frame : Frame) (i : Instruction) (c : ValueFrame) → Before m P nodes frame i c → Fits (generated P) c.result i c.local_types c.operand_types (ToNext (generated P) c.result c.shapes)
+  pub fits_next : (nodes : List Node) (frame : Frame) (i : Instruction) (c : ValueFrame) → Before m P nodes frame i c
+      → Fits (generated P) c.result i c.local_types c.operand_types (ToNext (generated P) c.result c.shapes)
   fits_next nodes frame i c b =
       fits_first (generated P) c.result i b.next.rest c.shapes c.local_types c.operand_types
       (subst (λ is. IsFine (generated P) c.result is c.shapes) b.next.is b.top.is.fine) b.top.starts
 
   -- the frame behind its next instruction, `skip` instructions further
   abbrev pub moved : (c : ValueFrame) → List Instruction → (skip : ℕ) (ls os : List Ty) (vs us : Values) → ValueFrame
-  moved c rest skip ls os vs us = record { depth = c.depth; left = drop skip rest; shapes = drop skip (drop 1 c.shapes); result = c.result; local_types = ls; locals = vs; operand_types = os; operands = us }
+  moved c rest skip ls os vs us = record {
+    depth = c.depth;
+    left = drop skip rest;
+    shapes = drop skip (drop 1 c.shapes);
+    result = c.result;
+    local_types = ls;
+    locals = vs;
+    operand_types = os;
+    operands = us;
+  }
 
   pub moved_top : (nodes new : List Node) (frame after : Frame) (i : Instruction) (c : ValueFrame) (b : Before m P nodes frame i c)
       (skip : ℕ) (has works_on : List Ref) (ls os : List Ty) (vs us : Values)
@@ -107,7 +118,8 @@ module _ (m : Marking) (P : Program) where
       → ToNext (generated P) c.result c.shapes skip ls os
       → AllStandFor (kind_of m P) P.types new (numbers_of has) ls vs
       → AllStandFor (kind_of m P) P.types new (numbers_of (reverse works_on)) os us
-      → ((next : Next (CauseOf m) (StateOf m)) (k : ℕ) (w : StateOf m) → act (generated P) (mode_of m P) (calls c.depth) i next (tie c.local_types c.locals) (tie c.operand_types c.operands) k w ≡ next skip (tie ls vs) (tie os us) k w)
+      → ((next : Next (CauseOf m) (StateOf m)) (k : ℕ) (w : StateOf m)
+      → act (generated P) (mode_of m P) (calls c.depth) i next (tie c.local_types c.locals) (tie c.operand_types c.operands) k w ≡ next skip (tie ls vs) (tie os us) k w)
       → GoesOn m P new c after
   goes_on nodes new frame after i c b skip has works_on ls os vs us at to locals operands same = (
     moved c b.next.rest skip ls os vs us,
@@ -119,7 +131,8 @@ module _ (m : Marking) (P : Program) where
         ∙ jump (CauseOf m) (StateOf m) (generated P) (mode_of m P) c.depth skip b.next.rest (tie ls vs) (tie os us) k w,
   )
 
-pub all_keep : (kind : Kind) (types : List (List (List Ty))) (old new : List Node) → Keeps old new → (rs : List ℕ) (ts : List Ty) (vs : Values) → AllStandFor kind types old rs ts vs → AllStandFor kind types new rs ts vs
+pub all_keep : (kind : Kind) (types : List (List (List Ty))) (old new : List Node) → Keeps old new → (rs : List ℕ) (ts : List Ty) (vs : Values) → AllStandFor kind types old rs ts vs
+    → AllStandFor kind types new rs ts vs
 all_keep kind types old new k [] [] NoV h = h
 all_keep kind types old new k (r ∷ rs) (t ∷ ts) (AndV v vs) h = (k kind types r t v h.0, all_keep kind types old new k rs ts vs h.1)
 all_keep kind types old new k [] [] (AndV v vs) h = elim h [ ]
@@ -137,7 +150,9 @@ module _ (m : Marking) (P : Program) (nodes new : List Node) (keeps : Keeps node
       → ToNext (generated P) c.result c.shapes 0 c.local_types (t ∷ os)
       → StandsFor (kind_of m P) P.types new r.0 t v
       → AllStandFor (kind_of m P) P.types nodes (numbers_of (reverse kept)) os us
-      → ((next : Next (CauseOf m) (StateOf m)) (k : ℕ) (w : StateOf m) → act (generated P) (mode_of m P) (calls m P c.depth) i next (tie c.local_types c.locals) (tie c.operand_types c.operands) k w ≡ next 0 (tie c.local_types c.locals) (tie (t ∷ os) (AndV v us)) k w)
+      → ((next : Next (CauseOf m) (StateOf m)) (k : ℕ) (w : StateOf m)
+      → act (generated P) (mode_of m P) (calls m P c.depth) i next (tie c.local_types c.locals) (tie c.operand_types c.operands) k w ≡ next 0 (tie c.local_types c.locals)
+      (tie (t ∷ os) (AndV v us)) k w)
       → GoesOn m P new c after
   pushes kept r t v os us at to stands below same =
       let here : frame.place + 1 ≡ frame.place + 1 + 0 = omega arith in
@@ -149,5 +164,6 @@ module _ (m : Marking) (P : Program) (nodes new : List Node) (keeps : Keeps node
 
 module _ (m : Marking) (P : Program) (nodes : List Node) (frame : Frame) (i : Instruction) (c : ValueFrame) (b : Before m P nodes frame i c) where
   -- the run of the frame is that of its next instruction
-  pub runs_first : (k : ℕ) (w : StateOf m) → runs_on m P c k w ≡ act (generated P) (mode_of m P) (calls m P c.depth) i (exec (generated P) (mode_of m P) (calls m P c.depth) b.next.rest) (tie c.local_types c.locals) (tie c.operand_types c.operands) k w
+  pub runs_first : (k : ℕ) (w : StateOf m) → runs_on m P c k w ≡ act (generated P) (mode_of m P) (calls m P c.depth) i (exec (generated P) (mode_of m P) (calls m P c.depth) b.next.rest)
+      (tie c.local_types c.locals) (tie c.operand_types c.operands) k w
   runs_first k w = ap (λ is. exec (generated P) (mode_of m P) (calls m P c.depth) is 0 (tie c.local_types c.locals) (tie c.operand_types c.operands) k w) b.next.is

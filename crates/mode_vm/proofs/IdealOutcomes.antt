@@ -12,7 +12,8 @@ use Rattle.mode_vm.specs.Meanings.{CauseOf, RunOf}
 use Rattle.mode_vm.specs.Runs.{OutcomeIs}
 use Rattle.mode_vm.specs.IdealRuns.{IsOutcome}
 
-pub tells_outcome : (P : Program) (z : Ty) {F : Type 0} (cause : F → Option (CauseOf IdealMarking)) (New : List Opened → Type 0) (nodes : List Node) (k : ℕ) (o : Outcome Ref) (run : RunOf IdealMarking)
+pub tells_outcome : (P : Program) (z : Ty) {F : Type 0} (cause : F → Option (CauseOf IdealMarking)) (New : List Opened → Type 0) (nodes : List Node) (k : ℕ) (o : Outcome Ref)
+    (run : RunOf IdealMarking)
     → OutcomeIs IdealMarking P z cause New nodes k o run → IsOutcome P.types nodes z o (outcome run)
 tells_outcome P z cause New nodes k (told.Done r) run h = (h.0, h.3, ap outcome h.4)
 tells_outcome P z cause New nodes k (told.Trapped trap) run h = ap outcome h.2

@@ -36,7 +36,8 @@ module _ (m : Marking) (P : Program) (old new : List Node) (keeps : Keeps old ne
   waits_keep z t (f ∷ fs) [] h = elim h [ ]
 
   -- from the running frame to the machine
-  pub lifted : (E : Type 0) (z : Ty) (before after : State) (cs : ValueStack) → Represents m P z old before cs → before.entered ≡ true → after.entered ≡ before.entered → after.fuel ≡ before.fuel → after.waiting ≡ before.waiting
+  pub lifted : (E : Type 0) (z : Ty) (before after : State) (cs : ValueStack) → Represents m P z old before cs → before.entered ≡ true → after.entered ≡ before.entered
+      → after.fuel ≡ before.fuel → after.waiting ≡ before.waiting
       → (trapped : Option Trap) → Acts m P new {E = E} cs.top after.top (Ok trapped) → Leads m P z new {E = E} true before.fuel cs after (Ok (step_told trapped))
   lifted E z before after cs shows entered stays fuel waiting None acts = (
     record { top = acts.0; waits = cs.waits },
@@ -44,7 +45,8 @@ module _ (m : Marking) (P : Program) (old new : List Node) (keeps : Keeps old ne
       top = acts.1;
       waits = subst (λ t. AreWaiting m P new z t (reverse after.waiting.items) cs.waits) (sym acts.2.result)
           (subst (λ v. AreWaiting m P new z cs.top.result (reverse v.items) cs.waits) (sym waiting) (waits_keep z cs.top.result (reverse before.waiting.items) cs.waits shows.waits));
-      deep = subst (λ b. IsDeep b after.fuel acts.0) (sym (stays ∙ entered)) (subst (λ d. after.fuel ≤ d) (sym acts.2.depth) (subst (λ k. k ≤ cs.top.depth) (sym fuel) (subst (λ b. IsDeep b before.fuel cs.top) entered shows.deep)));
+      deep = subst (λ b. IsDeep b after.fuel acts.0) (sym (stays ∙ entered))
+          (subst (λ d. after.fuel ≤ d) (sym acts.2.depth) (subst (λ k. k ≤ cs.top.depth) (sym fuel) (subst (λ b. IsDeep b before.fuel cs.top) entered shows.deep)));
       deep_below = subst (λ k. AreDeep k cs.waits) (sym fuel) shows.deep_below;
     },
     λ w. ap (λ c. then_coded c (steps.rest_of (generated P) (mode_of m P) (waiting_of cs.top.result cs.waits))) (acts.3 before.fuel w)
@@ -63,7 +65,8 @@ mapped f (x ∷ xs) (suc i) d h = let k : i < length (map f xs) = omega (arith, 
 
 -- the next instruction stands at the place of the running frame
 module _ (m : Marking) (P : Program) (z : Ty) (nodes : List Node) (state : State) (cs : ValueStack) (shows : Represents m P z nodes state cs) where
-  some_left : (B : Body) (t : Ty) (is : List Instruction) (shapes : List Shape) (s : Shape) → IsFine B t is shapes → slice_get shapes 0 ≡ Some s → (i : Instruction) × (rest : List Instruction) × (is ≡ i ∷ rest)
+  some_left : (B : Body) (t : Ty) (is : List Instruction) (shapes : List Shape) (s : Shape) → IsFine B t is shapes → slice_get shapes 0 ≡ Some s → (i : Instruction)
+      × (rest : List Instruction) × (is ≡ i ∷ rest)
   some_left B t (i ∷ rest) shapes s h e = (i, rest, refl)
   some_left B t [] [] s h e = absurd (cc)
   some_left B t [] (x ∷ shapes) s h e = elim h [ ]

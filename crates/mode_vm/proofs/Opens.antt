@@ -44,7 +44,8 @@ module _ (kind : Kind) (types : List (List (List Ty))) (nodes : List Node) (B : 
   locked r rs (AuthTy u ∷ os) NoV f h = elim h [ ]
   locked r rs os us f h = elim f [ ]
 
-module _ (m : Marking) (P : Program) (z : Ty) (old new : List Node) (keeps : Keeps old new) (before : State) (t : Ty) (cs : ValueStack) (shows : Represents m P z old before cs) (next : IsNext (Unauth t) cs.top) (entered : before.entered ≡ true)
+module _ (m : Marking) (P : Program) (z : Ty) (old new : List Node) (keeps : Keeps old new) (before : State) (t : Ty) (cs : ValueStack) (shows : Represents m P z old before cs)
+    (next : IsNext (Unauth t) cs.top) (entered : before.entered ≡ true)
     (kept : List Ref) (v : Ref) (top : before.top.operands.items ≡ kept ++ v ∷ []) where
   abbrev B : Body
   B = generated P
@@ -65,7 +66,8 @@ module _ (m : Marking) (P : Program) (z : Ty) (old new : List Node) (keeps : Kee
 
   opens : (k : ℕ) (w : StateOf m) → end_of m P true cs k w ≡ then_coded (then_code (with_fuel k ((mode_of m P).unauth t operand.x w)) behind) rest
   opens k w =
-      let act_on = λ (ops : List _). then_coded (act B (mode_of m P) (calls m P cs.top.depth) (Unauth t) (exec B (mode_of m P) (calls m P cs.top.depth) next.rest) (tie cs.top.local_types cs.top.locals) ops k w) rest in
+      let act_on = λ (ops : List _). then_coded (act B (mode_of m P) (calls m P cs.top.depth) (Unauth t) (exec B (mode_of m P) (calls m P cs.top.depth) next.rest)
+      (tie cs.top.local_types cs.top.locals) ops k w) rest in
       ap (λ is. then_coded (exec B (mode_of m P) (calls m P cs.top.depth) is 0 (tie cs.top.local_types cs.top.locals) (tie cs.top.operand_types cs.top.operands) k w) rest) next.is
       ∙ ap (λ os. act_on (tie os cs.top.operands)) operand.types_are
       ∙ ap (λ us. act_on (tie (AuthTy t ∷ operand.below_types) us)) operand.are
@@ -73,7 +75,8 @@ module _ (m : Marking) (P : Program) (z : Ty) (old new : List Node) (keeps : Kee
   pub refused : (k : ℕ) (w w' : StateOf m) (cause : CauseOf m) → (mode_of m P).unauth t operand.x w ≡ Refuses cause w' → end_of m P true cs k w ≡ Ran (Ends (Rejects cause) k w')
   refused k w w' cause e = opens k w ∙ ap (λ o. then_coded (then_code (with_fuel k o) behind) rest) e
 
-  module _ (after : State) (r : Ref) (at : IsAt before.top (before.top.place + 1) before.top.locals.items (kept ++ r ∷ []) after.top) (others : IsElseSame before after) (y : Value) (stands : StandsFor (kind_of m P) P.types new r.0 t y) where
+  module _ (after : State) (r : Ref) (at : IsAt before.top (before.top.place + 1) before.top.locals.items (kept ++ r ∷ []) after.top) (others : IsElseSame before after) (y : Value)
+      (stands : StandsFor (kind_of m P) P.types new r.0 t y) where
     abbrev pub opened_cores : ValueStack
     opened_cores = record { top = moved m P cs.top next.rest 0 cs.top.local_types (t ∷ operand.below_types) cs.top.locals (AndV y operand.below); waits = cs.waits }
 
@@ -81,17 +84,22 @@ module _ (m : Marking) (P : Program) (z : Ty) (old new : List Node) (keeps : Kee
     opened_shows =
         let here_place : before.top.place + 1 ≡ before.top.place + 1 + 0 = omega arith in
         record {
-          top = moved_top m P old new before.top after.top (Unauth t) cs.top here 0 before.top.locals.items (kept ++ r ∷ []) cs.top.local_types (t ∷ operand.below_types) cs.top.locals (AndV y operand.below)
+          top = moved_top m P old new before.top after.top (Unauth t) cs.top here 0 before.top.locals.items (kept ++ r ∷ []) cs.top.local_types (t ∷ operand.below_types) cs.top.locals
+              (AndV y operand.below)
               (subst (λ p. IsAt before.top p before.top.locals.items (kept ++ r ∷ []) after.top) here_place at) operand.goes
               (all_keep (kind_of m P) P.types old new keeps _ _ _ shows.top.is.locals)
-              (subst (λ l. AllStandFor (kind_of m P) P.types new (numbers_of l) (t ∷ operand.below_types) (AndV y operand.below)) (sym (reverse_push kept r)) (stands, all_keep (kind_of m P) P.types old new keeps _ _ _ operand.others));
-          waits = subst (λ v. AreWaiting m P new z cs.top.result (reverse v.items) cs.waits) (sym others.waiting) (waits_keep m P old new keeps z cs.top.result (reverse before.waiting.items) cs.waits shows.waits);
-          deep = subst (λ b. IsDeep b after.fuel opened_cores.top) (sym (others.entered ∙ entered)) (subst (λ k. k ≤ cs.top.depth) (sym others.fuel) (subst (λ b. IsDeep b before.fuel cs.top) entered shows.deep));
+              (subst (λ l. AllStandFor (kind_of m P) P.types new (numbers_of l) (t ∷ operand.below_types) (AndV y operand.below)) (sym (reverse_push kept r))
+              (stands, all_keep (kind_of m P) P.types old new keeps _ _ _ operand.others));
+          waits = subst (λ v. AreWaiting m P new z cs.top.result (reverse v.items) cs.waits) (sym others.waiting)
+              (waits_keep m P old new keeps z cs.top.result (reverse before.waiting.items) cs.waits shows.waits);
+          deep = subst (λ b. IsDeep b after.fuel opened_cores.top) (sym (others.entered ∙ entered))
+              (subst (λ k. k ≤ cs.top.depth) (sym others.fuel) (subst (λ b. IsDeep b before.fuel cs.top) entered shows.deep));
           deep_below = subst (λ k. AreDeep k cs.waits) (sym others.fuel) shows.deep_below;
         }
 
     -- another value that the node stands for is the same
-    pub opened_same : (w w' : StateOf m) (y' : Value) → (mode_of m P).unauth t operand.x w ≡ Opens y' w' → StandsFor (kind_of m P) P.types new r.0 t y' → end_of m P true cs before.fuel w ≡ end_of m P after.entered opened_cores after.fuel w'
+    pub opened_same : (w w' : StateOf m) (y' : Value) → (mode_of m P).unauth t operand.x w ≡ Opens y' w' → StandsFor (kind_of m P) P.types new r.0 t y'
+        → end_of m P true cs before.fuel w ≡ end_of m P after.entered opened_cores after.fuel w'
     opened_same w w' y' e stands' =
         let same : y' ≡ y = one_value (kind_of m P) P.types new t y' y r.0 stands' stands in
         opens before.fuel w
@@ -102,7 +110,8 @@ pub rest_then : (a b c : State) → IsElseSame a b → IsElseSame b c → IsElse
 rest_then a b c h j = record { entered = j.entered ∙ h.entered; fuel = j.fuel ∙ h.fuel; waiting = j.waiting ∙ h.waiting }
 
 -- a mode that stops the run
-module _ (m : Marking) (P : Program) (z : Ty) {F : Type 0} (cause : F → Option (CauseOf m)) (New : StateOf m → Type 0) (nodes : List Node) (t : Ty) (x : Value) (w : StateOf m) (k k' : ℕ) (same : k' ≡ k) (run : RunOf m)
+module _ (m : Marking) (P : Program) (z : Ty) {F : Type 0} (cause : F → Option (CauseOf m)) (New : StateOf m → Type 0) (nodes : List Node) (t : Ty) (x : Value) (w : StateOf m) (k k' : ℕ)
+    (same : k' ≡ k) (run : RunOf m)
     (ends : (c : CauseOf m) (w' : StateOf m) → (mode_of m P).unauth t x w ≡ Refuses c w' → run ≡ Ends (Rejects c) k w') where
   pub stop_is : (stop : Stop F) → OpensAs m P cause New nodes t x w (Err stop) → StopIs m P z cause New nodes k' stop run
   stop_is (ModeStops f) h = λ c e. let o = h c e in (o.0, ends c o.0 o.1 ∙ ap (λ k. Ends (Rejects c) k o.0) (sym same))

@@ -48,7 +48,8 @@ module _ (m : Marking) (P : Program) (z : Ty) (nodes : List Node) (old : State) 
   B = generated P
 
   fits : Fits B cs.top.result Return cs.top.local_types cs.top.operand_types (ToNext B cs.top.result cs.top.shapes)
-  fits = fits_first B cs.top.result Return next.rest cs.top.shapes cs.top.local_types cs.top.operand_types (subst (λ is. IsFine B cs.top.result is cs.top.shapes) next.is shows.top.is.fine) shows.top.starts
+  fits = fits_first B cs.top.result Return next.rest cs.top.shapes cs.top.local_types cs.top.operand_types
+      (subst (λ is. IsFine B cs.top.result is cs.top.shapes) next.is shows.top.is.fine) shows.top.starts
 
   given : One (kind_of m P) P.types nodes B cs.top.result cs.top.local_types (ToNext B cs.top.result cs.top.shapes) r.0 cs.top.operand_types cs.top.operands
   given = one (kind_of m P) P.types nodes B cs.top.result cs.top.local_types (ToNext B cs.top.result cs.top.shapes) r.0 (numbers_of (reverse kept)) cs.top.operand_types cs.top.operands fits
@@ -58,17 +59,30 @@ module _ (m : Marking) (P : Program) (z : Ty) (nodes : List Node) (old : State) 
   gives k w =
       let rest = steps.rest_of B (mode_of m P) (waiting_of cs.top.result cs.waits) in
       ap (λ is. then_coded (exec B (mode_of m P) (calls m P cs.top.depth) is 0 (tie cs.top.local_types cs.top.locals) (tie cs.top.operand_types cs.top.operands) k w) rest) next.is
-      ∙ ap (λ os. then_coded (act B (mode_of m P) (calls m P cs.top.depth) Return (exec B (mode_of m P) (calls m P cs.top.depth) next.rest) (tie cs.top.local_types cs.top.locals) (tie os cs.top.operands) k w) rest) given.types_are
-      ∙ ap (λ us. then_coded (act B (mode_of m P) (calls m P cs.top.depth) Return (exec B (mode_of m P) (calls m P cs.top.depth) next.rest) (tie cs.top.local_types cs.top.locals) (tie (cs.top.result ∷ []) us) k w) rest) given.are
+      ∙ ap (λ os. then_coded (act B (mode_of m P) (calls m P cs.top.depth) Return (exec B (mode_of m P) (calls m P cs.top.depth) next.rest) (tie cs.top.local_types cs.top.locals)
+      (tie os cs.top.operands) k w) rest) given.types_are
+      ∙ ap (λ us. then_coded (act B (mode_of m P) (calls m P cs.top.depth) Return (exec B (mode_of m P) (calls m P cs.top.depth) next.rest) (tie cs.top.local_types cs.top.locals)
+      (tie (cs.top.result ∷ []) us) k w) rest) given.are
 
   module _ (new : State) (caller : Frame) (others : List Frame) (waited : old.waiting.items ≡ others ++ caller ∷ [])
-      (at : IsAt caller caller.place caller.locals.items (caller.operands.items ++ r ∷ []) new.top) (waiting : new.waiting.items ≡ others) (fuel : new.fuel ≡ old.fuel) (stays : new.entered ≡ old.entered) where
+      (at : IsAt caller caller.place caller.locals.items (caller.operands.items ++ r ∷ []) new.top) (waiting : new.waiting.items ≡ others) (fuel : new.fuel ≡ old.fuel)
+      (stays : new.entered ≡ old.entered) where
     back : (t : Ty) (v : Value) (ws : List ValueFrame) → AreWaiting m P nodes z t (caller ∷ reverse others) ws → AreDeep old.fuel ws → StandsFor (kind_of m P) P.types nodes r.0 t v
-        → (after : ValueStack) × Represents m P z nodes new after × ((k : ℕ) (w : StateOf m) → then_coded (Ran (Gives v k w)) (steps.rest_of B (mode_of m P) (waiting_of t ws)) ≡ end_of m P true after k w)
+        → (after : ValueStack) × Represents m P z nodes new after × ((k : ℕ) (w : StateOf m)
+        → then_coded (Ran (Gives v k w)) (steps.rest_of B (mode_of m P) (waiting_of t ws)) ≡ end_of m P true after k w)
         × (length after.top.left + all_left after.waits ≡ all_left ws)
     back t v [] h d s = elim h [ ]
     back t v (c ∷ ws) h d s =
-        let values : ValueFrame = record { depth = c.depth; left = c.left; shapes = c.shapes; result = c.result; local_types = c.local_types; locals = c.locals; operand_types = t ∷ c.operand_types; operands = AndV v c.operands } in (
+        let values : ValueFrame = record {
+          depth = c.depth;
+          left = c.left;
+          shapes = c.shapes;
+          result = c.result;
+          local_types = c.local_types;
+          locals = c.locals;
+          operand_types = t ∷ c.operand_types;
+          operands = AndV v c.operands;
+        } in (
           record { top = values; waits = ws },
           record {
             top = record {
@@ -78,7 +92,8 @@ module _ (m : Marking) (P : Program) (z : Ty) (nodes : List Node) (old : State) 
                 left = h.0.is.left ∙ ap (λ p. drop p (code_at B caller.function.0).code) (sym at.place) ∙ ap (λ f. drop new.top.place (code_at B f.0).code) (sym at.function);
                 fine = h.0.is.fine;
                 locals = subst (λ l. AllStandFor (kind_of m P) P.types nodes (numbers_of l) c.local_types c.locals) (sym at.locals) h.0.is.locals;
-                operands = subst (λ l. AllStandFor (kind_of m P) P.types nodes (numbers_of l) (t ∷ c.operand_types) (AndV v c.operands)) (sym (ap reverse at.operands ∙ reverse_push caller.operands.items r)) (s, h.0.is.operands);
+                operands = subst (λ l. AllStandFor (kind_of m P) P.types nodes (numbers_of l) (t ∷ c.operand_types) (AndV v c.operands))
+                    (sym (ap reverse at.operands ∙ reverse_push caller.operands.items r)) (s, h.0.is.operands);
               };
               starts = h.0.starts;
             };
@@ -92,7 +107,8 @@ module _ (m : Marking) (P : Program) (z : Ty) (nodes : List Node) (old : State) 
 
     pub return_leads : GoesTo m P z nodes true old.fuel cs new
     return_leads =
-        let b = back cs.top.result given.v cs.waits (subst (λ l. AreWaiting m P nodes z cs.top.result l cs.waits) (ap reverse waited ∙ reverse-append others (caller ∷ [])) shows.waits) shows.deep_below given.stands in (
+        let b = back cs.top.result given.v cs.waits (subst (λ l. AreWaiting m P nodes z cs.top.result l cs.waits) (ap reverse waited ∙ reverse-append others (caller ∷ [])) shows.waits)
+        shows.deep_below given.stands in (
           b.0,
           b.1,
           (λ w. gives old.fuel w ∙ b.2 old.fuel w ∙ ap₂ (λ e k. end_of m P e b.0 k w) (sym (stays ∙ entered)) (sym fuel)),

@@ -1,5 +1,6 @@
 -- A machine that was started will come to what the definitions' call comes to.
-use Rattle.std.proofs.Common.{◌≡◌, ℕ, zero, suc, pred, ◌+◌, ◌*◌, ◌<◌, ◌≤◌, List, [], ◌∷◌, length, drop, reverse, Some, slice_get, refl, sym, ap, ap₂, ◌∙◌, subst, arith}
+use Rattle.std.proofs.Common.{◌≡◌, ℕ, zero, suc, pred, ◌+◌, ◌*◌, ◌<◌, ◌≤◌, List, [], ◌∷◌, length, drop, reverse, Some, slice_get, ◌^◌, refl, sym, ap, ap₂, ◌∙◌, subst, arith}
+use Rattle.std.proofs.Math.Nat.{mul-le-mul}
 use Rattle.core_terms.specs.Types.{Ty}
 use Rattle.core_terms.specs.Values.{Values, NoV, AndV, AreIdeal, AreShallow}
 use Rattle.core_terms.specs.Terms.{Program, IsTyped, function_at}
@@ -20,8 +21,11 @@ use Rattle.value_store.specs.Markings.{Marking, IdealMarking, ProverMarking, Ver
 use Rattle.value_store.specs.CodeNodes.{numbers_of}
 use Rattle.value_store.specs.declared.node.Ref.{Ref}
 use Rattle.value_store.proofs.TypedNodes.{ideal_refers, ideal_stands, prover_refers, shallow_stands}
-use Rattle.mode_vm.specs.Meanings.{CauseOf, StateOf, mode_of}
-use Rattle.mode_vm.specs.Machines.{ValueFrame, ValueStack, enters, end_of, AreWaiting, IsDeep, Represents, code_size, frame_left, frames_left, left_if, steps_left}
+use Rattle.mode_vm.specs.Meanings.{CauseOf, StateOf, mode_of, program_of}
+use Rattle.code_gen.specs.declared.code.Code.{Code}
+use Rattle.code_gen.proofs.CodeSizes.{code_has_a_limit}
+use Rattle.code_gen.specs.CodeSizes.{code_size, most_instructions}
+use Rattle.mode_vm.specs.Machines.{ValueFrame, ValueStack, enters, end_of, AreWaiting, IsDeep, Represents, frame_left, frames_left, left_if, steps_left, OpensFew}
 use Rattle.mode_vm.specs.Runs.{Ready, WillRun}
 use Rattle.mode_vm.specs.StateParts.{Starts}
 use Rattle.mode_vm.specs.declared.state.State.{State}
@@ -57,11 +61,14 @@ module _ (P : Program) (nodes : List Node) where
   code_is_right typed IdealMarking f rs vs h k w =
       right ⊥ (List Opened) P typed ideal_mode (ideal_kind P.types) (ideal_laws P.types) f vs k w (ideals_are P.types (function_at P f).parameters vs (all_ideal rs (function_at P f).parameters vs h))
   code_is_right typed (ProverMarking hash) f rs vs h k w =
-      right ⊥ (List Opened) P typed ideal_mode (ideal_kind P.types) (ideal_laws P.types) f vs k w (ideals_are P.types (function_at P f).parameters vs (all_ideal_too (digest_at hash P) rs (function_at P f).parameters vs h))
+      right ⊥ (List Opened) P typed ideal_mode (ideal_kind P.types) (ideal_laws P.types) f vs k w
+      (ideals_are P.types (function_at P f).parameters vs (all_ideal_too (digest_at hash P) rs (function_at P f).parameters vs h))
   code_is_right typed (VerifierMarking hash) f rs vs h k w =
-      right Cause Taking P typed (checked_mode hash P) digest_kind (checked_laws hash P) f vs k w (shallows_are P.types (function_at P f).parameters vs (all_shallow rs (function_at P f).parameters vs h))
+      right Cause Taking P typed (checked_mode hash P) digest_kind (checked_laws hash P) f vs k w
+      (shallows_are P.types (function_at P f).parameters vs (all_shallow rs (function_at P f).parameters vs h))
 
-module _ (m : Marking) (P : Program) (typed : IsTyped P) (f : ℕ) (there : f < length P.functions) (args : List Ref) (k : ℕ) (state : State) (starts : Starts f args k state) (nodes : List Node) (vs : Values)
+module _ (m : Marking) (P : Program) (typed : IsTyped P) (f : ℕ) (there : f < length P.functions) (args : List Ref) (k : ℕ) (state : State) (starts : Starts f args k state)
+    (nodes : List Node) (vs : Values)
     (stand : AllStandFor (kind_of m P) P.types nodes (numbers_of args) (function_at P f).parameters vs) where
   abbrev B : Body
   B = generated P
@@ -70,7 +77,16 @@ module _ (m : Marking) (P : Program) (typed : IsTyped P) (f : ℕ) (there : f < 
   accepted = generated_accepted P typed f
 
   abbrev values : ℕ → ValueFrame
-  values k = record { depth = pred k; left = (code_at B f).code; shapes = accepted.0; result = (code_at B f).result; local_types = (code_at B f).parameters; locals = vs; operand_types = []; operands = NoV }
+  values k = record {
+    depth = pred k;
+    left = (code_at B f).code;
+    shapes = accepted.0;
+    result = (code_at B f).result;
+    local_types = (code_at B f).parameters;
+    locals = vs;
+    operand_types = [];
+    operands = NoV;
+  }
 
   abbrev started : ValueStack
   started = record { top = values k; waits = [] }
@@ -121,9 +137,19 @@ module _ (m : Marking) (P : Program) (typed : IsTyped P) (f : ℕ) (there : f < 
         ∙ ends_there (enters m P (values k) k w) ∙ sym (enters_call k w) ∙ code_is_right P nodes typed m f (numbers_of args) vs stand k w;
   }
 
-pub starts_steps : (P : Program) (f : ℕ) (args : List Ref) (k : ℕ) (state : State) → Starts f args k state → steps_left P state ≡ k * (code_size (generated P).functions + 1)
+starts_steps : (P : Program) (f : ℕ) (args : List Ref) (k : ℕ) (state : State) → Starts f args k state → steps_left P state ≡ k * (code_size (generated P).functions + 1)
 starts_steps P f args k state starts =
     let size = code_size (generated P).functions in
     let none : k * (size + 1) + (0 + 0) ≡ k * (size + 1) = omega arith in
     ap₂ (λ b l. state.fuel * (size + 1) + (left_if b (frame_left P state.top) + frames_left P (reverse l))) starts.entered starts.nothing_waits
     ∙ ap (λ n. n * (size + 1) + (0 + 0)) starts.fuel ∙ none
+
+-- 10^12 calls, of at most 1,049,600 instructions each, open fewer than 2^61 values
+pub starts_few : (code : Code) (f : ℕ) (args : List Ref) (k : ℕ) (state : State) → Starts f args k state → k ≤ 10 ^ 12 → (opened : ℕ) → opened ≤ 2 ^ 62
+    → OpensFew opened (program_of code) state
+starts_few code f args k state starts most opened before =
+    let size = code_size (generated (program_of code)).functions in
+    let short = code_has_a_limit code in
+    let steps = starts_steps (program_of code) f args k state starts in
+    let calls : k * (size + 1) ≤ 10 ^ 12 * 1049601 = mul-le-mul {n₁ = k} {m₁ = size + 1} {n₂ = 10 ^ 12} {m₂ = 1049601} most (omega (arith, short)) in
+    omega (arith, steps, calls, before)

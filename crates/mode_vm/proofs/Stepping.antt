@@ -50,7 +50,8 @@ module _ (m : Marking) (P : Program) (z : Ty) (nodes : List Node) (new : State) 
     is_goes e h = subst (λ s. StepIs m P z cause New nodes new (Ok s) run) e h
 
 -- fewer steps are left
-pub fewer_left : (E : Type 0) (m : Marking) (P : Program) (z : Ty) (nodes new_nodes : List Node) (before after : State) (cs : ValueStack) → Represents m P z nodes before cs → (entered : Bool) → before.entered ≡ entered → (step : Step) → Leads m P z new_nodes {E = E} entered before.fuel cs after (Ok step)
+pub fewer_left : (E : Type 0) (m : Marking) (P : Program) (z : Ty) (nodes new_nodes : List Node) (before after : State) (cs : ValueStack) → Represents m P z nodes before cs
+    → (entered : Bool) → before.entered ≡ entered → (step : Step) → Leads m P z new_nodes {E = E} entered before.fuel cs after (Ok step)
     → (F : Type 0) → OnGoes {E = F} (Ok step) (steps_left P after < steps_left P before)
 fewer_left E m P z nodes new_nodes before after cs shows entered is Paused h F =
     let a = steps_same m P z new_nodes after h.0 h.1 in

@@ -33,7 +33,8 @@ module _ (kind : Kind) (types : Table) (nodes : List Node) where
   tie_joined (r ∷ rs) [] us vs ws h = elim h [ ]
   tie_joined (r ∷ rs) (t ∷ ts) us NoV ws h = elim h [ ]
 
-  pub all_joined : (rs qs : List ℕ) (ts us : List Ty) (vs ws : Values) → AllStandFor kind types nodes rs ts vs → AllStandFor kind types nodes qs us ws → AllStandFor kind types nodes (rs ++ qs) (ts ++ us) (join vs ws)
+  pub all_joined : (rs qs : List ℕ) (ts us : List Ty) (vs ws : Values) → AllStandFor kind types nodes rs ts vs → AllStandFor kind types nodes qs us ws
+      → AllStandFor kind types nodes (rs ++ qs) (ts ++ us) (join vs ws)
   all_joined [] qs [] us NoV ws h j = j
   all_joined (r ∷ rs) qs (t ∷ ts) us (AndV v vs) ws h j = (h.0, all_joined rs qs ts us vs ws h.1 j)
   all_joined [] qs [] us (AndV v vs) ws h j = elim h [ ]
@@ -91,8 +92,10 @@ module _ (kind : Kind) (types : Table) (nodes : List Node) where
     taken r rs (NamedTy n ∷ os) NoV f h = elim h [ ]
     taken r rs os us f h = elim f [ ]
 
-module _ (m : Marking) (P : Program) (nodes : List Node) (frame : Frame) (number : ℕ) (places : List ℕ) (c : ValueFrame) (b : Before m P nodes frame (Switch number places) c) (kept : List Ref) (r : Ref) (top : frame.operands.items ≡ kept ++ r ∷ []) where
-  pub apart : Taken (kind_of m P) P.types nodes (generated P) refl c.result number places c.local_types (ToNext (generated P) c.result c.shapes) r.0 (numbers_of (reverse kept)) c.operand_types c.operands
+module _ (m : Marking) (P : Program) (nodes : List Node) (frame : Frame) (number : ℕ) (places : List ℕ) (c : ValueFrame) (b : Before m P nodes frame (Switch number places) c)
+    (kept : List Ref) (r : Ref) (top : frame.operands.items ≡ kept ++ r ∷ []) where
+  pub apart : Taken (kind_of m P) P.types nodes (generated P) refl c.result number places c.local_types (ToNext (generated P) c.result c.shapes) r.0
+      (numbers_of (reverse kept)) c.operand_types c.operands
   apart = taken (kind_of m P) P.types nodes (generated P) refl c.result number places c.local_types (ToNext (generated P) c.result c.shapes) r.0 (numbers_of (reverse kept)) c.operand_types c.operands
       (fits_next m P nodes frame (Switch number places) c b)
       (subst (λ l. AllStandFor (kind_of m P) P.types nodes (numbers_of l) c.operand_types c.operands) (ap reverse top ∙ reverse_push kept r) b.top.is.operands)
@@ -100,12 +103,15 @@ module _ (m : Marking) (P : Program) (nodes : List Node) (frame : Frame) (number
   pub switch_within : frame.place + 1 + apart.skip < length (code_at (generated P) frame.function.0).code
   switch_within = skip_within m P nodes frame (Switch number places) c b apart.skip _ apart.goes
 
-  pub switched : (after : Frame) (fields : List Ref) → numbers_of fields ≡ apart.fields → IsAt frame (frame.place + 1 + apart.skip) (frame.locals.items ++ fields) kept after → GoesOn m P nodes c after
+  pub switched : (after : Frame) (fields : List Ref) → numbers_of fields ≡ apart.fields → IsAt frame (frame.place + 1 + apart.skip) (frame.locals.items ++ fields) kept after
+      → GoesOn m P nodes c after
   switched after fields same at =
       let ops = λ (os : List Ty) (us : Values). tie os us in
-      goes_on m P nodes nodes frame after (Switch number places) c b apart.skip (frame.locals.items ++ fields) kept (c.local_types ++ apart.field_types) apart.below_types (join c.locals apart.values) apart.below at
+      goes_on m P nodes nodes frame after (Switch number places) c b apart.skip (frame.locals.items ++ fields) kept (c.local_types ++ apart.field_types) apart.below_types
+      (join c.locals apart.values) apart.below at
       apart.goes
-      (subst (λ l. AllStandFor (kind_of m P) P.types nodes l (c.local_types ++ apart.field_types) (join c.locals apart.values)) (sym (numbers_append frame.locals.items fields ∙ ap (λ l. numbers_of frame.locals.items ++ l) same))
+      (subst (λ l. AllStandFor (kind_of m P) P.types nodes l (c.local_types ++ apart.field_types) (join c.locals apart.values))
+      (sym (numbers_append frame.locals.items fields ∙ ap (λ l. numbers_of frame.locals.items ++ l) same))
       (all_joined (kind_of m P) P.types nodes (numbers_of frame.locals.items) apart.fields c.local_types apart.field_types c.locals apart.values b.top.is.locals apart.stand))
       apart.others
       (λ next k w.
@@ -113,19 +119,22 @@ module _ (m : Marking) (P : Program) (nodes : List Node) (frame : Frame) (number
       ∙ ap (λ us. act (generated P) (mode_of m P) (calls m P c.depth) (Switch number places) next (tie c.local_types c.locals) (tie (NamedTy number ∷ apart.below_types) us) k w) apart.are
       ∙ ap (λ o. where_some o (λ n. next n (tie c.local_types c.locals ++ tie (unwrap_or (fields_at P.types number apart.tag) []) apart.values) (tie apart.below_types apart.below) k w)) apart.place
       ∙ ap (λ o. next apart.skip (tie c.local_types c.locals ++ tie (unwrap_or o []) apart.values) (tie apart.below_types apart.below) k w) apart.found
-      ∙ ap (λ l. next apart.skip l (tie apart.below_types apart.below) k w) (tie_joined (kind_of m P) P.types nodes (numbers_of frame.locals.items) c.local_types apart.field_types c.locals apart.values b.top.is.locals))
+      ∙ ap (λ l. next apart.skip l (tie apart.below_types apart.below) k w)
+      (tie_joined (kind_of m P) P.types nodes (numbers_of frame.locals.items) c.local_types apart.field_types c.locals apart.values b.top.is.locals))
 
 con_same : (a b d e : ℕ) (fs gs : List ℕ) → Some (ConNode a b fs) ≡ Some (ConNode d e gs) → (b ≡ e) × (fs ≡ gs)
 con_same a b d e fs gs h = (cc, cc)
 
 -- the node that is seen is the one that was taken apart
-module _ (m : Marking) (P : Program) (nodes : List Node) (frame : Frame) (number : ℕ) (places : List ℕ) (c : ValueFrame) (b : Before m P nodes frame (Switch number places) c) (kept : List Ref) (r : Ref) (top : frame.operands.items ≡ kept ++ r ∷ [])
+module _ (m : Marking) (P : Program) (nodes : List Node) (frame : Frame) (number : ℕ) (places : List ℕ) (c : ValueFrame) (b : Before m P nodes frame (Switch number places) c)
+    (kept : List Ref) (r : Ref) (top : frame.operands.items ≡ kept ++ r ∷ [])
     (other tag : ℕ) (fields : List ℕ) (seen : form_at nodes r.0 ≡ Some (ConNode other tag fields)) where
   pub seen_fields : fields ≡ (apart m P nodes frame number places c b kept r top).fields
   seen_fields = (con_same other tag number _ fields _ (sym seen ∙ (apart m P nodes frame number places c b kept r top).form)).1
 
   pub seen_skip : slice_get places tag ≡ Some (apart m P nodes frame number places c b kept r top).skip
-  seen_skip = ap (slice_get places) (con_same other tag number _ fields _ (sym seen ∙ (apart m P nodes frame number places c b kept r top).form)).0 ∙ (apart m P nodes frame number places c b kept r top).place
+  seen_skip = ap (slice_get places) (con_same other tag number _ fields _ (sym seen ∙ (apart m P nodes frame number places c b kept r top).form)).0
+      ∙ (apart m P nodes frame number places c b kept r top).place
 
 pub skip_read : (skips : List ℕ) (tag i skip : ℕ) → i ≡ tag → slice_get skips tag ≡ Some skip → slice_index_or skips i 0 ≡ skip
 skip_read skips tag i skip same e =

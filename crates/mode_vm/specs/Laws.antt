@@ -15,4 +15,5 @@ PausedIsReady = (m : Marking) (P : Program) (z : Ty) (old new : List Node) → K
 
 -- and will come to the same
 abbrev pub PausedWill : Type 0
-PausedWill = (m : Marking) (P : Program) (z : Ty) (old new : List Node) → Keeps old new → (state : State) (w : StateOf m) (run : RunOf m) → WillRun m P z old state w run → WillRun m P z new state w run
+PausedWill = (m : Marking) (P : Program) (z : Ty) (old new : List Node) → Keeps old new → (state : State) (w : StateOf m) (run : RunOf m) → WillRun m P z old state w run
+    → WillRun m P z new state w run

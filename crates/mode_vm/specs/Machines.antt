@@ -1,11 +1,12 @@
 -- The state of the virtual machine, as that of the definitions.
-use Rattle.std.specs.Prelude.{◌≡◌, ℕ, zero, suc, ◌+◌, ◌*◌, ◌≤◌, ◌<◌, Bool, true, false, List, [], ◌∷◌, length, drop, reverse, Some, slice_get}
+use Rattle.std.specs.Prelude.{◌≡◌, ℕ, zero, suc, ◌+◌, ◌*◌, ◌≤◌, ◌<◌, ◌^◌, Bool, true, false, List, [], ◌∷◌, length, drop, reverse, Some, slice_get}
 use Rattle.core_terms.specs.Types.{Ty}
 use Rattle.core_terms.specs.Values.{Values}
-use Rattle.core_terms.specs.Terms.{Program}
+use Rattle.core_terms.specs.Terms.{Program, function_at}
 use Rattle.ideal_meaning.specs.Run.{Ends, IsOut}
 use Rattle.code_gen.specs.Instructions.{Instruction, Call, Return, Auth, Unauth}
-use Rattle.code_gen.specs.Code.{FunctionCode, code_at, generated}
+use Rattle.code_gen.specs.Code.{code_at, generated}
+use Rattle.code_gen.specs.CodeSizes.{code_size}
 use Rattle.code_meaning.specs.Execution.{Coded, Ran, tie, then_coded}
 use Rattle.code_meaning.specs.Steps as steps
 use Rattle.code_meaning.specs.Accept.{Shape, shape, IsFine}
@@ -13,6 +14,7 @@ use Rattle.value_store.specs.Nodes.{Node}
 use Rattle.value_store.specs.Standing.{AllStandFor}
 use Rattle.value_store.specs.Markings.{Marking, kind_of}
 use Rattle.value_store.specs.CodeNodes.{numbers_of}
+use Rattle.value_store.specs.declared.node.Ref.{Ref}
 use Rattle.mode_vm.specs.Meanings.{CauseOf, StateOf, mode_of}
 use Rattle.mode_vm.specs.declared.frame.Frame.{Frame}
 use Rattle.mode_vm.specs.declared.state.State.{State}
@@ -42,11 +44,6 @@ abbrev pub waiting_of : Ty → List ValueFrame → List steps.Waiting
 waiting_of t [] = []
 waiting_of t (c ∷ cs) = record { frame = frame_of c; ty = t } ∷ waiting_of c.result cs
 
--- the number of instructions of all functions
-abbrev pub code_size : List FunctionCode → ℕ
-code_size [] = 0
-code_size (f ∷ fs) = length f.code + code_size fs
-
 abbrev pub all_left : List ValueFrame → ℕ
 all_left [] = 0
 all_left (c ∷ cs) = length c.left + all_left cs
@@ -69,6 +66,14 @@ frames_left P (f ∷ fs) = frame_left P f + frames_left P fs
 
 abbrev pub steps_left : Program → State → ℕ
 steps_left P state = state.fuel * (code_size (generated P).functions + 1) + (left_if state.entered (frame_left P state.top) + frames_left P (reverse state.waiting.items))
+
+-- these nodes stand for these values, as arguments of a function of the program
+abbrev pub AreArguments : Marking → Program → List Node → ℕ → List Ref → Values → Type 0
+AreArguments m P nodes f args vs = AllStandFor (kind_of m P) P.types nodes (numbers_of args) (function_at P f).parameters vs
+
+-- Few enough values will have been opened where so many were: each step that is still to come opens one more at most.
+abbrev pub OpensFew : ℕ → Program → State → Type 0
+OpensFew opened P state = opened + steps_left P state < 2 ^ 63
 
 module _ (m : Marking) (P : Program) where
   abbrev pub runs_on : ValueFrame → ℕ → StateOf m → Coded (CauseOf m) (StateOf m)

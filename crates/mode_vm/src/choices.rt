@@ -1,10 +1,9 @@
 // Choices and jumps.
 ghost use Rattle.std.specs.Prelude.{◌≡◌, ◌+◌, ◌<◌, ◌^◌, length};
-ghost use Rattle.core_terms.specs.LanguagePrograms.{meaning};
 ghost use Rattle.code_gen.specs.Instructions as instruction;
-ghost use Rattle.code_gen.specs.Programs.{program_in};
 ghost use Rattle.value_store.specs.Standing.{Keeps};
 ghost use Rattle.code_gen.specs.Code.{code_at, generated};
+ghost use Rattle.mode_vm.specs.Meanings.{program_of};
 
 use crate::frame::Frame;
 use crate::values::bool_in;
@@ -23,9 +22,9 @@ impl Frame {
         code: &Code,
         store: &mut N,
     ) -> Result<Option<Trap>, AllocError>
-        requires before { IsBefore (meaning (program_in code.now)) (N.nodes store.old) self.old instruction.Not }
+        requires before { IsBefore (program_of code.now) (N.nodes store.old) self.old instruction.Not }
         requires room { self.old.place + 1 < 2 ^ 64 }
-        ensures does { Does (meaning (program_in code.now)) instruction.Not (N.nodes store.old) (N.nodes store.new) self.old self.new result }
+        ensures does { Does (program_of code.now) instruction.Not (N.nodes store.old) (N.nodes store.new) self.old self.new result }
         ensures keeps { Keeps (N.nodes store.old) (N.nodes store.new) }
         ensures lent { N.lent store.new ≡ N.lent store.old }
     {
@@ -42,9 +41,9 @@ impl Frame {
         store: &N,
         skip: usize,
     ) -> Result<Option<Trap>, AllocError>
-        requires before { IsBefore (meaning (program_in code.now)) (N.nodes store.now) self.old (instruction.Branch skip) }
-        requires length { length (code_at (generated (meaning (program_in code.now))) self.old.function.0).code < 2 ^ 64 }
-        ensures does { Does (meaning (program_in code.now)) (instruction.Branch skip) (N.nodes store.now) (N.nodes store.now) self.old self.new result }
+        requires before { IsBefore (program_of code.now) (N.nodes store.now) self.old (instruction.Branch skip) }
+        requires length { length (code_at (generated (program_of code.now)) self.old.function.0).code < 2 ^ 64 }
+        ensures does { Does (program_of code.now) (instruction.Branch skip) (N.nodes store.now) (N.nodes store.now) self.old self.new result }
     {
         let r = self.pop();
         if bool_in(store, r) {
@@ -62,9 +61,9 @@ impl Frame {
         store: &N,
         count: usize,
     ) -> Result<Option<Trap>, AllocError>
-        requires before { IsBefore (meaning (program_in code.now)) (N.nodes store.now) self.old (instruction.Jump count) }
-        requires length { length (code_at (generated (meaning (program_in code.now))) self.old.function.0).code < 2 ^ 64 }
-        ensures does { Does (meaning (program_in code.now)) (instruction.Jump count) (N.nodes store.now) (N.nodes store.now) self.old self.new result }
+        requires before { IsBefore (program_of code.now) (N.nodes store.now) self.old (instruction.Jump count) }
+        requires length { length (code_at (generated (program_of code.now)) self.old.function.0).code < 2 ^ 64 }
+        ensures does { Does (program_of code.now) (instruction.Jump count) (N.nodes store.now) (N.nodes store.now) self.old self.new result }
     {
         self.place = self.place + 1 + count;
         Ok(None)
@@ -78,9 +77,9 @@ impl Frame {
         named: NamedId,
         skips: &[usize],
     ) -> Result<Option<Trap>, AllocError>
-        requires before { IsBefore (meaning (program_in code.now)) (N.nodes store.now) self.old (instruction.Switch named.0 skips.now) }
-        requires length { length (code_at (generated (meaning (program_in code.now))) self.old.function.0).code < 2 ^ 64 }
-        ensures does { Does (meaning (program_in code.now)) (instruction.Switch named.0 skips.now) (N.nodes store.now) (N.nodes store.now) self.old self.new result }
+        requires before { IsBefore (program_of code.now) (N.nodes store.now) self.old (instruction.Switch named.0 skips.now) }
+        requires length { length (code_at (generated (program_of code.now)) self.old.function.0).code < 2 ^ 64 }
+        ensures does { Does (program_of code.now) (instruction.Switch named.0 skips.now) (N.nodes store.now) (N.nodes store.now) self.old self.new result }
     {
         let r = self.pop();
         match store.view(r) {

@@ -1,8 +1,6 @@
 // The instructions on pairs and constructors.
 ghost use Rattle.std.specs.Prelude.{◌≡◌, ◌+◌, ◌<◌, ◌^◌, true, List, IfOk, Some, length, nat_lt};
-ghost use Rattle.core_terms.specs.LanguagePrograms.{meaning};
 ghost use Rattle.code_gen.specs.Instructions as instruction;
-ghost use Rattle.code_gen.specs.Programs.{program_in};
 ghost use Rattle.std.specs.List.{list_all};
 ghost use Rattle.core_terms.specs.Types.{NamedTy, PairTy, Table, Ty, fields_at};
 ghost use Rattle.core_terms.specs.Values.{ConV, PairV, Value, Values};
@@ -12,6 +10,7 @@ ghost use Rattle.value_store.specs.Markings.{Marking};
 ghost use Rattle.value_store.specs.Nodes.{size_limit};
 ghost use Rattle.value_store.specs.Standing.{AllStandFor, Keeps, Kind, StandsFor};
 ghost use Rattle.code_gen.specs.Code as code_meant;
+ghost use Rattle.mode_vm.specs.Meanings.{program_of};
 ghost use Rattle.mode_vm.specs.Calculations.{Makes};
 
 use crate::frame::Frame;
@@ -33,9 +32,9 @@ impl Frame {
         code: &Code,
         store: &mut N,
     ) -> Result<Option<Trap>, AllocError>
-        requires before { IsBefore (meaning (program_in code.now)) (N.nodes store.old) self.old instruction.Pair }
+        requires before { IsBefore (program_of code.now) (N.nodes store.old) self.old instruction.Pair }
         requires room { self.old.place + 1 < 2 ^ 64 }
-        ensures does { Does (meaning (program_in code.now)) instruction.Pair (N.nodes store.old) (N.nodes store.new) self.old self.new result }
+        ensures does { Does (program_of code.now) instruction.Pair (N.nodes store.old) (N.nodes store.new) self.old self.new result }
         ensures keeps { Keeps (N.nodes store.old) (N.nodes store.new) }
         ensures lent { N.lent store.new ≡ N.lent store.old }
     {
@@ -50,9 +49,9 @@ impl Frame {
         code: &Code,
         store: &N,
     ) -> Result<Option<Trap>, AllocError>
-        requires before { IsBefore (meaning (program_in code.now)) (N.nodes store.now) self.old instruction.Fst }
+        requires before { IsBefore (program_of code.now) (N.nodes store.now) self.old instruction.Fst }
         requires room { self.old.place + 1 < 2 ^ 64 }
-        ensures does { Does (meaning (program_in code.now)) instruction.Fst (N.nodes store.now) (N.nodes store.now) self.old self.new result }
+        ensures does { Does (program_of code.now) instruction.Fst (N.nodes store.now) (N.nodes store.now) self.old self.new result }
     {
         let r = self.pop();
         let (first, _) = parts_in(store, r);
@@ -65,9 +64,9 @@ impl Frame {
         code: &Code,
         store: &N,
     ) -> Result<Option<Trap>, AllocError>
-        requires before { IsBefore (meaning (program_in code.now)) (N.nodes store.now) self.old instruction.Snd }
+        requires before { IsBefore (program_of code.now) (N.nodes store.now) self.old instruction.Snd }
         requires room { self.old.place + 1 < 2 ^ 64 }
-        ensures does { Does (meaning (program_in code.now)) instruction.Snd (N.nodes store.now) (N.nodes store.now) self.old self.new result }
+        ensures does { Does (program_of code.now) instruction.Snd (N.nodes store.now) (N.nodes store.now) self.old self.new result }
     {
         let r = self.pop();
         let (_, second) = parts_in(store, r);
@@ -82,9 +81,9 @@ impl Frame {
         named: NamedId,
         tag: Tag,
     ) -> Result<Option<Trap>, AllocError>
-        requires before { IsBefore (meaning (program_in code.now)) (N.nodes store.old) self.old (instruction.Make named.0 tag.0) }
+        requires before { IsBefore (program_of code.now) (N.nodes store.old) self.old (instruction.Make named.0 tag.0) }
         requires room { self.old.place + 1 < 2 ^ 64 }
-        ensures does { Does (meaning (program_in code.now)) (instruction.Make named.0 tag.0) (N.nodes store.old) (N.nodes store.new) self.old self.new result }
+        ensures does { Does (program_of code.now) (instruction.Make named.0 tag.0) (N.nodes store.old) (N.nodes store.new) self.old self.new result }
         ensures keeps { Keeps (N.nodes store.old) (N.nodes store.new) }
         ensures lent { N.lent store.new ≡ N.lent store.old }
     {
@@ -120,7 +119,7 @@ fn new_pair<N: Nodes>(
 
 /// The number of fields of a constructor; 0 where there is no such constructor.
 fn field_count(code: &Code, named: NamedId, tag: Tag) -> usize
-    ensures { result ≡ code_meant.field_count (meaning (program_in code.now)).types named.0 tag.0 }
+    ensures { result ≡ code_meant.field_count (program_of code.now).types named.0 tag.0 }
 {
     match field_types(code.program(), named, tag.0) {
         Some(types) => types.len(),

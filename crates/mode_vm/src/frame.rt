@@ -1,10 +1,11 @@
 // A frame: a function that runs or waits, and what its instructions do to it.
 ghost use Rattle.std.specs.Prelude.{◌≡◌, ◌+◌, ◌<◌, ◌≤◌, ◌^◌, ◌++◌, ◌∷◌, [], true, IfOk, OnOk, length};
-ghost use Rattle.core_terms.specs.LanguagePrograms.{meaning, types_of};
+ghost use Rattle.core_terms.specs.LanguagePrograms.{types_of};
 ghost use Rattle.value_store.specs.Standing.{Keeps};
 ghost use Rattle.code_gen.specs.Code.{code_at, generated};
 ghost use Rattle.code_gen.specs.CodeTrees.{instruction_of};
 ghost use Rattle.code_gen.specs.Programs.{program_in};
+ghost use Rattle.mode_vm.specs.Meanings.{program_of};
 
 use code_gen::{Code, Instruction};
 use core_terms::{FunctionId, Trap};
@@ -91,11 +92,11 @@ impl Frame {
         store: &mut N,
         instruction: &Instruction,
     ) -> Result<Option<Trap>, AllocError>
-        requires before { IsBefore (meaning (program_in code.now)) (N.nodes store.old) self.old (instruction_of (types_of (program_in code.now)) instruction.now) }
+        requires before { IsBefore (program_of code.now) (N.nodes store.old) self.old (instruction_of (types_of (program_in code.now)) instruction.now) }
         requires own { is_own (instruction_of (types_of (program_in code.now)) instruction.now) ≡ true }
         requires room { self.old.place + 1 < 2 ^ 64 }
-        requires length { length (code_at (generated (meaning (program_in code.now))) self.old.function.0).code < 2 ^ 64 }
-        ensures does { Does (meaning (program_in code.now)) (instruction_of (types_of (program_in code.now)) instruction.now) (N.nodes store.old) (N.nodes store.new) self.old self.new result }
+        requires length { length (code_at (generated (program_of code.now)) self.old.function.0).code < 2 ^ 64 }
+        ensures does { Does (program_of code.now) (instruction_of (types_of (program_in code.now)) instruction.now) (N.nodes store.old) (N.nodes store.new) self.old self.new result }
         ensures keeps { Keeps (N.nodes store.old) (N.nodes store.new) }
         ensures lent { N.lent store.new ≡ N.lent store.old }
     {

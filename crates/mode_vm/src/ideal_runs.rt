@@ -1,15 +1,12 @@
 // Runs in ideal mode.
-ghost use Rattle.std.specs.Prelude.{◌≡◌, ◌<◌, ◌+◌, ◌*◌, ◌^◌, length, IfOk};
-ghost use Rattle.core_terms.specs.LanguagePrograms.{meaning};
+ghost use Rattle.std.specs.Prelude.{◌≡◌, ◌<◌, ◌≤◌, ◌^◌, length, IfOk};
 ghost use Rattle.core_terms.specs.Terms.{function_at};
 ghost use Rattle.core_terms.specs.Values.{Values};
 ghost use Rattle.ideal_meaning.specs.Ideal.{ideal, outcome};
 ghost use Rattle.value_store.specs.Standing.{AllStandFor, IdealNodes, Keeps};
 ghost use Rattle.value_store.specs.CodeNodes.{numbers_of};
-ghost use Rattle.code_gen.specs.Programs.{program_in};
-ghost use Rattle.code_gen.specs.Code.{generated};
 ghost use Rattle.mode_vm.specs.IdealRuns.{IsOutcome};
-ghost use Rattle.mode_vm.specs.Machines.{code_size};
+ghost use Rattle.mode_vm.specs.Meanings.{program_of};
 
 use crate::ideal::IdealMode;
 use crate::machine::Machine;
@@ -18,8 +15,8 @@ use core_terms::{FunctionId, Outcome};
 use std::alloc::{AllocError, Global};
 use value_store::{Nodes, Ref};
 
-/// Calls a function in ideal mode, on arguments that stand among the nodes, with so much fuel: its outcome, whose value stands among the
-/// nodes then.
+/// Calls a function in ideal mode, on arguments that stand among the nodes, with so much fuel, 10^12 units at most: its
+/// outcome, whose value stands among the nodes then.
 pub fn ideal_run<N: Nodes>(
     code: &Code,
     store: &mut N,
@@ -28,12 +25,12 @@ pub fn ideal_run<N: Nodes>(
     fuel: u64,
     alloc: Global,
 ) -> Result<Outcome<Ref>, AllocError>
-    requires there { function.0 < length (meaning (program_in code.now)).functions }
-    requires stand { (vs : Values) × AllStandFor IdealNodes (meaning (program_in code.now)).types (N.nodes store.old) (numbers_of args.now) (function_at (meaning (program_in code.now)) function.0).parameters vs }
-    requires few { fuel * (code_size (generated (meaning (program_in code.now))).functions + 1) < 2 ^ 63 }
+    requires there { function.0 < length (program_of code.now).functions }
+    requires stand { (vs : Values) × AllStandFor IdealNodes (program_of code.now).types (N.nodes store.old) (numbers_of args.now) (function_at (program_of code.now) function.0).parameters vs }
+    requires fuel_fits { fuel ≤ 10 ^ 12 }
     ensures outcome { IfOk result (λ o. (vs : Values)
-        → AllStandFor IdealNodes (meaning (program_in code.now)).types (N.nodes store.old) (numbers_of args.now) (function_at (meaning (program_in code.now)) function.0).parameters vs
-        → IsOutcome (meaning (program_in code.now)).types (N.nodes store.new) (function_at (meaning (program_in code.now)) function.0).result o (outcome (ideal (meaning (program_in code.now)) function.0 vs fuel))) }
+        → AllStandFor IdealNodes (program_of code.now).types (N.nodes store.old) (numbers_of args.now) (function_at (program_of code.now) function.0).parameters vs
+        → IsOutcome (program_of code.now).types (N.nodes store.new) (function_at (program_of code.now) function.0).result o (outcome (ideal (program_of code.now) function.0 vs fuel))) }
     ensures keeps { Keeps (N.nodes store.old) (N.nodes store.new) }
     ensures lent { N.lent store.new ≡ N.lent store.old }
 {

@@ -1,15 +1,13 @@
 // The instructions on ints.
 ghost use Rattle.std.specs.Prelude.{◌≡◌, ◌+◌, ◌<◌, ◌^◌, ℕ, IfOk};
-ghost use Rattle.core_terms.specs.LanguagePrograms.{meaning};
 ghost use Rattle.code_gen.specs.Instructions as instruction;
-ghost use Rattle.code_gen.specs.Programs.{program_in};
 ghost use Rattle.core_terms.specs.Types.{IntTy, Table};
 ghost use Rattle.core_terms.specs.Values.{Value};
 ghost use Rattle.ideal_meaning.specs.Run as meant;
 ghost use Rattle.value_store.specs.Markings.{Marking};
 ghost use Rattle.value_store.specs.Standing.{Keeps, Kind, StandsFor};
 ghost use Rattle.mode_vm.specs.Calculations.{Makes, calculation_of};
-ghost use Rattle.mode_vm.specs.Meanings.{CauseOf, StateOf};
+ghost use Rattle.mode_vm.specs.Meanings.{CauseOf, StateOf, program_of};
 
 use crate::frame::Frame;
 use crate::values::int_in;
@@ -29,9 +27,9 @@ impl Frame {
         store: &mut N,
         op: Arith,
     ) -> Result<Option<Trap>, AllocError>
-        requires before { IsBefore (meaning (program_in code.now)) (N.nodes store.old) self.old (instruction.ArithOp op) }
+        requires before { IsBefore (program_of code.now) (N.nodes store.old) self.old (instruction.ArithOp op) }
         requires room { self.old.place + 1 < 2 ^ 64 }
-        ensures does { Does (meaning (program_in code.now)) (instruction.ArithOp op) (N.nodes store.old) (N.nodes store.new) self.old self.new result }
+        ensures does { Does (program_of code.now) (instruction.ArithOp op) (N.nodes store.old) (N.nodes store.new) self.old self.new result }
         ensures keeps { Keeps (N.nodes store.old) (N.nodes store.new) }
         ensures lent { N.lent store.new ≡ N.lent store.old }
     {
@@ -47,9 +45,9 @@ impl Frame {
         store: &mut N,
         op: Compare,
     ) -> Result<Option<Trap>, AllocError>
-        requires before { IsBefore (meaning (program_in code.now)) (N.nodes store.old) self.old (instruction.CompareOp op) }
+        requires before { IsBefore (program_of code.now) (N.nodes store.old) self.old (instruction.CompareOp op) }
         requires room { self.old.place + 1 < 2 ^ 64 }
-        ensures does { Does (meaning (program_in code.now)) (instruction.CompareOp op) (N.nodes store.old) (N.nodes store.new) self.old self.new result }
+        ensures does { Does (program_of code.now) (instruction.CompareOp op) (N.nodes store.old) (N.nodes store.new) self.old self.new result }
         ensures keeps { Keeps (N.nodes store.old) (N.nodes store.new) }
         ensures lent { N.lent store.new ≡ N.lent store.old }
     {

@@ -1,10 +1,9 @@
 // The instructions that push a literal.
 ghost use Rattle.std.specs.Prelude.{◌≡◌, ◌+◌, ◌<◌, ◌^◌};
-ghost use Rattle.core_terms.specs.LanguagePrograms.{meaning};
 ghost use Rattle.value_store.specs.Standing.{Keeps};
 ghost use Rattle.code_gen.specs.Instructions as instruction;
-ghost use Rattle.code_gen.specs.Programs.{program_in};
 ghost use Rattle.core_terms.specs.Texts.{bytes_of};
+ghost use Rattle.mode_vm.specs.Meanings.{program_of};
 
 use crate::frame::Frame;
 use code_gen::Code;
@@ -22,9 +21,9 @@ impl Frame {
         code: &Code,
         store: &mut N,
     ) -> Result<Option<Trap>, AllocError>
-        requires before { IsBefore (meaning (program_in code.now)) (N.nodes store.old) self.old instruction.PushUnit }
+        requires before { IsBefore (program_of code.now) (N.nodes store.old) self.old instruction.PushUnit }
         requires room { self.old.place + 1 < 2 ^ 64 }
-        ensures does { Does (meaning (program_in code.now)) instruction.PushUnit (N.nodes store.old) (N.nodes store.new) self.old self.new result }
+        ensures does { Does (program_of code.now) instruction.PushUnit (N.nodes store.old) (N.nodes store.new) self.old self.new result }
         ensures keeps { Keeps (N.nodes store.old) (N.nodes store.new) }
         ensures lent { N.lent store.new ≡ N.lent store.old }
     {
@@ -39,9 +38,9 @@ impl Frame {
         store: &mut N,
         value: bool,
     ) -> Result<Option<Trap>, AllocError>
-        requires before { IsBefore (meaning (program_in code.now)) (N.nodes store.old) self.old (instruction.PushBool value) }
+        requires before { IsBefore (program_of code.now) (N.nodes store.old) self.old (instruction.PushBool value) }
         requires room { self.old.place + 1 < 2 ^ 64 }
-        ensures does { Does (meaning (program_in code.now)) (instruction.PushBool value) (N.nodes store.old) (N.nodes store.new) self.old self.new result }
+        ensures does { Does (program_of code.now) (instruction.PushBool value) (N.nodes store.old) (N.nodes store.new) self.old self.new result }
         ensures keeps { Keeps (N.nodes store.old) (N.nodes store.new) }
         ensures lent { N.lent store.new ≡ N.lent store.old }
     {
@@ -56,9 +55,9 @@ impl Frame {
         store: &mut N,
         value: i64,
     ) -> Result<Option<Trap>, AllocError>
-        requires before { IsBefore (meaning (program_in code.now)) (N.nodes store.old) self.old (instruction.PushInt value) }
+        requires before { IsBefore (program_of code.now) (N.nodes store.old) self.old (instruction.PushInt value) }
         requires room { self.old.place + 1 < 2 ^ 64 }
-        ensures does { Does (meaning (program_in code.now)) (instruction.PushInt value) (N.nodes store.old) (N.nodes store.new) self.old self.new result }
+        ensures does { Does (program_of code.now) (instruction.PushInt value) (N.nodes store.old) (N.nodes store.new) self.old self.new result }
         ensures keeps { Keeps (N.nodes store.old) (N.nodes store.new) }
         ensures lent { N.lent store.new ≡ N.lent store.old }
     {
@@ -73,9 +72,9 @@ impl Frame {
         store: &mut N,
         text: &Text,
     ) -> Result<Option<Trap>, AllocError>
-        requires before { IsBefore (meaning (program_in code.now)) (N.nodes store.old) self.old (instruction.PushText (bytes_of text.now)) }
+        requires before { IsBefore (program_of code.now) (N.nodes store.old) self.old (instruction.PushText (bytes_of text.now)) }
         requires room { self.old.place + 1 < 2 ^ 64 }
-        ensures does { Does (meaning (program_in code.now)) (instruction.PushText (bytes_of text.now)) (N.nodes store.old) (N.nodes store.new) self.old self.new result }
+        ensures does { Does (program_of code.now) (instruction.PushText (bytes_of text.now)) (N.nodes store.old) (N.nodes store.new) self.old self.new result }
         ensures keeps { Keeps (N.nodes store.old) (N.nodes store.new) }
         ensures lent { N.lent store.new ≡ N.lent store.old }
     {

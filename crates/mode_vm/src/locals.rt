@@ -1,8 +1,7 @@
 // The instructions that read, bind and drop locals.
 ghost use Rattle.std.specs.Prelude.{◌≡◌, ◌+◌, ◌<◌, ◌^◌};
-ghost use Rattle.core_terms.specs.LanguagePrograms.{meaning};
 ghost use Rattle.code_gen.specs.Instructions as instruction;
-ghost use Rattle.code_gen.specs.Programs.{program_in};
+ghost use Rattle.mode_vm.specs.Meanings.{program_of};
 
 use crate::frame::Frame;
 use code_gen::Code;
@@ -20,9 +19,9 @@ impl Frame {
         store: &N,
         local: LocalId,
     ) -> Result<Option<Trap>, AllocError>
-        requires before { IsBefore (meaning (program_in code.now)) (N.nodes store.now) self.old (instruction.Load local.0) }
+        requires before { IsBefore (program_of code.now) (N.nodes store.now) self.old (instruction.Load local.0) }
         requires room { self.old.place + 1 < 2 ^ 64 }
-        ensures does { Does (meaning (program_in code.now)) (instruction.Load local.0) (N.nodes store.now) (N.nodes store.now) self.old self.new result }
+        ensures does { Does (program_of code.now) (instruction.Load local.0) (N.nodes store.now) (N.nodes store.now) self.old self.new result }
     {
         let r = self.locals[local.0];
         self.finish(Ok(r))
@@ -34,9 +33,9 @@ impl Frame {
         code: &Code,
         store: &N,
     ) -> Result<Option<Trap>, AllocError>
-        requires before { IsBefore (meaning (program_in code.now)) (N.nodes store.now) self.old instruction.Bind }
+        requires before { IsBefore (program_of code.now) (N.nodes store.now) self.old instruction.Bind }
         requires room { self.old.place + 1 < 2 ^ 64 }
-        ensures does { Does (meaning (program_in code.now)) instruction.Bind (N.nodes store.now) (N.nodes store.now) self.old self.new result }
+        ensures does { Does (program_of code.now) instruction.Bind (N.nodes store.now) (N.nodes store.now) self.old self.new result }
     {
         let r = self.pop();
         self.locals.push(r)?;
@@ -51,9 +50,9 @@ impl Frame {
         store: &N,
         count: usize,
     ) -> Result<Option<Trap>, AllocError>
-        requires before { IsBefore (meaning (program_in code.now)) (N.nodes store.now) self.old (instruction.Unbind count) }
+        requires before { IsBefore (program_of code.now) (N.nodes store.now) self.old (instruction.Unbind count) }
         requires room { self.old.place + 1 < 2 ^ 64 }
-        ensures does { Does (meaning (program_in code.now)) (instruction.Unbind count) (N.nodes store.now) (N.nodes store.now) self.old self.new result }
+        ensures does { Does (program_of code.now) (instruction.Unbind count) (N.nodes store.now) (N.nodes store.now) self.old self.new result }
     {
         let kept = self.locals.len() - count;
         self.locals.truncate(kept);

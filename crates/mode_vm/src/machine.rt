@@ -1,18 +1,15 @@
 // The virtual machine, over a mode.
-ghost use Rattle.std.specs.Prelude.{◌≡◌, ◌<◌, ◌≤◌, ◌+◌, ◌*◌, ◌^◌, ℕ, List, suc, true, false, [], ◌-◌, IfOk, OnOk, length, Option};
-ghost use Rattle.core_terms.specs.LanguagePrograms.{meaning, types_of};
+ghost use Rattle.std.specs.Prelude.{◌≡◌, ◌<◌, ◌≤◌, ◌+◌, ◌^◌, ℕ, List, suc, true, false, [], ◌-◌, IfOk, OnOk, length, Option};
+ghost use Rattle.core_terms.specs.LanguagePrograms.{types_of};
 ghost use Rattle.core_terms.specs.Types.{Ty};
 ghost use Rattle.core_terms.specs.Values.{Values};
 ghost use Rattle.core_terms.specs.Terms.{function_at};
 ghost use Rattle.ideal_meaning.specs.Run.{call_from};
 ghost use Rattle.value_store.specs.Nodes.{Node};
-ghost use Rattle.value_store.specs.Markings.{kind_of};
-ghost use Rattle.value_store.specs.Standing.{AllStandFor, Keeps};
-ghost use Rattle.value_store.specs.CodeNodes.{numbers_of};
+ghost use Rattle.value_store.specs.Standing.{Keeps};
 ghost use Rattle.code_gen.specs.Programs.{program_in};
-ghost use Rattle.code_gen.specs.Code.{generated};
 ghost use Rattle.code_gen.specs.CodeTrees.{instruction_of};
-ghost use Rattle.mode_vm.specs.Meanings.{CauseOf, RunOf, StateOf, mode_of};
+ghost use Rattle.mode_vm.specs.Meanings.{CauseOf, RunOf, StateOf, mode_of, program_of};
 
 use crate::mode::{Mode, Stop};
 use crate::state::{State, Step};
@@ -30,12 +27,13 @@ pub struct Machine<M> {
 }
 
 impl<M: Mode> Machine<M> {
-    ghost use Rattle.mode_vm.specs.Machines.{ValueStack, IsNext, Represents, code_size, steps_left};
+    ghost use Rattle.mode_vm.specs.Machines.{AreArguments, OpensFew, ValueStack, IsNext, Represents, steps_left};
     ghost use Rattle.mode_vm.specs.Openings.{Counts, OnlyMemory};
     ghost use Rattle.mode_vm.specs.StateParts.{fuel_after};
     ghost use Rattle.mode_vm.specs.Runs.{OnGoes, Ready, RunIs, RunStands, Slices, StepIs, StepStands, WillRun};
 
-    /// A machine that is to call a function on these arguments, with this much fuel.
+    /// A machine that is to call a function on these arguments, with this much fuel: 10^12 units at most, in a mode that has opened at
+    /// most 2^62 values.
     pub fn start(
         code: &Code,
         function: FunctionId,
@@ -44,13 +42,16 @@ impl<M: Mode> Machine<M> {
         mode: M,
         alloc: Global,
     ) -> Result<Self, AllocError>
-        requires there { function.0 < length (meaning (program_in code.now)).functions }
-        ensures ready { IfOk result (λ machine. (nodes : List Node) (vs : Values) → AllStandFor (kind_of M.marking (meaning (program_in code.now))) (meaning (program_in code.now)).types nodes (numbers_of args.now) (function_at (meaning (program_in code.now)) function.0).parameters vs
-            → Ready M.marking (meaning (program_in code.now)) (function_at (meaning (program_in code.now)) function.0).result nodes machine.state) }
-        ensures will { IfOk result (λ machine. (nodes : List Node) (vs : Values) (w : StateOf M.marking) → AllStandFor (kind_of M.marking (meaning (program_in code.now))) (meaning (program_in code.now)).types nodes (numbers_of args.now) (function_at (meaning (program_in code.now)) function.0).parameters vs
-            → WillRun M.marking (meaning (program_in code.now)) (function_at (meaning (program_in code.now)) function.0).result nodes machine.state w (call_from (meaning (program_in code.now)) (mode_of M.marking (meaning (program_in code.now))) function.0 vs fuel w)) }
+        requires there { function.0 < length (program_of code.now).functions }
+        requires fuel_fits { fuel ≤ 10 ^ 12 }
+        requires few { M.opened mode ≤ 2 ^ 62 }
+        ensures ready { IfOk result (λ machine. (nodes : List Node) (vs : Values) → AreArguments M.marking (program_of code.now) nodes function.0 args.now vs
+            → Ready M.marking (program_of code.now) (function_at (program_of code.now) function.0).result nodes machine.state) }
+        ensures will { IfOk result (λ machine. (nodes : List Node) (vs : Values) (w : StateOf M.marking) → AreArguments M.marking (program_of code.now) nodes function.0 args.now vs
+            → WillRun M.marking (program_of code.now) (function_at (program_of code.now) function.0).result nodes machine.state w
+            (call_from (program_of code.now) (mode_of M.marking (program_of code.now)) function.0 vs fuel w)) }
         ensures mode { IfOk result (λ machine. machine.mode ≡ mode) }
-        ensures steps { IfOk result (λ machine. steps_left (meaning (program_in code.now)) machine.state ≡ fuel * (code_size (generated (meaning (program_in code.now))).functions + 1)) }
+        ensures few { IfOk result (λ machine. OpensFew (M.opened machine.mode) (program_of code.now) machine.state) }
     {
         let state = State::start(function, args, fuel, alloc)?;
         Ok(Machine { mode, state, alloc })
@@ -64,15 +65,18 @@ impl<M: Mode> Machine<M> {
         world: &M::World,
         ty: TyId,
     ) -> Result<Step, Stop<M::Fault>>
-        requires before { (z : Ty) × (cs : ValueStack) × Represents M.marking (meaning (program_in code.now)) z (N.nodes store.old) self.old.state cs × IsNext (instruction_of (types_of (program_in code.now)) (Instruction.Auth ty)) cs.top }
+        requires before { (z : Ty) × (cs : ValueStack) × Represents M.marking (program_of code.now) z (N.nodes store.old) self.old.state cs
+            × IsNext (instruction_of (types_of (program_in code.now)) (Instruction.Auth ty)) cs.top }
         requires entered { self.old.state.entered ≡ true }
         requires room { self.old.state.top.place + 1 < 2 ^ 64 }
-        ensures stands { (z : Ty) (cs : ValueStack) → Represents M.marking (meaning (program_in code.now)) z (N.nodes store.old) self.old.state cs → IsNext (instruction_of (types_of (program_in code.now)) (Instruction.Auth ty)) cs.top
-            → StepStands M.marking (meaning (program_in code.now)) z (N.nodes store.new) self.new.state result }
+        ensures stands { (z : Ty) (cs : ValueStack) → Represents M.marking (program_of code.now) z (N.nodes store.old) self.old.state cs
+            → IsNext (instruction_of (types_of (program_in code.now)) (Instruction.Auth ty)) cs.top
+            → StepStands M.marking (program_of code.now) z (N.nodes store.new) self.new.state result }
         ensures is { (z : Ty) (w : StateOf M.marking) (run : RunOf M.marking) → M.Follows (program_in code.now) self.old.mode world.now (N.nodes store.old) w
-            → (will : WillRun M.marking (meaning (program_in code.now)) z (N.nodes store.old) self.old.state w run) → IsNext (instruction_of (types_of (program_in code.now)) (Instruction.Auth ty)) will.stack.top
-            → StepIs M.marking (meaning (program_in code.now)) z M.cause (M.Follows (program_in code.now) self.new.mode world.now (N.nodes store.new)) (N.nodes store.new) self.new.state result run }
-        ensures fewer { OnGoes result (steps_left (meaning (program_in code.now)) self.new.state < steps_left (meaning (program_in code.now)) self.old.state) }
+            → (will : WillRun M.marking (program_of code.now) z (N.nodes store.old) self.old.state w run)
+            → IsNext (instruction_of (types_of (program_in code.now)) (Instruction.Auth ty)) will.stack.top
+            → StepIs M.marking (program_of code.now) z M.cause (M.Follows (program_in code.now) self.new.mode world.now (N.nodes store.new)) (N.nodes store.new) self.new.state result run }
+        ensures fewer { OnGoes result (steps_left (program_of code.now) self.new.state < steps_left (program_of code.now) self.old.state) }
         ensures keeps { Keeps (N.nodes store.old) (N.nodes store.new) }
         ensures lent { N.lent store.new ≡ N.lent store.old }
         ensures opened { M.opened self.new.mode ≤ suc (M.opened self.old.mode) }
@@ -98,23 +102,26 @@ impl<M: Mode> Machine<M> {
         world: &mut M::World,
         ty: TyId,
     ) -> Result<Step, Stop<M::Fault>>
-        requires before { (z : Ty) × (cs : ValueStack) × Represents M.marking (meaning (program_in code.now)) z (N.nodes store.old) self.old.state cs × IsNext (instruction_of (types_of (program_in code.now)) (Instruction.Unauth ty)) cs.top }
+        requires before { (z : Ty) × (cs : ValueStack) × Represents M.marking (program_of code.now) z (N.nodes store.old) self.old.state cs
+            × IsNext (instruction_of (types_of (program_in code.now)) (Instruction.Unauth ty)) cs.top }
         requires entered { self.old.state.entered ≡ true }
         requires few { M.opened self.old.mode < 2 ^ 63 }
         requires room { self.old.state.top.place + 1 < 2 ^ 64 }
-        ensures stands { (z : Ty) (cs : ValueStack) → Represents M.marking (meaning (program_in code.now)) z (N.nodes store.old) self.old.state cs → IsNext (instruction_of (types_of (program_in code.now)) (Instruction.Unauth ty)) cs.top
-            → StepStands M.marking (meaning (program_in code.now)) z (N.nodes store.new) self.new.state result }
+        ensures stands { (z : Ty) (cs : ValueStack) → Represents M.marking (program_of code.now) z (N.nodes store.old) self.old.state cs
+            → IsNext (instruction_of (types_of (program_in code.now)) (Instruction.Unauth ty)) cs.top
+            → StepStands M.marking (program_of code.now) z (N.nodes store.new) self.new.state result }
         ensures is { (z : Ty) (w : StateOf M.marking) (run : RunOf M.marking) → M.Follows (program_in code.now) self.old.mode world.old (N.nodes store.old) w
-            → (will : WillRun M.marking (meaning (program_in code.now)) z (N.nodes store.old) self.old.state w run) → IsNext (instruction_of (types_of (program_in code.now)) (Instruction.Unauth ty)) will.stack.top
-            → StepIs M.marking (meaning (program_in code.now)) z M.cause (M.Follows (program_in code.now) self.new.mode world.new (N.nodes store.new)) (N.nodes store.new) self.new.state result run }
-        ensures fewer { OnGoes result (steps_left (meaning (program_in code.now)) self.new.state < steps_left (meaning (program_in code.now)) self.old.state) }
+            → (will : WillRun M.marking (program_of code.now) z (N.nodes store.old) self.old.state w run)
+            → IsNext (instruction_of (types_of (program_in code.now)) (Instruction.Unauth ty)) will.stack.top
+            → StepIs M.marking (program_of code.now) z M.cause (M.Follows (program_in code.now) self.new.mode world.new (N.nodes store.new)) (N.nodes store.new) self.new.state result run }
+        ensures fewer { OnGoes result (steps_left (program_of code.now) self.new.state < steps_left (program_of code.now) self.old.state) }
         ensures keeps { Keeps (N.nodes store.old) (N.nodes store.new) }
         ensures lent { N.lent store.new ≡ N.lent store.old }
         ensures opened { M.opened self.new.mode ≤ suc (M.opened self.old.mode) }
         ensures fuel { OnOk result (self.new.state.fuel ≡ self.old.state.fuel) }
         ensures faults { Counts M.cause M.Rose (M.faults world.old) (M.faults world.new) result }
         ensures rest { M.rest world.new ≡ M.rest world.old }
-        ensures moves { OnOk result (M.Moves (meaning (program_in code.now)) self.old.mode world.old self.new.mode world.new) }
+        ensures moves { OnOk result (M.Moves (program_of code.now) self.old.mode world.old self.new.mode world.new) }
     {
         let v = self.state.pop_top();
         match self.mode.unauth(world, code.program(), store, ty, v) {
@@ -133,20 +140,21 @@ impl<M: Mode> Machine<M> {
         store: &mut N,
         world: &mut M::World,
     ) -> Result<Step, Stop<M::Fault>>
-        requires ready { (z : Ty) × Ready M.marking (meaning (program_in code.now)) z (N.nodes store.old) self.old.state }
+        requires ready { (z : Ty) × Ready M.marking (program_of code.now) z (N.nodes store.old) self.old.state }
         requires few { M.opened self.old.mode < 2 ^ 63 }
-        ensures stands { (z : Ty) → Ready M.marking (meaning (program_in code.now)) z (N.nodes store.old) self.old.state → StepStands M.marking (meaning (program_in code.now)) z (N.nodes store.new) self.new.state result }
+        ensures stands { (z : Ty) → Ready M.marking (program_of code.now) z (N.nodes store.old) self.old.state
+            → StepStands M.marking (program_of code.now) z (N.nodes store.new) self.new.state result }
         ensures is { (z : Ty) (w : StateOf M.marking) (run : RunOf M.marking) → M.Follows (program_in code.now) self.old.mode world.old (N.nodes store.old) w
-            → WillRun M.marking (meaning (program_in code.now)) z (N.nodes store.old) self.old.state w run
-            → StepIs M.marking (meaning (program_in code.now)) z M.cause (M.Follows (program_in code.now) self.new.mode world.new (N.nodes store.new)) (N.nodes store.new) self.new.state result run }
-        ensures fewer { OnGoes result (steps_left (meaning (program_in code.now)) self.new.state < steps_left (meaning (program_in code.now)) self.old.state) }
+            → WillRun M.marking (program_of code.now) z (N.nodes store.old) self.old.state w run
+            → StepIs M.marking (program_of code.now) z M.cause (M.Follows (program_in code.now) self.new.mode world.new (N.nodes store.new)) (N.nodes store.new) self.new.state result run }
+        ensures fewer { OnGoes result (steps_left (program_of code.now) self.new.state < steps_left (program_of code.now) self.old.state) }
         ensures keeps { Keeps (N.nodes store.old) (N.nodes store.new) }
         ensures lent { N.lent store.new ≡ N.lent store.old }
         ensures opened { M.opened self.new.mode ≤ suc (M.opened self.old.mode) }
         ensures fuel { OnOk result (self.new.state.fuel ≡ fuel_after self.old.state.entered self.old.state.fuel) }
         ensures faults { Counts M.cause M.Rose (M.faults world.old) (M.faults world.new) result }
         ensures rest { M.rest world.new ≡ M.rest world.old }
-        ensures moves { OnOk result (M.Moves (meaning (program_in code.now)) self.old.mode world.old self.new.mode world.new) }
+        ensures moves { OnOk result (M.Moves (program_of code.now) self.old.mode world.old self.new.mode world.new) }
     {
         if !self.state.entered {
             return Ok(self.state.enter());
@@ -170,20 +178,21 @@ impl<M: Mode> Machine<M> {
         world: &mut M::World,
         units: u64,
     ) -> Result<Step, Stop<M::Fault>>
-        requires ready { (z : Ty) × Ready M.marking (meaning (program_in code.now)) z (N.nodes store.old) self.old.state }
-        requires few { M.opened self.old.mode + steps_left (meaning (program_in code.now)) self.old.state < 2 ^ 63 }
+        requires ready { (z : Ty) × Ready M.marking (program_of code.now) z (N.nodes store.old) self.old.state }
+        requires few { OpensFew (M.opened self.old.mode) (program_of code.now) self.old.state }
         requires some { 0 < units }
-        ensures stands { (z : Ty) → Ready M.marking (meaning (program_in code.now)) z (N.nodes store.old) self.old.state → StepStands M.marking (meaning (program_in code.now)) z (N.nodes store.new) self.new.state result }
+        ensures stands { (z : Ty) → Ready M.marking (program_of code.now) z (N.nodes store.old) self.old.state
+            → StepStands M.marking (program_of code.now) z (N.nodes store.new) self.new.state result }
         ensures is { (z : Ty) (w : StateOf M.marking) (run : RunOf M.marking) → M.Follows (program_in code.now) self.old.mode world.old (N.nodes store.old) w
-            → WillRun M.marking (meaning (program_in code.now)) z (N.nodes store.old) self.old.state w run
-            → StepIs M.marking (meaning (program_in code.now)) z M.cause (M.Follows (program_in code.now) self.new.mode world.new (N.nodes store.new)) (N.nodes store.new) self.new.state result run }
-        ensures few { OnGoes result (M.opened self.new.mode + steps_left (meaning (program_in code.now)) self.new.state < 2 ^ 63) }
+            → WillRun M.marking (program_of code.now) z (N.nodes store.old) self.old.state w run
+            → StepIs M.marking (program_of code.now) z M.cause (M.Follows (program_in code.now) self.new.mode world.new (N.nodes store.new)) (N.nodes store.new) self.new.state result run }
+        ensures few { OnGoes result (OpensFew (M.opened self.new.mode) (program_of code.now) self.new.state) }
         ensures calls { Slices units self.old.state self.new.state result }
         ensures keeps { Keeps (N.nodes store.old) (N.nodes store.new) }
         ensures lent { N.lent store.new ≡ N.lent store.old }
         ensures faults { Counts M.cause M.Rose (M.faults world.old) (M.faults world.new) result }
         ensures rest { M.rest world.new ≡ M.rest world.old }
-        ensures moves { OnOk result (M.Moves (meaning (program_in code.now)) self.old.mode world.old self.new.mode world.new) }
+        ensures moves { OnOk result (M.Moves (program_of code.now) self.old.mode world.old self.new.mode world.new) }
     {
         let start = self.state.fuel;
         loop {
@@ -205,17 +214,17 @@ impl<M: Mode> Machine<M> {
         store: &mut N,
         world: &mut M::World,
     ) -> Result<Outcome<Ref>, Stop<M::Fault>>
-        requires ready { (z : Ty) × Ready M.marking (meaning (program_in code.now)) z (N.nodes store.old) self.old.state }
-        requires few { M.opened self.old.mode + steps_left (meaning (program_in code.now)) self.old.state < 2 ^ 63 }
-        ensures stands { (z : Ty) → Ready M.marking (meaning (program_in code.now)) z (N.nodes store.old) self.old.state → RunStands M.marking (meaning (program_in code.now)) z (N.nodes store.new) result }
+        requires ready { (z : Ty) × Ready M.marking (program_of code.now) z (N.nodes store.old) self.old.state }
+        requires few { OpensFew (M.opened self.old.mode) (program_of code.now) self.old.state }
+        ensures stands { (z : Ty) → Ready M.marking (program_of code.now) z (N.nodes store.old) self.old.state → RunStands M.marking (program_of code.now) z (N.nodes store.new) result }
         ensures is { (z : Ty) (w : StateOf M.marking) (run : RunOf M.marking) → M.Follows (program_in code.now) self.old.mode world.old (N.nodes store.old) w
-            → WillRun M.marking (meaning (program_in code.now)) z (N.nodes store.old) self.old.state w run
-            → RunIs M.marking (meaning (program_in code.now)) z M.cause (M.Follows (program_in code.now) self.new.mode world.new (N.nodes store.new)) (N.nodes store.new) self.new.state result run }
+            → WillRun M.marking (program_of code.now) z (N.nodes store.old) self.old.state w run
+            → RunIs M.marking (program_of code.now) z M.cause (M.Follows (program_in code.now) self.new.mode world.new (N.nodes store.new)) (N.nodes store.new) self.new.state result run }
         ensures keeps { Keeps (N.nodes store.old) (N.nodes store.new) }
         ensures lent { N.lent store.new ≡ N.lent store.old }
         ensures faults { Counts M.cause M.Rose (M.faults world.old) (M.faults world.new) result }
         ensures rest { M.rest world.new ≡ M.rest world.old }
-        ensures moves { OnOk result (M.Moves (meaning (program_in code.now)) self.old.mode world.old self.new.mode world.new) }
+        ensures moves { OnOk result (M.Moves (program_of code.now) self.old.mode world.old self.new.mode world.new) }
     {
         match self.run_slice(code, store, world, u64::MAX) {
             Ok(Step::Ended(outcome)) => Ok(outcome),

@@ -71,7 +71,8 @@ pub trait Mode: Drop {
     ) -> Result<Ref, Stop<Self::Fault>>
         requires stands { (x : Value) × Stands marking (meaning program.now) (N.nodes store.old) v.0 (type_at (types_of program.now) ty) x }
         ensures stands { IfOk result (λ r. (x : Value) → Stands marking (meaning program.now) (N.nodes store.old) v.0 (type_at (types_of program.now) ty) x
-            → Stands marking (meaning program.now) (N.nodes store.new) r.0 (AuthTy (type_at (types_of program.now) ty)) ((mode_of marking (meaning program.now)).auth (type_at (types_of program.now) ty) x)) }
+            → Stands marking (meaning program.now) (N.nodes store.new) r.0 (AuthTy (type_at (types_of program.now) ty))
+            ((mode_of marking (meaning program.now)).auth (type_at (types_of program.now) ty) x)) }
         ensures keeps { Keeps (N.nodes store.old) (N.nodes store.new) }
         ensures lent { N.lent store.new ≡ N.lent store.old }
         ensures mode { self.new ≡ self.old }

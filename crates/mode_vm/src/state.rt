@@ -1,6 +1,6 @@
 // The state of a machine: the frames and the fuel, calls and returns.
 ghost use Rattle.std.specs.Prelude.{◌≡◌, ◌+◌, ◌<◌, ◌^◌, ◌++◌, ◌∷◌, [], ◌-◌, ◌≢◌, ◌≤◌, true, false, MatchBool, Ok, List, IfOk, OnOk, length};
-ghost use Rattle.core_terms.specs.LanguagePrograms.{meaning, types_of};
+ghost use Rattle.core_terms.specs.LanguagePrograms.{types_of};
 ghost use Rattle.core_terms.specs.Terms.{Program as Meant};
 ghost use Rattle.core_terms.specs.Types.{Ty};
 ghost use Rattle.value_store.specs.Nodes.{Node};
@@ -10,6 +10,7 @@ ghost use Rattle.code_gen.specs.Programs.{program_in};
 ghost use Rattle.code_gen.specs.Code.{code_at, generated};
 ghost use Rattle.code_gen.specs.Instructions as instruction;
 ghost use Rattle.code_gen.specs.CodeTrees.{instruction_of};
+ghost use Rattle.mode_vm.specs.Meanings.{program_of};
 ghost use Rattle.mode_vm.specs.Outcomes.{step_told};
 
 use crate::frame::Frame;
@@ -89,11 +90,11 @@ impl State {
 
     /// Calls a function on the topmost operands.
     fn call(&mut self, code: &Code, callee: FunctionId, alloc: Global) -> Result<Step, AllocError>
-        requires before { (m : Marking) × (z : Ty) × (nodes : List Node) × (cs : ValueStack) × Represents m (meaning (program_in code.now)) z nodes self.old cs × IsNext (instruction.Call callee.0) cs.top }
+        requires before { (m : Marking) × (z : Ty) × (nodes : List Node) × (cs : ValueStack) × Represents m (program_of code.now) z nodes self.old cs × IsNext (instruction.Call callee.0) cs.top }
         requires entered { self.old.entered ≡ true }
         requires room { self.old.top.place + 1 < 2 ^ 64 }
-        ensures leads { (m : Marking) (z : Ty) (nodes : List Node) (cs : ValueStack) → Represents m (meaning (program_in code.now)) z nodes self.old cs → IsNext (instruction.Call callee.0) cs.top
-            → Leads m (meaning (program_in code.now)) z nodes true self.old.fuel cs self.new result }
+        ensures leads { (m : Marking) (z : Ty) (nodes : List Node) (cs : ValueStack) → Represents m (program_of code.now) z nodes self.old cs → IsNext (instruction.Call callee.0) cs.top
+            → Leads m (program_of code.now) z nodes true self.old.fuel cs self.new result }
         ensures fuel { OnOk result (self.new.fuel ≡ self.old.fuel) }
     {
         let count = parameter_count(code, callee);
@@ -103,10 +104,10 @@ impl State {
 
     /// Gives the top operand back to the function that waits for it, or ends.
     fn give_back(&mut self, code: &Code) -> Result<Step, AllocError>
-        requires before { (m : Marking) × (z : Ty) × (nodes : List Node) × (cs : ValueStack) × Represents m (meaning (program_in code.now)) z nodes self.old cs × IsNext instruction.Return cs.top }
+        requires before { (m : Marking) × (z : Ty) × (nodes : List Node) × (cs : ValueStack) × Represents m (program_of code.now) z nodes self.old cs × IsNext instruction.Return cs.top }
         requires entered { self.old.entered ≡ true }
-        ensures leads { (m : Marking) (z : Ty) (nodes : List Node) (cs : ValueStack) → Represents m (meaning (program_in code.now)) z nodes self.old cs → IsNext instruction.Return cs.top
-            → Leads m (meaning (program_in code.now)) z nodes true self.old.fuel cs self.new result }
+        ensures leads { (m : Marking) (z : Ty) (nodes : List Node) (cs : ValueStack) → Represents m (program_of code.now) z nodes self.old cs → IsNext instruction.Return cs.top
+            → Leads m (program_of code.now) z nodes true self.old.fuel cs self.new result }
         ensures fuel { OnOk result (self.new.fuel ≡ self.old.fuel) }
     {
         let r = self.top.pop();
@@ -131,7 +132,8 @@ impl State {
     /// Takes the running frame's unit of fuel, or ends where none is left.
     pub(crate) fn enter(&mut self) -> Step
         requires { self.old.entered ≡ false }
-        ensures leads { (m : Marking) (P : Meant) (z : Ty) (nodes : List Node) (cs : ValueStack) → Represents m P z nodes self.old cs → Leads m P z nodes {E = AllocError} false self.old.fuel cs self.new (Ok result) }
+        ensures leads { (m : Marking) (P : Meant) (z : Ty) (nodes : List Node) (cs : ValueStack) → Represents m P z nodes self.old cs
+            → Leads m P z nodes {E = AllocError} false self.old.fuel cs self.new (Ok result) }
         ensures fuel { self.new.fuel ≡ self.old.fuel - 1 }
     {
         if self.fuel == 0 {
@@ -163,11 +165,11 @@ impl State {
 
     /// The next instruction.
     pub(crate) fn next<'a>(&self, code: &'a Code) -> &'a Instruction
-        requires { (m : Marking) × (z : Ty) × (nodes : List Node) × (cs : ValueStack) × Represents m (meaning (program_in code.now)) z nodes self.now cs }
-        ensures next { (m : Marking) (z : Ty) (nodes : List Node) (cs : ValueStack) → Represents m (meaning (program_in code.now)) z nodes self.now cs
+        requires { (m : Marking) × (z : Ty) × (nodes : List Node) × (cs : ValueStack) × Represents m (program_of code.now) z nodes self.now cs }
+        ensures next { (m : Marking) (z : Ty) (nodes : List Node) (cs : ValueStack) → Represents m (program_of code.now) z nodes self.now cs
             → IsNext (instruction_of (types_of (program_in code.now)) result.now) cs.top }
         ensures room { self.now.top.place + 1 < 2 ^ 64 }
-        ensures length { length (code_at (generated (meaning (program_in code.now))) self.now.top.function.0).code < 2 ^ 64 }
+        ensures length { length (code_at (generated (program_of code.now)) self.now.top.function.0).code < 2 ^ 64 }
     {
         let instructions = code.instructions(self.top.function);
         &instructions[self.top.place]
@@ -181,13 +183,15 @@ impl State {
         instruction: &Instruction,
         alloc: Global,
     ) -> Result<Step, AllocError>
-        requires before { (m : Marking) × (z : Ty) × (cs : ValueStack) × Represents m (meaning (program_in code.now)) z (N.nodes store.old) self.old cs × IsNext (instruction_of (types_of (program_in code.now)) instruction.now) cs.top }
+        requires before { (m : Marking) × (z : Ty) × (cs : ValueStack) × Represents m (program_of code.now) z (N.nodes store.old) self.old cs
+            × IsNext (instruction_of (types_of (program_in code.now)) instruction.now) cs.top }
         requires plain { is_plain (instruction_of (types_of (program_in code.now)) instruction.now) ≡ true }
         requires entered { self.old.entered ≡ true }
         requires room { self.old.top.place + 1 < 2 ^ 64 }
-        requires length { length (code_at (generated (meaning (program_in code.now))) self.old.top.function.0).code < 2 ^ 64 }
-        ensures leads { (m : Marking) (z : Ty) (cs : ValueStack) → Represents m (meaning (program_in code.now)) z (N.nodes store.old) self.old cs → IsNext (instruction_of (types_of (program_in code.now)) instruction.now) cs.top
-            → Leads m (meaning (program_in code.now)) z (N.nodes store.new) true self.old.fuel cs self.new result }
+        requires length { length (code_at (generated (program_of code.now)) self.old.top.function.0).code < 2 ^ 64 }
+        ensures leads { (m : Marking) (z : Ty) (cs : ValueStack) → Represents m (program_of code.now) z (N.nodes store.old) self.old cs
+            → IsNext (instruction_of (types_of (program_in code.now)) instruction.now) cs.top
+            → Leads m (program_of code.now) z (N.nodes store.new) true self.old.fuel cs self.new result }
         ensures fuel { OnOk result (self.new.fuel ≡ self.old.fuel) }
         ensures keeps { Keeps (N.nodes store.old) (N.nodes store.new) }
         ensures lent { N.lent store.new ≡ N.lent store.old }
@@ -215,8 +219,8 @@ fn step_of(trapped: Option<Trap>) -> Step
 
 /// The number of parameters of a function.
 fn parameter_count(code: &Code, function: FunctionId) -> usize
-    requires { function.0 < length (meaning (program_in code.now)).functions }
-    ensures { result ≡ length (code_at (generated (meaning (program_in code.now))) function.0).parameters }
+    requires { function.0 < length (program_of code.now).functions }
+    ensures { result ≡ length (code_at (generated (program_of code.now)) function.0).parameters }
 {
     code.program().function(function).parameters.len()
 }

@@ -1,14 +1,13 @@
 // The instructions on texts.
 ghost use Rattle.std.specs.Prelude.{◌≡◌, ◌+◌, ◌<◌, ◌^◌, ◌++◌, List, IfOk, length};
-ghost use Rattle.core_terms.specs.LanguagePrograms.{meaning};
 ghost use Rattle.code_gen.specs.Instructions as instruction;
-ghost use Rattle.code_gen.specs.Programs.{program_in};
 ghost use Rattle.core_terms.specs.Types.{Table, TextTy};
 ghost use Rattle.core_terms.specs.Values.{TextV, Value};
 ghost use Rattle.ideal_meaning.specs.Run as meant;
 ghost use Rattle.value_store.specs.Markings.{Marking};
 ghost use Rattle.value_store.specs.Nodes.{size_limit};
 ghost use Rattle.value_store.specs.Standing.{Keeps, Kind, StandsFor};
+ghost use Rattle.mode_vm.specs.Meanings.{program_of};
 ghost use Rattle.mode_vm.specs.Calculations.{Makes};
 
 use crate::frame::Frame;
@@ -33,9 +32,9 @@ impl Frame {
         store: &mut N,
         op: TextCompare,
     ) -> Result<Option<Trap>, AllocError>
-        requires before { IsBefore (meaning (program_in code.now)) (N.nodes store.old) self.old (instruction.TextCompareOp op) }
+        requires before { IsBefore (program_of code.now) (N.nodes store.old) self.old (instruction.TextCompareOp op) }
         requires room { self.old.place + 1 < 2 ^ 64 }
-        ensures does { Does (meaning (program_in code.now)) (instruction.TextCompareOp op) (N.nodes store.old) (N.nodes store.new) self.old self.new result }
+        ensures does { Does (program_of code.now) (instruction.TextCompareOp op) (N.nodes store.old) (N.nodes store.new) self.old self.new result }
         ensures keeps { Keeps (N.nodes store.old) (N.nodes store.new) }
         ensures lent { N.lent store.new ≡ N.lent store.old }
     {
@@ -53,9 +52,9 @@ impl Frame {
         code: &Code,
         store: &mut N,
     ) -> Result<Option<Trap>, AllocError>
-        requires before { IsBefore (meaning (program_in code.now)) (N.nodes store.old) self.old instruction.Cat }
+        requires before { IsBefore (program_of code.now) (N.nodes store.old) self.old instruction.Cat }
         requires room { self.old.place + 1 < 2 ^ 64 }
-        ensures does { Does (meaning (program_in code.now)) instruction.Cat (N.nodes store.old) (N.nodes store.new) self.old self.new result }
+        ensures does { Does (program_of code.now) instruction.Cat (N.nodes store.old) (N.nodes store.new) self.old self.new result }
         ensures keeps { Keeps (N.nodes store.old) (N.nodes store.new) }
         ensures lent { N.lent store.new ≡ N.lent store.old }
     {
@@ -70,9 +69,9 @@ impl Frame {
         code: &Code,
         store: &mut N,
     ) -> Result<Option<Trap>, AllocError>
-        requires before { IsBefore (meaning (program_in code.now)) (N.nodes store.old) self.old instruction.Len }
+        requires before { IsBefore (program_of code.now) (N.nodes store.old) self.old instruction.Len }
         requires room { self.old.place + 1 < 2 ^ 64 }
-        ensures does { Does (meaning (program_in code.now)) instruction.Len (N.nodes store.old) (N.nodes store.new) self.old self.new result }
+        ensures does { Does (program_of code.now) instruction.Len (N.nodes store.old) (N.nodes store.new) self.old self.new result }
         ensures keeps { Keeps (N.nodes store.old) (N.nodes store.new) }
         ensures lent { N.lent store.new ≡ N.lent store.old }
     {

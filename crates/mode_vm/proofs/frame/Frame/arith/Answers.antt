@@ -1,19 +1,18 @@
-use Rattle.core_terms.specs.LanguagePrograms.{meaning}
 use Rattle.value_store.specs.Markings.{kind_of}
-use Rattle.code_gen.specs.Programs.{program_in}
+use Rattle.mode_vm.specs.Meanings.{program_of}
 use Rattle.mode_vm.proofs.IntOperations.{arith_acts, arith_first, arith_second}
 use Rattle.mode_vm.proofs.frame.Frame.arith.Goals as goal
 
 pub returns-clause-does : goal.returns-clause-does
 returns-clause-does g c m values b =
-    let P = meaning (program_in c.args.code.now) in
+    let P = program_of c.args.code.now in
     arith_acts m P (g.N.Nodes.nodes c.args.store.now) c.args.self.now c.args.op values b c.pop_two.new.self.operands.items _ _ c.pop_two.ensures.top
     (g.N.Nodes.nodes c.new_result.new.store) c.new_result.ensures.keeps c.pop_two.new.self c.finish.new.self c.pop_two.ensures.at c.in_ok-made.made
     (λ x y h j. c.in_ok-made.ensures.makes m (kind_of m P) P.types x y h j) c.finish.result c.finish.ensures
 
 pub new_result-requires-clause-first : goal.new_result-requires-clause-first
 new_result-requires-clause-first g c =
-    let P = meaning (program_in c.args.code.now) in
+    let P = program_of c.args.code.now in
     let nodes = g.N.Nodes.nodes c.args.store.now in
     let b = c.requires.before in
     let x = arith_first b.0 P nodes c.args.self.now c.args.op b.1 b.2 c.pop_two.new.self.operands.items _ _ c.pop_two.ensures.top in
@@ -21,7 +20,7 @@ new_result-requires-clause-first g c =
 
 pub new_result-requires-clause-second : goal.new_result-requires-clause-second
 new_result-requires-clause-second g c =
-    let P = meaning (program_in c.args.code.now) in
+    let P = program_of c.args.code.now in
     let nodes = g.N.Nodes.nodes c.args.store.now in
     let b = c.requires.before in
     let x = arith_second b.0 P nodes c.args.self.now c.args.op b.1 b.2 c.pop_two.new.self.operands.items _ _ c.pop_two.ensures.top in

@@ -1,6 +1,5 @@
 use Rattle.std.proofs.Common.{ap, ◌∙◌, ◌+◌, ◌++◌, ◌∷◌, [], refl}
-use Rattle.core_terms.specs.LanguagePrograms.{meaning}
-use Rattle.code_gen.specs.Programs.{program_in}
+use Rattle.mode_vm.specs.Meanings.{program_of}
 use Rattle.mode_vm.proofs.Binding.{bound}
 use Rattle.mode_vm.proofs.frame.Frame.bind.Goals as goal
 
@@ -9,7 +8,7 @@ returns g c =
     record {
       does = λ m values b.
           let at = c.pop-r.ensures.at in
-          bound m (meaning (program_in c.args.code.now)) (g.N.Nodes.nodes c.args.store.now) c.args.self.now values b c.pop-r.new.self.operands.items c.pop-r.result c.pop-r.ensures.top _
+          bound m (program_of c.args.code.now) (g.N.Nodes.nodes c.args.store.now) c.args.self.now values b c.pop-r.new.self.operands.items c.pop-r.result c.pop-r.ensures.top _
           (record {
             function = at.function;
             place = ap (λ p. p + 1) at.place;

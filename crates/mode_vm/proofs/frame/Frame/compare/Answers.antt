@@ -1,18 +1,17 @@
 use Rattle.std.proofs.Common.{◌∙◌, ap₂, subst, arith}
-use Rattle.core_terms.specs.LanguagePrograms.{meaning}
 use Rattle.core_terms.specs.Types.{BoolTy}
 use Rattle.core_terms.specs.Values.{BoolV}
 use Rattle.ideal_meaning.specs.Run.{compare_of}
 use Rattle.value_store.specs.Markings.{kind_of}
 use Rattle.value_store.specs.Standing.{StandsFor}
-use Rattle.code_gen.specs.Programs.{program_in}
+use Rattle.mode_vm.specs.Meanings.{program_of}
 use Rattle.mode_vm.proofs.PassedInts.{kept}
 use Rattle.mode_vm.proofs.IntOperations.{compare_acts, compare_first, compare_second}
 use Rattle.mode_vm.proofs.frame.Frame.compare.Goals as goal
 
 pub int_in-x-requires : goal.int_in-x-requires
 int_in-x-requires g c =
-    let P = meaning (program_in c.args.code.now) in
+    let P = program_of c.args.code.now in
     let nodes = g.N.Nodes.nodes c.args.store.now in
     let b = c.requires.before in
     let x = compare_first b.0 P nodes c.args.self.now c.args.op b.1 b.2 c.pop_two.new.self.operands.items _ _ c.pop_two.ensures.top in
@@ -20,7 +19,7 @@ int_in-x-requires g c =
 
 pub int_in-y-requires : goal.int_in-y-requires
 int_in-y-requires g c =
-    let P = meaning (program_in c.args.code.now) in
+    let P = program_of c.args.code.now in
     let nodes = g.N.Nodes.nodes c.args.store.now in
     let b = c.requires.before in
     let x = compare_second b.0 P nodes c.args.self.now c.args.op b.1 b.2 c.pop_two.new.self.operands.items _ _ c.pop_two.ensures.top in
@@ -28,7 +27,7 @@ int_in-y-requires g c =
 
 pub returns-clause-does : goal.returns-clause-does
 returns-clause-does g c m values b =
-    let P = meaning (program_in c.args.code.now) in
+    let P = program_of c.args.code.now in
     let nodes = g.N.Nodes.nodes c.args.store.now in
     let new = g.N.Nodes.nodes c.put_bool.new.self in
     let is = c.compared-holds.ensures ∙ ap₂ (λ x y. compare_of c.args.op x y) (kept c.int_in-x.result (omega arith)) (kept c.int_in-y.result (omega arith)) in

@@ -1,16 +1,15 @@
 use Rattle.std.proofs.Common.{subst}
-use Rattle.core_terms.specs.LanguagePrograms.{meaning}
 use Rattle.core_terms.specs.Types.{BoolTy}
 use Rattle.core_terms.specs.Values.{BoolV}
 use Rattle.value_store.specs.Markings.{kind_of}
 use Rattle.value_store.specs.Standing.{StandsFor}
-use Rattle.code_gen.specs.Programs.{program_in}
+use Rattle.mode_vm.specs.Meanings.{program_of}
 use Rattle.mode_vm.proofs.TextOperations.{compare_acts, compare_first, compare_second}
 use Rattle.mode_vm.proofs.frame.Frame.compare_texts.Goals as goal
 
 pub text_in-x-requires : goal.text_in-x-requires
 text_in-x-requires g c =
-    let P = meaning (program_in c.args.code.now) in
+    let P = program_of c.args.code.now in
     let nodes = g.N.Nodes.nodes c.args.store.now in
     let b = c.requires.before in
     let x = compare_first b.0 P nodes c.args.self.now c.args.op b.1 b.2 c.pop_two.new.self.operands.items _ _ c.pop_two.ensures.top in
@@ -18,7 +17,7 @@ text_in-x-requires g c =
 
 pub text_in-y-requires : goal.text_in-y-requires
 text_in-y-requires g c =
-    let P = meaning (program_in c.args.code.now) in
+    let P = program_of c.args.code.now in
     let nodes = g.N.Nodes.nodes c.args.store.now in
     let b = c.requires.before in
     let x = compare_second b.0 P nodes c.args.self.now c.args.op b.1 b.2 c.pop_two.new.self.operands.items _ _ c.pop_two.ensures.top in
@@ -26,7 +25,7 @@ text_in-y-requires g c =
 
 pub returns-clause-does : goal.returns-clause-does
 returns-clause-does g c m values b =
-    let P = meaning (program_in c.args.code.now) in
+    let P = program_of c.args.code.now in
     let nodes = g.N.Nodes.nodes c.args.store.now in
     let new = g.N.Nodes.nodes c.put_bool.new.self in
     compare_acts m P nodes c.args.self.now c.args.op values b c.pop_two.new.self.operands.items _ _ c.pop_two.ensures.top new c.put_bool.ensures.keeps

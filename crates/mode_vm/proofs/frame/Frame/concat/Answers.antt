@@ -1,12 +1,11 @@
-use Rattle.core_terms.specs.LanguagePrograms.{meaning}
 use Rattle.value_store.specs.Markings.{kind_of}
-use Rattle.code_gen.specs.Programs.{program_in}
+use Rattle.mode_vm.specs.Meanings.{program_of}
 use Rattle.mode_vm.proofs.TextOperations.{concat_acts, concat_first, concat_second}
 use Rattle.mode_vm.proofs.frame.Frame.concat.Goals as goal
 
 pub new_text-requires-clause-first : goal.new_text-requires-clause-first
 new_text-requires-clause-first g c =
-    let P = meaning (program_in c.args.code.now) in
+    let P = program_of c.args.code.now in
     let nodes = g.N.Nodes.nodes c.args.store.now in
     let b = c.requires.before in
     let x = concat_first b.0 P nodes c.args.self.now b.1 b.2 c.pop_two.new.self.operands.items _ _ c.pop_two.ensures.top in
@@ -14,7 +13,7 @@ new_text-requires-clause-first g c =
 
 pub new_text-requires-clause-second : goal.new_text-requires-clause-second
 new_text-requires-clause-second g c =
-    let P = meaning (program_in c.args.code.now) in
+    let P = program_of c.args.code.now in
     let nodes = g.N.Nodes.nodes c.args.store.now in
     let b = c.requires.before in
     let x = concat_second b.0 P nodes c.args.self.now b.1 b.2 c.pop_two.new.self.operands.items _ _ c.pop_two.ensures.top in
@@ -22,7 +21,7 @@ new_text-requires-clause-second g c =
 
 pub returns-clause-does : goal.returns-clause-does
 returns-clause-does g c m values b =
-    let P = meaning (program_in c.args.code.now) in
+    let P = program_of c.args.code.now in
     let nodes = g.N.Nodes.nodes c.args.store.now in
     concat_acts m P nodes c.args.self.now values b c.pop_two.new.self.operands.items _ _ c.pop_two.ensures.top (g.N.Nodes.nodes c.new_text.new.store) c.new_text.ensures.keeps
     c.pop_two.new.self c.finish.new.self c.pop_two.ensures.at c.in_ok-made.made (λ x y h j. c.in_ok-made.ensures.makes m (kind_of m P) P.types x y h j)

@@ -1,17 +1,16 @@
 use Rattle.std.proofs.Common.{length, pos, subst, arith}
-use Rattle.core_terms.specs.LanguagePrograms.{meaning}
 use Rattle.core_terms.specs.Types.{IntTy}
 use Rattle.core_terms.specs.Values.{IntV}
 use Rattle.value_store.specs.Markings.{kind_of}
 use Rattle.value_store.specs.Standing.{StandsFor}
-use Rattle.code_gen.specs.Programs.{program_in}
+use Rattle.mode_vm.specs.Meanings.{program_of}
 use Rattle.mode_vm.proofs.PassedInts.{kept}
 use Rattle.mode_vm.proofs.TextOperations.{length_acts, length_operand}
 use Rattle.mode_vm.proofs.frame.Frame.length.Goals as goal
 
 pub text_in-text-requires : goal.text_in-text-requires
 text_in-text-requires g c =
-    let P = meaning (program_in c.args.code.now) in
+    let P = program_of c.args.code.now in
     let nodes = g.N.Nodes.nodes c.args.store.now in
     let b = c.requires.before in
     let x = length_operand b.0 P nodes c.args.self.now b.1 b.2 c.pop-r.new.self.operands.items _ c.pop-r.ensures.top in
@@ -19,7 +18,7 @@ text_in-text-requires g c =
 
 pub returns-clause-does : goal.returns-clause-does
 returns-clause-does g c m values b =
-    let P = meaning (program_in c.args.code.now) in
+    let P = program_of c.args.code.now in
     let nodes = g.N.Nodes.nodes c.args.store.now in
     let new = g.N.Nodes.nodes c.put_int.new.self in
     length_acts m P nodes c.args.self.now values b c.pop-r.new.self.operands.items _ c.pop-r.ensures.top new c.put_int.ensures.keeps

@@ -1,17 +1,16 @@
 use Rattle.std.proofs.Common.{◌≡◌, ◌∙◌, length, nat_lt, true, sym, subst, arith, List}
 use Rattle.std.specs.List.{list_all}
-use Rattle.core_terms.specs.LanguagePrograms.{meaning}
 use Rattle.value_store.specs.CodeNodes.{numbers_of}
 use Rattle.value_store.specs.Markings.{kind_of}
 use Rattle.value_store.specs.Standing.{AllStandFor}
 use Rattle.value_store.specs.declared.node.Ref.{Ref}
-use Rattle.code_gen.specs.Programs.{program_in}
+use Rattle.mode_vm.specs.Meanings.{program_of}
 use Rattle.mode_vm.proofs.Constructing.{fields_there, make_acts, make_enough}
 use Rattle.mode_vm.proofs.frame.Frame.make.Goals as goal
 
 pub pop_many-requires : goal.pop_many-requires
 pop_many-requires g c =
-    let P = meaning (program_in c.args.code.now) in
+    let P = program_of c.args.code.now in
     let nodes = g.N.Nodes.nodes c.args.store.now in
     let b = c.requires.before in
     let count = c.field_count-count.ensures in
@@ -20,7 +19,7 @@ pop_many-requires g c =
 
 pub new_constructor-requires : goal.new_constructor-requires
 new_constructor-requires g c =
-    let P = meaning (program_in c.args.code.now) in
+    let P = program_of c.args.code.now in
     let nodes = g.N.Nodes.nodes c.args.store.now in
     let b = c.requires.before in
     let there =
@@ -30,7 +29,7 @@ new_constructor-requires g c =
 
 pub returns-clause-does : goal.returns-clause-does
 returns-clause-does g c m values b =
-    let P = meaning (program_in c.args.code.now) in
+    let P = program_of c.args.code.now in
     let nodes = g.N.Nodes.nodes c.args.store.now in
     make_acts m P nodes c.args.self.now c.args.named.0 c.args.tag.0 values b c.in_ok-fields.fields.items c.pop_many.new.self.operands.items
     (c.in_ok-fields.ensures.count ∙ c.field_count-count.ensures) c.in_ok-fields.ensures.top

@@ -1,12 +1,11 @@
-use Rattle.core_terms.specs.LanguagePrograms.{meaning}
 use Rattle.value_store.specs.Markings.{kind_of}
-use Rattle.code_gen.specs.Programs.{program_in}
+use Rattle.mode_vm.specs.Meanings.{program_of}
 use Rattle.mode_vm.proofs.Branching.{not_acts, not_operand}
 use Rattle.mode_vm.proofs.frame.Frame.not.Goals as goal
 
 pub bool_in-value-requires : goal.bool_in-value-requires
 bool_in-value-requires g c =
-    let P = meaning (program_in c.args.code.now) in
+    let P = program_of c.args.code.now in
     let nodes = g.N.Nodes.nodes c.args.store.now in
     let b = c.requires.before in
     let x = not_operand b.0 P nodes c.args.self.now b.1 b.2 c.pop-r.new.self.operands.items _ c.pop-r.ensures.top in
@@ -14,7 +13,7 @@ bool_in-value-requires g c =
 
 pub returns-clause-does : goal.returns-clause-does
 returns-clause-does g c m values b =
-    let P = meaning (program_in c.args.code.now) in
+    let P = program_of c.args.code.now in
     let nodes = g.N.Nodes.nodes c.args.store.now in
     not_acts m P nodes c.args.self.now values b c.pop-r.new.self.operands.items _ c.pop-r.ensures.top (g.N.Nodes.nodes c.put_bool.new.self) c.put_bool.ensures.keeps
     c.pop-r.new.self c.finish.new.self c.pop-r.ensures.at c.in_ok-made.made c.bool_in-value.result

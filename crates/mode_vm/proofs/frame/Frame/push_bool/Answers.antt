@@ -1,18 +1,17 @@
 use Rattle.std.proofs.Common.{refl, Ok}
-use Rattle.core_terms.specs.LanguagePrograms.{meaning}
 use Rattle.core_terms.specs.Types.{BoolTy}
 use Rattle.core_terms.specs.Values.{BoolV}
 use Rattle.ideal_meaning.specs.Run.{Gives}
 use Rattle.value_store.specs.Markings.{kind_of}
-use Rattle.code_gen.specs.Programs.{program_in}
 use Rattle.code_gen.specs.Instructions as instruction
+use Rattle.mode_vm.specs.Meanings.{program_of}
 use Rattle.mode_vm.proofs.Frames.{fits_next}
 use Rattle.mode_vm.proofs.Made.{made_acts}
 use Rattle.mode_vm.proofs.frame.Frame.push_bool.Goals as goal
 
 pub returns-clause-does : goal.returns-clause-does
 returns-clause-does g c m values b =
-    let P = meaning (program_in c.args.code.now) in
+    let P = program_of c.args.code.now in
     let nodes = g.N.Nodes.nodes c.args.store.now in
     let i = instruction.PushBool c.args.value in
     made_acts m P nodes (g.N.Nodes.nodes c.put_bool.new.self) c.put_bool.ensures.keeps c.args.self.now c.finish.new.self i values b

@@ -1,20 +1,19 @@
 use Rattle.std.proofs.Common.{◌≡◌, ◌∙◌, refl, Ok, subst, arith, length, ap}
-use Rattle.core_terms.specs.LanguagePrograms.{meaning}
 use Rattle.core_terms.specs.Texts.{bytes_of}
 use Rattle.core_terms.specs.Types.{TextTy}
 use Rattle.core_terms.specs.Values.{TextV}
 use Rattle.ideal_meaning.specs.Run.{Gives}
 use Rattle.value_store.specs.Markings.{kind_of}
 use Rattle.value_store.specs.Standing.{StandsFor}
-use Rattle.code_gen.specs.Programs.{program_in}
 use Rattle.code_gen.specs.Instructions as instruction
+use Rattle.mode_vm.specs.Meanings.{program_of}
 use Rattle.mode_vm.proofs.Frames.{fits_next}
 use Rattle.mode_vm.proofs.Made.{made_acts}
 use Rattle.mode_vm.proofs.frame.Frame.push_text.Goals as goal
 
 pub returns-clause-does : goal.returns-clause-does
 returns-clause-does g c m values b =
-    let P = meaning (program_in c.args.code.now) in
+    let P = program_of c.args.code.now in
     let nodes = g.N.Nodes.nodes c.args.store.now in
     let i = instruction.PushText (bytes_of c.args.text.now) in
     let same : c.in-Ok.text.now ≡ bytes_of c.args.text.now = c.in-Ok.ensures.cases.0 ∙ c.as_bytes.ensures in

@@ -1,12 +1,11 @@
-use Rattle.core_terms.specs.LanguagePrograms.{meaning}
 use Rattle.value_store.specs.Markings.{kind_of}
-use Rattle.code_gen.specs.Programs.{program_in}
+use Rattle.mode_vm.specs.Meanings.{program_of}
 use Rattle.mode_vm.proofs.PairOperations.{second_acts, second_pair}
 use Rattle.mode_vm.proofs.frame.Frame.second.Goals as goal
 
 pub parts_in-requires : goal.parts_in-requires
 parts_in-requires g c =
-    let P = meaning (program_in c.args.code.now) in
+    let P = program_of c.args.code.now in
     let nodes = g.N.Nodes.nodes c.args.store.now in
     let b = c.requires.before in
     let x = second_pair b.0 P nodes c.args.self.now b.1 b.2 c.pop-r.new.self.operands.items c.pop-r.result c.pop-r.ensures.top in
@@ -15,7 +14,7 @@ parts_in-requires g c =
 pub returns : goal.returns
 returns g c = record {
   does = λ m values b.
-      let P = meaning (program_in c.args.code.now) in
+      let P = program_of c.args.code.now in
       let nodes = g.N.Nodes.nodes c.args.store.now in
       second_acts m P nodes c.args.self.now values b c.pop-r.new.self.operands.items c.pop-r.result c.pop-r.ensures.top
       c.pop-r.new.self c.finish.new.self c.pop-r.ensures.at c.parts_in.result.1

@@ -1,13 +1,12 @@
 use Rattle.std.proofs.Common.{◌∙◌, ◌-◌, ap, take, refl, arith}
-use Rattle.core_terms.specs.LanguagePrograms.{meaning}
-use Rattle.code_gen.specs.Programs.{program_in}
+use Rattle.mode_vm.specs.Meanings.{program_of}
 use Rattle.mode_vm.proofs.Binding.{unbind_enough, unbound}
 use Rattle.mode_vm.proofs.frame.Frame.unbind.Goals as goal
 
 pub overflow_sub-kept : goal.overflow_sub-kept
 overflow_sub-kept g c =
     let b = c.requires.before in
-    let enough = unbind_enough b.0 (meaning (program_in c.args.code.now)) (g.N.Nodes.nodes c.args.store.now) c.args.self.now c.args.count b.1 b.2 in
+    let enough = unbind_enough b.0 (program_of c.args.code.now) (g.N.Nodes.nodes c.args.store.now) c.args.self.now c.args.count b.1 b.2 in
     let len = c.len.ensures in
     let l = c.args.self.now.locals.ok.0 in
     omega (arith, enough, len, l)
@@ -17,7 +16,7 @@ returns g c =
     record {
       does = λ m values b.
           let items = c.args.self.now.locals.items in
-          unbound m (meaning (program_in c.args.code.now)) (g.N.Nodes.nodes c.args.store.now) c.args.self.now c.args.count values b _
+          unbound m (program_of c.args.code.now) (g.N.Nodes.nodes c.args.store.now) c.args.self.now c.args.count values b _
           (record {
             function = refl;
             place = refl;

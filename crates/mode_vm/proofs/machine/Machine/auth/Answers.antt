@@ -5,7 +5,7 @@ use Rattle.core_terms.specs.Types.{AuthTy}
 use Rattle.core_terms.specs.Values.{Value}
 use Rattle.code_gen.specs.Programs.{program_in}
 use Rattle.code_meaning.specs.Execution.{Ran}
-use Rattle.mode_vm.specs.Meanings.{mode_of}
+use Rattle.mode_vm.specs.Meanings.{mode_of, program_of}
 use Rattle.mode_vm.specs.Machines.{end_of}
 use Rattle.mode_vm.specs.Openings.{Stands}
 use Rattle.mode_vm.specs.declared.state.Step.TheVariants.{Paused}
@@ -18,8 +18,12 @@ use Rattle.mode_vm.proofs.machine.Machine.auth.Goals as goal
 pub auth-requires : goal.auth-requires
 auth-requires g c =
     let b = c.requires.before in
-    let o = operand g.M.Mode.marking (meaning (program_in c.args.code.now)) b.0 (g.N.Nodes.nodes c.args.store.now) c.args.self.now.state (type_at (types_of (program_in c.args.code.now)) c.args.ty) b.1 b.2 b.3 c.pop_top-v.new.self.top.operands.items c.pop_top-v.result c.pop_top-v.ensures.top in
-    record { stands = subst (λ p. (x : Value) × Stands g.M.Mode.marking (meaning p) (g.N.Nodes.nodes c.args.store.now) c.pop_top-v.result.0 (type_at (types_of p) c.args.ty) x) (sym c.program.ensures) (o.x, o.stands) }
+    let o = operand g.M.Mode.marking (program_of c.args.code.now) b.0 (g.N.Nodes.nodes c.args.store.now) c.args.self.now.state
+    (type_at (types_of (program_in c.args.code.now)) c.args.ty) b.1 b.2 b.3 c.pop_top-v.new.self.top.operands.items c.pop_top-v.result c.pop_top-v.ensures.top in
+    record {
+      stands = subst (λ p. (x : Value) × Stands g.M.Mode.marking (meaning p) (g.N.Nodes.nodes c.args.store.now) c.pop_top-v.result.0 (type_at (types_of p) c.args.ty) x)
+          (sym c.program.ensures) (o.x, o.stands);
+    }
 
 pub returns-in-Ok-push_top-clause-stands : goal.returns-in-Ok-push_top-clause-stands
 returns-in-Ok-push_top-clause-stands g c z cs shows next =
@@ -30,8 +34,11 @@ returns-in-Ok-push_top-clause-stands g c z cs shows next =
     let before = c.args.self.now.state in
     let mid = c.pop_top-v.new.self in
     let o = operand m (meaning p) z old before (type_at (types_of p) c.args.ty) cs shows next mid.top.operands.items c.pop_top-v.result c.pop_top-v.ensures.top in
-    let made = subst (λ p. (x : Value) → Stands m (meaning p) old c.pop_top-v.result.0 (type_at (types_of p) c.args.ty) x → Stands m (meaning p) new c.in-Ok.made.0 (AuthTy (type_at (types_of p) c.args.ty)) ((mode_of m (meaning p)).auth (type_at (types_of p) c.args.ty) x)) c.program.ensures c.in-Ok.ensures.stands in
-    let led = authenticated m (meaning p) z old before (type_at (types_of p) c.args.ty) cs shows next mid.top.operands.items c.pop_top-v.result c.pop_top-v.ensures.top new c.in-Ok.ensures.keeps c.push_top.new.self c.requires.entered c.in-Ok.made
+    let made = subst (λ p. (x : Value) → Stands m (meaning p) old c.pop_top-v.result.0 (type_at (types_of p) c.args.ty) x
+    → Stands m (meaning p) new c.in-Ok.made.0 (AuthTy (type_at (types_of p) c.args.ty)) ((mode_of m (meaning p)).auth (type_at (types_of p) c.args.ty) x)) c.program.ensures
+    c.in-Ok.ensures.stands in
+    let led = authenticated m (meaning p) z old before (type_at (types_of p) c.args.ty) cs shows next mid.top.operands.items c.pop_top-v.result c.pop_top-v.ensures.top new
+    c.in-Ok.ensures.keeps c.push_top.new.self c.requires.entered c.in-Ok.made
     (from_popped before.top mid.top c.push_top.new.self.top mid.top.operands.items c.pop_top-v.ensures.at c.in-Ok.made c.in-Ok-push_top.ensures.at)
     (rest_then before mid c.push_top.new.self c.pop_top-v.ensures.rest c.in-Ok-push_top.ensures.rest) (made o.x o.stands) in
     (led.0, led.1)
@@ -46,14 +53,18 @@ returns-in-Ok-push_top-clause-is g c z w run follows will next =
     let mid = c.pop_top-v.new.self in
     let cs = will.stack in
     let o = operand m (meaning p) z old before (type_at (types_of p) c.args.ty) cs will.shows next mid.top.operands.items c.pop_top-v.result c.pop_top-v.ensures.top in
-    let made = subst (λ p. (x : Value) → Stands m (meaning p) old c.pop_top-v.result.0 (type_at (types_of p) c.args.ty) x → Stands m (meaning p) new c.in-Ok.made.0 (AuthTy (type_at (types_of p) c.args.ty)) ((mode_of m (meaning p)).auth (type_at (types_of p) c.args.ty) x)) c.program.ensures c.in-Ok.ensures.stands in
-    let led = authenticated m (meaning p) z old before (type_at (types_of p) c.args.ty) cs will.shows next mid.top.operands.items c.pop_top-v.result c.pop_top-v.ensures.top new c.in-Ok.ensures.keeps c.push_top.new.self c.requires.entered c.in-Ok.made
+    let made = subst (λ p. (x : Value) → Stands m (meaning p) old c.pop_top-v.result.0 (type_at (types_of p) c.args.ty) x
+    → Stands m (meaning p) new c.in-Ok.made.0 (AuthTy (type_at (types_of p) c.args.ty)) ((mode_of m (meaning p)).auth (type_at (types_of p) c.args.ty) x)) c.program.ensures
+    c.in-Ok.ensures.stands in
+    let led = authenticated m (meaning p) z old before (type_at (types_of p) c.args.ty) cs will.shows next mid.top.operands.items c.pop_top-v.result c.pop_top-v.ensures.top new
+    c.in-Ok.ensures.keeps c.push_top.new.self c.requires.entered c.in-Ok.made
     (from_popped before.top mid.top c.push_top.new.self.top mid.top.operands.items c.pop_top-v.ensures.at c.in-Ok.made c.in-Ok-push_top.ensures.at)
     (rest_then before mid c.push_top.new.self c.pop_top-v.ensures.rest c.in-Ok-push_top.ensures.rest) (made o.x o.stands) in
-    let kept = subst (λ mode. g.M.Mode.Follows p mode c.args.world.now new w) (sym c.in-Ok.ensures.mode) (g.met.M.Mode.follows_on p c.args.self.now.mode c.args.world.now old new w c.in-Ok.ensures.keeps follows) in
+    let kept = subst (λ mode. g.M.Mode.Follows p mode c.args.world.now new w) (sym c.in-Ok.ensures.mode)
+    (g.met.M.Mode.follows_on p c.args.self.now.mode c.args.world.now old new w c.in-Ok.ensures.keeps follows) in
     leads_is m (meaning p) z new true before.fuel cs c.push_top.new.self g.M.Mode.cause (g.M.Mode.Follows p c.auth.new.self c.args.world.now new) w kept run
     (subst (λ b. end_of m (meaning p) b cs before.fuel w ≡ Ran run) c.requires.entered will.ends) (Unit {0}) Paused led
 
 pub returns-in-Err-clause-is : goal.returns-in-Err-clause-is
 returns-in-Err-clause-is g c z w run follows will next =
-    only_memory g.M.Mode.marking (meaning (program_in c.args.code.now)) z g.M.Mode.cause (λ w. Unit {0}) (g.N.Nodes.nodes c.auth.new.store) _ run (Unit {0}) c.in-Err.stop c.in-Err.ensures.memory
+    only_memory g.M.Mode.marking (program_of c.args.code.now) z g.M.Mode.cause (λ w. Unit {0}) (g.N.Nodes.nodes c.auth.new.store) _ run (Unit {0}) c.in-Err.stop c.in-Err.ensures.memory

@@ -1,30 +1,30 @@
 use Rattle.std.proofs.Common.{◌+◌, ◌<◌, ◌≤◌, ◌≡◌, ◌^◌, false}
 use Rattle.core_terms.specs.Types.{Ty}
-use Rattle.core_terms.specs.LanguagePrograms.{meaning}
 use Rattle.value_store.specs.Standing.{Keeps}
 use Rattle.code_gen.specs.Programs.{program_in}
 use Rattle.mode_vm.specs.Machines.{steps_left}
 use Rattle.mode_vm.proofs.Slicing.{Begun}
-use Rattle.mode_vm.specs.Meanings.{RunOf, StateOf}
+use Rattle.mode_vm.specs.Meanings.{RunOf, StateOf, program_of}
 use Rattle.mode_vm.specs.Runs.{Ready, WillRun}
 use Rattle.mode_vm.proofs.machine.Machine.run_slice.Given as goal
 
 -- the machine is ready and will come to what it would have come to at first; few enough values will be opened
 abbrev pub invariant-loop-units : goal.invariant-loop-units
 invariant-loop-units g l =
-    ((z : Ty) → Ready g.M.Mode.marking (meaning (program_in l.code)) z (g.N.Nodes.nodes l.fn.store) l.fn.self.state → Ready g.M.Mode.marking (meaning (program_in l.code)) z (g.N.Nodes.nodes l.store) l.self.state)
+    ((z : Ty) → Ready g.M.Mode.marking (program_of l.code) z (g.N.Nodes.nodes l.fn.store) l.fn.self.state → Ready g.M.Mode.marking (program_of l.code) z (g.N.Nodes.nodes l.store) l.self.state)
     × ((z : Ty) (w : StateOf g.M.Mode.marking) (run : RunOf g.M.Mode.marking) → g.M.Mode.Follows (program_in l.code) l.fn.self.mode l.fn.world (g.N.Nodes.nodes l.fn.store) w
-    → WillRun g.M.Mode.marking (meaning (program_in l.code)) z (g.N.Nodes.nodes l.fn.store) l.fn.self.state w run
-    → (w' : StateOf g.M.Mode.marking) × g.M.Mode.Follows (program_in l.code) l.self.mode l.world (g.N.Nodes.nodes l.store) w' × WillRun g.M.Mode.marking (meaning (program_in l.code)) z (g.N.Nodes.nodes l.store) l.self.state w' run)
-    × (g.M.Mode.opened l.self.mode + steps_left (meaning (program_in l.code)) l.self.state < 2 ^ 63)
+    → WillRun g.M.Mode.marking (program_of l.code) z (g.N.Nodes.nodes l.fn.store) l.fn.self.state w run
+    → (w' : StateOf g.M.Mode.marking) × g.M.Mode.Follows (program_in l.code) l.self.mode l.world (g.N.Nodes.nodes l.store) w'
+    × WillRun g.M.Mode.marking (program_of l.code) z (g.N.Nodes.nodes l.store) l.self.state w' run)
+    × (g.M.Mode.opened l.self.mode + steps_left (program_of l.code) l.self.state < 2 ^ 63)
     × Keeps (g.N.Nodes.nodes l.fn.store) (g.N.Nodes.nodes l.store)
     × (l.self.state.fuel ≤ l.fn.self.state.fuel)
     × (l.fn.self.state.fuel ≤ l.self.state.fuel + l.units)
     × (l.fn.self.state.entered ≡ false → 0 < l.fn.self.state.fuel → Begun l.fn.self.state.fuel l.self.state.fuel l.self.state.entered)
     × (g.M.Mode.faults l.world ≡ g.M.Mode.faults l.fn.world)
     × (g.M.Mode.rest l.world ≡ g.M.Mode.rest l.fn.world)
-    × g.M.Mode.Moves (meaning (program_in l.code)) l.fn.self.mode l.fn.world l.self.mode l.world
+    × g.M.Mode.Moves (program_of l.code) l.fn.self.mode l.fn.world l.self.mode l.world
     × (g.N.Nodes.lent l.store ≡ g.N.Nodes.lent l.fn.store)
 
 abbrev pub decreases-loop-units : goal.decreases-loop-units
-decreases-loop-units g l = steps_left (meaning (program_in l.code)) l.self.state
+decreases-loop-units g l = steps_left (program_of l.code) l.self.state

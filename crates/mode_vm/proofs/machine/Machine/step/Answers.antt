@@ -1,24 +1,35 @@
 use Rattle.std.specs.declared.alloc.AllocError.{AllocError}
 use Rattle.std.proofs.Common.{subst, arith, true, false, refl, ap, sym, ◌∙◌, ◌≡◌}
-use Rattle.core_terms.specs.LanguagePrograms.{meaning, types_of}
+use Rattle.core_terms.specs.LanguagePrograms.{types_of}
 use Rattle.code_gen.specs.Programs.{program_in}
 use Rattle.code_gen.specs.CodeTrees.{instruction_of}
 use Rattle.mode_vm.specs.StateParts.{fuel_after}
 use Rattle.mode_vm.specs.Machines.{IsNext, end_of}
 use Rattle.code_meaning.specs.Execution.{Ran}
+use Rattle.mode_vm.specs.Meanings.{program_of}
 use Rattle.mode_vm.proofs.OwnInstructions.{plain}
 use Rattle.mode_vm.proofs.Stepping.{leads_stands, leads_is, fewer_left}
 use Rattle.mode_vm.proofs.machine.Machine.step.Goals as goal
 
 pub unauth-requires-clause-before : goal.unauth-requires-clause-before
 unauth-requires-clause-before g c =
-    let r = c.requires.ready in
-    (r.0, r.1.0, r.1.1, subst (λ i. IsNext (instruction_of (types_of (program_in c.args.code.now)) i) r.1.0.top) c.in-Unauth.is (c.next-instruction.ensures.next g.M.Mode.marking r.0 (g.N.Nodes.nodes c.args.store.now) r.1.0 r.1.1))
+    let r = c.requires.ready in (
+      r.0,
+      r.1.0,
+      r.1.1,
+      subst (λ i. IsNext (instruction_of (types_of (program_in c.args.code.now)) i) r.1.0.top) c.in-Unauth.is
+          (c.next-instruction.ensures.next g.M.Mode.marking r.0 (g.N.Nodes.nodes c.args.store.now) r.1.0 r.1.1),
+    )
 
 pub auth-requires-clause-before : goal.auth-requires-clause-before
 auth-requires-clause-before g c =
-    let r = c.requires.ready in
-    (r.0, r.1.0, r.1.1, subst (λ i. IsNext (instruction_of (types_of (program_in c.args.code.now)) i) r.1.0.top) c.in-Auth.is (c.next-instruction.ensures.next g.M.Mode.marking r.0 (g.N.Nodes.nodes c.args.store.now) r.1.0 r.1.1))
+    let r = c.requires.ready in (
+      r.0,
+      r.1.0,
+      r.1.1,
+      subst (λ i. IsNext (instruction_of (types_of (program_in c.args.code.now)) i) r.1.0.top) c.in-Auth.is
+          (c.next-instruction.ensures.next g.M.Mode.marking r.0 (g.N.Nodes.nodes c.args.store.now) r.1.0 r.1.1),
+    )
 
 pub act-requires : goal.act-requires
 act-requires g c =
@@ -33,24 +44,28 @@ act-requires g c =
 
 pub returns-in-Unauth-clause-stands : goal.returns-in-Unauth-clause-stands
 returns-in-Unauth-clause-stands g c z ready =
-    c.unauth.ensures.stands z ready.0 ready.1 (subst (λ i. IsNext (instruction_of (types_of (program_in c.args.code.now)) i) ready.0.top) c.in-Unauth.is (c.next-instruction.ensures.next g.M.Mode.marking z (g.N.Nodes.nodes c.args.store.now) ready.0 ready.1))
+    c.unauth.ensures.stands z ready.0 ready.1 (subst (λ i. IsNext (instruction_of (types_of (program_in c.args.code.now)) i) ready.0.top) c.in-Unauth.is
+    (c.next-instruction.ensures.next g.M.Mode.marking z (g.N.Nodes.nodes c.args.store.now) ready.0 ready.1))
 
 pub returns-in-Unauth-clause-is : goal.returns-in-Unauth-clause-is
 returns-in-Unauth-clause-is g c z w run follows will =
-    c.unauth.ensures.is z w run follows will (subst (λ i. IsNext (instruction_of (types_of (program_in c.args.code.now)) i) will.stack.top) c.in-Unauth.is (c.next-instruction.ensures.next g.M.Mode.marking z (g.N.Nodes.nodes c.args.store.now) will.stack will.shows))
+    c.unauth.ensures.is z w run follows will (subst (λ i. IsNext (instruction_of (types_of (program_in c.args.code.now)) i) will.stack.top) c.in-Unauth.is
+    (c.next-instruction.ensures.next g.M.Mode.marking z (g.N.Nodes.nodes c.args.store.now) will.stack will.shows))
 
 pub returns-in-Ok : goal.returns-in-Ok
 returns-in-Ok g c = record {
-  stands = λ z ready. leads_stands g.M.Mode.marking (meaning (program_in c.args.code.now)) z (g.N.Nodes.nodes c.act.new.store) true c.args.self.now.state.fuel ready.0 c.act.new.self (Unit {0}) c.in-Ok.step
+  stands = λ z ready. leads_stands g.M.Mode.marking (program_of c.args.code.now) z (g.N.Nodes.nodes c.act.new.store) true c.args.self.now.state.fuel ready.0 c.act.new.self (Unit {0}) c.in-Ok.step
       (c.in-Ok.ensures.leads g.M.Mode.marking z ready.0 ready.1 (c.next-instruction.ensures.next g.M.Mode.marking z (g.N.Nodes.nodes c.args.store.now) ready.0 ready.1));
   is = λ z w run follows will.
-      leads_is g.M.Mode.marking (meaning (program_in c.args.code.now)) z (g.N.Nodes.nodes c.act.new.store) true c.args.self.now.state.fuel will.stack c.act.new.self g.M.Mode.cause
+      leads_is g.M.Mode.marking (program_of c.args.code.now) z (g.N.Nodes.nodes c.act.new.store) true c.args.self.now.state.fuel will.stack c.act.new.self g.M.Mode.cause
       (g.M.Mode.Follows (program_in c.args.code.now) c.args.self.now.mode c.args.world.now (g.N.Nodes.nodes c.act.new.store)) w
-      (g.met.M.Mode.follows_on (program_in c.args.code.now) c.args.self.now.mode c.args.world.now (g.N.Nodes.nodes c.args.store.now) (g.N.Nodes.nodes c.act.new.store) w c.in-Ok.ensures.keeps follows) run
-      (subst (λ b. end_of g.M.Mode.marking (meaning (program_in c.args.code.now)) b will.stack c.args.self.now.state.fuel w ≡ Ran run) c.if-not-self.false will.ends)
+      (g.met.M.Mode.follows_on (program_in c.args.code.now) c.args.self.now.mode c.args.world.now (g.N.Nodes.nodes c.args.store.now)
+      (g.N.Nodes.nodes c.act.new.store) w c.in-Ok.ensures.keeps follows) run
+      (subst (λ b. end_of g.M.Mode.marking (program_of c.args.code.now) b will.stack c.args.self.now.state.fuel w ≡ Ran run) c.if-not-self.false will.ends)
       (Unit {0}) c.in-Ok.step
       (c.in-Ok.ensures.leads g.M.Mode.marking z will.stack will.shows (c.next-instruction.ensures.next g.M.Mode.marking z (g.N.Nodes.nodes c.args.store.now) will.stack will.shows));
-  fewer = (let r = c.requires.ready in fewer_left (Unit {0}) g.M.Mode.marking (meaning (program_in c.args.code.now)) r.0 (g.N.Nodes.nodes c.args.store.now) (g.N.Nodes.nodes c.act.new.store) c.args.self.now.state c.act.new.self r.1.0 r.1.1 true c.if-not-self.false c.in-Ok.step
+  fewer = (let r = c.requires.ready in fewer_left (Unit {0}) g.M.Mode.marking (program_of c.args.code.now) r.0 (g.N.Nodes.nodes c.args.store.now)
+      (g.N.Nodes.nodes c.act.new.store) c.args.self.now.state c.act.new.self r.1.0 r.1.1 true c.if-not-self.false c.in-Ok.step
       (c.in-Ok.ensures.leads g.M.Mode.marking r.0 r.1.0 r.1.1 (c.next-instruction.ensures.next g.M.Mode.marking r.0 (g.N.Nodes.nodes c.args.store.now) r.1.0 r.1.1)) (Unit {0}));
   keeps = c.in-Ok.ensures.keeps;
   lent = c.in-Ok.ensures.lent;
@@ -58,22 +73,25 @@ returns-in-Ok g c = record {
   fuel = c.in-Ok.ensures.fuel ∙ sym (ap (λ b. fuel_after b c.args.self.now.state.fuel) c.if-not-self.false);
   faults = refl;
   rest = refl;
-  moves = g.met.M.Mode.moves_not (meaning (program_in c.args.code.now)) c.args.self.now.mode c.args.world.now;
+  moves = g.met.M.Mode.moves_not (program_of c.args.code.now) c.args.self.now.mode c.args.world.now;
 }
 
 pub returns-then-not-self-clause-fewer : goal.returns-then-not-self-clause-fewer
 returns-then-not-self-clause-fewer g c =
     let r = c.requires.ready in
-    fewer_left AllocError g.M.Mode.marking (meaning (program_in c.args.code.now)) r.0 (g.N.Nodes.nodes c.args.store.now) (g.N.Nodes.nodes c.args.store.now) c.args.self.now.state c.enter.new.self r.1.0 r.1.1 false c.if-not-self.true c.enter.result
-    (c.enter.ensures.leads g.M.Mode.marking (meaning (program_in c.args.code.now)) r.0 (g.N.Nodes.nodes c.args.store.now) r.1.0 r.1.1) (Unit {0})
+    fewer_left AllocError g.M.Mode.marking (program_of c.args.code.now) r.0 (g.N.Nodes.nodes c.args.store.now)
+    (g.N.Nodes.nodes c.args.store.now) c.args.self.now.state c.enter.new.self r.1.0 r.1.1 false c.if-not-self.true c.enter.result
+    (c.enter.ensures.leads g.M.Mode.marking (program_of c.args.code.now) r.0 (g.N.Nodes.nodes c.args.store.now) r.1.0 r.1.1) (Unit {0})
 
 pub returns-in-Auth-clause-stands : goal.returns-in-Auth-clause-stands
 returns-in-Auth-clause-stands g c z ready =
-    c.auth.ensures.stands z ready.0 ready.1 (subst (λ i. IsNext (instruction_of (types_of (program_in c.args.code.now)) i) ready.0.top) c.in-Auth.is (c.next-instruction.ensures.next g.M.Mode.marking z (g.N.Nodes.nodes c.args.store.now) ready.0 ready.1))
+    c.auth.ensures.stands z ready.0 ready.1 (subst (λ i. IsNext (instruction_of (types_of (program_in c.args.code.now)) i) ready.0.top) c.in-Auth.is
+    (c.next-instruction.ensures.next g.M.Mode.marking z (g.N.Nodes.nodes c.args.store.now) ready.0 ready.1))
 
 pub returns-in-Auth-clause-is : goal.returns-in-Auth-clause-is
 returns-in-Auth-clause-is g c z w run follows will =
-    c.auth.ensures.is z w run follows will (subst (λ i. IsNext (instruction_of (types_of (program_in c.args.code.now)) i) will.stack.top) c.in-Auth.is (c.next-instruction.ensures.next g.M.Mode.marking z (g.N.Nodes.nodes c.args.store.now) will.stack will.shows))
+    c.auth.ensures.is z w run follows will (subst (λ i. IsNext (instruction_of (types_of (program_in c.args.code.now)) i) will.stack.top) c.in-Auth.is
+    (c.next-instruction.ensures.next g.M.Mode.marking z (g.N.Nodes.nodes c.args.store.now) will.stack will.shows))
 
 pub returns-then-not-self-clause-moves : goal.returns-then-not-self-clause-moves
-returns-then-not-self-clause-moves g c = g.met.M.Mode.moves_not (meaning (program_in c.args.code.now)) c.args.self.now.mode c.args.world.now
+returns-then-not-self-clause-moves g c = g.met.M.Mode.moves_not (program_of c.args.code.now) c.args.self.now.mode c.args.world.now

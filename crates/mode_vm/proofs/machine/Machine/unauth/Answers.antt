@@ -23,11 +23,14 @@ returns-in-Err-clause-is g c z w run follows will next =
     let mid = c.pop_top-v.new.self in
     let cs = will.stack in
     let x = operand m (meaning p) z old new c.in-Err.ensures.keeps before t cs will.shows next c.requires.entered mid.top.operands.items c.pop_top-v.result c.pop_top-v.ensures.top in
-    let opens = subst (λ p. (x : Value) (w : StateOf m) → Stands m (meaning p) old c.pop_top-v.result.0 (AuthTy (type_at (types_of p) c.args.ty)) x → g.M.Mode.Follows p c.args.self.now.mode c.args.world.now old w
-    → OpensAs m (meaning p) g.M.Mode.cause (g.M.Mode.Follows p c.unauth.new.self c.unauth.new.world new) new (type_at (types_of p) c.args.ty) x w (Err c.in-Err.stop)) c.program.ensures c.in-Err.ensures.opens in
+    let opens = subst (λ p. (x : Value) (w : StateOf m) → Stands m (meaning p) old c.pop_top-v.result.0 (AuthTy (type_at (types_of p) c.args.ty)) x
+    → g.M.Mode.Follows p c.args.self.now.mode c.args.world.now old w
+    → OpensAs m (meaning p) g.M.Mode.cause (g.M.Mode.Follows p c.unauth.new.self c.unauth.new.world new) new (type_at (types_of p) c.args.ty) x w (Err c.in-Err.stop))
+    c.program.ensures c.in-Err.ensures.opens in
     let ends = subst (λ b. end_of m (meaning p) b cs before.fuel w ≡ Ran run) c.requires.entered will.ends in
     stop_is m (meaning p) z g.M.Mode.cause (g.M.Mode.Follows p c.unauth.new.self c.unauth.new.world new) new t x.x w before.fuel mid.fuel c.pop_top-v.ensures.rest.fuel run
-    (λ cause w' e. ran_is _ run _ ends (refused m (meaning p) z old new c.in-Err.ensures.keeps before t cs will.shows next c.requires.entered mid.top.operands.items c.pop_top-v.result c.pop_top-v.ensures.top before.fuel w w' cause e))
+    (λ cause w' e. ran_is _ run _ ends (refused m (meaning p) z old new c.in-Err.ensures.keeps before t cs will.shows next c.requires.entered mid.top.operands.items c.pop_top-v.result
+    c.pop_top-v.ensures.top before.fuel w w' cause e))
     c.in-Err.stop (opens x.x w x.stands follows)
 
 pub returns-in-Ok-push_top-clause-stands : goal.returns-in-Ok-push_top-clause-stands
@@ -58,8 +61,10 @@ returns-in-Ok-push_top-clause-is g c z w run follows will next =
     let mid = c.pop_top-v.new.self in
     let cs = will.stack in
     let x = operand m (meaning p) z old new c.in-Ok.ensures.keeps before t cs will.shows next c.requires.entered mid.top.operands.items c.pop_top-v.result c.pop_top-v.ensures.top in
-    let opens = subst (λ p. (x : Value) (w : StateOf m) → Stands m (meaning p) old c.pop_top-v.result.0 (AuthTy (type_at (types_of p) c.args.ty)) x → g.M.Mode.Follows p c.args.self.now.mode c.args.world.now old w
-    → OpensAs m (meaning p) g.M.Mode.cause (g.M.Mode.Follows p c.unauth.new.self c.unauth.new.world new) new (type_at (types_of p) c.args.ty) x w (Ok c.in-Ok.opened)) c.program.ensures c.in-Ok.ensures.opens in
+    let opens = subst (λ p. (x : Value) (w : StateOf m) → Stands m (meaning p) old c.pop_top-v.result.0 (AuthTy (type_at (types_of p) c.args.ty)) x
+    → g.M.Mode.Follows p c.args.self.now.mode c.args.world.now old w
+    → OpensAs m (meaning p) g.M.Mode.cause (g.M.Mode.Follows p c.unauth.new.self c.unauth.new.world new) new (type_at (types_of p) c.args.ty) x w (Ok c.in-Ok.opened))
+    c.program.ensures c.in-Ok.ensures.opens in
     let o = opens x.x w x.stands follows in
     let at = from_popped before.top mid.top c.push_top.new.self.top mid.top.operands.items c.pop_top-v.ensures.at c.in-Ok.opened c.in-Ok-push_top.ensures.at in
     let others = rest_then before mid c.push_top.new.self c.pop_top-v.ensures.rest c.in-Ok-push_top.ensures.rest in (
@@ -76,4 +81,5 @@ returns-in-Ok-push_top-clause-is g c z w run follows will next =
     )
 
 pub returns-in-Ok-push_top-clause-moves : goal.returns-in-Ok-push_top-clause-moves
-returns-in-Ok-push_top-clause-moves g c = subst (λ p. g.M.Mode.Moves (meaning p) c.args.self.now.mode c.args.world.now c.unauth.new.self c.unauth.new.world) c.program.ensures c.in-Ok.ensures.moves
+returns-in-Ok-push_top-clause-moves g c = subst (λ p. g.M.Mode.Moves (meaning p) c.args.self.now.mode c.args.world.now c.unauth.new.self c.unauth.new.world) c.program.ensures
+    c.in-Ok.ensures.moves

@@ -1,10 +1,11 @@
 use Rattle.std.proofs.Common.{subst, refl, sym, true, Ok}
 use Rattle.mode_vm.specs.declared.state.State.{State}
-use Rattle.core_terms.specs.LanguagePrograms.{meaning, types_of}
+use Rattle.core_terms.specs.LanguagePrograms.{types_of}
 use Rattle.code_gen.specs.Programs.{program_in}
 use Rattle.code_gen.specs.CodeTrees.{instruction_of}
 use Rattle.mode_vm.specs.Machines.{IsNext}
 use Rattle.mode_vm.specs.Outcomes.{Leads}
+use Rattle.mode_vm.specs.Meanings.{program_of}
 use Rattle.mode_vm.proofs.OwnInstructions.{own}
 use Rattle.mode_vm.proofs.Lifting.{lifted}
 use Rattle.mode_vm.proofs.state.State.act.Goals as goal
@@ -22,10 +23,11 @@ give_back-requires-clause-before g c =
 pub returns-in_ok-trapped-in_default : goal.returns-in_ok-trapped-in_default
 returns-in_ok-trapped-in_default g c = record {
   leads = λ m z cs shows next.
-      let P = meaning (program_in c.args.code.now) in
+      let P = program_of c.args.code.now in
       let after : State = record { fuel = c.args.self.now.fuel; entered = c.args.self.now.entered; top = c.act.new.self; waiting = c.args.self.now.waiting } in
       subst (λ s. Leads m P z (g.N.Nodes.nodes c.act.new.store) {E = Unit {0}} true c.args.self.now.fuel cs after (Ok s)) (sym c.step_of.ensures)
-      (lifted m P (g.N.Nodes.nodes c.args.store.now) (g.N.Nodes.nodes c.act.new.store) c.act.ensures.keeps (Unit {0}) z c.args.self.now after cs shows c.requires.entered refl refl refl c.in_ok-trapped-in_default.trapped
+      (lifted m P (g.N.Nodes.nodes c.args.store.now) (g.N.Nodes.nodes c.act.new.store) c.act.ensures.keeps
+      (Unit {0}) z c.args.self.now after cs shows c.requires.entered refl refl refl c.in_ok-trapped-in_default.trapped
       (c.in_ok-trapped-in_default.ensures.does m cs.top (record { top = shows.top; next = next })));
   fuel = refl;
   keeps = c.act.ensures.keeps;
