@@ -137,13 +137,13 @@ fn a_state_is_stored_as_its_projection(rt: HostRuntime) -> Result<(), Fail> {
     Ok(())
 }
 
-// The seventh call of the files is that of `store`: a projection that is not stored is not told.
+// The seventh call of the files is that of `store`, which is recorded whatever it answers: a projection that is not stored is not told.
 #[test]
 fn a_projection_is_stored_before_it_is_told(rt: HostRuntime) -> Result<(), Fail> {
     let stage = staged(FIRST, b"", FIRST_IMAGE);
     let words = ["shallow", "p", "q", "o"];
     let run = run_failing(rt.alloc(), &stage, &words, &[6], (100, &[]))?;
-    assert!(rt; run.tells(9, "") && run.stored == 0);
+    assert!(rt; run.tells(9, "") && run.stored == 1);
     Ok(())
 }
 
