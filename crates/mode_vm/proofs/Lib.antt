@@ -33,7 +33,7 @@ pub mod Stepping
 pub mod Slicing
 -- the ideal mode, over ideal nodes and the prover's, and runs in it
 pub mod IdealOpenings
-pub mod Digesting
+pub mod Digested
 pub mod IdealOutcomes
 -- the law `growing`
 pub mod Growing

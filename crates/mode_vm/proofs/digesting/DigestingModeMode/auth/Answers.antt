@@ -3,7 +3,7 @@ use Rattle.core_terms.specs.LanguagePrograms.{meaning, types_of}
 use Rattle.core_terms.specs.Projection.{digest_at, projection}
 use Rattle.core_terms.specs.TypeTables.{type_at}
 use Rattle.value_store.specs.Standing.{ProverNodes}
-use Rattle.mode_vm.proofs.Digesting.{may_be_held, projected}
+use Rattle.mode_vm.proofs.Digested.{may_be_held, projected}
 use Rattle.mode_vm.proofs.digesting.DigestingModeMode.auth.Goals as goal
 
 pub spell-requires : goal.spell-requires
@@ -12,11 +12,11 @@ spell-requires g c =
     let P = meaning c.args.program.now in
     let t = type_at (types_of c.args.program.now) c.args.ty in
     let x = c.requires.stands.0 in
-    (projection hash P t x, projected hash P (g.N.Nodes.nodes c.args.store.now) t x c.args.v.0 g.met.H.Hash32.digest_length c.requires.stands.1)
+    (projection hash P t x, projected hash c.args.program.now (g.N.Nodes.nodes c.args.store.now) t x c.args.v.0 g.met.H.Hash32.digest_length c.requires.stands.1)
 
 pub put_auth-requires : goal.put_auth-requires
 put_auth-requires g c = record {
-  inner = may_be_held g.H.Hash32.hash (meaning c.args.program.now) (g.N.Nodes.nodes c.args.store.now)
+  inner = may_be_held g.H.Hash32.hash c.args.program.now (g.N.Nodes.nodes c.args.store.now)
       (type_at (types_of c.args.program.now) c.args.ty) c.requires.stands.0 c.args.v.0 [] c.requires.stands.1;
 }
 
