@@ -14,10 +14,10 @@ use Rattle.lexemes.specs.declared.fault.SyntaxKind.{SyntaxKind}
 use Rattle.lexemes.specs.declared.fault.SyntaxKind.TheVariants as syntax
 use Rattle.printed_syntax.specs.declared.fault.LiteralKind.{LiteralKind}
 use Rattle.printed_syntax.specs.declared.fault.LiteralKind.TheVariants as literal
-use Rattle.auth_types.specs.declared.fault.TypeKind.{TypeKind}
-use Rattle.auth_types.specs.declared.fault.TypeKind.TheVariants as typing
-use Rattle.auth_types.specs.declared.fault.Limited.{Limited}
-use Rattle.auth_types.specs.declared.fault.Limited.TheVariants as limited
+use Rattle.declared_types.specs.declared.fault.TypeKind.{TypeKind}
+use Rattle.declared_types.specs.declared.fault.TypeKind.TheVariants as typing
+use Rattle.declared_types.specs.declared.fault.Limited.{Limited}
+use Rattle.declared_types.specs.declared.fault.Limited.TheVariants as limited
 use Rattle.printed_lines.specs.declared.refusal.ProgramKind.{ProgramKind}
 use Rattle.printed_lines.specs.declared.refusal.ProgramKind.TheVariants.{Syntax, Typing}
 use Rattle.printed_lines.specs.declared.refusal.Argument.{Argument}
