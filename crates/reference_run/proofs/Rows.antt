@@ -1,6 +1,5 @@
 -- The run of terms in a row, by the values so far and the terms that are left.
-use Rattle.std.proofs.Common.{◌≡◌, ℕ, suc, ◌+◌, ◌<◌, ◌≤◌, List, [], ◌∷◌, ◌++◌, length, map, drop, slice_index_or, Result, Ok, Err, refl, sym, ap, ◌∙◌, subst}
-use Rattle.std.proofs.lemmas.List.{drop_more}
+use Rattle.std.proofs.Common.{◌≡◌, ℕ, zero, suc, ◌≤◌, List, [], ◌∷◌, ◌++◌, length, drop, refl, ap, ◌∙◌, arith}
 use Rattle.core_terms.specs.Values.{Value, Values, NoV, AndV}
 use Rattle.core_terms.specs.Terms.{Expression, NoE, AndE}
 use Rattle.core_terms.specs.LanguageTrees.{in_a_row}
@@ -46,3 +45,10 @@ module _ (P : tree.Program) (nesting : ℕ) (env : Values) where
       → eval P nesting x env k seen ≡ Gives v m after → ahead vs (rest (x ∷ xs) k seen) ≡ ahead (join vs (AndV v NoV)) (rest xs m after)
   one_ahead vs x xs k seen v m after e =
       ap (λ run. ahead vs (then_run run (λ v k seen. then_run (rest xs k seen) (λ us k seen. Gives (AndV v us) k seen)))) e ∙ pushed vs v (rest xs m after)
+
+-- none is left
+pub none_left : {A : Type 0} (xs : List A) (n : ℕ) → length xs ≤ n → drop n xs ≡ []
+none_left [] zero h = refl
+none_left [] (suc n) h = refl
+none_left (x ∷ xs) zero h = absurd (omega (arith, h))
+none_left (x ∷ xs) (suc n) h = let k : length xs ≤ n = omega (arith, h) in none_left xs n k

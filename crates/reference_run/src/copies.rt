@@ -77,9 +77,8 @@ pub(crate) fn with_locals(
     ensures { IfOk result (λ all. plains_of all.items ≡ meant.join (plains_of locals.now) (plains_of more.items)) }
 {
     let mut all = all_copied(locals, alloc)?;
-    for value in more {
-        all.push(value)?;
-    }
+    let mut more = more;
+    all.append(&mut more)?;
     Ok(all)
 }
 

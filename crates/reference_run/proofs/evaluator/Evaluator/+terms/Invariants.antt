@@ -15,10 +15,10 @@ use Rattle.reference_run.proofs.evaluator.Evaluator.+terms.Given as goal
 -- the run of the row is that of the terms left, with the values so far before it
 abbrev pub invariant-row-loop-term : goal.invariant-row-loop-term
 invariant-row-loop-term l =
-    (l.fuel.now ≤ l.fn.fuel.now) × (IsWhole l.self.now → (nesting : ℕ) (seen : List Opened) → l.fn.fuel.now ≤ nesting → (after : List Opened)
-    × (eval_all (program_of l.self.now) nesting (in_a_row (map (expression l.self.now) l.terms.now)) (plains_of l.locals.now) l.fn.fuel.now seen
+    (l.fuel ≤ l.fn.fuel) × (IsWhole l.self → (nesting : ℕ) (seen : List Opened) → l.fn.fuel ≤ nesting → (after : List Opened)
+    × (eval_all (program_of l.self) nesting (in_a_row (map (expression l.self) l.terms)) (plains_of l.locals) l.fn.fuel seen
     ≡ ahead (plains_of l.values.items)
-    (eval_all (program_of l.self.now) nesting (in_a_row (map (expression l.self.now) (drop l.term-index l.terms.now))) (plains_of l.locals.now) l.fuel.now after)))
+    (eval_all (program_of l.self) nesting (in_a_row (map (expression l.self) (drop l.term-index l.terms))) (plains_of l.locals) l.fuel after)))
 
 abbrev pub decreases-eval : goal.decreases-eval
 decreases-eval l = l.fuel.now * weight l.self.now.functions.now + 4 * goal.size-eval l
