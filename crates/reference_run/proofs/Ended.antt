@@ -12,20 +12,20 @@ use Rattle.reference_run.specs.declared.stop.Stop.TheVariants.{Trapped, Out, NoM
 use Rattle.reference_run.specs.declared.values.Plain.{Plain}
 
 -- a run that is over is over with whatever goes on behind it
-pub ended : {R S A B : Type 0} (of : R → A) (as : S → B) (k : ℕ) (stop : Stop) (run : Evaluation A) (go : A → ℕ → List Opened → Evaluation B)
-    → Tells of k (Err stop) run → Tells as k (Err stop) (then_run run go)
-ended of as k (Trapped trap) run go h = (h.0, ap (λ run. then_run run go) h.1)
-ended of as k Out run go h = (h.0, ap (λ run. then_run run go) h.1)
-ended of as k NoMemory run go h = tt
+pub ended : {R S A B : Type 0} (of : R → A) (into : S → B) (k : ℕ) (stop : Stop) (run : Evaluation A) (go : A → ℕ → List Opened → Evaluation B)
+    → Tells of k (Err stop) run → Tells into k (Err stop) (then_run run go)
+ended of into k (Trapped trap) run go h = (h.0, ap (λ run. then_run run go) h.1)
+ended of into k Out run go h = (h.0, ap (λ run. then_run run go) h.1)
+ended of into k NoMemory run go h = tt
 
 -- what is told of what goes on behind a value is told of the whole
-pub goes_on : {S A B : Type 0} (as : S → B) (v : A) (k m : ℕ) (seen : List Opened) (run : Evaluation A) (go : A → ℕ → List Opened → Evaluation B) (result : Result S Stop)
-    → run ≡ Gives v k seen → Tells as m result (go v k seen) → Tells as m result (then_run run go)
-goes_on as v k m seen run go result e h = subst (λ run. Tells as m result (then_run run go)) (sym e) h
+pub goes_on : {S A B : Type 0} (into : S → B) (v : A) (k m : ℕ) (seen : List Opened) (run : Evaluation A) (go : A → ℕ → List Opened → Evaluation B) (result : Result S Stop)
+    → run ≡ Gives v k seen → Tells into m result (go v k seen) → Tells into m result (then_run run go)
+goes_on into v k m seen run go result e h = subst (λ run. Tells into m result (then_run run go)) (sym e) h
 
 -- where memory was wanting nothing is told
-pub untold : {S B : Type 0} (as : S → B) (m : ℕ) (stop : Stop) (run : Evaluation B) → stop ≡ NoMemory → Tells as m (Err stop) run
-untold as m stop run e = subst (λ stop. Tells as m (Err stop) run) (sym e) tt
+pub untold : {S B : Type 0} (into : S → B) (m : ℕ) (stop : Stop) (run : Evaluation B) → stop ≡ NoMemory → Tells into m (Err stop) run
+untold into m stop run e = subst (λ stop. Tells into m (Err stop) run) (sym e) tt
 
 -- what is authenticated is its value, and what is opened is noted
 pub authenticated : (m : ℕ) (result : Result Plain Stop) (run : Evaluation Value) → Tells plain_of m result run → Tells plain_of m result (then_run run (λ v k seen. Gives v k seen))
@@ -60,6 +60,6 @@ pub chosen_other : (b : Bool) (first other : Values → ℕ → List Opened → 
 chosen_other b first other env k m seen result e h = subst (λ b. Tells plain_of m result (choose b first other env k seen)) (sym e) h
 
 -- a stop that is handed on tells what it told
-pub handed_on : {S B : Type 0} (as : S → B) (m : ℕ) (result : Result S Stop) (stop : Stop) (run : Evaluation B) → IsErrAnd result (λ s. s ≡ stop) → Tells as m (Err stop) run → Tells as m result run
-handed_on as m (Ok v) stop run e h = elim e [ ]
-handed_on as m (Err s) stop run e h = subst (λ s. Tells as m (Err s) run) (sym e) h
+pub handed_on : {S B : Type 0} (into : S → B) (m : ℕ) (result : Result S Stop) (stop : Stop) (run : Evaluation B) → IsErrAnd result (λ s. s ≡ stop) → Tells into m (Err stop) run → Tells into m result run
+handed_on into m (Ok v) stop run e h = elim e [ ]
+handed_on into m (Err s) stop run e h = subst (λ s. Tells into m (Err s) run) (sym e) h

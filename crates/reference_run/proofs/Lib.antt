@@ -10,6 +10,7 @@ pub mod Weights
 -- values and their measures
 pub mod ValueViews
 pub mod RowMeasures
+pub mod EmptyText
 pub mod Limits
 pub mod Calculated
 pub mod PassedInts

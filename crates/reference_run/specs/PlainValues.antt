@@ -1,7 +1,9 @@
 -- The values that the code holds, as ideal values of the definitions.
-use Rattle.std.specs.Prelude.{List, [], ◌∷◌, map}
+use Rattle.std.specs.Prelude.{ℕ, List, [], ◌∷◌, map, Option, Some, None}
+use Rattle.std.specs.Borrow.{Bor}
 use Rattle.core_terms.specs.Values.{Value, UnitV, BoolV, IntV, TextV, PairV, ConV, Values, NoV, AndV}
 use Rattle.core_terms.specs.Texts.{bytes_of}
+use Rattle.core_terms.specs.declared.term.Text.{Text}
 use Rattle.reference_run.specs.declared.values.Plain.{Plain}
 use Rattle.reference_run.specs.declared.values.Plain.TheOpen.{Plain-F}
 use Rattle.reference_run.specs.declared.values.Plain.TheFolds.{fold-Plain}
@@ -25,3 +27,8 @@ plain_of = fold-Plain Value value_from_parts
 
 abbrev pub plains_of : List Plain → Values
 plains_of vs = row_of (map plain_of vs)
+
+-- the bytes of a text, or none
+abbrev pub text_bytes : Option (Bor Text) → List ℕ
+text_bytes (Some text) = bytes_of text.now
+text_bytes None = []

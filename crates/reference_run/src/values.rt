@@ -7,7 +7,7 @@ ghost use Rattle.std.specs.Str.{is_utf8};
 ghost use Rattle.core_terms.specs.Values.{PairV};
 ghost use Rattle.core_terms.specs.Texts.{bytes_of};
 ghost use Rattle.ideal_meaning.specs.Run as meant;
-ghost use Rattle.reference_run.specs.PlainValues.{plain_of, plains_of};
+ghost use Rattle.reference_run.specs.PlainValues.{plain_of, plains_of, text_bytes};
 
 use core_terms::Text;
 use core_terms::language::Tag;
@@ -60,14 +60,25 @@ pub(crate) fn int_in(value: &Plain) -> i64
 }
 
 /// The bytes of the text that a value is.
+#[tactic(auto, using(crate::proofs::EmptyText::no_bytes))]
 pub(crate) fn text_in(value: &Plain) -> &[u8]
     ensures text { result.now ≡ meant.text_in (plain_of value.now) }
     ensures utf8 { is_utf8 result.now ≡ true }
     ensures fits { length result.now ≤ 65532 }
 {
+    match text_of(value) {
+        Some(text) => text.as_bytes(),
+        None => &[],
+    }
+}
+
+/// The text that a value is, if it is one.
+fn text_of(value: &Plain) -> Option<&Text>
+    ensures { text_bytes result ≡ meant.text_in (plain_of value.now) }
+{
     match value {
-        Plain::TextValue(text) => text.as_bytes(),
-        _ => &[],
+        Plain::TextValue(text) => Some(text),
+        _ => None,
     }
 }
 

@@ -10,7 +10,6 @@ pub all_copied-loop-value-preserved : goal.all_copied-loop-value-preserved
 all_copied-loop-value-preserved t c =
     let values = c.args.values.now in
     let i = c.loop-value.value-index in
-    let v = c.value-item.result.now in
     ap plains_of c.in_ok-push.ensures.items ∙ joined c.loop-value.copies.items (c.in_ok-copy.copy ∷ [])
     ∙ ap₂ (λ vs v. join vs (AndV v NoV)) c.loop-value.invariant (c.in_ok-copy.ensures ∙ ap plain_of c.value-item.is)
-    ∙ sym (ap plains_of (take_more values i v c.loop-value-test.true) ∙ joined (take i values) _)
+    ∙ sym (ap plains_of (take_more values i c.value-item.result c.loop-value-test.true) ∙ joined (take i values) _)

@@ -52,7 +52,7 @@ row_measures-loop-place-preserved t c =
     let ts = types_at (types_of c.args.program.now) ids in
     let values = c.args.values.now in
     let i = c.loop-place.place in
-    let v = c.index-values-place.result.now in
+    let v = c.index-values-place.result in
     elim c.match-get.branch [
       row_measures-in-Some w ↦
           let lookup = w.in-Some.ensures.lookup in

@@ -1,3 +1,4 @@
+use denote.Param.Weighed.{at_most, most}
 use Rattle.std.proofs.Common.{◌≡◌, ◌≤◌, ◌<◌, ◌+◌, ◌*◌, ◌∷◌, ◌++◌, ◌∙◌, ℕ, suc, List, [], Result, Ok, Err, map, drop, refl, sym, ap, subst, arith}
 use Rattle.std.proofs.lemmas.List.{drop_more}
 use Rattle.core_terms.specs.LanguagePrograms.{types_of}
@@ -7,7 +8,7 @@ use Rattle.core_terms.specs.Texts.{bytes_of}
 use Rattle.core_terms.specs.TypeTables.{type_at}
 use Rattle.core_terms.specs.Types.{NamedTy, PairTy, TextTy}
 use Rattle.core_terms.specs.Values.{AndV, BoolV, ConV, IntV, NoV, PairV, TextV}
-use Rattle.core_terms.specs.declared.language.term.Term.{Term}
+use Rattle.core_terms.specs.declared.language.term.Term.TheViews.{size-Term}
 use Rattle.core_terms.proofs.TermViews.{expression-UnitLiteral, expression-BoolLiteral, expression-IntLiteral, expression-TextLiteral, expression-Local, expression-Pair, expression-Fst, expression-Snd, expression-Not, expression-Len, expression-Auth, expression-Unauth, expression-Constructor, expression-Arith, expression-Compare, expression-TextCompare, expression-Cat, expression-Let, expression-If, expression-Match, expression-Call}
 use Rattle.ideal_meaning.specs.Ideal.{ideal_mode}
 use Rattle.ideal_meaning.specs.Run as meant
@@ -16,9 +17,12 @@ use Rattle.ideal_meaning.specs.Table.{eval, eval_all, eval_arm}
 use Rattle.reference_run.specs.Evaluations.{eval_both, expression, program_of}
 use Rattle.reference_run.specs.PlainValues.{plain_of, plains_of}
 use Rattle.reference_run.specs.Telling.{Tells, pair_values, row_values}
+use Rattle.reference_run.specs.declared.stop.Stop.TheVariants.{Out}
+use Rattle.reference_run.specs.declared.values.Plain as plain
 use Rattle.reference_run.proofs.Called.{arm_past, arm_there, called, called_out, called_past}
 use Rattle.reference_run.proofs.Ended.{authenticated, chosen_first, chosen_other, ended, goes_on, handed_on, opened}
 use Rattle.reference_run.proofs.Locals.{found, past}
+use Rattle.reference_run.proofs.PassedInts.{kept}
 use Rattle.reference_run.proofs.Rows.{ahead, ahead_none, join_none, joined, none_left, one_ahead}
 use Rattle.reference_run.proofs.Steps.{as_term, one_part, row_parts, two_parts}
 use Rattle.reference_run.proofs.ValueViews.{plain-BoolValue, plain-IntValue, plain-TextValue, plain-UnitValue}
@@ -53,7 +57,7 @@ eval-returns-in-IntLiteral-clause-value t c = λ whole nesting seen h.
     let env = plains_of c.args.locals.now in
     let k = c.args.fuel.now in
     let is = ap (expression e) c.in-IntLiteral.is ∙ expression-IntLiteral T c.in-IntLiteral.value in
-    (seen, ap (λ E. eval P nesting E env k seen) is ∙ ap (λ v. Gives v k seen) (sym (plain-IntValue c.in-IntLiteral.value)))
+    (seen, ap (λ E. eval P nesting E env k seen) is ∙ ap (λ v. Gives v k seen) (sym (plain-IntValue _ ∙ ap IntV (kept c.in-IntLiteral.value (omega arith)))))
 
 pub eval-returns-in_ok-copied_text-in-TextLiteral-clause-value : goal.eval-returns-in_ok-copied_text-in-TextLiteral-clause-value
 eval-returns-in_ok-copied_text-in-TextLiteral-clause-value t c = λ whole nesting seen h.
@@ -157,7 +161,7 @@ eval-returns-in-Unauth-clause-value t c = λ whole nesting seen h.
     let is = ap (expression e) c.in-Unauth.is ∙ expression-Unauth T _ c.in-Unauth.x in
     let told = subst (λ x. Tells plain_of c.eval-in-Unauth.new.fuel c.eval-in-Unauth.result (eval P nesting (expression e x) env k seen)) c.deref-in-Unauth.ensures (c.eval-in-Unauth.ensures.value whole nesting seen h) in
     as_term e env nesting k c.eval-in-Unauth.new.fuel seen c.eval-in-Unauth.result c.args.term.now _ is
-    (opened (type_at T c.in-Unauth.ty) c.eval-in-Unauth.new.fuel c.eval-in-Unauth.result (eval P nesting (expression e c.in-Unauth.x.value) env k seen) told)
+    (opened _ c.eval-in-Unauth.new.fuel c.eval-in-Unauth.result (eval P nesting (expression e c.in-Unauth.x.value) env k seen) told)
 
 pub eval-returns-in-Pair-clause-value : goal.eval-returns-in-Pair-clause-value
 eval-returns-in-Pair-clause-value t c = λ whole nesting seen h.
@@ -280,9 +284,11 @@ both-returns-in_err-y-clause-value t c = λ whole nesting seen h.
     let k = c.args.fuel.now in
     let x = c.in_ok-x.ensures.value whole nesting seen h in
     let le : c.eval.new.fuel ≤ nesting = omega (arith, c.eval.ensures.fuel, h) in
+    let u = plain_of c.in_ok-x.x in
     handed_on pair_values c.eval-2.new.fuel c.from_residual-in_err-y.result c.in_err-y.field-0.0 _ c.from_residual-in_err-y.ensures.1
-    (goes_on pair_values _ c.eval.new.fuel c.eval-2.new.fuel x.0 (eval P nesting (expression e c.args.x.now) env k seen) _ _ x.1
-    (ended plain_of pair_values c.eval-2.new.fuel c.in_err-y.field-0.0 (eval P nesting (expression e c.args.y.now) env c.eval.new.fuel x.0) _ (c.in_err-y.ensures.value whole nesting x.0 le)))
+    (goes_on pair_values u c.eval.new.fuel c.eval-2.new.fuel x.0 (eval P nesting (expression e c.args.x.now) env k seen)
+    (λ u k seen. then_run (eval P nesting (expression e c.args.y.now) env k seen) (λ v k seen. Gives (u, v) k seen)) (Err c.in_err-y.field-0.0) x.1
+    (ended plain_of pair_values c.eval-2.new.fuel c.in_err-y.field-0.0 (eval P nesting (expression e c.args.y.now) env c.eval.new.fuel x.0) (λ v k seen. Gives (u, v) k seen) (c.in_err-y.ensures.value whole nesting x.0 le)))
 
 pub both-returns-clause-value : goal.both-returns-clause-value
 both-returns-clause-value t c = λ whole nesting seen h.
@@ -443,7 +449,7 @@ call-returns-in_default-clause-value t c = λ whole nesting run h told.
     let given = c.in_ok-arguments.arguments in
     let args : Tells row_values k (Ok given) run = subst (λ o. Tells row_values k o run) c.in_ok-arguments.was told in
     let vs = plains_of given.items in
-    goes_on plain_of vs k k args.0 run _ _ args.1 (args.0, called_out P nesting f vs k args.0 (omega (arith, c.in_default.ensures)))
+    goes_on plain_of vs k k args.0 run (meant.call P ideal_mode nesting f) (Err Out) args.1 (args.0, called_out P nesting f vs k args.0 (omega (arith, c.in_default.ensures)))
 
 pub call-returns-in-Some-get-clause-value : goal.call-returns-in-Some-get-clause-value
 call-returns-in-Some-get-clause-value t c = λ whole nesting run h told.
@@ -473,7 +479,7 @@ call-returns-clause-value t c = λ whole nesting run h told.
     let args : Tells row_values k (Ok given) run = subst (λ o. Tells row_values k o run) c.in_ok-arguments.was told in
     let vs = plains_of given.items in
     let left = c.in-Some.left in
-    goes_on plain_of vs k left args.0 run _ _ args.1
+    goes_on plain_of vs k left args.0 run (meant.call P ideal_mode nesting f) (Ok plain.UnitValue) args.1
     (args.0, called_past e whole f (past e.functions.now f c.in-None.ensures.lookup.3) nesting vs k left args.0 (omega (arith, c.in-Some.ensures)) h ∙ ap (λ v. Gives v left args.0) (sym plain-UnitValue))
 
 pub row-loop-term-init : goal.row-loop-term-init
@@ -487,7 +493,7 @@ row-returns-in_err-value-clause-value t c = λ whole nesting seen h.
     let env = plains_of c.args.locals.now in
     let terms = c.args.terms.now in
     let i = c.loop-term.term-index in
-    let x = c.term-item.result.now in
+    let x = c.term-item.result in
     let so_far = c.loop-term.invariant.1 whole nesting seen h in
     let le : c.loop-term.fuel ≤ nesting = omega (arith, c.loop-term.invariant.0, h) in
     let vs = plains_of c.loop-term.values.items in
@@ -510,7 +516,7 @@ row-loop-term-preserved t c = (omega (arith, c.eval.ensures.fuel, c.loop-term.in
     let env = plains_of c.args.locals.now in
     let terms = c.args.terms.now in
     let i = c.loop-term.term-index in
-    let x = c.term-item.result.now in
+    let x = c.term-item.result in
     let so_far = c.loop-term.invariant.1 whole nesting seen h in
     let le : c.loop-term.fuel ≤ nesting = omega (arith, c.loop-term.invariant.0, h) in
     let vs = plains_of c.loop-term.values.items in
@@ -544,3 +550,28 @@ choice-eval-requires-then-bool_in t c = let less = less_fuel c.args.self.now.fun
 
 pub choice-eval-requires-else-bool_in : goal.choice-eval-requires-else-bool_in
 choice-eval-requires-else-bool_in t c = let less = less_fuel c.args.self.now.functions.now c.eval.new.fuel c.args.fuel.now c.eval.ensures.fuel in (omega (arith, less, c.decreases), tt)
+
+pub arm-eval-requires-in-Some : goal.arm-eval-requires-in-Some
+arm-eval-requires-in-Some t c =
+    let arms = c.args.arms.now in
+    let arm = c.in-Some.arm.now in
+    let lookup = c.in-Some.ensures.lookup in
+    let less = less_fuel c.args.self.now.functions.now c.eval.new.fuel c.args.fuel.now c.eval.ensures.fuel in
+    let least = subst (λ a. size-Term a ≤ most size-Term arms) (sym lookup.1) (at_most size-Term arms c.tag_in-tag.result arm lookup.3.0) in
+    (omega (arith, less, least, c.decreases), tt)
+
+pub row-eval-requires : goal.row-eval-requires
+row-eval-requires t c =
+    let terms = c.args.terms.now in
+    let less = less_fuel c.args.self.now.functions.now c.loop-term.fuel c.args.fuel.now c.loop-term.invariant.0 in
+    let least = subst (λ a. size-Term a ≤ most size-Term terms) (sym c.term-item.is) (at_most size-Term terms c.loop-term.term-index _ c.loop-term-test.true) in
+    (omega (arith, less, least, c.decreases), tt)
+
+pub call-eval-requires : goal.call-eval-requires
+call-eval-requires t c =
+    let functions = c.args.self.now.functions.now in
+    let f = c.args.function.0 in
+    let g = c.in-Some-get.function.now in
+    let lookup = c.in-Some-get.ensures.lookup in
+    let one : suc c.in-Some.left ≡ c.args.fuel.now = omega (arith, c.in-Some.ensures) in
+    (omega (arith, next_call functions c.in-Some.left c.args.fuel.now f g one (found functions f g lookup.3.0 lookup.1), c.decreases), tt)
