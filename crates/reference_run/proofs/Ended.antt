@@ -60,6 +60,7 @@ pub chosen_other : (b : Bool) (first other : Values → ℕ → List Opened → 
 chosen_other b first other env k m seen result e h = subst (λ b. Tells plain_of m result (choose b first other env k seen)) (sym e) h
 
 -- a stop that is handed on tells what it told
-pub handed_on : {S B : Type 0} (into : S → B) (m : ℕ) (result : Result S Stop) (stop : Stop) (run : Evaluation B) → IsErrAnd result (λ s. s ≡ stop) → Tells into m (Err stop) run → Tells into m result run
+pub handed_on : {S B : Type 0} (into : S → B) (m : ℕ) (result : Result S Stop) (stop : Stop) (run : Evaluation B) → IsErrAnd result (λ s. s ≡ stop) → Tells into m (Err stop) run
+    → Tells into m result run
 handed_on into m (Ok v) stop run e h = elim e [ ]
 handed_on into m (Err s) stop run e h = subst (λ s. Tells into m (Err s) run) (sym e) h

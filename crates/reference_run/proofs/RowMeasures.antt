@@ -73,7 +73,8 @@ module _ (types : Table) where
       sizes_more ts vs i v inside ∙ ap₂ (λ o w. sizes types ts (plains_of (take i vs)) + size_at o (plain_of w)) at (sym is) in
       let d : depths types ts (plains_of (take (i + 1) vs)) ≡ max (depths types ts (plains_of (take i vs))) (depth types t (plain_of v)) =
       depths_more ts vs i v inside ∙ ap₂ (λ o w. max (depths types ts (plains_of (take i vs))) (depth_at o (plain_of w))) at (sym is) in
-      subst (λ n. IsMeasured row n (depths types ts (plains_of (take (i + 1) vs)))) (sym s) (subst (λ n. IsMeasured row (sizes types ts (plains_of (take i vs)) + size types t (plain_of v)) n) (sym d) h)
+      subst (λ n. IsMeasured row n (depths types ts (plains_of (take (i + 1) vs)))) (sym s) (subst
+      (λ n. IsMeasured row (sizes types ts (plains_of (take i vs)) + size types t (plain_of v)) n) (sym d) h)
 
   pub same_measures : (ts : List Ty) (vs : List Plain) (i : ℕ) (v : Plain) (row : Measures) → i < length vs → slice_get ts i ≡ None
       → IsMeasured row (sizes types ts (plains_of (take i vs))) (depths types ts (plains_of (take i vs)))
@@ -82,7 +83,8 @@ module _ (types : Table) where
       let s : sizes types ts (plains_of (take i vs)) ≡ sizes types ts (plains_of (take (i + 1) vs)) =
       sym (sizes_more ts vs i v inside ∙ ap (λ o. sizes types ts (plains_of (take i vs)) + size_at o (plain_of (slice_index_or vs i v))) at ∙ nothing (sizes types ts (plains_of (take i vs)))) in
       let d : depths types ts (plains_of (take i vs)) ≡ depths types ts (plains_of (take (i + 1) vs)) =
-      sym (depths_more ts vs i v inside ∙ ap (λ o. max (depths types ts (plains_of (take i vs))) (depth_at o (plain_of (slice_index_or vs i v)))) at ∙ least (depths types ts (plains_of (take i vs)))) in
+      sym (depths_more ts vs i v inside ∙ ap (λ o. max (depths types ts (plains_of (take i vs))) (depth_at o (plain_of (slice_index_or vs i v)))) at
+      ∙ least (depths types ts (plains_of (take i vs)))) in
       subst (λ n. IsMeasured row n (depths types ts (plains_of (take (i + 1) vs)))) s (subst (λ n. IsMeasured row (sizes types ts (plains_of (take i vs))) n) d h)
 
 -- the type at a place

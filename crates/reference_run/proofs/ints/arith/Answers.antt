@@ -24,7 +24,8 @@ returns-in-Ok c =
 
 pub returns : goal.returns
 returns c =
-    behind pair_values (λ xy k seen. meant.arith_of c.args.op (meant.int_in xy.0) (meant.int_in xy.1) k seen) c.args.operands (c.in_ok-x.x, c.in_ok-x.y) (Err (Trapped c.in-Err.trap)) c.in_ok-x.was (λ k seen. (
+    behind pair_values (λ xy k seen. meant.arith_of c.args.op (meant.int_in xy.0) (meant.int_in xy.1) k seen) c.args.operands (c.in_ok-x.x, c.in_ok-x.y) (Err (Trapped c.in-Err.trap))
+    c.in_ok-x.was (λ k seen. (
       seen,
       sym (ap₂ (λ x y. meant.arith_of c.args.op x y k seen) (kept c.int_in.result (omega arith) ∙ c.int_in.ensures) (kept c.int_in-2.result (omega arith) ∙ c.int_in-2.ensures))
           ∙ c.in-Err.ensures k seen,

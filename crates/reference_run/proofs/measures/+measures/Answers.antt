@@ -25,7 +25,8 @@ pair_measures-returns-in-PairValue t c =
     let b = type_at (types_of c.args.program.now) c.args.second in
     let x = plain_of c.in-PairValue.x.value in
     let y = plain_of c.in-PairValue.y.value in
-    let left : IsMeasured c.measured.result (size types a x) (depth types a x) = subst (λ v. IsMeasured c.measured.result (size types a (plain_of v)) (depth types a (plain_of v))) c.deref.ensures c.measured.ensures in
+    let left : IsMeasured c.measured.result (size types a x) (depth types a x) = subst (λ v. IsMeasured c.measured.result (size types a (plain_of v)) (depth types a (plain_of v)))
+    c.deref.ensures c.measured.ensures in
     let right : IsMeasured c.measured-in-PairValue.result (size types b y) (depth types b y) =
     subst (λ v. IsMeasured c.measured-in-PairValue.result (size types b (plain_of v)) (depth types b (plain_of v))) c.deref-in-PairValue.ensures c.measured-in-PairValue.ensures in
     let same : 0 + (size types a x + size types b y) ≡ size types a x + size types b y = omega arith in
@@ -62,6 +63,7 @@ row_measures-loop-place-preserved t c =
           (type_there (types_of c.args.program.now) ids i ty (found ids i ty lookup.3.0 lookup.1)) (w.beside-row.ensures _ _ _ _ c.loop-place.invariant w.measured.ensures))
     | row_measures-in_default w ↦
           subst (λ row. IsMeasured row (sizes table ts (plains_of (take (i + 1) values))) (depths table ts (plains_of (take (i + 1) values)))) (sym w.row-is)
-          (same_measures table ts values i v c.loop-place.row c.loop-place-test.true (type_past (types_of c.args.program.now) ids i (none_past ids i c.get.result w.in_default.not-Some c.get.ensures.lookup))
+          (same_measures table ts values i v c.loop-place.row c.loop-place-test.true (type_past (types_of c.args.program.now) ids i (none_past ids i
+          c.get.result w.in_default.not-Some c.get.ensures.lookup))
           c.loop-place.invariant)
     ]

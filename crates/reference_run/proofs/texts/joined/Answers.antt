@@ -34,5 +34,6 @@ returns c = λ k seen.
     let long = length-append c.args.x.now c.args.y.now in
     let fits : size P.types TextTy (TextV both) ≤ P.format.limit = omega (arith, long, c.spelling_limit.ensures, c.if-x-y.false) in
     let shallow : depth P.types TextTy (TextV both) ≤ depth_limit = omega arith in
-    let same : bytes_of c.new.result ≡ both = c.new.ensures ∙ c.in_ok-extend_from_slice.ensures.items ∙ ap (λ bytes. bytes ++ c.args.y.now) (c.in_ok-bytes.ensures.items_if_clones_equal (λ x y e. e)) in
+    let same : bytes_of c.new.result ≡ both = c.new.ensures ∙ c.in_ok-extend_from_slice.ensures.items ∙ ap (λ bytes. bytes ++
+    c.args.y.now) (c.in_ok-bytes.ensures.items_if_clones_equal (λ x y e. e)) in
     (seen, limited_gives P.format.limit P.types TextTy (TextV both) k seen (le-ltb _ _ fits) (le-ltb _ _ shallow) ∙ ap (λ v. Gives v k seen) (sym (plain-TextValue c.new.result ∙ ap TextV same)))

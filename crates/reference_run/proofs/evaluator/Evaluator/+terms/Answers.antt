@@ -147,7 +147,8 @@ eval-returns-in-Auth-clause-value t c = λ whole nesting seen h.
     let env = plains_of c.args.locals.now in
     let k = c.args.fuel.now in
     let is = ap (expression e) c.in-Auth.is ∙ expression-Auth T _ c.in-Auth.x in
-    let told = subst (λ x. Tells plain_of c.eval-in-Auth.new.fuel c.eval-in-Auth.result (eval P nesting (expression e x) env k seen)) c.deref-in-Auth.ensures (c.eval-in-Auth.ensures.value whole nesting seen h) in
+    let told = subst (λ x. Tells plain_of c.eval-in-Auth.new.fuel c.eval-in-Auth.result (eval P nesting (expression e x) env k seen))
+    c.deref-in-Auth.ensures (c.eval-in-Auth.ensures.value whole nesting seen h) in
     as_term e env nesting k c.eval-in-Auth.new.fuel seen c.eval-in-Auth.result c.args.term.now _ is
     (authenticated c.eval-in-Auth.new.fuel c.eval-in-Auth.result (eval P nesting (expression e c.in-Auth.x.value) env k seen) told)
 
@@ -159,7 +160,8 @@ eval-returns-in-Unauth-clause-value t c = λ whole nesting seen h.
     let env = plains_of c.args.locals.now in
     let k = c.args.fuel.now in
     let is = ap (expression e) c.in-Unauth.is ∙ expression-Unauth T _ c.in-Unauth.x in
-    let told = subst (λ x. Tells plain_of c.eval-in-Unauth.new.fuel c.eval-in-Unauth.result (eval P nesting (expression e x) env k seen)) c.deref-in-Unauth.ensures (c.eval-in-Unauth.ensures.value whole nesting seen h) in
+    let told = subst (λ x. Tells plain_of c.eval-in-Unauth.new.fuel c.eval-in-Unauth.result (eval P nesting (expression e x) env k seen))
+    c.deref-in-Unauth.ensures (c.eval-in-Unauth.ensures.value whole nesting seen h) in
     as_term e env nesting k c.eval-in-Unauth.new.fuel seen c.eval-in-Unauth.result c.args.term.now _ is
     (opened _ c.eval-in-Unauth.new.fuel c.eval-in-Unauth.result (eval P nesting (expression e c.in-Unauth.x.value) env k seen) told)
 
@@ -170,8 +172,10 @@ eval-returns-in-Pair-clause-value t c = λ whole nesting seen h.
     let P = program_of e in
     let env = plains_of c.args.locals.now in
     let k = c.args.fuel.now in
-    two_parts e env nesting k c.both-operands.new.fuel seen c.both-operands.result c.new_pair.result c.deref.result.now c.in-Pair.x.value c.deref-in-Pair.result.now c.in-Pair.y.value c.args.term.now _ _
-    c.deref.ensures c.deref-in-Pair.ensures (ap (expression e) c.in-Pair.is ∙ expression-Pair T _ _ c.in-Pair.x c.in-Pair.y) c.new_pair.ensures refl (c.both-operands.ensures.value whole nesting seen h)
+    two_parts e env nesting k c.both-operands.new.fuel seen c.both-operands.result c.new_pair.result c.deref.result.now c.in-Pair.x.value c.deref-in-Pair.result.now c.in-Pair.y.value
+    c.args.term.now _ _
+    c.deref.ensures c.deref-in-Pair.ensures (ap (expression e) c.in-Pair.is ∙ expression-Pair T _ _ c.in-Pair.x c.in-Pair.y)
+    c.new_pair.ensures refl (c.both-operands.ensures.value whole nesting seen h)
 
 pub eval-returns-in-Arith-clause-value : goal.eval-returns-in-Arith-clause-value
 eval-returns-in-Arith-clause-value t c = λ whole nesting seen h.
@@ -181,7 +185,8 @@ eval-returns-in-Arith-clause-value t c = λ whole nesting seen h.
     let env = plains_of c.args.locals.now in
     let k = c.args.fuel.now in
     two_parts e env nesting k c.both.new.fuel seen c.both.result c.arith.result c.deref-in-Arith.result.now c.in-Arith.x.value c.deref-in-Arith-2.result.now c.in-Arith.y.value c.args.term.now _ _
-    c.deref-in-Arith.ensures c.deref-in-Arith-2.ensures (ap (expression e) c.in-Arith.is ∙ expression-Arith T _ c.in-Arith.x c.in-Arith.y) c.arith.ensures refl (c.both.ensures.value whole nesting seen h)
+    c.deref-in-Arith.ensures c.deref-in-Arith-2.ensures (ap (expression e) c.in-Arith.is ∙ expression-Arith T _ c.in-Arith.x c.in-Arith.y)
+    c.arith.ensures refl (c.both.ensures.value whole nesting seen h)
 
 pub eval-returns-in-Compare-clause-value : goal.eval-returns-in-Compare-clause-value
 eval-returns-in-Compare-clause-value t c = λ whole nesting seen h.
@@ -190,8 +195,10 @@ eval-returns-in-Compare-clause-value t c = λ whole nesting seen h.
     let P = program_of e in
     let env = plains_of c.args.locals.now in
     let k = c.args.fuel.now in
-    two_parts e env nesting k c.both-in-Compare.new.fuel seen c.both-in-Compare.result c.compare.result c.deref-in-Compare.result.now c.in-Compare.x.value c.deref-in-Compare-2.result.now c.in-Compare.y.value c.args.term.now _ _
-    c.deref-in-Compare.ensures c.deref-in-Compare-2.ensures (ap (expression e) c.in-Compare.is ∙ expression-Compare T _ c.in-Compare.x c.in-Compare.y) c.compare.ensures refl (c.both-in-Compare.ensures.value whole nesting seen h)
+    two_parts e env nesting k c.both-in-Compare.new.fuel seen c.both-in-Compare.result c.compare.result c.deref-in-Compare.result.now c.in-Compare.x.value
+    c.deref-in-Compare-2.result.now c.in-Compare.y.value c.args.term.now _ _
+    c.deref-in-Compare.ensures c.deref-in-Compare-2.ensures (ap (expression e) c.in-Compare.is ∙ expression-Compare T _ c.in-Compare.x c.in-Compare.y)
+    c.compare.ensures refl (c.both-in-Compare.ensures.value whole nesting seen h)
 
 pub eval-returns-in-TextCompare-clause-value : goal.eval-returns-in-TextCompare-clause-value
 eval-returns-in-TextCompare-clause-value t c = λ whole nesting seen h.
@@ -200,8 +207,10 @@ eval-returns-in-TextCompare-clause-value t c = λ whole nesting seen h.
     let P = program_of e in
     let env = plains_of c.args.locals.now in
     let k = c.args.fuel.now in
-    two_parts e env nesting k c.both-in-TextCompare.new.fuel seen c.both-in-TextCompare.result c.compare_texts.result c.deref-in-TextCompare.result.now c.in-TextCompare.x.value c.deref-in-TextCompare-2.result.now c.in-TextCompare.y.value c.args.term.now _ _
-    c.deref-in-TextCompare.ensures c.deref-in-TextCompare-2.ensures (ap (expression e) c.in-TextCompare.is ∙ expression-TextCompare T _ c.in-TextCompare.x c.in-TextCompare.y) c.compare_texts.ensures refl (c.both-in-TextCompare.ensures.value whole nesting seen h)
+    two_parts e env nesting k c.both-in-TextCompare.new.fuel seen c.both-in-TextCompare.result c.compare_texts.result c.deref-in-TextCompare.result.now c.in-TextCompare.x.value
+    c.deref-in-TextCompare-2.result.now c.in-TextCompare.y.value c.args.term.now _ _
+    c.deref-in-TextCompare.ensures c.deref-in-TextCompare-2.ensures (ap (expression e) c.in-TextCompare.is ∙ expression-TextCompare T _ c.in-TextCompare.x c.in-TextCompare.y)
+    c.compare_texts.ensures refl (c.both-in-TextCompare.ensures.value whole nesting seen h)
 
 pub eval-returns-in-Cat-clause-value : goal.eval-returns-in-Cat-clause-value
 eval-returns-in-Cat-clause-value t c = λ whole nesting seen h.
@@ -210,8 +219,10 @@ eval-returns-in-Cat-clause-value t c = λ whole nesting seen h.
     let P = program_of e in
     let env = plains_of c.args.locals.now in
     let k = c.args.fuel.now in
-    two_parts e env nesting k c.both-operands-in-Cat.new.fuel seen c.both-operands-in-Cat.result c.cat.result c.deref-in-Cat.result.now c.in-Cat.x.value c.deref-in-Cat-2.result.now c.in-Cat.y.value c.args.term.now _ _
-    c.deref-in-Cat.ensures c.deref-in-Cat-2.ensures (ap (expression e) c.in-Cat.is ∙ expression-Cat T c.in-Cat.x c.in-Cat.y) c.cat.ensures refl (c.both-operands-in-Cat.ensures.value whole nesting seen h)
+    two_parts e env nesting k c.both-operands-in-Cat.new.fuel seen c.both-operands-in-Cat.result c.cat.result c.deref-in-Cat.result.now c.in-Cat.x.value c.deref-in-Cat-2.result.now
+    c.in-Cat.y.value c.args.term.now _ _
+    c.deref-in-Cat.ensures c.deref-in-Cat-2.ensures (ap (expression e) c.in-Cat.is ∙ expression-Cat T c.in-Cat.x c.in-Cat.y)
+    c.cat.ensures refl (c.both-operands-in-Cat.ensures.value whole nesting seen h)
 
 pub eval-returns-in-Constructor-clause-value : goal.eval-returns-in-Constructor-clause-value
 eval-returns-in-Constructor-clause-value t c = λ whole nesting seen h.
@@ -221,7 +232,8 @@ eval-returns-in-Constructor-clause-value t c = λ whole nesting seen h.
     let env = plains_of c.args.locals.now in
     let k = c.args.fuel.now in
     row_parts e env nesting k c.row-fields.new.fuel seen c.row-fields.result c.new_constructor.result c.deref-in-Constructor.result.now c.in-Constructor.fields.items c.args.term.now _ _
-    c.deref-in-Constructor.ensures.value (ap (expression e) c.in-Constructor.is ∙ expression-Constructor T _ _ c.in-Constructor.fields) c.new_constructor.ensures refl (c.row-fields.ensures.value whole nesting seen h)
+    c.deref-in-Constructor.ensures.value (ap (expression e) c.in-Constructor.is ∙ expression-Constructor T _ _ c.in-Constructor.fields)
+    c.new_constructor.ensures refl (c.row-fields.ensures.value whole nesting seen h)
 
 pub eval-returns-in-Let-clause-value : goal.eval-returns-in-Let-clause-value
 eval-returns-in-Let-clause-value t c = λ whole nesting seen h.
@@ -288,7 +300,8 @@ both-returns-in_err-y-clause-value t c = λ whole nesting seen h.
     handed_on pair_values c.eval-2.new.fuel c.from_residual-in_err-y.result c.in_err-y.field-0.0 _ c.from_residual-in_err-y.ensures.1
     (goes_on pair_values u c.eval.new.fuel c.eval-2.new.fuel x.0 (eval P nesting (expression e c.args.x.now) env k seen)
     (λ u k seen. then_run (eval P nesting (expression e c.args.y.now) env k seen) (λ v k seen. Gives (u, v) k seen)) (Err c.in_err-y.field-0.0) x.1
-    (ended plain_of pair_values c.eval-2.new.fuel c.in_err-y.field-0.0 (eval P nesting (expression e c.args.y.now) env c.eval.new.fuel x.0) (λ v k seen. Gives (u, v) k seen) (c.in_err-y.ensures.value whole nesting x.0 le)))
+    (ended plain_of pair_values c.eval-2.new.fuel c.in_err-y.field-0.0 (eval P nesting (expression e c.args.y.now) env c.eval.new.fuel x.0)
+    (λ v k seen. Gives (u, v) k seen) (c.in_err-y.ensures.value whole nesting x.0 le)))
 
 pub both-returns-clause-value : goal.both-returns-clause-value
 both-returns-clause-value t c = λ whole nesting seen h.
@@ -480,11 +493,14 @@ call-returns-clause-value t c = λ whole nesting run h told.
     let vs = plains_of given.items in
     let left = c.in-Some.left in
     goes_on plain_of vs k left args.0 run (meant.call P ideal_mode nesting f) (Ok plain.UnitValue) args.1
-    (args.0, called_past e whole f (past e.functions.now f c.in-None.ensures.lookup.3) nesting vs k left args.0 (omega (arith, c.in-Some.ensures)) h ∙ ap (λ v. Gives v left args.0) (sym plain-UnitValue))
+    (args.0, called_past e whole f (past e.functions.now f c.in-None.ensures.lookup.3) nesting vs k left args.0 (omega (arith, c.in-Some.ensures)) h ∙ ap
+    (λ v. Gives v left args.0) (sym plain-UnitValue))
 
 pub row-loop-term-init : goal.row-loop-term-init
-row-loop-term-init t c = (omega arith, λ whole nesting seen h. (seen, ahead_none (eval_all (program_of c.args.self.now) nesting (in_a_row (map (expression c.args.self.now) c.args.terms.now)) (plains_of c.args.locals.now) c.args.fuel.now seen)
-    ∙ ap (λ vs. ahead (plains_of vs) (eval_all (program_of c.args.self.now) nesting (in_a_row (map (expression c.args.self.now) c.args.terms.now)) (plains_of c.args.locals.now) c.args.fuel.now seen)) (sym c.new-values.ensures.items)))
+row-loop-term-init t c = (omega arith, λ whole nesting seen h. (seen, ahead_none (eval_all (program_of c.args.self.now) nesting (in_a_row (map (expression c.args.self.now)
+    c.args.terms.now)) (plains_of c.args.locals.now) c.args.fuel.now seen)
+    ∙ ap (λ vs. ahead (plains_of vs) (eval_all (program_of c.args.self.now) nesting (in_a_row (map (expression c.args.self.now) c.args.terms.now)) (plains_of c.args.locals.now)
+    c.args.fuel.now seen)) (sym c.new-values.ensures.items)))
 
 pub row-returns-in_err-value-clause-value : goal.row-returns-in_err-value-clause-value
 row-returns-in_err-value-clause-value t c = λ whole nesting seen h.
@@ -536,7 +552,8 @@ row-returns-clause-value t c = λ whole nesting seen h.
     let k = c.args.fuel.now in
     let so_far = c.loop-term.invariant.1 whole nesting seen h in
     let vs = plains_of c.loop-term.values.items in
-    (so_far.0, so_far.1 ∙ ap (λ xs. ahead vs (eval_all P nesting (in_a_row (map (expression e) xs)) env c.loop-term.fuel so_far.0)) (none_left c.args.terms.now c.loop-term.term-index c.loop-term-test.false)
+    (so_far.0, so_far.1 ∙ ap (λ xs. ahead vs (eval_all P nesting (in_a_row (map (expression e) xs)) env c.loop-term.fuel so_far.0)) (none_left c.args.terms.now c.loop-term.term-index
+    c.loop-term-test.false)
     ∙ ap (λ vs. Gives vs c.loop-term.fuel so_far.0) (join_none vs))
 
 pub both-eval-requires-2 : goal.both-eval-requires-2
