@@ -23,13 +23,20 @@ pub state_made-requires : goal.state_made-requires
 state_made-requires c = (c.args.program.now, c.requires.0, c.requires.1, c.requires.2)
 
 pub save_image-requires : goal.save_image-requires
-save_image-requires c = ?
+save_image-requires c =
+    let p = c.args.program.now in
+    let ended = c.args.ended.now in
+    let made = c.in-Some.ensures p c.requires.0 c.requires.2.0 c.requires.1 c.requires.2.1 in
+    let state = roles.state_made (roles.kind_called (role_of p ended.called)) made.0 in
+    (state, shown_ideal (digest_at sha256 (meaning p)) (meaning p).types (nodes_in ended.store) (meaning p).state state c.in-Some.state.0 made.2)
 
-pub returns-in-Some-in_err-image-clause-finds : goal.returns-in-Some-in_err-image-clause-finds
-returns-in-Some-in_err-image-clause-finds c = ?
+pub returns-in_err-image-in-Some-clause-finds : goal.returns-in_err-image-in-Some-clause-finds
+returns-in_err-image-in-Some-clause-finds c = ?
 
-pub returns-in-Some-clause-finds : goal.returns-in-Some-clause-finds
-returns-in-Some-clause-finds c = ?
+pub returns-in_ok-image-in-Some-clause-finds : goal.returns-in_ok-image-in-Some-clause-finds
+returns-in_ok-image-in-Some-clause-finds c = ?
 
 pub returns-in-None-clause-finds : goal.returns-in-None-clause-finds
-returns-in-None-clause-finds c = ?
+returns-in-None-clause-finds c = λ name callee o makes ends.
+    let p = c.args.program.now in
+    stored_alone (role_of p c.args.ended.now.called) o c.in_ok-report.report (c.in-None.ensures p callee o makes ends) (c.in_ok-report.ensures.tells callee o ends) name
