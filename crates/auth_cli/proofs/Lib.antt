@@ -3,18 +3,21 @@ pub mod Steps  -- the readers (`read_..`, `load_..`) and finders (`find_..`): st
 pub mod Reached  -- `load`, the finders and the commands: the file of a read fault
 pub mod Words  -- the commands and `carry_out`: the words behind a command
 pub mod Possible  -- the commands and `run`: the statuses that may be answered
-pub mod Ends  -- `check_command`, `verify_command`, `audit_command`, `ended`
-pub mod EndsStored  -- `init_command`, `shallow_command`, `prove_command`
+pub mod Ends  -- `check_command`, `ideal_command`, `verify_command`, `audit_command`, `ended`
+pub mod EndsStored  -- `init_command`, `step_command`, `shallow_command`, `prove_command`
 pub mod Known  -- `write_all`
 pub mod Numbers  -- `read_number`, `has_digits_alone`
-pub mod RolesByName  -- `query_named`, `init_named`
-pub mod InitRoles  -- `read_init_argument`, `run_init`
+pub mod RolesByName  -- `query_named`
+pub mod RoleShapes  -- `role_named`, `run_init`, `run_on_state`, `state_made`
+pub mod PutArguments  -- `put_argument`
 pub mod LiteralsRead  -- `read_value`
 pub mod PlainArguments  -- `read_value`
 pub mod TextNames  -- `read_language_program`
 pub mod MarkedStates  -- `mark_auth`, `spell_state`
 pub mod StateOutputs  -- `spell_state`
-pub mod MadeStates  -- `made_output`
+pub mod RoleReports  -- `value_line`, `role_report`, `state_made`
+pub mod StoredOutputs  -- `role_output`
+pub mod RoleSteps  -- `call_init`, `call_role` and the finders on them
 pub mod ProofOutputs  -- `make_proof`
 pub mod AcceptedCalls  -- `find_proof`
 pub mod VerifiedCalls  -- `find_proof`

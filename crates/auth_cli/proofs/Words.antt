@@ -4,7 +4,7 @@ use Rattle.std.specs.Borrow.{Bor}
 use Rattle.std.proofs.lemmas.List.{length-map}
 use Rattle.command_words.specs.Commands.{IsOfCommand, texts}
 use Rattle.command_words.specs.declared.command.Command.{Command}
-use Rattle.command_words.specs.declared.command.Command.TheVariants.{Check, Init, Shallow, Prove, Verify, Audit}
+use Rattle.command_words.specs.declared.command.Command.TheVariants.{Check, Init, Ideal, Step, Shallow, Prove, Verify, Audit}
 use Rattle.auth_cli.specs.Answer.{answer_with}
 use Rattle.lam_outside.specs.Told.{Contents, Names}
 use Rattle.auth_cli.specs.Ending.{EndsAs, Outside}
@@ -52,6 +52,8 @@ reached_known command known ts contents asked is reached = subst (λ c. IsReache
 abbrev pub count_of : Command → ℕ
 count_of Check = 1
 count_of Init = 5
+count_of Ideal = 5
+count_of Step = 6
 count_of Shallow = 3
 count_of Prove = 7
 count_of Verify = 6
@@ -67,4 +69,6 @@ counted command words of = sym (length-map words (λ word. word.now)) ∙ by of
     by (inr (inr (inr (inl is)))) = is.1 ∙ ap count_of is.0
     by (inr (inr (inr (inr (inl is))))) = is.1 ∙ ap count_of is.0
     by (inr (inr (inr (inr (inr (inl is)))))) = is.1 ∙ ap count_of is.0
-    by (inr (inr (inr (inr (inr (inr is)))))) = absurd is
+    by (inr (inr (inr (inr (inr (inr (inl is))))))) = is.1 ∙ ap count_of is.0
+    by (inr (inr (inr (inr (inr (inr (inr (inl is)))))))) = is.1 ∙ ap count_of is.0
+    by (inr (inr (inr (inr (inr (inr (inr (inr is)))))))) = absurd is

@@ -3,7 +3,7 @@ use Rattle.std.specs.Prelude.{ℕ, List, [], ◌∷◌, ◌++◌, length, map, n
 use Rattle.sha2.specs.Sha256.{sha256}
 use Rattle.command_words.specs.Invocations.{Invocation, invocation_of}
 use Rattle.command_words.specs.declared.command.Command.{Command}
-use Rattle.command_words.specs.declared.command.Command.TheVariants.{Check, Init, Shallow, Prove, Verify, Audit}
+use Rattle.command_words.specs.declared.command.Command.TheVariants.{Check, Init, Ideal, Step, Shallow, Prove, Verify, Audit}
 use Rattle.lam_outside.specs.Told.{Contents, Stores}
 use Rattle.core_terms.specs.Types.{Ty}
 use Rattle.core_terms.specs.Values.{Value, NoV, AndV}
@@ -18,7 +18,7 @@ use Rattle.ideal_meaning.specs.Ideal as ideal
 use Rattle.ideal_meaning.specs.Checked as checked
 use Rattle.images.specs.Images as images
 use Rattle.images.specs.SavedImages.{saved_image}
-use Rattle.printed_lines.specs.Lines.{agrees_line, collision_line, done_line, ok_line, out_line, refusal_line, rejected_line, state_line, trap_line}
+use Rattle.printed_lines.specs.Lines.{agrees_line, collision_line, done_line, named_done_line, ok_line, out_line, refusal_line, rejected_line, state_line, trap_line}
 use Rattle.printed_lines.specs.declared.refusal.Argument.{Argument}
 use Rattle.printed_lines.specs.declared.refusal.Argument.TheVariants as named
 use Rattle.printed_lines.specs.declared.refusal.ImageKind.{ImageKind}
@@ -27,13 +27,17 @@ use Rattle.printed_lines.specs.declared.refusal.InputFault.{InputFault}
 use Rattle.printed_lines.specs.declared.refusal.InputFault.TheVariants.{TooLong, RoleUnknown, RoleKind, Number, State, Literal as BadLiteral, Image as BadImage}
 use Rattle.printed_lines.specs.declared.refusal.Refusal.{Refusal}
 use Rattle.printed_lines.specs.declared.refusal.Refusal.TheVariants as refusal
-use Rattle.core_terms.specs.Roles.{argument_type, init_type}
+use Rattle.core_terms.specs.Roles.{argument_type}
 use Rattle.collision_audit.specs.Audits.{Collides, Judges}
 use Rattle.collision_audit.specs.Audits as audits
-use Rattle.auth_cli.specs.Arguments.{is_init, is_query, fuel_of, number_within}
-use Rattle.auth_cli.specs.FueledQueries.{DigestedProgram, FueledQuery, NamedProgram}
+use Rattle.ideal_meaning.specs.Headline.{call_of}
+use Rattle.auth_cli.specs.Arguments.{is_query, fuel_of, number_within}
+use Rattle.auth_cli.specs.FueledQueries.{DigestedProgram, FueledQuery, FueledRole, NamedProgram}
 use Rattle.auth_cli.specs.IdealCalls.{IdealCall, call_audit, call_proof, call_proof_line, projected_outcome, result_type}
+use Rattle.auth_cli.specs.RoleCalls.{EndedRole, ended_with, is_called, kind_called, passed_literal, program_called, projection_called, result_called, state_made}
 use Rattle.auth_cli.specs.TextPrograms.{TextProgram, IsProgram, IsRefused, constructor_names_of_text, language_program_of_text, program_of_text}
+use Rattle.auth_cli.specs.declared.roles.Callee.{Callee}
+use Rattle.auth_cli.specs.declared.roles.Callee.TheVariants as callee
 use Rattle.auth_cli.specs.declared.status.Status.{Status}
 use Rattle.auth_cli.specs.declared.status.Status.TheVariants.{Done, Usage, Trap, OutOfFuel, Rejected, ProgramRefused, InputRefused, Collision}
 
@@ -247,47 +251,85 @@ abbrev pub spelled_answer : (program image out : List ℕ) → Contents → Opti
 spelled_answer program image out files =
     with_language_file (files program) (λ p. with_image_file p.digested (files image) (λ v. Some (state_answer p v out)))
 
--- goes on with the role of this number, where it is an init
-abbrev pub with_init_at : Program → Option ℕ → (ℕ → Option Answer) → Option Answer
-with_init_at P None go = Some (input_refused RoleUnknown)
-with_init_at P (Some f) go = if is_init (function_at P f).kind then go f else Some (input_refused RoleKind)
+-- goes on with the role of this number, where it is one that the command calls
+abbrev pub with_role_at : Callee → Program → Option ℕ → (ℕ → Option Answer) → Option Answer
+with_role_at callee P None go = Some (input_refused RoleUnknown)
+with_role_at callee P (Some f) go = if is_called callee (function_at P f).kind then go f else Some (input_refused RoleKind)
 
-abbrev pub with_init : Program → List ℕ → (ℕ → Option Answer) → Option Answer
-with_init P name go = with_init_at P (role_named P name) go
+abbrev pub with_role : Callee → Program → List ℕ → (ℕ → Option Answer) → Option Answer
+with_role callee P name go = with_role_at callee P (role_named P name) go
 
--- how an init ends, which is called with an argument and so much fuel
-unfoldable pub init_outcome : Program → (f k : ℕ) → Value → ideal.Outcome
-init_outcome P f k argument = ideal.outcome (ideal.ideal P f (AndV argument NoV) k)
+-- goes on with the role of this name, and then with the fuel
+abbrev pub with_fueled_role : Callee → NamedProgram → (role fuel : List ℕ) → (FueledRole → Option Answer) → Option Answer
+with_fueled_role callee p role fuel go =
+    with_role callee p.digested.program role (λ f.
+    with_fuel fuel (λ k.
+    go (record { program = p; role = f; fuel = k })))
+
+-- goes on with the value of what is passed to a role
+abbrev pub with_passed : FueledRole → List ℕ → (Value → Option Answer) → Option Answer
+with_passed r text go = with_literal (passed_literal r text) go
+
+-- goes on with an init that was called, and how it ended: the role, the fuel and the argument in this order
+abbrev pub with_ended_init : NamedProgram → (role argument fuel : List ℕ) → (EndedRole → Option Answer) → Option Answer
+with_ended_init p role argument fuel go =
+    with_fueled_role callee.Init p role fuel (λ r.
+    with_passed r argument (λ a.
+    go (ended_with r (AndV a NoV))))
+
+-- the same of a role that was called on the state that an image keeps, which comes before the argument
+abbrev pub with_ended_call : Callee → NamedProgram → (role image argument fuel : List ℕ) → Contents → (EndedRole → Option Answer) → Option Answer
+with_ended_call callee p role image argument fuel files go =
+    with_fueled_role callee p role fuel (λ r.
+    with_image_file p.digested (files image) (λ s.
+    with_passed r argument (λ a.
+    go (ended_with r (call_of s a)))))
+
+-- what is answered for a role that was called: of a value its projection, with the names of its constructors
+abbrev pub outcome_told : FueledRole → ideal.Outcome → Answer
+outcome_told r (ideal.Done v) =
+    says Done (named_done_line (program_called r).types r.program.names (result_called r) (projection_called r v))
+outcome_told r (ideal.Trapped trap) = says Trap (trap_line trap)
+outcome_told r ideal.Out = says OutOfFuel out_line
+
+abbrev pub role_answer : EndedRole → Answer
+role_answer ended = outcome_told ended.role ended.outcome
 
 -- the image of a state
 unfoldable pub state_image : DigestedProgram → Value → List ℕ
 state_image p v = saved_image p.program p.digest v
 
--- what is answered for a state that was made: its projection, with its image stored under a name
-abbrev pub made_answer : DigestedProgram → Value → List ℕ → Answer
-made_answer p v name =
-    let image = state_image p v in
-    if nat_le (length image) max_file
-    then record { status = Done; lines = done_line p.program.state (state_projection p.program v) ∷ []; stored = (name, image) ∷ [] }
-    else input_refused (TooLong named.Out)
+-- the same answer with the image of a state stored under a name, where it isn't too long to be stored
+abbrev pub storing : DigestedProgram → Value → List ℕ → Answer → Answer
+storing p state name a =
+    let image = state_image p state in
+    if nat_le (length image) max_file then record a { stored = (name, image) ∷ [] } else input_refused (TooLong named.Out)
 
--- the same for the outcome of an init
-abbrev pub init_answer_of : DigestedProgram → ideal.Outcome → List ℕ → Answer
-init_answer_of p (ideal.Done v) name = made_answer p v name
-init_answer_of p (ideal.Trapped trap) name = says Trap (trap_line trap)
-init_answer_of p ideal.Out name = says OutOfFuel out_line
+-- what is answered where the state that was made is stored
+abbrev pub outcome_stored : FueledRole → ideal.Outcome → List ℕ → Answer
+outcome_stored r (ideal.Done v) name = storing r.program.digested (state_made (kind_called r) v) name (outcome_told r (ideal.Done v))
+outcome_stored r o name = outcome_told r o
 
--- what an init of a program gives
-abbrev pub made_by : DigestedProgram → (role argument fuel out : List ℕ) → Option Answer
-made_by p role argument fuel out =
-    with_init p.program role (λ f.
-    with_fuel fuel (λ k.
-    with_value p.program (init_type p.program f) argument (λ a.
-    Some (init_answer_of p (init_outcome p.program f k a) out))))
+abbrev pub storing_answer : EndedRole → List ℕ → Answer
+storing_answer ended name = outcome_stored ended.role ended.outcome name
 
 -- `init P ROLE ARG FUEL OUT`: the state that an init makes
 abbrev pub initial_answer : (program role argument fuel out : List ℕ) → Contents → Option Answer
-initial_answer program role argument fuel out files = with_program_file (files program) (λ p. made_by p role argument fuel out)
+initial_answer program role argument fuel out files =
+    with_language_file (files program) (λ p.
+    with_ended_init p role argument fuel (λ ended. Some (storing_answer ended out)))
+
+-- `ideal P ROLE IMG ARG FUEL`: how a query or an update ends on the state that an image keeps
+abbrev pub ideal_answer : (program role image argument fuel : List ℕ) → Contents → Option Answer
+ideal_answer program role image argument fuel files =
+    with_language_file (files program) (λ p.
+    with_ended_call callee.OfState p role image argument fuel files (λ ended. Some (role_answer ended)))
+
+-- `step P ROLE IMG ARG FUEL OUT`: the same of an update, whose new state is stored
+abbrev pub stepped_answer : (program role image argument fuel out : List ℕ) → Contents → Option Answer
+stepped_answer program role image argument fuel out files =
+    with_language_file (files program) (λ p.
+    with_ended_call callee.Update p role image argument fuel files (λ ended. Some (storing_answer ended out)))
 
 -- goes on with the number of pieces that a proof asks to be kept
 abbrev pub with_kept : Program → List ℕ → (ℕ → Option Answer) → Option Answer
@@ -339,12 +381,14 @@ audited_answer program role image argument fuel proof files =
     with_ideal_call q image argument files (λ call.
     with_file max_file named.Proof (files proof) (λ bytes. Some (call_audit_answer call bytes))))
 
--- What is answered to a command with the texts of its arguments: `check P`, `init P ROLE ARG FUEL OUT`, `shallow P IMG OUT`,
--- `prove P ROLE IMG ARG FUEL N OUT`, `verify P ROLE STATE ARG FUEL PROOF` and `audit P ROLE IMG ARG FUEL PROOF`. No command is called with
+-- What is answered to a command with the texts of its arguments: `check P`, `init P ROLE ARG FUEL OUT`, `ideal P ROLE IMG ARG FUEL`,
+-- `step P ROLE IMG ARG FUEL OUT`, `shallow P IMG OUT`, `prove P ROLE IMG ARG FUEL N OUT`, `verify P ROLE STATE ARG FUEL PROOF` and `audit P ROLE IMG ARG FUEL PROOF`. No command is called with
 -- more texts or fewer.
 abbrev pub answer_with : Command → List (List ℕ) → Contents → Option Answer
 answer_with Check (program ∷ []) = checked_answer program
 answer_with Init (program ∷ role ∷ argument ∷ fuel ∷ out ∷ []) = initial_answer program role argument fuel out
+answer_with Ideal (program ∷ role ∷ image ∷ argument ∷ fuel ∷ []) = ideal_answer program role image argument fuel
+answer_with Step (program ∷ role ∷ image ∷ argument ∷ fuel ∷ out ∷ []) = stepped_answer program role image argument fuel out
 answer_with Shallow (program ∷ image ∷ out ∷ []) = spelled_answer program image out
 answer_with Prove (program ∷ role ∷ image ∷ argument ∷ fuel ∷ kept ∷ out ∷ []) = proved_answer program role image argument fuel kept out
 answer_with Verify (program ∷ role ∷ state ∷ argument ∷ fuel ∷ proof ∷ []) = judged_answer program role state argument fuel proof

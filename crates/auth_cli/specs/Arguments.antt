@@ -3,18 +3,13 @@ use Rattle.std.specs.Prelude.{ℕ, List, length, nat_le, Bool, true, false, ◌&
 use Rattle.std.specs.Option.{option_and_then}
 use Rattle.std.specs.Str.{all_ascii_digits}
 use Rattle.std.specs.Str.Parse.{digits_value}
-use Rattle.core_terms.specs.Terms.{Kind, Init, Query, Program, function_at}
+use Rattle.core_terms.specs.Terms.{Kind, Query, Program, function_at}
 use Rattle.core_terms.specs.Roles.{role_named}
 
 -- the kind is that of a query
 abbrev pub is_query : Kind → Bool
 is_query Query = true
 is_query kind = false
-
--- the kind is that of an init
-abbrev pub is_init : Kind → Bool
-is_init Init = true
-is_init kind = false
 
 -- the number, where its function is a query
 abbrev pub query_at : Program → ℕ → Option ℕ

@@ -1,4 +1,4 @@
--- A program with the digest and the names of its text, and a query of it with the fuel that it is called with.
+-- A program with the digest and the names of its text, and a role of it with the fuel that it is called with.
 use Rattle.std.specs.Prelude.{ℕ, List}
 use Rattle.core_terms.specs.Terms.{Program}
 use Rattle.printed_syntax.specs.Literals.{ConstructorNames}
@@ -16,5 +16,11 @@ pub record NamedProgram : Type 0 where
 -- a query of a program, by the number of its function, with the fuel that it is called with
 pub record FueledQuery : Type 0 where
   pub program : DigestedProgram
+  pub role : ℕ
+  pub fuel : ℕ
+
+-- a role of a program of the whole language, in the same way
+pub record FueledRole : Type 0 where
+  pub program : NamedProgram
   pub role : ℕ
   pub fuel : ℕ

@@ -14,6 +14,8 @@ pub mod AuditedCalls
 pub mod Reaching
 pub mod ReadPrograms
 pub mod Reporting
+pub mod RoleCalls
+pub mod RolesCalled
 pub mod ShallowLaws
 pub mod SoundPrograms
 pub mod Statuses

@@ -7,8 +7,8 @@ ghost use Rattle.core_terms.specs.Terms as tree;
 ghost use Rattle.core_terms.specs.Values.{IsIdeal};
 ghost use Rattle.plain_meaning.specs.PlainValues.{plain_of};
 ghost use Rattle.printed_syntax.specs.Literals.{IsValue};
-ghost use Rattle.core_terms.specs.Roles.{argument_type, init_type};
-ghost use Rattle.auth_cli.specs.Answer.{literal_at, with_argument, with_fuel, with_init, with_kept, with_query, with_value};
+ghost use Rattle.core_terms.specs.Roles.{argument_type};
+ghost use Rattle.auth_cli.specs.Answer.{literal_at, with_argument, with_fuel, with_kept, with_query, with_value};
 ghost use Rattle.auth_cli.specs.Arguments.{fuel_of, is_number, number_within, query_named};
 ghost use Rattle.auth_cli.specs.Halting.{GoesOnInHand};
 
@@ -32,35 +32,6 @@ pub fn query_named(program: &Program, name: &str) -> Result<FunctionId, Halt>
         Kind::Query => Ok(role),
         Kind::Init => Err(InputFault::RoleKind.into()),
     }
-}
-
-/// The role of this name, which has to be an init.
-pub fn init_named(program: &Program, name: &str) -> Result<FunctionId, Halt>
-    ensures goes { GoesOnInHand (with_init (meaning program.now) name.now) (λ id. id.0) result }
-    ensures there { IfOk result (λ id. id.0 < length (meaning program.now).functions) }
-    ensures init { IfOk result (λ id. (function_at (meaning program.now) id.0).kind ≡ tree.Init) }
-{
-    let init = program.role(name).ok_or(InputFault::RoleUnknown)?;
-    match program.function(init).kind {
-        Kind::Init => Ok(init),
-        Kind::Query => Err(InputFault::RoleKind.into()),
-    }
-}
-
-/// The ideal value that a text is a literal of, at the type of an init's argument.
-pub fn read_init_argument(
-    alloc: Global,
-    program: &Program,
-    init: FunctionId,
-    text: &str,
-) -> Result<Plain, Halt>
-    requires there { init.0 < length (meaning program.now).functions }
-    requires init { (function_at (meaning program.now) init.0).kind ≡ tree.Init }
-    ensures goes { GoesOnInHand (with_value (meaning program.now) (init_type (meaning program.now) init.0) text.now) plain_of result }
-    ensures ideal { IfOk result (λ value. IsIdeal (meaning program.now).types (init_type (meaning program.now) init.0) (plain_of value)) }
-{
-    let parameters = &program.function(init).parameters;
-    read_value(alloc, program, parameters[0], text)
 }
 
 /// The amount of fuel that a text tells.

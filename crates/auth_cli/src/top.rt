@@ -22,8 +22,8 @@ ghost use Rattle.auth_cli.specs.declared.status.Status.{Status};
 
 use crate::report::tell;
 use crate::{
-    Halt, Status, audit_command, check_command, init_command, prove_command, shallow_command,
-    verify_command,
+    Halt, Status, audit_command, check_command, ideal_command, init_command, prove_command,
+    shallow_command, step_command, verify_command,
 };
 use command_words::{Command, WordsFault, read};
 use lam_outside::{Files, Net, Sink};
@@ -38,7 +38,7 @@ use std::alloc::Global;
 /// |---|---|---|
 /// | 0 | `ok DIGEST` | `check`: the text is a program, and has this SHA-256 digest |
 /// | 0 | `state VALUE` | `shallow`: the projection of the state has this value, and its spelling is stored |
-/// | 0 | `done VALUE` | the outcome has this value; at `init` it is the projection of the state, whose image is stored |
+/// | 0 | `done VALUE` | the outcome has this value; of `init`, `ideal` and `step` it is the projection of the result, and the image of the state that `init` or `step` made is stored |
 /// | 0, 3, 4 | `proof new A used U bytes B` | `prove`, behind the outcome's line: the proof has A pieces of its own, names U again, and the file that is stored has B bytes |
 /// | 2 | `usage: lamauth COMMAND ARGUMENTS` | the words call no command |
 /// | 3 | `trap NAME` | the outcome is this trap: `overflow`, `divzero`, `toobig`, `toodeep` |
@@ -48,7 +48,7 @@ use std::alloc::Global;
 /// | 6 | `program refused: KIND LINE COLUMN` | the text is no program: its first fault |
 /// | 7 | `input refused: too long ARGUMENT` | the file that `P`, `STATE`, `PROOF` or `IMG` names is too long, or the image for `OUT` would be |
 /// | 7 | `input refused: role unknown` | the program has no role of this name |
-/// | 7 | `input refused: role kind` | the role is not of the kind that the command calls: an init for `init`, else a query |
+/// | 7 | `input refused: role kind` | the role is not of the kind that the command calls: an init for `init`, a query or an update for `ideal`, an update for `step`, else a query |
 /// | 7 | `input refused: number FUEL` | the fuel isn't of 1 to 20 digits, or above 10^12 |
 /// | 7 | `input refused: number N` | the number of pieces that are kept isn't of 1 to 20 digits, or above 0 |
 /// | 7 | `input refused: state OFFSET` | the state's bytes are no spelling: the first fault |
@@ -217,6 +217,8 @@ fn carry_out<F: Files, O: Sink>(
     match command {
         Command::Check => check_command(alloc, words, files, out),
         Command::Init => init_command(alloc, words, files, out),
+        Command::Ideal => ideal_command(alloc, words, files, out),
+        Command::Step => step_command(alloc, words, files, out),
         Command::Shallow => shallow_command(alloc, words, files, out),
         Command::Prove => prove_command(alloc, words, files, out),
         Command::Verify => verify_command(alloc, words, files, out),

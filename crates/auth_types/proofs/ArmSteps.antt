@@ -11,19 +11,20 @@ use Rattle.core_terms.specs.declared.language.term.Constructor.{Constructor}
 use Rattle.auth_syntax.specs.Trees.{ArmSyntax, arm_of, expression_of, name_of}
 use Rattle.auth_syntax.specs.declared.tree.Arm.{Arm, out-Arm}
 use Rattle.lexemes.specs.declared.place.Place.{Place}
-use Rattle.auth_types.specs.Checking.{Checking, Sound, FaultAt, then_checked, unless_fault}
-use Rattle.auth_types.specs.Bodies.{Local, Scope, Typed, bound_names, elaborated, wanted_arm}
+use Rattle.declared_types.specs.Checking.{Checking, Sound, FaultAt, then_checked, unless_fault}
+use Rattle.auth_types.specs.Bodies.{Local, Typed, bound_names, elaborated, wanted_arm}
+use Rattle.declared_types.specs.Signatures.{Scope}
 use Rattle.auth_types.specs.Elaborators.{Keeps, fields_of, locals_of, scope_of, typed_of, types_of}
-use Rattle.auth_types.specs.Scopes.{AreWithin}
+use Rattle.declared_types.specs.Scopes.{AreWithin}
 use Rattle.auth_types.specs.declared.bodies.elaborator.Elaborator.{Elaborator}
-use Rattle.auth_types.specs.OverTypes.{FindsOver}
-use Rattle.auth_types.specs.declared.fault.TypeKind.{TypeKind}
-use Rattle.auth_types.specs.declared.fault.TypeKind.TheVariants.{WrongCount}
+use Rattle.declared_types.specs.OverTypes.{FindsOver}
+use Rattle.declared_types.specs.declared.fault.TypeKind.{TypeKind}
+use Rattle.declared_types.specs.declared.fault.TypeKind.TheVariants.{WrongCount}
 use Rattle.auth_types.specs.declared.bodies.Typed.{Typed as TypedTerm}
-use Rattle.auth_types.specs.Outcomes.{TypeFault}
+use Rattle.declared_types.specs.Findings.{TypeFault}
 use Rattle.auth_types.proofs.FindingSteps.{finds_is}
 use Rattle.auth_types.proofs.RowSteps.{next_mapped, one_arm}
-use Rattle.auth_types.proofs.ScopeStays.{types_stay_at}
+use Rattle.declared_types.proofs.ScopeStays.{types_stay_at}
 use Rattle.auth_types.proofs.TreeViews.{arm-parts}
 
 module _ (scope : Scope) (locals : List Local) (want : Option Ty) (types : List Ty) (ids : List TyId) (arm : Arm) where

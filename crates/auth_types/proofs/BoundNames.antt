@@ -5,12 +5,12 @@ use Rattle.core_terms.specs.Types.{Ty}
 use Rattle.auth_syntax.specs.Syntax.{NameSyntax}
 use Rattle.lexemes.specs.declared.place.Place.{Place}
 use Rattle.auth_types.specs.Bodies.{Local, bound_names, most_locals}
-use Rattle.auth_types.specs.Checking.{Checking, Sound, FaultAt, is_among, unless_fault}
+use Rattle.declared_types.specs.Checking.{Checking, Sound, FaultAt, is_among, unless_fault}
 use Rattle.auth_types.specs.Locals.{names_of}
-use Rattle.auth_types.specs.declared.fault.TypeKind.{TypeKind}
-use Rattle.auth_types.specs.declared.fault.TypeKind.TheVariants.{Twice, Limit}
-use Rattle.auth_types.specs.declared.fault.Limited.TheVariants.{Locals}
-use Rattle.auth_types.proofs.NamesBefore.{among_reverse}
+use Rattle.declared_types.specs.declared.fault.TypeKind.{TypeKind}
+use Rattle.declared_types.specs.declared.fault.TypeKind.TheVariants.{Twice, Limit}
+use Rattle.declared_types.specs.declared.fault.Limited.TheVariants.{Locals}
+use Rattle.declared_types.proofs.NamesBefore.{among_reverse}
 
 -- the local of a name, and the names behind the first locals, the last one first
 abbrev pub named_local : NameSyntax → Ty → Local

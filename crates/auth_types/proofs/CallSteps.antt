@@ -16,14 +16,15 @@ use Rattle.core_terms.specs.declared.language.term.Constructor.{Constructor}
 use Rattle.auth_syntax.specs.Trees.{ArmSyntax, arm_of, arms_in_a_row}
 use Rattle.auth_syntax.specs.declared.tree.Arm.{Arm}
 use Rattle.lexemes.specs.declared.place.Place.{Place}
-use Rattle.auth_types.specs.Checking.{Checking, FaultAt, then_checked, unless_fault}
-use Rattle.auth_types.specs.Bodies.{Numbered, Scope, Signature, Typed, TypedArms, arm_names, called, constructed, matched, same_names, typed}
-use Rattle.auth_types.specs.Scopes.{signature_meant}
-use Rattle.auth_types.specs.declared.scope.Head.{Head}
+use Rattle.declared_types.specs.Checking.{Checking, FaultAt, then_checked, unless_fault}
+use Rattle.auth_types.specs.Bodies.{Typed, TypedArms, arm_names, called, constructed, matched, same_names, typed}
+use Rattle.declared_types.specs.Signatures.{Numbered, Scope, Signature}
+use Rattle.declared_types.specs.Scopes.{signature_meant}
+use Rattle.declared_types.specs.declared.scope.Head.{Head}
 use Rattle.auth_types.specs.Elaborators.{Calls, Constructs, Matches}
-use Rattle.auth_types.specs.declared.fault.TypeKind.TheVariants.{ArmsWrong, NotSum, UnknownName, WrongCount}
+use Rattle.declared_types.specs.declared.fault.TypeKind.TheVariants.{ArmsWrong, NotSum, UnknownName, WrongCount}
 use Rattle.core_terms.specs.declared.fault.Fault.TheVariants.{At}
-use Rattle.auth_types.specs.declared.scope.ConstructorId.{ConstructorId}
+use Rattle.declared_types.specs.declared.scope.ConstructorId.{ConstructorId}
 
 module _ (at : Place) (count : ℕ) (found : Option (Numbered Signature)) where
   abbrev call_of : Numbered Signature → (List Ty → Checking Expressions) → Bool → Checking Typed

@@ -11,14 +11,14 @@ use Rattle.lexemes.specs.declared.place.Place.{Place}
 use Rattle.std.proofs.Math.Seq.{take-append_seam}
 use Rattle.auth_types.specs.Bodies.{Local, elaborated, wanted}
 use Rattle.auth_types.specs.Elaborators.{Keeps, found_at, locals_of, scope_of, types_of}
-use Rattle.auth_types.specs.Checking.{is_among}
+use Rattle.declared_types.specs.Checking.{is_among}
 use Rattle.auth_types.specs.Locals.{AreLocalsWithin, local_meant, locals_meant, names_of}
-use Rattle.auth_types.specs.OverTypes.{Grows}
-use Rattle.auth_types.specs.Scopes.{IsWithin, scope_meant}
+use Rattle.declared_types.specs.OverTypes.{Grows}
+use Rattle.declared_types.specs.Scopes.{IsWithin, scope_meant}
 use Rattle.auth_types.specs.declared.bodies.elaborator.Elaborator.{Elaborator}
 use Rattle.auth_types.specs.declared.bodies.elaborator.Local.{Local as CodeLocal}
-use Rattle.auth_types.proofs.ScopeStays.{map_same, scope_stays, type_stays_at}
-use Rattle.auth_types.proofs.TypeNumbers.{grows_on, grows_self}
+use Rattle.declared_types.proofs.ScopeStays.{map_same, scope_stays, type_stays_at}
+use Rattle.declared_types.proofs.TypeNumbers.{grows_on, grows_self}
 
 pub keeps_self : (e : Elaborator) → Keeps e e
 keeps_self e = record { grows = grows_self (types_of e); scope = refl; locals = refl }

@@ -15,22 +15,23 @@ use Rattle.core_terms.specs.declared.language.term.Term as term
 use Rattle.auth_syntax.specs.Syntax.{NameSyntax, ExpSyntax, ExpsSyntax, LetSyntax, IfSyntax, place_of}
 use Rattle.auth_syntax.specs.Parsing.{in_a_row}
 use Rattle.lexemes.specs.declared.place.Place.{Place}
-use Rattle.auth_types.specs.Checking.{Checking, Sound, FaultAt, then_checked, unless_fault}
-use Rattle.auth_types.specs.Bodies.{Local, Numbered, Scope, Signature, Typed, called, constructed, count_of, elaborated, most_locals, typed, wanted}
+use Rattle.declared_types.specs.Checking.{Checking, Sound, FaultAt, then_checked, unless_fault}
+use Rattle.auth_types.specs.Bodies.{Local, Typed, called, constructed, count_of, elaborated, most_locals, typed, wanted}
+use Rattle.declared_types.specs.Signatures.{Numbered, Scope, Signature}
 use Rattle.auth_types.specs.Elaborators.{ShowsTerm, boxed_of, row_of, typed_of}
-use Rattle.auth_types.specs.OverTypes.{FindsOver, Grows, Shows}
-use Rattle.auth_types.specs.Scopes.{signature_meant}
-use Rattle.auth_types.specs.declared.fault.TypeKind.{TypeKind}
-use Rattle.auth_types.specs.declared.fault.TypeKind.TheVariants.{Limit}
-use Rattle.auth_types.specs.declared.fault.Limited.TheVariants.{Locals}
-use Rattle.auth_types.specs.declared.scope.Head.{Head}
+use Rattle.declared_types.specs.OverTypes.{FindsOver, Grows, Shows}
+use Rattle.declared_types.specs.Scopes.{signature_meant}
+use Rattle.declared_types.specs.declared.fault.TypeKind.{TypeKind}
+use Rattle.declared_types.specs.declared.fault.TypeKind.TheVariants.{Limit}
+use Rattle.declared_types.specs.declared.fault.Limited.TheVariants.{Locals}
+use Rattle.declared_types.specs.declared.scope.Head.{Head}
 use Rattle.auth_types.specs.declared.bodies.Typed.{Typed as TypedTerm}
-use Rattle.auth_types.specs.Outcomes.{TypeFault}
+use Rattle.declared_types.specs.Findings.{TypeFault}
 use Rattle.auth_types.proofs.BoundNames.{named_local, with_local}
 use Rattle.auth_types.proofs.FindingSteps.{fault_first, finds_is, grown}
-use Rattle.auth_types.proofs.ScopeStays.{type_stays_at}
+use Rattle.declared_types.proofs.ScopeStays.{type_stays_at}
 use Rattle.core_terms.proofs.TermViews.{expression-Call, expression-Constructor, expression-If, expression-Let}
-use Rattle.auth_types.proofs.TypeNumbers.{shows_grow, shows_now, type_stays}
+use Rattle.declared_types.proofs.TypeNumbers.{shows_grow, shows_now, type_stays}
 
 -- how many expressions stand in a row
 pub count_row : (xs : List ExpSyntax) → count_of (in_a_row xs) ≡ length xs

@@ -2,13 +2,13 @@
 use Rattle.std.proofs.Common.{◌≡◌, List, ◌++◌, Result, Ok, Err, sym, ap, ◌∙◌, subst, append_assoc}
 use Rattle.std.specs.Prelude.{IfOk, IsErrAnd, OnOk}
 use Rattle.core_terms.specs.Types.{Ty}
-use Rattle.auth_types.specs.Checking.{Checking, FaultAt, then_checked}
+use Rattle.declared_types.specs.Checking.{Checking, FaultAt, then_checked}
 use Rattle.lexemes.specs.declared.place.Place.{Place}
-use Rattle.auth_types.specs.Outcomes.{Finds, TypeFault}
-use Rattle.auth_types.specs.declared.fault.TypeKind.{TypeKind}
-use Rattle.auth_types.specs.OverTypes.{FindsOver, Grows, Shows}
+use Rattle.declared_types.specs.Findings.{Finds, TypeFault}
+use Rattle.declared_types.specs.declared.fault.TypeKind.{TypeKind}
+use Rattle.declared_types.specs.OverTypes.{FindsOver, Grows, Shows}
 use Rattle.core_terms.specs.declared.fault.Fault.TheVariants.{At, NoMemory}
-use Rattle.auth_types.proofs.TypeNumbers.{shows_now}
+use Rattle.declared_types.proofs.TypeNumbers.{shows_now}
 
 pub grown : (old new : List Ty) → Grows old new → (more : List Ty) → Grows old (new ++ more)
 grown old new (m, e) more = (m ++ more, ap (λ l. l ++ more) e ∙ append_assoc old m more)

@@ -11,18 +11,19 @@ use Rattle.auth_syntax.specs.Syntax.{ExpSyntax, FunctionSyntax, ParameterSyntax,
 use Rattle.auth_syntax.specs.Trees as written
 use Rattle.lexemes.specs.declared.place.Place.{Place}
 use Rattle.auth_syntax.specs.declared.tree.Parameter.{Parameter}
-use Rattle.auth_types.specs.Checking.{Checking, Sound, FaultAt, then_checked}
-use Rattle.auth_types.specs.Bodies.{Local, Scope, Signature, checked_function, checked_functions, elaborated, parameter_locals, wanted}
-use Rattle.auth_types.specs.CheckedPrograms.{signature_of}
+use Rattle.declared_types.specs.Checking.{Checking, Sound, FaultAt, then_checked}
+use Rattle.auth_types.specs.Bodies.{Local, checked_function, checked_functions, elaborated, parameter_locals, wanted}
+use Rattle.declared_types.specs.Signatures.{Scope, Signature}
+use Rattle.declared_types.specs.DeclaredPrograms.{signature_of}
 use Rattle.auth_types.specs.Elaborators.{boxed_of, found_at, locals_of, scope_of, types_of}
-use Rattle.auth_types.specs.Scopes.{signature_meant}
-use Rattle.auth_types.specs.declared.scope.Head.{Head}
+use Rattle.declared_types.specs.Scopes.{signature_meant}
+use Rattle.declared_types.specs.declared.scope.Head.{Head}
 use Rattle.auth_types.specs.declared.bodies.elaborator.Elaborator.{Elaborator}
-use Rattle.auth_types.specs.OverTypes.{FindsOver, Grows, Shows}
-use Rattle.auth_types.specs.RoleRules.{kind_meant}
-use Rattle.auth_types.specs.WrittenTypes.{type_meant}
-use Rattle.auth_types.specs.declared.fault.TypeKind.{TypeKind}
-use Rattle.auth_types.specs.Outcomes.{TypeFault}
+use Rattle.declared_types.specs.OverTypes.{FindsOver, Grows, Shows}
+use Rattle.declared_types.specs.RoleRules.{kind_meant}
+use Rattle.declared_types.specs.WrittenTypes.{type_meant}
+use Rattle.declared_types.specs.declared.fault.TypeKind.{TypeKind}
+use Rattle.declared_types.specs.Findings.{TypeFault}
 use Rattle.auth_types.proofs.FindingSteps.{fault_first}
 
 -- parameters as locals of these types

@@ -1,5 +1,5 @@
 -- What passes is by the typing rules, and what is told is broken first.
-use Rattle.std.proofs.Common.{◌≡◌, ℕ, zero, suc, ◌+◌, ◌<◌, ◌≤◌, Bool, true, false, List, [], ◌∷◌, ◌++◌, length, map, Option, Some, None, slice_get, unwrap_or, bytes_eq, if◌then◌else◌, nat_eq, nat_lt, refl, sym, ap, ◌∙◌, subst, zero-add, arith}
+use Rattle.std.proofs.Common.{◌≡◌, ℕ, ◌<◌, ◌≤◌, Bool, true, false, List, [], ◌∷◌, length, Option, Some, None, bytes_eq, if◌then◌else◌, nat_eq, nat_lt, refl, sym, ap, ◌∙◌, subst, zero-add, arith}
 use Rattle.std.specs.Bool.{Decides}
 use Rattle.std.proofs.lemmas.Slice.Eq.{bytes_eq-Decides}
 use Rattle.core_terms.specs.declared.language.term.BinaryOperator.TheVariants.{Arith, Compare, TextCompare, Cat}
@@ -9,17 +9,18 @@ use Rattle.core_terms.specs.Terms.{Expression, Expressions, AndArm, AuthE, CallE
 use Rattle.core_terms.specs.Typing.{same_type}
 use Rattle.lexemes.specs.declared.place.Place.{Place}
 use Rattle.auth_syntax.specs.Syntax.{NameSyntax, ExpSyntax, UnitSyntax, BoolSyntax, IntSyntax, TextSyntax, LocalSyntax, PairSyntax, UnarySyntax, BinarySyntax, CallSyntax, ConstructorSyntax, LetSyntax, IfSyntax, MatchSyntax, ExpsSyntax, NoExp, AndExp, ArmsSyntax, NoArmSyntax, AndArmSyntax, UnaryOperation, FstOperation, SndOperation, AuthOperation, UnauthOperation, LenOperation, NotOperation, place_of}
-use Rattle.auth_types.specs.Checking.{Checking, Sound, FaultAt, then_checked, unless_fault}
-use Rattle.auth_types.specs.Bodies.{Local, Numbered, Scope, Signature, Typed, TypedArms, arm_names, binary_expression, bound_names, called, constructed, constructor_named, count_of, elaborated, elaborated_arms, elaborated_each, first_of, function_named, last_named, local_at, matched, most_locals, opened, operand_type, result_type, same_names, second_of, typed, unary, wanted, wanted_arm}
+use Rattle.declared_types.specs.Checking.{Checking, Sound, then_checked, unless_fault}
+use Rattle.auth_types.specs.Bodies.{Local, Typed, TypedArms, arm_names, binary_expression, bound_names, called, constructed, count_of, elaborated, elaborated_arms, elaborated_each, first_of, last_named, local_at, matched, most_locals, opened, operand_type, result_type, same_names, second_of, typed, unary, wanted, wanted_arm}
+use Rattle.declared_types.specs.Signatures.{Numbered, Scope, Signature, constructor_named, function_named}
 use Rattle.auth_types.specs.TypingRules
 use Rattle.auth_types.specs.TypingRules.{Operates, NamesConstructor, constructor_names, constructor_fields, field_types, with_local, with_fields, MayBindAll, IsTypeOf, Elaborates, ElaborateEach, ElaborateArms}
 use Rattle.auth_types.specs.BrokenRules
 use Rattle.auth_types.specs.BrokenRules.{Breaks, Misfits, OneMisfits, BodyBreaks, ArmsBreak, BreaksNames, IsOfType}
 use Rattle.auth_types.specs.TypingLaws.{IsWhole}
-use Rattle.auth_types.specs.declared.fault.TypeKind.{TypeKind}
-use Rattle.auth_types.specs.declared.fault.TypeKind.TheVariants.{ArmsWrong, Limit, WrongCount, WrongType}
-use Rattle.auth_types.specs.declared.fault.Limited.TheVariants.{Locals}
-use Rattle.auth_types.proofs.SoundNames.{as_many_at}
+use Rattle.declared_types.specs.declared.fault.TypeKind.{TypeKind}
+use Rattle.declared_types.specs.declared.fault.TypeKind.TheVariants.{ArmsWrong, Limit, WrongCount, WrongType}
+use Rattle.declared_types.specs.declared.fault.Limited.TheVariants.{Locals}
+use Rattle.declared_types.proofs.SoundNames.{as_many_at}
 use Rattle.auth_types.proofs.NamedParts.{LocalFound, FunctionFound, TypeFound, local_by_name, function_by_name, constructor_by_name, type_of_local}
 use Rattle.auth_types.proofs.Judging.{Judges, judges_then, judges_unless, judges_more, type_decides, equal_decides, below_decides}
 use Rattle.auth_types.proofs.JudgedNames.{pattern_judged}

@@ -1,5 +1,5 @@
 -- The names of a pattern pass exactly where each may be bound, and a fault is told exactly where one may not.
-use Rattle.std.proofs.Common.{◌≡◌, ℕ, zero, suc, ◌+◌, ◌<◌, ◌≤◌, Bool, true, false, List, [], ◌∷◌, ◌++◌, length, map, reverse, bytes_eq, nat_lt, if◌then◌else◌, refl, sym, ap, ◌∙◌, subst, add-zero, length-append, lt-ltb, arith}
+use Rattle.std.proofs.Common.{◌≡◌, ℕ, suc, ◌+◌, ◌<◌, ◌≤◌, Bool, true, false, List, [], ◌∷◌, ◌++◌, length, map, reverse, nat_lt, if◌then◌else◌, refl, sym, ap, ◌∙◌, subst, add-zero, lt-ltb, arith}
 use Rattle.std.specs.Bool.{Decides}
 use Rattle.std.specs.List.{Contains}
 use Rattle.std.proofs.lemmas.Bool.Decides.{Decides-at}
@@ -7,15 +7,15 @@ use Rattle.std.proofs.lemmas.List.{reverse-append, map-append}
 use Rattle.core_terms.specs.Types.{Ty}
 use Rattle.lexemes.specs.declared.place.Place.{Place}
 use Rattle.auth_syntax.specs.Syntax.{NameSyntax}
-use Rattle.auth_types.specs.Checking.{Checking, Sound, FaultAt, is_among, unless_fault}
+use Rattle.declared_types.specs.Checking.{Checking, Sound, FaultAt, is_among, unless_fault}
 use Rattle.auth_types.specs.Bodies.{Local, bound_names, most_locals}
 use Rattle.auth_types.specs.InOrder.{EachMeets, NoMore, AndMore, OneBreaks, ThisBreaks, LaterBreaks}
 use Rattle.auth_types.specs.TypingRules.{MayBind, MayBindAll, with_fields, with_local}
 use Rattle.auth_types.specs.BrokenRules.{BreaksName, BreaksNames, NameTwice, LocalTooMany}
-use Rattle.auth_types.specs.declared.fault.TypeKind.{TypeKind}
-use Rattle.auth_types.specs.declared.fault.TypeKind.TheVariants.{Twice, Limit}
-use Rattle.auth_types.specs.declared.fault.Limited.TheVariants.{Locals}
-use Rattle.auth_types.proofs.NamesBefore.{among_reverse}
+use Rattle.declared_types.specs.declared.fault.TypeKind.{TypeKind}
+use Rattle.declared_types.specs.declared.fault.TypeKind.TheVariants.{Twice, Limit}
+use Rattle.declared_types.specs.declared.fault.Limited.TheVariants.{Locals}
+use Rattle.declared_types.proofs.NamesBefore.{among_reverse}
 use Rattle.auth_types.proofs.NamedParts.{among_decides}
 use Rattle.auth_types.proofs.Judging.{Judges, below_decides, fails, judges_more, judges_unless}
 

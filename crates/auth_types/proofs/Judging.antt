@@ -1,5 +1,5 @@
 -- What an answer of a step of a pass says, whether a fault is found or none is; and what the steps give where the answers of their parts are known.
-use Rattle.std.proofs.Common.{◌≡◌, ℕ, Bool, true, false, refl, ap, ◌∙◌, subst, nat_lt, nat_eq, ◌<◌, ◌≤◌, lt-ltb, ltb-true, le-ltb, eqb-true, arith}
+use Rattle.std.proofs.Common.{◌≡◌, ℕ, Bool, true, false, refl, ap, ◌∙◌, subst, nat_lt, nat_eq, ◌<◌, lt-ltb, ltb-true, eqb-true, arith}
 use Rattle.std.specs.Bool.{Decides}
 use Rattle.core_terms.specs.Types.{Ty}
 use Rattle.core_terms.specs.Terms.{Expression}
@@ -7,10 +7,10 @@ use Rattle.core_terms.specs.Typing.{same_type}
 use Rattle.core_terms.proofs.TypingSound.{same_sound}
 use Rattle.core_terms.proofs.TypingComplete.{same_self, same_complete}
 use Rattle.lexemes.specs.declared.place.Place.{Place}
-use Rattle.auth_types.specs.Checking.{Checking, Sound, FaultAt, then_checked, unless_fault}
+use Rattle.declared_types.specs.Checking.{Checking, Sound, FaultAt, then_checked, unless_fault}
 use Rattle.auth_types.specs.Bodies.{Typed, wanted}
-use Rattle.auth_types.specs.declared.fault.TypeKind.{TypeKind}
-use Rattle.auth_types.specs.declared.fault.TypeKind.TheVariants.{WrongType}
+use Rattle.declared_types.specs.declared.fault.TypeKind.{TypeKind}
+use Rattle.declared_types.specs.declared.fault.TypeKind.TheVariants.{WrongType}
 
 -- Q holds of what is found, or F of the fault
 abbrev pub Judges : {A : Type 0} → (A → Type 0) → (TypeKind → Place → Type 0) → Checking A → Type 0

@@ -1,20 +1,3 @@
--- the first pass: `first_pass`, `declare`, `add_name`, `add_constructor`, `check_parameters` of declarations.rt
-pub mod NamesBefore
-pub mod Constructors
-pub mod ParameterNames
-pub mod DeclaredOneByOne
--- numbers of types, cited by each function behind the first two passes
-pub mod TypeNumbers
-pub mod ScopeStays
--- `declared_scope` of numbering.rt, and the functions that it calls
-pub mod NamesOfDeclarations
-pub mod NumberedParts
-pub mod NumberedScopes
-pub mod ConstructorNumbers
--- look-ups by name: `constructor` and `function` of scope.rt, `named_id` of numbering.rt
-pub mod ScopeLookups
--- the third pass: `third_pass`, `check_update`, `is_same`, `last_parameter` of roles.rt
-pub mod RolesOfHeads
 -- the fourth pass, what its functions share: the forms of trees and of terms, where an elaborator stands, what is found of a part
 pub mod TreeViews
 pub mod ElaboratorSteps
@@ -33,16 +16,13 @@ pub mod RefusedParts
 pub mod LiteralSteps
 -- `enter`, `function` and `fourth_pass` of functions.rt
 pub mod FunctionSteps
--- `all_passes`, `known_names` and `checked_scope` of check.rt
+-- `all_passes` of check.rt
 pub mod PassesOfTrees
 pub mod ProgramOfPasses
 -- the laws of laws.rt: one file for each thing that a program which passes is held to, and the laws from these
-pub mod SoundSteps
-pub mod SoundNames
 pub mod SoundBodies
 pub mod SoundFunctions
 pub mod SoundTypes
-pub mod SoundLimits
 pub mod SoundLiterals
 pub mod SoundSizes
 pub mod LimitsOfPrograms

@@ -14,13 +14,14 @@ use Rattle.auth_syntax.specs.Syntax.{AuthTypeSyntax, BoolTypeSyntax, Constructor
 use Rattle.auth_syntax.specs.TreeLimits as written
 use Rattle.auth_syntax.specs.TreeLimits.{bodies_in_program, names_in_declaration, names_in_program, names_in_type, types_in_declaration, types_in_program}
 use Rattle.lexemes.specs.Tokens.{name_limit}
-use Rattle.auth_types.specs.Bodies.{Local, Scope, checked_function, checked_functions, elaborated, most_locals, parameter_locals}
-use Rattle.auth_types.specs.CheckedPrograms.{constructors_in, first_state}
-use Rattle.auth_types.specs.WrittenTypes.{functions_in, states_in, table_of, type_meant, type_names}
+use Rattle.auth_types.specs.Bodies.{Local, checked_function, checked_functions, elaborated, most_locals, parameter_locals}
+use Rattle.declared_types.specs.Signatures.{Scope}
+use Rattle.declared_types.specs.DeclaredPrograms.{constructors_in, first_state}
+use Rattle.declared_types.specs.WrittenTypes.{functions_in, states_in, table_of, type_meant, type_names}
 use Rattle.auth_types.proofs.SoundFunctions.{each_made, of_its_type}
-use Rattle.auth_types.proofs.SoundLimits.{FewParameters}
+use Rattle.declared_types.proofs.SoundLimits.{FewParameters}
 use Rattle.auth_types.proofs.SoundSizes.{IsSized, elaborated_sized, wanted_sized}
-use Rattle.auth_types.proofs.SoundSteps.{Gives, gives_then}
+use Rattle.declared_types.proofs.SoundSteps.{Gives, gives_then}
 
 -- the parts of a list
 all_front : {A : Type 0} (P : A → Type 0) (xs ys : List A) → All P (xs ++ ys) → All P xs

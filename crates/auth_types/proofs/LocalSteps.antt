@@ -9,14 +9,14 @@ use Rattle.core_terms.specs.declared.term.LocalId.{LocalId}
 use Rattle.core_terms.specs.declared.language.term.Term as term
 use Rattle.lexemes.specs.declared.place.Place.{Place}
 use Rattle.auth_syntax.specs.Syntax.{LocalSyntax}
-use Rattle.auth_types.specs.Checking.{Checking, FaultAt}
+use Rattle.declared_types.specs.Checking.{Checking, FaultAt}
 use Rattle.auth_types.specs.Bodies.{Local, Typed, last_named, local_at, typed}
 use Rattle.auth_types.specs.Elaborators.{ShowsTerm, found_at, locals_of, types_of}
 use Rattle.auth_types.specs.Locals.{locals_meant}
-use Rattle.auth_types.specs.declared.fault.TypeKind.TheVariants.{UnknownName}
+use Rattle.declared_types.specs.declared.fault.TypeKind.TheVariants.{UnknownName}
 use Rattle.auth_types.specs.declared.bodies.elaborator.Elaborator.{Elaborator}
 use Rattle.auth_types.specs.declared.bodies.elaborator.Local.{Local as CodeLocal}
-use Rattle.auth_types.proofs.ScopeStays.{type_stays_at}
+use Rattle.declared_types.proofs.ScopeStays.{type_stays_at}
 use Rattle.core_terms.proofs.TermViews.{expression-IntLiteral, expression-Local}
 
 type_of_local : (types : List Ty) (locals : List CodeLocal) (i : ℕ) (l d : CodeLocal) → i < length locals → l ≡ slice_index_or locals i d

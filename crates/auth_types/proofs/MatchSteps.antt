@@ -7,18 +7,19 @@ use Rattle.core_terms.specs.declared.language.types.NamedId.{NamedId}
 use Rattle.core_terms.specs.declared.language.term.Term as term
 use Rattle.auth_syntax.specs.Syntax.{ArmsSyntax, ExpSyntax, MatchSyntax, place_of}
 use Rattle.lexemes.specs.declared.place.Place.{Place}
-use Rattle.auth_types.specs.Checking.{Checking, then_checked}
-use Rattle.auth_types.specs.Bodies.{Local, Scope, Typed, TypedArms, arm_names, elaborated, elaborated_arms, matched, typed}
+use Rattle.declared_types.specs.Checking.{Checking, then_checked}
+use Rattle.auth_types.specs.Bodies.{Local, Typed, TypedArms, arm_names, elaborated, elaborated_arms, matched, typed}
+use Rattle.declared_types.specs.Signatures.{Scope}
 use Rattle.auth_types.specs.Elaborators.{Matches, ShowsTerm, arms_of, boxed_of, typed_of}
-use Rattle.auth_types.specs.OverTypes.{FindsOver, Grows, Shows}
+use Rattle.declared_types.specs.OverTypes.{FindsOver, Grows, Shows}
 use Rattle.core_terms.specs.declared.fault.Fault.TheVariants.{At, NoMemory}
 use Rattle.auth_types.specs.declared.bodies.Typed.{Typed as TypedTerm}
 use Rattle.auth_types.specs.declared.bodies.TypedArms.{TypedArms as TypedBodies}
-use Rattle.auth_types.specs.Outcomes.{TypeFault}
+use Rattle.declared_types.specs.Findings.{TypeFault}
 use Rattle.auth_types.proofs.FindingSteps.{grown}
-use Rattle.auth_types.proofs.ScopeStays.{type_stays_at}
+use Rattle.declared_types.proofs.ScopeStays.{type_stays_at}
 use Rattle.core_terms.proofs.TermViews.{expression-Match}
-use Rattle.auth_types.proofs.TypeNumbers.{shows_grow, shows_now}
+use Rattle.declared_types.proofs.TypeNumbers.{shows_grow, shows_now}
 
 module _ (scope : Scope) (locals : List Local) (at place : Place) (subject : ExpSyntax) (arms : ArmsSyntax) (here : place ≡ place_of subject)
     (old : List Ty) (value : TypedTerm)

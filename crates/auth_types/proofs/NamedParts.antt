@@ -1,17 +1,18 @@
 -- The look-ups by name find the first that has the name, and for a local the last.
-use Rattle.std.proofs.Common.{◌≡◌, ℕ, zero, suc, ◌+◌, Bool, true, false, ◌||◌, List, [], ◌∷◌, length, map, take, drop, Option, Some, None, option_map, slice_get, slice_index_or, bytes_eq, if◌then◌else◌, refl, sym, ap, ◌∙◌, subst, add-zero, zero-add, arith}
+use Rattle.std.proofs.Common.{◌≡◌, ℕ, zero, suc, ◌+◌, Bool, true, false, List, [], ◌∷◌, map, take, Option, Some, None, option_map, slice_index_or, bytes_eq, if◌then◌else◌, refl, sym, ap, ◌∙◌, add-zero, zero-add, arith}
 use Rattle.std.specs.Bool.{Decides}
-use Rattle.std.specs.List.{All, Contains}
+use Rattle.std.specs.List.{Contains}
 use Rattle.std.proofs.lemmas.Bool.Decides.{Decides-by_or}
-use Rattle.std.proofs.lemmas.List.Elements.{All-nil, All-cons, All-head, All-tail, All-contains, Contains-from_at, Decides-contains}
+use Rattle.std.proofs.lemmas.List.Elements.{All-nil, All-cons, All-head, All-tail, All-contains, Decides-contains}
 use Rattle.std.proofs.lemmas.Option.{get_or_from_slice_get, slice_get-map, slice_get_within}
 use Rattle.std.proofs.lemmas.Slice.Eq.{bytes_eq-Decides}
-use Rattle.core_terms.specs.Types.{Ty, UnitTy}
-use Rattle.auth_types.specs.Checking.{is_among}
-use Rattle.auth_types.specs.WrittenTypes.{number_of}
-use Rattle.auth_types.specs.Bodies.{Local, Numbered, Scope, Signature, constructor_named, function_named, last_named, or_else, tag_in}
-use Rattle.auth_types.specs.InOrder.{IsFirst, IsLast, NoneFits}
-use Rattle.auth_types.specs.TypingRules.{NamesConstructor, NamesFunction, NamesLocal}
+use Rattle.core_terms.specs.Types.{UnitTy}
+use Rattle.declared_types.specs.Checking.{is_among}
+use Rattle.declared_types.specs.WrittenTypes.{number_of}
+use Rattle.auth_types.specs.Bodies.{Local, last_named, or_else}
+use Rattle.declared_types.specs.Signatures.{Numbered, Scope, Signature, constructor_named, function_named, tag_in}
+use Rattle.auth_types.specs.InOrder.{IsFirst, NoneFits}
+use Rattle.auth_types.specs.TypingRules.{NamesConstructor, NamesLocal}
 use Rattle.auth_types.proofs.Judging.{fails}
 
 -- a test of a name among names

@@ -20,17 +20,17 @@ use Rattle.core_terms.proofs.TypingSound.{same_sound}
 use Rattle.core_terms.proofs.TypingComplete.{same_self}
 use Rattle.auth_syntax.specs.Syntax.{FstOperation, SndOperation, AuthOperation, UnauthOperation, LenOperation, NotOperation}
 use Rattle.lexemes.specs.declared.place.Place.{Place}
-use Rattle.auth_types.specs.Checking.{Checking, Sound, FaultAt, unless_fault, then_checked}
+use Rattle.declared_types.specs.Checking.{Checking, Sound, FaultAt, unless_fault, then_checked}
 use Rattle.auth_types.specs.Bodies.{Typed, binary_expression, first_of, opened, pair, result_type, second_of, typed, unary, wanted}
 use Rattle.auth_types.specs.Elaborators.{ShowsTerm, boxed_of, typed_of}
-use Rattle.auth_types.specs.OverTypes.{FindsOver, Grows, Shows}
-use Rattle.auth_types.specs.declared.fault.TypeKind.TheVariants.{NotAuth, NotPair, WrongType}
+use Rattle.declared_types.specs.OverTypes.{FindsOver, Grows, Shows}
+use Rattle.declared_types.specs.declared.fault.TypeKind.TheVariants.{NotAuth, NotPair, WrongType}
 use Rattle.auth_types.specs.declared.bodies.Typed.{Typed as TypedTerm}
-use Rattle.auth_types.specs.Outcomes.{TypeFault}
+use Rattle.declared_types.specs.Findings.{TypeFault}
 use Rattle.auth_types.proofs.FindingSteps.{fault_first, grown}
-use Rattle.auth_types.proofs.ScopeStays.{type_stays_at}
+use Rattle.declared_types.proofs.ScopeStays.{type_stays_at}
 use Rattle.core_terms.proofs.TermViews.{expression-Pair, expression-Fst, expression-Snd, expression-Auth, expression-Unauth, expression-Len, expression-Not, expression-Arith, expression-Compare, expression-TextCompare, expression-Cat}
-use Rattle.auth_types.proofs.TypeNumbers.{shows_grow, shows_now, type_stays}
+use Rattle.declared_types.proofs.TypeNumbers.{shows_grow, shows_now, type_stays}
 
 -- a pair
 pub paired_shows : (old new : List Ty) (first second : TypedTerm) (ty : TyId) (x y : Checking Typed) → Grows old new

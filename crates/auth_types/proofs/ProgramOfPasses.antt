@@ -22,19 +22,22 @@ use Rattle.core_terms.proofs.Limited.{all_pass}
 use Rattle.auth_syntax.specs.Syntax.{FunctionSyntax, ParameterSyntax, Program}
 use Rattle.auth_syntax.specs.TreeLimits as trees
 use Rattle.auth_syntax.specs.Trees as written
-use Rattle.auth_types.specs.Bodies.{Scope as DefinedScope, Signature, checked_functions}
-use Rattle.auth_types.specs.Checking.{Sound}
+use Rattle.auth_types.specs.Bodies.{checked_functions}
+use Rattle.declared_types.specs.Signatures.{Scope as DefinedScope, Signature}
+use Rattle.declared_types.specs.Checking.{Sound}
 use Rattle.auth_types.specs.CheckedLaws.{HasGoodLiterals}
-use Rattle.auth_types.specs.CheckedPrograms.{all_passes, fourth_pass, signature_of, state_of, table_of_program, third_pass}
-use Rattle.auth_types.specs.OverTypes.{Grows}
-use Rattle.auth_types.specs.Passes.{TableStandsFor, names_known}
-use Rattle.auth_types.specs.Scopes.{AreHeadsOf, AreWithin, IsConstructorWithin, IsCounted, IsHeadWithin, IsNamedWithin, IsWithin, functions_meant, scope_meant, signature_meant}
-use Rattle.auth_types.specs.WrittenTypes.{type_meant}
-use Rattle.auth_types.specs.declared.scope.Head.{Head}
-use Rattle.auth_types.specs.declared.scope.Scope.{Scope}
-use Rattle.auth_types.proofs.PassesOfTrees.{fourth_told, passes_end, table_is}
+use Rattle.auth_types.specs.CheckedPrograms.{all_passes, fourth_pass}
+use Rattle.declared_types.specs.DeclaredPrograms.{signature_of, state_of, table_of_program, third_pass}
+use Rattle.declared_types.specs.OverTypes.{Grows}
+use Rattle.declared_types.specs.Passes.{TableStandsFor, names_known}
+use Rattle.declared_types.specs.Scopes.{AreHeadsOf, AreWithin, IsConstructorWithin, IsCounted, IsHeadWithin, IsNamedWithin, IsWithin, functions_meant, scope_meant, signature_meant}
+use Rattle.declared_types.specs.WrittenTypes.{type_meant}
+use Rattle.declared_types.specs.declared.scope.Head.{Head}
+use Rattle.declared_types.specs.declared.scope.Scope.{Scope}
+use Rattle.auth_types.proofs.PassesOfTrees.{fourth_told, passes_end}
+use Rattle.declared_types.proofs.FirstPasses.{table_is}
 use Rattle.auth_types.proofs.LimitsOfPrograms.{are_named}
-use Rattle.auth_types.proofs.ScopeStays.{grows_length, table_stays, type_stays_at, within_more}
+use Rattle.declared_types.proofs.ScopeStays.{grows_length, table_stays, type_stays_at, within_more}
 use Rattle.auth_types.proofs.SoundPrograms.{checked_is_typed, checked_is_within_all_limits}
 
 -- the program of these parts is the one that the passes give, and it is what a program has to be

@@ -10,18 +10,19 @@ use Rattle.core_terms.specs.declared.program.FunctionId.{FunctionId}
 use Rattle.core_terms.specs.declared.language.term.Term.{Term}
 use Rattle.auth_syntax.specs.Syntax.{UnaryOperation, FstOperation, SndOperation, AuthOperation, UnauthOperation, LenOperation, NotOperation, ExpSyntax, ExpsSyntax, IfSyntax, LetSyntax, NameSyntax, place_of}
 use Rattle.lexemes.specs.declared.place.Place.{Place}
-use Rattle.auth_types.specs.Checking.{Checking, Sound, FaultAt, then_checked}
-use Rattle.auth_types.specs.Bodies.{Local, Numbered, Scope, Signature, Typed, binary, binary_expression, called, constructed, count_of, elaborated, operand_type, pair, result_type, typed, unary, wanted}
+use Rattle.declared_types.specs.Checking.{Checking, Sound, FaultAt, then_checked}
+use Rattle.auth_types.specs.Bodies.{Local, Typed, binary, binary_expression, called, constructed, count_of, elaborated, operand_type, pair, result_type, typed, unary, wanted}
+use Rattle.declared_types.specs.Signatures.{Numbered, Scope, Signature}
 use Rattle.auth_types.specs.Elaborators.{Calls, Constructs, boxed_of, typed_of}
-use Rattle.auth_types.specs.Outcomes.{Finds, TypeFault}
-use Rattle.auth_types.specs.OverTypes.{FindsOver, Grows, Shows}
-use Rattle.auth_types.specs.declared.fault.TypeKind.{TypeKind}
+use Rattle.declared_types.specs.Findings.{Finds, TypeFault}
+use Rattle.declared_types.specs.OverTypes.{FindsOver, Grows, Shows}
+use Rattle.declared_types.specs.declared.fault.TypeKind.{TypeKind}
 use Rattle.core_terms.specs.declared.fault.Fault.TheVariants.{At, NoMemory}
 use Rattle.auth_types.specs.declared.bodies.Typed.{Typed as TypedTerm}
 use Rattle.auth_types.proofs.BoundNames.{with_local}
 use Rattle.auth_types.proofs.ExpressionSteps.{behind_bound, behind_first, behind_test, let_body, let_fault, let_inner}
 use Rattle.auth_types.proofs.FindingSteps.{behind_shown, fault_first, fault_second, finds_is, refused_by}
-use Rattle.auth_types.proofs.TypeNumbers.{shows_grow}
+use Rattle.declared_types.proofs.TypeNumbers.{shows_grow}
 
 -- the second of a pair
 pub pair_refused : (before types new : List Ty) (x y : Checking Typed) (value : TypedTerm) (fault : TypeFault) (r : Result TypedTerm TypeFault)

@@ -15,16 +15,17 @@ use Rattle.auth_syntax.specs.Parsing.{in_a_row as written_row}
 use Rattle.auth_syntax.specs.Syntax.{ExpSyntax, ExpsSyntax, AndExp, ArmsSyntax, AndArmSyntax, place_of}
 use Rattle.auth_syntax.specs.Trees.{ArmSyntax, arms_in_a_row as written_arms}
 use Rattle.lexemes.specs.declared.place.Place.{Place}
-use Rattle.auth_types.specs.Checking.{Checking, Sound, FaultAt, then_checked, unless_fault}
-use Rattle.auth_types.specs.Bodies.{Local, Scope, Typed, TypedArms, bound_names, elaborated, elaborated_arms, elaborated_each, wanted, wanted_arm}
+use Rattle.declared_types.specs.Checking.{Checking, Sound, FaultAt, then_checked, unless_fault}
+use Rattle.auth_types.specs.Bodies.{Local, Typed, TypedArms, bound_names, elaborated, elaborated_arms, elaborated_each, wanted, wanted_arm}
+use Rattle.declared_types.specs.Signatures.{Scope}
 use Rattle.auth_types.specs.Elaborators.{arms_of, boxed_of, row_of, typed_of, want_of}
-use Rattle.auth_types.specs.OverTypes.{Grows, Shows}
-use Rattle.auth_types.specs.declared.fault.TypeKind.{TypeKind}
-use Rattle.auth_types.specs.declared.fault.TypeKind.TheVariants.{WrongCount}
+use Rattle.declared_types.specs.OverTypes.{Grows, Shows}
+use Rattle.declared_types.specs.declared.fault.TypeKind.{TypeKind}
+use Rattle.declared_types.specs.declared.fault.TypeKind.TheVariants.{WrongCount}
 use Rattle.auth_types.specs.declared.bodies.Typed.{Typed as TypedTerm}
-use Rattle.auth_types.specs.Scopes.{AreWithin, IsConstructorWithin}
+use Rattle.declared_types.specs.Scopes.{AreWithin, IsConstructorWithin}
 use Rattle.auth_types.proofs.FindingSteps.{grown}
-use Rattle.auth_types.proofs.ScopeStays.{type_stays_at}
+use Rattle.declared_types.proofs.ScopeStays.{type_stays_at}
 
 -- expressions before others in a row
 abbrev pub with_row : List Expression → Expressions → Expressions

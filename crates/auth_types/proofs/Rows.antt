@@ -7,8 +7,8 @@ use Rattle.core_terms.specs.Typing.{is_typed, is_shaped}
 use Rattle.auth_syntax.specs.Parsing.{Parsed, Tree, parsed}
 use Rattle.auth_syntax.specs.Vocabulary.{whole_language}
 use Rattle.auth_types.specs.CheckedPrograms.{Checked, IsProgram, FirstFault, checked}
-use Rattle.auth_types.specs.declared.fault.TypeKind.TheVariants.{Twice, Limit, NoState, UnknownName, RoleShape, AuthInArgument, WrongType, NotPair, NotAuth, NotSum, ArmsWrong, WrongCount}
-use Rattle.auth_types.specs.declared.fault.Limited.TheVariants.{Fields, Parameters}
+use Rattle.declared_types.specs.declared.fault.TypeKind.TheVariants.{Twice, Limit, NoState, UnknownName, RoleShape, AuthInArgument, WrongType, NotPair, NotAuth, NotSum, ArmsWrong, WrongCount}
+use Rattle.declared_types.specs.declared.fault.Limited.TheVariants.{Fields, Parameters}
 
 -- what checking gives of a text that has a tree
 abbrev of_tree : Parsed → Option Checked

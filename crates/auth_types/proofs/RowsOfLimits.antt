@@ -5,13 +5,13 @@ use Rattle.core_terms.specs.Types.{IntTy}
 use Rattle.auth_syntax.specs.Syntax.{FunctionSyntax, ConstructorDeclaration, DeclarationSyntax, TypeDeclaration}
 use Rattle.auth_syntax.specs.Parsing.{Parsed, Tree, parsed}
 use Rattle.auth_syntax.specs.Vocabulary.{whole_language}
-use Rattle.auth_types.specs.Checking.{Checking, Sound, FaultAt}
-use Rattle.auth_types.specs.Declarations.{checked_constructors, checked_declarations}
-use Rattle.auth_types.specs.WrittenTypes.{functions_in}
+use Rattle.declared_types.specs.Checking.{Checking, Sound, FaultAt}
+use Rattle.declared_types.specs.Declarations.{checked_constructors, checked_declarations}
+use Rattle.declared_types.specs.WrittenTypes.{functions_in}
 use Rattle.auth_types.specs.Bodies.{elaborated}
 use Rattle.auth_types.specs.CheckedPrograms.{Checked, FirstFault}
-use Rattle.auth_types.specs.declared.fault.TypeKind.TheVariants.{Twice, Limit, WrongType}
-use Rattle.auth_types.specs.declared.fault.Limited.TheVariants.{Types, Constructors, Functions, Locals}
+use Rattle.declared_types.specs.declared.fault.TypeKind.TheVariants.{Twice, Limit, WrongType}
+use Rattle.declared_types.specs.declared.fault.Limited.TheVariants.{Types, Constructors, Functions, Locals}
 
 -- the first fault, if there is one
 abbrev fault : {A : Type 0} → Checking A → Option Checked

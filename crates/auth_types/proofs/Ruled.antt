@@ -1,11 +1,11 @@
 -- A step of a pass that gives a value exactly where a rule holds, and tells a fault exactly where another one does: for one step after another,
 -- and for things in a row.
-use Rattle.std.proofs.Common.{◌≡◌, ℕ, Bool, true, false, List, [], ◌∷◌, ◌++◌, ◌⊎◌, inl, inr, refl, sym, ap, ◌∙◌, subst}
+use Rattle.std.proofs.Common.{◌≡◌, Bool, true, false, List, [], ◌∷◌, ◌++◌, ◌⊎◌, inl, inr, refl, sym, ap, ◌∙◌, subst}
 use Rattle.std.specs.Bool.{Decides}
 use Rattle.lexemes.specs.declared.place.Place.{Place}
-use Rattle.auth_types.specs.Checking.{Checking, Sound, FaultAt, then_checked, unless_fault}
+use Rattle.declared_types.specs.Checking.{Checking, Sound, FaultAt, then_checked, unless_fault}
 use Rattle.auth_types.specs.InOrder.{EachMeets, NoMore, AndMore, OneBreaks, ThisBreaks, LaterBreaks}
-use Rattle.auth_types.specs.declared.fault.TypeKind.{TypeKind}
+use Rattle.declared_types.specs.declared.fault.TypeKind.{TypeKind}
 use Rattle.auth_types.proofs.Judging.{Judges, judges_then, judges_unless, judges_more, judged_sound, judged_fault, then_is, then_fault, unless_holds, unless_fails}
 
 pub record Ruled {A : Type 0} (found : Checking A) (P : A → Type 0) (F : TypeKind → Place → Type 0) : Type 0 where

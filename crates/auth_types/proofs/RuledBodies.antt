@@ -1,20 +1,20 @@
 -- What the typing rules give passes, and what is broken first is told.
-use Rattle.std.proofs.Common.{◌≡◌, ℕ, zero, suc, ◌+◌, ◌<◌, ◌≤◌, Bool, true, false, List, [], ◌∷◌, ◌++◌, length, map, Option, Some, None, slice_get, slice_index_or, unwrap_or, nat_eq, nat_lt, refl, sym, ap, ◌∙◌, subst, arith}
+use Rattle.std.proofs.Common.{◌≡◌, ℕ, suc, ◌<◌, ◌≤◌, List, [], length, Option, Some, None, unwrap_or, nat_eq, nat_lt, refl, sym, ap, ◌∙◌, subst, arith}
 use Rattle.core_terms.specs.declared.language.term.BinaryOperator.{BinaryOperator}
 use Rattle.core_terms.specs.Types.{Ty, UnitTy, BoolTy, IntTy, TextTy, PairTy, NamedTy, AuthTy}
-use Rattle.core_terms.specs.Terms.{Expression, Expressions, Arms, NoArm, AndArm, NoE, AndE, AuthE, CallE, ConE, LenE, NotE, MatchE, LocalE, LetE, IfE, PairE}
-use Rattle.core_terms.specs.Typing.{same_type}
+use Rattle.core_terms.specs.Terms.{Expression, Expressions, Arms, NoArm, AndArm, AndE, CallE, ConE, LenE, NotE, MatchE, LocalE, LetE, IfE}
 use Rattle.lexemes.specs.declared.place.Place.{Place}
-use Rattle.auth_syntax.specs.Syntax.{NameSyntax, ExpSyntax, LocalSyntax, PairSyntax, UnarySyntax, BinarySyntax, CallSyntax, ConstructorSyntax, LetSyntax, IfSyntax, MatchSyntax, ExpsSyntax, NoExp, AndExp, ArmsSyntax, NoArmSyntax, AndArmSyntax, UnaryOperation, FstOperation, SndOperation, AuthOperation, UnauthOperation, LenOperation, NotOperation, place_of}
-use Rattle.auth_types.specs.Checking.{Checking, Sound, FaultAt, then_checked, unless_fault}
-use Rattle.auth_types.specs.Bodies.{Local, Numbered, Scope, Signature, Typed, TypedArms, arm_names, binary_expression, bound_names, called, constructed, constructor_named, count_of, elaborated, elaborated_arms, elaborated_each, first_of, function_named, last_named, local_at, matched, most_locals, opened, operand_type, result_type, same_names, second_of, typed, unary, wanted, wanted_arm}
+use Rattle.auth_syntax.specs.Syntax.{NameSyntax, ExpSyntax, ExpsSyntax, ArmsSyntax, NoArmSyntax, AndArmSyntax, UnaryOperation, FstOperation, SndOperation, AuthOperation, UnauthOperation, LenOperation, NotOperation, place_of}
+use Rattle.declared_types.specs.Checking.{Checking, Sound, FaultAt, then_checked, unless_fault}
+use Rattle.auth_types.specs.Bodies.{Local, Typed, TypedArms, arm_names, binary_expression, bound_names, called, constructed, count_of, elaborated, elaborated_arms, elaborated_each, first_of, local_at, matched, most_locals, opened, operand_type, result_type, same_names, second_of, typed, unary, wanted, wanted_arm}
+use Rattle.declared_types.specs.Signatures.{Scope, Signature}
 use Rattle.auth_types.specs.TypingRules
-use Rattle.auth_types.specs.TypingRules.{Operates, NamesConstructor, NamesFunction, NamesLocal, constructor_names, constructor_fields, field_types, with_local, with_fields, MayBindAll, IsTypeOf, Elaborates, ElaborateEach, ElaborateArms}
+use Rattle.auth_types.specs.TypingRules.{Operates, constructor_names, constructor_fields, field_types, with_local, with_fields, Elaborates, ElaborateEach, ElaborateArms}
 use Rattle.auth_types.specs.BrokenRules
-use Rattle.auth_types.specs.BrokenRules.{Breaks, Misfits, OneMisfits, BodyBreaks, ArmsBreak, BreaksNames, IsOfType, IsNoPair, IsNoAuth, IsNoSum}
-use Rattle.auth_types.specs.declared.fault.TypeKind.{TypeKind}
-use Rattle.auth_types.specs.declared.fault.TypeKind.TheVariants.{ArmsWrong, Limit, WrongCount, WrongType, NotPair, NotAuth, NotSum}
-use Rattle.auth_types.specs.declared.fault.Limited.TheVariants.{Locals}
+use Rattle.auth_types.specs.BrokenRules.{Breaks, Misfits, OneMisfits, BodyBreaks, ArmsBreak, IsOfType, IsNoPair, IsNoAuth, IsNoSum}
+use Rattle.declared_types.specs.declared.fault.TypeKind.{TypeKind}
+use Rattle.declared_types.specs.declared.fault.TypeKind.TheVariants.{ArmsWrong, Limit, WrongCount, NotPair, NotAuth, NotSum}
+use Rattle.declared_types.specs.declared.fault.Limited.TheVariants.{Locals}
 use Rattle.auth_types.proofs.NamedParts.{local_named, no_local_named, type_of_local, function_is_named, no_function_named, constructor_is_named, no_constructor_named}
 use Rattle.auth_types.proofs.Judging.{then_is, then_fault, unless_holds, unless_fails, wanted_is, wanted_fault, wanted_other, equal_decides, below_decides}
 use Rattle.auth_types.proofs.JudgedNames.{pattern_binds, pattern_breaks}

@@ -1,20 +1,18 @@
 -- The first pass is by the rules of declarations.
-use Rattle.std.proofs.Common.{◌≡◌, ℕ, suc, ◌+◌, Bool, true, false, not, List, [], ◌∷◌, ◌++◌, ◌⊎◌, inl, inr, length, map, reverse, refl, sym, ap, ◌∙◌, subst, append_assoc, arith}
+use Rattle.std.proofs.Common.{◌≡◌, ℕ, ◌+◌, Bool, true, false, not, List, [], ◌∷◌, ◌++◌, ◌⊎◌, inl, inr, map, reverse, refl, sym, ap, ◌∙◌, subst, append_assoc}
 use Rattle.std.specs.Bool.{Decides}
 use Rattle.std.proofs.lemmas.List.{reverse-append, map-append, append-nil}
 use Rattle.lexemes.specs.declared.place.Place.{Place}
 use Rattle.auth_syntax.specs.Syntax.{NameSyntax, TypeSyntax, ConstructorDeclaration, DeclarationSyntax, TypeDeclaration, StateDeclaration, FunctionDeclaration, FunctionSyntax, Program}
-use Rattle.auth_types.specs.Checking.{Checking, Sound, FaultAt, new_name, then_checked, unless_fault}
-use Rattle.auth_types.specs.CheckedPrograms.{constructors_in}
-use Rattle.auth_types.specs.ScopeNames.{joined}
-use Rattle.auth_types.specs.Declarations.{Declared, checked_constructors, checked_declaration, checked_declarations, checked_parameters, first_pass, most_functions, most_types, nothing_declared}
-use Rattle.auth_types.specs.WrittenTypes.{type_names, functions_in, states_in}
+use Rattle.declared_types.specs.Checking.{Checking, Sound, then_checked, unless_fault}
+use Rattle.declared_types.specs.Declarations.{Declared, checked_constructors, checked_declaration, checked_declarations, checked_parameters, first_pass, most_functions, most_types}
+use Rattle.declared_types.specs.WrittenTypes.{type_names, functions_in, states_in}
 use Rattle.auth_types.specs.InOrder.{EachMeets, OneBreaks}
 use Rattle.auth_types.specs.DeclarationRules.{AreDeclared, BreaksDeclared, BreaksDeclaration, BreaksSpace, BreaksConstructor, BreaksParameter, InDeclarations, HasNoState, InTypeName, InConstructors, StateTwice, InFunctionName, InParameters, MayConstruct, MayDeclare, MayHaveParameter, MayStand, constructor_names_before, constructor_names_in, function_names}
-use Rattle.auth_types.specs.declared.fault.TypeKind.{TypeKind}
-use Rattle.auth_types.specs.declared.fault.TypeKind.TheVariants.{NoState, Twice}
-use Rattle.auth_types.specs.declared.fault.Limited.TheVariants.{Types, Functions}
-use Rattle.auth_types.proofs.Ruled.{Ruled, each_checked, each_ruled, ruled_like, ruled_same, ruled_then, ruled_unless, fine, nothing_left, then_then, then_alike, unless_then}
+use Rattle.declared_types.specs.declared.fault.TypeKind.{TypeKind}
+use Rattle.declared_types.specs.declared.fault.TypeKind.TheVariants.{NoState, Twice}
+use Rattle.declared_types.specs.declared.fault.Limited.TheVariants.{Types, Functions}
+use Rattle.auth_types.proofs.Ruled.{Ruled, each_checked, each_ruled, ruled_like, ruled_same, ruled_then, ruled_unless, fine, nothing_left, then_then, unless_then}
 use Rattle.auth_types.proofs.RuledSpaces.{constructor_ruled, constructor_step, constructors_each, name_reverse, name_ruled, name_step, name_then, parameters_ruled}
 
 -- some are there

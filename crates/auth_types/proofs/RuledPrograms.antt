@@ -8,19 +8,21 @@ use Rattle.core_terms.specs.Terms as tree
 use Rattle.core_terms.specs.ProgramTrees.{program_format}
 use Rattle.lexemes.specs.declared.place.Place.{Place}
 use Rattle.auth_syntax.specs.Syntax.{ExpSyntax, ConstructorDeclaration, DeclarationSyntax, TypeDeclaration, StateDeclaration, FunctionDeclaration, FunctionSyntax, ParameterSyntax, Program, place_of}
-use Rattle.auth_types.specs.Checking.{Checking, Sound, FaultAt, then_checked}
-use Rattle.auth_types.specs.Declarations.{first_pass}
-use Rattle.auth_types.specs.WrittenTypes.{functions_in, second_pass, table_of, type_meant, type_names}
-use Rattle.auth_types.specs.RoleRules.{kind_meant}
-use Rattle.auth_types.specs.Bodies.{Local, Scope, checked_function, checked_functions, elaborated, parameter_locals, wanted}
-use Rattle.auth_types.specs.CheckedPrograms.{Checked, FirstFault, IsProgram, all_passes, as_checked, checked, constructors_in, fourth_pass, names_of, scope_of, state_of, table_of_program, third_pass}
+use Rattle.declared_types.specs.Checking.{Checking, Sound, FaultAt, then_checked}
+use Rattle.declared_types.specs.Declarations.{first_pass}
+use Rattle.declared_types.specs.WrittenTypes.{functions_in, second_pass, table_of, type_meant}
+use Rattle.declared_types.specs.RoleRules.{kind_meant}
+use Rattle.auth_types.specs.Bodies.{Local, checked_function, checked_functions, elaborated, parameter_locals, wanted}
+use Rattle.declared_types.specs.Signatures.{Scope}
+use Rattle.auth_types.specs.CheckedPrograms.{FirstFault, IsProgram, all_passes, as_checked, checked, fourth_pass}
+use Rattle.declared_types.specs.DeclaredPrograms.{constructors_in, names_of, scope_of, state_of, table_of_program, third_pass}
 use Rattle.auth_types.specs.InOrder.{OneBreaks, ThisBreaks, LaterBreaks}
 use Rattle.auth_types.specs.TypingRules.{Elaborates}
 use Rattle.auth_types.specs.BrokenRules.{Misfits}
 use Rattle.auth_types.specs.TypingLaws.{DenotesWhatPasses, IsWhole, TellsTheFirst}
 use Rattle.auth_types.specs.DeclarationRules.{AreDeclared, AreKnown, BreaksDeclared, BreaksTypeNames}
 use Rattle.auth_types.specs.ProgramRules.{AreRoles, BreaksBodies, BreaksBody, BreaksProgram, BreaksRoles, Denotes, HasBody, InBodies, InDeclared, InRoles, InTypeNames, FunctionStandsFor}
-use Rattle.auth_types.specs.declared.fault.TypeKind.{TypeKind}
+use Rattle.declared_types.specs.declared.fault.TypeKind.{TypeKind}
 use Rattle.auth_types.proofs.Judging.{wanted_is}
 use Rattle.auth_types.proofs.JudgedBodies.{judged, wanted_judged}
 use Rattle.auth_types.proofs.RuledBodies.{misfit_told, passes}

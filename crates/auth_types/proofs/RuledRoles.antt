@@ -1,5 +1,5 @@
 -- The third pass is by the rules of roles.
-use Rattle.std.proofs.Common.{◌≡◌, ℕ, zero, suc, ◌<◌, Bool, true, false, not, ◌&&◌, ◌||◌, List, [], ◌∷◌, ◌++◌, ◌⊎◌, inl, inr, length, Option, Some, None, unwrap_or, slice_get, slice_index_or, refl, sym, ap, ◌∙◌, subst, arith}
+use Rattle.std.proofs.Common.{◌≡◌, ℕ, zero, suc, Bool, true, false, not, ◌&&◌, ◌||◌, List, [], ◌∷◌, ◌++◌, ◌⊎◌, inl, inr, length, Option, Some, None, unwrap_or, slice_get, refl, sym, ap, ◌∙◌, subst, arith}
 use Rattle.std.specs.Bool.{Decides}
 use Rattle.std.specs.List.{Contains}
 use Rattle.std.proofs.lemmas.Bool.Decides.{Decides-and, Decides-not}
@@ -11,13 +11,13 @@ use Rattle.core_terms.proofs.TypingSound.{same_sound}
 use Rattle.core_terms.proofs.TypingComplete.{same_complete}
 use Rattle.lexemes.specs.declared.place.Place.{Place}
 use Rattle.auth_syntax.specs.Syntax.{TypeSyntax, ParameterSyntax, KindSyntax, InnerSyntax, InitSyntax, QuerySyntax, UpdateSyntax, FunctionSyntax, place_of_type}
-use Rattle.auth_types.specs.Checking.{Checking, Sound, FaultAt, then_checked, unless_fault}
-use Rattle.auth_types.specs.RoleRules.{checked_role, checked_roles, is_new_state, plain_argument}
-use Rattle.auth_types.specs.WrittenTypes.{type_meant}
+use Rattle.declared_types.specs.Checking.{Checking, FaultAt, then_checked, unless_fault}
+use Rattle.declared_types.specs.RoleRules.{checked_role, checked_roles, is_new_state, plain_argument}
+use Rattle.declared_types.specs.WrittenTypes.{type_meant}
 use Rattle.auth_types.specs.InOrder.{EachMeets, OneBreaks}
 use Rattle.auth_types.specs.RoleShapes.{AuthStandsIn, StandsHere, StandsInFirst, StandsInSecond, StandsInField, HasShape, InitShape, QueryShape, UpdateShape, MeetsRole, IsInner, IsShaped, BreaksRole, IsMisshapen, PassesAuth}
-use Rattle.auth_types.specs.declared.fault.TypeKind.{TypeKind}
-use Rattle.auth_types.specs.declared.fault.TypeKind.TheVariants.{RoleShape, AuthInArgument}
+use Rattle.declared_types.specs.declared.fault.TypeKind.{TypeKind}
+use Rattle.declared_types.specs.declared.fault.TypeKind.TheVariants.{RoleShape, AuthInArgument}
 use Rattle.auth_types.proofs.Judging.{type_decides}
 use Rattle.auth_types.proofs.Ruled.{Ruled, fine, refused, each_checked, each_ruled, nothing_left, ruled_like, ruled_same, ruled_unless}
 

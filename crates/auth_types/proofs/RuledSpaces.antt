@@ -1,24 +1,23 @@
 -- Names in their spaces, fields, constructors and parameters are judged by the rules of declarations.
-use Rattle.std.proofs.Common.{◌≡◌, ℕ, suc, ◌+◌, ◌<◌, ◌≤◌, Bool, true, false, not, List, [], ◌∷◌, ◌++◌, ◌⊎◌, inl, inr, length, map, reverse, nat_lt, if◌then◌else◌, refl, sym, ap, ◌∙◌, subst, add-zero, length-append, append_assoc, arith}
+use Rattle.std.proofs.Common.{◌≡◌, ℕ, ◌+◌, ◌<◌, ◌≤◌, Bool, true, false, not, List, [], ◌∷◌, ◌++◌, length, map, reverse, nat_lt, if◌then◌else◌, refl, sym, ap, ◌∙◌, append_assoc, arith}
 use Rattle.std.specs.Bool.{Decides}
 use Rattle.std.specs.List.{Contains}
-use Rattle.std.proofs.lemmas.Bool.Decides.{Decides-not}
 use Rattle.std.proofs.lemmas.List.{length-reverse, reverse-append, map-append, append-nil}
 use Rattle.lexemes.specs.declared.place.Place.{Place}
 use Rattle.auth_syntax.specs.Syntax.{NameSyntax, TypeSyntax, ParameterSyntax, ConstructorDeclaration, place_of_type}
-use Rattle.auth_types.specs.Checking.{Checking, Sound, FaultAt, is_among, new_name, then_checked, unless_fault}
-use Rattle.auth_types.specs.Declarations.{checked_constructor, checked_constructors, checked_fields, checked_parameters, most_constructors, most_fields, most_parameters}
+use Rattle.declared_types.specs.Checking.{Checking, Sound, FaultAt, is_among, new_name, then_checked, unless_fault}
+use Rattle.declared_types.specs.Declarations.{checked_constructor, checked_constructors, checked_fields, checked_parameters, most_constructors, most_fields, most_parameters}
 use Rattle.auth_types.specs.InOrder.{EachMeets, OneBreaks}
 use Rattle.auth_types.specs.DeclarationRules.{MayStand, BreaksSpace, StandsTwice, StandsTooMany, MayHaveField, BreaksField, FieldTooMany, MayConstruct, BreaksConstructor, ConstructorTwice, ConstructorTooMany, InFieldTypes, MayHaveParameter, BreaksParameter, constructor_names_before, parameter_names}
-use Rattle.auth_types.specs.declared.fault.TypeKind.{TypeKind}
-use Rattle.auth_types.specs.declared.fault.TypeKind.TheVariants.{Twice, Limit}
-use Rattle.auth_types.specs.declared.fault.Limited.{Limited}
-use Rattle.auth_types.specs.declared.fault.Limited.TheVariants.{Constructors, Fields, Parameters}
-use Rattle.auth_types.proofs.NamesBefore.{among_reverse}
+use Rattle.declared_types.specs.declared.fault.TypeKind.{TypeKind}
+use Rattle.declared_types.specs.declared.fault.TypeKind.TheVariants.{Twice, Limit}
+use Rattle.declared_types.specs.declared.fault.Limited.{Limited}
+use Rattle.declared_types.specs.declared.fault.Limited.TheVariants.{Constructors, Fields, Parameters}
+use Rattle.declared_types.proofs.NamesBefore.{among_reverse}
 use Rattle.auth_types.proofs.NamedParts.{among_decides}
-use Rattle.auth_types.proofs.Judging.{Judges, below_decides, fails}
+use Rattle.auth_types.proofs.Judging.{below_decides}
 use Rattle.auth_types.proofs.JudgedNames.{one_longer}
-use Rattle.auth_types.proofs.Ruled.{Ruled, fine, refused, each_checked, each_ruled, ruled_like, ruled_same, ruled_unless, ruled_then, then_then, then_alike, unless_then}
+use Rattle.auth_types.proofs.Ruled.{Ruled, fine, refused, each_checked, each_ruled, ruled_same, then_then, unless_then}
 
 pub not_below : (a b : ℕ) → (a < b → ⊥) → b ≤ a
 not_below a b never = grind arith

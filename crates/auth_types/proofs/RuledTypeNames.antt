@@ -1,16 +1,14 @@
 -- The second pass is by the rule of the names of types.
-use Rattle.std.proofs.Common.{◌≡◌, ℕ, Bool, true, false, List, [], ◌∷◌, ◌++◌, map, refl, sym, ap, ◌∙◌, append_assoc}
+use Rattle.std.proofs.Common.{◌≡◌, ℕ, Bool, true, false, List, [], ◌∷◌, ◌++◌, map, refl, sym, ap, ◌∙◌}
 use Rattle.std.specs.Bool.{Decides}
 use Rattle.std.specs.List.{Contains}
-use Rattle.std.proofs.lemmas.List.{append-nil}
 use Rattle.lexemes.specs.declared.place.Place.{Place}
-use Rattle.auth_syntax.specs.Syntax.{NameSyntax, TypeSyntax, UnitTypeSyntax, BoolTypeSyntax, IntTypeSyntax, TextTypeSyntax, NamedTypeSyntax, AuthTypeSyntax, PairTypeSyntax, ParameterSyntax, ConstructorDeclaration, DeclarationSyntax, TypeDeclaration, StateDeclaration, FunctionDeclaration, FunctionSyntax, Program}
-use Rattle.auth_types.specs.Checking.{Checking, Sound, FaultAt, is_among, then_checked, unless_fault}
-use Rattle.auth_types.specs.WrittenTypes.{known_constructors, known_declaration, known_declarations, known_signature, known_type, known_types, second_pass, type_names}
-use Rattle.auth_types.specs.InOrder.{EachMeets, OneBreaks}
+use Rattle.auth_syntax.specs.Syntax.{NameSyntax, TypeSyntax, UnitTypeSyntax, BoolTypeSyntax, IntTypeSyntax, TextTypeSyntax, NamedTypeSyntax, AuthTypeSyntax, PairTypeSyntax, ParameterSyntax, ConstructorDeclaration, DeclarationSyntax, TypeDeclaration, StateDeclaration, FunctionDeclaration, Program}
+use Rattle.declared_types.specs.Checking.{Checking, Sound, FaultAt, is_among, then_checked, unless_fault}
+use Rattle.declared_types.specs.WrittenTypes.{known_constructors, known_declaration, known_declarations, known_type, known_types, second_pass, type_names}
 use Rattle.auth_types.specs.DeclarationRules.{AreKnown, BreaksKnown, BreaksTypeNames, IsKnown, UnknownType, names_in_constructors, names_in_declaration, names_in_declarations, names_in_type, names_in_types}
-use Rattle.auth_types.specs.declared.fault.TypeKind.{TypeKind}
-use Rattle.auth_types.specs.declared.fault.TypeKind.TheVariants.{UnknownName}
+use Rattle.declared_types.specs.declared.fault.TypeKind.{TypeKind}
+use Rattle.declared_types.specs.declared.fault.TypeKind.TheVariants.{UnknownName}
 use Rattle.auth_types.proofs.NamedParts.{among_decides}
 use Rattle.auth_types.proofs.Ruled.{Ruled, fine, refused, each_checked, each_ruled, ruled_same, then_then}
 

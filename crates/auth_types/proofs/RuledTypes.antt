@@ -2,13 +2,12 @@
 use Rattle.std.proofs.Common.{◌≡◌, ℕ, Bool, true, false, List, unwrap_or, refl, sym, ap, ap₂, ◌∙◌, subst}
 use Rattle.std.specs.List.{Contains}
 use Rattle.core_terms.specs.Types.{Ty, NamedTy, PairTy, AuthTy}
-use Rattle.lexemes.specs.declared.place.Place.{Place}
 use Rattle.auth_syntax.specs.Syntax.{TypeSyntax, UnitTypeSyntax, BoolTypeSyntax, IntTypeSyntax, TextTypeSyntax, NamedTypeSyntax, AuthTypeSyntax, PairTypeSyntax}
-use Rattle.auth_types.specs.Checking.{Checking, Sound, FaultAt, is_among, then_checked, unless_fault}
-use Rattle.auth_types.specs.WrittenTypes.{known_type, number_of, type_meant}
+use Rattle.declared_types.specs.Checking.{is_among, then_checked, unless_fault}
+use Rattle.declared_types.specs.WrittenTypes.{known_type, type_meant}
 use Rattle.auth_types.specs.WrittenTypeRules.{TypeStandsFor, UnitStands, BoolStands, IntStands, TextStands, NamedStands, AuthStands, PairStands, WrittenTypesStand}
-use Rattle.auth_types.specs.declared.fault.TypeKind.TheVariants.{UnknownName}
-use Rattle.auth_types.proofs.SoundSteps.{then_sound}
+use Rattle.declared_types.specs.declared.fault.TypeKind.TheVariants.{UnknownName}
+use Rattle.declared_types.proofs.SoundSteps.{then_sound}
 use Rattle.auth_types.proofs.NamedParts.{among_decides, first_holds, holds_first, number_is}
 use Rattle.auth_types.proofs.Ruled.{fine}
 

@@ -1,5 +1,4 @@
 -- The laws of expressions: which pass, and what a fault that is told says.
-use Rattle.std.proofs.Common.{◌≡◌, List}
 use Rattle.auth_types.specs.Bodies.{elaborated}
 use Rattle.auth_types.specs.BrokenRules.{Breaks}
 use Rattle.auth_types.specs.TypingLaws.{PassesByTheRules, TellsWhatBreaks}

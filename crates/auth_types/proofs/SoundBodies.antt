@@ -1,5 +1,5 @@
 -- An expression that passes has the type that it says.
-use Rattle.std.proofs.Common.{◌≡◌, ℕ, suc, Bool, true, false, List, [], ◌∷◌, ◌++◌, length, map, Option, Some, None, option_map, slice_get, unwrap_or, bytes_eq, if◌then◌else◌, nat_eq, nat_lt, eqb-true, refl, sym, ap, ◌∙◌, subst, append_assoc, arith}
+use Rattle.std.proofs.Common.{◌≡◌, ℕ, suc, ◌+◌, ◌<◌, Bool, true, false, List, [], ◌∷◌, ◌++◌, length, map, Option, Some, None, option_map, slice_get, unwrap_or, bytes_eq, if◌then◌else◌, nat_eq, nat_lt, eqb-true, refl, sym, ap, ◌∙◌, subst, append_assoc, arith}
 use Rattle.std.proofs.lemmas.Option.{slice_get-get_or, slice_get-map}
 use Rattle.std.proofs.lemmas.List.{append-nil, length-map, map-append}
 use Rattle.core_terms.specs.declared.language.term.BinaryOperator.TheVariants.{Arith, Compare, TextCompare, Cat}
@@ -11,13 +11,25 @@ use Rattle.core_terms.specs.Typing.{same_type}
 use Rattle.core_terms.proofs.TypingSound.{same_sound}
 use Rattle.auth_syntax.specs.Syntax.{NameSyntax, ExpSyntax, UnitSyntax, BoolSyntax, IntSyntax, TextSyntax, LocalSyntax, PairSyntax, UnarySyntax, BinarySyntax, CallSyntax, ConstructorSyntax, LetSyntax, IfSyntax, MatchSyntax, ExpsSyntax, NoExp, AndExp, ArmsSyntax, NoArmSyntax, AndArmSyntax, UnaryOperation, FstOperation, SndOperation, AuthOperation, UnauthOperation, LenOperation, NotOperation, place_of}
 use Rattle.lexemes.specs.declared.place.Place.{Place}
-use Rattle.auth_types.specs.Checking.{Checking, Sound, FaultAt, is_among, unless_fault}
-use Rattle.auth_types.specs.Bodies.{Local, Numbered, Scope, Signature, Typed, TypedArms, arm_names, binary, binary_expression, bound_names, called, constructed, constructor_named, count_of, elaborated, elaborated_arms, elaborated_each, first_of, function_named, last_named, local_at, matched, most_locals, opened, operand_type, pair, result_type, same_names, second_of, typed, unary, wanted, wanted_arm}
+use Rattle.declared_types.specs.Checking.{Checking, Sound, FaultAt, is_among, unless_fault}
+use Rattle.auth_types.specs.Bodies.{Local, Typed, TypedArms, arm_names, binary, binary_expression, bound_names, called, constructed, count_of, elaborated, elaborated_arms, elaborated_each, first_of, last_named, local_at, matched, most_locals, opened, operand_type, or_else, pair, result_type, same_names, second_of, typed, unary, wanted, wanted_arm}
+use Rattle.declared_types.specs.Signatures.{Numbered, Scope, Signature, constructor_named, function_named}
 use Rattle.auth_types.specs.CheckedLaws.{ArmsHaveGoodLiterals, ElaboratedHasType, HasGoodLiterals, HaveGoodLiterals, IsScopeOf, signature, types_of_locals}
-use Rattle.auth_types.specs.declared.fault.TypeKind.TheVariants.{ArmsWrong, Limit, Twice, WrongCount, WrongType}
-use Rattle.auth_types.specs.declared.fault.Limited.TheVariants.{Locals}
-use Rattle.auth_types.proofs.SoundSteps.{Gives, given, gives_more, gives_then, gives_unless}
-use Rattle.auth_types.proofs.SoundNames.{AsMany, as_many_at, constructor_there, function_there, last_within}
+use Rattle.declared_types.specs.declared.fault.TypeKind.TheVariants.{ArmsWrong, Limit, Twice, WrongCount, WrongType}
+use Rattle.declared_types.specs.declared.fault.Limited.TheVariants.{Locals}
+use Rattle.declared_types.proofs.SoundSteps.{Gives, given, gives_more, gives_then, gives_unless}
+use Rattle.declared_types.proofs.SoundNames.{AsMany, as_many_at, constructor_there, function_there}
+
+-- the number of a name is that of one of the locals, which stand behind n others
+last_within : (n : ℕ) (locals : List Local) (name : List ℕ) (i : ℕ) → last_named n locals name ≡ Some i → i < n + length locals
+last_within n [] name i is = absurd (cc)
+last_within n (l ∷ locals) name i is = by (last_named (n + 1) locals name) (bytes_eq l.name name) (λ j e. last_within (n + 1) locals name j e) is
+  where
+    by : (o : Option ℕ) (b : Bool) → ((j : ℕ) → o ≡ Some j → j < (n + 1) + length locals) → or_else o (if b then Some n else None) ≡ Some i
+        → i < n + suc (length locals)
+    by (Some j) b inside is = let same : j ≡ i = cc in omega (arith, inside j refl, same)
+    by None true inside is = let same : n ≡ i = cc in omega (arith, same)
+    by None false inside is = absurd (cc)
 
 -- the names that a pattern binds are locals of these types behind the others
 pub bound_types : (before : List (List ℕ)) (locals : List Local) (names : List NameSyntax) (ts : List Ty) → length names ≡ length ts

@@ -10,14 +10,15 @@ use Rattle.core_terms.specs.Typing.{all_shaped, all_typed, has_type, same_type, 
 use Rattle.core_terms.proofs.TypingComplete.{both, type_complete}
 use Rattle.core_terms.proofs.TypingSound as test
 use Rattle.auth_syntax.specs.Syntax.{FunctionSyntax, InitSyntax, InnerSyntax, KindSyntax, ParameterSyntax, QuerySyntax, TypeSyntax, UpdateSyntax, place_of, place_of_type}
-use Rattle.auth_types.specs.Checking.{Checking, Sound}
-use Rattle.auth_types.specs.WrittenTypes.{type_meant}
-use Rattle.auth_types.specs.RoleRules.{checked_role, checked_roles, is_new_state, kind_meant, plain_argument}
-use Rattle.auth_types.specs.Bodies.{Scope, checked_function, checked_functions, elaborated, parameter_locals, wanted}
-use Rattle.auth_types.specs.CheckedPrograms.{signature_of}
+use Rattle.declared_types.specs.Checking.{Checking, Sound}
+use Rattle.declared_types.specs.WrittenTypes.{type_meant}
+use Rattle.declared_types.specs.RoleRules.{checked_role, checked_roles, is_new_state, kind_meant, plain_argument}
+use Rattle.auth_types.specs.Bodies.{checked_function, checked_functions, elaborated, parameter_locals, wanted}
+use Rattle.declared_types.specs.Signatures.{Scope}
+use Rattle.declared_types.specs.DeclaredPrograms.{signature_of}
 use Rattle.auth_types.specs.CheckedLaws.{HasGoodLiterals, IsScopeOf, signature, types_of_locals}
-use Rattle.auth_types.specs.declared.fault.TypeKind.TheVariants.{AuthInArgument, RoleShape}
-use Rattle.auth_types.proofs.SoundSteps.{Gives, gives_any, gives_more, gives_then, gives_unless}
+use Rattle.declared_types.specs.declared.fault.TypeKind.TheVariants.{AuthInArgument, RoleShape}
+use Rattle.declared_types.proofs.SoundSteps.{Gives, gives_any, gives_more, gives_then, gives_unless}
 use Rattle.auth_types.proofs.SoundBodies.{elaborated_fits, wanted_fits}
 
 module _ (names : List (List ℕ)) where

@@ -16,7 +16,7 @@ use Rattle.auth_syntax.specs.Grammar.{Written, AreWritten, arms_tokens, declarat
 use Rattle.auth_syntax.specs.Parsing.{parsed, Tree}
 use Rattle.auth_syntax.specs.Vocabulary.{Vocabulary}
 use Rattle.auth_syntax.proofs.Exact.{parsed_is_written}
-use Rattle.auth_types.specs.WrittenTypes.{functions_in}
+use Rattle.declared_types.specs.WrittenTypes.{functions_in}
 use Rattle.auth_types.specs.CheckedLaws.{ArmsHaveGoodLiterals, HasGoodLiterals, HaveGoodLiterals, ProgramHasGoodLiterals}
 
 -- a literal of a token

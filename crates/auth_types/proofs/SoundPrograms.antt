@@ -12,19 +12,20 @@ use Rattle.core_terms.specs.ProgramLimits.{IsFlatType, IsFunctionWithin, express
 use Rattle.core_terms.specs.Typing.{all_shaped, all_typed}
 use Rattle.core_terms.specs.ProgramTrees.{program_format}
 use Rattle.auth_syntax.specs.Syntax.{ConstructorDeclaration, DeclarationSyntax, FunctionDeclaration, FunctionSyntax, ParameterSyntax, Program, StateDeclaration, TypeDeclaration}
-use Rattle.auth_types.specs.Checking.{Checking, FaultAt, Sound, is_among, then_checked}
-use Rattle.auth_types.specs.Bodies.{Signature}
-use Rattle.auth_types.specs.Declarations.{checked_declarations, first_pass, most_constructors, most_fields, most_parameters, nothing_declared}
-use Rattle.auth_types.specs.WrittenTypes.{functions_in, second_pass, states_in, table_of, type_meant}
-use Rattle.auth_types.specs.CheckedPrograms.{IsProgram, all_passes, as_checked, checked, constructors_in, fourth_pass, names_of, scope_of, signature_of, state_of, table_of_program, third_pass}
+use Rattle.declared_types.specs.Checking.{Checking, FaultAt, Sound, is_among, then_checked}
+use Rattle.declared_types.specs.Signatures.{Signature}
+use Rattle.declared_types.specs.Declarations.{checked_declarations, first_pass, most_constructors, most_fields, most_parameters, nothing_declared}
+use Rattle.declared_types.specs.WrittenTypes.{functions_in, second_pass, states_in, table_of, type_meant}
+use Rattle.auth_types.specs.CheckedPrograms.{IsProgram, all_passes, as_checked, checked, fourth_pass}
+use Rattle.declared_types.specs.DeclaredPrograms.{constructors_in, names_of, scope_of, signature_of, state_of, table_of_program, third_pass}
 use Rattle.auth_types.specs.CheckedLaws.{CheckedIsTyped, CheckedIsWithinAllLimits, CheckedIsWithinLimits, CheckedNamesDiffer, CheckedNamesItsTypes, FunctionNamesTypesBelow, IsScopeOf, ParsedIsTyped, ProgramNamesTypesBelow, ScopeIsOfProgram, signature}
-use Rattle.auth_types.specs.declared.fault.TypeKind.TheVariants.{NoState}
-use Rattle.auth_types.proofs.SoundSteps.{Gives, given, gives_then, gives_unless, then_sound}
+use Rattle.declared_types.specs.declared.fault.TypeKind.TheVariants.{NoState}
+use Rattle.declared_types.proofs.SoundSteps.{Gives, given, gives_then, gives_unless, then_sound}
 use Rattle.auth_types.proofs.SoundLiterals.{parsed_has_good_literals}
-use Rattle.auth_types.proofs.SoundNames.{AsMany}
+use Rattle.declared_types.proofs.SoundNames.{AsMany}
 use Rattle.auth_types.proofs.LimitsOfPrograms.{each_within, expressions_counted, expressions_written, few_expressions, flat_state, flat_table}
 use Rattle.auth_types.proofs.SoundFunctions.{HasShape, functions_shaped, functions_typed, roles_shaped, signatures_kept}
-use Rattle.auth_types.proofs.SoundLimits.{AreNew, AreWithin, FewParameters, declarations_within}
+use Rattle.declared_types.proofs.SoundLimits.{AreNew, AreWithin, FewParameters, declarations_within}
 use Rattle.auth_types.proofs.SoundTypes.{AreBelow, as_many_types, declarations_below, functions_below, state_below}
 
 -- the program of these functions

@@ -13,11 +13,12 @@ use Rattle.lexemes.specs.declared.place.Place.{Place}
 use Rattle.auth_syntax.specs.Syntax.{NameSyntax, ExpSyntax, UnitSyntax, BoolSyntax, IntSyntax, TextSyntax, LocalSyntax, PairSyntax, UnarySyntax, BinarySyntax, CallSyntax, ConstructorSyntax, LetSyntax, IfSyntax, MatchSyntax, ExpsSyntax, NoExp, AndExp, ArmsSyntax, NoArmSyntax, AndArmSyntax, UnaryOperation, FstOperation, SndOperation, AuthOperation, UnauthOperation, LenOperation, NotOperation, place_of}
 use Rattle.auth_syntax.specs.Grammar.{arms_levels, expression_levels, expressions_levels}
 use Rattle.auth_syntax.specs.TreeLimits as written
-use Rattle.auth_types.specs.Checking.{Checking, Sound, FaultAt, is_among, unless_fault}
-use Rattle.auth_types.specs.Bodies.{Local, Numbered, Scope, Signature, Typed, TypedArms, arm_names, binary, binary_expression, bound_names, called, constructed, constructor_named, count_of, elaborated, elaborated_arms, elaborated_each, first_of, function_named, last_named, local_at, matched, most_locals, opened, operand_type, pair, same_names, second_of, typed, unary, wanted, wanted_arm}
-use Rattle.auth_types.specs.declared.fault.TypeKind.TheVariants.{ArmsWrong, Limit, Twice, WrongCount, WrongType}
-use Rattle.auth_types.specs.declared.fault.Limited.TheVariants.{Locals}
-use Rattle.auth_types.proofs.SoundSteps.{Gives, gives_more, gives_then, gives_unless}
+use Rattle.declared_types.specs.Checking.{Checking, Sound, FaultAt, is_among, unless_fault}
+use Rattle.auth_types.specs.Bodies.{Local, Typed, TypedArms, arm_names, binary, binary_expression, bound_names, called, constructed, count_of, elaborated, elaborated_arms, elaborated_each, first_of, last_named, local_at, matched, most_locals, opened, operand_type, pair, same_names, second_of, typed, unary, wanted, wanted_arm}
+use Rattle.declared_types.specs.Signatures.{Numbered, Scope, Signature, constructor_named, function_named}
+use Rattle.declared_types.specs.declared.fault.TypeKind.TheVariants.{ArmsWrong, Limit, Twice, WrongCount, WrongType}
+use Rattle.declared_types.specs.declared.fault.Limited.TheVariants.{Locals}
+use Rattle.declared_types.proofs.SoundSteps.{Gives, gives_more, gives_then, gives_unless}
 
 -- the names that a pattern binds stand behind the other locals, and they are not too many
 record IsBound (locals : List Local) (ts : List Ty) (inner : List Local) : Type 0 where

@@ -5,14 +5,16 @@ use Rattle.std.proofs.lemmas.List.Elements.{All-cons, All-head, All-nil}
 use Rattle.core_terms.specs.Types.{Ty}
 use Rattle.core_terms.specs.Terms.{Function}
 use Rattle.auth_syntax.specs.Syntax.{AuthTypeSyntax, BoolTypeSyntax, ConstructorDeclaration, DeclarationSyntax, FunctionDeclaration, FunctionSyntax, IntTypeSyntax, NamedTypeSyntax, PairTypeSyntax, ParameterSyntax, StateDeclaration, TextTypeSyntax, TypeDeclaration, TypeSyntax, UnitTypeSyntax}
-use Rattle.auth_types.specs.Checking.{Sound, is_among}
-use Rattle.auth_types.specs.WrittenTypes.{functions_in, known_constructors, known_declarations, known_signature, known_type, known_types, number_of, states_in, table_of, type_meant, type_names}
-use Rattle.auth_types.specs.Bodies.{Scope, checked_functions}
-use Rattle.auth_types.specs.CheckedPrograms.{first_state}
+use Rattle.declared_types.specs.Checking.{Sound, is_among}
+use Rattle.declared_types.specs.WrittenTypes.{functions_in, known_constructors, known_declarations, known_signature, known_type, known_types, number_of, states_in, table_of, type_meant, type_names}
+use Rattle.auth_types.specs.Bodies.{checked_functions}
+use Rattle.declared_types.specs.Signatures.{Scope}
+use Rattle.declared_types.specs.DeclaredPrograms.{first_state}
 use Rattle.auth_types.specs.CheckedLaws.{FunctionNamesTypesBelow, NamesTypesBelow}
-use Rattle.auth_types.specs.declared.fault.TypeKind.TheVariants.{UnknownName}
-use Rattle.auth_types.proofs.SoundSteps.{Gives, gives_any, gives_more, gives_then, gives_unless}
-use Rattle.auth_types.proofs.SoundNames.{number_within}
+use Rattle.declared_types.specs.declared.fault.TypeKind.TheVariants.{UnknownName}
+use Rattle.declared_types.proofs.SoundSteps.{Gives, gives_any, gives_more, gives_then, gives_unless}
+use Rattle.declared_types.proofs.SoundLimits.{rows_of}
+use Rattle.declared_types.proofs.SoundNames.{number_within}
 use Rattle.auth_types.proofs.SoundFunctions.{each_made, of_its_type, parameter_types}
 
 -- there are as many types in the table as names of types
@@ -62,17 +64,13 @@ module _ (names : List (List ℕ)) where
       (λ _ h. gives_more (λ _. All Below (map (type_meant names) ts)) (λ _. All Below (map (type_meant names) (t ∷ ts))) (known_types names ts)
       (λ _ j. All-cons Below (type_meant names t) (map (type_meant names) ts) h j) (all_below ts))
 
-  -- the rows of a type in the table
-  abbrev pub rows_of : List ConstructorDeclaration → List (List Ty)
-  rows_of constructors = map (λ c. map (type_meant names) c.fields) constructors
-
-  constructors_below : (cs : List ConstructorDeclaration) → Gives (λ _. All (All Below) (rows_of cs)) (known_constructors names cs)
+  constructors_below : (cs : List ConstructorDeclaration) → Gives (λ _. All (All Below) (rows_of names cs)) (known_constructors names cs)
   constructors_below [] = All-nil (All Below)
   constructors_below (c ∷ cs) =
-      gives_then (λ _. All Below (map (type_meant names) c.fields)) (λ _. All (All Below) (rows_of (c ∷ cs))) (known_types names c.fields)
+      gives_then (λ _. All Below (map (type_meant names) c.fields)) (λ _. All (All Below) (rows_of names (c ∷ cs))) (known_types names c.fields)
       _ (all_below c.fields)
-      (λ _ h. gives_more (λ _. All (All Below) (rows_of cs)) (λ _. All (All Below) (rows_of (c ∷ cs))) (known_constructors names cs)
-      (λ _ j. All-cons (All Below) (map (type_meant names) c.fields) (rows_of cs) h j) (constructors_below cs))
+      (λ _ h. gives_more (λ _. All (All Below) (rows_of names cs)) (λ _. All (All Below) (rows_of names (c ∷ cs))) (known_constructors names cs)
+      (λ _ j. All-cons (All Below) (map (type_meant names) c.fields) (rows_of names cs) h j) (constructors_below cs))
 
   parameters_below : (ps : List ParameterSyntax) → Gives (λ _. All Below (parameter_types names ps)) (known_types names (map (λ p. p.of_type) ps))
   parameters_below [] = All-nil Below
@@ -103,10 +101,10 @@ module _ (names : List (List ℕ)) where
   pub declarations_below : (ds : List DeclarationSyntax) → Gives (λ _. AreBelow ds) (known_declarations names ds)
   declarations_below [] = record { table = All-nil (All (All Below)); states = All-nil Below; functions = All-nil SignatureBelow }
   declarations_below (TypeDeclaration at name cs ∷ ds) =
-      gives_then (λ _. All (All Below) (rows_of cs)) (λ _. AreBelow (TypeDeclaration at name cs ∷ ds)) (known_constructors names cs)
+      gives_then (λ _. All (All Below) (rows_of names cs)) (λ _. AreBelow (TypeDeclaration at name cs ∷ ds)) (known_constructors names cs)
       _ (constructors_below cs)
       (λ _ h. gives_more (λ _. AreBelow ds) (λ _. AreBelow (TypeDeclaration at name cs ∷ ds)) (known_declarations names ds)
-      (λ _ j. record { table = All-cons (All (All Below)) (rows_of cs) (table_of names ds) h j.table; states = j.states; functions = j.functions })
+      (λ _ j. record { table = All-cons (All (All Below)) (rows_of names cs) (table_of names ds) h j.table; states = j.states; functions = j.functions })
       (declarations_below ds))
   declarations_below (StateDeclaration at t ∷ ds) =
       gives_then (λ _. Below (type_meant names t)) (λ _. AreBelow (StateDeclaration at t ∷ ds)) (known_type names t) _ (known_below t)

@@ -10,24 +10,12 @@ pub use Rattle.core_terms.specs.ProgramLimits.{most_locals}
 use Rattle.core_terms.specs.Typing.{same_type}
 use Rattle.lexemes.specs.declared.place.Place.{Place}
 use Rattle.auth_syntax.specs.Syntax.{NameSyntax, ExpSyntax, UnitSyntax, BoolSyntax, IntSyntax, TextSyntax, LocalSyntax, PairSyntax, UnarySyntax, BinarySyntax, CallSyntax, ConstructorSyntax, LetSyntax, IfSyntax, MatchSyntax, ExpsSyntax, NoExp, AndExp, ArmsSyntax, NoArmSyntax, AndArmSyntax, UnaryOperation, FstOperation, SndOperation, AuthOperation, UnauthOperation, LenOperation, NotOperation, FunctionSyntax, ParameterSyntax, place_of}
-use Rattle.auth_types.specs.Checking.{Checking, Sound, FaultAt, then_checked, unless_fault, is_among}
-use Rattle.auth_types.specs.WrittenTypes.{number_of, type_meant}
-use Rattle.auth_types.specs.RoleRules.{kind_meant}
-use Rattle.auth_types.specs.declared.fault.TypeKind.TheVariants.{Twice, UnknownName, WrongType, NotPair, NotAuth, NotSum, ArmsWrong, WrongCount, Limit}
-use Rattle.auth_types.specs.declared.fault.Limited.TheVariants.{Locals}
-
--- what a function is called with, and what it gives
-pub record Signature : Type 0 where
-  pub name : List ℕ
-  pub parameters : List Ty
-  pub result : Ty
-
--- what a program declares for its bodies: the functions by number; the constructors of each named type, by number and tag, with their
--- names and the types of their fields
-pub record Scope : Type 0 where
-  pub functions : List Signature
-  pub constructors : List (List (List ℕ))
-  pub table : Table
+use Rattle.declared_types.specs.Checking.{Checking, Sound, FaultAt, then_checked, unless_fault, is_among}
+use Rattle.declared_types.specs.WrittenTypes.{type_meant}
+use Rattle.declared_types.specs.Signatures.{Numbered, Scope, Signature, constructor_named, function_named}
+use Rattle.declared_types.specs.RoleRules.{kind_meant}
+use Rattle.declared_types.specs.declared.fault.TypeKind.TheVariants.{Twice, UnknownName, WrongType, NotPair, NotAuth, NotSum, ArmsWrong, WrongCount, Limit}
+use Rattle.declared_types.specs.declared.fault.Limited.TheVariants.{Locals}
 
 -- a local where it may be named; a local's number is its place in the list
 pub record Local : Type 0 where
@@ -60,24 +48,6 @@ last_named n (local ∷ locals) name = or_else (last_named (n + 1) locals name) 
 abbrev pub local_at : Place → List Local → Option ℕ → Checking Typed
 local_at at locals None = FaultAt UnknownName at
 local_at at locals (Some i) = typed (LocalE i) (slice_index_or (map (λ l. l.of_type) locals) i UnitTy)
-
--- the function of a name, with its number
-pub record Numbered (A : Type 0) : Type 0 where
-  pub number : ℕ
-  pub value : A
-
-abbrev pub function_named : ℕ → List Signature → List ℕ → Option (Numbered Signature)
-function_named n [] name = None
-function_named n (f ∷ fs) name = if bytes_eq f.name name then Some (record { number = n; value = f }) else function_named (n + 1) fs name
-
--- the constructor of a name: the number of its type, and its tag
-abbrev pub tag_in : ℕ → Option ℕ → Option (Numbered ℕ) → Option (Numbered ℕ)
-tag_in number (Some tag) others = Some (record { number = number; value = tag })
-tag_in number None others = others
-
-abbrev pub constructor_named : ℕ → List (List (List ℕ)) → List ℕ → Option (Numbered ℕ)
-constructor_named number [] name = None
-constructor_named number (names ∷ others) name = tag_in number (number_of names name) (constructor_named (number + 1) others name)
 
 -- an operation on one operand, by the operand's type
 abbrev pub first_of : Place → Expression → Ty → Checking Typed

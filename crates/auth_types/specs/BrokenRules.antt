@@ -6,12 +6,13 @@ use Rattle.core_terms.specs.Types.{Ty, BoolTy, TextTy, PairTy, NamedTy, AuthTy}
 use Rattle.core_terms.specs.Terms.{Expression}
 use Rattle.lexemes.specs.declared.place.Place.{Place}
 use Rattle.auth_syntax.specs.Syntax.{NameSyntax, ExpSyntax, LocalSyntax, PairSyntax, UnarySyntax, BinarySyntax, CallSyntax, ConstructorSyntax, LetSyntax, IfSyntax, MatchSyntax, ExpsSyntax, AndExp, ArmsSyntax, AndArmSyntax, UnaryOperation, FstOperation, SndOperation, UnauthOperation, LenOperation, NotOperation, place_of}
-use Rattle.auth_types.specs.Bodies.{Local, Scope, Signature, arm_names, count_of, most_locals}
+use Rattle.auth_types.specs.Bodies.{Local, arm_names, count_of, most_locals}
+use Rattle.declared_types.specs.Signatures.{Scope, Signature}
 use Rattle.auth_types.specs.InOrder.{NoneFits, OneBreaks}
-use Rattle.auth_types.specs.TypingRules.{Operates, NamesLocal, NamesFunction, NamesConstructor, constructor_names, constructor_fields, field_types, with_local, with_fields, MayBind, MayBindAll, Elaborates, ElaborateEach}
-use Rattle.auth_types.specs.declared.fault.TypeKind.{TypeKind}
-use Rattle.auth_types.specs.declared.fault.TypeKind.TheVariants.{Twice, UnknownName, WrongType, NotPair, NotAuth, NotSum, ArmsWrong, WrongCount, Limit}
-use Rattle.auth_types.specs.declared.fault.Limited.TheVariants.{Locals}
+use Rattle.auth_types.specs.TypingRules.{Operates, NamesFunction, NamesConstructor, constructor_names, constructor_fields, field_types, with_local, with_fields, MayBind, MayBindAll, Elaborates}
+use Rattle.declared_types.specs.declared.fault.TypeKind.{TypeKind}
+use Rattle.declared_types.specs.declared.fault.TypeKind.TheVariants.{Twice, UnknownName, WrongType, NotPair, NotAuth, NotSum, ArmsWrong, WrongCount, Limit}
+use Rattle.declared_types.specs.declared.fault.Limited.TheVariants.{Locals}
 
 -- the type is no pair, no authenticated one, no named one
 abbrev pub IsNoPair : Ty → Type 0

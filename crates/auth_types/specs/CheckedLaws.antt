@@ -10,11 +10,13 @@ use Rattle.auth_syntax.specs.Syntax.{ExpSyntax, IntSyntax, TextSyntax, PairSynta
 use Rattle.auth_syntax.specs.TreeLimits as trees
 use Rattle.auth_syntax.specs.Parsing.{parsed, Tree}
 use Rattle.auth_syntax.specs.Vocabulary.{Vocabulary}
-use Rattle.auth_types.specs.Checking.{Sound}
-use Rattle.auth_types.specs.Declarations.{most_types, most_constructors, most_fields, most_functions, most_parameters}
-use Rattle.auth_types.specs.WrittenTypes.{functions_in, type_names}
-use Rattle.auth_types.specs.Bodies.{Local, Scope, Signature, Typed, elaborated}
-use Rattle.auth_types.specs.CheckedPrograms.{IsProgram, all_passes, checked, scope_of}
+use Rattle.declared_types.specs.Checking.{Sound}
+use Rattle.declared_types.specs.Declarations.{most_types, most_constructors, most_fields, most_functions, most_parameters}
+use Rattle.declared_types.specs.WrittenTypes.{functions_in, type_names}
+use Rattle.auth_types.specs.Bodies.{Local, Typed, elaborated}
+use Rattle.declared_types.specs.Signatures.{Scope, Signature}
+use Rattle.auth_types.specs.CheckedPrograms.{IsProgram, all_passes, checked}
+use Rattle.declared_types.specs.DeclaredPrograms.{scope_of}
 
 -- Each int literal has 64 bits, and each text literal is UTF-8 of at most 65,532 bytes. So it is in each tree that a text has.
 abbrev mutual

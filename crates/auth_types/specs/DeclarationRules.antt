@@ -2,18 +2,17 @@
 -- roles have their shapes. What breaks such a rule, and at which place.
 use Rattle.std.specs.Prelude.{◌≡◌, ℕ, ◌<◌, ◌≤◌, List, [], ◌∷◌, ◌++◌, length, map}
 use Rattle.std.specs.List.{Contains}
-use Rattle.core_terms.specs.Types.{Ty, PairTy, NamedTy, AuthTy, Table, fields_at}
 use Rattle.lexemes.specs.declared.place.Place.{Place}
-use Rattle.auth_syntax.specs.Syntax.{NameSyntax, TypeSyntax, NamedTypeSyntax, AuthTypeSyntax, PairTypeSyntax, place_of_type, ParameterSyntax, KindSyntax, InnerSyntax, InitSyntax, QuerySyntax, UpdateSyntax, FunctionSyntax, ConstructorDeclaration, DeclarationSyntax, TypeDeclaration, StateDeclaration, FunctionDeclaration, Program}
-use Rattle.auth_types.specs.Declarations.{most_types, most_constructors, most_fields, most_functions, most_parameters}
-use Rattle.auth_types.specs.WrittenTypes.{type_names, functions_in, states_in}
-use Rattle.auth_types.specs.CheckedPrograms.{constructors_in}
-use Rattle.auth_types.specs.ScopeNames.{joined}
+use Rattle.auth_syntax.specs.Syntax.{NameSyntax, TypeSyntax, NamedTypeSyntax, AuthTypeSyntax, PairTypeSyntax, place_of_type, ParameterSyntax, FunctionSyntax, ConstructorDeclaration, DeclarationSyntax, TypeDeclaration, StateDeclaration, FunctionDeclaration, Program}
+use Rattle.declared_types.specs.Declarations.{most_types, most_constructors, most_fields, most_functions, most_parameters}
+use Rattle.declared_types.specs.WrittenTypes.{type_names, functions_in, states_in}
+use Rattle.declared_types.specs.DeclaredPrograms.{constructors_in}
+use Rattle.declared_types.specs.ScopeNames.{joined}
 use Rattle.auth_types.specs.InOrder.{EachMeets, OneBreaks}
-use Rattle.auth_types.specs.declared.fault.TypeKind.{TypeKind}
-use Rattle.auth_types.specs.declared.fault.TypeKind.TheVariants.{Twice, Limit, NoState, UnknownName, RoleShape, AuthInArgument}
-use Rattle.auth_types.specs.declared.fault.Limited.{Limited}
-use Rattle.auth_types.specs.declared.fault.Limited.TheVariants.{Types, Constructors, Fields, Functions, Parameters}
+use Rattle.declared_types.specs.declared.fault.TypeKind.{TypeKind}
+use Rattle.declared_types.specs.declared.fault.TypeKind.TheVariants.{Twice, Limit, NoState, UnknownName}
+use Rattle.declared_types.specs.declared.fault.Limited.{Limited}
+use Rattle.declared_types.specs.declared.fault.Limited.TheVariants.{Types, Constructors, Fields, Functions, Parameters}
 
 -- A name of a space in which these stand already: it is none of them, and they are fewer than there may be.
 pub record MayStand (before : List (List ℕ)) (most : ℕ) (name : List ℕ) : Type 0 where

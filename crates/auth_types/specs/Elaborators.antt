@@ -17,18 +17,19 @@ use Rattle.auth_syntax.specs.Syntax.{ExpSyntax, ExpsSyntax, ArmsSyntax, place_of
 use Rattle.auth_syntax.specs.Trees as written
 use Rattle.lexemes.specs.declared.place.Place.{Place}
 use Rattle.auth_syntax.specs.declared.tree.ExpTree.{ExpTree}
-use Rattle.auth_types.specs.Checking.{Checking, Sound, FaultAt, then_checked, unless_fault}
-use Rattle.auth_types.specs.Bodies.{Local, Numbered, Scope, Signature, Typed, TypedArms, bound_names, called, constructed, elaborated, elaborated_arms, elaborated_each, matched, typed, wanted_arm}
-use Rattle.auth_types.specs.Scopes.{scope_meant}
+use Rattle.declared_types.specs.Checking.{Checking, Sound, FaultAt, then_checked, unless_fault}
+use Rattle.auth_types.specs.Bodies.{Local, Typed, TypedArms, bound_names, called, constructed, elaborated, elaborated_arms, elaborated_each, matched, typed, wanted_arm}
+use Rattle.declared_types.specs.Signatures.{Numbered, Scope, Signature}
+use Rattle.declared_types.specs.Scopes.{scope_meant}
 use Rattle.auth_types.specs.Locals.{locals_meant}
-use Rattle.auth_types.specs.OverTypes.{Grows}
-use Rattle.auth_types.specs.declared.fault.TypeKind.TheVariants.{WrongCount}
+use Rattle.declared_types.specs.OverTypes.{Grows}
+use Rattle.declared_types.specs.declared.fault.TypeKind.TheVariants.{WrongCount}
 use Rattle.core_terms.specs.declared.fault.Fault.TheVariants.{At, NoMemory}
-use Rattle.auth_types.specs.declared.scope.ConstructorId.{ConstructorId}
+use Rattle.declared_types.specs.declared.scope.ConstructorId.{ConstructorId}
 use Rattle.auth_types.specs.declared.bodies.Typed.{Typed as TypedTerm}
 use Rattle.auth_types.specs.declared.bodies.TypedArms.{TypedArms as TypedBodies}
 use Rattle.auth_types.specs.declared.bodies.elaborator.Elaborator.{Elaborator}
-use Rattle.auth_types.specs.Outcomes.{TypeFault}
+use Rattle.declared_types.specs.Findings.{TypeFault}
 
 -- the types by number, the scope and the locals where an elaborator stands
 abbrev pub types_of : Elaborator → List Ty

@@ -2,7 +2,7 @@
 use Rattle.std.specs.Prelude.{◌≡◌, ℕ, suc, List, [], ◌∷◌, ◌++◌, Some, slice_get, take, drop}
 use Rattle.std.specs.List.{All}
 use Rattle.lexemes.specs.declared.place.Place.{Place}
-use Rattle.auth_types.specs.declared.fault.TypeKind.{TypeKind}
+use Rattle.declared_types.specs.declared.fault.TypeKind.{TypeKind}
 
 -- none of these fits
 abbrev pub NoneFits : {A : Type 0} → (A → Type 0) → List A → Type 0

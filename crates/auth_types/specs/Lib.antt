@@ -1,17 +1,15 @@
-pub mod Checking
-pub mod Declarations
-pub mod WrittenTypes
-pub mod RoleRules
+-- what a program declares, of which public clauses speak
+pub use Rattle.declared_types.specs.Checking
+pub use Rattle.declared_types.specs.Findings
+pub use Rattle.declared_types.specs.Declarations
+pub use Rattle.declared_types.specs.WrittenTypes
+pub use Rattle.declared_types.specs.RoleRules
+pub use Rattle.declared_types.specs.Signatures
+pub use Rattle.declared_types.specs.DeclaredPrograms
+pub use Rattle.declared_types.specs.ScopeNames
 pub mod Bodies
 pub mod CheckedPrograms
 pub mod Outcomes
-pub mod ScopeNames
-pub mod DeclaredNames
-pub mod OverTypes
-pub mod Scopes
-pub mod Numbering
-pub mod Passes
-pub mod RoleHeads
 pub mod CheckedLaws
 pub mod Locals
 pub mod Elaborators

@@ -1,22 +1,22 @@
 -- The rules of the language for a whole program: the program that a tree stands for, and the first rule that a tree breaks.
 use Rattle.std.specs.Prelude.{◌≡◌, ℕ, List, [], map}
 use Rattle.std.specs.List.{AllZip}
-use Rattle.core_terms.specs.Types.{Ty, Table}
-use Rattle.core_terms.specs.Terms.{Kind, Function}
+use Rattle.core_terms.specs.Terms.{Function}
 use Rattle.core_terms.specs.Terms as tree
 use Rattle.core_terms.specs.ProgramTrees.{program_format}
 use Rattle.lexemes.specs.declared.place.Place.{Place}
 use Rattle.auth_syntax.specs.Syntax.{ParameterSyntax, FunctionSyntax, Program}
-use Rattle.auth_types.specs.Bodies.{Scope, parameter_locals}
-use Rattle.auth_types.specs.CheckedPrograms.{names_of, scope_of, state_of, table_of_program}
-use Rattle.auth_types.specs.RoleRules.{kind_meant}
-use Rattle.auth_types.specs.WrittenTypes.{functions_in, type_meant}
+use Rattle.auth_types.specs.Bodies.{parameter_locals}
+use Rattle.declared_types.specs.Signatures.{Scope}
+use Rattle.declared_types.specs.DeclaredPrograms.{names_of, scope_of, state_of, table_of_program}
+use Rattle.declared_types.specs.RoleRules.{kind_meant}
+use Rattle.declared_types.specs.WrittenTypes.{functions_in, type_meant}
 use Rattle.auth_types.specs.InOrder.{EachMeets, OneBreaks}
 use Rattle.auth_types.specs.TypingRules.{Elaborates}
 use Rattle.auth_types.specs.BrokenRules.{Misfits}
 use Rattle.auth_types.specs.DeclarationRules.{AreDeclared, BreaksDeclared, AreKnown, BreaksTypeNames}
 use Rattle.auth_types.specs.RoleShapes.{MeetsRole, BreaksRole}
-use Rattle.auth_types.specs.declared.fault.TypeKind.{TypeKind}
+use Rattle.declared_types.specs.declared.fault.TypeKind.{TypeKind}
 
 -- A function of the tree stands for this one: its body has the type of its result, where its parameters are the locals.
 pub record FunctionStandsFor (names : List (List ℕ)) (scope : Scope) (function : FunctionSyntax) (g : Function) : Type 0 where

@@ -4,9 +4,9 @@ use Rattle.std.specs.List.{Contains}
 use Rattle.core_terms.specs.Types.{Ty, PairTy, NamedTy, AuthTy, Table}
 use Rattle.lexemes.specs.declared.place.Place.{Place}
 use Rattle.auth_syntax.specs.Syntax.{TypeSyntax, place_of_type, ParameterSyntax, KindSyntax, InnerSyntax, InitSyntax, QuerySyntax, UpdateSyntax, FunctionSyntax}
-use Rattle.auth_types.specs.WrittenTypes.{type_meant}
-use Rattle.auth_types.specs.declared.fault.TypeKind.{TypeKind}
-use Rattle.auth_types.specs.declared.fault.TypeKind.TheVariants.{RoleShape, AuthInArgument}
+use Rattle.declared_types.specs.WrittenTypes.{type_meant}
+use Rattle.declared_types.specs.declared.fault.TypeKind.{TypeKind}
+use Rattle.declared_types.specs.declared.fault.TypeKind.TheVariants.{RoleShape, AuthInArgument}
 
 -- An `auth` stands in a type: it is one, or one stands in a part of a pair, or in a field of a constructor of a named type.
 pub data AuthStandsIn (table : Table) : Ty → Type 0 where

@@ -5,13 +5,14 @@ use Rattle.core_terms.specs.Terms.{Expression}
 use Rattle.core_terms.specs.Terms as tree
 use Rattle.auth_syntax.specs.Syntax.{ExpSyntax, Program}
 use Rattle.lexemes.specs.declared.place.Place.{Place}
-use Rattle.auth_types.specs.Checking.{Sound, FaultAt}
-use Rattle.auth_types.specs.Bodies.{Local, Scope, elaborated}
+use Rattle.declared_types.specs.Checking.{Sound, FaultAt}
+use Rattle.auth_types.specs.Bodies.{Local, elaborated}
+use Rattle.declared_types.specs.Signatures.{Scope}
 use Rattle.auth_types.specs.TypingRules.{Elaborates}
 use Rattle.auth_types.specs.BrokenRules.{Breaks}
 use Rattle.auth_types.specs.CheckedPrograms.{FirstFault, IsProgram, checked}
 use Rattle.auth_types.specs.ProgramRules.{BreaksProgram, Denotes}
-use Rattle.auth_types.specs.declared.fault.TypeKind.{TypeKind}
+use Rattle.declared_types.specs.declared.fault.TypeKind.{TypeKind}
 
 -- each constructor of a scope has its name and its fields
 abbrev pub IsWhole : Scope → Type 0

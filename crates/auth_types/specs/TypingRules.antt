@@ -1,5 +1,5 @@
 -- The typing rules of the language, one for each form of an expression: what an expression of the tree stands for, and its type.
-use Rattle.std.specs.Prelude.{◌≡◌, ℕ, ◌+◌, ◌≤◌, ◌<◌, ℤ, Bool, List, [], ◌∷◌, ◌++◌, length, map, slice_get, unwrap_or}
+use Rattle.std.specs.Prelude.{◌≡◌, ℕ, ◌+◌, ◌<◌, ℤ, Bool, List, [], ◌∷◌, ◌++◌, length, map, slice_get, unwrap_or}
 use Rattle.std.specs.List.{Contains}
 use Rattle.core_terms.specs.declared.language.term.Arith.{Arith as ArithOperator}
 use Rattle.core_terms.specs.declared.language.term.Compare.{Compare as CompareOperator}
@@ -10,7 +10,8 @@ use Rattle.core_terms.specs.Types.{Ty, UnitTy, BoolTy, IntTy, TextTy, PairTy, Na
 use Rattle.core_terms.specs.Terms.{Expression, UnitE, BoolE, IntE, TextE, LocalE, PairE, FstE, SndE, NotE, LenE, AuthE, UnauthE, ConE, ArithE, CompareE, TextCompareE, CatE, LetE, IfE, MatchE, CallE, Expressions, NoE, AndE, Arms, NoArm, AndArm}
 use Rattle.lexemes.specs.declared.place.Place.{Place}
 use Rattle.auth_syntax.specs.Syntax.{NameSyntax, ExpSyntax, UnitSyntax, BoolSyntax, IntSyntax, TextSyntax, LocalSyntax, PairSyntax, UnarySyntax, BinarySyntax, CallSyntax, ConstructorSyntax, LetSyntax, IfSyntax, MatchSyntax, ExpsSyntax, NoExp, AndExp, ArmsSyntax, NoArmSyntax, AndArmSyntax, FstOperation, SndOperation, AuthOperation, UnauthOperation, LenOperation, NotOperation}
-use Rattle.auth_types.specs.Bodies.{Local, Scope, Signature, arm_names, most_locals}
+use Rattle.auth_types.specs.Bodies.{Local, arm_names, most_locals}
+use Rattle.declared_types.specs.Signatures.{Scope, Signature}
 use Rattle.auth_types.specs.InOrder.{IsFirst, IsLast, EachMeets}
 
 -- The operations on two operands: the type of both operands, that of the result, and what is made of the two.

@@ -3,8 +3,8 @@ use Rattle.std.specs.Prelude.{◌≡◌, ◌↔◌, ℕ, List}
 use Rattle.core_terms.specs.Types.{Ty, UnitTy, BoolTy, IntTy, TextTy, PairTy, NamedTy, AuthTy}
 use Rattle.lexemes.specs.declared.place.Place.{Place}
 use Rattle.auth_syntax.specs.Syntax.{TypeSyntax, UnitTypeSyntax, BoolTypeSyntax, IntTypeSyntax, TextTypeSyntax, NamedTypeSyntax, AuthTypeSyntax, PairTypeSyntax}
-use Rattle.auth_types.specs.Checking.{Sound}
-use Rattle.auth_types.specs.WrittenTypes.{known_type, type_meant}
+use Rattle.declared_types.specs.Checking.{Sound}
+use Rattle.declared_types.specs.WrittenTypes.{known_type, type_meant}
 use Rattle.auth_types.specs.InOrder.{IsFirst}
 
 pub data TypeStandsFor (names : List (List ℕ)) : TypeSyntax → Ty → Type 0 where

@@ -18,11 +18,11 @@ ghost use Rattle.auth_syntax.specs.Trees as written;
 ghost use Rattle.auth_types.specs.Bodies as specified;
 ghost use Rattle.auth_types.specs.CheckedLaws.{ArmsHaveGoodLiterals, HasGoodLiterals, HaveGoodLiterals};
 ghost use Rattle.auth_types.specs.Elaborators.{Keeps, arm_found, arms_found, arms_of, boxed_of, fields_of, found_at, found_in, row_found, row_of, typed_of, types_of, want_of};
-ghost use Rattle.auth_types.specs.OverTypes.{FindsOver};
-ghost use Rattle.auth_types.specs.Scopes.{AreWithin, IsConstructorWithin};
+ghost use Rattle.declared_types.specs.OverTypes.{FindsOver};
+ghost use Rattle.declared_types.specs.Scopes.{AreWithin, IsConstructorWithin};
 
 use crate::bodies::elaborator::Elaborator;
-use crate::fault::{TypeFault, TypeKind};
+use declared_types::fault::{TypeFault, TypeKind};
 use auth_syntax::tree::{Arm, ExpTree, PlacedName};
 use core_terms::language::{BinaryOperator, Constructor, Term, TyForm};
 use core_terms::{Name, TyId};

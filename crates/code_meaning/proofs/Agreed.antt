@@ -26,7 +26,7 @@ module _ (hash : Hash) (is_hash : IsHash hash) (format : Format) (is_format : Is
   abbrev P : Program
   P = over format types
 
-  projections_are : (ts : List Ty) (vs : Values) → AreIdeal types ts vs → AreShallow types ts (projections hash (over format types) ts vs)
+  pub projections_are : (ts : List Ty) (vs : Values) → AreIdeal types ts vs → AreShallow types ts (projections hash (over format types) ts vs)
   projections_are [] NoV h = tt
   projections_are (t ∷ ts) (AndV v vs) h = (shallow_is (digest_at hash P) (is_format.digest_length hash is_hash) types t v h.0, projections_are ts vs h.1)
   projections_are [] (AndV v vs) h = elim h [ ]

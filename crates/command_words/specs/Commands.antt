@@ -2,7 +2,7 @@
 use Rattle.std.specs.Prelude.{◌≡◌, ◌⊎◌, ℕ, List, [], ◌∷◌, length, map, find, bytes_eq, codes, Option}
 use Rattle.std.specs.Borrow.{Bor}
 use Rattle.command_words.specs.declared.command.Command.{Command}
-use Rattle.command_words.specs.declared.command.Command.TheVariants.{Check, Init, Shallow, Prove, Verify, Audit}
+use Rattle.command_words.specs.declared.command.Command.TheVariants.{Check, Init, Ideal, Step, Shallow, Prove, Verify, Audit}
 
 abbrev pub Text : Type 0
 Text = List ℕ
@@ -25,6 +25,8 @@ abbrev pub commands : List Row
 commands =
     row Check (codes "check") (codes "P" ∷ []) ∷
     row Init (codes "init") (codes "P" ∷ codes "ROLE" ∷ codes "ARG" ∷ codes "FUEL" ∷ codes "OUT" ∷ []) ∷
+    row Ideal (codes "ideal") (codes "P" ∷ codes "ROLE" ∷ codes "IMG" ∷ codes "ARG" ∷ codes "FUEL" ∷ []) ∷
+    row Step (codes "step") (codes "P" ∷ codes "ROLE" ∷ codes "IMG" ∷ codes "ARG" ∷ codes "FUEL" ∷ codes "OUT" ∷ []) ∷
     row Shallow (codes "shallow") (codes "P" ∷ codes "IMG" ∷ codes "OUT" ∷ []) ∷
     row Prove (codes "prove") (codes "P" ∷ codes "ROLE" ∷ codes "IMG" ∷ codes "ARG" ∷ codes "FUEL" ∷ codes "N" ∷ codes "OUT" ∷ []) ∷
     row Verify (codes "verify") (codes "P" ∷ codes "ROLE" ∷ codes "STATE" ∷ codes "ARG" ∷ codes "FUEL" ∷ codes "PROOF" ∷ []) ∷

@@ -8,6 +8,8 @@ ghost use Rattle.command_words.specs.Rows.{row_of};
 pub enum Command {
     Check,
     Init,
+    Ideal,
+    Step,
     Shallow,
     Prove,
     Verify,
@@ -32,9 +34,11 @@ pub struct Row {
 
 /// The commands.
 #[rattlefmt::skip]
-static COMMANDS: [Row; 6] = [
+static COMMANDS: [Row; 8] = [
     Row { command: Command::Check, name: "check", arguments: &["P"] },
     Row { command: Command::Init, name: "init", arguments: &["P", "ROLE", "ARG", "FUEL", "OUT"] },
+    Row { command: Command::Ideal, name: "ideal", arguments: &["P", "ROLE", "IMG", "ARG", "FUEL"] },
+    Row { command: Command::Step, name: "step", arguments: &["P", "ROLE", "IMG", "ARG", "FUEL", "OUT"] },
     Row { command: Command::Shallow, name: "shallow", arguments: &["P", "IMG", "OUT"] },
     Row { command: Command::Prove, name: "prove", arguments: &["P", "ROLE", "IMG", "ARG", "FUEL", "N", "OUT"] },
     Row { command: Command::Verify, name: "verify", arguments: &["P", "ROLE", "STATE", "ARG", "FUEL", "PROOF"] },

@@ -15,16 +15,16 @@ use Rattle.auth_syntax.specs.Syntax.{AuthOperation, UnauthOperation}
 use Rattle.auth_syntax.specs.Trees as written
 use Rattle.lexemes.specs.declared.place.Place.{Place}
 use Rattle.auth_syntax.specs.declared.tree.Parameter.{Parameter}
-use Rattle.auth_types.specs.Checking.{Checking, Sound, FaultAt, unless_fault, then_checked}
-use Rattle.auth_types.specs.WrittenTypes.{type_meant}
+use Rattle.declared_types.specs.Checking.{Checking, Sound, FaultAt, unless_fault, then_checked}
+use Rattle.declared_types.specs.WrittenTypes.{type_meant}
 use Rattle.auth_types.specs.Bodies.{Typed, binary, binary_expression, local_at, opened, operand_type, result_type, typed, unary, wanted}
-use Rattle.auth_types.specs.OverTypes.{AreNumbers, FindsOver, Grows, Shows}
+use Rattle.declared_types.specs.OverTypes.{AreNumbers, FindsOver, Grows, Shows}
 use Rattle.fragment_types.specs.FragmentBodies.{locals_of, typed_of, types_written}
-use Rattle.auth_types.specs.declared.fault.TypeKind.TheVariants.{NotAuth, WrongType}
+use Rattle.declared_types.specs.declared.fault.TypeKind.TheVariants.{NotAuth, WrongType}
 use Rattle.core_terms.specs.declared.fault.Fault.TheVariants.{At, NoMemory}
 use Rattle.fragment_types.specs.declared.bodies.Typed.{Typed as TypedTerm}
-use Rattle.auth_types.specs.Outcomes.{TypeFault}
-use Rattle.auth_types.proofs.TypeNumbers.{type_stays, shows_grow, shows_now, number_at, numbers_grow, numbers_push}
+use Rattle.declared_types.specs.Findings.{TypeFault}
+use Rattle.declared_types.proofs.TypeNumbers.{type_stays, shows_grow, shows_now, number_at, numbers_grow, numbers_push}
 
 -- `auth` of a term
 pub authenticated_shows : (old new : List Ty) (operand : TypedTerm) (ty : TyId) (x : Term) (at : Place) (found : Checking Typed) → Grows old new

@@ -20,17 +20,17 @@ use Rattle.auth_syntax.specs.declared.tree.Declaration.{Declaration}
 use Rattle.auth_syntax.specs.declared.tree.Declaration.TheVariants.{«Type» as TypeVariant, State, Function as FunctionVariant}
 use Rattle.auth_syntax.specs.Grammar.{AreDeclarations, IsFunction, nesting_limit}
 use Rattle.auth_syntax.specs.Vocabulary.{fragment}
-use Rattle.auth_types.specs.Checking.{Checking, Sound, FaultAt, then_checked, unless_fault}
-use Rattle.auth_types.specs.WrittenTypes.{type_meant}
-use Rattle.auth_types.specs.RoleRules.{kind_meant}
+use Rattle.declared_types.specs.Checking.{Checking, Sound, FaultAt, then_checked, unless_fault}
+use Rattle.declared_types.specs.WrittenTypes.{type_meant}
+use Rattle.declared_types.specs.RoleRules.{kind_meant}
 use Rattle.auth_types.specs.Bodies.{Typed, checked_function, checked_functions, elaborated, wanted}
-use Rattle.auth_types.specs.OverTypes.{AreNumbers, FindsOver, Grows, Shows, functions_written}
+use Rattle.declared_types.specs.OverTypes.{AreNumbers, FindsOver, Grows, Shows, functions_written}
 use Rattle.fragment_types.specs.FragmentBodies.{all_literals_fit, literals_fit, fragment_scope, functions_of, locals_of, typed_of, types_written}
-use Rattle.auth_types.specs.declared.fault.TypeKind.TheVariants.{WrongType}
+use Rattle.declared_types.specs.declared.fault.TypeKind.TheVariants.{WrongType}
 use Rattle.core_terms.specs.declared.fault.Fault.TheVariants.{At, NoMemory}
 use Rattle.fragment_types.specs.declared.bodies.Typed.{Typed as TypedTerm}
-use Rattle.auth_types.specs.Outcomes.{TypeFault}
-use Rattle.auth_types.proofs.TypeNumbers.{grows_on, numbers_grow, numbers_stay, numbers_types, shows_grow, shows_now, type_stays}
+use Rattle.declared_types.specs.Findings.{TypeFault}
+use Rattle.declared_types.proofs.TypeNumbers.{grows_on, numbers_grow, numbers_stay, numbers_types, shows_grow, shows_now, type_stays}
 
 -- the types of the parameters
 pub parameters_types : (parameters : List Parameter) → map (λ (p : ParameterSyntax). type_meant [] p.of_type) (map written.parameter_of parameters) ≡ types_written parameters

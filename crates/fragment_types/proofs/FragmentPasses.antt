@@ -22,21 +22,23 @@ use Rattle.auth_syntax.specs.declared.tree.Declaration.TheVariants.{«Type» as 
 use Rattle.auth_syntax.specs.Grammar.{AreDeclarations, AreParameters, HasForms, HasTypeForms, nesting_limit}
 use Rattle.auth_syntax.specs.Vocabulary.{fragment}
 use Rattle.auth_syntax.specs.declared.tree.Ast.{Ast}
-use Rattle.auth_types.specs.Checking.{Checking, Sound, FaultAt, then_checked, unless_fault, is_among}
-use Rattle.auth_types.specs.Declarations.{Declared, checked_declarations, checked_parameters, first_pass, most_functions, nothing_declared}
-use Rattle.auth_types.specs.WrittenTypes.{known_declarations, known_type, known_types, second_pass, states_in, table_of, type_names}
-use Rattle.auth_types.specs.RoleRules.{checked_roles}
-use Rattle.auth_types.specs.Bodies.{Local as LocalName, Scope, binary, checked_function, checked_functions, elaborated, parameter_locals, unary}
-use Rattle.auth_types.specs.CheckedPrograms.{all_passes, as_checked, first_state, fourth_pass, names_of, scope_of, state_of, table_of_program, third_pass}
-use Rattle.auth_types.specs.Outcomes.{Finds, TypeFault}
+use Rattle.declared_types.specs.Checking.{Checking, Sound, FaultAt, then_checked, unless_fault, is_among}
+use Rattle.declared_types.specs.Declarations.{Declared, checked_declarations, checked_parameters, first_pass, most_functions, nothing_declared}
+use Rattle.declared_types.specs.WrittenTypes.{known_declarations, known_type, known_types, second_pass, states_in, table_of, type_names}
+use Rattle.declared_types.specs.RoleRules.{checked_roles}
+use Rattle.auth_types.specs.Bodies.{Local as LocalName, binary, checked_function, checked_functions, elaborated, parameter_locals, unary}
+use Rattle.declared_types.specs.Signatures.{Scope}
+use Rattle.auth_types.specs.CheckedPrograms.{all_passes, as_checked, fourth_pass}
+use Rattle.declared_types.specs.DeclaredPrograms.{first_state, names_of, scope_of, state_of, table_of_program, third_pass}
+use Rattle.declared_types.specs.Findings.{Finds, TypeFault}
 use Rattle.fragment_types.specs.FragmentOutcomes.{ChecksFragment}
-use Rattle.auth_types.specs.OverTypes.{Grows, Shows, functions_written}
+use Rattle.declared_types.specs.OverTypes.{Grows, Shows, functions_written}
 use Rattle.fragment_types.specs.FragmentBodies.{all_literals_fit, fragment_scope, functions_of, state_in}
-use Rattle.auth_types.specs.declared.fault.TypeKind.{TypeKind}
-use Rattle.auth_types.specs.declared.fault.TypeKind.TheVariants.{NoState, Limit, Twice}
-use Rattle.auth_types.specs.declared.fault.Limited.TheVariants.{Functions}
+use Rattle.declared_types.specs.declared.fault.TypeKind.{TypeKind}
+use Rattle.declared_types.specs.declared.fault.TypeKind.TheVariants.{NoState, Limit, Twice}
+use Rattle.declared_types.specs.declared.fault.Limited.TheVariants.{Functions}
 use Rattle.core_terms.specs.declared.fault.Fault.TheVariants.{At, NoMemory}
-use Rattle.auth_types.proofs.TypeNumbers.{shows_now, type_stays}
+use Rattle.declared_types.proofs.TypeNumbers.{shows_now, type_stays}
 use Rattle.fragment_types.proofs.FragmentFunctions.{found_in, of_found}
 use Rattle.fragment_types.proofs.FragmentForms.{by_form, lacks}
 use Rattle.fragment_types.proofs.FragmentTyping.{functions_shaped, functions_typed, program_with}

@@ -20,15 +20,15 @@ use Rattle.auth_syntax.specs.declared.tree.Declaration.{Declaration}
 use Rattle.auth_syntax.specs.declared.tree.Declaration.TheVariants.{«Type» as TypeVariant, State, Function as FunctionVariant}
 use Rattle.auth_syntax.specs.Grammar.{AreDeclarations, HasForms, nesting_limit}
 use Rattle.auth_syntax.specs.Vocabulary.{fragment}
-use Rattle.auth_types.specs.Checking.{Checking, Sound, FaultAt, then_checked, unless_fault}
-use Rattle.auth_types.specs.WrittenTypes.{type_meant}
-use Rattle.auth_types.specs.RoleRules.{checked_role, checked_roles, is_new_state, kind_meant}
+use Rattle.declared_types.specs.Checking.{Checking, Sound, FaultAt, then_checked, unless_fault}
+use Rattle.declared_types.specs.WrittenTypes.{type_meant}
+use Rattle.declared_types.specs.RoleRules.{checked_role, checked_roles, is_new_state, kind_meant}
 use Rattle.auth_types.specs.Bodies as body
 use Rattle.auth_types.specs.Bodies.{Typed, checked_function, elaborated, last_named, local_at, opened, or_else, wanted}
-use Rattle.auth_types.specs.OverTypes.{functions_written}
+use Rattle.declared_types.specs.OverTypes.{functions_written}
 use Rattle.fragment_types.specs.FragmentBodies.{all_literals_fit, fragment_scope, literals_fit, locals_of, types_written}
-use Rattle.auth_types.specs.declared.fault.TypeKind.{TypeKind}
-use Rattle.auth_types.specs.declared.fault.TypeKind.TheVariants.{AuthInArgument, RoleShape, WrongType}
+use Rattle.declared_types.specs.declared.fault.TypeKind.{TypeKind}
+use Rattle.declared_types.specs.declared.fault.TypeKind.TheVariants.{AuthInArgument, RoleShape, WrongType}
 use Rattle.fragment_types.proofs.FragmentElaborating.{length-locals, length-written, locals_types}
 use Rattle.fragment_types.proofs.FragmentForms.{by_form}
 use Rattle.fragment_types.proofs.FragmentFunctions.{body_found, found_in, parameters_types, wanted_type, with_body}

@@ -12,10 +12,11 @@ use Rattle.auth_syntax.specs.Syntax.{TypeSyntax, ExpSyntax, IntSyntax, TextSynta
 use Rattle.auth_syntax.specs.Trees as written
 use Rattle.lexemes.specs.declared.place.Place.{Place}
 use Rattle.auth_syntax.specs.declared.tree.Parameter.{Parameter}
-use Rattle.auth_types.specs.Checking.{Checking, Sound, FaultAt}
-use Rattle.auth_types.specs.WrittenTypes.{type_meant}
-use Rattle.auth_types.specs.Bodies.{Local, Scope, Typed, parameter_locals}
-use Rattle.auth_types.specs.declared.fault.TypeKind.TheVariants.{NoState}
+use Rattle.declared_types.specs.Checking.{Checking, Sound, FaultAt}
+use Rattle.declared_types.specs.WrittenTypes.{type_meant}
+use Rattle.auth_types.specs.Bodies.{Local, Typed, parameter_locals}
+use Rattle.declared_types.specs.Signatures.{Scope}
+use Rattle.declared_types.specs.declared.fault.TypeKind.TheVariants.{NoState}
 use Rattle.fragment_types.specs.declared.bodies.Typed.{Typed as TypedTerm}
 
 -- a term and its type, as an expression with its type

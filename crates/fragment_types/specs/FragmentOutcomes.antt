@@ -4,7 +4,7 @@ use Rattle.core_terms.specs.Programs.{meaning}
 use Rattle.core_terms.specs.declared.fault.Fault.TheVariants.{At, NoMemory}
 use Rattle.core_terms.specs.declared.program.Program.{Program}
 use Rattle.auth_types.specs.CheckedPrograms.{Checked, IsProgram, FirstFault}
-use Rattle.auth_types.specs.Outcomes.{TypeFault}
+use Rattle.declared_types.specs.Findings.{TypeFault}
 
 -- Ok gives the program of the tree, a refusal the tree's first fault
 abbrev pub ChecksFragment : Checked → Result Program TypeFault → Type 0

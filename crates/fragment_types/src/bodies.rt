@@ -12,16 +12,16 @@ ghost use Rattle.auth_syntax.specs.Trees as written;
 ghost use Rattle.auth_syntax.specs.Vocabulary.{Binary, Unary, fragment};
 ghost use Rattle.auth_types.specs.Bodies as specified;
 ghost use Rattle.auth_types.specs.Bodies.{binary_expression, checked_function, checked_functions, elaborated, last_named, operand_type, result_type, typed, unary, wanted};
-ghost use Rattle.auth_types.specs.Checking.{Checking, then_checked};
-ghost use Rattle.auth_types.specs.OverTypes.{AreNumbers, FindsOver, Grows, Shows, functions_written};
+ghost use Rattle.declared_types.specs.Checking.{Checking, then_checked};
+ghost use Rattle.declared_types.specs.OverTypes.{AreNumbers, FindsOver, Grows, Shows, functions_written};
 ghost use Rattle.fragment_types.specs.FragmentBodies.{all_literals_fit, fragment_scope, functions_of, literals_fit, locals_of, typed_of, types_written};
-ghost use Rattle.auth_types.specs.RoleRules.{kind_meant};
-ghost use Rattle.auth_types.specs.WrittenTypes.{type_meant};
+ghost use Rattle.declared_types.specs.RoleRules.{kind_meant};
+ghost use Rattle.declared_types.specs.WrittenTypes.{type_meant};
 
 use auth_syntax::tree::{
     self, Declaration, ExpTree, FunctionKind, Parameter, TypeTree, UnaryOperator,
 };
-use auth_types::fault::{TypeFault, TypeKind};
+use declared_types::fault::{TypeFault, TypeKind};
 use core_terms::language::{Arith, BinaryOperator};
 use core_terms::{Function, Kind, LocalId, Name, Term, TyForm, TyId, TyTable};
 use lexemes::place::Place;

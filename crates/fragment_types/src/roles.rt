@@ -5,13 +5,13 @@ ghost use Rattle.core_terms.specs.Typing.{same_type};
 ghost use Rattle.auth_syntax.specs.Grammar.{AreDeclarations, HasTypeForms, IsFunction, nesting_limit};
 ghost use Rattle.auth_syntax.specs.Trees as written;
 ghost use Rattle.auth_syntax.specs.Vocabulary.{fragment};
-ghost use Rattle.auth_types.specs.Outcomes.{Finds};
-ghost use Rattle.auth_types.specs.RoleRules.{checked_role, checked_roles, plain_argument};
-ghost use Rattle.auth_types.specs.WrittenTypes.{functions_in, type_meant};
+ghost use Rattle.declared_types.specs.Findings.{Finds};
+ghost use Rattle.declared_types.specs.RoleRules.{checked_role, checked_roles, plain_argument};
+ghost use Rattle.declared_types.specs.WrittenTypes.{functions_in, type_meant};
 
 use auth_syntax::tree::{Declaration, Function, FunctionKind, TypeTree};
-use auth_types::fault::{TypeFault, TypeKind};
-use auth_types::written_types::first_token;
+use declared_types::fault::{TypeFault, TypeKind};
+use declared_types::written_types::first_token;
 
 /// The third pass over declarations whose state has this type.
 ///

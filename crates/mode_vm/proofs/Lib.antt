@@ -31,8 +31,9 @@ pub mod Authenticating
 pub mod Opens
 pub mod Stepping
 pub mod Slicing
--- the ideal mode, and a run in it
+-- the ideal mode, over ideal nodes and the prover's, and runs in it
 pub mod IdealOpenings
+pub mod Digested
 pub mod IdealOutcomes
 -- the law `growing`
 pub mod Growing

@@ -6,6 +6,7 @@
 
 mod choices;
 mod composites;
+pub mod digesting;
 mod frame;
 pub mod ideal;
 pub mod ideal_runs;
@@ -20,8 +21,9 @@ mod state;
 mod texts;
 mod values;
 
+pub use digesting::DigestingMode;
 pub use ideal::{IdealMode, Never};
-pub use ideal_runs::ideal_run;
+pub use ideal_runs::{digesting_run, ideal_run};
 pub use machine::Machine;
 pub use mode::{Mode, Stop};
 pub use state::Step;

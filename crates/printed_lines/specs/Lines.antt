@@ -14,10 +14,10 @@ use Rattle.lexemes.specs.declared.fault.SyntaxKind.{SyntaxKind}
 use Rattle.lexemes.specs.declared.fault.SyntaxKind.TheVariants as syntax
 use Rattle.printed_syntax.specs.declared.fault.LiteralKind.{LiteralKind}
 use Rattle.printed_syntax.specs.declared.fault.LiteralKind.TheVariants as literal
-use Rattle.auth_types.specs.declared.fault.TypeKind.{TypeKind}
-use Rattle.auth_types.specs.declared.fault.TypeKind.TheVariants as typing
-use Rattle.auth_types.specs.declared.fault.Limited.{Limited}
-use Rattle.auth_types.specs.declared.fault.Limited.TheVariants as limited
+use Rattle.declared_types.specs.declared.fault.TypeKind.{TypeKind}
+use Rattle.declared_types.specs.declared.fault.TypeKind.TheVariants as typing
+use Rattle.declared_types.specs.declared.fault.Limited.{Limited}
+use Rattle.declared_types.specs.declared.fault.Limited.TheVariants as limited
 use Rattle.printed_lines.specs.declared.refusal.ProgramKind.{ProgramKind}
 use Rattle.printed_lines.specs.declared.refusal.ProgramKind.TheVariants.{Syntax, Typing}
 use Rattle.printed_lines.specs.declared.refusal.Argument.{Argument}
@@ -175,9 +175,15 @@ out_line = codes "out of fuel\n"
 abbrev pub ok_line : List ℕ → List ℕ
 ok_line digest = line_of (codes "ok ") (encode_lower digest)
 
--- the line of a state, over the named types of a program and the names of their constructors
+-- the lines of a value, over the named types of a program and the names of their constructors: of an outcome, and of a state
+abbrev pub value_line : List ℕ → Table → ConstructorNames → Ty → Value → List ℕ
+value_line front types names t v = line_of front (printed types names t v)
+
+abbrev pub named_done_line : Table → ConstructorNames → Ty → Value → List ℕ
+named_done_line types names t v = value_line (codes "done ") types names t v
+
 abbrev pub state_line : Table → ConstructorNames → Ty → Value → List ℕ
-state_line types names t v = line_of (codes "state ") (printed types names t v)
+state_line types names t v = value_line (codes "state ") types names t v
 
 -- the line of a proof: how many pieces it has of its own, how many it names again, and how many bytes it has
 abbrev pub proof_line : (fresh again bytes : ℕ) → List ℕ

@@ -152,6 +152,21 @@ pub fn done_line(
     between(alloc, b"done ", &value)
 }
 
+/// The line of an outcome with a value of a type of the program, which these bytes spell, fewer than 2^32. The program is one of the
+/// whole language, and constructors are written with its names.
+pub fn named_done_line(
+    alloc: Global,
+    program: &language::Program,
+    ty: TyId,
+    bytes: &[u8],
+) -> Result<Vec<u8>, AllocError>
+    ensures { let P = language.meaning program.now in let t = type_at (language.types_of program.now) ty in
+        IfOk result (λ line. (v : Value) → IsShallow P.types t v → length bytes.now < 2 ^ 32 → bytes.now ≡ spelling v
+        → line.items ≡ def.named_done_line P.types (language.constructor_names program.now.types.named.items) t v) }
+{
+    value_line(alloc, b"done ", program, ty, bytes)
+}
+
 /// The line of a state with a value of a type of the program, which these bytes spell, fewer than 2^32. The program is one of the whole
 /// language, and constructors are written with its names.
 pub fn state_line(
@@ -164,8 +179,23 @@ pub fn state_line(
         IfOk result (λ line. (v : Value) → IsShallow P.types t v → length bytes.now < 2 ^ 32 → bytes.now ≡ spelling v
         → line.items ≡ def.state_line P.types (language.constructor_names program.now.types.named.items) t v) }
 {
+    value_line(alloc, b"state ", program, ty, bytes)
+}
+
+/// The line that begins so and ends with such a value.
+fn value_line(
+    alloc: Global,
+    front: &[u8],
+    program: &language::Program,
+    ty: TyId,
+    bytes: &[u8],
+) -> Result<Vec<u8>, AllocError>
+    ensures { let P = language.meaning program.now in let t = type_at (language.types_of program.now) ty in
+        IfOk result (λ line. (v : Value) → IsShallow P.types t v → length bytes.now < 2 ^ 32 → bytes.now ≡ spelling v
+        → line.items ≡ def.value_line front.now P.types (language.constructor_names program.now.types.named.items) t v) }
+{
     let value = language_text(alloc, program, ty, bytes)?;
-    between(alloc, b"state ", &value)
+    between(alloc, front, &value)
 }
 
 /// The line of a proof: how many pieces it has of its own, how many it names again, and how many bytes it has.

@@ -4,7 +4,7 @@ ghost use Rattle.std.specs.Prelude.{◌≡◌};
 ghost use Rattle.printed_lines.specs.Lines as def;
 
 use crate::refusal::{Argument, ProgramKind};
-use auth_types::fault::{Limited, TypeKind};
+use declared_types::fault::{Limited, TypeKind};
 use lexemes::fault::{LexicalFault, SyntaxKind};
 use printed_syntax::fault::LiteralKind;
 

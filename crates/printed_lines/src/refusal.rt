@@ -1,6 +1,6 @@
 // What a command refuses.
 
-use auth_types::fault::TypeKind;
+use declared_types::fault::TypeKind;
 use core_terms::Cause;
 use lexemes::fault::SyntaxKind;
 use printed_syntax::fault::LiteralKind;

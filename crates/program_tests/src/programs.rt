@@ -1,4 +1,4 @@
-// What `check` says of the texts of programs, and where the fragment ends that the commands take which run a program.
+// What `check` says of the texts of programs, and where the fragment ends that the commands take which make or read a proof.
 use cli_stage::runs::{check, opening, run_words, verified};
 use cli_stage::stage::{PROOF, STATE, staged};
 use program_texts::{BST, FIRST, LOG, MERKLE, SUM};
@@ -604,18 +604,17 @@ fn the_fragment_ends_at_the_first_token_beyond_it(rt: HostRuntime) -> Result<(),
     Ok(())
 }
 
-/// A text that `check` takes and each command refuses that runs a program.
+/// A text that `check` takes, and each command refuses that makes or reads a proof.
 const WHOLE: &[u8] = b"state unit; query q(s: unit, x: int): int = if lt(x, 0) then 0 else x;";
 
-const COMMANDS: [&[&str]; 4] = [
-    &["init", "p", "q", "()", "1", "o"],
+const COMMANDS: [&[&str]; 3] = [
     &["prove", "p", "q", "q", "1", "1", "0", "o"],
     &["verify", "p", "q", "s", "1", "1", "q"],
     &["audit", "p", "q", "q", "1", "1", "q"],
 ];
 
 #[test]
-fn commands_that_run_take_the_fragment(rt: HostRuntime) -> Result<(), Fail> {
+fn proofs_are_of_the_fragment(rt: HostRuntime) -> Result<(), Fail> {
     assert!(rt; check(rt.alloc(), WHOLE)?.status == 0);
     for (number, words) in COMMANDS.iter().enumerate() {
         let run = run_words(rt.alloc(), &staged(WHOLE, &[], PROOF), words)?;

@@ -8,7 +8,7 @@ const USAGE: &str = "usage: lamauth COMMAND ARGUMENTS\n";
 
 /// Words that call no command: at first those of which one is no name or none that a command has, then each command with one argument too
 /// few and with one too many, and last a negative argument with no blank before it.
-const REFUSED: [&[&str]; 27] = [
+const REFUSED: [&[&str]; 31] = [
     &[],
     &["-x"],
     &[""],
@@ -27,6 +27,10 @@ const REFUSED: [&[&str]; 27] = [
     &["check", "p", "p"],
     &["init", "p", "make", "()", "1"],
     &["init", "p", "make", "()", "1", "o", "o"],
+    &["ideal", "p", "open", "q", "()"],
+    &["ideal", "p", "open", "q", "()", "1", "o"],
+    &["step", "p", "open", "q", "()", "1"],
+    &["step", "p", "open", "q", "()", "1", "o", "o"],
     &["shallow", "p", "q"],
     &["shallow", "p", "q", "o", "o"],
     &["prove", "p", "open", "q", "()", "1", "0"],

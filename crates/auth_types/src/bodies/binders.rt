@@ -3,12 +3,12 @@ ghost use Rattle.std.specs.Prelude.{◌≡◌, [], length, map, take, OnOk};
 ghost use Rattle.core_terms.specs.LanguageTrees.{types_at};
 ghost use Rattle.auth_syntax.specs.Trees as written;
 ghost use Rattle.auth_types.specs.Bodies.{bound_names};
-ghost use Rattle.auth_types.specs.Outcomes.{Finds};
-ghost use Rattle.auth_types.specs.Scopes.{AreWithin};
+ghost use Rattle.declared_types.specs.Findings.{Finds};
+ghost use Rattle.declared_types.specs.Scopes.{AreWithin};
 ghost use Rattle.auth_types.specs.Elaborators.{locals_of, scope_of, types_of};
 
 use crate::bodies::elaborator::Elaborator;
-use crate::fault::{TypeFault, TypeKind};
+use declared_types::fault::{TypeFault, TypeKind};
 use auth_syntax::tree::PlacedName;
 use core_terms::TyId;
 

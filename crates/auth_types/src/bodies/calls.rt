@@ -3,13 +3,14 @@ ghost use Rattle.std.specs.Prelude.{◌≡◌, ◌<◌, [], length, map, slice_g
 ghost use Rattle.core_terms.specs.Types.{fields_at};
 ghost use Rattle.core_terms.specs.TypeTables.{type_at};
 ghost use Rattle.auth_syntax.specs.Trees as written;
-ghost use Rattle.auth_types.specs.Bodies.{arm_names, constructor_named, function_named, same_names};
-ghost use Rattle.auth_types.specs.Scopes.{function_meant};
+ghost use Rattle.auth_types.specs.Bodies.{arm_names, same_names};
+ghost use Rattle.declared_types.specs.Signatures.{constructor_named, function_named};
+ghost use Rattle.declared_types.specs.Scopes.{function_meant};
 ghost use Rattle.auth_types.specs.Elaborators.{Calls, Constructs, Matches, scope_of, types_of};
 
 use crate::bodies::elaborator::Elaborator;
-use crate::fault::{TypeFault, TypeKind};
-use crate::scope::ConstructorId;
+use declared_types::fault::{TypeFault, TypeKind};
+use declared_types::scope::ConstructorId;
 use auth_syntax::tree::Arm;
 use core_terms::language::{Constructor, NamedId, TyForm};
 use core_terms::{FunctionId, Name, TyId};

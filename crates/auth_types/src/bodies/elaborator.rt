@@ -5,11 +5,11 @@ ghost use Rattle.core_terms.specs.LanguagePrograms.{types_in};
 ghost use Rattle.core_terms.specs.Types.{Ty};
 ghost use Rattle.auth_types.specs.Bodies.{last_named};
 ghost use Rattle.auth_types.specs.Locals.{AreLocalsWithin, locals_meant};
-ghost use Rattle.auth_types.specs.Scopes.{IsWithin};
+ghost use Rattle.declared_types.specs.Scopes.{IsWithin};
 
 use crate::bodies::Typed;
-use crate::fault::{Limited, TypeFault, TypeKind};
-use crate::scope::Scope;
+use declared_types::fault::{Limited, TypeFault, TypeKind};
+use declared_types::scope::Scope;
 use auth_syntax::tree::PlacedName;
 use core_terms::language::{Term, TyForm, TyTable};
 use core_terms::{LocalId, Name, Text, TyId};
@@ -71,12 +71,12 @@ impl<'s, 'a> Elaborator<'s, 'a> {
     ghost use Rattle.auth_syntax.specs.Syntax.{LocalSyntax};
     ghost use Rattle.auth_types.specs.Bodies as specified;
     ghost use Rattle.auth_types.specs.Bodies.{most_locals, typed, wanted};
-    ghost use Rattle.auth_types.specs.Checking.{Checking, Sound, is_among, unless_fault};
-    ghost use Rattle.auth_types.specs.declared.fault.TypeKind.TheVariants.{Limit};
-    ghost use Rattle.auth_types.specs.declared.fault.Limited.TheVariants.{Locals};
-    ghost use Rattle.auth_types.specs.OverTypes.{FindsOver, Grows, Shows};
-    ghost use Rattle.auth_types.specs.Outcomes.{Finds};
-    ghost use Rattle.auth_types.specs.Scopes.{scope_meant};
+    ghost use Rattle.declared_types.specs.Checking.{Checking, Sound, is_among, unless_fault};
+    ghost use Rattle.declared_types.specs.declared.fault.TypeKind.TheVariants.{Limit};
+    ghost use Rattle.declared_types.specs.declared.fault.Limited.TheVariants.{Locals};
+    ghost use Rattle.declared_types.specs.OverTypes.{FindsOver, Grows, Shows};
+    ghost use Rattle.declared_types.specs.Findings.{Finds};
+    ghost use Rattle.declared_types.specs.Scopes.{scope_meant};
     ghost use Rattle.auth_types.specs.Locals.{names_of};
     ghost use Rattle.auth_types.specs.Elaborators.{Keeps, ShowsTerm, boxed_of, found_at, locals_of, scope_of, typed_of, types_of, want_of};
 

@@ -5,18 +5,18 @@ ghost use Rattle.core_terms.specs.LanguageTrees.{function_of, kind_of, types_at}
 ghost use Rattle.auth_syntax.specs.Trees as written;
 ghost use Rattle.auth_types.specs.Bodies.{checked_function, checked_functions, parameter_locals};
 ghost use Rattle.auth_types.specs.CheckedLaws.{HasGoodLiterals};
-ghost use Rattle.auth_types.specs.CheckedPrograms.{signature_of};
+ghost use Rattle.declared_types.specs.DeclaredPrograms.{signature_of};
 ghost use Rattle.auth_types.specs.Elaborators.{Keeps, functions_of, locals_of, scope_of, types_of};
-ghost use Rattle.auth_types.specs.Outcomes.{Finds};
-ghost use Rattle.auth_types.specs.OverTypes.{FindsOver, Grows};
-ghost use Rattle.auth_types.specs.RoleRules.{kind_meant};
-ghost use Rattle.auth_types.specs.WrittenTypes.{type_meant};
+ghost use Rattle.declared_types.specs.Findings.{Finds};
+ghost use Rattle.declared_types.specs.OverTypes.{FindsOver, Grows};
+ghost use Rattle.declared_types.specs.RoleRules.{kind_meant};
+ghost use Rattle.declared_types.specs.WrittenTypes.{type_meant};
 ghost use Rattle.auth_syntax.specs.Syntax as syntax;
-ghost use Rattle.auth_types.specs.Scopes.{AreWithin, IsCounted, IsHeadWithin, IsWithin, functions_meant, scope_meant, signature_meant};
+ghost use Rattle.declared_types.specs.Scopes.{AreWithin, IsCounted, IsHeadWithin, IsWithin, functions_meant, scope_meant, signature_meant};
 
 use crate::bodies::elaborator::Elaborator;
-use crate::fault::TypeFault;
-use crate::scope::{Head, Scope};
+use declared_types::fault::TypeFault;
+use declared_types::scope::{Head, Scope};
 use auth_syntax::tree::{FunctionKind, Parameter};
 use core_terms::language::{Function, Kind, Term, TyTable};
 use core_terms::{Name, TyId};

@@ -9,13 +9,13 @@ ghost use Rattle.auth_syntax.specs.Syntax as syntax;
 ghost use Rattle.auth_syntax.specs.Trees as written;
 ghost use Rattle.auth_types.specs.Bodies as specified;
 ghost use Rattle.auth_types.specs.Bodies.{binary_expression, operand_type, pair, result_type, typed, unary};
-ghost use Rattle.auth_types.specs.Checking.{Checking, then_checked};
-ghost use Rattle.auth_types.specs.OverTypes.{FindsOver, Shows};
+ghost use Rattle.declared_types.specs.Checking.{Checking, then_checked};
+ghost use Rattle.declared_types.specs.OverTypes.{FindsOver, Shows};
 ghost use Rattle.auth_types.specs.Elaborators.{Keeps, boxed_of, typed_of, types_of};
 
 use crate::bodies::Typed;
 use crate::bodies::elaborator::Elaborator;
-use crate::fault::{TypeFault, TypeKind};
+use declared_types::fault::{TypeFault, TypeKind};
 use auth_syntax::tree::UnaryOperator;
 use core_terms::TyId;
 use core_terms::language::{BinaryOperator, Term, TyForm};

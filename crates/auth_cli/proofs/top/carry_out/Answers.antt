@@ -1,6 +1,6 @@
 use Rattle.std.proofs.Common.{sym, subst}
 use Rattle.command_words.specs.Commands.{IsOfCommand, texts}
-use Rattle.command_words.specs.declared.command.Command.TheVariants.{Check, Init, Shallow, Prove, Verify, Audit}
+use Rattle.command_words.specs.declared.command.Command.TheVariants.{Check, Init, Ideal, Step, Shallow, Prove, Verify, Audit}
 use Rattle.auth_cli.specs.Statuses.{MayAnswer}
 use Rattle.auth_cli.proofs.Words.{counted, ends_known, reached_known}
 use Rattle.auth_cli.proofs.top.carry_out.Goals as goal
@@ -22,6 +22,24 @@ returns-in-Init-clause-ends g c = ends_known c.args.command Init (texts c.args.w
 
 pub returns-in-Init-clause-possible : goal.returns-in-Init-clause-possible
 returns-in-Init-clause-possible g c = subst (λ command. MayAnswer command c.init_command.result) (sym c.in-Init.is) c.init_command.ensures.possible
+
+pub ideal_command-requires : goal.ideal_command-requires
+ideal_command-requires g c = counted Ideal c.args.words.now (subst (λ command. IsOfCommand command (texts c.args.words.now)) c.in-Ideal.is c.requires)
+
+pub returns-in-Ideal-clause-ends : goal.returns-in-Ideal-clause-ends
+returns-in-Ideal-clause-ends g c = ends_known c.args.command Ideal (texts c.args.words.now) _ _ c.ideal_command.result c.in-Ideal.is c.ideal_command.ensures.ends
+
+pub returns-in-Ideal-clause-possible : goal.returns-in-Ideal-clause-possible
+returns-in-Ideal-clause-possible g c = subst (λ command. MayAnswer command c.ideal_command.result) (sym c.in-Ideal.is) c.ideal_command.ensures.possible
+
+pub step_command-requires : goal.step_command-requires
+step_command-requires g c = counted Step c.args.words.now (subst (λ command. IsOfCommand command (texts c.args.words.now)) c.in-Step.is c.requires)
+
+pub returns-in-Step-clause-ends : goal.returns-in-Step-clause-ends
+returns-in-Step-clause-ends g c = ends_known c.args.command Step (texts c.args.words.now) _ _ c.step_command.result c.in-Step.is c.step_command.ensures.ends
+
+pub returns-in-Step-clause-possible : goal.returns-in-Step-clause-possible
+returns-in-Step-clause-possible g c = subst (λ command. MayAnswer command c.step_command.result) (sym c.in-Step.is) c.step_command.ensures.possible
 
 pub shallow_command-requires : goal.shallow_command-requires
 shallow_command-requires g c = counted Shallow c.args.words.now (subst (λ command. IsOfCommand command (texts c.args.words.now)) c.in-Shallow.is c.requires)
@@ -64,6 +82,12 @@ returns-in-Check-clause-reached g c = λ is. reached_known c.args.command Check 
 
 pub returns-in-Init-clause-reached : goal.returns-in-Init-clause-reached
 returns-in-Init-clause-reached g c = λ is. reached_known c.args.command Init (texts c.args.words.now) _ _ c.in-Init.is (c.init_command.ensures.reached is)
+
+pub returns-in-Ideal-clause-reached : goal.returns-in-Ideal-clause-reached
+returns-in-Ideal-clause-reached g c = λ is. reached_known c.args.command Ideal (texts c.args.words.now) _ _ c.in-Ideal.is (c.ideal_command.ensures.reached is)
+
+pub returns-in-Step-clause-reached : goal.returns-in-Step-clause-reached
+returns-in-Step-clause-reached g c = λ is. reached_known c.args.command Step (texts c.args.words.now) _ _ c.in-Step.is (c.step_command.ensures.reached is)
 
 pub returns-in-Shallow-clause-reached : goal.returns-in-Shallow-clause-reached
 returns-in-Shallow-clause-reached g c = λ is. reached_known c.args.command Shallow (texts c.args.words.now) _ _ c.in-Shallow.is (c.shallow_command.ensures.reached is)

@@ -4,11 +4,12 @@ use Rattle.std.proofs.lemmas.Result.{err_from_is_err_and}
 use Rattle.core_terms.specs.LanguagePrograms.{meaning, types_in}
 use Rattle.auth_syntax.specs.Syntax.{Program}
 use Rattle.auth_syntax.specs.Trees.{program_of}
-use Rattle.auth_types.specs.CheckedPrograms.{names_of}
-use Rattle.auth_types.specs.Checking.{Sound}
-use Rattle.auth_types.specs.Scopes.{IsCounted}
-use Rattle.auth_types.specs.declared.scope.Scope.{Scope}
-use Rattle.auth_types.proofs.PassesOfTrees.{IsRefused, finds_refused, fourth_fault, fourth_told, heads_signed, names_fault}
+use Rattle.declared_types.specs.DeclaredPrograms.{names_of}
+use Rattle.declared_types.specs.Checking.{Sound}
+use Rattle.declared_types.specs.Scopes.{IsCounted}
+use Rattle.declared_types.specs.declared.scope.Scope.{Scope}
+use Rattle.auth_types.proofs.PassesOfTrees.{fourth_fault, fourth_told, names_fault}
+use Rattle.declared_types.proofs.FirstPasses.{IsRefused, finds_refused, heads_signed}
 use Rattle.auth_types.proofs.ProgramOfPasses.{heads_counted, passed_on}
 use Rattle.auth_types.proofs.check.all_passes.Goals as goal
 

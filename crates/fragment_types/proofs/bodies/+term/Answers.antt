@@ -6,10 +6,10 @@ use Rattle.auth_syntax.specs.Grammar.{HasForms, expression_levels}
 use Rattle.auth_syntax.specs.Syntax.{place_of}
 use Rattle.auth_syntax.specs.Vocabulary.{fragment}
 use Rattle.auth_syntax.specs.Trees.{expression_of, unary_of}
-use Rattle.auth_types.specs.OverTypes.{FindsOver, Shows}
+use Rattle.declared_types.specs.OverTypes.{FindsOver, Shows}
 use Rattle.fragment_types.specs.FragmentBodies.{fragment_scope, locals_of, typed_of}
 use Rattle.auth_types.specs.Bodies.{elaborated, unary}
-use Rattle.auth_types.proofs.TypeNumbers.{numbers_grow}
+use Rattle.declared_types.proofs.TypeNumbers.{numbers_grow}
 use Rattle.fragment_types.proofs.FragmentElaborating.{binary_found, first_operand_fault, second_operand_fault, local_number, local_shows}
 use Rattle.auth_types.proofs.TreeViews.{expression-Local, expression-Unary, expression-Binary}
 use Rattle.fragment_types.proofs.bodies.+term.Goals as goal

@@ -1,6 +1,6 @@
 use Rattle.std.proofs.lemmas.Option.{slice_get_within}
 use Rattle.fragment_types.proofs.FragmentElaborating.{authenticated_shows}
-use Rattle.auth_types.proofs.TypeNumbers.{grows_either}
+use Rattle.declared_types.proofs.TypeNumbers.{grows_either}
 use Rattle.fragment_types.proofs.bodies.authenticated.Goals as goal
 
 pub returns-clause-found : goal.returns-clause-found

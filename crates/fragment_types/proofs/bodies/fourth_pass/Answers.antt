@@ -4,9 +4,9 @@ use Rattle.std.specs.Vec.Iter.{into_iter_items}
 use Rattle.std.proofs.lemmas.Result.{err_from_is_err_and}
 use Rattle.core_terms.specs.Programs.{types_in}
 use Rattle.core_terms.specs.declared.term.Function.{Function}
-use Rattle.auth_types.specs.OverTypes.{FindsOver}
+use Rattle.declared_types.specs.OverTypes.{FindsOver}
 use Rattle.fragment_types.specs.FragmentBodies.{functions_of}
-use Rattle.auth_types.specs.Outcomes.{TypeFault}
+use Rattle.declared_types.specs.Findings.{TypeFault}
 use Rattle.fragment_types.proofs.FragmentFunctions.{found_in, is_function, kept_function, kept_passed, stands_fault, stands_last}
 use Rattle.fragment_types.proofs.bodies.fourth_pass.Goals as goal
 use Rattle.fragment_types.proofs.bodies.fourth_pass.Goals.{in_default, in-Function+in_ok-typed_function+in_ok-push}

@@ -1,5 +1,5 @@
 use Rattle.fragment_types.proofs.FragmentElaborating.{numbers_taken}
-use Rattle.auth_types.proofs.TypeNumbers.{grows_on}
+use Rattle.declared_types.proofs.TypeNumbers.{grows_on}
 use Rattle.fragment_types.proofs.FragmentForms.{parameter_at}
 use Rattle.fragment_types.proofs.bodies.numbers.Goals as goal
 

@@ -1,6 +1,6 @@
 use Rattle.std.proofs.Common.{take}
 use Rattle.core_terms.specs.Programs.{types_in}
-use Rattle.auth_types.specs.OverTypes.{AreNumbers, Grows}
+use Rattle.declared_types.specs.OverTypes.{AreNumbers, Grows}
 use Rattle.fragment_types.specs.FragmentBodies.{types_written}
 use Rattle.fragment_types.proofs.bodies.numbers.Given as goal
 

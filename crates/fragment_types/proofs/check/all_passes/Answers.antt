@@ -3,12 +3,12 @@ use Rattle.std.proofs.lemmas.Result.{err_from_is_err_and}
 use Rattle.core_terms.specs.Types.{Ty}
 use Rattle.auth_syntax.specs.Trees.{declaration_of, program_of, type_of}
 use Rattle.auth_syntax.specs.declared.tree.Declaration.{Declaration}
-use Rattle.auth_types.specs.Checking.{Sound}
-use Rattle.auth_types.specs.Declarations as declared
-use Rattle.auth_types.specs.OverTypes.{functions_written}
+use Rattle.declared_types.specs.Checking.{Sound}
+use Rattle.declared_types.specs.Declarations as declared
+use Rattle.declared_types.specs.OverTypes.{functions_written}
 use Rattle.fragment_types.specs.FragmentBodies.{state_in}
-use Rattle.auth_types.specs.RoleRules.{checked_roles}
-use Rattle.auth_types.specs.WrittenTypes.{states_in, type_meant}
+use Rattle.declared_types.specs.RoleRules.{checked_roles}
+use Rattle.declared_types.specs.WrittenTypes.{states_in, type_meant}
 use Rattle.fragment_types.proofs.FragmentPasses.{Refuses, fourth_fault, passes_end, passes_on, first_is_sound, names_checked, names_fault, program_shaped, program_typed, state_fault, third_fault}
 use Rattle.fragment_types.proofs.check.all_passes.Goals as goal
 

@@ -1,6 +1,6 @@
 use Rattle.std.proofs.Common.{◌≡◌, drop, map}
 use Rattle.auth_syntax.specs.Trees.{declaration_of}
-use Rattle.auth_types.specs.WrittenTypes.{states_in}
+use Rattle.declared_types.specs.WrittenTypes.{states_in}
 use Rattle.fragment_types.proofs.check.declared_state.Given as goal
 
 abbrev pub invariant-loop-declaration : goal.invariant-loop-declaration

@@ -1,9 +1,9 @@
 use Rattle.std.proofs.Common.{◌∙◌, ap, map}
 use Rattle.auth_syntax.specs.Trees.{declaration_of}
-use Rattle.auth_types.specs.ScopeNames.{names_in}
-use Rattle.auth_types.specs.declared.declarations.Declared.{Declared}
+use Rattle.declared_types.specs.ScopeNames.{names_in}
+use Rattle.declared_types.specs.declared.declarations.Declared.{Declared}
 use Rattle.fragment_types.proofs.FragmentPasses.{second_behind_first}
-use Rattle.auth_types.proofs.NamesOfDeclarations.{types_named}
+use Rattle.declared_types.proofs.NamesOfDeclarations.{types_named}
 use Rattle.fragment_types.proofs.check.known_names.Goals as goal
 
 pub returns : goal.returns

@@ -6,18 +6,18 @@ use Rattle.core_terms.specs.Types.{Ty}
 use Rattle.core_terms.specs.declared.language.term.Function.{Function}
 use Rattle.auth_syntax.specs.Trees.{function_of}
 use Rattle.auth_types.specs.Bodies.{checked_function, checked_functions}
-use Rattle.auth_types.specs.Checking.{Sound}
-use Rattle.auth_types.specs.OverTypes.{Grows}
-use Rattle.auth_types.specs.CheckedPrograms.{signature_of}
+use Rattle.declared_types.specs.Checking.{Sound}
+use Rattle.declared_types.specs.OverTypes.{Grows}
+use Rattle.declared_types.specs.DeclaredPrograms.{signature_of}
 use Rattle.auth_types.specs.Elaborators.{scope_of, types_of}
-use Rattle.auth_types.specs.Scopes.{IsHeadWithin, functions_meant, scope_meant, signature_meant}
-use Rattle.auth_types.specs.declared.scope.Head.{Head}
+use Rattle.declared_types.specs.Scopes.{IsHeadWithin, functions_meant, scope_meant, signature_meant}
+use Rattle.declared_types.specs.declared.scope.Head.{Head}
 use Rattle.auth_types.proofs.ElaboratorSteps.{keeps_on}
 use Rattle.auth_types.proofs.FindingSteps.{finds_by, shows_is}
 use Rattle.auth_types.proofs.FunctionSteps.{functions_last, functions_more, functions_refused, head_signature, taken_more}
 use Rattle.auth_types.proofs.LiteralSteps.{functions_good, functions_good_last}
 use Rattle.auth_types.proofs.RowSteps.{next_mapped, none_mapped}
-use Rattle.auth_types.proofs.ScopeStays.{signature_stays}
+use Rattle.declared_types.proofs.ScopeStays.{signature_stays}
 use Rattle.auth_types.proofs.bodies.functions.fourth_pass.Goals as goal
 
 pub returns-in_err-function-clause-found : goal.returns-in_err-function-clause-found

@@ -6,10 +6,10 @@ use Rattle.core_terms.specs.declared.language.term.Function.{Function}
 use Rattle.auth_syntax.specs.Syntax.{FunctionSyntax}
 use Rattle.auth_types.specs.Bodies.{checked_functions}
 use Rattle.auth_types.specs.CheckedLaws.{HasGoodLiterals}
-use Rattle.auth_types.specs.CheckedPrograms.{signature_of}
+use Rattle.declared_types.specs.DeclaredPrograms.{signature_of}
 use Rattle.auth_types.specs.Elaborators.{Keeps, scope_of, types_of}
-use Rattle.auth_types.specs.Scopes.{functions_meant, signature_meant}
-use Rattle.auth_types.specs.declared.scope.Head.{Head}
+use Rattle.declared_types.specs.Scopes.{functions_meant, signature_meant}
+use Rattle.declared_types.specs.declared.scope.Head.{Head}
 use Rattle.auth_types.proofs.FunctionSteps.{functions_behind}
 use Rattle.auth_types.proofs.bodies.functions.fourth_pass.Given as goal
 

@@ -19,13 +19,14 @@ use Rattle.auth_syntax.specs.declared.tree.PlacedName.{PlacedName}
 use Rattle.auth_syntax.specs.declared.tree.ExpTree.{ExpTree}
 use Rattle.auth_syntax.specs.declared.tree.ExpTree.TheViews.{size-ExpTree, size-Arm}
 use Rattle.auth_syntax.specs.declared.tree.Arm.{Arm}
-use Rattle.auth_types.specs.Outcomes.{Finds}
-use Rattle.auth_types.specs.Bodies.{Local, Scope, arm_names, bound_names, elaborated, elaborated_arms, operand_type, unary, wanted, wanted_arm}
-use Rattle.auth_types.specs.Checking.{Sound}
+use Rattle.declared_types.specs.Findings.{Finds}
+use Rattle.auth_types.specs.Bodies.{Local, arm_names, bound_names, elaborated, elaborated_arms, operand_type, unary, wanted, wanted_arm}
+use Rattle.declared_types.specs.Signatures.{Scope}
+use Rattle.declared_types.specs.Checking.{Sound}
 use Rattle.auth_types.specs.CheckedLaws.{HasGoodLiterals}
 use Rattle.auth_types.specs.Elaborators.{Keeps, Matches, arms_found, arms_of, boxed_of, fields_of, found_at, found_in, locals_of, row_found, row_of, scope_of, typed_of, types_of, want_of}
-use Rattle.auth_types.specs.OverTypes.{FindsOver, Grows}
-use Rattle.auth_types.specs.Scopes.{AreWithin, function_meant}
+use Rattle.declared_types.specs.OverTypes.{FindsOver, Grows}
+use Rattle.declared_types.specs.Scopes.{AreWithin, function_meant}
 use Rattle.auth_types.proofs.ArmSteps.{arm_finds, arm_kept, arm_miscounted, arm_refused, names_bound, names_refused, next_fields}
 use Rattle.auth_types.proofs.BoundNames.{with_local, with_local_is}
 use Rattle.auth_types.proofs.CallSteps.{constructors_count, parameters_count, types_count}
@@ -37,10 +38,10 @@ use Rattle.auth_types.proofs.LocalSteps.{int_shows, literal_shows}
 use Rattle.auth_types.proofs.MatchSteps.{match_arms_refused, match_found, match_refused}
 use Rattle.auth_types.proofs.RefusedParts.{body_refused, callee_refused, first_operand_refused, first_refused, maker_refused, name_refused, operands_found, other_refused, pair_refused, second_operand_refused, test_refused, unary_refused}
 use Rattle.auth_types.proofs.RowSteps.{arms_behind_none, arms_last, arms_more, arms_refused, body_shows, constructor_within, next_mapped, none_mapped, row_behind_none, row_last, row_more, row_refused}
-use Rattle.auth_types.proofs.ScopeStays.{grows_length, type_stays_at}
+use Rattle.declared_types.proofs.ScopeStays.{grows_length, type_stays_at}
 use Rattle.core_terms.proofs.TermViews as terms
 use Rattle.auth_types.proofs.TreeViews.{arm-parts, expression-UnitLiteral, expression-BoolLiteral, expression-IntLiteral, expression-TextLiteral, expression-Local, expression-Pair, expression-Unary, expression-Binary, expression-Call, expression-Constructor, expression-Let, expression-If, expression-Match}
-use Rattle.auth_types.proofs.TypeNumbers.{grows_on, grows_self, shows_grow}
+use Rattle.declared_types.proofs.TypeNumbers.{grows_on, grows_self, shows_grow}
 use Rattle.auth_types.proofs.bodies.elaborator.Elaborator.+bodies.Goals as goal
 
 -- the forms of expressions

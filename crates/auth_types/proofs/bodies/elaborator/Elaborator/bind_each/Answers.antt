@@ -5,8 +5,8 @@ use Rattle.core_terms.specs.TypeTables.{type_at}
 use Rattle.core_terms.specs.declared.types.TyId.{TyId}
 use Rattle.auth_syntax.specs.Trees.{name_of}
 use Rattle.auth_types.specs.Bodies.{Local}
-use Rattle.auth_types.specs.Checking.{Sound, is_among}
-use Rattle.auth_types.specs.Outcomes.{Finds}
+use Rattle.declared_types.specs.Checking.{Sound, is_among}
+use Rattle.declared_types.specs.Findings.{Finds}
 use Rattle.auth_types.specs.Elaborators.{locals_of, types_of}
 use Rattle.auth_types.specs.Locals.{names_of}
 use Rattle.auth_types.proofs.BoundNames.{named_local, next_bound, next_fault, next_twice, with_local, with_local_is}

@@ -1,6 +1,6 @@
 use Rattle.std.proofs.Common.{◌≡◌, ◌∙◌, length, refl, sym, ap, option_map}
 use Rattle.auth_types.specs.Elaborators.{scope_of, types_of}
-use Rattle.auth_types.specs.Scopes.{function_meant}
+use Rattle.declared_types.specs.Scopes.{function_meant}
 use Rattle.auth_types.proofs.CallSteps.{calls_found, calls_miscounted, calls_unknown, none_there, parameters_count}
 use Rattle.auth_types.proofs.bodies.elaborator.Elaborator.callee.Goals as goal
 

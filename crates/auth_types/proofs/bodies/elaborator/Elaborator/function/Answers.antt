@@ -5,12 +5,12 @@ use Rattle.core_terms.specs.TypeTables.{type_at}
 use Rattle.core_terms.specs.LanguageTrees.{types_at}
 use Rattle.auth_syntax.specs.Syntax.{place_of}
 use Rattle.auth_syntax.specs.Trees.{expression_of, function_of}
-use Rattle.auth_types.specs.Bodies.{Signature}
+use Rattle.declared_types.specs.Signatures.{Signature}
 use Rattle.auth_types.specs.Elaborators.{boxed_of, scope_of, types_of}
-use Rattle.auth_types.specs.OverTypes.{Grows}
+use Rattle.declared_types.specs.OverTypes.{Grows}
 use Rattle.auth_types.proofs.FindingSteps.{finds_is, grown, shows_is}
 use Rattle.auth_types.proofs.FunctionSteps.{body_is, function_refused, function_shows}
-use Rattle.auth_types.proofs.ScopeStays.{type_stays_at, types_stay_at}
+use Rattle.declared_types.proofs.ScopeStays.{type_stays_at, types_stay_at}
 use Rattle.auth_types.proofs.bodies.elaborator.Elaborator.function.Goals as goal
 
 pub returns-in_err-body-clause-found : goal.returns-in_err-body-clause-found

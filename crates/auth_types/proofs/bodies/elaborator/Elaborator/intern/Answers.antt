@@ -1,6 +1,6 @@
 use Rattle.auth_types.proofs.ElaboratorSteps.{keeps_grown}
 use Rattle.auth_types.proofs.FindingSteps.{on_ok}
-use Rattle.auth_types.proofs.TypeNumbers.{grows_either}
+use Rattle.declared_types.proofs.TypeNumbers.{grows_either}
 use Rattle.std.proofs.Common.{refl}
 use Rattle.auth_types.proofs.bodies.elaborator.Elaborator.intern.Goals as goal
 

@@ -1,6 +1,6 @@
 use Rattle.std.proofs.Common.{◌∙◌, sym, ap, option_map}
 use Rattle.auth_types.specs.Elaborators.{scope_of, types_of}
-use Rattle.auth_types.specs.ScopeNames.{constructor_meant}
+use Rattle.declared_types.specs.ScopeNames.{constructor_meant}
 use Rattle.auth_types.proofs.CallSteps.{constructs_found, constructs_miscounted, constructs_unknown, none_there, types_count}
 use Rattle.auth_types.proofs.bodies.elaborator.Elaborator.maker.Goals as goal
 

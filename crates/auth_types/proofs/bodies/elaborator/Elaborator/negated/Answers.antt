@@ -2,7 +2,7 @@ use Rattle.std.proofs.Common.{◌∙◌, Err, ap}
 use Rattle.std.proofs.lemmas.Result.{err_from_is_err_and}
 use Rattle.auth_types.specs.Elaborators.{typed_of, types_of}
 use Rattle.auth_types.proofs.OperationSteps.{negated_refused, negated_shows}
-use Rattle.auth_types.proofs.TypeNumbers.{shows_grow}
+use Rattle.declared_types.proofs.TypeNumbers.{shows_grow}
 use Rattle.auth_types.proofs.bodies.elaborator.Elaborator.negated.Goals as goal
 
 pub returns-in_err-operand-clause-found : goal.returns-in_err-operand-clause-found

@@ -4,7 +4,7 @@ use Rattle.core_terms.specs.LanguageTypes.{type_of_form}
 use Rattle.auth_types.specs.Bodies.{typed}
 use Rattle.auth_types.specs.Elaborators.{types_of}
 use Rattle.auth_types.proofs.OperationSteps.{plain_form}
-use Rattle.auth_types.proofs.TypeNumbers.{type_stays}
+use Rattle.declared_types.proofs.TypeNumbers.{type_stays}
 use Rattle.auth_types.proofs.bodies.elaborator.Elaborator.plain.Goals as goal
 
 pub returns-clause-found : goal.returns-clause-found

@@ -5,7 +5,7 @@ use Rattle.core_terms.specs.Types.{TextTy, UnitTy}
 use Rattle.core_terms.specs.TypeTables.{type_at}
 use Rattle.auth_types.specs.Elaborators.{typed_of, types_of}
 use Rattle.auth_types.proofs.OperationSteps.{length_refused, length_shows}
-use Rattle.auth_types.proofs.TypeNumbers.{shows_grow}
+use Rattle.declared_types.proofs.TypeNumbers.{shows_grow}
 use Rattle.auth_types.proofs.bodies.elaborator.Elaborator.text_length.Goals as goal
 
 pub returns-in_err-operand-clause-found : goal.returns-in_err-operand-clause-found

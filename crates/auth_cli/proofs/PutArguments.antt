@@ -1,0 +1,61 @@
+-- The value of a literal, put into a store: it stands there over the prover's nodes, since nothing in it is authenticated.
+use Rattle.std.proofs.Common.{◌≡◌, ℕ, List, [], Option, Result, Ok, Err, IsErrAnd, sym, ap, ◌∙◌, subst, lit<}
+use Rattle.core_terms.specs.LanguagePrograms.{constructor_names, meaning}
+use Rattle.core_terms.specs.Projection.{read_at}
+use Rattle.core_terms.specs.Reading.{BadAt, Good}
+use Rattle.core_terms.specs.Roles.{IsPlain}
+use Rattle.core_terms.specs.Types.{Ty}
+use Rattle.core_terms.specs.Values.{Value}
+use Rattle.core_terms.specs.declared.fault.Fault.TheVariants as literal_fault
+use Rattle.core_terms.specs.declared.language.program.Program.{Program}
+use Rattle.printed_syntax.specs.LiteralAnswers.{LiteralFault, ReadsLiteral, SpellsLiteral}
+use Rattle.printed_syntax.specs.LiteralLaws.{IsLiteralValue}
+use Rattle.printed_syntax.specs.Literals.{ConstructorNames, literal_in}
+use Rattle.printed_syntax.proofs.LiteralsReadBack.{literals_are_read_back}
+use Rattle.value_store.specs.Nodes.{Node}
+use Rattle.value_store.specs.Standing.{StandsFor, VerifierNodes}
+use Rattle.shallow_codec.proofs.LawProofs.{plain_stands}
+use Rattle.auth_cli.specs.Answer.{Answer, with_literal}
+use Rattle.auth_cli.specs.FueledQueries.{NamedProgram}
+use Rattle.auth_cli.specs.Halting.{GoesOnForInHand, of_literal_fault}
+use Rattle.auth_cli.specs.ReadPrograms.{language_named}
+use Rattle.auth_cli.specs.RoleCalls.{named_literal}
+use Rattle.auth_cli.specs.RolesCalled.{prover_nodes}
+use Rattle.auth_cli.specs.declared.report.Halt.{Halt}
+
+-- a text that is no literal of a type is refused
+pub literal_refused_for : {T : Type 0} (p : NamedProgram) (t : Ty) (text : List ℕ) (Stands : T → Value → Type 0) (fault : LiteralFault) (result : Result T Halt)
+    → IsErrAnd result (λ halt. halt ≡ of_literal_fault fault) → ReadsLiteral (literal_in p.digested.program p.names t text) (Err fault)
+    → GoesOnForInHand (with_literal (named_literal p t text)) Stands result
+unfolding named_literal
+literal_refused_for p t text Stands fault (Ok v) halt is = absurd halt
+literal_refused_for p t text Stands (literal_fault.At kind offset) (Err h) halt is =
+    subst (λ h. GoesOnForInHand (with_literal (named_literal p t text)) Stands (Err h)) (sym halt) (λ go. ap (λ found. with_literal found go) is)
+literal_refused_for p t text Stands literal_fault.NoMemory (Err h) halt is =
+    subst (λ h. GoesOnForInHand (with_literal (named_literal p t text)) Stands (Err h)) (sym halt) (λ go. tt)
+
+abbrev names_of : Program → ConstructorNames
+names_of p = constructor_names p.types.named.items
+
+module _ (p : Program) (t : Ty) (text bytes : List ℕ) (spelled : SpellsLiteral (literal_in (meaning p) (names_of p) t text) bytes) where
+  read_back : (place : ℕ) × (read_at (meaning p) t bytes ≡ Good spelled.0 [] place)
+  read_back =
+      let written : IsLiteralValue (meaning p) t spelled.0 = literals_are_read_back (meaning p) (lit< tt) (names_of p) t text spelled.0 spelled.1 in
+      (written.read_back.0, ap (λ bs. read_at (meaning p) t bs) (sym spelled.2) ∙ written.read_back.1)
+
+  -- its spelling is not refused
+  pub not_bad : (offset : ℕ) → read_at (meaning p) t bytes ≡ BadAt offset → ⊥
+  not_bad offset is = let good = read_back.1 in absurd (cc)
+
+  -- what stands for it over the verifier's nodes does so over the prover's
+  pub put_stands : (nodes : List Node) (r : ℕ) (v : Value) (place : ℕ) → IsPlain (meaning p).types t → read_at (meaning p) t bytes ≡ Good v [] place
+      → StandsFor VerifierNodes (meaning p).types nodes r t v → StandsFor (prover_nodes p) (meaning p).types nodes r t spelled.0
+  put_stands nodes r v place plain is stands =
+      let good = read_back.1 in
+      let same : v ≡ spelled.0 = cc in
+      plain_stands VerifierNodes (prover_nodes p) (meaning p).types nodes t spelled.0 r plain (subst (λ v. StandsFor VerifierNodes (meaning p).types nodes r t v) same stands)
+
+  -- it is what is gone on with
+  pub literal_goes_on : (go : Value → Option Answer) → with_literal (named_literal (language_named p) t text) go ≡ go spelled.0
+  unfolding named_literal
+  literal_goes_on go = ap (λ found. with_literal found go) spelled.1

@@ -1,0 +1,17 @@
+use Rattle.std.proofs.Common.{sym, ap, ◌∙◌, subst}
+use Rattle.core_terms.specs.LanguagePrograms.{meaning}
+use Rattle.mode_vm.specs.IdealRuns.{IsOutcome}
+use Rattle.value_store.specs.Stores.{nodes_in}
+use Rattle.auth_cli.specs.Answer.{outcome_told, says}
+use Rattle.auth_cli.specs.RoleCalls.{result_called}
+use Rattle.auth_cli.specs.RolesCalled.{prover_nodes, role_of}
+use Rattle.auth_cli.proofs.RoleReports.{done_told, stands_as_told}
+use Rattle.auth_cli.proofs.role_outcomes.role_report.Goals as goal
+
+pub value_line-requires : goal.value_line-requires
+value_line-requires c =
+    let p = c.args.program.now in
+    let ended = c.args.ended.now in
+    let ends = c.requires.2 in
+    let told = subst (λ out. IsOutcome (prover_nodes p) (meaning p).types (nodes_in ended.store) (result_called (role_of p ended.called)) out c.requires.1) c.in-Done.is ends.outcome in
+    (told.0, stands_as_told c.requires.0 p ended.called ends.called (nodes_in ended.store) c.in-Done.field-0.0 told.0 told.1)

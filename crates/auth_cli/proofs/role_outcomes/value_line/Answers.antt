@@ -1,0 +1,23 @@
+use Rattle.std.proofs.Common.{◌<◌, ◌^◌, length, sym, ◌∙◌, subst}
+use Rattle.sha2.specs.Sha256.{sha256}
+use Rattle.sha2.proofs.Facts256.{length-sha256}
+use Rattle.core_terms.specs.LanguagePrograms.{meaning, types_of}
+use Rattle.core_terms.specs.Projection.{projection}
+use Rattle.core_terms.specs.TypeTables.{type_at}
+use Rattle.value_store.specs.Stores.{nodes_in}
+use Rattle.auth_cli.proofs.MarkedStates.{projected}
+use Rattle.auth_cli.proofs.RoleReports.{line_told}
+use Rattle.auth_cli.proofs.role_outcomes.value_line.Goals as goal
+
+pub spell-requires : goal.spell-requires
+spell-requires c =
+    let p = c.args.program.now in
+    let t = type_at (types_of p) c.args.ty in
+    (projection sha256 (meaning p) t c.requires.0, projected p (nodes_in c.args.store.now) t c.requires.0 c.args.value.0 c.requires.1)
+
+pub returns : goal.returns
+returns c = λ v h.
+    let p = c.args.program.now in
+    let t = type_at (types_of p) c.args.ty in
+    line_told p (nodes_in c.args.store.now) c.args.store.now.sound t v c.args.value.0 h c.in_ok-spelled.spelled _ (c.in_ok-spelled.ensures.projected sha256 v length-sha256 h)
+    (λ w shallow short is. c.named_done_line.ensures w shallow (subst (λ bytes. length bytes < 2 ^ 32) (sym c.as_bytes.ensures) short) (c.as_bytes.ensures ∙ is))

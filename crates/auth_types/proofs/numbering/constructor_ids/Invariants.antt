@@ -1,7 +1,0 @@
-use Rattle.std.proofs.Common.{◌≡◌, ◌++◌, drop, map}
-use Rattle.auth_types.specs.ScopeNames.{constructor_meant, constructors_meant, numbered}
-use Rattle.auth_types.proofs.numbering.constructor_ids.Given as goal
-
-abbrev pub invariant-loop-number : goal.invariant-loop-number
-invariant-loop-number l = map constructor_meant l.ids.items ++ numbered l.number (constructors_meant (drop l.number l.named)) ≡ numbered 0
-    (constructors_meant l.named)

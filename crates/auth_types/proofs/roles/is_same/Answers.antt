@@ -1,5 +1,0 @@
-use Rattle.auth_types.proofs.RolesOfHeads.{same_decides}
-use Rattle.auth_types.proofs.roles.is_same.Goals as goal
-
-pub returns : goal.returns
-returns c = same_decides _ _ _ c.is_same.ensures.0 c.is_same.ensures.1

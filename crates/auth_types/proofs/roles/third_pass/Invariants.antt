@@ -1,9 +1,0 @@
-use Rattle.core_terms.specs.LanguagePrograms.{types_in}
-use Rattle.core_terms.specs.LanguageTrees.{table_of}
-use Rattle.core_terms.specs.TypeTables.{type_at}
-use Rattle.auth_types.proofs.RolesOfHeads.{StandsAt}
-use Rattle.auth_types.proofs.roles.third_pass.Given as goal
-
-abbrev pub invariant-loop-head : goal.invariant-loop-head
-invariant-loop-head l = StandsAt (types_in l.types) (table_of (types_in l.types) l.scope.named.items) (type_at (types_in l.types) l.state) l.scope
-    l.head-index

@@ -1,0 +1,213 @@
+-- Lemmas of the third pass: the roles of a scope's functions.
+use Rattle.std.proofs.Common.{◌≡◌, ◌≢◌, ℕ, zero, suc, ◌+◌, ◌<◌, Bool, true, false, ◌&&◌, List, [], ◌∷◌, length, map, drop, slice_get, slice_index_or, Some, ◌-◌, Result, Ok, Err, refl, sym, ap, ◌∙◌, subst, arith, add-one, drop-cons}
+use Rattle.std.specs.Prelude.{IsTrue}
+use Rattle.std.proofs.lemmas.Bool.{false≢true}
+use Rattle.std.proofs.lemmas.List.{length-map}
+use Rattle.core_terms.specs.Types.{Ty, Table}
+use Rattle.core_terms.specs.Roles.{has_auth}
+use Rattle.core_terms.specs.Typing.{same_type}
+use Rattle.core_terms.specs.LanguageTrees.{types_at}
+use Rattle.core_terms.specs.TypeTables.{type_at}
+use Rattle.core_terms.specs.declared.types.TyId.{TyId}
+use Rattle.core_terms.proofs.TypingSound.{same_sound}
+use Rattle.core_terms.proofs.TypingComplete.{same_self}
+use Rattle.auth_syntax.specs.Syntax.{FunctionSyntax, InitSyntax, ParameterSyntax, QuerySyntax, UpdateSyntax, place_of_type}
+use Rattle.auth_syntax.specs.Trees as written
+use Rattle.lexemes.specs.declared.place.Place.{Place}
+use Rattle.auth_syntax.specs.declared.tree.Parameter.{Parameter}
+use Rattle.declared_types.specs.Checking.{Checking, FaultAt, then_checked}
+use Rattle.declared_types.specs.DeclaredPrograms.{signature_of}
+use Rattle.declared_types.specs.Signatures.{Signature}
+use Rattle.declared_types.specs.Findings.{Finds, TypeFault}
+use Rattle.declared_types.specs.RoleHeads.{FindsRole, judged_role, last_place}
+use Rattle.declared_types.specs.RoleRules.{checked_role, checked_roles, is_new_state}
+use Rattle.declared_types.specs.Scopes.{AreHeadsOf, functions_meant, signature_meant}
+use Rattle.declared_types.specs.WrittenTypes.{type_meant}
+use Rattle.core_terms.specs.declared.fault.Fault.TheVariants.{At, NoMemory}
+use Rattle.declared_types.specs.declared.fault.TypeKind.TheVariants.{RoleShape}
+use Rattle.declared_types.specs.declared.scope.Head.{Head}
+use Rattle.declared_types.specs.declared.scope.Scope.{Scope}
+
+abbrev function_in : Head → FunctionSyntax
+function_in head = written.function_of head.function.now
+
+-- one head among those that stand for their functions
+head_signed : (names : List (List ℕ)) (types : List Ty) (heads : List Head) (i : ℕ) (head : Head)
+    → map (signature_meant types) heads ≡ map (signature_of names) (map function_in heads)
+    → i < length heads → head ≡ slice_index_or heads i head → signature_meant types head ≡ signature_of names (function_in head)
+head_signed names types [] i head same inside is = absurd (omega (arith, inside))
+head_signed names types (h ∷ heads) zero head same inside is =
+    let here : signature_meant types h ≡ signature_of names (function_in h) = cc in
+    subst (λ (h : Head). signature_meant types h ≡ signature_of names (function_in h)) (sym is) here
+head_signed names types (h ∷ heads) (suc i) head same inside is = head_signed names types heads i head (cc) (omega (arith, inside)) is
+
+module _ (types : List Ty) (table : Table) (state : Ty) (scope : Scope) where
+  -- what is left to check of the functions, from one on
+  abbrev pub StandsAt : ℕ → Type 0
+  StandsAt i = (names : List (List ℕ)) → AreHeadsOf names types scope
+      → checked_roles names table state (functions_meant scope) ≡ checked_roles names table state (map function_in (drop i scope.heads.items))
+
+  module _ (i : ℕ) (head : Head) (inside : i < length scope.heads.items) (is : head ≡ slice_index_or scope.heads.items i head) (so_far : StandsAt i)
+    where
+      next : drop i scope.heads.items ≡ head ∷ drop (i + 1) scope.heads.items
+      next = rw add-one (drop-cons scope.heads.items i head inside ∙ ap (λ e. e ∷ drop (suc i) scope.heads.items) (sym is))
+
+      abbrev rest_of : (names : List (List ℕ)) → Checking (Unit {0})
+      rest_of names = checked_roles names table state (map function_in (drop (i + 1) scope.heads.items))
+
+      here : (names : List (List ℕ)) → AreHeadsOf names types scope
+          → checked_roles names table state (functions_meant scope) ≡ then_checked
+          (checked_role names table state (function_in head) (function_in head).kind (function_in head).parameters) (λ _. rest_of names)
+      here names are = so_far names are ∙ ap (λ (l : List Head). checked_roles names table state (map function_in l)) next
+
+      pub role_passed : FindsRole types table state (written.kind_of head.function.now.kind) head (Ok tt) → StandsAt (i + 1)
+      role_passed passed names are =
+          here names are ∙ ap (λ (found : Checking (Unit {0})). then_checked found (λ _. rest_of names))
+          (passed names (head_signed names types scope.heads.items i head are inside is))
+
+      pub role_refused : (fault : TypeFault) (answer : Result (Unit {0}) TypeFault) → answer ≡ Err fault
+          → FindsRole types table state (written.kind_of head.function.now.kind) head (Err fault)
+          → (names : List (List ℕ)) → AreHeadsOf names types scope → Finds (λ _. tt) (checked_roles names table state (functions_meant scope)) answer
+      role_refused fault answer refused found names are =
+          subst (λ (r : Result (Unit {0}) TypeFault). Finds (λ _. tt) (checked_roles names table state (functions_meant scope)) r) (sym refused)
+          (by fault (found names (head_signed names types scope.heads.items i head are inside is)))
+        where
+          by : (fault : TypeFault) → Finds {A = Unit {0}} (λ _. tt)
+              (checked_role names table state (function_in head) (function_in head).kind (function_in head).parameters) (Err fault)
+              → Finds {A = Unit {0}} (λ _. tt) (checked_roles names table state (functions_meant scope)) (Err fault)
+          by NoMemory h = tt
+          by (At kind at) h = here names are ∙ ap (λ (found : Checking (Unit {0})). then_checked found (λ _. rest_of names)) h
+
+-- a role whose argument has this type, and the rest of whose shape fits or doesn't
+abbrev Judged : FunctionSyntax → Bool → Bool → List ParameterSyntax → Result (Unit {0}) TypeFault → Type 0
+Judged F fits mark ps answer = Finds (λ _. tt) (judged_role F.name.at fits mark ps) answer
+
+module _ (types : List Ty) (table : Table) (state : Ty) (head : Head) (argument : TyId) (fits mark : Bool) (answer : Result (Unit {0}) TypeFault)
+    (marked : mark ≡ has_auth table (type_at types argument))
+    (judged : Judged (function_in head) fits mark (function_in head).parameters answer) where
+  pub init_found : head.parameters.items ≡ argument ∷ [] → fits ≡ same_type state (type_at types head.result)
+      → FindsRole types table state InitSyntax head answer
+  init_found is shape names same = by (function_in head).parameters parameters judged
+    where
+      result : type_at types head.result ≡ type_meant names (function_in head).result_type
+      result = ap (λ (s : Signature). s.result) same
+
+      parameters : type_at types argument ∷ [] ≡ map (λ (p : ParameterSyntax). type_meant names p.of_type) (function_in head).parameters
+      parameters = ap (types_at types) (sym is) ∙ ap (λ (s : Signature). s.parameters) same
+
+      by : (ps : List ParameterSyntax) → type_at types argument ∷ [] ≡ map (λ (p : ParameterSyntax). type_meant names p.of_type) ps
+          → Judged (function_in head) fits mark ps answer
+          → Finds (λ _. tt) (checked_role names table state (function_in head) InitSyntax ps) answer
+      by [] these h = absurd (cc)
+      by (p ∷ q ∷ ps) these h = absurd (cc)
+      by (p ∷ []) these h =
+          let one : type_at types argument ≡ type_meant names p.of_type = cc in
+          let fit : fits ≡ same_type state (type_meant names (function_in head).result_type) = shape ∙ ap (same_type state) result in
+          let auth : mark ≡ has_auth table (type_meant names p.of_type) = marked ∙ ap (has_auth table) one in
+          subst (λ (m : Bool). Judged (function_in head) (same_type state (type_meant names (function_in head).result_type)) m (p ∷ []) answer) auth
+          (subst (λ (f : Bool). Judged (function_in head) f mark (p ∷ []) answer) fit h)
+
+  -- a role with a state before its argument
+  module _ (first : TyId) (is : head.parameters.items ≡ first ∷ argument ∷ []) where
+    parameters_of_two : (names : List (List ℕ)) → signature_meant types head ≡ signature_of names (function_in head)
+        → type_at types first ∷ type_at types argument ∷ [] ≡ map (λ (p : ParameterSyntax). type_meant names p.of_type) (function_in head).parameters
+    parameters_of_two names same = ap (types_at types) (sym is) ∙ ap (λ (s : Signature). s.parameters) same
+
+    pub query_found : fits ≡ same_type state (type_at types first) → FindsRole types table state QuerySyntax head answer
+    query_found shape names same = by (function_in head).parameters (parameters_of_two names same) judged
+      where
+        by : (ps : List ParameterSyntax) → type_at types first ∷ type_at types
+            argument ∷ [] ≡ map (λ (p : ParameterSyntax). type_meant names p.of_type) ps → Judged (function_in head) fits mark ps answer
+            → Finds (λ _. tt) (checked_role names table state (function_in head) QuerySyntax ps) answer
+        by [] these h = absurd (cc)
+        by (p ∷ []) these h = absurd (cc)
+        by (p ∷ q ∷ r ∷ ps) these h = absurd (cc)
+        by (p ∷ q ∷ []) these h =
+            let one : type_at types first ≡ type_meant names p.of_type = cc in
+            let two : type_at types argument ≡ type_meant names q.of_type = cc in
+            let fit : fits ≡ same_type state (type_meant names p.of_type) = shape ∙ ap (same_type state) one in
+            let auth : mark ≡ has_auth table (type_meant names q.of_type) = marked ∙ ap (has_auth table) two in
+            subst (λ (m : Bool). Judged (function_in head) (same_type state (type_meant names p.of_type)) m (p ∷ q ∷ []) answer) auth
+            (subst (λ (f : Bool). Judged (function_in head) f mark (p ∷ q ∷ []) answer) fit h)
+
+    pub update_found : fits ≡ same_type state (type_at types first) && is_new_state [] [] state (type_at types head.result)
+        → FindsRole types table state UpdateSyntax head answer
+    update_found shape names same = by (function_in head).parameters (parameters_of_two names same) judged
+      where
+        result : type_at types head.result ≡ type_meant names (function_in head).result_type
+        result = ap (λ (s : Signature). s.result) same
+
+        by : (ps : List ParameterSyntax) → type_at types first ∷ type_at types
+            argument ∷ [] ≡ map (λ (p : ParameterSyntax). type_meant names p.of_type) ps → Judged (function_in head) fits mark ps answer
+            → Finds (λ _. tt) (checked_role names table state (function_in head) UpdateSyntax ps) answer
+        by [] these h = absurd (cc)
+        by (p ∷ []) these h = absurd (cc)
+        by (p ∷ q ∷ r ∷ ps) these h = absurd (cc)
+        by (p ∷ q ∷ []) these h =
+            let one : type_at types first ≡ type_meant names p.of_type = cc in
+            let two : type_at types argument ≡ type_meant names q.of_type = cc in
+            let new : Ty → Bool = λ t. is_new_state [] [] state t in
+            let fit : fits ≡ same_type state (type_meant names p.of_type) && new (type_meant names (function_in head).result_type) =
+            shape ∙ ap (λ (t : Ty). same_type state t && new (type_at types head.result)) one
+            ∙ ap (λ (t : Ty). same_type state (type_meant names p.of_type) && new t) result in
+            let auth : mark ≡ has_auth table (type_meant names q.of_type) = marked ∙ ap (has_auth table) two in
+            subst (λ (m : Bool). Judged (function_in head) (same_type state (type_meant names p.of_type) && new
+            (type_meant names (function_in head).result_type)) m (p ∷ q ∷ []) answer) auth
+            (subst (λ (f : Bool). Judged (function_in head) f mark (p ∷ q ∷ []) answer) fit h)
+
+-- as many numbers as parameters
+module _ (types : List Ty) (table : Table) (state : Ty) (head : Head) where
+  as_many : (names : List (List ℕ)) → signature_meant types head ≡ signature_of names (function_in head)
+      → length head.parameters.items ≡ length (function_in head).parameters
+  as_many names same =
+      sym (length-map head.parameters.items (type_at types)) ∙ ap (λ (s : Signature). length s.parameters) same
+      ∙ length-map (function_in head).parameters (λ (p : ParameterSyntax). type_meant names p.of_type)
+
+  -- a role of another number of parameters
+  pub init_misshaped : length head.parameters.items ≢ 1 → FindsRole types table state InitSyntax head (Err (At RoleShape head.function.now.name.at))
+  init_misshaped other names same = by (function_in head).parameters (λ one. other (as_many names same ∙ one))
+    where
+      by : (ps : List ParameterSyntax) → length ps ≢ 1 → checked_role names table state (function_in head) InitSyntax ps ≡ FaultAt RoleShape
+          head.function.now.name.at
+      by [] other = refl
+      by (p ∷ []) other = absurd (other refl)
+      by (p ∷ q ∷ ps) other = refl
+
+  pub query_misshaped : length head.parameters.items ≢ 2 → FindsRole types table state QuerySyntax head (Err (At RoleShape head.function.now.name.at))
+  query_misshaped other names same = by (function_in head).parameters (λ two. other (as_many names same ∙ two))
+    where
+      by : (ps : List ParameterSyntax) → length ps ≢ 2 → checked_role names table state (function_in head) QuerySyntax ps ≡ FaultAt RoleShape
+          head.function.now.name.at
+      by [] other = refl
+      by (p ∷ []) other = refl
+      by (p ∷ q ∷ []) other = absurd (other refl)
+      by (p ∷ q ∷ r ∷ ps) other = refl
+
+  pub update_misshaped : length head.parameters.items ≢ 2 → FindsRole types table state UpdateSyntax head
+      (Err (At RoleShape head.function.now.name.at))
+  update_misshaped other names same = by (function_in head).parameters (λ two. other (as_many names same ∙ two))
+    where
+      by : (ps : List ParameterSyntax) → length ps ≢ 2 → checked_role names table state (function_in head) UpdateSyntax ps ≡ FaultAt RoleShape
+          head.function.now.name.at
+      by [] other = refl
+      by (p ∷ []) other = refl
+      by (p ∷ q ∷ []) other = absurd (other refl)
+      by (p ∷ q ∷ r ∷ ps) other = refl
+
+-- two types are the same by the test where a test of numbers says so
+pub same_decides : (r : Bool) (s t : Ty) → (IsTrue r → s ≡ t) → (s ≡ t → IsTrue r) → r ≡ same_type s t
+same_decides true s t forth back = sym (subst (λ (u : Ty). same_type s u ≡ true) (forth refl) (same_self s))
+same_decides false s t forth back = by (same_type s t) (λ same. absurd (false≢true (back (same_sound s t same))))
+  where
+    by : (b : Bool) → (b ≡ true → ⊥) → false ≡ b
+    by true never = absurd (never refl)
+    by false never = refl
+
+-- the place of the last parameter
+pub last_place_is : (at : Place) (ps : List Parameter) (p : Parameter) → Some p ≡ slice_get ps (length ps - 1)
+    → place_of_type (written.type_of p.of_type) ≡ last_place at (map written.parameter_of ps)
+last_place_is at [] p is = absurd (cc)
+last_place_is at (q ∷ []) p is = let same : p ≡ q = cc in ap (λ (q : Parameter). place_of_type (written.type_of q.of_type)) same
+last_place_is at (q ∷ r ∷ ps) p is =
+    let less : suc (suc (length ps)) - 1 ≡ suc (suc (length ps) - 1) = omega arith in
+    last_place_is (place_of_type (written.type_of q.of_type)) (r ∷ ps) p (is ∙ ap (slice_get (q ∷ r ∷ ps)) less)

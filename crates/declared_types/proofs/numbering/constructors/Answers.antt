@@ -1,0 +1,13 @@
+use Rattle.declared_types.specs.ScopeNames.{names_in}
+use Rattle.declared_types.proofs.NumberedParts.{constructor_taken}
+use Rattle.declared_types.proofs.TypeNumbers.{grows_on}
+use Rattle.declared_types.proofs.numbering.constructors.Goals as goal
+
+pub loop-one-preserved : goal.loop-one-preserved
+loop-one-preserved c = record {
+  grows = grows_on _ _ _ c.loop-one.invariant.grows c.constructor.ensures.grows;
+  found = rw c.in_ok-push.ensures.items
+      (constructor_taken (names_in c.args.names.now.keys) _ _ c.constructor.ensures.grows c.args.declared.now c.loop-one.one-index
+      _ c.in_ok-constructor.field-0 c.one-item.result c.loop-one-test.true c.one-item.is
+      c.loop-one.invariant.found c.in_ok-constructor.ensures.found);
+}

@@ -1,0 +1,15 @@
+use Rattle.auth_syntax.specs.Trees.{type_of}
+use Rattle.declared_types.specs.ScopeNames.{names_in}
+use Rattle.declared_types.specs.WrittenTypes.{type_meant}
+use Rattle.declared_types.proofs.NumberedParts.{numbers_taken}
+use Rattle.declared_types.proofs.TypeNumbers.{grows_on}
+use Rattle.declared_types.proofs.numbering.numbers.Goals as goal
+
+pub loop-tree-preserved : goal.loop-tree-preserved
+loop-tree-preserved c = record {
+  grows = grows_on _ _ _ c.loop-tree.invariant.grows c.number.ensures.grows;
+  found = rw c.in_ok-push.ensures.items
+      (numbers_taken _ _ (type_meant (names_in c.args.names.now.keys)) type_of c.args.trees.now c.loop-tree.tree-index _ c.in_ok-number.field-0
+      c.tree-item.result c.number.ensures.grows c.loop-tree-test.true c.tree-item.is
+      c.loop-tree.invariant.found c.in_ok-number.ensures.found);
+}

@@ -1,0 +1,14 @@
+pub mod Checking
+pub mod Findings
+pub mod Declarations
+pub mod WrittenTypes
+pub mod RoleRules
+pub mod Signatures
+pub mod DeclaredPrograms
+pub mod ScopeNames
+pub mod DeclaredNames
+pub mod OverTypes
+pub mod Scopes
+pub mod Numbering
+pub mod Passes
+pub mod RoleHeads

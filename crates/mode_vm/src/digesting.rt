@@ -1,0 +1,104 @@
+// The ideal mode over the prover's nodes.
+ghost use Rattle.std.specs.Prelude.{◌≡◌, ℕ, List, None};
+ghost use Rattle.core_terms.specs.Types.{AuthTy, Table, Ty};
+ghost use Rattle.core_terms.specs.Values.{Value};
+ghost use Rattle.value_store.specs.Markings.{ProverMarking};
+ghost use Rattle.value_store.specs.Standing.{ProverNodes, StandsFor};
+
+use crate::ideal::Never;
+use crate::mode::{Mode, Stop};
+use core_terms::language::Program;
+use core_terms::{Hash32, TyId};
+use shallow_codec::spell;
+use std::alloc::Global;
+use std::marker::PhantomData;
+use value_store::{Held, Nodes, Ref, View};
+
+/// The ideal mode, whose authenticated values are held with their digests: each is digested once, when it is made.
+#[derive(Drop)]
+pub struct DigestingMode<H> {
+    alloc: Global,
+    hash: PhantomData<H>,
+}
+
+impl<H: Hash32> DigestingMode<H> {
+    /// A mode that takes the memory of spellings from here.
+    pub fn new(alloc: Global) -> Self
+        ensures { result.alloc ≡ alloc }
+    {
+        DigestingMode {
+            alloc,
+            hash: PhantomData,
+        }
+    }
+}
+
+impl<H: Hash32> Mode for DigestingMode<H> {
+    type Fault = Never;
+
+    type World = ();
+
+    ghost marking = { ProverMarking H.hash };
+
+    ghost Follows = { λ p mode world nodes w. Unit {0} };
+
+    ghost cause = { λ f. None };
+
+    ghost faults = { λ world. 0 };
+
+    ghost Rose = { λ old new. ⊥ };
+
+    ghost opened = { λ mode. 0 };
+
+    ghost Rest = { Unit {0} };
+
+    ghost rest = { λ world. tt };
+
+    ghost Moves = { λ P a v b w. Unit {0} };
+
+    ghost moves_not = { λ P a v. tt };
+
+    ghost moves_on = { λ P a b c v w x h k. tt };
+
+    ghost follows_on = { λ p mode world old new w k h. h };
+
+    fn auth<N: Nodes>(
+        &mut self,
+        program: &Program,
+        store: &mut N,
+        ty: TyId,
+        v: Ref,
+    ) -> Result<Ref, Stop<Never>> {
+        let Ok(spelling) = spell(self.alloc, program, store, v, ty) else {
+            return Err(Stop::NoMemory);
+        };
+        let digest = H::of(spelling.as_bytes());
+        match store.put_auth(Held::Both(digest, v)) {
+            Ok(r) => Ok(r),
+            Err(_) => Err(Stop::NoMemory),
+        }
+    }
+
+    fn unauth<N: Nodes>(
+        &mut self,
+        _world: &mut (),
+        _program: &Program,
+        store: &mut N,
+        _ty: TyId,
+        v: Ref,
+    ) -> Result<Ref, Stop<Never>> {
+        Ok(inner_of(store, v))
+    }
+}
+
+/// The node that a prover's node of an authenticated value refers to.
+fn inner_of<N: Nodes>(store: &N, r: Ref) -> Ref
+    requires { (digest : Ty → List ℕ → List ℕ) × (types : Table) × (t : Ty) × (x : Value) × StandsFor (ProverNodes digest) types (N.nodes store.now) r.0 (AuthTy t) x }
+    ensures { (digest : Ty → List ℕ → List ℕ) (types : Table) (t : Ty) (x : Value) → StandsFor (ProverNodes digest) types (N.nodes store.now) r.0 (AuthTy t) x
+        → StandsFor (ProverNodes digest) types (N.nodes store.now) result.0 t x }
+{
+    match store.view(r) {
+        View::Auth(Held::Both(_, inner)) => *inner,
+        _ => unreachable!(),
+    }
+}
