@@ -1,7 +1,7 @@
 -- Operations on operands that were told.
 use Rattle.std.proofs.Common.{◌≡◌, ℕ, List, Result, Ok, sym, subst}
 use Rattle.core_terms.specs.Values.{Value}
-use Rattle.ideal_meaning.specs.Run.{Run, then_run}
+use Rattle.ideal_meaning.specs.Run.{then_run}
 use Rattle.ideal_meaning.specs.Ideal.{Opened}
 use Rattle.reference_run.specs.PlainValues.{plain_of}
 use Rattle.reference_run.specs.Telling.{Evaluation, GoesOn, Tells}

@@ -1,20 +1,16 @@
 -- The arm of a constructor, and a call by the body of its function.
-use Rattle.std.proofs.Common.{◌≡◌, ℕ, zero, suc, ◌≤◌, List, [], ◌∷◌, map, Option, Some, None, slice_get, unwrap_or, Result, refl, sym, ap, ◌∙◌, subst, arith}
-use Rattle.core_terms.specs.Values.{Value, Values, UnitV}
+use Rattle.std.proofs.Common.{◌≡◌, ℕ, zero, suc, ◌≤◌, List, [], ◌∷◌, map, Some, None, slice_get, unwrap_or, refl, sym, ap, ◌∙◌, subst, arith}
+use Rattle.core_terms.specs.Values.{Values, UnitV}
 use Rattle.core_terms.specs.Terms as tree
 use Rattle.core_terms.specs.Terms.{Expression, UnitE, function_at, no_function}
 use Rattle.core_terms.specs.LanguagePrograms.{types_of}
 use Rattle.core_terms.specs.LanguageTrees.{arms_in_a_row, function_of}
 use Rattle.core_terms.specs.declared.language.term.Function.{Function}
-use Rattle.ideal_meaning.specs.Run.{Run, Gives, Ends, IsOut, call}
+use Rattle.ideal_meaning.specs.Run.{Gives, Ends, IsOut, call}
 use Rattle.ideal_meaning.specs.Ideal.{Opened, ideal_mode}
 use Rattle.ideal_meaning.specs.Table.{eval, eval_arm}
 use Rattle.reference_run.specs.Evaluations.{IsWhole, expression, program_of}
-use Rattle.reference_run.specs.PlainValues.{plain_of}
-use Rattle.reference_run.specs.Telling.{Evaluation, Tells}
 use Rattle.reference_run.specs.declared.evaluator.Evaluator.{Evaluator}
-use Rattle.reference_run.specs.declared.stop.Stop.{Stop}
-use Rattle.reference_run.specs.declared.values.Plain.{Plain}
 
 module _ {A : Type 0} (f : A → Expression) (P : tree.Program) (nesting : ℕ) (env : Values) (k : ℕ) (seen : List Opened) where
   pub arm_there : (arms : List A) (tag : ℕ) (arm : A) → slice_get arms tag ≡ Some arm

@@ -3,7 +3,7 @@ use Rattle.std.proofs.Common.{◌≡◌, ℕ, Bool, true, false, List, [], ◌�
 use Rattle.std.specs.Result.{IsErrAnd}
 use Rattle.core_terms.specs.Types.{Ty}
 use Rattle.core_terms.specs.Values.{Value, Values}
-use Rattle.ideal_meaning.specs.Run.{Run, Gives, Ends, then_run, choose}
+use Rattle.ideal_meaning.specs.Run.{Gives, Ends, then_run, choose}
 use Rattle.ideal_meaning.specs.Ideal.{Opened}
 use Rattle.reference_run.specs.PlainValues.{plain_of}
 use Rattle.reference_run.specs.Telling.{Evaluation, Tells}

@@ -3,7 +3,7 @@ use Rattle.std.proofs.Common.{◌≡◌, ℕ, zero, suc, ◌<◌, ◌≤◌, ◌
 use lib.Signed.{mag_rem}
 use Rattle.std.specs.Option.{option_and_then}
 use Rattle.std.proofs.lemmas.Str.{IsUtf8-append}
-use Rattle.core_terms.specs.Types.{Ty, UnitTy, BoolTy, IntTy, TextTy, PairTy, NamedTy, AuthTy, fields_at}
+use Rattle.core_terms.specs.Types.{Ty, BoolTy, IntTy, TextTy, PairTy, NamedTy, AuthTy, fields_at}
 use Rattle.core_terms.specs.Formats.{IsFormat, depth_limit}
 use Rattle.core_terms.specs.Values.{Value, UnitV, BoolV, IntV, TextV, PairV, ConV, Values, NoV, AndV, AreIdeal, AuthWithinAll, int_fits, size, depth}
 use Rattle.core_terms.specs.Terms.{Expression, UnitE, BoolE, IntE, TextE, LocalE, PairE, FstE, SndE, NotE, LenE, AuthE, UnauthE, ConE, ArithE, CompareE, TextCompareE, CatE, LetE, IfE, MatchE, CallE, Expressions, NoE, AndE, Arms, NoArm, AndArm, Function, no_function, OnFunction, Program, function_at, HasType, HaveTypes, HaveArms, IsTyped}
@@ -12,7 +12,7 @@ use Rattle.core_terms.specs.declared.language.term.Arith.{Arith}
 use Rattle.core_terms.specs.declared.language.term.Arith.TheVariants.{Add, Sub, Mul, Div, Rem}
 use Rattle.core_terms.proofs.Numbers.{mag_of, of_mag}
 use Rattle.core_terms.proofs.Fields.{on_fields}
-use Rattle.ideal_meaning.specs.Run.{Traps, Overflow, Run, Gives, Ends, then_run, local, join, first_in, second_in, bool_in, int_in, text_in, tag_in, fields_in, divided, arith_of, choose, limited, run, run_all, run_arm, call}
+use Rattle.ideal_meaning.specs.Run.{Traps, Overflow, Run, Gives, Ends, then_run, join, bool_in, int_in, text_in, tag_in, fields_in, divided, arith_of, choose, limited, run, run_all, run_arm, call}
 use Rattle.ideal_meaning.specs.Ideal.{Opened, ideal, ideal_mode}
 use Rattle.ideal_meaning.proofs.InHand.{int_fits_in, utf8_in, length_in, at_con, IsHeld, AreHeld, held_unit, held_bool, held_int, held_text, held_local, held_join, held_pair, held_first, held_second, held_con, held_parts, held_auth, held_inputs}
 

@@ -1,10 +1,8 @@
 -- What a call from outside tells.
-use Rattle.std.proofs.Common.{◌≡◌, ℕ, List, [], map, Result, Ok, Err, refl, sym, ap, subst, le_refl, lit<, Vec}
+use Rattle.std.proofs.Common.{◌≡◌, ℕ, [], map, Result, Ok, Err, refl, sym, ap, subst, le_refl, lit<, Vec}
 use Rattle.std.specs.declared.alloc.Global.{Global}
-use Rattle.core_terms.specs.Types.{Ty}
 use Rattle.core_terms.specs.Formats.{IsFormat}
 use Rattle.core_terms.specs.Values.{Value, Values}
-use Rattle.core_terms.specs.Terms as tree
 use Rattle.core_terms.specs.Terms.{IsTyped, function_at}
 use Rattle.core_terms.specs.LanguagePrograms.{meaning, types_of}
 use Rattle.core_terms.specs.LanguageTrees.{function_of}
@@ -12,7 +10,7 @@ use Rattle.core_terms.specs.declared.language.program.Program.{Program}
 use Rattle.core_terms.specs.declared.outcome.Trap.{Trap}
 use Rattle.core_terms.specs.declared.outcome.Outcome.TheVariants as told
 use Rattle.core_terms.proofs.LawProofs.{first_format_is_format, typing_test_is_exact}
-use Rattle.ideal_meaning.specs.Run.{Run, Gives, fuel_of}
+use Rattle.ideal_meaning.specs.Run.{Gives, fuel_of}
 use Rattle.ideal_meaning.specs.Ideal as ideal
 use Rattle.ideal_meaning.specs.Ideal.{ideal, outcome}
 use Rattle.ideal_meaning.specs.Told.{trap_told}

@@ -4,10 +4,10 @@ use Rattle.core_terms.specs.Values.{Value, Values, NoV, AndV}
 use Rattle.core_terms.specs.Terms.{Expression, NoE, AndE}
 use Rattle.core_terms.specs.LanguageTrees.{in_a_row}
 use Rattle.core_terms.specs.Terms as tree
-use Rattle.ideal_meaning.specs.Run.{Run, Gives, Ends, then_run, join}
+use Rattle.ideal_meaning.specs.Run.{Gives, Ends, then_run, join}
 use Rattle.ideal_meaning.specs.Ideal.{Opened}
 use Rattle.ideal_meaning.specs.Table.{eval, eval_all}
-use Rattle.reference_run.specs.PlainValues.{row_of, plain_of, plains_of}
+use Rattle.reference_run.specs.PlainValues.{plain_of, plains_of}
 use Rattle.reference_run.specs.Telling.{Evaluation}
 use Rattle.reference_run.specs.declared.values.Plain.{Plain}
 

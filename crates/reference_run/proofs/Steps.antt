@@ -5,7 +5,7 @@ use Rattle.core_terms.specs.Values.{Value, Values}
 use Rattle.core_terms.specs.Terms.{Expression}
 use Rattle.core_terms.specs.LanguageTrees.{in_a_row}
 use Rattle.core_terms.specs.declared.language.term.Term.{Term}
-use Rattle.ideal_meaning.specs.Run.{Run, Gives, then_run}
+use Rattle.ideal_meaning.specs.Run.{then_run}
 use Rattle.ideal_meaning.specs.Ideal.{Opened}
 use Rattle.ideal_meaning.specs.Table.{eval, eval_all}
 use Rattle.reference_run.specs.Evaluations.{eval_both, expression, program_of}

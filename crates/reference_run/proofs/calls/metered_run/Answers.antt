@@ -1,4 +1,4 @@
-use Rattle.std.proofs.Common.{◌≡◌, Ok, Err}
+use Rattle.std.proofs.Common.{Ok, Err}
 use Rattle.core_terms.specs.LanguagePrograms.{meaning}
 use Rattle.ideal_meaning.specs.Ideal.{ideal}
 use Rattle.reference_run.specs.Telling.{row_values}

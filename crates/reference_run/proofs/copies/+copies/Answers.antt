@@ -1,4 +1,4 @@
-use Rattle.std.proofs.Common.{◌≡◌, ◌∷◌, ◌∙◌, [], sym, ap, ap₂, take}
+use Rattle.std.proofs.Common.{◌∷◌, ◌∙◌, [], sym, ap, ap₂, take}
 use Rattle.std.proofs.lemmas.List.{take_more}
 use Rattle.core_terms.specs.Values.{AndV, NoV}
 use Rattle.ideal_meaning.specs.Run.{join}

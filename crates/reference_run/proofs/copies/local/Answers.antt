@@ -1,6 +1,5 @@
 use Rattle.std.proofs.Common.{◌≡◌, ◌∙◌, IfOk, subst}
-use Rattle.ideal_meaning.specs.Run.{local}
-use Rattle.reference_run.specs.PlainValues.{plain_of, plains_of}
+use Rattle.reference_run.specs.PlainValues.{plain_of}
 use Rattle.reference_run.proofs.Locals.{found, local_past, local_there, past}
 use Rattle.reference_run.proofs.ValueViews.{plain-UnitValue}
 use Rattle.reference_run.proofs.copies.local.Goals as goal

@@ -1,8 +1,7 @@
-use Rattle.std.proofs.Common.{◌≡◌, ◌∙◌, ℕ, ℤ, List, sym, ap, ap₂, subst, arith, Ok, Err}
+use Rattle.std.proofs.Common.{◌∙◌, ℕ, List, sym, ap, ap₂, subst, arith, Ok, Err}
 use Rattle.core_terms.specs.Values.{Value}
 use Rattle.ideal_meaning.specs.Run.{Gives}
 use Rattle.ideal_meaning.specs.Run as meant
-use Rattle.reference_run.specs.PlainValues.{plain_of}
 use Rattle.ideal_meaning.specs.Ideal.{Opened}
 use Rattle.reference_run.specs.Telling.{Evaluation, GoesOn, pair_values}
 use Rattle.reference_run.specs.declared.stop.Stop.TheVariants.{Trapped}

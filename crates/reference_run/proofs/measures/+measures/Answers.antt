@@ -55,13 +55,13 @@ row_measures-loop-place-preserved t c =
     let i = c.loop-place.place in
     let v = c.index-values-place.result in
     elim c.match-get.branch [
-      row_measures-in-Some w ↦
+      | row_measures-in-Some w ↦
           let lookup = w.in-Some.ensures.lookup in
           let ty = w.in-Some.ty.now in
           subst (λ row. IsMeasured row (sizes table ts (plains_of (take (i + 1) values))) (depths table ts (plains_of (take (i + 1) values)))) (sym w.row-is)
           (next_measures table ts values i v (type_at (types_of c.args.program.now) ty) w.beside-row.result c.loop-place-test.true c.index-values-place.is
           (type_there (types_of c.args.program.now) ids i ty (found ids i ty lookup.3.0 lookup.1)) (w.beside-row.ensures _ _ _ _ c.loop-place.invariant w.measured.ensures))
-    | row_measures-in_default w ↦
+      | row_measures-in_default w ↦
           subst (λ row. IsMeasured row (sizes table ts (plains_of (take (i + 1) values))) (depths table ts (plains_of (take (i + 1) values)))) (sym w.row-is)
           (same_measures table ts values i v c.loop-place.row c.loop-place-test.true (type_past (types_of c.args.program.now) ids i (none_past ids i
           c.get.result w.in_default.not-Some c.get.ensures.lookup))

@@ -1,4 +1,4 @@
-use Rattle.std.proofs.Common.{◌≡◌, ◌<◌, ◌≤◌, arith, le-ltb, lt-ltb, refl}
+use Rattle.std.proofs.Common.{◌<◌, ◌≤◌, arith, le-ltb, lt-ltb}
 use Rattle.core_terms.specs.Formats.{depth_limit}
 use Rattle.core_terms.specs.LanguagePrograms.{meaning}
 use Rattle.core_terms.specs.Values.{depth, size}

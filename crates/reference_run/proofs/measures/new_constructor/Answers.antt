@@ -1,4 +1,4 @@
-use Rattle.std.proofs.Common.{◌≡◌, subst}
+use Rattle.std.proofs.Common.{subst}
 use Rattle.core_terms.specs.LanguagePrograms.{meaning}
 use Rattle.core_terms.specs.Types.{NamedTy}
 use Rattle.core_terms.specs.Values.{ConV}

@@ -1,20 +1,16 @@
 use denote.Param.Weighed.{at_most, most}
-use Rattle.std.proofs.Common.{◌≡◌, ◌≤◌, ◌<◌, ◌+◌, ◌*◌, ◌∷◌, ◌++◌, ◌∙◌, ℕ, suc, List, [], Result, Ok, Err, map, drop, refl, sym, ap, subst, arith}
+use Rattle.std.proofs.Common.{◌≡◌, ◌≤◌, ◌+◌, ◌∷◌, ◌∙◌, suc, [], Ok, Err, map, drop, refl, sym, ap, subst, arith}
 use Rattle.std.proofs.lemmas.List.{drop_more}
 use Rattle.core_terms.specs.LanguagePrograms.{types_of}
 use Rattle.core_terms.specs.LanguageTrees.{arms_in_a_row, in_a_row}
-use Rattle.core_terms.specs.Terms.{UnitE, BoolE, IntE, TextE, LocalE, PairE, FstE, SndE, NotE, LenE, AuthE, UnauthE, ConE, ArithE, CompareE, TextCompareE, CatE, LetE, IfE, MatchE, CallE}
-use Rattle.core_terms.specs.Texts.{bytes_of}
-use Rattle.core_terms.specs.TypeTables.{type_at}
-use Rattle.core_terms.specs.Types.{NamedTy, PairTy, TextTy}
-use Rattle.core_terms.specs.Values.{AndV, BoolV, ConV, IntV, NoV, PairV, TextV}
+use Rattle.core_terms.specs.Values.{IntV, TextV}
 use Rattle.core_terms.specs.declared.language.term.Term.TheViews.{size-Term}
 use Rattle.core_terms.proofs.TermViews.{expression-UnitLiteral, expression-BoolLiteral, expression-IntLiteral, expression-TextLiteral, expression-Local, expression-Pair, expression-Fst, expression-Snd, expression-Not, expression-Len, expression-Auth, expression-Unauth, expression-Constructor, expression-Arith, expression-Compare, expression-TextCompare, expression-Cat, expression-Let, expression-If, expression-Match, expression-Call}
 use Rattle.ideal_meaning.specs.Ideal.{ideal_mode}
 use Rattle.ideal_meaning.specs.Run as meant
 use Rattle.ideal_meaning.specs.Run.{Gives, then_run}
 use Rattle.ideal_meaning.specs.Table.{eval, eval_all, eval_arm}
-use Rattle.reference_run.specs.Evaluations.{eval_both, expression, program_of}
+use Rattle.reference_run.specs.Evaluations.{expression, program_of}
 use Rattle.reference_run.specs.PlainValues.{plain_of, plains_of}
 use Rattle.reference_run.specs.Telling.{Tells, pair_values, row_values}
 use Rattle.reference_run.specs.declared.stop.Stop.TheVariants.{Out}
@@ -26,7 +22,7 @@ use Rattle.reference_run.proofs.PassedInts.{kept}
 use Rattle.reference_run.proofs.Rows.{ahead, ahead_none, join_none, joined, none_left, one_ahead}
 use Rattle.reference_run.proofs.Steps.{as_term, one_part, row_parts, two_parts}
 use Rattle.reference_run.proofs.ValueViews.{plain-BoolValue, plain-IntValue, plain-TextValue, plain-UnitValue}
-use Rattle.reference_run.proofs.Weights.{less_fuel, next_call, weight}
+use Rattle.reference_run.proofs.Weights.{less_fuel, next_call}
 use Rattle.reference_run.proofs.evaluator.Evaluator.+terms.Goals as goal
 
 pub eval-returns-in-UnitLiteral-clause-value : goal.eval-returns-in-UnitLiteral-clause-value
@@ -36,7 +32,7 @@ eval-returns-in-UnitLiteral-clause-value t c = λ whole nesting seen h.
     let P = program_of e in
     let env = plains_of c.args.locals.now in
     let k = c.args.fuel.now in
-    let is = ap (expression e) c.in-UnitLiteral.is ∙ expression-UnitLiteral T  in
+    let is = ap (expression e) c.in-UnitLiteral.is ∙ expression-UnitLiteral T in
     (seen, ap (λ E. eval P nesting E env k seen) is ∙ ap (λ v. Gives v k seen) (sym (plain-UnitValue)))
 
 pub eval-returns-in-BoolLiteral-clause-value : goal.eval-returns-in-BoolLiteral-clause-value
@@ -313,9 +309,11 @@ both-returns-clause-value t c = λ whole nesting seen h.
     let x = c.in_ok-x.ensures.value whole nesting seen h in
     let le : c.eval.new.fuel ≤ nesting = omega (arith, c.eval.ensures.fuel, h) in
     let y = c.in_ok-y.ensures.value whole nesting x.0 le in
-    let u = plain_of c.in_ok-x.x in
-    (y.0, ap (λ run. then_run run (λ u k seen. then_run (eval P nesting (expression e c.args.y.now) env k seen) (λ v k seen. Gives (u, v) k seen))) x.1
-    ∙ ap (λ run. then_run run (λ v k seen. Gives (u, v) k seen)) y.1)
+    let u = plain_of c.in_ok-x.x in (
+      y.0,
+      ap (λ run. then_run run (λ u k seen. then_run (eval P nesting (expression e c.args.y.now) env k seen) (λ v k seen. Gives (u, v) k seen))) x.1
+          ∙ ap (λ run. then_run run (λ v k seen. Gives (u, v) k seen)) y.1,
+    )
 
 pub bound_in-returns-in_err-value-clause-value : goal.bound_in-returns-in_err-value-clause-value
 bound_in-returns-in_err-value-clause-value t c = λ whole nesting seen h.
@@ -440,9 +438,11 @@ arm-returns-clause-value t c = λ whole nesting seen h.
     let tag = c.tag_in-tag.result in
     let inner = c.in_ok-inner.ensures ∙ ap (meant.join env) c.fields_in.ensures in
     let gone = arm_past (expression e) P nesting (meant.join env (meant.fields_in v)) c.eval.new.fuel x.0 arms tag (past arms tag c.in-None.ensures.lookup.3) in
-    let same = ap (λ tag. eval_arm P nesting (arms_in_a_row (map (expression e) arms)) tag (meant.join env (meant.fields_in v)) c.eval.new.fuel x.0) c.tag_in-tag.ensures in
-    (x.0, ap (λ run. then_run run (λ v k seen. eval_arm P nesting (arms_in_a_row (map (expression e) arms)) (meant.tag_in v) (meant.join env (meant.fields_in v)) k seen)) x.1
-    ∙ sym same ∙ gone ∙ ap (λ v. Gives v c.eval.new.fuel x.0) (sym plain-UnitValue))
+    let same = ap (λ tag. eval_arm P nesting (arms_in_a_row (map (expression e) arms)) tag (meant.join env (meant.fields_in v)) c.eval.new.fuel x.0) c.tag_in-tag.ensures in (
+      x.0,
+      ap (λ run. then_run run (λ v k seen. eval_arm P nesting (arms_in_a_row (map (expression e) arms)) (meant.tag_in v) (meant.join env (meant.fields_in v)) k seen)) x.1
+          ∙ sym same ∙ gone ∙ ap (λ v. Gives v c.eval.new.fuel x.0) (sym plain-UnitValue),
+    )
 
 pub call-returns-in_err-arguments-clause-value : goal.call-returns-in_err-arguments-clause-value
 call-returns-in_err-arguments-clause-value t c = λ whole nesting run h told.
@@ -492,15 +492,23 @@ call-returns-clause-value t c = λ whole nesting run h told.
     let args : Tells row_values k (Ok given) run = subst (λ o. Tells row_values k o run) c.in_ok-arguments.was told in
     let vs = plains_of given.items in
     let left = c.in-Some.left in
-    goes_on plain_of vs k left args.0 run (meant.call P ideal_mode nesting f) (Ok plain.UnitValue) args.1
-    (args.0, called_past e whole f (past e.functions.now f c.in-None.ensures.lookup.3) nesting vs k left args.0 (omega (arith, c.in-Some.ensures)) h ∙ ap
-    (λ v. Gives v left args.0) (sym plain-UnitValue))
+    goes_on plain_of vs k left args.0 run (meant.call P ideal_mode nesting f) (Ok plain.UnitValue) args.1 (
+      args.0,
+      called_past e whole f (past e.functions.now f c.in-None.ensures.lookup.3) nesting vs k left args.0 (omega (arith, c.in-Some.ensures)) h ∙ ap
+          (λ v. Gives v left args.0) (sym plain-UnitValue),
+    )
 
 pub row-loop-term-init : goal.row-loop-term-init
-row-loop-term-init t c = (omega arith, λ whole nesting seen h. (seen, ahead_none (eval_all (program_of c.args.self.now) nesting (in_a_row (map (expression c.args.self.now)
-    c.args.terms.now)) (plains_of c.args.locals.now) c.args.fuel.now seen)
-    ∙ ap (λ vs. ahead (plains_of vs) (eval_all (program_of c.args.self.now) nesting (in_a_row (map (expression c.args.self.now) c.args.terms.now)) (plains_of c.args.locals.now)
-    c.args.fuel.now seen)) (sym c.new-values.ensures.items)))
+row-loop-term-init t c = (
+  omega arith,
+  λ whole nesting seen h. (
+    seen,
+    ahead_none (eval_all (program_of c.args.self.now) nesting (in_a_row (map (expression c.args.self.now)
+        c.args.terms.now)) (plains_of c.args.locals.now) c.args.fuel.now seen)
+        ∙ ap (λ vs. ahead (plains_of vs) (eval_all (program_of c.args.self.now) nesting (in_a_row (map (expression c.args.self.now) c.args.terms.now)) (plains_of c.args.locals.now)
+        c.args.fuel.now seen)) (sym c.new-values.ensures.items),
+  ),
+)
 
 pub row-returns-in_err-value-clause-value : goal.row-returns-in_err-value-clause-value
 row-returns-in_err-value-clause-value t c = λ whole nesting seen h.
@@ -526,22 +534,27 @@ row-returns-in_err-push-clause-value t c = λ whole nesting seen h.
     handed_on row_values c.eval.new.fuel c.from_residual-in_err-push.result _ _ c.from_residual-in_err-push.ensures.1 tt
 
 pub row-loop-term-preserved : goal.row-loop-term-preserved
-row-loop-term-preserved t c = (omega (arith, c.eval.ensures.fuel, c.loop-term.invariant.0), λ whole nesting seen h.
-    let e = c.args.self.now in
-    let P = program_of e in
-    let env = plains_of c.args.locals.now in
-    let terms = c.args.terms.now in
-    let i = c.loop-term.term-index in
-    let x = c.term-item.result in
-    let so_far = c.loop-term.invariant.1 whole nesting seen h in
-    let le : c.loop-term.fuel ≤ nesting = omega (arith, c.loop-term.invariant.0, h) in
-    let vs = plains_of c.loop-term.values.items in
-    let next : drop i terms ≡ x ∷ drop (i + 1) terms = drop_more terms i _ c.loop-term-test.true ∙ ap (λ x. x ∷ drop (i + 1) terms) (sym c.term-item.is) in
-    let step = so_far.1 ∙ ap (λ xs. ahead vs (eval_all P nesting (in_a_row (map (expression e) xs)) env c.loop-term.fuel so_far.0)) next in
-    let value = c.in_ok-value.ensures.value whole nesting so_far.0 le in
-    let more = sym (ap plains_of c.in_ok-push.ensures.items ∙ joined c.loop-term.values.items (c.in_ok-value.value ∷ [])) in
-    (value.0, step ∙ one_ahead P nesting env vs (expression e x) (map (expression e) (drop (i + 1) terms)) c.loop-term.fuel so_far.0 _ c.eval.new.fuel value.0 value.1
-    ∙ ap (λ vs. ahead vs (eval_all P nesting (in_a_row (map (expression e) (drop (i + 1) terms))) env c.eval.new.fuel value.0)) more))
+row-loop-term-preserved t c = (
+  omega (arith, c.eval.ensures.fuel, c.loop-term.invariant.0),
+  λ whole nesting seen h.
+      let e = c.args.self.now in
+      let P = program_of e in
+      let env = plains_of c.args.locals.now in
+      let terms = c.args.terms.now in
+      let i = c.loop-term.term-index in
+      let x = c.term-item.result in
+      let so_far = c.loop-term.invariant.1 whole nesting seen h in
+      let le : c.loop-term.fuel ≤ nesting = omega (arith, c.loop-term.invariant.0, h) in
+      let vs = plains_of c.loop-term.values.items in
+      let next : drop i terms ≡ x ∷ drop (i + 1) terms = drop_more terms i _ c.loop-term-test.true ∙ ap (λ x. x ∷ drop (i + 1) terms) (sym c.term-item.is) in
+      let step = so_far.1 ∙ ap (λ xs. ahead vs (eval_all P nesting (in_a_row (map (expression e) xs)) env c.loop-term.fuel so_far.0)) next in
+      let value = c.in_ok-value.ensures.value whole nesting so_far.0 le in
+      let more = sym (ap plains_of c.in_ok-push.ensures.items ∙ joined c.loop-term.values.items (c.in_ok-value.value ∷ [])) in (
+        value.0,
+        step ∙ one_ahead P nesting env vs (expression e x) (map (expression e) (drop (i + 1) terms)) c.loop-term.fuel so_far.0 _ c.eval.new.fuel value.0 value.1
+            ∙ ap (λ vs. ahead vs (eval_all P nesting (in_a_row (map (expression e) (drop (i + 1) terms))) env c.eval.new.fuel value.0)) more,
+      ),
+)
 
 pub row-returns-clause-value : goal.row-returns-clause-value
 row-returns-clause-value t c = λ whole nesting seen h.
@@ -551,10 +564,12 @@ row-returns-clause-value t c = λ whole nesting seen h.
     let env = plains_of c.args.locals.now in
     let k = c.args.fuel.now in
     let so_far = c.loop-term.invariant.1 whole nesting seen h in
-    let vs = plains_of c.loop-term.values.items in
-    (so_far.0, so_far.1 ∙ ap (λ xs. ahead vs (eval_all P nesting (in_a_row (map (expression e) xs)) env c.loop-term.fuel so_far.0)) (none_left c.args.terms.now c.loop-term.term-index
-    c.loop-term-test.false)
-    ∙ ap (λ vs. Gives vs c.loop-term.fuel so_far.0) (join_none vs))
+    let vs = plains_of c.loop-term.values.items in (
+      so_far.0,
+      so_far.1 ∙ ap (λ xs. ahead vs (eval_all P nesting (in_a_row (map (expression e) xs)) env c.loop-term.fuel so_far.0)) (none_left c.args.terms.now c.loop-term.term-index
+          c.loop-term-test.false)
+          ∙ ap (λ vs. Gives vs c.loop-term.fuel so_far.0) (join_none vs),
+    )
 
 pub both-eval-requires-2 : goal.both-eval-requires-2
 both-eval-requires-2 t c = let less = less_fuel c.args.self.now.functions.now c.eval.new.fuel c.args.fuel.now c.eval.ensures.fuel in (omega (arith, less, c.decreases), tt)

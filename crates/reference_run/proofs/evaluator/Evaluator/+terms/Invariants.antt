@@ -2,7 +2,6 @@
 use denote.Param.Weighed.{most}
 use Rattle.std.proofs.Common.{◌≡◌, ◌≤◌, ◌+◌, ◌*◌, ℕ, List, max, drop, map}
 use Rattle.core_terms.specs.LanguageTrees.{in_a_row}
-use Rattle.core_terms.specs.declared.language.term.Function.{Function}
 use Rattle.core_terms.specs.declared.language.term.Term.TheViews.{size-Term}
 use Rattle.ideal_meaning.specs.Ideal.{Opened}
 use Rattle.ideal_meaning.specs.Table.{eval_all}
