@@ -1,11 +1,11 @@
-// Deep recursion.
+// Deep recursion: frames stand on the heap, and not on the native stack.
 use crate::stage::{code_of, run_in_slices};
 use std::test::Fail;
 
-/// A loop of so many calls, each in the place of the one before.
+/// So many calls, each of which waits for the value of the next one. A frame takes some 400 bytes.
 const SPIN: &[u8] = b"state unit; fun spin(n: int): int = if le(n, 0) then 0 else spin(sub(n, 1));";
 
-/// Calls within calls, so many deep.
+/// The same, where each call adds to what it waited for.
 const DEEP: &[u8] =
     b"state unit; fun deep(n: int): int = if le(n, 0) then 0 else add(1, deep(sub(n, 1)));";
 

@@ -1,11 +1,10 @@
-use Rattle.std.proofs.Common.{◌≡◌, ◌∷◌, [], ◌+◌, ◌<◌, ◌^◌, w64, to_z, of_z, subst, rules}
+use Rattle.std.proofs.Common.{◌≡◌, ◌∷◌, [], w64, to_z, of_z, subst, rules}
 use Rattle.core_terms.specs.LanguagePrograms.{meaning}
 use Rattle.core_terms.specs.Terms.{function_at}
 use Rattle.core_terms.specs.Types.{IntTy}
 use Rattle.value_store.specs.Markings.{IdealMarking}
 use Rattle.value_store.specs.Standing.{IdealNodes}
 use Rattle.value_store.specs.Stores.{nodes_in}
-use Rattle.mode_vm.specs.Machines.{OpensFew}
 use Rattle.mode_vm.specs.Meanings.{program_of}
 use Rattle.mode_vm.proofs.Stepping.{goes_fewer, stands_goes}
 use Rattle.machine_tests.proofs.OneInt.{one_int, stands_alone}
