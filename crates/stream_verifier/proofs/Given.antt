@@ -1,5 +1,5 @@
 -- Answers that are handed on, and the verdict on a file behind its header.
-use Rattle.std.proofs.Common.{◌≡◌, ℕ, List, [], drop, Option, Some, Result, Ok, Err, IsErrAnd, refl, sym, ap, ◌∙◌, subst}
+use Rattle.std.proofs.Common.{◌≡◌, ℕ, List, [], drop, Option, Result, Ok, Err, IsErrAnd, refl, sym, ap, ◌∙◌, subst}
 use Rattle.core_terms.specs.Formats.{Hash}
 use Rattle.core_terms.specs.Terms.{Program}
 use Rattle.core_terms.specs.Types.{Ty}

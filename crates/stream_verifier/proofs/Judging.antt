@@ -1,8 +1,8 @@
 -- The verdict on a call: from its run and what is left behind it, and from what is read before the run.
-use Rattle.std.proofs.Common.{◌≡◌, ◌≢◌, ℕ, zero, suc, min, List, [], ◌∷◌, length, drop, Option, Some, Result, Ok, Err, refl, sym, ap, ap₂, ◌∙◌, arith}
+use Rattle.std.proofs.Common.{◌≡◌, ◌≢◌, ℕ, zero, suc, min, List, [], ◌∷◌, length, drop, Option, Some, Ok, Err, refl, sym, ap, ap₂, ◌∙◌, arith}
 use Rattle.core_terms.specs.Formats.{Hash}
 use Rattle.core_terms.specs.Types.{Ty}
-use Rattle.core_terms.specs.Terms.{Program, function_at}
+use Rattle.core_terms.specs.Terms.{Program}
 use Rattle.core_terms.specs.Values.{Value, NoV, AndV}
 use Rattle.core_terms.specs.Projection.{read_at}
 use Rattle.core_terms.specs.Roles.{argument_type}
@@ -56,7 +56,8 @@ module _ (P : Program) (nodes : List Node) (t : Ty) (left : Option (List ℕ)) (
 
   -- the rest of a run by its outcome
   abbrev pub Rests : (o : Outcome Ref) → Type 0
-  Rests o = (outcome : ideal.Outcome) × (checked.judged run ≡ checked.with_rest outcome (length bytes)) × ((result : Outcome Spelling) → IsSpelledAs P nodes t o result → SpellsOutcome P t outcome result)
+  Rests o = (outcome : ideal.Outcome) × (checked.judged run ≡ checked.with_rest outcome (length bytes))
+      × ((result : Outcome Spelling) → IsSpelledAs P nodes t o result → SpellsOutcome P t outcome result)
 
   rests : (o : Outcome Ref) → CameTo P nodes t left run o → Rests o
   rests (told.Done r) (v, k, w, h, stands, is) = (ideal.Done v, ap checked.judged is ∙ ap (checked.with_rest (ideal.Done v)) (is_left w h), spells)

@@ -4,7 +4,7 @@ use Rattle.std.proofs.lemmas.List.{length-map, get_or-map}
 use Rattle.core_terms.specs.Types.{Ty, UnitTy}
 use Rattle.core_terms.specs.Terms.{Kind, Inner, Init, Query, Update, function_at, no_function}
 use Rattle.core_terms.specs.Terms as tree
-use Rattle.core_terms.specs.Values.{Value, Values, NoV, AndV}
+use Rattle.core_terms.specs.Values.{Value, NoV, AndV}
 use Rattle.core_terms.specs.Roles.{ReadsState, argument_type, role_parameters}
 use Rattle.core_terms.specs.Projection.{read_at}
 use Rattle.core_terms.specs.LanguagePrograms.{meaning, types_of}

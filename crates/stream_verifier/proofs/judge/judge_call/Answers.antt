@@ -1,5 +1,5 @@
 -- The verdict is that of the run and of what is left behind it.
-use Rattle.std.proofs.Common.{◌≡◌, ◌≢◌, ℕ, length, ap, ◌∙◌, subst, arith}
+use Rattle.std.proofs.Common.{◌≡◌, ◌≢◌, ap, subst, arith}
 use Rattle.core_terms.specs.LanguagePrograms.{meaning, types_of}
 use Rattle.core_terms.specs.LanguageTrees.{function_of}
 use Rattle.core_terms.specs.Terms.{function_at}
@@ -31,7 +31,8 @@ returns-then-left-gt0-clause-verdict g c vs bytes recent stand told holds =
     let z = (function_at P c.args.role.0).result in
     let is = c.in_ok-run.ensures.is vs bytes recent stand told holds in
     let some : c.in_ok-left.left ≢ 0 = omega (arith, c.if-left-gt0.true) in
-    left_over P (nodes_in c.checked_run.new.store) z (g.S.Source.left c.checked_run.new.source) _ is.2.bytes is.2.told c.in_ok-run.run'.0 (g.S.Source.left c.count_rest.new.source) c.in_ok-left.left is.0
+    left_over P (nodes_in c.checked_run.new.store) z (g.S.Source.left c.checked_run.new.source) _ is.2.bytes is.2.told
+    c.in_ok-run.run'.0 (g.S.Source.left c.count_rest.new.source) c.in_ok-left.left is.0
     (c.in_ok-left.ensures.counts is.2.bytes is.2.told) some
 
 pub returns-clause-verdict : goal.returns-clause-verdict

@@ -4,7 +4,7 @@ use Rattle.core_terms.specs.Terms.{function_at}
 use Rattle.ideal_meaning.specs.Checked as checked
 use Rattle.ideal_meaning.specs.Frames.{header}
 use Rattle.mode_vm.specs.Meanings.{program_of}
-use Rattle.stream_verifier.specs.Verdicts.{Answers, AnswersWithRing, VerdictCause, keeping}
+use Rattle.stream_verifier.specs.Verdicts.{Answers, keeping}
 use Rattle.stream_verifier.proofs.Given.{behind_header, gives_with, no_header}
 use Rattle.stream_verifier.proofs.Pieces.{holds_last}
 use Rattle.stream_verifier.proofs.judge.judge_file.Goals as goal

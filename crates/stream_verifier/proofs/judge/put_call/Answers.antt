@@ -34,7 +34,8 @@ returns-in-Err-Bad-unspell c =
     let nodes = nodes_in c.unspell-2.new.store in
     let state = read_there P t P.state (nodes_in c.unspell.new.store) c.args.state.now (Ok c.in-Ok.state) c.state_type.ensures.state c.in-Ok.ensures.value in
     let second = second_type p c.args.role.0 c.function.result.now c.requires.role c.function.ensures.function c.index.result.now c.index.result.now c.index.ensures in
-    let read : read_at P (argument_type P c.args.role.0) c.args.argument.now ≡ BadAt c.in-Err-Bad-unspell.offset = read_there P u (argument_type P c.args.role.0) nodes c.args.argument.now (Err (Bad c.in-Err-Bad-unspell.offset)) second
+    let read : read_at P (argument_type P c.args.role.0) c.args.argument.now ≡ BadAt c.in-Err-Bad-unspell.offset =
+    read_there P u (argument_type P c.args.role.0) nodes c.args.argument.now (Err (Bad c.in-Err-Bad-unspell.offset)) second
     (subst (λ f. IsUnspelled P.types nodes u (read_at P u c.args.argument.now) (Err f)) c.in-Err-Bad-unspell.field-0-is c.in-Err-Bad-unspell.ensures.value) in
     let same = c.in-Err-Bad-unspell.offset-is in
     (state.0, (state.1, state.2), cc)

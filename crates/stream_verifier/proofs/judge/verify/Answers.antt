@@ -9,7 +9,7 @@ use Rattle.ideal_meaning.specs.Frames.{header}
 use Rattle.value_store.specs.Stores.{nodes_in}
 use Rattle.mode_vm.specs.Meanings.{program_of}
 use Rattle.stream_verifier.specs.CallParts.{ArePut}
-use Rattle.stream_verifier.specs.Verdicts.{Answers, SaysTrue, VerdictCause, keeping, verdict_keeping}
+use Rattle.stream_verifier.specs.Verdicts.{Answers, VerdictCause, keeping, verdict_keeping}
 use Rattle.stream_verifier.proofs.Given.{gives_with}
 use Rattle.stream_verifier.proofs.Judging.{good_call, put_cause, refused}
 use Rattle.stream_verifier.proofs.SaysTrue.{says_true}
@@ -20,7 +20,8 @@ returns-in_err-refs-clause-verdict g c bytes told =
     let P = program_of c.args.code.now in
     let put : ArePut P (nodes_in c.put_call.new.store) c.args.role.0 c.args.state.now c.args.argument.now (Err c.in_err-refs.field-0.0) =
     subst (λ q. ArePut (meaning q) (nodes_in c.put_call.new.store) c.args.role.0 c.args.state.now c.args.argument.now (Err c.in_err-refs.field-0.0)) c.program.ensures c.in_err-refs.ensures in
-    gives_with (Answers P c.args.role.0 (verdict_keeping g.H.Hash32.hash P 1024 (argument_type P c.args.role.0) c.args.role.0 c.args.state.now c.args.argument.now c.args.fuel bytes)) _ _ c.from_residual.ensures.1
+    gives_with (Answers P c.args.role.0 (verdict_keeping g.H.Hash32.hash P 1024 (argument_type P c.args.role.0) c.args.role.0 c.args.state.now c.args.argument.now c.args.fuel bytes))
+    _ _ c.from_residual.ensures.1
     (refused g.H.Hash32.hash P c.args.role.0 c.args.state.now c.args.argument.now c.args.fuel 1024 bytes (nodes_in c.put_call.new.store) c.in_err-refs.field-0.0 put)
 
 pub returns-in_err-refs-clause-faults : goal.returns-in_err-refs-clause-faults

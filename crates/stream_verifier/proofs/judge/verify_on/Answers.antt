@@ -21,7 +21,8 @@ returns-in_err-refs-clause-verdict g c recent holds bytes told =
     let hash = g.H.Hash32.hash in
     let put : ArePut P (nodes_in c.put_call.new.store) c.args.role.0 c.args.state.now c.args.argument.now (Err c.in_err-refs.field-0.0) =
     subst (λ q. ArePut (meaning q) (nodes_in c.put_call.new.store) c.args.role.0 c.args.state.now c.args.argument.now (Err c.in_err-refs.field-0.0)) c.program.ensures c.in_err-refs.ensures in
-    gives_with (AnswersWithRing P c.args.role.0 (checked.verdict_on hash P (argument_type P c.args.role.0) c.args.role.0 c.args.state.now c.args.argument.now c.args.fuel bytes c.args.ring.size recent)) _ _ c.from_residual.ensures.1
+    gives_with (AnswersWithRing P c.args.role.0 (checked.verdict_on hash P (argument_type P c.args.role.0) c.args.role.0 c.args.state.now c.args.argument.now c.args.fuel bytes c.args.ring.size recent))
+    _ _ c.from_residual.ensures.1
     (refused_on hash P c.args.role.0 c.args.state.now c.args.argument.now c.args.fuel bytes c.args.ring.size recent (nodes_in c.put_call.new.store) c.in_err-refs.field-0.0 put)
 
 pub returns-in_err-refs-clause-faults : goal.returns-in_err-refs-clause-faults
