@@ -1,5 +1,5 @@
 -- What a run of a verifier comes to.
-use Rattle.std.proofs.Common.{◌≡◌, ℕ, List, Option, Some, Ok, Err, length, refl, sym, ap, ap₂, ◌∙◌, subst}
+use Rattle.std.proofs.Common.{◌≡◌, ℕ, List, Option, Some, Err, length, sym, ap, ap₂, ◌∙◌, subst}
 use Rattle.core_terms.specs.Formats.{Hash}
 use Rattle.core_terms.specs.Types.{Ty}
 use Rattle.core_terms.specs.Terms.{Program}

@@ -2,3 +2,10 @@
 pub mod Pieces
 -- checked_run: what a run comes to, from its first piece to its last
 pub mod Checking
+-- verify, verify_on, judge_call: the verdict from the run and from what is read before it
+pub mod Judging
+-- put_call: the types of the state and of the argument
+pub mod Parameters
+-- verify, verify_on: the headline
+pub mod SaysTrue
+pub mod Given

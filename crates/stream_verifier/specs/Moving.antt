@@ -1,5 +1,5 @@
 -- A verifier goes on in steps.
-use Rattle.std.specs.Prelude.{◌≡◌, ℕ, List, Option, refl}
+use Rattle.std.specs.Prelude.{ℕ, List, Option, refl}
 use Rattle.std.proofs.Common.{◌∙◌, subst}
 use Rattle.ideal_meaning.specs.Following.{after_bytes}
 use Rattle.reuse_buffer.specs.Kept.{Kept}

@@ -1,5 +1,5 @@
 -- The piece that is taken is the one that the definitions take, a new one or a kept one; or there is none.
-use Rattle.std.proofs.Common.{◌≡◌, ◌+◌, ◌∷◌, ℕ, List, suc, length, Some, Err, Ok, refl, sym, ap, ◌∙◌, arith, subst}
+use Rattle.std.proofs.Common.{◌≡◌, ◌+◌, ◌∷◌, suc, length, sym, ap, ◌∙◌, arith}
 use Rattle.core_terms.specs.LanguagePrograms.{meaning, types_of}
 use Rattle.core_terms.specs.TypeTables.{type_at}
 use Rattle.ideal_meaning.specs.Frames.{Offers}

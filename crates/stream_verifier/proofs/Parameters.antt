@@ -1,0 +1,61 @@
+-- The parameters of a query or an update: the state and the argument.
+use Rattle.std.proofs.Common.{◌≡◌, ℕ, ◌<◌, List, [], ◌∷◌, length, map, slice_index_or, unwrap_or, vec_len, Result, refl, sym, ap, ◌∙◌, subst, arith}
+use Rattle.std.proofs.lemmas.List.{length-map, get_or-map}
+use Rattle.core_terms.specs.Types.{Ty, UnitTy}
+use Rattle.core_terms.specs.Terms.{Kind, Inner, Init, Query, Update, function_at, no_function}
+use Rattle.core_terms.specs.Terms as tree
+use Rattle.core_terms.specs.Values.{Value, NoV, AndV}
+use Rattle.core_terms.specs.Roles.{ReadsState, argument_type, role_parameters}
+use Rattle.core_terms.specs.Projection.{read_at}
+use Rattle.core_terms.specs.LanguagePrograms.{meaning, types_of}
+use Rattle.core_terms.specs.LanguageTrees.{function_of}
+use Rattle.core_terms.specs.TypeTables.{type_at}
+use Rattle.core_terms.specs.declared.language.program.Program.{Program}
+use Rattle.core_terms.specs.declared.language.term.Function.{Function}
+use Rattle.core_terms.specs.declared.types.TyId.{TyId}
+use Rattle.value_store.specs.Nodes.{Node}
+use Rattle.value_store.specs.Standing.{AllStandFor, StandsFor, VerifierNodes}
+use Rattle.value_store.specs.declared.node.Ref.{Ref}
+use Rattle.shallow_codec.specs.Unspelled.{IsUnspelled}
+use Rattle.shallow_codec.specs.declared.fault.UnspellFault.{UnspellFault}
+use Rattle.stream_verifier.specs.Verdicts.{TakesState}
+
+module _ (P : tree.Program) (f : ℕ) where
+  shaped : (kind : Kind) (t : Ty) → ReadsState kind → role_parameters kind P.state t ≡ P.state ∷ t ∷ []
+  shaped Query t h = refl
+  shaped Update t h = refl
+  shaped Inner t h = absurd h
+  shaped Init t h = absurd h
+
+  pub parameters_of : TakesState P f → (function_at P f).parameters ≡ P.state ∷ argument_type P f ∷ []
+  parameters_of (kind, t, answer, role, reads) =
+      let is : (function_at P f).parameters ≡ P.state ∷ t ∷ [] = ap (λ g. (unwrap_or g no_function).parameters) role.there ∙ role.parameters ∙ shaped kind t reads in
+      is ∙ ap (λ (u : Ty). P.state ∷ u ∷ []) (sym (ap (λ ts. slice_index_or ts 1 UnitTy) is))
+
+  -- a state and an argument stand for what the function takes
+  pub both_stand : TakesState P f → (nodes : List Node) (r q : ℕ) (s a : Value) → StandsFor VerifierNodes P.types nodes r P.state s
+      → StandsFor VerifierNodes P.types nodes q (argument_type P f) a
+      → AllStandFor VerifierNodes P.types nodes (r ∷ q ∷ []) (function_at P f).parameters (AndV s (AndV a NoV))
+  both_stand takes nodes r q s a h j =
+      subst (λ ts. AllStandFor VerifierNodes P.types nodes (r ∷ q ∷ []) ts (AndV s (AndV a NoV))) (sym (parameters_of takes)) (h, (j, tt))
+
+module _ (p : Program) (f : ℕ) (fn : Function) (takes : TakesState (meaning p) f) (is : function_of (types_of p) fn ≡ function_at (meaning p) f) where
+  in_code : map (type_at (types_of p)) fn.parameters.items ≡ (meaning p).state ∷ argument_type (meaning p) f ∷ []
+  in_code = ap (λ (g : tree.Function). g.parameters) is ∙ parameters_of (meaning p) f takes
+
+  pub two_parameters : 1 < vec_len fn.parameters
+  two_parameters =
+      let two : length fn.parameters.items ≡ 2 = sym (length-map fn.parameters.items (type_at (types_of p))) ∙ ap length in_code in
+      omega (arith, two, fn.parameters.ok)
+
+  -- the second of them is the argument's type
+  pub second_type : (second none : TyId) → second ≡ slice_index_or fn.parameters.items 1 none → type_at (types_of p) second ≡ argument_type (meaning p) f
+  second_type second none e =
+      ap (type_at (types_of p)) e
+      ∙ sym (get_or-map (type_at (types_of p)) fn.parameters.items 1 none UnitTy (omega (arith, two_parameters, fn.parameters.ok)))
+      ∙ ap (λ ts. slice_index_or ts 1 UnitTy) in_code
+
+-- what is read at a type by its number is read at the type
+pub read_there : (P : tree.Program) (t u : Ty) (nodes : List Node) (bytes : List ℕ) (found : Result Ref UnspellFault) → t ≡ u
+    → IsUnspelled P.types nodes t (read_at P t bytes) found → IsUnspelled P.types nodes u (read_at P u bytes) found
+read_there P t u nodes bytes found e h = subst (λ t. IsUnspelled P.types nodes t (read_at P t bytes) found) e h

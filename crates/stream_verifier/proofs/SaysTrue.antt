@@ -1,0 +1,113 @@
+-- What is accepted is true, or there is a split, by the headline of frames.
+use Rattle.std.proofs.Common.{◌≡◌, inl, inr, ℕ, List, [], drop, Option, Some, None, Result, Ok, Err, refl, sym, ap, ◌∙◌, subst, lit<}
+use Rattle.core_terms.specs.Types.{Ty}
+use Rattle.core_terms.specs.Formats.{Hash, IsHash, IsFormat}
+use Rattle.core_terms.specs.Values.{Value, IsIdeal, AreIdeal}
+use Rattle.core_terms.specs.Spelling.{spelling}
+use Rattle.core_terms.specs.Terms.{Program, function_at, IsTyped}
+use Rattle.core_terms.specs.Roles.{argument_type}
+use Rattle.core_terms.specs.Projection.{projection, projections, Fits, AllFit}
+use Rattle.core_terms.specs.LanguagePrograms.{meaning}
+use Rattle.core_terms.specs.declared.language.program.Program.{Program as Coded}
+use Rattle.core_terms.specs.declared.outcome.Outcome.{Outcome}
+use Rattle.core_terms.specs.declared.byte_string.ByteString.{ByteString as Spelling}
+use Rattle.core_terms.proofs.LawProofs.{typing_test_is_exact, first_format_is_format}
+use Rattle.ideal_meaning.specs.Ideal as ideal
+use Rattle.ideal_meaning.specs.Frames.{offered, offered_pieces, header}
+use Rattle.ideal_meaning.specs.Checked.{Accepted, judge, on_argument, on_state, verdict_on, with_header}
+use Rattle.ideal_meaning.specs.Headline.{call_of, TrueOrSplit}
+use Rattle.ideal_meaning.proofs.Headline.{headline_of_frames}
+use Rattle.ideal_meaning.proofs.Opening.{ReadsBack}
+use Rattle.ideal_meaning.proofs.Projections.{reads_back}
+use Rattle.reuse_buffer.specs.Kept.{Kept}
+use Rattle.stream_verifier.specs.declared.verdict.Verdict.{Verdict}
+use Rattle.stream_verifier.specs.Verdicts.{Answers, AnswersWithRing, SaysTrue, SaysTrueOn, TakesState, keeping, verdict_keeping, with_argument, with_state}
+use Rattle.stream_verifier.proofs.Parameters.{parameters_of}
+
+-- a program of the code is well-typed, and its format is one that the laws speak of
+is_typed : (p : Coded) → IsTyped (meaning p)
+is_typed p = (typing_test_is_exact (meaning p)).0 p.typed
+
+is_format : (p : Coded) → IsFormat (meaning p).format
+is_format p = first_format_is_format 0 (lit< tt)
+
+-- The state and the argument are read back, or refused; the rest is the headline of frames.
+module _ (hash : Hash) (is_hash : IsHash hash) (p : Coded) (f : ℕ) (takes : TakesState (meaning p) f) (k : ℕ) (v a : Value) (o : ideal.Outcome)
+    (ideal_state : IsIdeal (meaning p).types (meaning p).state v) (ideal_argument : IsIdeal (meaning p).types (argument_type (meaning p) f) a) where
+  abbrev P : Program
+  P = meaning p
+
+  abbrev t : Ty
+  t = argument_type P f
+
+  abbrev shown : Value
+  shown = projection hash P P.state v
+
+  abbrev passed : Value
+  passed = projection hash P t a
+
+  abbrev Claim : List ℕ → ℕ → List (List ℕ) → Type 0
+  Claim bytes n recent = TrueOrSplit hash P f (function_at P f).result (call_of v a) k (offered_pieces (offered P.format.limit bytes n recent)) o
+
+  at_frames : Fits P P.state v → Fits P t a → (bytes : List ℕ) (n : ℕ) (recent : List (List ℕ)) → judge hash P f (call_of shown passed) k bytes n recent ≡ Accepted o → Claim bytes n recent
+  at_frames fits fits' bytes n recent accepted =
+      let shape = parameters_of P f takes in
+      let ideals : AreIdeal P.types (function_at P f).parameters (call_of v a) = subst (λ ts. AreIdeal P.types ts (call_of v a)) (sym shape) (ideal_state, (ideal_argument, tt)) in
+      let all_fit : AllFit P (function_at P f).parameters (call_of v a) = subst (λ ts. AllFit P ts (call_of v a)) (sym shape) (fits, (fits', tt)) in
+      headline_of_frames hash is_hash P (is_format p) (is_typed p) f (call_of v a) k bytes n recent o ideals all_fit
+      (subst (λ ts. judge hash P f (projections hash P ts (call_of v a)) k bytes n recent ≡ Accepted o) (sym shape) accepted)
+
+  module _ (bytes : List ℕ) (n : ℕ) (recent : List (List ℕ)) where
+    on_frames : ReadsBack hash P P.state v → ReadsBack hash P t a → verdict_on hash P t f (spelling shown) (spelling passed) k bytes n recent ≡ Accepted o → Claim bytes n recent
+    on_frames (inl s) (inl r) accepted = at_frames s.0 r.0 bytes n recent
+        (sym (ap (λ x. on_argument hash P shown x f k bytes n recent) r.1.1) ∙ (sym (ap (λ x. on_state hash P t x (spelling passed) f k bytes n recent) s.1.1) ∙ accepted))
+    on_frames (inl s) (inr r) accepted =
+        let e = sym (ap (λ x. on_argument hash P shown x f k bytes n recent) r.1.1) ∙ (sym (ap (λ x. on_state hash P t x (spelling passed) f k bytes n recent) s.1.1) ∙ accepted) in
+        absurd (cc (e))
+    on_frames (inr s) r accepted = let e = sym (ap (λ x. on_state hash P t x (spelling passed) f k bytes n recent) s.1.1) ∙ accepted in absurd (cc (e))
+
+    pub true_on : verdict_on hash P t f (spelling shown) (spelling passed) k bytes n recent ≡ Accepted o → Claim bytes n recent
+    true_on = on_frames (reads_back hash is_hash P (is_format p) P.state v ideal_state) (reads_back hash is_hash P (is_format p) t a ideal_argument)
+
+  module _ (most : ℕ) (bytes : List ℕ) where
+    abbrev Filed : Type 0
+    Filed = (n : ℕ) × (header (keeping most P.format) bytes ≡ Some n) × Claim (drop 6 bytes) n []
+
+    at_header : Fits P P.state v → Fits P t a → (h : Option ℕ) → header (keeping most P.format) bytes ≡ h → with_header hash P h f (call_of shown passed) k bytes ≡ Accepted o → Filed
+    at_header fits fits' None good accepted = absurd (cc (accepted))
+    at_header fits fits' (Some n) good accepted = (n, good, at_frames fits fits' (drop 6 bytes) n [] accepted)
+
+    on_file : ReadsBack hash P P.state v → ReadsBack hash P t a → verdict_keeping hash P most t f (spelling shown) (spelling passed) k bytes ≡ Accepted o → Filed
+    on_file (inl s) (inl r) accepted = at_header s.0 r.0 (header (keeping most P.format) bytes) refl
+        (sym (ap (λ x. with_argument hash P most shown x f k bytes) r.1.1) ∙ (sym (ap (λ x. with_state hash P most t x (spelling passed) f k bytes) s.1.1) ∙ accepted))
+    on_file (inl s) (inr r) accepted =
+        let e = sym (ap (λ x. with_argument hash P most shown x f k bytes) r.1.1) ∙ (sym (ap (λ x. with_state hash P most t x (spelling passed) f k bytes) s.1.1) ∙ accepted) in
+        absurd (cc (e))
+    on_file (inr s) r accepted = let e = sym (ap (λ x. with_state hash P most t x (spelling passed) f k bytes) s.1.1) ∙ accepted in absurd (cc (e))
+
+    pub true_of_file : verdict_keeping hash P most t f (spelling shown) (spelling passed) k bytes ≡ Accepted o → Filed
+    true_of_file = on_file (reads_back hash is_hash P (is_format p) P.state v ideal_state) (reads_back hash is_hash P (is_format p) t a ideal_argument)
+
+module _ (hash : Hash) (is_hash : IsHash hash) (p : Coded) (f : ℕ) (takes : TakesState (meaning p) f) (state argument : List ℕ) (k : ℕ) where
+  abbrev ty : Ty
+  ty = argument_type (meaning p) f
+
+  pub says_true_on : (bytes : List ℕ) (n : ℕ) (recent : List (List ℕ)) (result : Result (Outcome Spelling × Kept) Verdict)
+      → AnswersWithRing (meaning p) f (verdict_on hash (meaning p) ty f state argument k bytes n recent) result
+      → SaysTrueOn hash (meaning p) f state argument k bytes n recent result
+  says_true_on bytes n recent (Err refusal) answers = tt
+  says_true_on bytes n recent (Ok r) (o, accepted, spelled) = λ v a ideal_state ideal_argument state_is argument_is.
+      let P = meaning p in
+      let same = sym (ap (λ state. verdict_on hash P ty f state (spelling (projection hash P ty a)) k bytes n recent) state_is)
+      ∙ (sym (ap (λ argument. verdict_on hash P ty f state argument k bytes n recent) argument_is) ∙ accepted) in
+      (o, spelled, true_on hash is_hash p f takes k v a o ideal_state ideal_argument bytes n recent same)
+
+  pub says_true : (most : ℕ) (proof : List ℕ) (result : Result (Outcome Spelling) Verdict)
+      → Answers (meaning p) f (verdict_keeping hash (meaning p) most ty f state argument k proof) result
+      → SaysTrue hash (meaning p) most f state argument k proof result
+  says_true most proof (Err refusal) answers = tt
+  says_true most proof (Ok told) (o, accepted, spelled) = λ v a ideal_state ideal_argument state_is argument_is.
+      let P = meaning p in
+      let same = sym (ap (λ state. verdict_keeping hash P most ty f state (spelling (projection hash P ty a)) k proof) state_is)
+      ∙ (sym (ap (λ argument. verdict_keeping hash P most ty f state argument k proof) argument_is) ∙ accepted) in
+      (o, spelled, true_of_file hash is_hash p f takes k v a o ideal_state ideal_argument most proof same)

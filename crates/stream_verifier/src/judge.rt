@@ -1,0 +1,208 @@
+// The verdict on a call, from the spellings of its state and its argument and the bytes of a proof.
+ghost use Rattle.std.specs.Prelude.{◌≡◌, ◌<◌, ◌≤◌, ◌^◌, ℕ, List, [], Some, IfOk, length};
+ghost use Rattle.std.specs.Option.{ForSome};
+ghost use Rattle.core_terms.specs.LanguagePrograms.{meaning, types_of};
+ghost use Rattle.core_terms.specs.Roles.{argument_type};
+ghost use Rattle.core_terms.specs.Terms.{function_at};
+ghost use Rattle.core_terms.specs.TypeTables.{type_at};
+ghost use Rattle.core_terms.specs.Values.{Values};
+ghost use Rattle.ideal_meaning.specs.Checked as checked;
+ghost use Rattle.ideal_meaning.specs.Following.{after_bytes};
+ghost use Rattle.ideal_meaning.specs.Frames.{header};
+ghost use Rattle.value_store.specs.CodeNodes.{numbers_of};
+ghost use Rattle.value_store.specs.Standing.{AllStandFor, VerifierNodes};
+ghost use Rattle.value_store.specs.Stores.{nodes_in};
+ghost use Rattle.mode_vm.specs.Meanings.{program_of};
+ghost use Rattle.reuse_buffer.specs.Kept.{kept};
+ghost use Rattle.stream_verifier.specs.CallParts.{ArePut};
+ghost use Rattle.stream_verifier.specs.Spelled.{IsSpelledAs, OutcomeStands};
+ghost use Rattle.stream_verifier.specs.Verdicts.{Answers, AnswersWithRing, SaysTrue, SaysTrueOn, TakesState, VerdictCause, keeping, verdict_keeping};
+
+use crate::checked_runs::checked_run;
+use crate::verdict::Verdict;
+use code_gen::Code;
+use core_terms::language::Program;
+use core_terms::{Cause, FunctionId, Hash32, Outcome, Spelling, TyId};
+use lam_outside::Source;
+use proof_stream::FrameReader;
+use reuse_buffer::Ring;
+use shallow_codec::{UnspellFault, spell, unspell};
+use std::alloc::{AllocError, Global};
+use value_store::{Ref, Store};
+
+/// The bytes that a proof file begins with.
+const MAGIC: [u8; 4] = *b"LAP1";
+/// The greatest number of pieces that a proof file may ask to be kept.
+const MOST_KEPT: u16 = 1024;
+
+/// Judges a call of a query or an update with this much fuel (at most 10^12), from the spellings of its state and its argument and the
+/// bytes of a proof file, which may ask for at most 1,024 pieces to be kept. The proof is read as it is needed, and no more of it is
+/// held than a piece and the pieces kept.
+///
+/// The order is: the state, the argument, the header of the proof, the run, the bytes left behind it. `BadState` and `BadArgument`
+/// name the offset of the first fault, and `Rejected` the cause with each of its fields. `ReadFault` comes where the source failed,
+/// and its count of faults rose.
+pub fn verify<H: Hash32, S: Source>(
+    alloc: Global,
+    code: &Code,
+    role: FunctionId,
+    state: &[u8],
+    argument: &[u8],
+    fuel: u64,
+    proof: &mut S,
+) -> Result<Outcome<Spelling>, Verdict>
+    requires there { role.0 < length (program_of code.now).functions }
+    requires role { TakesState (program_of code.now) role.0 }
+    requires fuel_fits { fuel ≤ 10 ^ 12 }
+    ensures verdict { ForSome (S.left proof.old) (λ bytes. let P = program_of code.now in
+        Answers P role.0 (verdict_keeping H.hash P 1024 (argument_type P role.0) role.0 state.now argument.now fuel bytes) result) }
+    ensures headline { ForSome (S.left proof.old) (λ bytes. SaysTrue H.hash (program_of code.now) 1024 role.0 state.now argument.now fuel bytes result) }
+    ensures end { ForSome (S.left proof.old) (λ bytes. IfOk result (λ _. S.left proof.new ≡ Some [])) }
+    ensures faults { VerdictCause (S.faults proof.old) (S.faults proof.new) result }
+    ensures rest { S.rest proof.new ≡ S.rest proof.old }
+{
+    let mut store = Store::new(alloc);
+    let refs = put_call(alloc, code.program(), &mut store, role, state, argument)?;
+    judge_file::<H, S>(alloc, code, &mut store, role, &refs, fuel, proof)
+}
+
+/// Judges a call as [`verify`] does, from the frames of a proof without its header, with a ring that holds the last of the new pieces
+/// that came before. It gives the ring back, which holds the last of them and of the new pieces of this proof.
+///
+/// A verdict other than an outcome drops the ring.
+pub fn verify_on<H: Hash32, S: Source>(
+    alloc: Global,
+    code: &Code,
+    role: FunctionId,
+    state: &[u8],
+    argument: &[u8],
+    fuel: u64,
+    proof: &mut S,
+    ring: Ring,
+) -> Result<(Outcome<Spelling>, Ring), Verdict>
+    requires there { role.0 < length (program_of code.now).functions }
+    requires role { TakesState (program_of code.now) role.0 }
+    requires fuel_fits { fuel ≤ 10 ^ 12 }
+    ensures verdict { (recent : List (List ℕ)) → ring ≡ kept ring.size recent → ForSome (S.left proof.old) (λ bytes. let P = program_of code.now in
+        AnswersWithRing P role.0 (checked.verdict_on H.hash P (argument_type P role.0) role.0 state.now argument.now fuel bytes ring.size recent) result) }
+    ensures headline { (recent : List (List ℕ)) → ring ≡ kept ring.size recent → ForSome (S.left proof.old) (λ bytes.
+        SaysTrueOn H.hash (program_of code.now) role.0 state.now argument.now fuel bytes ring.size recent result) }
+    ensures ring { (recent : List (List ℕ)) → ring ≡ kept ring.size recent → ForSome (S.left proof.old) (λ bytes.
+        IfOk result (λ told. told.1 ≡ kept ring.size (after_bytes (program_of code.now).format.limit bytes ring.size recent))) }
+    ensures end { (recent : List (List ℕ)) → ring ≡ kept ring.size recent → ForSome (S.left proof.old) (λ bytes. IfOk result (λ _. S.left proof.new ≡ Some [])) }
+    ensures faults { VerdictCause (S.faults proof.old) (S.faults proof.new) result }
+    ensures rest { S.rest proof.new ≡ S.rest proof.old }
+{
+    let mut store = Store::new(alloc);
+    let refs = put_call(alloc, code.program(), &mut store, role, state, argument)?;
+    judge_call::<H, S>(alloc, code, &mut store, role, &refs, fuel, proof, ring)
+}
+
+/// Puts the state and the argument of a call into the store.
+fn put_call(
+    alloc: Global,
+    program: &Program,
+    store: &mut Store,
+    role: FunctionId,
+    state: &[u8],
+    argument: &[u8],
+) -> Result<[Ref; 2], Verdict>
+    requires there { role.0 < length (meaning program.now).functions }
+    requires role { TakesState (meaning program.now) role.0 }
+    ensures { ArePut (meaning program.now) (nodes_in store.new) role.0 state.now argument.now result }
+{
+    // of a query or an update: the state and the argument
+    let parameters = &program.function(role).parameters;
+    let state = match unspell(alloc, program, store, state, program.state_type()) {
+        Ok(state) => state,
+        Err(UnspellFault::Bad(offset)) => return Err(Verdict::BadState(offset)),
+        Err(UnspellFault::NoMemory) => return Err(Verdict::NoMemory),
+    };
+    match unspell(alloc, program, store, argument, parameters[1]) {
+        Ok(argument) => Ok([state, argument]),
+        Err(UnspellFault::Bad(offset)) => Err(Verdict::BadArgument(offset)),
+        Err(UnspellFault::NoMemory) => Err(Verdict::NoMemory),
+    }
+}
+
+/// Judges a call on a state and an argument that stand in the store, by a proof file: its header, the run, and the bytes left behind it.
+fn judge_file<H: Hash32, S: Source>(
+    alloc: Global,
+    code: &Code,
+    store: &mut Store,
+    role: FunctionId,
+    args: &[Ref],
+    fuel: u64,
+    proof: &mut S,
+) -> Result<Outcome<Spelling>, Verdict>
+    requires there { role.0 < length (program_of code.now).functions }
+    requires stand { (vs : Values) × AllStandFor VerifierNodes (program_of code.now).types (nodes_in store.old) (numbers_of args.now) (function_at (program_of code.now) role.0).parameters vs }
+    requires fuel_fits { fuel ≤ 10 ^ 12 }
+    ensures verdict { (vs : Values) → AllStandFor VerifierNodes (program_of code.now).types (nodes_in store.old) (numbers_of args.now) (function_at (program_of code.now) role.0).parameters vs
+        → ForSome (S.left proof.old) (λ bytes. let P = program_of code.now in
+        Answers P role.0 (checked.with_header H.hash P (header (keeping 1024 P.format) bytes) role.0 vs fuel bytes) result) }
+    ensures end { ForSome (S.left proof.old) (λ bytes. IfOk result (λ _. S.left proof.new ≡ Some [])) }
+    ensures faults { VerdictCause (S.faults proof.old) (S.faults proof.new) result }
+    ensures rest { S.rest proof.new ≡ S.rest proof.old }
+{
+    let size = FrameReader::new(alloc, 0).header(proof, MAGIC, MOST_KEPT)?;
+    let ring = Ring::with_size(alloc, size)?;
+    let judged = judge_call::<H, S>(alloc, code, store, role, args, fuel, proof, ring)?;
+    let (outcome, ring) = judged;
+    drop(ring);
+    Ok(outcome)
+}
+
+/// Judges a call on a state and an argument that stand in the store: the run, and the bytes left behind it.
+fn judge_call<H: Hash32, S: Source>(
+    alloc: Global,
+    code: &Code,
+    store: &mut Store,
+    role: FunctionId,
+    args: &[Ref],
+    fuel: u64,
+    proof: &mut S,
+    ring: Ring,
+) -> Result<(Outcome<Spelling>, Ring), Verdict>
+    requires there { role.0 < length (program_of code.now).functions }
+    requires stand { (vs : Values) × AllStandFor VerifierNodes (program_of code.now).types (nodes_in store.old) (numbers_of args.now) (function_at (program_of code.now) role.0).parameters vs }
+    requires fuel_fits { fuel ≤ 10 ^ 12 }
+    ensures verdict { (vs : Values) (bytes : List ℕ) (recent : List (List ℕ))
+        → AllStandFor VerifierNodes (program_of code.now).types (nodes_in store.old) (numbers_of args.now) (function_at (program_of code.now) role.0).parameters vs
+        → S.left proof.old ≡ Some bytes → ring ≡ kept ring.size recent
+        → AnswersWithRing (program_of code.now) role.0 (checked.judge H.hash (program_of code.now) role.0 vs fuel bytes ring.size recent) result }
+    ensures ring { (bytes : List ℕ) (recent : List (List ℕ)) → S.left proof.old ≡ Some bytes → ring ≡ kept ring.size recent
+        → IfOk result (λ told. told.1 ≡ kept ring.size (after_bytes (program_of code.now).format.limit bytes ring.size recent)) }
+    ensures end { (bytes : List ℕ) (recent : List (List ℕ)) → S.left proof.old ≡ Some bytes → ring ≡ kept ring.size recent
+        → IfOk result (λ _. S.left proof.new ≡ Some []) }
+    ensures faults { VerdictCause (S.faults proof.old) (S.faults proof.new) result }
+    ensures rest { S.rest proof.new ≡ S.rest proof.old }
+{
+    let run = checked_run::<H, S, Store>(alloc, code, store, role, args, fuel, proof, ring)?;
+    let left = FrameReader::new(alloc, 0).count_rest(proof)?;
+    if left > 0 {
+        return Err(Verdict::Rejected(Cause::Leftover(left)));
+    }
+    let (outcome, ring) = run;
+    let ty = code.program().function(role).result;
+    let told = spelled(alloc, code.program(), store, outcome, ty)?;
+    Ok((told, ring))
+}
+
+/// The outcome with the spelling of its value, which stands in the store at a type.
+fn spelled(
+    alloc: Global,
+    program: &Program,
+    store: &Store,
+    outcome: Outcome<Ref>,
+    ty: TyId,
+) -> Result<Outcome<Spelling>, AllocError>
+    requires { OutcomeStands (meaning program.now) (nodes_in store.now) (type_at (types_of program.now) ty) outcome }
+    ensures { IfOk result (IsSpelledAs (meaning program.now) (nodes_in store.now) (type_at (types_of program.now) ty) outcome) }
+{
+    Ok(match outcome {
+        Outcome::Done(value) => Outcome::Done(spell(alloc, program, store, value, ty)?),
+        Outcome::Trapped(trap) => Outcome::Trapped(trap),
+        Outcome::Out => Outcome::Out,
+    })
+}
