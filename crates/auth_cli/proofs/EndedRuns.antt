@@ -40,7 +40,7 @@ module _ (callee : Callee) (p : Program) (called : CalledRole) (is : IsCalled ca
       → AllStandFor (prover_nodes p) (meaning p).types nodes (root ∷ r ∷ []) parameters (call_of s put.0)
   call_stands reads root s stored =
       subst (λ ts. AllStandFor (prover_nodes p) (meaning p).types nodes (root ∷ r ∷ []) ts (call_of s put.0))
-      (sym (reader_takes (meaning p) called.function.0 (role_kind_of called.kind) argument is.answer is.shape reads)) (stored, put.2, tt)
+      (sym (reader_takes (meaning p) called.function.0 (role_kind_of called.kind) argument is.answer is.shape reads)) (stored, (put.2, tt))
 
 pub init_stands : (p : Program) (called : CalledRole) (is : IsCalled Init p called) (text : List ℕ) (nodes : List Node) (r : ℕ) (put : IsPut called text nodes r p)
     → AllStandFor (prover_nodes p) (meaning p).types nodes (r ∷ []) (function_at (meaning p) called.function.0).parameters (AndV put.0 NoV)

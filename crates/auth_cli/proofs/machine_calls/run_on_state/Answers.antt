@@ -9,7 +9,7 @@ use Rattle.auth_cli.proofs.EndedRuns.{IsPut, call_stands, passed_goes}
 use Rattle.auth_cli.proofs.machine_calls.run_on_state.Goals as goal
 
 pub digesting_run-requires-clause-stand : goal.digesting_run-requires-clause-stand
-digesting_run-requires-clause-stand c =
+digesting_run-requires-clause-stand c = λ κs.
     let p = program_in c.args.code.now in
     let nodes = nodes_in c.put_argument.new.store in
     let put = subst (IsPut c.args.called c.args.argument.now nodes c.in_ok-argument.argument.0) c.program.ensures c.in_ok-argument.ensures.goes in
