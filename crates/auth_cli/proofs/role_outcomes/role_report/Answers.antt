@@ -1,14 +1,11 @@
 use Rattle.std.proofs.Common.{ap, ◌∙◌, subst}
 use Rattle.core_terms.specs.LanguagePrograms.{meaning}
-use Rattle.ideal_meaning.specs.Told.{trap_told}
 use Rattle.mode_vm.specs.IdealRuns.{IsOutcome}
-use Rattle.printed_lines.specs.Lines.{out_line, trap_line}
 use Rattle.value_store.specs.Stores.{nodes_in}
 use Rattle.auth_cli.specs.Answer.{outcome_told}
 use Rattle.auth_cli.specs.RoleCalls.{result_called}
 use Rattle.auth_cli.specs.RolesCalled.{prover_nodes, role_of}
-use Rattle.auth_cli.specs.declared.report.Ending.TheVariants as ending
-use Rattle.auth_cli.proofs.RoleReports.{alone_told, done_told, line_alone, stands_as_told}
+use Rattle.auth_cli.proofs.RoleReports.{done_told, stands_as_told}
 use Rattle.auth_cli.proofs.role_outcomes.role_report.Goals as goal
 
 pub value_line-requires : goal.value_line-requires
