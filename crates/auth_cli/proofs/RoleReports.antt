@@ -1,5 +1,5 @@
 -- The line of a value that stands over the prover's nodes, and the state that a role makes.
-use Rattle.std.proofs.Common.{◌≡◌, ℕ, ◌<◌, ◌^◌, true, List, length, Option, Some, Result, Ok, Err, IfOk, refl, sym, ap, ◌∙◌, subst, arith}
+use Rattle.std.proofs.Common.{◌≡◌, ℕ, ◌<◌, ◌^◌, true, List, length, Option, Some, refl, sym, ap, ◌∙◌, subst, arith}
 use Rattle.sha2.specs.Sha256.{sha256}
 use Rattle.sha2.proofs.Facts256.{length-sha256}
 use Rattle.core_terms.specs.LanguagePrograms.{constructor_names, meaning, types_of}
@@ -12,17 +12,10 @@ use Rattle.core_terms.specs.Types.{PairTy, Table, Ty}
 use Rattle.core_terms.specs.Values.{IsIdeal, IsShallow, PairV, Value}
 use Rattle.core_terms.specs.declared.language.program.Program.{Program}
 use Rattle.ideal_meaning.proofs.Projections.{length_piece}
-use Rattle.core_terms.specs.declared.outcome.Outcome as told
-use Rattle.core_terms.specs.declared.outcome.Outcome.TheVariants as variants
-use Rattle.ideal_meaning.specs.Ideal.{Outcome, Done}
-use Rattle.mode_vm.specs.IdealRuns.{IsOutcome}
+use Rattle.ideal_meaning.specs.Ideal.{Done}
 use Rattle.printed_lines.specs.Lines.{named_done_line}
 use Rattle.value_store.specs.Nodes.{AreSound, Node}
 use Rattle.value_store.specs.Standing.{Kind, StandsFor}
-use Rattle.value_store.specs.declared.node.Ref.{Ref}
-use Rattle.auth_cli.specs.Halting.{ending_status}
-use Rattle.auth_cli.specs.declared.report.Ending.{Ending}
-use Rattle.auth_cli.specs.declared.report.Report.{Report}
 use Rattle.value_store.proofs.StandingNodes.{within_stands}
 use Rattle.value_store.proofs.TypedNodes.{ideal_stands, prover_refers}
 use Rattle.auth_cli.specs.Answer.{outcome_told, says}
@@ -96,21 +89,3 @@ module _ (wanted : Callee) (p : Program) (called : CalledRole) (is : IsCalled wa
   init_made nodes r v same h =
       subst (λ k. StandsFor (prover_nodes p) (meaning p).types nodes r (meaning p).state (state_made k v)) (sym (kind_told ∙ same))
       (subst (λ t. StandsFor (prover_nodes p) (meaning p).types nodes r t v) (result_is (meaning p) called.function.0 kind argument is.answer is.shape ∙ rw same refl) h)
-
--- an outcome without a value has none
-pub no_value : (kind : Kind) (types : Table) (nodes : List Node) (z : Ty) (o : Outcome) (v : Value) (out : told.Outcome Ref) → ((r : Ref) → out ≡ variants.Done r → ⊥)
-    → IsOutcome kind types nodes z out o → o ≡ Done v → ⊥
-no_value kind types nodes z o v (variants.Done r) none is e = none r refl
-no_value kind types nodes z o v (variants.Trapped trap) none is e = absurd (cc)
-no_value kind types nodes z o v variants.Out none is e = absurd (cc)
-
--- a report of a line that is there
-pub line_alone : {E : Type 0} (result : Result Report E) (ending : Ending) (line : List ℕ) → IfOk result (λ report. report.ending ≡ ending)
-    → IfOk result (λ report. report.text.items ≡ line) → (Q : Report → Type 0) → ((report : Report) → report.ending ≡ ending → report.text.items ≡ line → Q report) → IfOk result Q
-line_alone (Ok report) ending line same is Q go = go report same is
-line_alone (Err e) ending line same is Q go = tt
-
-pub alone_told : (report : Report) (ending : Ending) (line : List ℕ) → report.ending ≡ ending → report.text.items ≡ line
-    → says (ending_status ending) line ≡ says (ending_status report.ending) report.text.items
-alone_told report ending line same is =
-    subst (λ e. says (ending_status ending) line ≡ says (ending_status e) report.text.items) (sym same) (ap (says (ending_status ending)) (sym is))

@@ -20,7 +20,5 @@ returns c =
     let p = c.args.program.now in
     let t = type_at (types_of p) c.args.ty in
     if_ok c.named_done_line.result _ _
-    (λ line told v h. line_told p (nodes_in c.args.store.now) c.args.store.now.sound t v c.args.value.0 h c.in_ok-spelled.spelled line.items
-    (c.in_ok-spelled.ensures.projected sha256 v length-sha256 h)
-    (λ w shallow short is. told w shallow (subst (λ bytes. length bytes < 2 ^ 32) (sym c.as_bytes.ensures) short) (c.as_bytes.ensures ∙ is)))
-    c.named_done_line.ensures
+    (λ line told v h. line_told p (nodes_in c.args.store.now) c.args.store.now.sound t v c.args.value.0 h c.in_ok-spelled.spelled line.items (c.in_ok-spelled.ensures.projected sha256 v length-sha256 h)
+    (λ w shallow short is. told w shallow (subst (λ bytes. length bytes < 2 ^ 32) (sym c.as_bytes.ensures) short) (c.as_bytes.ensures ∙ is))) c.named_done_line.ensures
