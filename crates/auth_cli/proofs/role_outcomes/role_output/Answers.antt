@@ -21,3 +21,15 @@ role_report-requires c = (c.requires.0, c.requires.2)
 
 pub state_made-requires : goal.state_made-requires
 state_made-requires c = (c.args.program.now, c.requires.0, c.requires.1, c.requires.2)
+
+pub save_image-requires : goal.save_image-requires
+save_image-requires c = ?
+
+pub returns-in-Some-in_err-image-clause-finds : goal.returns-in-Some-in_err-image-clause-finds
+returns-in-Some-in_err-image-clause-finds c = ?
+
+pub returns-in-Some-clause-finds : goal.returns-in-Some-clause-finds
+returns-in-Some-clause-finds c = ?
+
+pub returns-in-None-clause-finds : goal.returns-in-None-clause-finds
+returns-in-None-clause-finds c = ?

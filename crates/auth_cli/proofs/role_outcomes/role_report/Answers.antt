@@ -15,3 +15,12 @@ value_line-requires c =
     let ends = c.requires.2 in
     let told = subst (λ out. IsOutcome (prover_nodes p) (meaning p).types (nodes_in ended.store) (result_called (role_of p ended.called)) out c.requires.1) c.in-Done.is ends.outcome in
     (told.0, stands_as_told c.requires.0 p ended.called ends.called (nodes_in ended.store) c.in-Done.field-0.0 told.0 told.1)
+
+pub returns-in-Done-clause-tells : goal.returns-in-Done-clause-tells
+returns-in-Done-clause-tells c = ?
+
+pub returns-in-Trapped-clause-tells : goal.returns-in-Trapped-clause-tells
+returns-in-Trapped-clause-tells c = ?
+
+pub returns-in-Out-clause-tells : goal.returns-in-Out-clause-tells
+returns-in-Out-clause-tells c = ?
