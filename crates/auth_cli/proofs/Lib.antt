@@ -8,13 +8,14 @@ pub mod EndsStored  -- `init_command`, `step_command`, `shallow_command`, `prove
 pub mod Known  -- `write_all`
 pub mod Numbers  -- `read_number`, `has_digits_alone`
 pub mod RolesByName  -- `query_named`
-pub mod RoleShapes  -- `role_named`, `run_init`, `run_on_state`, `state_made`
+pub mod RoleShapes  -- `role_named`, `call_role`, `run_init`, `run_on_state`, `state_made`
 pub mod PutArguments  -- `put_argument`
 pub mod LiteralsRead  -- `read_value`
 pub mod PlainArguments  -- `read_value`
 pub mod TextNames  -- `read_language_program`
 pub mod MarkedStates  -- `mark_auth`, `spell_state`
 pub mod StateOutputs  -- `spell_state`
+pub mod EndedRuns  -- `run_init`, `run_on_state`
 pub mod RoleReports  -- `value_line`, `role_report`, `state_made`
 pub mod StoredOutputs  -- `role_output`
 pub mod RoleSteps  -- `call_init`, `call_role` and the finders on them

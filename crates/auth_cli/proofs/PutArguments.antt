@@ -14,6 +14,9 @@ use Rattle.printed_syntax.specs.Literals.{ConstructorNames, literal_in}
 use Rattle.printed_syntax.proofs.LiteralsReadBack.{literals_are_read_back}
 use Rattle.value_store.specs.Nodes.{Node}
 use Rattle.value_store.specs.Standing.{StandsFor, VerifierNodes}
+use Rattle.shallow_codec.specs.Unspelled.{IsUnspelled}
+use Rattle.shallow_codec.specs.declared.fault.UnspellFault.{UnspellFault}
+use Rattle.shallow_codec.specs.declared.fault.UnspellFault.TheVariants.{Bad}
 use Rattle.shallow_codec.proofs.LawProofs.{plain_stands}
 use Rattle.auth_cli.specs.Answer.{Answer, with_literal}
 use Rattle.auth_cli.specs.FueledQueries.{NamedProgram}
@@ -44,8 +47,13 @@ module _ (p : Program) (t : Ty) (text bytes : List ℕ) (spelled : SpellsLiteral
       (written.read_back.0, ap (λ bs. read_at (meaning p) t bs) (sym spelled.2) ∙ written.read_back.1)
 
   -- its spelling is not refused
-  pub not_bad : (offset : ℕ) → read_at (meaning p) t bytes ≡ BadAt offset → ⊥
+  not_bad : (offset : ℕ) → read_at (meaning p) t bytes ≡ BadAt offset → ⊥
   not_bad offset is = let good = read_back.1 in absurd (cc)
+
+  pub put_refused : (nodes : List Node) (lent : List ℕ) (fault : UnspellFault) (offset : ℕ) → lent ≡ bytes → fault ≡ Bad offset
+      → IsUnspelled (meaning p).types nodes t (read_at (meaning p) t lent) (Err fault) → ⊥
+  put_refused nodes lent fault offset same is told =
+      not_bad offset (ap (λ bs. read_at (meaning p) t bs) (sym same) ∙ subst (λ fault. IsUnspelled (meaning p).types nodes t (read_at (meaning p) t lent) (Err fault)) is told)
 
   -- what stands for it over the verifier's nodes does so over the prover's
   pub put_stands : (nodes : List Node) (r : ℕ) (v : Value) (place : ℕ) → IsPlain (meaning p).types t → read_at (meaning p) t bytes ≡ Good v [] place

@@ -113,6 +113,20 @@ passed_is callee p called is =
     ∙ ap (λ ts. slice_index_or ts (argument_place kind) UnitTy) (parameters_are P f kind argument is.answer is.shape)
     ∙ at_its_place kind P.state argument is.shape.entered
 
+-- the parameters of an init, and of a role that reads a state
+pub init_takes : (P : tree.Program) (f : ℕ) (kind : tree.Kind) (argument answer : Ty) → IsRole P f kind argument answer → kind ≡ tree.Init → (function_at P f).parameters ≡ argument ∷ []
+init_takes P f kind argument answer role same = parameters_are P f kind argument answer role ∙ ap (λ k. role_parameters k P.state argument) same
+
+two_taken : (kind : tree.Kind) (state argument : Ty) → ReadsState kind → role_parameters kind state argument ≡ state ∷ argument ∷ []
+two_taken tree.Query state argument reads = refl
+two_taken tree.Update state argument reads = refl
+two_taken tree.Init state argument reads = absurd reads
+two_taken tree.Inner state argument reads = absurd reads
+
+pub reader_takes : (P : tree.Program) (f : ℕ) (kind : tree.Kind) (argument answer : Ty) → IsRole P f kind argument answer → ReadsState kind
+    → (function_at P f).parameters ≡ P.state ∷ argument ∷ []
+reader_takes P f kind argument answer role reads = parameters_are P f kind argument answer role ∙ two_taken kind P.state argument reads
+
 -- ---- what is gone on with
 
 module _ (callee : Callee) (P : tree.Program) (name : List ℕ) (f : ℕ) (kind : tree.Kind) (named : role_named P name ≡ Some f) (is : (function_at P f).kind ≡ kind) (go : ℕ → Option Answer) where

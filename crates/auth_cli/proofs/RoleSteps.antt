@@ -109,8 +109,8 @@ hand_unfound name step Stands go result halt is goes = subst (FindsOutputInHand 
     by NoMemory goes = tt
 
 -- the file of a read fault, where one halt stands for another's work
-pub same_reached : {T U : Type 0} (answer : Contents → Option Answer) (contents : Option Contents) (asked : Option Names) (halt : Halt) (result : Result U Halt) → result ≡ Err halt
-    → FaultsAtReached {T = T} answer contents asked (Err halt) → FaultsAtReached answer contents asked result
+pub same_reached : {U : Type 0} (answer : Contents → Option Answer) (contents : Option Contents) (asked : Option Names) (halt : Halt) (result : Result U Halt) → result ≡ Err halt
+    → HaltsAtReached answer contents asked halt → FaultsAtReached answer contents asked result
 same_reached answer contents asked halt result is faults = subst (FaultsAtReached answer contents asked) (sym is) faults
 
 -- behind the program that a file has
@@ -126,9 +126,9 @@ module _ (program : List ℕ) (next : NamedProgram → Contents → Option Answe
     behind with_language_file program last.0 files p (λ p. next p (without last.0 files)) refl (goes files known) last.2,
   )
 
-  pub program_reached : {T : Type 0} (result : Result T Halt) → FaultsAtReached (next p) contents asked result → FaultsAtReached whole contents asked result
-  program_reached (Ok t) faults = tt
-  program_reached (Err Usage) faults = tt
-  program_reached (Err (Refused what)) faults = tt
-  program_reached (Err ReadFault) faults = is_reached faults
-  program_reached (Err NoMemory) faults = tt
+  pub program_reached : {T : Type 0} (later : Option Contents) (result : Result T Halt) → later ≡ contents → FaultsAtReached (next p) later asked result → FaultsAtReached whole contents asked result
+  program_reached later (Ok t) same faults = tt
+  program_reached later (Err Usage) same faults = tt
+  program_reached later (Err (Refused what)) same faults = tt
+  program_reached later (Err ReadFault) same faults = is_reached (subst (λ contents. IsReached (next p) contents asked) same faults)
+  program_reached later (Err NoMemory) same faults = tt

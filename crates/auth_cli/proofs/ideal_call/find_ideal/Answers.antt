@@ -6,7 +6,7 @@ use Rattle.auth_cli.specs.Answer.{Answer, ideal_answer, role_answer, with_ended_
 use Rattle.auth_cli.specs.FueledQueries.{NamedProgram}
 use Rattle.auth_cli.specs.Halting.{Finds}
 use Rattle.auth_cli.specs.ReadPrograms.{language_named}
-use Rattle.auth_cli.specs.Reaching.{FaultsAtReached, without}
+use Rattle.auth_cli.specs.Reaching.{without}
 use Rattle.auth_cli.specs.Storing.{FindsOutput}
 use Rattle.auth_cli.specs.declared.roles.Callee.TheVariants.{OfState}
 use Rattle.auth_cli.proofs.Reached.{faults_reached, is_missing}
@@ -46,4 +46,4 @@ pub returns-clause-reached : goal.returns-clause-reached
 returns-clause-reached g c =
     let words = c.args.words.now in
     program_reached words.program.now (behind_program words.role.now c.args.image.now words.argument.now words.fuel.now) _ _ (language_named (program_in c.in_ok-code.code)) c.in_ok-code.ensures.goes
-    c.tell_ideal.result (subst (λ contents. FaultsAtReached _ contents _ c.tell_ideal.result) c.in_ok-code.ensures.contents (c.tell_ideal.ensures.reached))
+    _ c.tell_ideal.result c.in_ok-code.ensures.contents (c.tell_ideal.ensures.reached)

@@ -19,7 +19,9 @@ returns-in_err-ended-clause-finds g c = λ told known.
 pub returns-in_err-ended-clause-reached : goal.returns-in_err-ended-clause-reached
 returns-in_err-ended-clause-reached g c =
     let err = err_from_is_err_and c.from_residual.result c.from_residual.ensures.1 in
-    same_reached _ _ _ _ c.from_residual.result (cc) (c.in_err-ended.ensures.reached (λ ended. Some (role_answer ended)))
+    let words = c.args.words.now in
+    same_reached (λ told. with_ended_call OfState (language_named (program_in c.args.code.now)) words.role.now c.args.image.now words.argument.now words.fuel.now told (λ ended. Some (role_answer ended)))
+    _ _ _ c.from_residual.result (cc) (c.in_err-ended.ensures.reached (λ ended. Some (role_answer ended)))
 
 pub role_report-requires : goal.role_report-requires
 role_report-requires g c = (OfState, subst (λ p. HasEnded OfState p c.in_ok-ended.ended) (sym c.program.ensures) c.in_ok-ended.ensures.ended)

@@ -20,7 +20,7 @@ returns-in_err-ended-clause-finds c = λ name.
 pub role_output-requires : goal.role_output-requires
 role_output-requires c =
     let ended = c.in_ok-ended.ensures in
-    (Init, tt, ended.0.outcome, subst (λ p. EndsIn Init p c.in_ok-ended.ended ended.0.outcome) (sym c.program.ensures) ended.2.1)
+    (Init, tt, (ended.0.outcome, subst (λ p. EndsIn Init p c.in_ok-ended.ended ended.0.outcome) (sym c.program.ensures) ended.2.1))
 
 pub returns-clause-finds : goal.returns-clause-finds
 returns-clause-finds c = λ name.

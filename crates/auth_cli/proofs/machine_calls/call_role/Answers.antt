@@ -11,7 +11,7 @@ use Rattle.auth_cli.specs.Answer.{Answer, with_ended_call, with_fueled_role, wit
 use Rattle.auth_cli.specs.FueledQueries.{FueledRole}
 use Rattle.auth_cli.specs.Halting.{GoesOnFor, GoesOnForInHand, GoesOnInHand}
 use Rattle.auth_cli.specs.ReadPrograms.{language_digested, language_named}
-use Rattle.auth_cli.specs.Reaching.{FaultsAtReached, without}
+use Rattle.auth_cli.specs.Reaching.{without}
 use Rattle.auth_cli.specs.RoleCalls.{EndedRole, ended_with}
 use Rattle.auth_cli.specs.RolesCalled.{IsCalled, IsEnded, role_of}
 use Rattle.auth_cli.specs.StoredStates.{IsStoredState}
@@ -63,7 +63,8 @@ returns-in_err-called-clause-reached g c = λ go.
     let words = c.args.words.now in
     let err = err_from_is_err_and c.from_residual.result c.from_residual.ensures.1 in
     let p = c.program-program.result.now in
-    reached_in_hand (step c.args.callee words.role.now c.args.image.now words.argument.now words.fuel.now p (λ name. None)) (IsEnded c.args.callee p) _ _ _ c.from_residual.result
+    reached_in_hand (step c.args.callee words.role.now c.args.image.now words.argument.now words.fuel.now p (λ name. None)) (IsEnded c.args.callee p)
+    (λ told. step c.args.callee words.role.now c.args.image.now words.argument.now words.fuel.now (program_in c.args.code.now) told go) _ _ c.from_residual.result
     (role_halts c.args.callee words.role.now c.args.image.now words.argument.now words.fuel.now p (λ name. None) c.from_residual.result _ (cc) c.in_err-called.ensures.goes)
 
 pub returns-in_err-state-clause-goes : goal.returns-in_err-state-clause-goes
@@ -82,12 +83,12 @@ returns-in_err-state-clause-reached g c = λ go.
     let words = c.args.words.now in
     let image = c.args.image.now in
     let err = err_from_is_err_and c.from_residual-in_err-state.result c.from_residual-in_err-state.ensures.1 in
-    let p = c.program-program.result.now in
+    let p = program_in c.args.code.now in
     let r = role_of p c.in_ok-called.called in
-    subst (λ p. FaultsAtReached (λ told. step c.args.callee words.role.now image words.argument.now words.fuel.now p told go) _ _ c.from_residual-in_err-state.result) c.program-program.ensures
-    (faults_reached (λ told. step c.args.callee words.role.now image words.argument.now words.fuel.now p told go) image _ _ _ c.from_residual-in_err-state.result (cc)
-    (λ files known. c.in_ok-called.ensures.goes (λ r. with_image_file (language_digested p) (without image files image) (behind_state words.argument.now r go))
-    ∙ ap (λ file. with_image_file (language_digested p) file (behind_state words.argument.now r go)) (is_missing image files)) c.in_err-state.ensures.asked)
+    let goes = subst (RoleGoes c.args.callee words.role.now words.fuel.now c.in_ok-called.called) c.program-program.ensures c.in_ok-called.ensures.goes in
+    faults_reached (λ told. step c.args.callee words.role.now image words.argument.now words.fuel.now p told go) image _ _ _ c.from_residual-in_err-state.result (cc)
+    (λ files known. goes (λ r. with_image_file (language_digested p) (without image files image) (behind_state words.argument.now r go))
+    ∙ ap (λ file. with_image_file (language_digested p) file (behind_state words.argument.now r go)) (is_missing image files)) c.in_err-state.ensures.asked
 
 pub run_on_state-requires-clause-called : goal.run_on_state-requires-clause-called
 run_on_state-requires-clause-called g c = (c.args.callee, subst (λ p. IsCalled c.args.callee p c.in_ok-called.called) c.program-program.ensures c.in_ok-called.ensures.valid)
@@ -123,7 +124,9 @@ returns-clause-reached g c = λ go.
     let called = c.in_ok-called.called in
     let valid = subst (λ p. IsCalled c.args.callee p called) c.program-program.ensures c.in_ok-called.ensures.valid in
     let state = subst (λ p. (s : Value) × IsStoredState (meaning p) c.in_ok-state.state s) c.program-program.ensures c.in_ok-state.ensures.stands in
-    reached_in_hand (λ go. behind_state c.args.words.now.argument.now (role_of p called) go state.0) (IsEnded c.args.callee p) _ _ _ c.run_on_state.result (c.run_on_state.ensures.goes c.args.callee valid state.0 state.1)
+    reached_in_hand (λ go. behind_state c.args.words.now.argument.now (role_of p called) go state.0) (IsEnded c.args.callee p)
+    (λ told. step c.args.callee c.args.words.now.role.now c.args.image.now c.args.words.now.argument.now c.args.words.now.fuel.now p told go) _ _ c.run_on_state.result
+    (c.run_on_state.ensures.goes c.args.callee valid state.0 state.1)
 
 pub returns-clause-cause : goal.returns-clause-cause
 returns-clause-cause g c =

@@ -1,14 +1,9 @@
-use Rattle.std.proofs.Common.{◌≡◌, sym, subst}
+use Rattle.std.proofs.Common.{sym, ap, ◌∙◌}
 use Rattle.core_terms.specs.LanguagePrograms.{meaning, types_of}
 use Rattle.core_terms.specs.Projection.{read_at}
-use Rattle.core_terms.specs.Reading.{BadAt}
 use Rattle.core_terms.specs.TypeTables.{type_at}
-use Rattle.shallow_codec.specs.Unspelled.{IsUnspelled}
-use Rattle.value_store.specs.Standing.{StandsFor}
-use Rattle.value_store.specs.Stores.{nodes_in}
 use Rattle.auth_cli.specs.ReadPrograms.{language_named}
-use Rattle.auth_cli.specs.RolesCalled.{prover_nodes}
-use Rattle.auth_cli.proofs.PutArguments.{literal_goes_on, literal_refused_for, not_bad, put_stands}
+use Rattle.auth_cli.proofs.PutArguments.{literal_goes_on, literal_refused_for, put_refused, put_stands}
 use Rattle.auth_cli.proofs.machine_calls.put_argument.Goals as goal
 
 pub returns-in_err-spelling-clause-goes : goal.returns-in_err-spelling-clause-goes
@@ -21,11 +16,15 @@ returns-in-Ok-clause-goes c =
     let p = c.args.program.now in
     let t = type_at (types_of p) c.args.ty in
     let bytes = c.in_ok-spelling.spelling in
-    let read = subst (λ bs. IsUnspelled (meaning p).types _ t (read_at (meaning p) t bs) _) c.as_bytes.ensures c.in-Ok.ensures.value in (
+    let value = c.in-Ok.ensures.value in (
       c.in_ok-spelling.ensures.0,
       literal_goes_on p t c.args.text.now bytes c.in_ok-spelling.ensures,
-      put_stands p t c.args.text.now bytes c.in_ok-spelling.ensures _ _ read.0 read.1 c.requires read.2 read.3,
+      put_stands p t c.args.text.now bytes c.in_ok-spelling.ensures _ _ value.0 value.1 c.requires
+          (ap (λ bs. read_at (meaning p) t bs) (sym c.as_bytes.ensures) ∙ value.2) value.3,
     )
 
 pub unreachable-requires : goal.unreachable-requires
-unreachable-requires c = ?
+unreachable-requires c =
+    let p = c.args.program.now in
+    let t = type_at (types_of p) c.args.ty in
+    absurd (put_refused p t c.args.text.now c.in_ok-spelling.spelling c.in_ok-spelling.ensures _ c.as_bytes.result.now _ _ c.as_bytes.ensures c.in-Err-Bad.field-0-is c.in-Err-Bad.ensures.value)

@@ -1,23 +1,34 @@
-use Rattle.core_terms.specs.LanguagePrograms.{meaning, types_of}
-use Rattle.core_terms.specs.RoleViews.{role_kind_of}
-use Rattle.core_terms.specs.TypeTables.{type_at}
+use Rattle.std.proofs.Common.{refl, subst}
+use Rattle.core_terms.specs.Values.{AndV, NoV}
 use Rattle.code_gen.specs.Programs.{program_in}
-use Rattle.auth_cli.proofs.RoleShapes.{function_there}
+use Rattle.value_store.specs.Stores.{nodes_in}
+use Rattle.auth_cli.specs.RoleCalls.{ended_with, outcome_called}
+use Rattle.auth_cli.specs.RolesCalled.{role_of}
+use Rattle.auth_cli.specs.declared.roles.Callee.TheVariants.{Init}
+use Rattle.auth_cli.proofs.EndedRuns.{IsPut, init_stands, passed_goes}
 use Rattle.auth_cli.proofs.machine_calls.run_init.Goals as goal
 
-pub put_argument-requires : goal.put_argument-requires
-put_argument-requires c = ?
-
-pub returns-in_err-argument : goal.returns-in_err-argument
-returns-in_err-argument c = ?
-
-pub digesting_run-requires-clause-there : goal.digesting_run-requires-clause-there
-digesting_run-requires-clause-there c =
-    let p = program_in c.args.code.now in
-    function_there (meaning p) c.args.called.function.0 (role_kind_of c.args.called.kind) (type_at (types_of p) c.args.called.argument) c.requires.answer c.requires.shape
-
 pub digesting_run-requires-clause-stand : goal.digesting_run-requires-clause-stand
-digesting_run-requires-clause-stand c = ?
+digesting_run-requires-clause-stand c = λ κs.
+    let p = program_in c.args.code.now in
+    let nodes = nodes_in c.put_argument.new.store in
+    let put = subst (IsPut c.args.called c.args.argument.now nodes c.in_ok-argument.argument.0) c.program.ensures c.in_ok-argument.ensures.goes in
+    (AndV put.0 NoV, init_stands p c.args.called c.requires c.args.argument.now nodes c.in_ok-argument.argument.0 put)
 
 pub returns : goal.returns
-returns c = ?
+unfolding outcome_called
+returns c =
+    let p = program_in c.args.code.now in
+    let r = role_of p c.args.called in
+    let nodes = nodes_in c.put_argument.new.store in
+    let put = subst (IsPut c.args.called c.args.argument.now nodes c.in_ok-argument.argument.0) c.program.ensures c.in_ok-argument.ensures.goes in (
+      ended_with r (AndV put.0 NoV),
+      (λ go. passed_goes Init p c.args.called c.requires c.args.argument.now nodes c.in_ok-argument.argument.0 put (λ a. go (ended_with r (AndV a NoV)))),
+      (
+        refl,
+        record {
+          called = c.requires;
+          outcome = c.in_ok-outcome.ensures.outcome (AndV put.0 NoV) (init_stands p c.args.called c.requires c.args.argument.now nodes c.in_ok-argument.argument.0 put);
+        },
+      ),
+    )

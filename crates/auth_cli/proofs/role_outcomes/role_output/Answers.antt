@@ -1,17 +1,16 @@
-use Rattle.std.proofs.Common.{ℕ, List, Option, Some, None, sym, ap, ◌∙◌, subst}
+use Rattle.std.proofs.Common.{◌≡◌, Some, Ok, sym, subst}
 use Rattle.sha2.specs.Sha256.{sha256}
 use Rattle.core_terms.specs.LanguagePrograms.{meaning}
 use Rattle.core_terms.specs.Projection.{digest_at}
-use Rattle.core_terms.specs.Values.{Value}
-use Rattle.ideal_meaning.specs.Ideal.{Outcome, Done}
-use Rattle.value_store.specs.Standing.{IdealNodes, StandsFor}
+use Rattle.ideal_meaning.specs.Ideal.{Done}
 use Rattle.value_store.specs.Stores.{nodes_in}
 use Rattle.value_store.proofs.ProverNodes.{shown_ideal}
 use Rattle.auth_cli.specs.Answer.{outcome_stored, outcome_told, says}
 use Rattle.auth_cli.specs.Halting.{ending_status}
 use Rattle.auth_cli.specs.ReadPrograms.{language_digested}
+use Rattle.auth_cli.specs.RoleCalls.{kind_called}
 use Rattle.auth_cli.specs.RoleCalls as roles
-use Rattle.auth_cli.specs.RolesCalled.{EndsIn, IsStateMade, MakesStates, role_of}
+use Rattle.auth_cli.specs.RolesCalled.{role_of}
 use Rattle.auth_cli.specs.Storing.{FindsOutputInHand}
 use Rattle.auth_cli.proofs.StoredOutputs.{stored_alone, storing_refused, storing_told}
 use Rattle.auth_cli.proofs.role_outcomes.role_output.Goals as goal
@@ -23,13 +22,39 @@ pub state_made-requires : goal.state_made-requires
 state_made-requires c = (c.args.program.now, c.requires.0, c.requires.1, c.requires.2)
 
 pub save_image-requires : goal.save_image-requires
-save_image-requires c = ?
+save_image-requires c =
+    let p = c.args.program.now in
+    let ended = c.args.ended.now in
+    let made = c.in-Some.ensures p c.requires.0 c.requires.2.0 c.requires.1 c.requires.2.1 in
+    let v = roles.state_made (kind_called (role_of p ended.called)) made.0 in
+    (v, shown_ideal (digest_at sha256 (meaning p)) (meaning p).types (nodes_in ended.store) (meaning p).state v c.in-Some.state.0 made.2)
 
-pub returns-in-Some-in_err-image-clause-finds : goal.returns-in-Some-in_err-image-clause-finds
-returns-in-Some-in_err-image-clause-finds c = ?
+pub returns-in_err-image-in-Some-clause-finds : goal.returns-in_err-image-in-Some-clause-finds
+returns-in_err-image-in-Some-clause-finds c = λ name callee o makes ends.
+    let p = c.args.program.now in
+    let ended = c.args.ended.now in
+    let r = role_of p ended.called in
+    let made = c.in-Some.ensures p callee o makes ends in
+    let v = roles.state_made (kind_called r) made.0 in
+    let ideal = shown_ideal (digest_at sha256 (meaning p)) (meaning p).types (nodes_in ended.store) (meaning p).state v c.in-Some.state.0 made.2 in
+    subst (λ o. FindsOutputInHand name (Some (outcome_stored r o name)) c.from_residual-in_err-image-in-Some.result) (sym made.1)
+    (storing_refused (language_digested p) v (outcome_told r (Done made.0)) c.in_err-image-in-Some.field-0.0 c.from_residual-in_err-image-in-Some.result
+    c.from_residual-in_err-image-in-Some.ensures.1 (c.in_err-image-in-Some.ensures.saved v ideal) name)
 
-pub returns-in-Some-clause-finds : goal.returns-in-Some-clause-finds
-returns-in-Some-clause-finds c = ?
+pub returns-in_ok-image-in-Some-clause-finds : goal.returns-in_ok-image-in-Some-clause-finds
+returns-in_ok-image-in-Some-clause-finds c = λ name callee o makes ends.
+    let p = c.args.program.now in
+    let ended = c.args.ended.now in
+    let r = role_of p ended.called in
+    let report = c.in_ok-report.report in
+    let made = c.in-Some.ensures p callee o makes ends in
+    let v = roles.state_made (kind_called r) made.0 in
+    let ideal = shown_ideal (digest_at sha256 (meaning p)) (meaning p).types (nodes_in ended.store) (meaning p).state v c.in-Some.state.0 made.2 in
+    let tells = subst (λ o. outcome_told r o ≡ says (ending_status report.ending) report.text.items) made.1 (c.in_ok-report.ensures.tells callee o ends) in
+    subst (λ o. FindsOutputInHand name (Some (outcome_stored r o name)) (Ok (record { report = report; file = Some c.in_ok-image-in-Some.image }))) (sym made.1)
+    (storing_told (language_digested p) v (outcome_told r (Done made.0)) report c.in_ok-image-in-Some.image tells (c.in_ok-image-in-Some.ensures.saved v ideal) name)
 
 pub returns-in-None-clause-finds : goal.returns-in-None-clause-finds
-returns-in-None-clause-finds c = ?
+returns-in-None-clause-finds c = λ name callee o makes ends.
+    let p = c.args.program.now in
+    stored_alone (role_of p c.args.ended.now.called) o c.in_ok-report.report (c.in-None.ensures p callee o makes ends) (c.in_ok-report.ensures.tells callee o ends) name

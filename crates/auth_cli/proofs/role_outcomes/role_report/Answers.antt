@@ -1,8 +1,8 @@
-use Rattle.std.proofs.Common.{sym, ap, ◌∙◌, subst}
+use Rattle.std.proofs.Common.{ap, ◌∙◌, subst}
 use Rattle.core_terms.specs.LanguagePrograms.{meaning}
 use Rattle.mode_vm.specs.IdealRuns.{IsOutcome}
 use Rattle.value_store.specs.Stores.{nodes_in}
-use Rattle.auth_cli.specs.Answer.{outcome_told, says}
+use Rattle.auth_cli.specs.Answer.{outcome_told}
 use Rattle.auth_cli.specs.RoleCalls.{result_called}
 use Rattle.auth_cli.specs.RolesCalled.{prover_nodes, role_of}
 use Rattle.auth_cli.proofs.RoleReports.{done_told, stands_as_told}
@@ -12,15 +12,14 @@ pub value_line-requires : goal.value_line-requires
 value_line-requires c =
     let p = c.args.program.now in
     let ended = c.args.ended.now in
-    let ends = c.requires.2 in
-    let told = subst (λ out. IsOutcome (prover_nodes p) (meaning p).types (nodes_in ended.store) (result_called (role_of p ended.called)) out c.requires.1) c.in-Done.is ends.outcome in
-    (told.0, stands_as_told c.requires.0 p ended.called ends.called (nodes_in ended.store) c.in-Done.field-0.0 told.0 told.1)
+    let ends = c.requires.1.1 in
+    let told = subst (λ out. IsOutcome (prover_nodes p) (meaning p).types (nodes_in ended.store) (result_called (role_of p ended.called)) out c.requires.1.0) c.in-Done.is ends.outcome in
+    (told.0, stands_as_told c.requires.0 p ended.called ends.called (nodes_in ended.store) c.in-Done.value.0 told.0 told.1)
 
-pub returns-in-Done-clause-tells : goal.returns-in-Done-clause-tells
-returns-in-Done-clause-tells c = ?
-
-pub returns-in-Trapped-clause-tells : goal.returns-in-Trapped-clause-tells
-returns-in-Trapped-clause-tells c = ?
-
-pub returns-in-Out-clause-tells : goal.returns-in-Out-clause-tells
-returns-in-Out-clause-tells c = ?
+pub returns-in_ok-text-in-Done-clause-tells : goal.returns-in_ok-text-in-Done-clause-tells
+returns-in_ok-text-in-Done-clause-tells c = λ callee o ends.
+    let p = c.args.program.now in
+    let ended = c.args.ended.now in
+    let told = subst (λ out. IsOutcome (prover_nodes p) (meaning p).types (nodes_in ended.store) (result_called (role_of p ended.called)) out o) c.in-Done.is ends.outcome in
+    let stands = stands_as_told callee p ended.called ends.called (nodes_in ended.store) c.in-Done.value.0 told.0 told.1 in
+    ap (outcome_told (role_of p ended.called)) told.2 ∙ done_told callee p ended.called ends.called told.0 _ (c.in_ok-text-in-Done.ensures told.0 stands)

@@ -1,16 +1,20 @@
+use Rattle.std.proofs.Common.{ap, subst}
+use Rattle.core_terms.specs.LanguagePrograms.{meaning}
+use Rattle.core_terms.specs.RoleViews.{role_kind_of}
+use Rattle.mode_vm.specs.IdealRuns.{IsOutcome}
+use Rattle.value_store.specs.Stores.{nodes_in}
+use Rattle.auth_cli.specs.RoleCalls.{result_called}
+use Rattle.auth_cli.specs.RolesCalled.{prover_nodes, role_of}
+use Rattle.auth_cli.proofs.RoleReports.{update_made}
 use Rattle.auth_cli.proofs.role_outcomes.state_made.Goals as goal
 
-pub first_component-requires : goal.first_component-requires
-first_component-requires c = ?
-
-pub returns-in-Done-in-Update : goal.returns-in-Done-in-Update
-returns-in-Done-in-Update c = ?
-
-pub returns-in-Done-in-Init : goal.returns-in-Done-in-Init
-returns-in-Done-in-Init c = ?
-
-pub returns-in-Done-in-Query : goal.returns-in-Done-in-Query
-returns-in-Done-in-Query c = ?
-
-pub returns-in_default : goal.returns-in_default
-returns-in_default c = ?
+pub returns-in-Update : goal.returns-in-Update
+returns-in-Update c = λ p callee o makes ends.
+    let ended = c.args.ended.now in
+    let nodes = nodes_in ended.store in
+    let told = subst (λ out. IsOutcome (prover_nodes p) (meaning p).types nodes (result_called (role_of p ended.called)) out o) c.in-Done.is ends.outcome in (
+      told.0,
+      told.2,
+      update_made callee p ended.called ends.called nodes c.in-Done.value.0 c.first_component.result.0 told.0 (ap role_kind_of c.in-Update.is)
+          (λ x y h. c.first_component.ensures (prover_nodes p) (meaning p).types (meaning p).state ends.called.answer x y h) told.1,
+    )

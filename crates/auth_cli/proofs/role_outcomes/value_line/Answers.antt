@@ -5,7 +5,7 @@ use Rattle.core_terms.specs.LanguagePrograms.{meaning, types_of}
 use Rattle.core_terms.specs.Projection.{projection}
 use Rattle.core_terms.specs.TypeTables.{type_at}
 use Rattle.value_store.specs.Stores.{nodes_in}
-use Rattle.auth_cli.proofs.MarkedStates.{projected}
+use Rattle.auth_cli.proofs.MarkedStates.{if_ok, projected}
 use Rattle.auth_cli.proofs.RoleReports.{line_told}
 use Rattle.auth_cli.proofs.role_outcomes.value_line.Goals as goal
 
@@ -16,8 +16,9 @@ spell-requires c =
     (projection sha256 (meaning p) t c.requires.0, projected p (nodes_in c.args.store.now) t c.requires.0 c.args.value.0 c.requires.1)
 
 pub returns : goal.returns
-returns c = λ v h.
+returns c =
     let p = c.args.program.now in
     let t = type_at (types_of p) c.args.ty in
-    line_told p (nodes_in c.args.store.now) c.args.store.now.sound t v c.args.value.0 h c.in_ok-spelled.spelled _ (c.in_ok-spelled.ensures.projected sha256 v length-sha256 h)
-    (λ w shallow short is. c.named_done_line.ensures w shallow (subst (λ bytes. length bytes < 2 ^ 32) (sym c.as_bytes.ensures) short) (c.as_bytes.ensures ∙ is))
+    if_ok c.named_done_line.result _ _
+    (λ line told v h. line_told p (nodes_in c.args.store.now) c.args.store.now.sound t v c.args.value.0 h c.in_ok-spelled.spelled line.items (c.in_ok-spelled.ensures.projected sha256 v length-sha256 h)
+    (λ w shallow short is. told w shallow (subst (λ bytes. length bytes < 2 ^ 32) (sym c.as_bytes.ensures) short) (c.as_bytes.ensures ∙ is))) c.named_done_line.ensures

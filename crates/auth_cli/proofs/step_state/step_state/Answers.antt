@@ -20,7 +20,9 @@ returns-in_err-ended-clause-finds g c = λ name told known.
 pub returns-in_err-ended-clause-reached : goal.returns-in_err-ended-clause-reached
 returns-in_err-ended-clause-reached g c = λ name.
     let err = err_from_is_err_and c.from_residual.result c.from_residual.ensures.1 in
-    same_reached _ _ _ _ c.from_residual.result (cc) (c.in_err-ended.ensures.reached (λ ended. Some (storing_answer ended name)))
+    let words = c.args.words.now in
+    same_reached (λ told. with_ended_call Update (language_named (program_in c.args.code.now)) words.role.now c.args.image.now words.argument.now words.fuel.now told (λ ended. Some (storing_answer ended name)))
+    _ _ _ c.from_residual.result (cc) (c.in_err-ended.ensures.reached (λ ended. Some (storing_answer ended name)))
 
 pub role_output-requires : goal.role_output-requires
 role_output-requires g c = (Update, tt, subst (λ p. HasEnded Update p c.in_ok-ended.ended) (sym c.program.ensures) c.in_ok-ended.ensures.ended)
@@ -42,4 +44,6 @@ returns-clause-cause g c =
 pub returns-clause-reached : goal.returns-clause-reached
 returns-clause-reached g c = λ name.
     let ended = subst (λ p. HasEnded Update p c.in_ok-ended.ended) (sym c.program.ensures) c.in_ok-ended.ensures.ended in
-    output_reached name _ _ _ _ c.role_output.result (c.role_output.ensures.finds name Update ended.0 tt ended.1)
+    let words = c.args.words.now in
+    output_reached name _ (λ told. with_ended_call Update (language_named (program_in c.args.code.now)) words.role.now c.args.image.now words.argument.now words.fuel.now told (λ ended. Some (storing_answer ended name)))
+    _ _ c.role_output.result (c.role_output.ensures.finds name Update ended.0 tt ended.1)
