@@ -22,10 +22,10 @@ ghost use Rattle.declared_types.specs.OverTypes.{FindsOver};
 ghost use Rattle.declared_types.specs.Scopes.{AreWithin, IsConstructorWithin};
 
 use crate::bodies::elaborator::Elaborator;
-use declared_types::fault::{TypeFault, TypeKind};
 use auth_syntax::tree::{Arm, ExpTree, PlacedName};
 use core_terms::language::{BinaryOperator, Constructor, Term, TyForm};
 use core_terms::{Name, TyId};
+use declared_types::fault::{TypeFault, TypeKind};
 pub(crate) use functions::{Bodies, fourth_pass};
 use lexemes::place::Place;
 

@@ -21,9 +21,9 @@ ghost use Rattle.declared_types.specs.WrittenTypes.{type_meant};
 use auth_syntax::tree::{
     self, Declaration, ExpTree, FunctionKind, Parameter, TypeTree, UnaryOperator,
 };
-use declared_types::fault::{TypeFault, TypeKind};
 use core_terms::language::{Arith, BinaryOperator};
 use core_terms::{Function, Kind, LocalId, Name, Term, TyForm, TyId, TyTable};
+use declared_types::fault::{TypeFault, TypeKind};
 use lexemes::place::Place;
 use std::alloc::{AllocError, Global};
 

@@ -19,10 +19,10 @@ ghost use Rattle.declared_types.specs.WrittenTypes.{states_in, type_meant};
 use crate::bodies::{fourth_pass, number};
 use crate::roles::third_pass;
 use auth_syntax::tree::{Ast, Declaration, TypeTree};
+use core_terms::{Digest, Program, TyTable};
 use declared_types::declarations::first_pass;
 use declared_types::fault::{TypeFault, TypeKind};
 use declared_types::written_types::second_pass;
-use core_terms::{Digest, Program, TyTable};
 use lexemes::place::Place;
 use std::alloc::Global;
 

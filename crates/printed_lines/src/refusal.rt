@@ -1,7 +1,7 @@
 // What a command refuses.
 
-use declared_types::fault::TypeKind;
 use core_terms::Cause;
+use declared_types::fault::TypeKind;
 use lexemes::fault::SyntaxKind;
 use printed_syntax::fault::LiteralKind;
 

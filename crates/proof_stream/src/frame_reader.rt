@@ -1,5 +1,5 @@
 // The frames of a proof, pulled from a source one at a time.
-ghost use Rattle.std.specs.Prelude.{◌≡◌, ◌∷◌, [], ℕ, List};
+ghost use Rattle.std.specs.Prelude.{◌≡◌, ◌≤◌, ◌∷◌, [], ℕ, List, IfOk, IfSome};
 ghost use Rattle.std.specs.Option.{ForSome};
 ghost use Rattle.core_terms.specs.Formats.{Format};
 ghost use Rattle.ideal_meaning.specs.Frames.{header};
@@ -55,6 +55,7 @@ impl FrameReader {
         most_kept: u16,
     ) -> Result<u16, HeadEnd>
         ensures takes { ForSome (S.left source.old) (λ bytes. TakesHeader magic most_kept bytes (S.left source.new) result) }
+        ensures within { IfOk result (λ size. size ≤ most_kept) }
         ensures limit { limit_of self.new ≡ limit_of self.old }
         ensures piece { piece_of self.new ≡ piece_of self.old }
         ensures rest { S.rest source.new ≡ S.rest source.old }
@@ -158,7 +159,8 @@ fn next_back<S: Source>(source: &mut S) -> Result<Frame, FrameEnd>
 
 /// The number of pieces to be kept, in the header that these bytes are; none where they are no header.
 fn ring_size(head: &[u8], magic: [u8; 4], most_kept: u16) -> Option<u16>
-    ensures { (format : Format) → format.magic ≡ magic → format.most_kept ≡ most_kept → header format head.now ≡ result }
+    ensures is { (format : Format) → format.magic ≡ magic → format.most_kept ≡ most_kept → header format head.now ≡ result }
+    ensures within { IfSome result (λ size. size ≤ most_kept) }
 {
     let (front, size) = head.split_at_checked(4)?;
     if size.len() < 2 || front != magic.as_slice() {

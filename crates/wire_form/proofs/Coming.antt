@@ -1,12 +1,12 @@
 -- Bytes of a message that came: for read_body, read_request and read_reply.
-use Rattle.std.proofs.Common.{inr, ◌≡◌, ◌+◌, ◌≤◌, ◌<◌, ℕ, List, [], ◌∷◌, ◌++◌, length, take, drop, Option, Some, None, Result, Ok, Err, Vec, IsErrAnd, nat_lt, true, false, if◌then◌else◌, refl, sym, ap, subst, ◌∙◌, arith}
+use Rattle.std.proofs.Common.{inr, ◌≡◌, ◌+◌, ◌≤◌, ◌<◌, ℕ, List, [], ◌∷◌, ◌++◌, length, take, drop, Option, Some, None, Result, Ok, Err, Vec, IsErrAnd, nat_lt, true, false, refl, sym, ap, subst, ◌∙◌, arith}
 use Rattle.std.proofs.Math.Seq.{drop-append_seam, drop-append-add}
 use Rattle.std.proofs.lemmas.Grind.{common_steps}
 use Rattle.std.proofs.lemmas.List.{drop-drop}
 use Rattle.std.specs.Io.KnownBytes.{prepend_known}
 use Rattle.std.specs.declared.alloc.Global.{Global}
 use Rattle.session_meaning.specs.Messages as meant
-use Rattle.session_meaning.specs.Messages.{u32_in, message_limit}
+use Rattle.session_meaning.specs.Messages.{message_limit}
 use Rattle.wire_form.specs.Incoming.{BodyCame, TookAtMost, WholeCame, length_field}
 use Rattle.wire_form.specs.ReadMessages.{ReadsMessage, SaysWhole}
 use Rattle.wire_form.specs.declared.message.ReadStop.{ReadStop}

@@ -1,6 +1,4 @@
 -- What the messages of the code stand for.
-use Rattle.std.specs.Prelude.{ℕ}
-use Rattle.core_terms.specs.declared.digest.Digest.{Digest}
 use Rattle.session_meaning.specs.Messages as meant
 use Rattle.wire_form.specs.declared.message.Request.{Request}
 use Rattle.wire_form.specs.declared.message.Request.TheVariants.{Hello, Call, Go, Bye}

@@ -8,9 +8,9 @@ ghost use Rattle.declared_types.specs.Scopes.{AreWithin};
 ghost use Rattle.auth_types.specs.Elaborators.{locals_of, scope_of, types_of};
 
 use crate::bodies::elaborator::Elaborator;
-use declared_types::fault::{TypeFault, TypeKind};
 use auth_syntax::tree::PlacedName;
 use core_terms::TyId;
+use declared_types::fault::{TypeFault, TypeKind};
 
 impl<'s, 'a> Elaborator<'s, 'a> {
     /// Binds the names of a pattern to values of these types, as the next locals.

@@ -9,11 +9,11 @@ ghost use Rattle.declared_types.specs.Scopes.{function_meant};
 ghost use Rattle.auth_types.specs.Elaborators.{Calls, Constructs, Matches, scope_of, types_of};
 
 use crate::bodies::elaborator::Elaborator;
-use declared_types::fault::{TypeFault, TypeKind};
-use declared_types::scope::ConstructorId;
 use auth_syntax::tree::Arm;
 use core_terms::language::{Constructor, NamedId, TyForm};
 use core_terms::{FunctionId, Name, TyId};
+use declared_types::fault::{TypeFault, TypeKind};
+use declared_types::scope::ConstructorId;
 use lexemes::place::Place;
 
 /// Whether the arms are of these constructors, in order.

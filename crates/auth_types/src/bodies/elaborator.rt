@@ -8,11 +8,11 @@ ghost use Rattle.auth_types.specs.Locals.{AreLocalsWithin, locals_meant};
 ghost use Rattle.declared_types.specs.Scopes.{IsWithin};
 
 use crate::bodies::Typed;
-use declared_types::fault::{Limited, TypeFault, TypeKind};
-use declared_types::scope::Scope;
 use auth_syntax::tree::PlacedName;
 use core_terms::language::{Term, TyForm, TyTable};
 use core_terms::{LocalId, Name, Text, TyId};
+use declared_types::fault::{Limited, TypeFault, TypeKind};
+use declared_types::scope::Scope;
 use lexemes::place::Place;
 use std::alloc::{AllocError, Global};
 

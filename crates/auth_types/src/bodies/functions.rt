@@ -15,11 +15,11 @@ ghost use Rattle.auth_syntax.specs.Syntax as syntax;
 ghost use Rattle.declared_types.specs.Scopes.{AreWithin, IsCounted, IsHeadWithin, IsWithin, functions_meant, scope_meant, signature_meant};
 
 use crate::bodies::elaborator::Elaborator;
-use declared_types::fault::TypeFault;
-use declared_types::scope::{Head, Scope};
 use auth_syntax::tree::{FunctionKind, Parameter};
 use core_terms::language::{Function, Kind, Term, TyTable};
 use core_terms::{Name, TyId};
+use declared_types::fault::TypeFault;
+use declared_types::scope::{Head, Scope};
 use std::alloc::{AllocError, Global};
 
 /// The functions of a program, and the table of the types that they name.

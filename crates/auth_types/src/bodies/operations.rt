@@ -15,10 +15,10 @@ ghost use Rattle.auth_types.specs.Elaborators.{Keeps, boxed_of, typed_of, types_
 
 use crate::bodies::Typed;
 use crate::bodies::elaborator::Elaborator;
-use declared_types::fault::{TypeFault, TypeKind};
 use auth_syntax::tree::UnaryOperator;
 use core_terms::TyId;
 use core_terms::language::{BinaryOperator, Term, TyForm};
+use declared_types::fault::{TypeFault, TypeKind};
 use lexemes::place::Place;
 use std::alloc::AllocError;
 

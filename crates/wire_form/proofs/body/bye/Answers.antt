@@ -1,4 +1,4 @@
-use Rattle.std.proofs.Common.{◌≡◌, ◌∙◌, ap, refl}
+use Rattle.std.proofs.Common.{◌∙◌, refl}
 use Rattle.session_meaning.specs.Messages as meant
 use Rattle.wire_form.specs.MessageViews.{request_meant}
 use Rattle.wire_form.proofs.Bodies.{handed_on, of_field, bye_end}

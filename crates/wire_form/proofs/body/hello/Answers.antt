@@ -1,4 +1,4 @@
-use Rattle.std.proofs.Common.{◌≡◌, ◌∙◌, ap, refl, sym}
+use Rattle.std.proofs.Common.{◌∙◌, ap, refl, sym}
 use Rattle.session_meaning.specs.Messages as meant
 use Rattle.wire_form.specs.MessageViews.{request_meant}
 use Rattle.wire_form.proofs.Bodies.{handed_on, of_field, hello_end, hello_number, hello_program}

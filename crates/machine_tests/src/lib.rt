@@ -1,0 +1,20 @@
+//! Tests of the machine: what each operation gives at its borders, the limits of values, choices, fuel in one run and in slices, deep
+//! recursion, and the instructions that are generated.
+#![tactic(auto)]
+
+#[cfg(test)]
+mod choices;
+#[cfg(test)]
+mod emitted;
+#[cfg(test)]
+mod fuel;
+#[cfg(test)]
+mod limits;
+#[cfg(test)]
+mod operations;
+#[cfg(test)]
+mod random;
+#[cfg(test)]
+mod recursion;
+#[cfg(test)]
+mod stage;

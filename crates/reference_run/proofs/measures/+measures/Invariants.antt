@@ -1,0 +1,14 @@
+use Rattle.std.proofs.Common.{take}
+use Rattle.core_terms.specs.LanguagePrograms.{meaning, types_of}
+use Rattle.core_terms.specs.LanguageTrees.{types_at}
+use Rattle.core_terms.specs.Values.{depths, sizes}
+use Rattle.reference_run.specs.Measured.{IsMeasured}
+use Rattle.reference_run.specs.PlainValues.{plains_of}
+use Rattle.reference_run.proofs.measures.+measures.Given as goal
+
+-- the measures are those of the values so far
+abbrev pub invariant-row_measures-loop-place : goal.invariant-row_measures-loop-place
+invariant-row_measures-loop-place l =
+    let table = (meaning l.program).types in
+    let ts = types_at (types_of l.program) l.types in
+    IsMeasured l.row (sizes table ts (plains_of (take l.place l.values))) (depths table ts (plains_of (take l.place l.values)))

@@ -1,0 +1,4 @@
+pub mod PlainValues
+pub mod Measured
+pub mod Telling
+pub mod Evaluations

@@ -1,0 +1,96 @@
+// Copies of values.
+ghost use Rattle.std.specs.Prelude.{◌≡◌, IfOk};
+ghost use Rattle.core_terms.specs.Texts.{bytes_of};
+ghost use Rattle.core_terms.specs.Values.{AndV, NoV, PairV};
+ghost use Rattle.ideal_meaning.specs.Run as meant;
+ghost use Rattle.reference_run.specs.PlainValues.{plain_of, plains_of};
+
+use crate::values::{Plain, pair_of};
+use core_terms::{LocalId, Text};
+use std::alloc::{AllocError, Global};
+
+/// A copy of a value. An error says that memory was wanting.
+#[cycle(copies)]
+fn copied(value: &Plain, alloc: Global) -> Result<Plain, AllocError>
+    ensures { IfOk result (λ copy. plain_of copy ≡ plain_of value.now) }
+{
+    match value {
+        Plain::UnitValue => Ok(Plain::UnitValue),
+        Plain::BoolValue(value) => Ok(Plain::BoolValue(*value)),
+        Plain::IntValue(value) => Ok(Plain::IntValue(*value)),
+        Plain::TextValue(text) => Ok(Plain::TextValue(copied_text(text, alloc)?)),
+        Plain::PairValue(first, second) => copied_pair(first, second, alloc),
+        Plain::ConstructorValue(tag, fields) => {
+            let fields = all_copied(fields, alloc)?;
+            Ok(Plain::ConstructorValue(*tag, fields))
+        }
+    }
+}
+
+/// The pair of the copies of two values.
+#[cycle(copies)]
+fn copied_pair(first: &Plain, second: &Plain, alloc: Global) -> Result<Plain, AllocError>
+    ensures { IfOk result (λ copy. plain_of copy ≡ PairV (plain_of first.now) (plain_of second.now)) }
+{
+    let first = copied(first, alloc)?;
+    let second = copied(second, alloc)?;
+    pair_of(first, second, alloc)
+}
+
+/// The copies of values in a row.
+#[cycle(copies)]
+fn all_copied(values: &[Plain], alloc: Global) -> Result<Vec<Plain>, AllocError>
+    ensures { IfOk result (λ copies. plains_of copies.items ≡ plains_of values.now) }
+{
+    let mut copies = Vec::new(alloc);
+    for value in values {
+        let copy = copied(value, alloc)?;
+        copies.push(copy)?;
+    }
+    Ok(copies)
+}
+
+/// A copy of a text.
+pub(crate) fn copied_text(text: &Text, alloc: Global) -> Result<Text, AllocError>
+    ensures { IfOk result (λ copy. bytes_of copy ≡ bytes_of text.now) }
+{
+    let bytes = text.as_bytes().to_vec(alloc)?;
+    Ok(Text::new(bytes))
+}
+
+/// A copy of the value of a local; of one that isn't there it is `()`, as in the definitions.
+pub(crate) fn local(locals: &[Plain], id: LocalId, alloc: Global) -> Result<Plain, AllocError>
+    ensures { IfOk result (λ value. plain_of value ≡ meant.local (plains_of locals.now) id.0) }
+{
+    match locals.get(id.0) {
+        Some(value) => copied(value, alloc),
+        None => Ok(Plain::UnitValue),
+    }
+}
+
+/// Copies of the locals, with these behind them.
+pub(crate) fn with_locals(
+    locals: &[Plain],
+    more: Vec<Plain>,
+    alloc: Global,
+) -> Result<Vec<Plain>, AllocError>
+    ensures { IfOk result (λ all. plains_of all.items ≡ meant.join (plains_of locals.now) (plains_of more.items)) }
+{
+    let mut all = all_copied(locals, alloc)?;
+    let mut more = more;
+    all.append(&mut more)?;
+    Ok(all)
+}
+
+/// Copies of the locals, with this one behind them.
+pub(crate) fn with_local(
+    locals: &[Plain],
+    value: Plain,
+    alloc: Global,
+) -> Result<Vec<Plain>, AllocError>
+    ensures { IfOk result (λ all. plains_of all.items ≡ meant.join (plains_of locals.now) (AndV (plain_of value) NoV)) }
+{
+    let mut all = all_copied(locals, alloc)?;
+    all.push(value)?;
+    Ok(all)
+}

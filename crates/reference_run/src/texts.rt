@@ -1,0 +1,76 @@
+// Operations on texts.
+ghost use Rattle.std.specs.Prelude.{◌≡◌, ◌≤◌, ◌++◌, ℕ, List, true, pos, length};
+ghost use Rattle.std.specs.Str.{is_utf8};
+ghost use Rattle.core_terms.specs.LanguagePrograms.{meaning};
+ghost use Rattle.core_terms.specs.Types.{TextTy};
+ghost use Rattle.core_terms.specs.Values.{BoolV, IntV, TextV};
+ghost use Rattle.ideal_meaning.specs.Ideal.{Opened};
+ghost use Rattle.ideal_meaning.specs.Run as meant;
+ghost use Rattle.reference_run.specs.PlainValues.{plain_of};
+ghost use Rattle.reference_run.specs.Telling.{GoesOn, Tells, pair_values};
+
+use crate::stop::Stop;
+use crate::values::{Plain, text_in};
+use core_terms::language::{Program, TextCompare};
+use core_terms::{Text, Trap};
+use std::alloc::Global;
+
+/// The number of bytes of the length in the spelling of a text.
+const TEXT_LENGTH_SIZE: usize = 4;
+
+/// The number of bytes of a text.
+pub(crate) fn len(operand: Result<Plain, Stop>) -> Result<Plain, Stop>
+    ensures { GoesOn plain_of (λ v k seen. meant.Gives (IntV (pos (length (meant.text_in v)))) k seen) operand result }
+{
+    let text = operand?;
+    Ok(Plain::IntValue(text_in(&text).len() as i64))
+}
+
+/// Whether a comparison of two texts holds.
+pub(crate) fn compare_texts(
+    op: TextCompare,
+    operands: Result<(Plain, Plain), Stop>,
+) -> Result<Plain, Stop>
+    ensures { GoesOn pair_values (λ xy k seen. meant.Gives (BoolV (meant.text_compare_of op (meant.text_in xy.0) (meant.text_in xy.1))) k seen) operands result }
+{
+    let (x, y) = operands?;
+    Ok(Plain::BoolValue(compared(op, text_in(&x), text_in(&y))))
+}
+
+/// Two texts, joined, where that is within the limits.
+pub(crate) fn cat(
+    program: &Program,
+    operands: Result<(Plain, Plain), Stop>,
+    alloc: Global,
+) -> Result<Plain, Stop>
+    ensures { GoesOn pair_values (λ xy k seen. meant.limited (meaning program.now).format.limit (meaning program.now).types TextTy (TextV (meant.text_in xy.0 ++ meant.text_in xy.1)) k seen) operands result }
+{
+    let (x, y) = operands?;
+    joined(program, text_in(&x), text_in(&y), alloc)
+}
+
+/// Two texts, joined, where that is within the limits.
+fn joined(program: &Program, x: &[u8], y: &[u8], alloc: Global) -> Result<Plain, Stop>
+    requires first { is_utf8 x.now ≡ true }
+    requires second { is_utf8 y.now ≡ true }
+    requires first_fits { length x.now ≤ 65532 }
+    requires second_fits { length y.now ≤ 65532 }
+    ensures { (k : ℕ) (seen : List Opened) → Tells plain_of k result (meant.limited (meaning program.now).format.limit (meaning program.now).types TextTy (TextV (x.now ++ y.now)) k seen) }
+{
+    if TEXT_LENGTH_SIZE + x.len() + y.len() > program.spelling_limit() {
+        return Err(Stop::Trapped(Trap::TooBig));
+    }
+    let mut bytes = x.to_vec(alloc)?;
+    bytes.extend_from_slice(y)?;
+    Ok(Plain::TextValue(Text::new(bytes)))
+}
+
+/// Whether a comparison of two texts holds, by their bytes.
+fn compared(op: TextCompare, x: &[u8], y: &[u8]) -> bool
+    ensures { result ≡ meant.text_compare_of op x.now y.now }
+{
+    match op {
+        TextCompare::Eq => x == y,
+        TextCompare::Lt => x < y,
+    }
+}

@@ -1,0 +1,123 @@
+// Ideal values as trees, and what is in them.
+//
+// The readers are total, as those of the definitions: of a value of another kind, which no typed program has there, they give
+// what the definitions give.
+ghost use Rattle.std.specs.Prelude.{◌≡◌, ◌≤◌, true, length, IfOk};
+ghost use Rattle.std.specs.Str.{is_utf8};
+ghost use Rattle.core_terms.specs.Values.{PairV};
+ghost use Rattle.core_terms.specs.Texts.{bytes_of};
+ghost use Rattle.ideal_meaning.specs.Run as meant;
+ghost use Rattle.reference_run.specs.PlainValues.{plain_of, plains_of, text_bytes};
+
+use core_terms::Text;
+use core_terms::language::Tag;
+use std::alloc::{AllocError, Global};
+
+/// An ideal value. An ideal value of `auth t` is one of `t`.
+#[derive(Drop)]
+pub enum Plain {
+    /// The value `()`.
+    UnitValue,
+    /// A bool.
+    BoolValue(bool),
+    /// An int.
+    IntValue(i64),
+    /// A text: UTF-8 of at most 65,532 bytes.
+    TextValue(Text),
+    /// A pair.
+    PairValue(Box<Plain>, Box<Plain>),
+    /// A value of a named type: the number of its constructor, and its fields.
+    ConstructorValue(Tag, Vec<Plain>),
+}
+
+/// The pair of two values. An error says that memory was wanting.
+pub(crate) fn pair_of(first: Plain, second: Plain, alloc: Global) -> Result<Plain, AllocError>
+    ensures { IfOk result (λ pair. plain_of pair ≡ PairV (plain_of first) (plain_of second)) }
+{
+    let first = Box::new(alloc, first)?;
+    let second = Box::new(alloc, second)?;
+    Ok(Plain::PairValue(first, second))
+}
+
+/// The bool that a value is.
+pub(crate) fn bool_in(value: &Plain) -> bool
+    ensures { result ≡ meant.bool_in (plain_of value.now) }
+{
+    match value {
+        Plain::BoolValue(value) => *value,
+        _ => false,
+    }
+}
+
+/// The int that a value is.
+pub(crate) fn int_in(value: &Plain) -> i64
+    ensures { result ≡ meant.int_in (plain_of value.now) }
+{
+    match value {
+        Plain::IntValue(value) => *value,
+        _ => 0,
+    }
+}
+
+/// The bytes of the text that a value is.
+#[tactic(auto, using(crate::proofs::EmptyText::no_bytes))]
+pub(crate) fn text_in(value: &Plain) -> &[u8]
+    ensures text { result.now ≡ meant.text_in (plain_of value.now) }
+    ensures utf8 { is_utf8 result.now ≡ true }
+    ensures fits { length result.now ≤ 65532 }
+{
+    match text_of(value) {
+        Some(text) => text.as_bytes(),
+        None => &[],
+    }
+}
+
+/// The text that a value is, if it is one.
+fn text_of(value: &Plain) -> Option<&Text>
+    ensures { text_bytes result ≡ meant.text_in (plain_of value.now) }
+{
+    match value {
+        Plain::TextValue(text) => Some(text),
+        _ => None,
+    }
+}
+
+/// The first of the pair that a value is.
+pub(crate) fn first_in(value: Plain) -> Plain
+    ensures { plain_of result ≡ meant.first_in (plain_of value) }
+{
+    match value {
+        Plain::PairValue(first, _) => Box::into_inner(first),
+        _ => Plain::UnitValue,
+    }
+}
+
+/// The second of the pair that a value is.
+pub(crate) fn second_in(value: Plain) -> Plain
+    ensures { plain_of result ≡ meant.second_in (plain_of value) }
+{
+    match value {
+        Plain::PairValue(_, second) => Box::into_inner(second),
+        _ => Plain::UnitValue,
+    }
+}
+
+/// The number of the constructor that a value was made by.
+pub(crate) fn tag_in(value: &Plain) -> usize
+    ensures { result ≡ meant.tag_in (plain_of value.now) }
+{
+    match value {
+        Plain::ConstructorValue(tag, _) => usize::from(tag.0),
+        _ => 0,
+    }
+}
+
+/// The fields that a constructor's value was made of.
+pub(crate) fn fields_in(value: Plain, alloc: Global) -> Vec<Plain>
+    ensures { plains_of result.items ≡ meant.fields_in (plain_of value) }
+{
+    match value {
+        Plain::ConstructorValue(_, fields) => fields,
+        _ => Vec::new(alloc),
+    }
+}

@@ -1,0 +1,162 @@
+// The verifier as a mode of the machine.
+ghost use Rattle.std.specs.Prelude.{◌≡◌};
+ghost use Rattle.core_terms.specs.LanguagePrograms.{meaning};
+ghost use Rattle.lam_outside.specs.Causes.{Rose};
+ghost use Rattle.proof_stream.specs.Readers.{limit_of};
+ghost use Rattle.value_store.specs.Markings.{VerifierMarking};
+ghost use Rattle.stream_verifier.specs.Faults.{fault_cause};
+ghost use Rattle.stream_verifier.specs.Takings.{FollowsFrames, MovesOn};
+
+use crate::opening::{Asked, held_digest, open_piece, stop_of};
+use core_terms::language::Program;
+use core_terms::{Cause, Hash32, TyId};
+use lam_outside::Source;
+use mode_vm::{Mode, Stop};
+use proof_stream::{Frame, FrameReader};
+use reuse_buffer::Ring;
+use shallow_codec::spell;
+use std::alloc::Global;
+use std::marker::PhantomData;
+use value_store::{Held, Nodes, Ref};
+
+/// Why the verifier stops a run.
+#[derive(Clone, Copy)]
+pub enum VerifierFault {
+    /// The proof is rejected, for this cause.
+    Rejected(Cause),
+    /// The source failed, and its count of faults rose.
+    ReadFault,
+}
+
+/// The verifier over a source of frames: `auth` digests the spelling of the value in hand, `unauth` takes the next piece.
+///
+/// Of the proof it holds the piece in hand and the ring, and no more.
+#[derive(Drop)]
+pub struct Verifier<H, S> {
+    reader: FrameReader,
+    ring: Ring,
+    place: u64,
+    hash: PhantomData<H>,
+    source: PhantomData<S>,
+}
+
+impl<H: Hash32, S: Source> Verifier<H, S> {
+    /// A verifier before its first piece, which may have at most `limit` bytes, with the pieces that came before.
+    pub fn new(alloc: Global, limit: usize, ring: Ring) -> Self
+        ensures limit { limit_of result.reader ≡ limit }
+        ensures ring { result.ring ≡ ring }
+        ensures place { result.place ≡ 0 }
+    {
+        Verifier {
+            reader: FrameReader::new(alloc, limit),
+            ring,
+            place: 0,
+            hash: PhantomData,
+            source: PhantomData,
+        }
+    }
+
+    /// The ring, as the run left it.
+    pub fn into_ring(self) -> Ring
+        ensures { result ≡ self.ring }
+    {
+        let Verifier {
+            reader,
+            ring,
+            place: _,
+            hash: _,
+            source: _,
+        } = self;
+        drop(reader);
+        ring
+    }
+}
+
+impl<H: Hash32, S: Source> Mode for Verifier<H, S> {
+    ghost use Rattle.stream_verifier.specs.Moving.{moves_not, moves_on};
+
+    type Fault = VerifierFault;
+
+    type World = S;
+
+    ghost marking = { VerifierMarking H.hash };
+
+    ghost Follows = { λ p mode world nodes w. FollowsFrames (meaning p) (limit_of mode.reader) mode.ring mode.place (S.left world) w };
+
+    ghost cause = { fault_cause };
+
+    ghost faults = { λ world. S.faults world };
+
+    ghost Rose = { Rose };
+
+    ghost Rest = { S.Rest };
+
+    ghost rest = { λ world. S.rest world };
+
+    ghost Moves = { λ P a v b w. MovesOn (limit_of a.reader) a.ring (S.left v) (limit_of b.reader) b.ring (S.left w) };
+
+    ghost moves_not = { λ P a v. moves_not (limit_of a.reader) a.ring (S.left v) };
+
+    ghost moves_on = { λ P a b c v w x h k.
+        moves_on (limit_of a.reader) a.ring (S.left v) (limit_of b.reader) b.ring (S.left w) (limit_of c.reader) c.ring (S.left x) h k };
+
+    ghost opened = { λ mode. mode.place };
+
+    ghost follows_on = { λ p mode world old new w k h. h };
+
+    fn auth<N: Nodes>(
+        &mut self,
+        program: &Program,
+        store: &mut N,
+        ty: TyId,
+        v: Ref,
+    ) -> Result<Ref, Stop<VerifierFault>> {
+        let Ok(spelling) = spell(store.alloc(), program, store, v, ty) else {
+            return Err(Stop::NoMemory);
+        };
+        let digest = H::of(spelling.as_bytes());
+        match store.put_auth(Held::Only(digest)) {
+            Ok(r) => Ok(r),
+            Err(_) => Err(Stop::NoMemory),
+        }
+    }
+
+    fn unauth<N: Nodes>(
+        &mut self,
+        world: &mut S,
+        program: &Program,
+        store: &mut N,
+        ty: TyId,
+        v: Ref,
+    ) -> Result<Ref, Stop<VerifierFault>> {
+        let asked = Asked {
+            place: self.place,
+            want: held_digest(store, v),
+        };
+        match self.reader.next(world) {
+            Ok(Frame::New) => {
+                let piece = self.reader.take_piece();
+                let found = H::of(&piece);
+                let fresh = open_piece(program, store, ty, asked, &piece, found)?;
+                self.ring.push(piece);
+                self.place += 1;
+                Ok(fresh)
+            }
+            Ok(Frame::Back(k)) => {
+                let held = self.ring.held() as u16;
+                let Some(piece) = self.ring.get(k) else {
+                    return Err(Stop::Mode(VerifierFault::Rejected(Cause::BadUse(
+                        asked.place,
+                        k,
+                        held,
+                    ))));
+                };
+                let kept = H::of(piece);
+                let used = open_piece(program, store, ty, asked, piece, kept)?;
+                self.place += 1;
+                Ok(used)
+            }
+            Err(end) => Err(stop_of(end, asked.place)),
+        }
+    }
+}
