@@ -2,6 +2,7 @@ use Rattle.std.proofs.Common.{sym, ap, ◌∙◌}
 use Rattle.core_terms.specs.LanguagePrograms.{meaning, types_of}
 use Rattle.core_terms.specs.Projection.{read_at}
 use Rattle.core_terms.specs.TypeTables.{type_at}
+use Rattle.value_store.specs.Stores.{nodes_in}
 use Rattle.auth_cli.specs.ReadPrograms.{language_named}
 use Rattle.auth_cli.proofs.PutArguments.{literal_goes_on, literal_refused_for, put_refused, put_stands}
 use Rattle.auth_cli.proofs.machine_calls.put_argument.Goals as goal
@@ -27,4 +28,4 @@ pub unreachable-requires : goal.unreachable-requires
 unreachable-requires c =
     let p = c.args.program.now in
     let t = type_at (types_of p) c.args.ty in
-    absurd (put_refused p t c.args.text.now c.in_ok-spelling.spelling c.in_ok-spelling.ensures _ c.as_bytes.result.now _ _ c.as_bytes.ensures c.in-Err-Bad.field-0-is c.in-Err-Bad.ensures.value)
+    absurd (put_refused p t c.args.text.now c.in_ok-spelling.spelling c.in_ok-spelling.ensures (nodes_in c.unspell.new.store) c.as_bytes.result.now _ _ c.as_bytes.ensures c.in-Err-Bad.field-0-is c.in-Err-Bad.ensures.value)
