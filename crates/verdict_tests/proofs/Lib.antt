@@ -1,0 +1,2 @@
+-- `reading` of verdicts: a role that reads the state takes it
+pub mod StateRoles
