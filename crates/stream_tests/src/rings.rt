@@ -98,3 +98,39 @@ fn a_great_ring_answers_as_a_plain_search(rt: HostRuntime) -> Result<(), Fail> {
     }
     Ok(())
 }
+
+/// Whether so many look-ups find their piece, one after another among all pieces of a full ring.
+fn finds_each(alloc: Global, size: u16, look_ups: u16) -> Result<bool, AllocError>
+    requires { size ≤ 1024 }
+{
+    let mut ring = Ring::with_size(alloc, size)?;
+    for number in 0..size {
+        ring.push(Vec::from_slice(alloc, &number.to_be_bytes())?);
+    }
+    for look_up in 0..look_ups {
+        let number = look_up % size.max(1);
+        let place = size.wrapping_sub(number).wrapping_sub(1);
+        if ring.place_of(&number.to_be_bytes()) != Some(place) {
+            return Ok(false);
+        }
+    }
+    Ok(true)
+}
+
+#[test]
+fn each_piece_among_16_is_found(rt: HostRuntime) -> Result<(), Fail> {
+    assert!(rt; finds_each(rt.alloc(), 16, 20_480)?);
+    Ok(())
+}
+
+#[test]
+fn each_piece_among_128_is_found(rt: HostRuntime) -> Result<(), Fail> {
+    assert!(rt; finds_each(rt.alloc(), 128, 20_480)?);
+    Ok(())
+}
+
+#[test]
+fn each_piece_among_1024_is_found(rt: HostRuntime) -> Result<(), Fail> {
+    assert!(rt; finds_each(rt.alloc(), 1024, 20_480)?);
+    Ok(())
+}
