@@ -1,5 +1,5 @@
 // The ideal mode.
-ghost use Rattle.std.specs.Prelude.{Some, None};
+ghost use Rattle.std.specs.Prelude.{None};
 ghost use Rattle.value_store.specs.Markings.{IdealMarking};
 
 use crate::mode::{Mode, Stop};

@@ -1,5 +1,5 @@
 // The virtual machine, over a mode.
-ghost use Rattle.std.specs.Prelude.{◌≡◌, ◌<◌, ◌≤◌, ◌+◌, ◌^◌, ℕ, List, suc, true, false, [], ◌-◌, IfOk, OnOk, length, Option};
+ghost use Rattle.std.specs.Prelude.{◌≡◌, ◌<◌, ◌≤◌, ◌+◌, ◌^◌, List, suc, true, IfOk, OnOk, length};
 ghost use Rattle.core_terms.specs.LanguagePrograms.{types_of};
 ghost use Rattle.core_terms.specs.Types.{Ty};
 ghost use Rattle.core_terms.specs.Values.{Values};
@@ -9,7 +9,7 @@ ghost use Rattle.value_store.specs.Nodes.{Node};
 ghost use Rattle.value_store.specs.Standing.{Keeps};
 ghost use Rattle.code_gen.specs.Programs.{program_in};
 ghost use Rattle.code_gen.specs.CodeTrees.{instruction_of};
-ghost use Rattle.mode_vm.specs.Meanings.{CauseOf, RunOf, StateOf, mode_of, program_of};
+ghost use Rattle.mode_vm.specs.Meanings.{RunOf, StateOf, mode_of, program_of};
 
 use crate::mode::{Mode, Stop};
 use crate::state::{State, Step};
