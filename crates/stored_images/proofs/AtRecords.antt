@@ -16,4 +16,5 @@ pub at_record : (marking : Marking) (p : Types) (nodes : List Node) (entries : L
     → IsLoaded marking (types_meaning p) (types_by_number p) nodes (λ go. checked_entry (types_meaning p) file_size number (stands_for (types_meaning p).types entries (record_told other)) go) result
     → IsLoaded marking (types_meaning p) (types_by_number p) nodes (λ go. checked_entry (types_meaning p) file_size number (stands_for (types_meaning p).types entries (record_told found)) go) result
 at_record marking p nodes entries file_size number found other result is h =
-    subst (λ other. IsLoaded marking (types_meaning p) (types_by_number p) nodes (λ go. checked_entry (types_meaning p) file_size number (stands_for (types_meaning p).types entries (record_told other)) go) result) (sym is) h
+    subst (λ other. IsLoaded marking (types_meaning p) (types_by_number p) nodes (λ go. checked_entry (types_meaning p) file_size number
+    (stands_for (types_meaning p).types entries (record_told other)) go) result) (sym is) h

@@ -65,7 +65,8 @@ module _ (marking : Marking) (p : Types) (nodes : List Node) (records : List Sto
         ∙ ap (λ o. checked_entry (types_meaning p) file_size number (option_map (λ b. pair_from first_entry.0 b) o) go) second_entry.1
 
     pair_type : PairTy (type_at (types_by_number p) a.ty) (type_at (types_by_number p) b.ty) ≡ PairTy first_entry.0.of_type second_entry.0.of_type
-    pair_type = ap₂ PairTy (type_is marking (types_meaning p) (types_by_number p) nodes a first_entry.0 first_entry.2) (type_is marking (types_meaning p) (types_by_number p) nodes b second_entry.0 second_entry.2)
+    pair_type = ap₂ PairTy (type_is marking (types_meaning p) (types_by_number p) nodes a first_entry.0 first_entry.2)
+        (type_is marking (types_meaning p) (types_by_number p) nodes b second_entry.0 second_entry.2)
 
     pub pair_none : is_part (types_meaning p).types (PairTy (type_at (types_by_number p) a.ty) (type_at (types_by_number p) b.ty)) (types_meaning p).state ≡ false
         → (go : Entry → Loading) → at_pair first second go ≡ FaultyImage (BadRecord number)
@@ -77,7 +78,8 @@ module _ (marking : Marking) (p : Types) (nodes : List Node) (records : List Sto
       pair_part : is_part (types_meaning p).types (PairTy first_entry.0.of_type second_entry.0.of_type) (types_meaning p).state ≡ true
       pair_part = ap (λ t. is_part (types_meaning p).types t (types_meaning p).state) (sym pair_type) ∙ part
 
-      pair_size : size_at nodes a.value.0 + size_at nodes b.value.0 ≡ size (types_meaning p).types (PairTy first_entry.0.of_type second_entry.0.of_type) (PairV first_entry.0.value second_entry.0.value)
+      pair_size : size_at nodes a.value.0 + size_at nodes b.value.0 ≡ size (types_meaning p).types (PairTy first_entry.0.of_type second_entry.0.of_type)
+          (PairV first_entry.0.value second_entry.0.value)
       pair_size =
           ap₂ (λ m n. m + n) (size_is marking (types_meaning p) (types_by_number p) nodes a first_entry.0 first_entry.2 sound)
           (size_is marking (types_meaning p) (types_by_number p) nodes b second_entry.0 second_entry.2 sound)
@@ -102,14 +104,16 @@ module _ (marking : Marking) (p : Types) (nodes : List Node) (records : List Sto
         pub pair_loaded : 1 + max (depth_at nodes a.value.0) (depth_at nodes b.value.0) ≤ 512 → (new : List Node) (pair : StoredRecord)
             → slice_get (types_by_number p) pair.ty.0 ≡ Some (PairTy (type_at (types_by_number p) a.ty) (type_at (types_by_number p) b.ty))
             → (StandsFor (kind_of marking (types_meaning p)) (types_meaning p).types nodes a.value.0 first_entry.0.of_type (seen_as marking (types_meaning p) first_entry.0.of_type first_entry.0.value)
-            → StandsFor (kind_of marking (types_meaning p)) (types_meaning p).types nodes b.value.0 second_entry.0.of_type (seen_as marking (types_meaning p) second_entry.0.of_type second_entry.0.value)
+            → StandsFor (kind_of marking (types_meaning p)) (types_meaning p).types nodes b.value.0 second_entry.0.of_type
+            (seen_as marking (types_meaning p) second_entry.0.of_type second_entry.0.value)
             → StandsFor (kind_of marking (types_meaning p)) (types_meaning p).types new pair.value.0 (PairTy first_entry.0.of_type second_entry.0.of_type)
             (PairV (seen_as marking (types_meaning p) first_entry.0.of_type first_entry.0.value) (seen_as marking (types_meaning p) second_entry.0.of_type second_entry.0.value)))
             → IsLoaded marking (types_meaning p) (types_by_number p) new (at_pair first second) (Ok pair)
         pair_loaded shallow new pair of_type stands =
             loaded p file_size number (PairTy first_entry.0.of_type second_entry.0.of_type) (PairV first_entry.0.value second_entry.0.value) (at_pair first second) pair_there pair_part
             (subst (λ (n : ℕ). n ≤ 65536) pair_size small) (subst (λ (n : ℕ). n ≤ 512) pair_depth shallow) marking new pair
-            (PairV (seen_as marking (types_meaning p) first_entry.0.of_type first_entry.0.value) (seen_as marking (types_meaning p) second_entry.0.of_type second_entry.0.value)) (of_type ∙ ap Some pair_type)
+            (PairV (seen_as marking (types_meaning p) first_entry.0.of_type first_entry.0.value) (seen_as marking (types_meaning p) second_entry.0.of_type second_entry.0.value))
+            (of_type ∙ ap Some pair_type)
             (pair_seen marking (types_meaning p) first_entry.0.of_type second_entry.0.of_type first_entry.0.value second_entry.0.value) (stands first_entry.2.stands second_entry.2.stands)
 
   module _ (inner : ℕ) (a : StoredRecord) (at : Some a ≡ slice_get records inner) where
@@ -129,7 +133,8 @@ module _ (marking : Marking) (p : Types) (nodes : List Node) (records : List Sto
         no_part p file_size number (AuthTy inner_entry.0.of_type) inner_entry.0.value (at_auth inner) auth_there
         (ap (λ t. is_part (types_meaning p).types (AuthTy t) (types_meaning p).state) (sym inner_type) ∙ none)
 
-    pub inner_stands : StandsFor (kind_of marking (types_meaning p)) (types_meaning p).types nodes a.value.0 (type_at (types_by_number p) a.ty) (seen_as marking (types_meaning p) inner_entry.0.of_type inner_entry.0.value)
+    pub inner_stands : StandsFor (kind_of marking (types_meaning p)) (types_meaning p).types nodes a.value.0 (type_at (types_by_number p) a.ty)
+        (seen_as marking (types_meaning p) inner_entry.0.of_type inner_entry.0.value)
     inner_stands =
         subst (λ t. StandsFor (kind_of marking (types_meaning p)) (types_meaning p).types nodes a.value.0 t (seen_as marking (types_meaning p) inner_entry.0.of_type inner_entry.0.value)) (sym inner_type) inner_entry.2.stands
 

@@ -92,7 +92,8 @@ module _ (marking : Marking) (p : Types) (nodes : List Node) (sound : AreSound n
 
       pub constructor_loaded : 1 + greatest_depth nodes (numbers_of refs) ≤ 512 → (new : List Node) (made : StoredRecord)
           → slice_get (types_by_number p) made.ty.0 ≡ Some (NamedTy c.named.0)
-          → ((ts : List Ty) (vs : Values) → fields_at (types_meaning p).types c.named.0 c.tag.0 ≡ Some ts → AllStandFor (kind_of marking (types_meaning p)) (types_meaning p).types nodes (numbers_of refs) ts vs
+          → ((ts : List Ty) (vs : Values) → fields_at (types_meaning p).types c.named.0 c.tag.0 ≡ Some ts
+          → AllStandFor (kind_of marking (types_meaning p)) (types_meaning p).types nodes (numbers_of refs) ts vs
           → StandsFor (kind_of marking (types_meaning p)) (types_meaning p).types new made.value.0 (NamedTy c.named.0) (ConV c.tag.0 vs))
           → IsLoaded marking (types_meaning p) (types_by_number p) new at_constructor (Ok made)
       constructor_loaded shallow new made of_type stands =

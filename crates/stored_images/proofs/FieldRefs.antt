@@ -71,7 +71,8 @@ module _ (marking : Marking) (p : Types) (nodes : List Node) where
           (option_and_then (λ (r : StoredRecord). if nat_eq r.ty.0 id.0 then option_map (λ refs. r.value ∷ refs) (refs_from loaded is ids) else None) o)
           (fields_from entries (i ∷ is) (types_at (types_by_number p) (id ∷ ids)))
       found_field i is id ids below rest None at =
-          ap (option_and_then (λ e. if same_type e.of_type (type_at (types_by_number p) id) then option_map (λ vs. AndV e.value vs) (fields_from entries is (types_at (types_by_number p) ids)) else None))
+          ap (option_and_then (λ e. if same_type e.of_type (type_at (types_by_number p) id) then option_map (λ vs. AndV e.value vs)
+          (fields_from entries is (types_at (types_by_number p) ids)) else None))
           (none_there marking (types_meaning p) (types_by_number p) nodes loaded entries stored i at)
       found_field i is id ids below rest (Some r) at =
           let there = stored_there marking (types_meaning p) (types_by_number p) nodes loaded entries stored i r at in
@@ -79,9 +80,11 @@ module _ (marking : Marking) (p : Types) (nodes : List Node) where
           same_types p r.ty.0 id.0 there.0.of_type (type_at (types_by_number p) id) there.2.of_type (slice_get-get_or (types_by_number p) id.0 UnitTy (ltb-true _ _ below)) in
           let found : fields_from entries (i ∷ is) (types_at (types_by_number p) (id ∷ ids))
           ≡ (if nat_eq r.ty.0 id.0 then option_map (λ vs. AndV there.0.value vs) (fields_from entries is (types_at (types_by_number p) ids)) else None) =
-          ap (option_and_then (λ e. if same_type e.of_type (type_at (types_by_number p) id) then option_map (λ vs. AndV e.value vs) (fields_from entries is (types_at (types_by_number p) ids)) else None)) there.1
+          ap (option_and_then (λ e. if same_type e.of_type (type_at (types_by_number p) id) then option_map (λ vs. AndV e.value vs)
+          (fields_from entries is (types_at (types_by_number p) ids)) else None)) there.1
           ∙ ap (λ b. if b then option_map (λ vs. AndV there.0.value vs) (fields_from entries is (types_at (types_by_number p) ids)) else None) same in
-          subst (λ values. FieldsStand (types_at (types_by_number p) (id ∷ ids)) (if nat_eq r.ty.0 id.0 then option_map (λ refs. r.value ∷ refs) (refs_from loaded is ids) else None) values) (sym found)
+          subst (λ values. FieldsStand (types_at (types_by_number p) (id ∷ ids)) (if nat_eq r.ty.0 id.0 then option_map (λ refs. r.value ∷ refs) (refs_from loaded is ids) else None) values)
+          (sym found)
           (one_field (type_at (types_by_number p) id) (types_at (types_by_number p) ids) r there.0 there.2 (nat_eq r.ty.0 id.0)
           (λ e. same_sound there.0.of_type (type_at (types_by_number p) id) (same ∙ e)) (refs_from loaded is ids) (fields_from entries is (types_at (types_by_number p) ids)) rest)
 

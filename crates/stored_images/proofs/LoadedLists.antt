@@ -67,7 +67,8 @@ module _ (marking : Marking) (p : Types) (file_size count : ℕ) (all : List ℕ
   module _ (front : Front) (read : read_record (field_count (types_meaning p) file_size) rest ≡ ReadRecord (record_told front.record) front.rest.now)
       (lent : List StoredRecord) (same : lent ≡ records) (new : List Node) (result : Result StoredRecord ImageFault)
       (loads : (entries : List Entry) → AreStored marking (types_meaning p) (types_by_number p) nodes lent entries → (size : ℕ)
-      → IsLoaded marking (types_meaning p) (types_by_number p) new (λ go. checked_entry (types_meaning p) size number (stands_for (types_meaning p).types entries (record_told front.record)) go) result) where
+      → IsLoaded marking (types_meaning p) (types_by_number p) new
+      (λ go. checked_entry (types_meaning p) size number (stands_for (types_meaning p).types entries (record_told front.record)) go) result) where
     loaded_next : IsLoaded marking (types_meaning p) (types_by_number p) new (at_front p file_size count number so_far.0 rest so_far.1 more front read) result
     loaded_next = loads so_far.0 (subst (λ records. AreStored marking (types_meaning p) (types_by_number p) nodes records so_far.0) (sym same) so_far.2) file_size
 
@@ -85,6 +86,7 @@ module _ (marking : Marking) (p : Types) (file_size count : ℕ) (all : List ℕ
           so_far.0 ++ one.0 ∷ [],
           length-append so_far.0 (one.0 ∷ []) ∙ ap (λ n. n + 1) so_far.1,
           subst (λ records. AreStored marking (types_meaning p) (types_by_number p) new records (so_far.0 ++ one.0 ∷ [])) (sym is_pushed)
-              (stored_more marking (types_meaning p) (types_by_number p) new records so_far.0 (stored_kept marking (types_meaning p) (types_by_number p) nodes new keeps records so_far.0 so_far.2) r one.0 one.1),
+              (stored_more marking (types_meaning p) (types_by_number p) new records so_far.0
+              (stored_kept marking (types_meaning p) (types_by_number p) nodes new keeps records so_far.0 so_far.2) r one.0 one.1),
           stored_next p file_size count number so_far.0 rest so_far.1 more front read one.0 one.2 ∙ so_far.3,
         )

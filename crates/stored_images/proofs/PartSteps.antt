@@ -16,7 +16,8 @@ use Rattle.stored_images.proofs.PartMarking.{marked_within}
 
 module _ (p : Types) where
   -- the first level is spread from the state's type
-  pub first_level : (state : ℕ) (old new : List Bool) → type_of p state ≡ (types_meaning p).state → length old ≡ length (types_by_number p) → IsMarked old state → ((i : ℕ) → IsMarked old i → i ≡ state)
+  pub first_level : (state : ℕ) (old new : List Bool) → type_of p state ≡ (types_meaning p).state → length old ≡ length (types_by_number p) → IsMarked old state
+      → ((i : ℕ) → IsMarked old i → i ≡ state)
       → IsSpread p old new → AreLevelMarks p 0 new
   first_level state old new is same marked only spread = (spread.0 ∙ same, sound, complete)
     where
@@ -48,7 +49,8 @@ module _ (p : Types) where
         (numbered_field p i named.0 (subst (λ t. IsOfField (constructors_in p t) (length (constructors_in p t)) i) named.1 opened.3)) part
 
     -- and a field of a named type that is found is opened
-    is_opened : (n : ℕ) (f : Ty) → IsPart (types_meaning p).types level (NamedTy n) (types_meaning p).state → IsField (types_meaning p).types f n → (i : ℕ) × IsOpened p old (length old) i × (type_of p i ≡ f)
+    is_opened : (n : ℕ) (f : Ty) → IsPart (types_meaning p).types level (NamedTy n) (types_meaning p).state → IsField (types_meaning p).types f n
+        → (i : ℕ) × IsOpened p old (length old) i × (type_of p i ≡ f)
     is_opened n f found field =
         let whole = now.2 (NamedTy n) found in
         let number = field_number p f n field in (

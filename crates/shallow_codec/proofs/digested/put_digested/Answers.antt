@@ -37,7 +37,9 @@ returns-clause-stands g c =
     c.put_auth.ensures.stands
 
 pub returns-clause-grows : goal.returns-clause-grows
-returns-clause-grows g c = put_grows (g.N.Nodes.nodes c.args.store.now) (g.N.Nodes.nodes c.put_auth.new.self) (AuthNode (BothHeld c.of-digest.result.0 c.args.v.0)) c.put_auth.result c.put_auth.ensures.put
+returns-clause-grows g c = put_grows (g.N.Nodes.nodes c.args.store.now) (g.N.Nodes.nodes c.put_auth.new.self) (AuthNode (BothHeld c.of-digest.result.0 c.args.v.0)) c.put_auth.result
+    c.put_auth.ensures.put
 
 pub returns-clause-refused : goal.returns-clause-refused
-returns-clause-refused g c = put_refused (g.N.Nodes.nodes c.args.store.now) (g.N.Nodes.nodes c.put_auth.new.self) (AuthNode (BothHeld c.of-digest.result.0 c.args.v.0)) c.put_auth.result c.put_auth.ensures.put
+returns-clause-refused g c = put_refused (g.N.Nodes.nodes c.args.store.now) (g.N.Nodes.nodes c.put_auth.new.self) (AuthNode (BothHeld c.of-digest.result.0 c.args.v.0)) c.put_auth.result
+    c.put_auth.ensures.put
