@@ -1,5 +1,6 @@
 -- What a step leads to, as what the machine will come to.
-use Rattle.std.proofs.Common.{◌≡◌, ℕ, ◌<◌, Bool, List, Option, Ok, sym, ap, ◌∙◌, subst, arith}
+use Rattle.std.specs.Prelude.{OnOk}
+use Rattle.std.proofs.Common.{◌≡◌, ℕ, ◌<◌, Bool, List, Option, Result, Ok, Err, sym, ap, ◌∙◌, subst, arith}
 use Rattle.core_terms.specs.Types.{Ty}
 use Rattle.core_terms.specs.Terms.{Program}
 use Rattle.core_terms.specs.declared.outcome.Outcome.{Outcome}
@@ -62,3 +63,8 @@ fewer_left E m P z nodes new_nodes before after cs shows entered is (Ended outco
 
 pub goes_fewer : (step : Step) (A E : Type 0) → step ≡ Paused → OnGoes {E = E} (Ok step) A → A
 goes_fewer step A E e h = subst (λ s. OnGoes {E = E} (Ok s) A) e h
+
+-- what holds in each case holds where there is a result
+pub on_ok : {A E B : Type 0} (result : Result A E) → B → OnOk result B
+on_ok (Ok a) h = h
+on_ok (Err e) h = tt

@@ -32,6 +32,8 @@ impl Mode for IdealMode {
 
     ghost opened = { λ mode. 0 };
 
+    ghost Knows = { λ t mode nodes. Unit {0} };
+
     ghost Rest = { Unit {0} };
 
     ghost rest = { λ world. tt };
@@ -43,6 +45,8 @@ impl Mode for IdealMode {
     ghost moves_on = { λ a b c v w x h k. tt };
 
     ghost follows_on = { λ t mode world old new w k h. h };
+
+    ghost knows_on = { λ t mode old new k h. h };
 
     fn auth<N: Nodes>(
         &mut self,

@@ -106,6 +106,7 @@ impl<M: Mode> Machine<M> {
             × IsNext (instruction_of (types_of (program_in code.now)) (Instruction.Unauth ty)) cs.top }
         requires entered { self.old.state.entered ≡ true }
         requires few { M.opened self.old.mode < 2 ^ 63 }
+        requires knows { M.Knows (program_in code.now).types self.old.mode (N.nodes store.old) }
         requires room { self.old.state.top.place + 1 < 2 ^ 64 }
         ensures stands { (z : Ty) (cs : ValueStack) → Represents M.marking (program_of code.now) z (N.nodes store.old) self.old.state cs
             → IsNext (instruction_of (types_of (program_in code.now)) (Instruction.Unauth ty)) cs.top
@@ -122,6 +123,7 @@ impl<M: Mode> Machine<M> {
         ensures faults { Counts M.cause M.Rose (M.faults world.old) (M.faults world.new) result }
         ensures rest { M.rest world.new ≡ M.rest world.old }
         ensures moves { OnOk result (M.Moves self.old.mode world.old self.new.mode world.new) }
+        ensures knows { OnOk result (M.Knows (program_in code.now).types self.new.mode (N.nodes store.new)) }
     {
         let v = self.state.pop_top();
         match self.mode.unauth(world, code.types(), store, ty, v) {
@@ -142,6 +144,7 @@ impl<M: Mode> Machine<M> {
     ) -> Result<Step, Stop<M::Fault>>
         requires ready { (z : Ty) × Ready M.marking (program_of code.now) z (N.nodes store.old) self.old.state }
         requires few { M.opened self.old.mode < 2 ^ 63 }
+        requires knows { M.Knows (program_in code.now).types self.old.mode (N.nodes store.old) }
         ensures stands { (z : Ty) → Ready M.marking (program_of code.now) z (N.nodes store.old) self.old.state
             → StepStands M.marking (program_of code.now) z (N.nodes store.new) self.new.state result }
         ensures is { (z : Ty) (w : StateOf M.marking) (run : RunOf M.marking) → M.Follows (program_in code.now).types self.old.mode world.old (N.nodes store.old) w
@@ -155,6 +158,7 @@ impl<M: Mode> Machine<M> {
         ensures faults { Counts M.cause M.Rose (M.faults world.old) (M.faults world.new) result }
         ensures rest { M.rest world.new ≡ M.rest world.old }
         ensures moves { OnOk result (M.Moves self.old.mode world.old self.new.mode world.new) }
+        ensures knows { OnOk result (M.Knows (program_in code.now).types self.new.mode (N.nodes store.new)) }
     {
         if !self.state.entered {
             return Ok(self.state.enter());
@@ -180,6 +184,7 @@ impl<M: Mode> Machine<M> {
     ) -> Result<Step, Stop<M::Fault>>
         requires ready { (z : Ty) × Ready M.marking (program_of code.now) z (N.nodes store.old) self.old.state }
         requires few { OpensFew (M.opened self.old.mode) (program_of code.now) self.old.state }
+        requires knows { M.Knows (program_in code.now).types self.old.mode (N.nodes store.old) }
         requires some { 0 < units }
         ensures stands { (z : Ty) → Ready M.marking (program_of code.now) z (N.nodes store.old) self.old.state
             → StepStands M.marking (program_of code.now) z (N.nodes store.new) self.new.state result }
@@ -193,6 +198,7 @@ impl<M: Mode> Machine<M> {
         ensures faults { Counts M.cause M.Rose (M.faults world.old) (M.faults world.new) result }
         ensures rest { M.rest world.new ≡ M.rest world.old }
         ensures moves { OnOk result (M.Moves self.old.mode world.old self.new.mode world.new) }
+        ensures knows { OnOk result (M.Knows (program_in code.now).types self.new.mode (N.nodes store.new)) }
     {
         let start = self.state.fuel;
         loop {
@@ -216,6 +222,7 @@ impl<M: Mode> Machine<M> {
     ) -> Result<Outcome<Ref>, Stop<M::Fault>>
         requires ready { (z : Ty) × Ready M.marking (program_of code.now) z (N.nodes store.old) self.old.state }
         requires few { OpensFew (M.opened self.old.mode) (program_of code.now) self.old.state }
+        requires knows { M.Knows (program_in code.now).types self.old.mode (N.nodes store.old) }
         ensures stands { (z : Ty) → Ready M.marking (program_of code.now) z (N.nodes store.old) self.old.state → RunStands M.marking (program_of code.now) z (N.nodes store.new) result }
         ensures is { (z : Ty) (w : StateOf M.marking) (run : RunOf M.marking) → M.Follows (program_in code.now).types self.old.mode world.old (N.nodes store.old) w
             → WillRun M.marking (program_of code.now) z (N.nodes store.old) self.old.state w run
@@ -225,6 +232,7 @@ impl<M: Mode> Machine<M> {
         ensures faults { Counts M.cause M.Rose (M.faults world.old) (M.faults world.new) result }
         ensures rest { M.rest world.new ≡ M.rest world.old }
         ensures moves { OnOk result (M.Moves self.old.mode world.old self.new.mode world.new) }
+        ensures knows { OnOk result (M.Knows (program_in code.now).types self.new.mode (N.nodes store.new)) }
     {
         match self.run_slice(code, store, world, u64::MAX) {
             Ok(Step::Ended(outcome)) => Ok(outcome),

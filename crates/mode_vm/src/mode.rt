@@ -60,6 +60,9 @@ pub trait Mode: Drop {
     /// How many values were opened.
     ghost opened: { Self → ℕ };
 
+    /// What the mode knows of the nodes, whatever comes.
+    ghost Knows: { Typed → Self → List Node → Type 0 };
+
     /// Makes the authenticated value of a value.
     fn auth<N: Nodes>(
         &mut self,
@@ -88,6 +91,7 @@ pub trait Mode: Drop {
     ) -> Result<Ref, Stop<Self::Fault>>
         requires stands { (x : Value) × Stands marking (types_meaning types.now) (N.nodes store.old) v.0 (AuthTy (type_at (types_by_number types.now) ty)) x }
         requires few { opened self.old < 2 ^ 63 }
+        requires knows { Knows types.now self.old (N.nodes store.old) }
         ensures some { OpensSome marking (types_meaning types.now) (N.nodes store.new) (type_at (types_by_number types.now) ty) result }
         ensures opens { (x : Value) (w : StateOf marking) → Stands marking (types_meaning types.now) (N.nodes store.old) v.0 (AuthTy (type_at (types_by_number types.now) ty)) x
             → Follows types.now self.old world.old (N.nodes store.old) w
@@ -97,6 +101,7 @@ pub trait Mode: Drop {
         ensures faults { Counts cause Rose (faults world.old) (faults world.new) result }
         ensures rest { rest world.new ≡ rest world.old }
         ensures moves { OnOk result (Moves self.old world.old self.new world.new) }
+        ensures knows { OnOk result (Knows types.now self.new (N.nodes store.new)) }
         ensures opened { opened self.new ≤ suc (opened self.old) };
 
     /// A mode may stay as it is.
@@ -107,4 +112,7 @@ pub trait Mode: Drop {
 
     /// Putting nodes changes nothing.
     ghost follows_on: { (t : Typed) (mode : Self) (world : Self.World) (old new : List Node) (w : StateOf marking) → Keeps old new → Follows t mode world old w → Follows t mode world new w };
+
+    /// Nor what it knows.
+    ghost knows_on: { (t : Typed) (mode : Self) (old new : List Node) → Keeps old new → Knows t mode old → Knows t mode new };
 }

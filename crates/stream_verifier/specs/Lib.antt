@@ -5,3 +5,4 @@ pub mod CheckedRuns
 pub mod Verdicts
 pub mod CallParts
 pub mod Spelled
+pub mod LastReads

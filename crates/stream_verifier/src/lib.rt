@@ -7,6 +7,7 @@
 
 mod checked_runs;
 mod judge;
+mod last_read;
 mod opening;
 mod verdict;
 mod verifier;

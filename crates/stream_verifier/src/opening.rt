@@ -1,5 +1,5 @@
 // What the next piece of a proof opens.
-ghost use Rattle.std.specs.Prelude.{◌≡◌, ℕ, bytes_eq, option_map, Err};
+ghost use Rattle.std.specs.Prelude.{◌≡◌, ℕ, bytes_eq, option_map, Err, IfOk};
 ghost use Rattle.core_terms.specs.Formats.{Hash};
 ghost use Rattle.core_terms.specs.ProgramTypes.{types_by_number, types_meaning};
 ghost use Rattle.core_terms.specs.Projection.{digest_at};
@@ -15,9 +15,11 @@ ghost use Rattle.value_store.specs.Markings.{VerifierMarking};
 ghost use Rattle.value_store.specs.Standing.{Keeps, StandsFor, VerifierNodes};
 ghost use Rattle.value_store.specs.declared.node.Ref.{Ref as Refers};
 ghost use Rattle.mode_vm.specs.Openings.{Counts, OpensSome};
+ghost use Rattle.stream_verifier.specs.LastReads.{IsRead, KnowsLast};
 ghost use Rattle.stream_verifier.specs.Faults.{IsTold, end_told, fault_cause, stop_cause};
 ghost use Rattle.stream_verifier.specs.Takings.{PieceOpens, behind_piece};
 
+use crate::last_read::{LastRead, value_again};
 use crate::verifier::VerifierFault;
 use core_terms::language::Types;
 use core_terms::{Cause, Digest, TyId};
@@ -33,7 +35,8 @@ pub(crate) struct Asked {
     pub(crate) want: Digest,
 }
 
-/// Opens a piece, whose digest is `found`, as the one that is asked for at a type.
+/// Opens a piece, whose digest is `found`, as the one that is asked for at a type. Where it is the piece that was read last, it isn't
+/// read again.
 pub(crate) fn open_piece<N: Nodes>(
     types: &Types,
     store: &mut N,
@@ -41,11 +44,14 @@ pub(crate) fn open_piece<N: Nodes>(
     asked: Asked,
     piece: &[u8],
     found: Digest,
+    last: &Option<LastRead>,
 ) -> Result<Ref, Stop<VerifierFault>>
+    requires { KnowsLast types.now (N.nodes store.old) last.now }
     ensures some { (hash : Hash) → OpensSome (VerifierMarking hash) (types_meaning types.now) (N.nodes store.new) (type_at (types_by_number types.now) ty) result }
     ensures opens { (hash : Hash) (left : ℕ) (more : Offer) (w : Taking) → found.0 ≡ digest_at hash (types_meaning types.now) (type_at (types_by_number types.now) ty) piece.now
         → PieceOpens (types_meaning types.now) (N.nodes store.new) (type_at (types_by_number types.now) ty)
         (take_piece hash (types_meaning types.now) (type_at (types_by_number types.now) ty) asked.want.0 asked.place (Offers piece.now left more) w) (behind_piece asked.place left more) result }
+    ensures read { IfOk result (IsRead types.now (N.nodes store.new) ty piece.now) }
     ensures told { IsTold result }
     ensures keeps { Keeps (N.nodes store.old) (N.nodes store.new) }
     ensures lent { N.lent store.new ≡ N.lent store.old }
@@ -56,6 +62,9 @@ pub(crate) fn open_piece<N: Nodes>(
             asked.want,
             found,
         ))));
+    }
+    if let Some(value) = value_again(last, ty, piece) {
+        return Ok(value);
     }
     match unspell(store.alloc(), types, store, piece, ty) {
         Ok(r) => Ok(r),

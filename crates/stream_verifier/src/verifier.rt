@@ -1,5 +1,5 @@
 // The verifier as a mode of the machine.
-ghost use Rattle.std.specs.Prelude.{◌≡◌};
+ghost use Rattle.std.specs.Prelude.{◌≡◌, None};
 ghost use Rattle.core_terms.specs.ProgramTypes.{types_meaning};
 ghost use Rattle.lam_outside.specs.Causes.{Rose};
 ghost use Rattle.proof_stream.specs.Readers.{limit_of};
@@ -7,6 +7,7 @@ ghost use Rattle.value_store.specs.Markings.{VerifierMarking};
 ghost use Rattle.stream_verifier.specs.Faults.{fault_cause};
 ghost use Rattle.stream_verifier.specs.Takings.{FollowsFrames, MovesOn};
 
+use crate::last_read::{LastRead, note_read};
 use crate::opening::{Asked, held_digest, open_piece, stop_of};
 use core_terms::language::Types;
 use core_terms::{Cause, Hash32, TyId};
@@ -30,12 +31,14 @@ pub enum VerifierFault {
 
 /// The verifier over a source of frames: `auth` digests the spelling of the value in hand, `unauth` takes the next piece.
 ///
-/// Of the proof it holds the piece in hand and the ring, and no more.
+/// Of the proof it holds the piece in hand, the piece that was read last and the ring, and no more. A piece that comes again at once is
+/// digested, but its value isn't made a second time.
 #[derive(Drop)]
 pub struct Verifier<H, S> {
     reader: FrameReader,
     ring: Ring,
     place: u64,
+    last: Option<LastRead>,
     hash: PhantomData<H>,
     source: PhantomData<S>,
 }
@@ -46,11 +49,13 @@ impl<H: Hash32, S: Source> Verifier<H, S> {
         ensures limit { limit_of result.reader ≡ limit }
         ensures ring { result.ring ≡ ring }
         ensures place { result.place ≡ 0 }
+        ensures last { result.last ≡ None }
     {
         Verifier {
             reader: FrameReader::new(alloc, limit),
             ring,
             place: 0,
+            last: None,
             hash: PhantomData,
             source: PhantomData,
         }
@@ -64,15 +69,18 @@ impl<H: Hash32, S: Source> Verifier<H, S> {
             reader,
             ring,
             place: _,
+            last,
             hash: _,
             source: _,
         } = self;
         drop(reader);
+        drop(last);
         ring
     }
 }
 
 impl<H: Hash32, S: Source> Mode for Verifier<H, S> {
+    ghost use Rattle.stream_verifier.specs.LastReads.{KnowsLast, knows_last_on};
     ghost use Rattle.stream_verifier.specs.Moving.{moves_not, moves_on};
 
     type Fault = VerifierFault;
@@ -102,7 +110,11 @@ impl<H: Hash32, S: Source> Mode for Verifier<H, S> {
 
     ghost opened = { λ mode. mode.place };
 
+    ghost Knows = { λ t mode nodes. KnowsLast t nodes mode.last };
+
     ghost follows_on = { λ t mode world old new w k h. h };
+
+    ghost knows_on = { λ t mode old new k h. knows_last_on t mode.last old new k h };
 
     fn auth<N: Nodes>(
         &mut self,
@@ -137,7 +149,8 @@ impl<H: Hash32, S: Source> Mode for Verifier<H, S> {
             Ok(Frame::New) => {
                 let piece = self.reader.take_piece();
                 let found = H::of(&piece);
-                let fresh = open_piece(types, store, ty, asked, &piece, found)?;
+                let fresh = open_piece(types, store, ty, asked, &piece, found, &self.last)?;
+                note_read(&mut self.last, store.alloc(), ty, &piece, fresh);
                 self.ring.push(piece);
                 self.place += 1;
                 Ok(fresh)
@@ -152,7 +165,7 @@ impl<H: Hash32, S: Source> Mode for Verifier<H, S> {
                     ))));
                 };
                 let kept = H::of(piece);
-                let used = open_piece(types, store, ty, asked, piece, kept)?;
+                let used = open_piece(types, store, ty, asked, piece, kept, &self.last)?;
                 self.place += 1;
                 Ok(used)
             }

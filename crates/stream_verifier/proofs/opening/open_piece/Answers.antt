@@ -1,4 +1,4 @@
--- A piece with another digest, one that spells nothing, and one that is opened.
+-- A piece with another digest, one that spells nothing, one that is opened, and one that was read last.
 use Rattle.std.proofs.Common.{refl, sym, ap, ◌∙◌, ◌≡◌, true, false, bytes_eq, subst, Err}
 use Rattle.core_terms.specs.ProgramTypes.{types_by_number, types_meaning}
 use Rattle.core_terms.specs.TypeTables.{type_at}
@@ -45,3 +45,21 @@ returns-in-Ok-clause-opens g c hash left more w is =
     let same : bytes_eq (digest_at hash P t c.args.piece.now) want ≡ true = ap (λ d. bytes_eq d want) (sym is) ∙ sym c.are_same.ensures ∙ c.if-not-are_same.false in
     let v = c.in-Ok.ensures.value in
     (v.0, is_good hash P t want c.args.asked.place c.args.piece.now left more w same v.0 v.1 v.2, v.3)
+
+pub returns-in-Ok-clause-read : goal.returns-in-Ok-clause-read
+returns-in-Ok-clause-read g c = let v = c.in-Ok.ensures.value in record { value = v.0; end = v.1; reads = v.2; stands = v.3 }
+
+pub returns-in-Some-clause-some : goal.returns-in-Some-clause-some
+returns-in-Some-clause-some g c hash = let r = c.in-Some.ensures c.args.types.now (g.N.Nodes.nodes c.args.store.now) c.requires in (r.value, r.stands)
+
+pub returns-in-Some-clause-opens : goal.returns-in-Some-clause-opens
+returns-in-Some-clause-opens g c hash left more w is =
+    let P = types_meaning c.args.types.now in
+    let t = type_at (types_by_number c.args.types.now) c.args.ty in
+    let want = c.args.asked.want.0 in
+    let same : bytes_eq (digest_at hash P t c.args.piece.now) want ≡ true = ap (λ d. bytes_eq d want) (sym is) ∙ sym c.are_same.ensures ∙ c.if-not-are_same.false in
+    let r = c.in-Some.ensures c.args.types.now (g.N.Nodes.nodes c.args.store.now) c.requires in
+    (r.value, is_good hash P t want c.args.asked.place c.args.piece.now left more w same r.value r.end r.reads, r.stands)
+
+pub returns-in-Some-clause-read : goal.returns-in-Some-clause-read
+returns-in-Some-clause-read g c = c.in-Some.ensures c.args.types.now (g.N.Nodes.nodes c.args.store.now) c.requires

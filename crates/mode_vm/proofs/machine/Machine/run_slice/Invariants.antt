@@ -25,6 +25,7 @@ invariant-loop-units g l =
     × (g.M.Mode.rest l.world ≡ g.M.Mode.rest l.fn.world)
     × g.M.Mode.Moves l.fn.self.mode l.fn.world l.self.mode l.world
     × (g.N.Nodes.lent l.store ≡ g.N.Nodes.lent l.fn.store)
+    × g.M.Mode.Knows (program_in l.code).types l.self.mode (g.N.Nodes.nodes l.store)
 
 abbrev pub decreases-loop-units : goal.decreases-loop-units
 decreases-loop-units g l = steps_left (program_of l.code) l.self.state

@@ -8,7 +8,7 @@ use Rattle.mode_vm.specs.Machines.{IsNext, end_of}
 use Rattle.code_meaning.specs.Execution.{Ran}
 use Rattle.mode_vm.specs.Meanings.{program_of}
 use Rattle.mode_vm.proofs.OwnInstructions.{plain}
-use Rattle.mode_vm.proofs.Stepping.{leads_stands, leads_is, fewer_left}
+use Rattle.mode_vm.proofs.Stepping.{leads_stands, leads_is, fewer_left, on_ok}
 use Rattle.mode_vm.proofs.machine.Machine.step.Goals as goal
 
 pub unauth-requires-clause-before : goal.unauth-requires-clause-before
@@ -74,6 +74,7 @@ returns-in-Ok g c = record {
   faults = refl;
   rest = refl;
   moves = g.met.M.Mode.moves_not c.args.self.now.mode c.args.world.now;
+  knows = g.met.M.Mode.knows_on (program_in c.args.code.now).types c.args.self.now.mode (g.N.Nodes.nodes c.args.store.now) (g.N.Nodes.nodes c.act.new.store) c.in-Ok.ensures.keeps c.requires.knows;
 }
 
 pub returns-then-not-self-clause-fewer : goal.returns-then-not-self-clause-fewer
@@ -95,3 +96,8 @@ returns-in-Auth-clause-is g c z w run follows will =
 
 pub returns-then-not-self-clause-moves : goal.returns-then-not-self-clause-moves
 returns-then-not-self-clause-moves g c = g.met.M.Mode.moves_not c.args.self.now.mode c.args.world.now
+
+pub returns-in-Auth-clause-knows : goal.returns-in-Auth-clause-knows
+returns-in-Auth-clause-knows g c = on_ok c.auth.result
+    (subst (λ mode. g.M.Mode.Knows (program_in c.args.code.now).types mode (g.N.Nodes.nodes c.auth.new.store)) (sym c.auth.ensures.mode)
+    (g.met.M.Mode.knows_on (program_in c.args.code.now).types c.args.self.now.mode (g.N.Nodes.nodes c.args.store.now) (g.N.Nodes.nodes c.auth.new.store) c.auth.ensures.keeps c.requires.knows))

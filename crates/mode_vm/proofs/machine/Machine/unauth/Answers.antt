@@ -84,3 +84,9 @@ returns-in-Ok-push_top-clause-is g c z w run follows will next =
             c.push_top.new.self c.in-Ok.opened at others o.0 o.3 w o.1 o.0 o.2 o.3) ∙ subst (λ b. end_of m (meaning p) b cs before.fuel w ≡ Ran run) c.requires.entered will.ends;
       },
     )
+
+pub unauth-requires-clause-knows : goal.unauth-requires-clause-knows
+unauth-requires-clause-knows g c = subst (λ t. g.M.Mode.Knows t c.args.self.now.mode (g.N.Nodes.nodes c.args.store.now)) (sym c.types.ensures) c.requires.knows
+
+pub returns-in-Ok-push_top-clause-knows : goal.returns-in-Ok-push_top-clause-knows
+returns-in-Ok-push_top-clause-knows g c = subst (λ t. g.M.Mode.Knows t c.unauth.new.self (g.N.Nodes.nodes c.unauth.new.store)) c.types.ensures c.in-Ok.ensures.knows

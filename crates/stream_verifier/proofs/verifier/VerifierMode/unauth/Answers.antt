@@ -1,10 +1,11 @@
 -- The piece that is taken is the one that the definitions take, a new one or a kept one; or there is none.
-use Rattle.std.proofs.Common.{◌≡◌, ◌+◌, ◌∷◌, suc, length, sym, ap, ◌∙◌, arith}
+use Rattle.std.proofs.Common.{◌≡◌, ◌+◌, ◌∷◌, suc, length, sym, ap, ◌∙◌, subst, arith}
 use Rattle.core_terms.specs.ProgramTypes.{types_by_number, types_meaning}
 use Rattle.core_terms.specs.TypeTables.{type_at}
 use Rattle.ideal_meaning.specs.Frames.{Offers}
 use Rattle.proof_stream.specs.Readers.{limit_of, piece_of}
 use Rattle.reuse_buffer.specs.Kept.{Kept, kept}
+use Rattle.stream_verifier.specs.LastReads.{IsRead, knows_last_on}
 use Rattle.stream_verifier.specs.Takings.{FollowsFrames, behind_piece, taking}
 use Rattle.stream_verifier.proofs.Pieces.{OpenedAs, back_more, back_offer, back_taken, bad_use, ended, ends_with, follows_back, follows_new, moves_back, moves_new, new_more, new_offer, new_taken, opens, stops}
 use Rattle.stream_verifier.proofs.verifier.VerifierMode.unauth.Goals as goal
@@ -179,3 +180,16 @@ returns-in-Err-clause-opens g c x w stands follows =
 pub returns-in-Err-clause-faults : goal.returns-in-Err-clause-faults
 returns-in-Err-clause-faults g c =
     c.stop_of.ensures.faults (g.S.Source.faults c.args.world.now) (g.S.Source.faults c.next.new.source) c.in-Err.ensures.cause
+
+pub returns-in_ok-fresh-in-Ok-New-clause-knows : goal.returns-in_ok-fresh-in-Ok-New-clause-knows
+returns-in_ok-fresh-in-Ok-New-clause-knows g c =
+    let types = c.args.types.now in
+    let new = g.N.Nodes.nodes c.open_piece.new.store in
+    c.note_read.ensures types new
+    (knows_last_on types c.args.self.now.last (g.N.Nodes.nodes c.args.store.now) new c.in_ok-fresh-in-Ok-New.ensures.keeps c.requires.knows)
+    (subst (λ p. IsRead types new c.args.ty p c.in_ok-fresh-in-Ok-New.fresh) (c.deref-in-Ok-New.ensures.value ∙ sym c.deref-in-Ok-New-2.ensures.value) c.in_ok-fresh-in-Ok-New.ensures.read)
+
+pub returns-in_ok-used-in-Ok-Back-clause-knows : goal.returns-in_ok-used-in-Ok-Back-clause-knows
+returns-in_ok-used-in-Ok-Back-clause-knows g c =
+    knows_last_on c.args.types.now c.args.self.now.last (g.N.Nodes.nodes c.args.store.now) (g.N.Nodes.nodes c.open_piece-in-Ok-Back.new.store)
+    c.in_ok-used-in-Ok-Back.ensures.keeps c.requires.knows
