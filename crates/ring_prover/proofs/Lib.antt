@@ -4,3 +4,7 @@ pub mod Running
 pub mod Writing
 -- write_frames: the honest piece of one opened value more
 pub mod Pieces
+-- spelled: the outcome with the spelling of its value
+pub mod SpelledOutcomes
+-- prove: its parts by the types of the code's program
+pub mod CallParts

@@ -6,7 +6,10 @@ mod frames;
 mod opened;
 mod prover;
 mod prover_runs;
+mod proving;
+mod spelling;
 
 pub use opened::Opened;
 pub use prover::Prover;
 pub use prover_runs::{ProverRun, prover_run};
+pub use proving::{Proved, prove};
