@@ -1,0 +1,5 @@
+pub mod Seen
+pub mod Counts
+pub mod Written
+pub mod Calls
+pub mod Told

@@ -1,0 +1,35 @@
+// Outcomes with the spellings of their values.
+ghost use Rattle.std.specs.Prelude.{IfOk};
+ghost use Rattle.core_terms.specs.ProgramTypes.{named_table, types_by_number, types_meaning};
+ghost use Rattle.core_terms.specs.Projection.{digest_at};
+ghost use Rattle.core_terms.specs.TypeTables.{type_at};
+ghost use Rattle.ideal_meaning.specs.Ideal as ideal;
+ghost use Rattle.value_store.specs.Standing.{ProverNodes};
+ghost use Rattle.mode_vm.specs.IdealRuns.{IsOutcome};
+ghost use Rattle.ring_prover.specs.Calls.{IsSpelled};
+
+use core_terms::language::Types;
+use core_terms::{Hash32, Outcome, Spelling, TyId};
+use shallow_codec::spell;
+use std::alloc::{AllocError, Global};
+use value_store::{Nodes, Ref};
+
+/// The outcome with the spelling of the projection of its value, which stands among the prover's nodes at a type.
+pub(crate) fn spelled<H: Hash32, N: Nodes>(
+    alloc: Global,
+    types: &Types,
+    store: &N,
+    outcome: Outcome<Ref>,
+    ty: TyId,
+) -> Result<Outcome<Spelling>, AllocError>
+    requires { (o : ideal.Outcome) × IsOutcome (ProverNodes (digest_at H.hash (types_meaning types.now))) (named_table types.now) (N.nodes store.now) (type_at (types_by_number types.now) ty) outcome o }
+    ensures { IfOk result (λ told. (o : ideal.Outcome)
+        → IsOutcome (ProverNodes (digest_at H.hash (types_meaning types.now))) (named_table types.now) (N.nodes store.now) (type_at (types_by_number types.now) ty) outcome o
+        → IsSpelled (ideal.outcome_projection H.hash (types_meaning types.now) (type_at (types_by_number types.now) ty) o) told) }
+{
+    Ok(match outcome {
+        Outcome::Done(value) => Outcome::Done(spell(alloc, types, store, value, ty)?),
+        Outcome::Trapped(trap) => Outcome::Trapped(trap),
+        Outcome::Out => Outcome::Out,
+    })
+}
