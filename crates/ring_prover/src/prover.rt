@@ -66,6 +66,8 @@ impl<H: Hash32> Mode for Prover<H> {
 
     ghost opened = { λ mode. length mode.opened.items };
 
+    ghost Knows = { λ t mode nodes. Unit {0} };
+
     ghost Rest = { Unit {0} };
 
     ghost rest = { λ world. tt };
@@ -77,6 +79,8 @@ impl<H: Hash32> Mode for Prover<H> {
     ghost moves_on = { λ a b c v w x h k. tt };
 
     ghost follows_on = { λ t mode world old new w k h. seen_keeps H.hash t old new k mode.opened.items w h };
+
+    ghost knows_on = { λ t mode old new k h. h };
 
     fn auth<N: Nodes>(
         &mut self,
