@@ -1,0 +1,3 @@
+pub mod RingPrograms
+pub mod PieceAudits
+pub mod PieceLaws
