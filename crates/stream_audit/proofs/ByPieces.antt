@@ -24,7 +24,7 @@ use Rattle.ideal_meaning.proofs.Relation.{Agree, Parted}
 use Rattle.ideal_meaning.proofs.RoleCalls.{parameters_are, plain_within}
 use Rattle.collision_audit.specs.Audits.{Audit, Collides, Judges, audit_of, unless_split, verdict_on_projections}
 use Rattle.collision_audit.specs.Splits.{Split, first_split, offered_behind, split_from, split_of}
-use Rattle.stream_audit.specs.PieceAudits.{audit_behind, audit_by_pieces, audit_from, differing, frames_audit, outcome_seen}
+use Rattle.stream_audit.specs.PieceAudits.{audit_by_pieces, audit_file, audit_frames, audit_from, differing, outcome_seen}
 use Rattle.stream_audit.specs.PieceLaws.{AuditIsByPieces}
 use Rattle.stream_audit.proofs.Reaching.{Reaches, ReachesIn, place_behind, reaches_one, run_reaches}
 
@@ -288,7 +288,7 @@ module _ (hash : Hash) (is_hash : IsHash hash) (P : Program) (format : IsFormat 
 
   on_frames : (frames : List ℕ) (n : ℕ)
       → unless_split (first_split (digest_at hash P) (offered_pieces (offered P.format.limit frames n [])) (honest_pieces hash P f (call_of state argument) k)) (judge hash P f (call_of s a) k frames n [])
-      ≡ frames_audit hash P f state argument k frames n []
+      ≡ audit_frames (digest_at hash P) P.format.limit (outcome_seen hash P f state argument k) (honest_pieces hash P f (call_of state argument) k) frames n []
   on_frames frames n =
       let args = call_of state argument in
       let began = before_all (length frames) (offered P.format.limit frames n []) in
@@ -298,10 +298,10 @@ module _ (hash : Hash) (is_hash : IsHash hash) (P : Program) (format : IsFormat 
       subst (λ ts. AuthWithinAll P.format.limit P.types ts args) (sym shape) (state_deep, (plain_within P.format.limit P.types t argument role.plain argument_ideal, tt)) in
       let one = judged_by_pieces hash is_hash P format typed f args k ideals fits deep began refl in
       subst (λ ts. unless_split (first_split (digest_at hash P) (offered_pieces (offered P.format.limit frames n [])) (honest_pieces hash P f args k)) (judge hash P f (projections hash P ts args) k frames n [])
-      ≡ frames_audit hash P f state argument k frames n []) shape one
+      ≡ audit_frames (digest_at hash P) P.format.limit (outcome_seen hash P f state argument k) (honest_pieces hash P f (call_of state argument) k) frames n []) shape one
 
   at_header : (h : Option ℕ) → unless_split (first_split (digest_at hash P) (offered_behind P.format h bytes) (honest_pieces hash P f (call_of state argument) k)) (with_header hash P h f (call_of s a) k bytes)
-      ≡ audit_behind hash P f state argument k h bytes
+      ≡ audit_file (digest_at hash P) P.format.limit (outcome_seen hash P f state argument k) (honest_pieces hash P f (call_of state argument) k) h bytes
   at_header None = ap (λ o. unless_split o (Rejected Header)) (none_offered hash P (outcome_seen hash P f state argument k) 0 (honest_pieces hash P f (call_of state argument) k))
   at_header (Some n) = on_frames (drop 6 bytes) n
 

@@ -4,3 +4,7 @@ pub mod Reaching
 pub mod ByPieces
 -- the law `rings`
 pub mod RingPrograms
+-- take
+pub mod Taking
+-- compare, compare_file
+pub mod Parting
