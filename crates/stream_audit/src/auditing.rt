@@ -109,9 +109,12 @@ fn spelled<H: Hash32, N: Nodes>(
     ensures { let P = types_meaning types.now in let t = type_at (types_by_number types.now) ty in
         IfOk result (λ told. (o : ideal.Outcome) → IsProved H.hash P (N.nodes store.now) t outcome o → SpellsOutcome P t (ideal.outcome_projection H.hash P t o) told) }
 {
-    Ok(match outcome {
-        Outcome::Done(value) => Outcome::Done(projected::<H, N>(alloc, types, store, ty, value)?),
-        Outcome::Trapped(trap) => Outcome::Trapped(trap),
-        Outcome::Out => Outcome::Out,
-    })
+    match outcome {
+        Outcome::Done(value) => {
+            let bytes = projected::<H, N>(alloc, types, store, ty, value)?;
+            Ok(Outcome::Done(bytes))
+        }
+        Outcome::Trapped(trap) => Ok(Outcome::Trapped(trap)),
+        Outcome::Out => Ok(Outcome::Out),
+    }
 }
