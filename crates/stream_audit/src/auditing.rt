@@ -1,0 +1,120 @@
+// Audits of proofs.
+ghost use Rattle.std.specs.Prelude.{◌≡◌, ◌<◌, ◌≤◌, ◌^◌, List, IfOk, length};
+ghost use Rattle.std.specs.Option.{ForSome};
+ghost use Rattle.core_terms.specs.ProgramTypes.{types_by_number, types_meaning};
+ghost use Rattle.core_terms.specs.Roles.{argument_type};
+ghost use Rattle.core_terms.specs.Terms.{function_at};
+ghost use Rattle.core_terms.specs.TypeTables.{type_at};
+ghost use Rattle.core_terms.specs.Values.{Value};
+ghost use Rattle.code_gen.specs.Programs.{program_in};
+ghost use Rattle.ideal_meaning.specs.Ideal as ideal;
+ghost use Rattle.value_store.specs.Standing.{Keeps};
+ghost use Rattle.mode_vm.specs.Meanings.{program_of};
+ghost use Rattle.ring_prover.specs.Seen.{AreSeen};
+ghost use Rattle.stream_verifier.specs.Verdicts.{SpellsOutcome, TakesState};
+ghost use Rattle.collision_audit.specs.Audits.{audit_of};
+ghost use Rattle.stream_audit.specs.Answers.{AuditCause, AuditsTruly, StopsAtDifference, TellsAudit};
+ghost use Rattle.stream_audit.specs.Calls.{IsAudited, IsProved};
+ghost use Rattle.stream_audit.specs.PieceAudits.{run_audit};
+ghost use Rattle.stream_audit.specs.RingPrograms.{with_rings};
+
+use crate::audited::{AuditFault, Audited};
+use crate::comparing::{compare_file, projected};
+use code_gen::Code;
+use core_terms::language::Types;
+use core_terms::{FunctionId, Hash32, Outcome, Spelling, TyId};
+use lam_outside::Source;
+use ring_prover::{ProverRun, prover_run};
+use std::alloc::{AllocError, Global};
+use value_store::{Nodes, Ref};
+
+/// Audits a proof of a call of a query or an update with this much fuel (at most 10^12), on an ideal state and argument, which stand in
+/// the store over the prover's nodes. The proof is a proof file, which may ask for at most 1,024 pieces to be kept; it is read as it is
+/// needed, and no more of it is held than a piece and the pieces kept.
+///
+/// `Collision` comes exactly where, at the first place at which the offered pieces and the honest ones differ, both have a piece and the
+/// two have one digest: it has that place and both pieces. Else the answer is that of a verifier who is given the spellings of the
+/// projected state and argument alone: an outcome, which is true, or the cause of a rejection with each of its fields. No frame behind
+/// the first piece that differs is read. `ReadFault` comes where the source failed, and its count of faults rose; `NoMemory` where
+/// memory was wanting. The store keeps what the run made.
+pub fn audit<H: Hash32, S: Source, N: Nodes>(
+    alloc: Global,
+    code: &Code,
+    store: &mut N,
+    role: FunctionId,
+    state: Ref,
+    argument: Ref,
+    fuel: u64,
+    proof: &mut S,
+) -> Result<Audited, AuditFault>
+    requires there { role.0 < length (program_of code.now).functions }
+    requires role { TakesState (program_of code.now) role.0 }
+    requires stand { (s : Value) × (a : Value) × IsAudited H.hash (program_of code.now) role.0 (N.nodes store.old) state argument s a }
+    requires fuel_fits { fuel ≤ 10 ^ 12 }
+    ensures audit { (s a : Value) → IsAudited H.hash (program_of code.now) role.0 (N.nodes store.old) state argument s a → ForSome (S.left proof.old) (λ bytes.
+        let P = with_rings (program_of code.now) in
+        TellsAudit P role.0 (audit_of H.hash P (argument_type P role.0) role.0 s a fuel bytes) result) }
+    ensures headline { (s a : Value) → IsAudited H.hash (program_of code.now) role.0 (N.nodes store.old) state argument s a → ForSome (S.left proof.old) (λ bytes.
+        AuditsTruly H.hash (with_rings (program_of code.now)) role.0 s a fuel bytes result) }
+    ensures stops { ForSome (S.left proof.old) (λ bytes. StopsAtDifference (with_rings (program_of code.now)) bytes (S.left proof.new) result) }
+    ensures faults { AuditCause (S.faults proof.old) (S.faults proof.new) result }
+    ensures rest { S.rest proof.new ≡ S.rest proof.old }
+    ensures keeps { Keeps (N.nodes store.old) (N.nodes store.new) }
+    ensures lent { N.lent store.new ≡ N.lent store.old }
+{
+    let run = prover_run::<H, N>(alloc, code, store, role, &[state, argument], fuel)?;
+    audit_run::<H, S, N>(alloc, code, store, role, &run, proof)
+}
+
+/// Audits a proof by a prover's run of the call.
+fn audit_run<H: Hash32, S: Source, N: Nodes>(
+    alloc: Global,
+    code: &Code,
+    store: &N,
+    role: FunctionId,
+    run: &ProverRun,
+    proof: &mut S,
+) -> Result<Audited, AuditFault>
+    requires there { role.0 < length (program_of code.now).functions }
+    requires proved { (o : ideal.Outcome) × IsProved H.hash (program_of code.now) (N.nodes store.now) (function_at (program_of code.now) role.0).result run.now.value o }
+    requires seen { (seen : List ideal.Opened) × AreSeen H.hash (program_in code.now).types (N.nodes store.now) run.now.opened.items seen }
+    ensures tells { (o : ideal.Outcome) (seen : List ideal.Opened)
+        → IsProved H.hash (program_of code.now) (N.nodes store.now) (function_at (program_of code.now) role.0).result run.now.value o
+        → AreSeen H.hash (program_in code.now).types (N.nodes store.now) run.now.opened.items seen
+        → ForSome (S.left proof.old) (λ bytes. TellsAudit (with_rings (program_of code.now)) role.0
+        (run_audit H.hash (with_rings (program_of code.now)) role.0 o seen bytes) result) }
+    ensures stops { ForSome (S.left proof.old) (λ bytes. StopsAtDifference (with_rings (program_of code.now)) bytes (S.left proof.new) result) }
+    ensures faults { AuditCause (S.faults proof.old) (S.faults proof.new) result }
+    ensures rest { S.rest proof.new ≡ S.rest proof.old }
+{
+    match compare_file::<H, S, N>(alloc, code.types(), store, &run.opened, proof)? {
+        Some(answer) => Ok(answer),
+        None => {
+            let ty = code.program().function(role).result;
+            let outcome = spelled::<H, N>(alloc, code.types(), store, ty, run.value)?;
+            Ok(Audited::Agrees(outcome))
+        }
+    }
+}
+
+/// The outcome with the spelling of its value's projection; the value stands in the store at a type.
+fn spelled<H: Hash32, N: Nodes>(
+    alloc: Global,
+    types: &Types,
+    store: &N,
+    ty: TyId,
+    outcome: Outcome<Ref>,
+) -> Result<Outcome<Spelling>, AllocError>
+    requires { (o : ideal.Outcome) × IsProved H.hash (types_meaning types.now) (N.nodes store.now) (type_at (types_by_number types.now) ty) outcome o }
+    ensures { let P = types_meaning types.now in let t = type_at (types_by_number types.now) ty in
+        IfOk result (λ told. (o : ideal.Outcome) → IsProved H.hash P (N.nodes store.now) t outcome o → SpellsOutcome P t (ideal.outcome_projection H.hash P t o) told) }
+{
+    match outcome {
+        Outcome::Done(value) => {
+            let bytes = projected::<H, N>(alloc, types, store, ty, value)?;
+            Ok(Outcome::Done(bytes))
+        }
+        Outcome::Trapped(trap) => Ok(Outcome::Trapped(trap)),
+        Outcome::Out => Ok(Outcome::Out),
+    }
+}
