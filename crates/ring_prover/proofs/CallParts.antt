@@ -22,6 +22,7 @@ use Rattle.value_store.specs.Nodes.{Node}
 use Rattle.value_store.specs.Standing.{AllStandFor, ProverNodes}
 use Rattle.value_store.specs.declared.node.Ref.{Ref}
 use Rattle.mode_vm.specs.IdealRuns.{IsOutcome}
+use Rattle.reuse_buffer.specs.Kept.{Kept, kept}
 use Rattle.ring_prover.specs.Calls.{IsCalledOn, IsSpelled, TakesState}
 use Rattle.ring_prover.specs.Seen.{AreSeen, pieces_of}
 use Rattle.ring_prover.specs.Written.{HasWritten}
@@ -82,3 +83,7 @@ module _ (hash : Hash) (p : Program) (given : Types) (is : given ≡ p.types) wh
   written_by f args k n recent writer h =
       let seen : List ideal.Opened = state_of (ideal.ideal (meaning p) f args k) in
       subst (λ (ps : List (List ℕ)). HasWritten n recent ps writer) (ap (λ (t : Types). pieces_of hash t seen) is ∙ same_pieces seen) h
+
+-- a ring of n that holds the last of these holds them as a ring of its size
+pub holds_last : (ring : Kept) (n : ℕ) (recent : List (List ℕ)) → ring ≡ kept n recent → ring ≡ kept ring.size recent
+holds_last ring n recent is = subst (λ (m : ℕ). ring ≡ kept m recent) (sym (ap (λ (r : Kept). r.size) is)) is

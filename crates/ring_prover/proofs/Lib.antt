@@ -6,5 +6,5 @@ pub mod Writing
 pub mod Pieces
 -- spelled: the outcome with the spelling of its value
 pub mod SpelledOutcomes
--- prove: its parts by the types of the code's program
+-- prove, prove_file: the parts of a call by the types of the code's program, and a ring before its first piece
 pub mod CallParts

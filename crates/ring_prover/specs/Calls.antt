@@ -1,6 +1,6 @@
 -- Calls of a query or an update, and the frames of their proofs.
 use Rattle.std.specs.Prelude.{◌≡◌, ℕ, List}
-use Rattle.core_terms.specs.Formats.{Hash, Format}
+use Rattle.core_terms.specs.Formats.{Hash}
 use Rattle.core_terms.specs.Projection.{digest_at}
 use Rattle.core_terms.specs.Roles.{IsRole, ReadsState, argument_type}
 use Rattle.core_terms.specs.Spelling.{spelling}
@@ -35,7 +35,3 @@ IsSpelled o told.Out = o ≡ ideal.Out
 -- the frames of an honest prover for a run of function f, with a ring of n; `recent` came before, the last one first
 abbrev pub run_frames : Hash → Program → (f : ℕ) → Values → (k : ℕ) → (n : ℕ) → (recent : List (List ℕ)) → List Frame
 run_frames hash P f args k n recent = honest_frames n recent (ideal.bytes_of (ideal.honest_pieces hash P f args k))
-
--- the format, where a proof may ask for so many pieces to be kept
-abbrev pub keeping : ℕ → Format → Format
-keeping most format = record { digest = format.digest; limit = format.limit; magic = format.magic; most_kept = most }

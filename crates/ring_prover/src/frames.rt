@@ -48,14 +48,14 @@ impl FrameWriter {
         ensures count { OnOk result (self.new.fresh + self.new.again ≡ suc (self.old.fresh + self.old.again)) }
     {
         match self.ring.place_of(&piece) {
-            Some(k) => {
-                put_use(&mut self.bytes, k)?;
-                self.again += 1;
-            }
             None => {
                 put_new(&mut self.bytes, &piece)?;
                 self.ring.push(piece);
                 self.fresh += 1;
+            }
+            Some(k) => {
+                put_use(&mut self.bytes, k)?;
+                self.again += 1;
             }
         }
         Ok(())

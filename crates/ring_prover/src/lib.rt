@@ -4,12 +4,14 @@
 
 mod frames;
 mod opened;
+mod proof_files;
 mod prover;
 mod prover_runs;
 mod proving;
 mod spelling;
 
 pub use opened::Opened;
+pub use proof_files::prove_file;
 pub use prover::Prover;
 pub use prover_runs::{ProverRun, prover_run};
 pub use proving::{Proved, prove};

@@ -1,4 +1,4 @@
-use Rattle.std.proofs.Common.{◌≡◌, ◌<◌, ◌≤◌, ◌+◌, ◌^◌, ◌++◌, ◌∷◌, [], ℕ, List, suc, length, arith, sym, ap, ◌∙◌, subst}
+use Rattle.std.proofs.Common.{◌≡◌, ◌≤◌, ◌+◌, ◌++◌, ◌∷◌, [], ℕ, List, suc, length, arith, sym, ap, ◌∙◌, subst}
 use Rattle.core_terms.specs.Formats.{IsHash}
 use Rattle.core_terms.specs.ProgramTypes.{types_meaning}
 use Rattle.ring_prover.specs.Seen.{pieces_of}
@@ -31,8 +31,8 @@ put-requires-clause-short g c =
     let nodes = g.N.Nodes.nodes c.args.store.now in
     let s = seen_at hash types nodes c.args.opened.now c.requires.seen.0 c.loop-ty.ty-index _ c.requires.seen.1 c.loop-ty-test.true in
     let shown = shows hash types nodes is_hash _ s.0 s.1 in
-    let bytes = c.into_bytes.ensures ∙ c.in_ok-piece.ensures.spelling _ shown in
-    subst (λ (b : List ℕ). length b < 2 ^ 32) (sym bytes) (short_spelling (types_meaning types).types nodes _ _ _ (g.met.N.Nodes.sound c.args.store.now) shown)
+    short_spelling (types_meaning types).types nodes _ _ _ (g.met.N.Nodes.sound c.args.store.now) shown c.in_ok-piece.piece c.into_bytes.result.items c.into_bytes.ensures
+    (c.in_ok-piece.ensures.spelling _ shown)
 
 pub loop-ty-preserved : goal.loop-ty-preserved
 loop-ty-preserved g c =
@@ -44,8 +44,8 @@ loop-ty-preserved g c =
       count = (let next : suc c.loop-ty.ty-index ≡ c.loop-ty.ty-index + 1 = omega arith in c.in_ok-put.ensures.count ∙ ap suc c.loop-ty.invariant.count ∙ next);
       written = λ seen recent h holds.
           let e = seen_ends hash types nodes c.args.opened.now c.loop-ty.ty-index _ seen h c.loop-ty-test.true in
-          let spelled = c.into_bytes.ensures ∙ c.in_ok-piece.ensures.projected hash _ is_hash (stands_at hash types nodes is_hash _ e.last e.is_seen) in
-          let piece = is_honest hash types nodes is_hash _ e.last e.is_seen c.into_bytes.result.items spelled in
+          let spelled = c.in_ok-piece.ensures.projected hash _ is_hash (stands_at hash types nodes is_hash _ e.last e.is_seen) in
+          let piece = is_honest hash types nodes is_hash _ e.last e.is_seen c.in_ok-piece.piece c.into_bytes.result.items c.into_bytes.ensures spelled in
           let n = c.args.ring.size in
           let more = c.in_ok-put.ensures.written n recent (pieces_of hash types e.front) (c.loop-ty.invariant.written e.front recent e.before holds) in
           subst (λ (ps : List (List ℕ)). HasWritten n recent ps c.put.new.self) (ap (λ (p : List ℕ). pieces_of hash types e.front ++ p ∷ []) piece ∙ sym e.pieces) more;
