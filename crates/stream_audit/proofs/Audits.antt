@@ -1,14 +1,14 @@
 -- What an audit comes to, by a run of the call and what the proof offers.
-use Rattle.std.proofs.Common.{◌≡◌, ℕ, List, [], ◌∷◌, length, map, Option, Some, None, Result, Ok, Err, slice_index_or, refl, sym, ap, ◌∙◌, subst, lit<}
+use Rattle.std.proofs.Common.{◌≡◌, ℕ, List, [], ◌∷◌, length, map, Option, Some, Result, Ok, Err, slice_index_or, sym, ap, ◌∙◌, subst, lit<}
 use Rattle.core_terms.specs.Formats.{Hash, IsHash, IsFormat}
 use Rattle.core_terms.specs.LanguagePrograms.{meaning}
 use Rattle.core_terms.specs.Projection.{digest_at, projection}
 use Rattle.core_terms.specs.ProgramTypes.{types_meaning}
-use Rattle.core_terms.specs.Roles.{IsRole, ReadsState, argument_type, role_result}
+use Rattle.core_terms.specs.Roles.{IsRole, ReadsState, argument_type}
 use Rattle.core_terms.specs.Spelling.{spelling}
 use Rattle.core_terms.specs.Terms.{Kind, Program, IsTyped, function_at}
 use Rattle.core_terms.specs.Types.{Ty, UnitTy}
-use Rattle.core_terms.specs.Values.{Value, IsIdeal, IsShallow, NoV, AndV}
+use Rattle.core_terms.specs.Values.{Value, IsIdeal, IsShallow}
 use Rattle.core_terms.specs.declared.language.program.Program.{Program as Coded}
 use Rattle.core_terms.specs.declared.language.program_types.Types.{Types}
 use Rattle.core_terms.specs.declared.outcome.Outcome as code_outcome
@@ -33,7 +33,7 @@ use Rattle.value_store.proofs.TypedNodes.{ideal_stands, prover_refers, shallow_s
 use Rattle.ring_prover.specs.Seen.{AreSeen}
 use Rattle.ring_prover.specs.declared.opened.Opened.{Opened}
 use Rattle.stream_verifier.specs.Verdicts.{SpellsOutcome, TakesState, keeping}
-use Rattle.collision_audit.specs.Audits.{Audit, Judges, audit_of, verdict_on_projections}
+use Rattle.collision_audit.specs.Audits.{Audit, audit_of, verdict_on_projections}
 use Rattle.collision_audit.specs.Splits.{offered_in, rest_behind, split_of}
 use Rattle.collision_audit.proofs.AuditHeadline.{agreement_is_true, collides, judges}
 use Rattle.collision_audit.proofs.FirstSplits.{no_split_is_found, split_is_found}

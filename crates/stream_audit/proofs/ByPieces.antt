@@ -1,6 +1,5 @@
 -- The audit by the verifier's verdict is that piece by piece.
-use Rattle.std.proofs.Common.{◌≡◌, ◌≢◌, ◌⊎◌, inl, inr, ℕ, zero, suc, ◌+◌, Bool, true, false, List, [], ◌∷◌, ◌++◌, length, drop, map, Option, Some, None, bytes_eq, if◌then◌else◌, refl, sym, ap, ◌∙◌, subst, arith, append-nil}
-use Rattle.std.proofs.lemmas.List.{append_cancel_left}
+use Rattle.std.proofs.Common.{◌≡◌, ◌≢◌, ◌⊎◌, inl, inr, ℕ, suc, ◌+◌, Bool, true, false, List, [], ◌∷◌, ◌++◌, length, drop, map, Option, Some, None, bytes_eq, if◌then◌else◌, refl, sym, ap, ◌∙◌, subst, arith, append-nil}
 use Rattle.std.proofs.lemmas.Slice.Eq.{bytes_eq-Decides}
 use Rattle.core_terms.specs.Types.{Ty}
 use Rattle.core_terms.specs.Formats.{Hash, IsHash, IsFormat}
@@ -9,12 +8,12 @@ use Rattle.core_terms.specs.Roles.{IsRole, ReadsState}
 use Rattle.core_terms.specs.Spelling.{spelling}
 use Rattle.core_terms.specs.Terms.{Kind, Program, IsTyped, function_at}
 use Rattle.core_terms.specs.Values.{Value, Values, AuthWithin, AuthWithinAll, IsIdeal, AreIdeal}
-use Rattle.ideal_meaning.specs.Agreement.{IsRefused, OffersOther, TookHonest, honest_so_far}
-use Rattle.ideal_meaning.specs.Checked.{Cause, Header, Rejected, Taking, Verdict, WrongPiece, before_all, cause_of, checked, judge, judged, opened, take_piece, verdict, with_argument, with_header, with_rest, with_state}
+use Rattle.ideal_meaning.specs.Agreement.{IsRefused, OffersOther, honest_so_far}
+use Rattle.ideal_meaning.specs.Checked.{Cause, Header, Rejected, Taking, Verdict, WrongPiece, before_all, cause_of, checked, judge, judged, opened, take_piece, with_argument, with_header, with_rest, with_state}
 use Rattle.ideal_meaning.specs.Frames.{End, NoMore, Offer, Offers, header, offered, offered_pieces}
 use Rattle.ideal_meaning.specs.Headline.{call_of}
 use Rattle.ideal_meaning.specs.Ideal.{Opened, Outcome, Piece, honest_bytes, honest_piece, honest_pieces, ideal, outcome, outcome_projection}
-use Rattle.ideal_meaning.specs.Run.{Ends, Gives, Refuses, Rejects, Run, state_of}
+use Rattle.ideal_meaning.specs.Run.{Refuses, Run, state_of}
 use Rattle.ideal_meaning.proofs.Calls.{calls_agree}
 use Rattle.ideal_meaning.proofs.InHand.{IsHeld}
 use Rattle.ideal_meaning.proofs.Judged.{IsSame, same_judged, same_state}
@@ -22,7 +21,7 @@ use Rattle.ideal_meaning.proofs.Opening.{ReadsBack}
 use Rattle.ideal_meaning.proofs.Projections.{reads_back}
 use Rattle.ideal_meaning.proofs.Relation.{Agree, Parted}
 use Rattle.ideal_meaning.proofs.RoleCalls.{parameters_are, plain_within}
-use Rattle.collision_audit.specs.Audits.{Audit, Collides, Judges, audit_of, unless_split, verdict_on_projections}
+use Rattle.collision_audit.specs.Audits.{Audit, Collides, Judges, unless_split, verdict_on_projections}
 use Rattle.collision_audit.specs.Splits.{Split, first_split, offered_behind, split_from, split_of}
 use Rattle.stream_audit.specs.PieceAudits.{audit_by_pieces, audit_file, audit_frames, audit_from, differing, outcome_seen}
 use Rattle.stream_audit.specs.PieceLaws.{AuditIsByPieces}

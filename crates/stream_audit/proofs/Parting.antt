@@ -1,5 +1,5 @@
 -- One honest piece compared with the next that is offered.
-use Rattle.std.proofs.Common.{◌≡◌, ◌≢◌, ℕ, zero, suc, ◌+◌, ◌<◌, ◌≤◌, Bool, true, false, List, [], ◌∷◌, length, map, get_or, drop, Option, Some, None, Result, Ok, Err, IfOk, bytes_eq, if◌then◌else◌, refl, sym, ap, ◌∙◌, subst, arith, add-one}
+use Rattle.std.proofs.Common.{◌≡◌, ◌≢◌, ℕ, zero, suc, ◌+◌, ◌<◌, ◌≤◌, Bool, true, false, List, [], ◌∷◌, length, get_or, drop, Option, Some, None, Result, Ok, Err, IfOk, bytes_eq, if◌then◌else◌, refl, sym, ap, ◌∙◌, subst, arith}
 use Rattle.std.specs.Option.{option_and_then}
 use Rattle.std.specs.Prelude.{Vec}
 use Rattle.std.specs.declared.alloc.Global.{Global}
@@ -15,7 +15,7 @@ use Rattle.core_terms.specs.declared.cause.Cause.{Cause}
 use Rattle.core_terms.specs.declared.cause.Cause.TheVariants as cause
 use Rattle.core_terms.specs.declared.language.program_types.Types.{Types}
 use Rattle.ideal_meaning.specs.Checked.{Rejected, cause_of, with_rest}
-use Rattle.ideal_meaning.specs.Frames.{End, NoByte, IsCut, KindIs, LongBy, UseIs, NoMore, Offer, Offers, offered}
+use Rattle.ideal_meaning.specs.Frames.{End, NoByte, IsCut, KindIs, LongBy, UseIs, Offer, Offers, offered}
 use Rattle.ideal_meaning.specs.Ideal.{Outcome, Piece, honest_bytes, honest_piece}
 use Rattle.ideal_meaning.specs.Ideal as ideal
 use Rattle.ideal_meaning.specs.Told.{cause_told}

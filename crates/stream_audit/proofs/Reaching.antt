@@ -1,5 +1,5 @@
 -- A verifier goes on piece by piece.
-use Rattle.std.proofs.Common.{◌≡◌, ℕ, zero, suc, ◌+◌, Bool, true, false, List, [], ◌∷◌, ◌++◌, length, bytes_eq, if◌then◌else◌, refl, sym, ap, ◌∙◌, subst, arith}
+use Rattle.std.proofs.Common.{◌≡◌, ℕ, zero, suc, ◌+◌, Bool, true, false, List, bytes_eq, if◌then◌else◌, refl, sym, ap, ◌∙◌, subst, arith}
 use Rattle.core_terms.specs.Types.{Ty}
 use Rattle.core_terms.specs.Formats.{Hash}
 use Rattle.core_terms.specs.Projection.{digest_at, read_at}
@@ -7,8 +7,8 @@ use Rattle.core_terms.specs.Reading.{Read, Good, BadAt}
 use Rattle.core_terms.specs.Terms.{Program}
 use Rattle.core_terms.specs.Values.{Value, Values}
 use Rattle.ideal_meaning.specs.Checked.{Cause, Taking, WrongPiece, checked, checked_mode, digest_in, opened, take_piece}
-use Rattle.ideal_meaning.specs.Frames.{NoMore, Offer, Offers, offered_pieces}
-use Rattle.ideal_meaning.specs.Run.{Opens, Refuses, state_of, with_fuel}
+use Rattle.ideal_meaning.specs.Frames.{NoMore, Offer, Offers}
+use Rattle.ideal_meaning.specs.Run.{Refuses, state_of, with_fuel}
 use Rattle.stream_audit.proofs.Stepping.{goes_call}
 
 -- behind j pieces a verifier at `a` is at `b`

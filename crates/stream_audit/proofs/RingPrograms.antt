@@ -1,11 +1,10 @@
 -- A program where a proof may ask for pieces to be kept: its types, its roles and its ideal runs are the same.
 use Rattle.std.proofs.Common.{◌≡◌, ℕ, zero, suc, Bool, true, false, List, [], ◌∷◌, ◌++◌, Option, Some, None, slice_get, unwrap_or, refl, ap, ◌∙◌, arith}
-use Rattle.core_terms.specs.Types.{Ty, PairTy, NamedTy, TextTy, fields_at, OnFields}
+use Rattle.core_terms.specs.Types.{Ty, PairTy, NamedTy, fields_at, OnFields}
 use Rattle.core_terms.specs.Formats.{IsFormat}
-use Rattle.core_terms.specs.Roles.{IsRole}
-use Rattle.core_terms.specs.Values.{Value, Values, PairV, TextV, ConV, NoV, AndV}
-use Rattle.core_terms.specs.Terms.{Expression, UnitE, BoolE, IntE, TextE, LocalE, PairE, FstE, SndE, NotE, LenE, AuthE, UnauthE, ConE, ArithE, CompareE, TextCompareE, CatE, LetE, IfE, MatchE, CallE, Expressions, NoE, AndE, Arms, NoArm, AndArm, Function, Kind, OnFunction, Program, function_at, HasType, HaveTypes, HaveArms}
-use Rattle.ideal_meaning.specs.Run.{Mode, Run, Gives, Ends, then_run, arith_of, choose, limited, run, run_all, run_arm, call, bool_in, int_in, text_in, tag_in, fields_in, join, with_fuel, compare_of, text_compare_of}
+use Rattle.core_terms.specs.Values.{Value, Values, NoV, AndV}
+use Rattle.core_terms.specs.Terms.{Expression, UnitE, BoolE, IntE, TextE, LocalE, PairE, FstE, SndE, NotE, LenE, AuthE, UnauthE, ConE, ArithE, CompareE, TextCompareE, CatE, LetE, IfE, MatchE, CallE, Expressions, NoE, AndE, Arms, NoArm, AndArm, Function, OnFunction, Program, function_at, HasType, HaveTypes, HaveArms}
+use Rattle.ideal_meaning.specs.Run.{Mode, Run, Gives, Ends, then_run, choose, run, run_all, run_arm, call, bool_in, tag_in, fields_in, join}
 use Rattle.ideal_meaning.specs.Ideal.{Opened, ideal, ideal_mode}
 use Rattle.stream_audit.specs.PieceLaws.{RingsKeepRoles, RingsKeepTypes}
 use Rattle.stream_audit.specs.RingPrograms.{with_rings}

@@ -1,10 +1,9 @@
 -- A frame that was taken, against the honest piece.
-use Rattle.std.proofs.Common.{◌≡◌, ◌≢◌, ℕ, List, [], ◌∷◌, length, Option, Some, None, option_map, slice_get, take, Result, Ok, Err, refl, sym, ap, ◌∙◌, subst}
-use Rattle.ideal_meaning.specs.Checked.{BadUse, cause_of}
+use Rattle.std.proofs.Common.{◌≡◌, ℕ, List, ◌∷◌, length, Option, Some, None, option_map, slice_get, Result, Ok, Err, refl, sym, ap, ◌∙◌}
+use Rattle.ideal_meaning.specs.Checked.{cause_of}
 use Rattle.ideal_meaning.specs.Frames.{End, NoMore, Offer, Offers, UseIs, offered, used_piece}
 use Rattle.ideal_meaning.specs.Told.{cause_told}
-use Rattle.proof_stream.specs.TakenFrames.{EndsBy, OffersBack, OffersNew, TakesFrame}
-use Rattle.proof_stream.specs.declared.frame.Frame.{Frame}
+use Rattle.proof_stream.specs.TakenFrames.{EndsBy, OffersBack, TakesFrame}
 use Rattle.proof_stream.specs.declared.frame.Frame.TheVariants.{New, Back}
 use Rattle.proof_stream.specs.declared.frame.FrameEnd.{FrameEnd}
 use Rattle.proof_stream.specs.declared.frame.FrameEnd.TheVariants as frame_end
@@ -29,15 +28,19 @@ module _ (limit : ℕ) (ring : Kept) (left : Option (List ℕ)) (count : ℕ) (o
       let more = offered limit rest n (piece ∷ ahead.recent) in
       let holds = h.2 ahead.recent ahead.holds in
       let size : ring'.size ≡ n = ap (λ (r : Kept). r.size) holds in
-      let here : o ≡ Offers piece (length rest) more = ahead.is ∙ (new n ahead.recent).0 in
-      (length rest, more, here ∙ ap (λ bytes. Offers bytes (length rest) more) h.0, record {
-        bytes = rest;
-        recent = piece ∷ ahead.recent;
-        told = told;
-        holds = holds_last ring' n (piece ∷ ahead.recent) holds;
-        counted = refl;
-        is = ap (λ limit. offered limit rest n (piece ∷ ahead.recent)) (sym same) ∙ ap (λ n. offered limit' rest n (piece ∷ ahead.recent)) (sym size);
-      })
+      let here : o ≡ Offers piece (length rest) more = ahead.is ∙ (new n ahead.recent).0 in (
+        length rest,
+        more,
+        here ∙ ap (λ bytes. Offers bytes (length rest) more) h.0,
+        record {
+          bytes = rest;
+          recent = piece ∷ ahead.recent;
+          told = told;
+          holds = holds_last ring' n (piece ∷ ahead.recent) holds;
+          counted = refl;
+          is = ap (λ limit. offered limit rest n (piece ∷ ahead.recent)) (sym same) ∙ ap (λ n. offered limit' rest n (piece ∷ ahead.recent)) (sym size);
+        },
+      )
   takes_new piece ring' (Other other) (rest, new, told) h =
       let more = offered limit rest n (piece ∷ ahead.recent) in
       let here : o ≡ Offers piece (length rest) more = ahead.is ∙ (new n ahead.recent).0 in
@@ -55,15 +58,19 @@ module _ (limit : ℕ) (ring : Kept) (left : Option (List ℕ)) (count : ℕ) (o
 
   pub takes_kept : (k : ℕ) (piece : List ℕ) (found : Result Offered AuditFault) → TakesFrame limit ahead.bytes piece left' (Ok (Back k)) → ComparesKept place k honest ring found
       → TakesPiece place honest o limit' ring left' found
-  takes_kept k piece (Ok Same) (rest, back, told) h =
-      (length rest, offered limit rest n ahead.recent, at_kept k rest back (Some honest) h, record {
-        bytes = rest;
-        recent = ahead.recent;
-        told = told;
-        holds = ahead.holds;
-        counted = refl;
-        is = ap (λ limit. offered limit rest n ahead.recent) (sym same);
-      })
+  takes_kept k piece (Ok Same) (rest, back, told) h = (
+    length rest,
+    offered limit rest n ahead.recent,
+    at_kept k rest back (Some honest) h,
+    record {
+      bytes = rest;
+      recent = ahead.recent;
+      told = told;
+      holds = ahead.holds;
+      counted = refl;
+      is = ap (λ limit. offered limit rest n ahead.recent) (sym same);
+    },
+  )
   takes_kept k piece (Ok (Other other)) (rest, back, told) h =
       (length rest, offered limit rest n ahead.recent, at_kept k rest back (Some other.items) h.0, h.1, (rest, told, refl))
   takes_kept k piece (Ok (Ended cause)) (rest, back, told) h = (UseIs k (length ring.pieces), at_kept k rest back None h.0, h.1)

@@ -1,21 +1,18 @@
 -- How the answers of an audit tell what it comes to.
-use Rattle.std.specs.Prelude.{◌≡◌, ℕ, List, [], length, map, Option, Some, None, Result, Ok, Err, ⊤}
+use Rattle.std.specs.Prelude.{◌≡◌, ℕ, List, [], length, Option, Some, Result, Ok, Err, ⊤}
 use Rattle.lam_outside.specs.Causes.{Rose}
-use Rattle.core_terms.specs.Types.{Ty}
 use Rattle.core_terms.specs.Formats.{Hash}
 use Rattle.core_terms.specs.Projection.{digest_at}
 use Rattle.core_terms.specs.Terms.{Program, function_at}
 use Rattle.core_terms.specs.Values.{Value}
-use Rattle.core_terms.specs.declared.cause.Cause.{Cause}
 use Rattle.core_terms.specs.declared.cause.Cause.TheVariants as cause
 use Rattle.ideal_meaning.specs.Checked as checked
-use Rattle.ideal_meaning.specs.Frames.{Offer}
 use Rattle.ideal_meaning.specs.Headline.{call_of}
-use Rattle.ideal_meaning.specs.Ideal.{Outcome, bytes_of, honest_pieces, ideal, outcome, outcome_projection}
+use Rattle.ideal_meaning.specs.Ideal.{Outcome, bytes_of, honest_pieces}
 use Rattle.ideal_meaning.specs.Told.{cause_told}
 use Rattle.stream_verifier.specs.Verdicts.{SpellsOutcome}
 use Rattle.collision_audit.specs.Audits.{Audit, Collides, Judges}
-use Rattle.collision_audit.specs.Splits.{Split, IsSplit, left_behind, offered_in, rest_behind}
+use Rattle.collision_audit.specs.Splits.{Split, IsSplit, offered_in, rest_behind}
 use Rattle.stream_audit.specs.PieceAudits.{outcome_seen}
 use Rattle.stream_audit.specs.declared.audited.AuditFault.{AuditFault}
 use Rattle.stream_audit.specs.declared.audited.AuditFault.TheVariants.{ReadFault, NoMemory}

@@ -1,5 +1,5 @@
 -- The state and the argument of a call that is audited.
-use Rattle.std.specs.Prelude.{◌≡◌, ℕ, List}
+use Rattle.std.specs.Prelude.{ℕ, List}
 use Rattle.core_terms.specs.Formats.{Hash}
 use Rattle.core_terms.specs.Projection.{digest_at}
 use Rattle.core_terms.specs.Roles.{argument_type}

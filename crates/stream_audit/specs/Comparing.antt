@@ -1,22 +1,16 @@
 -- What an offered piece is against an honest one.
-use Rattle.std.specs.Prelude.{◌≡◌, ◌≢◌, ℕ, List, [], ◌∷◌, drop, length, map, Option, Some, None, slice_get, option_map, Result, Ok, Err, ⊤}
-use Rattle.core_terms.specs.Formats.{Hash}
-use Rattle.core_terms.specs.Projection.{digest_at}
-use Rattle.core_terms.specs.Terms.{Program}
-use Rattle.core_terms.specs.Types.{Ty}
+use Rattle.std.specs.Prelude.{◌≡◌, ◌≢◌, ℕ, List, [], ◌∷◌, drop, length, Option, Some, None, slice_get, option_map, Result, Ok, Err, ⊤}
 use Rattle.ideal_meaning.specs.Checked as checked
 use Rattle.ideal_meaning.specs.Frames.{End, NoByte, IsCut, KindIs, LongBy, NoMore, Offer, offered}
 use Rattle.ideal_meaning.specs.Frames as frames
-use Rattle.ideal_meaning.specs.Ideal.{Opened, Outcome, Piece, honest_piece}
+use Rattle.ideal_meaning.specs.Ideal.{Outcome}
 use Rattle.ideal_meaning.specs.Told.{cause_told}
 use Rattle.proof_stream.specs.Readers.{limit_of}
 use Rattle.proof_stream.specs.declared.frame.FrameEnd.{FrameEnd}
 use Rattle.proof_stream.specs.declared.frame.FrameEnd.TheVariants as frame_end
 use Rattle.reuse_buffer.specs.Kept.{Kept, kept}
 use Rattle.collision_audit.specs.Audits.{Audit, Collides, Judges}
-use Rattle.collision_audit.specs.Splits.{left_behind}
 use Rattle.stream_audit.specs.Answers.{AreLeft, StopsBehind, split_told}
-use Rattle.stream_audit.specs.PieceAudits.{audit_from, audit_file}
 use Rattle.stream_audit.specs.declared.audited.AuditFault.{AuditFault}
 use Rattle.stream_audit.specs.declared.audited.Audited.{Audited}
 use Rattle.stream_audit.specs.declared.audited.Audited.TheVariants as audited
@@ -36,7 +30,7 @@ pub record IsAhead (limit : ℕ) (ring : Kept) (left : Option (List ℕ)) (count
 -- A new piece against the honest one: the same, which the ring keeps from then on, or another.
 abbrev pub ComparesNew : (piece honest : List ℕ) (ring ring' : Kept) → Offered → Type 0
 ComparesNew piece honest ring ring' Same = (piece ≡ honest) × (ring' ≡ kept ring.size (piece ∷ ring.pieces))
-                                           × ((recent : List (List ℕ)) → ring ≡ kept ring.size recent → ring' ≡ kept ring.size (piece ∷ recent))
+    × ((recent : List (List ℕ)) → ring ≡ kept ring.size recent → ring' ≡ kept ring.size (piece ∷ recent))
 ComparesNew piece honest ring ring' (Other other) = (other.items ≡ piece) × (piece ≢ honest)
 ComparesNew piece honest ring ring' (Ended cause) = ⊥
 

@@ -29,8 +29,8 @@ use std::alloc::{AllocError, Global};
 use value_store::{Nodes, Ref};
 
 /// Audits a proof of a call of a query or an update with this much fuel (at most 10^12), on an ideal state and argument, which stand in
-/// the store over the prover's nodes. The proof is a proof file, which may ask for at most 1,024 pieces to be kept; it is read as it is
-/// needed, and no more of it is held than a piece and the pieces kept.
+/// the store over the prover's nodes and so are within the limits. The proof is a proof file, which may ask for at most 1,024 pieces to
+/// be kept; it is read as it is needed, and no more of it is held than a piece and the pieces kept.
 ///
 /// `Collision` comes exactly where, at the first place at which the offered pieces and the honest ones differ, both have a piece and the
 /// two have one digest: it has that place and both pieces. Else the answer is that of a verifier who is given the spellings of the

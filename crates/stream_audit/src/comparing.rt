@@ -20,7 +20,6 @@ ghost use Rattle.ring_prover.specs.Seen.{AreSeen};
 
 use crate::audited::{AuditFault, Audited, Collision};
 use crate::offers::{Offered, Offers};
-
 use core_terms::language::Types;
 use core_terms::{Cause, Hash32, Piece, Spelling, TyId};
 use lam_outside::Source;
@@ -48,7 +47,14 @@ pub(crate) fn compare_file<H: Hash32, S: Source, N: Nodes>(
     ensures rest { S.rest proof.new ≡ S.rest proof.old }
 {
     match Offers::open(alloc, types.spelling_limit(), proof)? {
-        Some(mut offers) => compare_to_end::<H, S, N>(alloc, types, store, opened, &mut offers, proof),
+        Some(mut offers) => compare_to_end::<H, S, N>(
+            alloc,
+            types,
+            store,
+            opened,
+            &mut offers,
+            proof,
+        ),
         None => Ok(Some(Audited::Rejected(Cause::Header))),
     }
 }

@@ -116,7 +116,10 @@ impl Offers {
     }
 
     /// Counts the bytes that are left behind the last piece.
-    pub(crate) fn count_rest<S: Source>(&mut self, proof: &mut S) -> Result<Option<Audited>, AuditFault>
+    pub(crate) fn count_rest<S: Source>(
+        &mut self,
+        proof: &mut S,
+    ) -> Result<Option<Audited>, AuditFault>
         ensures counts { ForSome (S.left proof.old) (λ bytes. IsCounted bytes (S.left proof.new) result) }
         ensures faults { AuditCause (S.faults proof.old) (S.faults proof.new) result }
         ensures rest { S.rest proof.new ≡ S.rest proof.old }

@@ -17,21 +17,19 @@ prover_run-requires-clause-stand g c κs within =
 pub audit_run-requires-clause-proved : goal.audit_run-requires-clause-proved
 audit_run-requires-clause-proved g c κs within =
     let s = c.requires.stand.0 in
-    let a = c.requires.stand.1 in
-    (
+    let a = c.requires.stand.1 in (
       outcome (ideal (program_of c.args.code.now) c.args.role.0 (call_of s a) c.args.fuel),
       c.in_ok-run.ensures.value (call_of s a)
-      (both_stand g.H.Hash32.hash (program_in c.args.code.now) c.args.role.0 c.requires.role (g.N.Nodes.nodes c.args.store.now) c.args.state c.args.argument s a c.requires.stand.2),
+          (both_stand g.H.Hash32.hash (program_in c.args.code.now) c.args.role.0 c.requires.role (g.N.Nodes.nodes c.args.store.now) c.args.state c.args.argument s a c.requires.stand.2),
     )
 
 pub audit_run-requires-clause-seen : goal.audit_run-requires-clause-seen
 audit_run-requires-clause-seen g c κs within =
     let s = c.requires.stand.0 in
-    let a = c.requires.stand.1 in
-    (
+    let a = c.requires.stand.1 in (
       state_of (ideal (program_of c.args.code.now) c.args.role.0 (call_of s a) c.args.fuel),
       c.in_ok-run.ensures.opened (call_of s a)
-      (both_stand g.H.Hash32.hash (program_in c.args.code.now) c.args.role.0 c.requires.role (g.N.Nodes.nodes c.args.store.now) c.args.state c.args.argument s a c.requires.stand.2),
+          (both_stand g.H.Hash32.hash (program_in c.args.code.now) c.args.role.0 c.requires.role (g.N.Nodes.nodes c.args.store.now) c.args.state c.args.argument s a c.requires.stand.2),
     )
 
 pub returns-clause-audit : goal.returns-clause-audit

@@ -1,5 +1,5 @@
 -- A difference is told, or the outcome with its spelling.
-use Rattle.std.proofs.Common.{◌≡◌, Some, None, Ok, map, refl, ap, ◌∙◌, subst}
+use Rattle.std.proofs.Common.{◌≡◌, Ok, map, refl, ap, ◌∙◌, subst}
 use Rattle.core_terms.specs.LanguagePrograms.{meaning, types_of}
 use Rattle.core_terms.specs.LanguageTrees.{function_of}
 use Rattle.core_terms.specs.ProgramTypes.{types_by_number, types_meaning}
@@ -12,7 +12,6 @@ use Rattle.ideal_meaning.specs.Frames.{header}
 use Rattle.ideal_meaning.specs.Ideal.{honest_piece, outcome_projection}
 use Rattle.mode_vm.specs.Meanings.{program_of}
 use Rattle.collision_audit.specs.Splits.{rest_behind}
-use Rattle.stream_verifier.specs.Verdicts.{keeping}
 use Rattle.stream_audit.specs.Comparing.{ComparesAll}
 use Rattle.stream_audit.specs.PieceAudits.{audit_file, run_audit}
 use Rattle.stream_audit.specs.RingPrograms.{with_rings}

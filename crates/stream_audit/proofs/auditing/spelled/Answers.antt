@@ -1,8 +1,7 @@
-use Rattle.std.proofs.Common.{ap, subst}
+use Rattle.std.proofs.Common.{subst}
 use Rattle.core_terms.specs.Formats.{IsHash}
 use Rattle.core_terms.specs.ProgramTypes.{types_by_number, types_meaning}
 use Rattle.core_terms.specs.TypeTables.{type_at}
-use Rattle.ideal_meaning.specs.Ideal.{outcome_projection}
 use Rattle.stream_audit.specs.Calls.{IsProved}
 use Rattle.stream_audit.proofs.Audits.{spells_done}
 use Rattle.stream_audit.proofs.auditing.spelled.Goals as goal

@@ -1,20 +1,14 @@
 -- Each honest piece against the next that is offered.
-use Rattle.std.proofs.Common.{◌≡◌, ◌+◌, ℕ, List, drop, length, map, arith, sym, ap, ◌∙◌, subst}
-use Rattle.core_terms.specs.ProgramTypes.{types_by_number, types_meaning}
+use Rattle.std.proofs.Common.{◌≡◌, ◌+◌, drop, map, arith, sym, ◌∙◌, subst}
+use Rattle.core_terms.specs.ProgramTypes.{types_meaning}
 use Rattle.core_terms.specs.Projection.{digest_at}
-use Rattle.core_terms.specs.TypeTables.{type_at}
-use Rattle.core_terms.specs.Types.{Ty}
-use Rattle.ideal_meaning.specs.Frames.{Offer}
 use Rattle.ideal_meaning.specs.Ideal.{honest_bytes, honest_piece}
-use Rattle.ideal_meaning.specs.Ideal as ideal
 use Rattle.proof_stream.specs.Readers.{limit_of}
-use Rattle.value_store.specs.Standing.{ProverNodes, StandsFor}
 use Rattle.stream_audit.specs.Answers.{AreLeft}
-use Rattle.stream_audit.specs.Comparing.{IsAhead, TellsDifference}
+use Rattle.stream_audit.specs.Comparing.{TellsDifference}
 use Rattle.stream_audit.specs.PieceAudits.{differing}
-use Rattle.ring_prover.specs.Seen.{AreSeen, IsSeen}
 use Rattle.stream_audit.specs.declared.offers.Offered.TheVariants.{Same, Other, Ended}
-use Rattle.stream_audit.proofs.Parting.{Stands, honest_is, seen_at, seen_end, stands_ended, stands_first, stands_last, stands_next, stands_other, stands_seen, taken}
+use Rattle.stream_audit.proofs.Parting.{Stands, honest_is, seen_at, seen_end, stands_ended, stands_last, stands_next, stands_other, stands_seen, taken}
 use Rattle.stream_audit.proofs.comparing.compare.Goals as goal
 
 pub projected-requires-clause-stands : goal.projected-requires-clause-stands

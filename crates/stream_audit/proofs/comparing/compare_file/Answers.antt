@@ -1,4 +1,4 @@
-use Rattle.std.proofs.Common.{None, Some, Ok, [], drop, length, map, refl, ◌∙◌, subst}
+use Rattle.std.proofs.Common.{Ok, [], drop, length, map, refl, ◌∙◌, subst}
 use Rattle.core_terms.specs.ProgramTypes.{types_meaning}
 use Rattle.core_terms.specs.Projection.{digest_at}
 use Rattle.ideal_meaning.specs.Frames.{header, offered}

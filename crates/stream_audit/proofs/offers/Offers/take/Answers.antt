@@ -1,5 +1,4 @@
-use Rattle.std.proofs.Common.{Ok, Err, sym, ◌∙◌, subst}
-use Rattle.proof_stream.specs.Incoming.{FrameCause}
+use Rattle.std.proofs.Common.{Ok, sym, ◌∙◌, subst}
 use Rattle.proof_stream.specs.Readers.{limit_of, piece_of}
 use Rattle.proof_stream.specs.TakenFrames.{TakesFrame}
 use Rattle.proof_stream.specs.declared.frame.Frame.{Frame}
