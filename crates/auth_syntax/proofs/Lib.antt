@@ -10,6 +10,7 @@ pub mod Exact
 -- parser::types and parser::expressions, the cycles
 pub mod LevelSteps
 pub mod Faults
+pub mod PartsRead
 -- the loops of the parser: lists, arms, constructors and declarations one by one
 pub mod MadeOfTokens
 pub mod ArmsOneByOne

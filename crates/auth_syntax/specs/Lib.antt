@@ -6,6 +6,7 @@ pub mod TreeParts
 pub mod TreeLimits
 pub mod Trees
 pub mod Arms
+pub mod Parts
 pub mod LanguageViews
 pub mod Outcomes
 pub mod Laws

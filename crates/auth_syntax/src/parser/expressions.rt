@@ -1,26 +1,69 @@
 // Expressions, as they are written.
 
-ghost use Rattle.std.specs.Prelude.{◌≡◌, option_map};
-ghost use Rattle.auth_syntax.specs.Vocabulary.{Calls};
+ghost use Rattle.std.specs.Prelude.{◌≡◌, ◌++◌, ◌∷◌, [], IfOk, OnOk, option_map};
+ghost use Rattle.auth_syntax.specs.Vocabulary.{Calls, Pairs};
 ghost use Rattle.lexemes.specs.Tokens.{count};
-ghost use Rattle.auth_syntax.specs.Parsing.{begins_expression, expression_from, operation_begins, operation_from, read_arm_separator, read_arms, read_binary, read_call, read_expression, read_if, read_let, read_list, read_lower, read_match, read_optional_list, read_pair, read_unary, read_unit_or_pair, read_whole_expression, word_begins, word_from};
+ghost use Rattle.auth_syntax.specs.Parsing.{begins_expression, expression_from, operation_begins, operation_from, read_arm_separator, read_arms, read_call, read_constructor, read_expression, read_if, read_let, read_list, read_lower, read_match, read_optional_list, read_unit_or_pair, read_whole_expression, word_begins, word_from};
 ghost use Rattle.auth_syntax.specs.Parsing as parsing;
 ghost use Rattle.auth_syntax.specs.Arms.{read_arm};
+ghost use Rattle.auth_syntax.specs.Parts.{Begins, both_of, head_token, operation_of, pattern_of, read_before, read_behind, read_binding, read_both, read_operation, read_pattern, read_unit_sign, then_closed};
 ghost use Rattle.auth_syntax.specs.LanguageViews.{once_begun, words_of};
 ghost use Rattle.lexemes.specs.Remaining.{remaining};
 ghost use Rattle.lexemes.specs.TokenViews.{token_view};
-ghost use Rattle.auth_syntax.specs.Trees.{arm_of, arms_of, boxed_of, expression_of, expressions_of, names_of, unary_of};
+ghost use Rattle.auth_syntax.specs.Trees.{arm_of, arms_of, boxed_of, expression_of, expressions_of, name_of, names_of, unary_of};
 ghost use Rattle.lexemes.specs.Remaining.{Reads};
+ghost use Rattle.lexemes.specs.Readings.{read_separator};
 
 use crate::language::{Form, Language};
 use crate::parser::{NESTING_LIMIT, lower, name, upper};
 use crate::tree::{Arm, ExpTree, PlacedName, UnaryOperator};
-use core_terms::Name;
 use core_terms::language::BinaryOperator;
+use core_terms::{Name, Text};
 use lexemes::fault::{SyntaxFault, SyntaxKind};
 use lexemes::parser::{Parser, PlacedToken};
 use lexemes::place::Place;
 use lexemes::token::{Keyword, Mark, Token};
+use std::alloc::{AllocError, Global};
+
+/// What has to stand behind a part of an expression.
+#[derive(Clone, Copy)]
+enum Behind {
+    Nothing,
+    Mark(Mark),
+    Word(Keyword),
+}
+
+/// An operation, by the number of its operands.
+#[derive(Clone, Copy)]
+enum Operator {
+    Unary(UnaryOperator),
+    Binary(BinaryOperator),
+}
+
+/// The token that begins an expression, with a name of its own.
+#[derive(Drop)]
+enum Head {
+    Keyword(Keyword),
+    Mark(Mark),
+    Lower(Name),
+    Upper(Name),
+    Int(i64),
+    Text(Text),
+}
+
+/// The token that begins an expression, where it stands.
+#[derive(Drop)]
+struct PlacedHead {
+    at: Place,
+    head: Head,
+}
+
+/// What an arm matches: a constructor, and the names of its fields.
+#[derive(Drop)]
+struct Pattern {
+    constructor: PlacedName,
+    fields: Vec<PlacedName>,
+}
 
 /// An expression that stands in no other.
 pub(crate) fn whole_expression(
@@ -41,27 +84,41 @@ fn expression(
 ) -> Result<ExpTree, SyntaxFault>
     ensures { Reads expression_of (read_expression (words_of language) levels (remaining parser.old)) result (remaining parser.new) }
 {
-    let PlacedToken { at, token } = parser.token()?;
-    if !begins_expression(language, &token) {
-        return Err(SyntaxFault::At(SyntaxKind::Expected, at));
-    }
-    if levels == 0 {
-        return Err(SyntaxFault::At(SyntaxKind::TooNested, at));
-    }
-    expression_from(parser, language, at, token, levels - 1)
+    let PlacedHead { at, head } = expression_head(parser, language, levels)?;
+    expression_from(parser, language, at, head, levels - 1)
 }
 
-/// An expression on the heap, of at most so many levels.
+/// An expression on the heap, of at most so many levels, with what has to stand behind it.
 #[cycle(expressions)]
 fn boxed(
     parser: &mut Parser<'_>,
     language: Language,
     levels: usize,
+    behind: Behind,
 ) -> Result<Box<ExpTree>, SyntaxFault>
-    ensures { Reads boxed_of (read_expression (words_of language) levels (remaining parser.old)) result (remaining parser.new) }
+    ensures { Reads boxed_of (read_before behind (read_expression (words_of language) levels) (remaining parser.old)) result (remaining parser.new) }
 {
-    let expression = expression(parser, language, levels)?;
-    Ok(Box::new(parser.alloc, expression)?)
+    let part = expression(parser, language, levels)?;
+    closed(parser, part, behind)
+}
+
+/// Two expressions with a comma between them, and the parenthesis that ends them.
+#[cycle(expressions)]
+fn both(
+    parser: &mut Parser<'_>,
+    language: Language,
+    levels: usize,
+) -> Result<(Box<ExpTree>, Box<ExpTree>), SyntaxFault>
+    ensures { Reads both_of (read_both (read_expression (words_of language) levels) (remaining parser.old)) result (remaining parser.new) }
+{
+    let first = boxed(parser, language, levels, Behind::Mark(Mark::Comma))?;
+    let second = boxed(
+        parser,
+        language,
+        levels,
+        Behind::Mark(Mark::RightParenthesis),
+    )?;
+    Ok((first, second))
 }
 
 /// The expression that a token begins, whose parts have at most so many levels.
@@ -70,27 +127,20 @@ fn expression_from(
     parser: &mut Parser<'_>,
     language: Language,
     at: Place,
-    token: Token<'_>,
+    head: Head,
     levels: usize,
 ) -> Result<ExpTree, SyntaxFault>
     // that the language has what the token begins was found before
-    ensures { Reads expression_of (expression_from (once_begun (words_of language)) (read_expression (words_of language) levels) at (token_view token.entry) (remaining parser.old)) result (remaining parser.new) }
+    ensures { Reads expression_of (expression_from (once_begun (words_of language)) (read_expression (words_of language) levels) at (head_token head) (remaining parser.old)) result (remaining parser.new) }
 {
-    match token {
-        Token::Mark(Mark::LeftParenthesis) => unit_or_pair(parser, language, at, levels),
-        Token::Lower(bytes) => {
-            let name = name(parser.alloc, bytes)?;
-            local_or_call(parser, language, at, name, levels)
-        }
-        Token::Upper(bytes) => {
-            let name = name(parser.alloc, bytes)?;
-            let fields = fields(parser, language, levels)?;
-            Ok(ExpTree::Constructor(at, name, fields))
-        }
-        Token::Int(value) => Ok(ExpTree::IntLiteral(at, value)),
-        Token::Text(text) => Ok(ExpTree::TextLiteral(at, text)),
-        Token::Keyword(keyword) => word(parser, language, at, keyword, levels),
-        Token::Mark(_) => Err(SyntaxFault::At(SyntaxKind::Expected, at)),
+    match head {
+        Head::Mark(Mark::LeftParenthesis) => unit_or_pair(parser, language, at, levels),
+        Head::Lower(name) => local_or_call(parser, language, at, name, levels),
+        Head::Upper(name) => constructor(parser, language, at, name, levels),
+        Head::Int(value) => Ok(ExpTree::IntLiteral(at, value)),
+        Head::Text(text) => Ok(ExpTree::TextLiteral(at, text)),
+        Head::Keyword(keyword) => word(parser, language, at, keyword, levels),
+        Head::Mark(_) => Err(SyntaxFault::At(SyntaxKind::Expected, at)),
     }
 }
 
@@ -104,30 +154,10 @@ fn unit_or_pair(
 ) -> Result<ExpTree, SyntaxFault>
     ensures { Reads expression_of (read_unit_or_pair (words_of language) (read_expression (words_of language) levels) at (remaining parser.old)) result (remaining parser.new) }
 {
-    if parser.if_mark(Mark::RightParenthesis)? {
+    if unit_sign(parser, language)? {
         return Ok(ExpTree::UnitLiteral(at));
     }
-    if !language.has(Form::Pairs) {
-        let PlacedToken { at, .. } = parser.token()?;
-        return Err(SyntaxFault::At(SyntaxKind::Expected, at));
-    }
-    pair(parser, language, at, levels)
-}
-
-/// Behind a parenthesis: two expressions, and the parenthesis that ends them.
-#[cycle(expressions)]
-fn pair(
-    parser: &mut Parser<'_>,
-    language: Language,
-    at: Place,
-    levels: usize,
-) -> Result<ExpTree, SyntaxFault>
-    ensures { Reads expression_of (read_pair (read_expression (words_of language) levels) at (remaining parser.old)) result (remaining parser.new) }
-{
-    let first = boxed(parser, language, levels)?;
-    parser.mark(Mark::Comma)?;
-    let second = boxed(parser, language, levels)?;
-    parser.mark(Mark::RightParenthesis)?;
+    let (first, second) = both(parser, language, levels)?;
     Ok(ExpTree::Pair(at, first, second))
 }
 
@@ -152,19 +182,22 @@ fn local_or_call(
     Ok(ExpTree::Call(at, name, arguments))
 }
 
-/// The fields of a constructor: none where no parenthesis stands.
+/// Behind an upper name: the fields of a constructor, none where no parenthesis stands.
 #[cycle(expressions)]
-fn fields(
+fn constructor(
     parser: &mut Parser<'_>,
     language: Language,
+    at: Place,
+    name: Name,
     levels: usize,
-) -> Result<Vec<ExpTree>, SyntaxFault>
-    ensures { Reads expressions_of (read_optional_list (read_expression (words_of language) levels) (remaining parser.old)) result (remaining parser.new) }
+) -> Result<ExpTree, SyntaxFault>
+    ensures { Reads expression_of (read_constructor (read_expression (words_of language) levels) at name (remaining parser.old)) result (remaining parser.new) }
 {
     if !parser.if_mark(Mark::LeftParenthesis)? {
-        return Ok(Vec::new(parser.alloc));
+        return Ok(ExpTree::Constructor(at, name, Vec::new(parser.alloc)));
     }
-    expression_list(parser, language, levels)
+    let fields = expression_list(parser, language, levels)?;
+    Ok(ExpTree::Constructor(at, name, fields))
 }
 
 /// At least one expression, and the parenthesis that ends them.
@@ -178,8 +211,8 @@ fn expression_list(
 {
     let mut expressions = Vec::new(parser.alloc);
     'each: loop {
-        expressions.push(expression(parser, language, levels)?)?;
-        if !parser.separator()? {
+        let next = expression(parser, language, levels)?;
+        if !listed(parser, &mut expressions, next)? {
             return Ok(expressions);
         }
     }
@@ -206,7 +239,7 @@ fn word(
     }
 }
 
-/// The operation whose word a keyword is.
+/// The operation whose word a keyword is, with its operands.
 #[cycle(expressions)]
 fn operation(
     parser: &mut Parser<'_>,
@@ -217,49 +250,17 @@ fn operation(
 ) -> Result<ExpTree, SyntaxFault>
     ensures { Reads expression_of (operation_from (once_begun (words_of language)) (read_expression (words_of language) levels) at (parsing.unary_of keyword) (parsing.binary_of keyword) (remaining parser.old)) result (remaining parser.new) }
 {
-    if let Some(operator) = unary_operator(keyword) {
-        return unary(parser, language, at, operator, levels);
+    match operation_word(parser, at, keyword)? {
+        Operator::Unary(operator) => {
+            let closing = Behind::Mark(Mark::RightParenthesis);
+            let operand = boxed(parser, language, levels, closing)?;
+            Ok(ExpTree::Unary(at, operator, operand))
+        }
+        Operator::Binary(operator) => {
+            let (first, second) = both(parser, language, levels)?;
+            Ok(ExpTree::Binary(at, operator, first, second))
+        }
     }
-    match binary_operator(keyword) {
-        Some(operator) => binary(parser, language, at, operator, levels),
-        None => Err(SyntaxFault::At(SyntaxKind::Expected, at)),
-    }
-}
-
-/// An operand between parentheses.
-#[cycle(expressions)]
-fn unary(
-    parser: &mut Parser<'_>,
-    language: Language,
-    at: Place,
-    operator: UnaryOperator,
-    levels: usize,
-) -> Result<ExpTree, SyntaxFault>
-    ensures { Reads expression_of (read_unary (read_expression (words_of language) levels) at (unary_of operator) (remaining parser.old)) result (remaining parser.new) }
-{
-    parser.mark(Mark::LeftParenthesis)?;
-    let operand = boxed(parser, language, levels)?;
-    parser.mark(Mark::RightParenthesis)?;
-    Ok(ExpTree::Unary(at, operator, operand))
-}
-
-/// Two operands between parentheses.
-#[cycle(expressions)]
-fn binary(
-    parser: &mut Parser<'_>,
-    language: Language,
-    at: Place,
-    operator: BinaryOperator,
-    levels: usize,
-) -> Result<ExpTree, SyntaxFault>
-    ensures { Reads expression_of (read_binary (read_expression (words_of language) levels) at operator (remaining parser.old)) result (remaining parser.new) }
-{
-    parser.mark(Mark::LeftParenthesis)?;
-    let first = boxed(parser, language, levels)?;
-    parser.mark(Mark::Comma)?;
-    let second = boxed(parser, language, levels)?;
-    parser.mark(Mark::RightParenthesis)?;
-    Ok(ExpTree::Binary(at, operator, first, second))
 }
 
 /// Behind `let`: a name, what is bound to it, and the body.
@@ -272,11 +273,9 @@ fn let_in(
 ) -> Result<ExpTree, SyntaxFault>
     ensures { Reads expression_of (read_let (read_expression (words_of language) levels) at (remaining parser.old)) result (remaining parser.new) }
 {
-    let name = lower(parser)?;
-    parser.mark(Mark::EqualsSign)?;
-    let bound = boxed(parser, language, levels)?;
-    parser.keyword(Keyword::In)?;
-    let body = boxed(parser, language, levels)?;
+    let name = binding(parser)?;
+    let bound = boxed(parser, language, levels, Behind::Word(Keyword::In))?;
+    let body = boxed(parser, language, levels, Behind::Nothing)?;
     Ok(ExpTree::Let {
         at,
         name,
@@ -295,11 +294,9 @@ fn conditional(
 ) -> Result<ExpTree, SyntaxFault>
     ensures { Reads expression_of (read_if (read_expression (words_of language) levels) at (remaining parser.old)) result (remaining parser.new) }
 {
-    let test = boxed(parser, language, levels)?;
-    parser.keyword(Keyword::Then)?;
-    let first = boxed(parser, language, levels)?;
-    parser.keyword(Keyword::Else)?;
-    let other = boxed(parser, language, levels)?;
+    let test = boxed(parser, language, levels, Behind::Word(Keyword::Then))?;
+    let first = boxed(parser, language, levels, Behind::Word(Keyword::Else))?;
+    let other = boxed(parser, language, levels, Behind::Nothing)?;
     Ok(ExpTree::If {
         at,
         test,
@@ -318,8 +315,7 @@ fn matching(
 ) -> Result<ExpTree, SyntaxFault>
     ensures { Reads expression_of (read_match (read_expression (words_of language) levels) at (remaining parser.old)) result (remaining parser.new) }
 {
-    let subject = boxed(parser, language, levels)?;
-    parser.keyword(Keyword::With)?;
+    let subject = boxed(parser, language, levels, Behind::Word(Keyword::With))?;
     parser.mark(Mark::Bar)?;
     let arms = arm_list(parser, language, levels)?;
     Ok(ExpTree::Match { at, subject, arms })
@@ -336,8 +332,8 @@ fn arm_list(
 {
     let mut arms = Vec::new(parser.alloc);
     'each: loop {
-        arms.push(arm(parser, language, levels)?)?;
-        if !arm_separator(parser)? {
+        let next = arm(parser, language, levels)?;
+        if !arm_listed(parser, &mut arms, next)? {
             return Ok(arms);
         }
     }
@@ -348,14 +344,148 @@ fn arm_list(
 fn arm(parser: &mut Parser<'_>, language: Language, levels: usize) -> Result<Arm, SyntaxFault>
     ensures { Reads arm_of (read_arm (read_expression (words_of language) levels) (remaining parser.old)) result (remaining parser.new) }
 {
+    let pattern = arm_pattern(parser)?;
+    let body = expression(parser, language, levels)?;
+    Ok(Arm {
+        constructor: pattern.constructor,
+        fields: pattern.fields,
+        body,
+    })
+}
+
+/// Takes the token that begins an expression of at most so many levels.
+fn expression_head(
+    parser: &mut Parser<'_>,
+    language: Language,
+    levels: usize,
+) -> Result<PlacedHead, SyntaxFault>
+    ensures { Begins (words_of language) levels (remaining parser.old) result (remaining parser.new) }
+{
+    let PlacedToken { at, token } = parser.token()?;
+    if !begins_expression(language, &token) {
+        return Err(SyntaxFault::At(SyntaxKind::Expected, at));
+    }
+    if levels == 0 {
+        return Err(SyntaxFault::At(SyntaxKind::TooNested, at));
+    }
+    let head = owned(parser.alloc, token)?;
+    Ok(PlacedHead { at, head })
+}
+
+/// A token whose name is copied.
+fn owned(alloc: Global, token: Token<'_>) -> Result<Head, AllocError>
+    ensures { IfOk result (λ head. head_token head ≡ token_view token.entry) }
+{
+    match token {
+        Token::Keyword(keyword) => Ok(Head::Keyword(keyword)),
+        Token::Mark(mark) => Ok(Head::Mark(mark)),
+        Token::Lower(bytes) => Ok(Head::Lower(name(alloc, bytes)?)),
+        Token::Upper(bytes) => Ok(Head::Upper(name(alloc, bytes)?)),
+        Token::Int(value) => Ok(Head::Int(value)),
+        Token::Text(text) => Ok(Head::Text(text)),
+    }
+}
+
+/// Adds an expression to a list, and tells whether another one follows.
+fn listed(
+    parser: &mut Parser<'_>,
+    expressions: &mut Vec<ExpTree>,
+    next: ExpTree,
+) -> Result<bool, SyntaxFault>
+    ensures added { OnOk result (expressions.new.items ≡ expressions.old.items ++ next ∷ []) }
+    ensures follows { Reads (λ follows. follows) (read_separator (remaining parser.old)) result (remaining parser.new) }
+{
+    expressions.push(next)?;
+    parser.separator()
+}
+
+/// Adds an arm to those of a `match`, and tells whether another one follows.
+fn arm_listed(parser: &mut Parser<'_>, arms: &mut Vec<Arm>, next: Arm) -> Result<bool, SyntaxFault>
+    ensures added { OnOk result (arms.new.items ≡ arms.old.items ++ next ∷ []) }
+    ensures follows { Reads (λ follows. follows) (read_arm_separator (remaining parser.old)) result (remaining parser.new) }
+{
+    arms.push(next)?;
+    arm_separator(parser)
+}
+
+/// Takes what has to stand behind a part.
+fn take(parser: &mut Parser<'_>, behind: Behind) -> Result<(), SyntaxFault>
+    ensures { Reads (λ _. tt) (read_behind behind (remaining parser.old)) result (remaining parser.new) }
+{
+    match behind {
+        Behind::Nothing => Ok(()),
+        Behind::Mark(mark) => parser.mark(mark),
+        Behind::Word(keyword) => parser.keyword(keyword),
+    }
+}
+
+/// Puts a part on the heap, and takes what has to stand behind it.
+fn closed(
+    parser: &mut Parser<'_>,
+    part: ExpTree,
+    behind: Behind,
+) -> Result<Box<ExpTree>, SyntaxFault>
+    ensures { Reads boxed_of (then_closed behind (expression_of part) (remaining parser.old)) result (remaining parser.new) }
+{
+    let part = Box::new(parser.alloc, part)?;
+    take(parser, behind)?;
+    Ok(part)
+}
+
+/// Whether a parenthesis is ended at once; where it is not, the language needs pairs.
+fn unit_sign(parser: &mut Parser<'_>, language: Language) -> Result<bool, SyntaxFault>
+    ensures { Reads (λ ends. ends) (read_unit_sign (words_of language Pairs) (remaining parser.old)) result (remaining parser.new) }
+{
+    if parser.if_mark(Mark::RightParenthesis)? {
+        return Ok(true);
+    }
+    if language.has(Form::Pairs) {
+        return Ok(false);
+    }
+    let PlacedToken { at, .. } = parser.token()?;
+    Err(SyntaxFault::At(SyntaxKind::Expected, at))
+}
+
+/// The operation whose word a keyword is, with the parenthesis before its operands.
+fn operation_word(
+    parser: &mut Parser<'_>,
+    at: Place,
+    keyword: Keyword,
+) -> Result<Operator, SyntaxFault>
+    ensures { Reads operation_of (read_operation at (parsing.unary_of keyword) (parsing.binary_of keyword) (remaining parser.old)) result (remaining parser.new) }
+{
+    if let Some(operator) = unary_operator(keyword) {
+        parser.mark(Mark::LeftParenthesis)?;
+        return Ok(Operator::Unary(operator));
+    }
+    match binary_operator(keyword) {
+        Some(operator) => {
+            parser.mark(Mark::LeftParenthesis)?;
+            Ok(Operator::Binary(operator))
+        }
+        None => Err(SyntaxFault::At(SyntaxKind::Expected, at)),
+    }
+}
+
+/// The name that a `let` binds, with the sign behind it.
+fn binding(parser: &mut Parser<'_>) -> Result<PlacedName, SyntaxFault>
+    ensures { Reads name_of (read_binding (remaining parser.old)) result (remaining parser.new) }
+{
+    let name = lower(parser)?;
+    parser.mark(Mark::EqualsSign)?;
+    Ok(name)
+}
+
+/// What an arm matches, with the arrow behind it.
+fn arm_pattern(parser: &mut Parser<'_>) -> Result<Pattern, SyntaxFault>
+    ensures { Reads pattern_of (read_pattern (remaining parser.old)) result (remaining parser.new) }
+{
     let constructor = upper(parser)?;
     let fields = field_names(parser)?;
     parser.mark(Mark::Arrow)?;
-    let body = expression(parser, language, levels)?;
-    Ok(Arm {
+    Ok(Pattern {
         constructor,
         fields,
-        body,
     })
 }
 

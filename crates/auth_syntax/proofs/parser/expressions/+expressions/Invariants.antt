@@ -15,20 +15,20 @@ decreases-expression l = 6 * l.levels
 abbrev pub decreases-expression_from : goal.decreases-expression_from
 decreases-expression_from l = 6 * l.levels + 5
 
+abbrev pub decreases-both : goal.decreases-both
+decreases-both l = 6 * l.levels + 2
+
+abbrev pub decreases-constructor : goal.decreases-constructor
+decreases-constructor l = 6 * l.levels + 2
+
 abbrev pub decreases-boxed : goal.decreases-boxed
 decreases-boxed l = 6 * l.levels + 1
 
 abbrev pub decreases-unit_or_pair : goal.decreases-unit_or_pair
 decreases-unit_or_pair l = 6 * l.levels + 3
 
-abbrev pub decreases-pair : goal.decreases-pair
-decreases-pair l = 6 * l.levels + 2
-
 abbrev pub decreases-local_or_call : goal.decreases-local_or_call
 decreases-local_or_call l = 6 * l.levels + 2
-
-abbrev pub decreases-fields : goal.decreases-fields
-decreases-fields l = 6 * l.levels + 2
 
 abbrev pub decreases-expression_list : goal.decreases-expression_list
 decreases-expression_list l = 6 * l.levels + 1
@@ -38,12 +38,6 @@ decreases-word l = 6 * l.levels + 4
 
 abbrev pub decreases-operation : goal.decreases-operation
 decreases-operation l = 6 * l.levels + 3
-
-abbrev pub decreases-unary : goal.decreases-unary
-decreases-unary l = 6 * l.levels + 2
-
-abbrev pub decreases-binary : goal.decreases-binary
-decreases-binary l = 6 * l.levels + 2
 
 abbrev pub decreases-let_in : goal.decreases-let_in
 decreases-let_in l = 6 * l.levels + 2

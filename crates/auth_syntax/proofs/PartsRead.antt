@@ -1,0 +1,176 @@
+-- Expressions by the parts that the code reads: each reading, where a part is read with what has to stand behind it.
+use Rattle.std.proofs.Common.{◌≡◌, ◌∙◌, ℕ, ap, Bool, true, false, Option, Some, None, Result, Ok, Err, refl, sym, subst}
+use Rattle.core_terms.specs.declared.language.term.BinaryOperator.{BinaryOperator}
+use Rattle.lexemes.specs.declared.place.Place.{Place}
+use Rattle.lexemes.specs.declared.token.Mark.TheVariants.{LeftParenthesis, RightParenthesis, Comma, EqualsSign, Bar, Arrow}
+use Rattle.lexemes.specs.declared.token.Keyword.TheVariants.{In as InWord, With as WithWord, Then as ThenWord, Else as ElseWord}
+use Rattle.core_terms.specs.declared.fault.Fault.TheVariants.{At, NoMemory}
+use Rattle.lexemes.specs.declared.fault.SyntaxKind.TheVariants.{Expected, Lexical, TooNested}
+use Rattle.lexemes.specs.Tokens.{MarkToken, Tokens, Next, End, Faulty, count}
+use Rattle.lexemes.specs.Readings.{SyntaxFault, Reading, Found, FaultAt, then_read, refused, read_mark, read_keyword}
+use Rattle.lexemes.specs.Remaining.{Reads, Takes}
+use Rattle.auth_syntax.specs.Syntax.{NameSyntax, UnaryOperation, ExpSyntax, UnitSyntax, PairSyntax, UnarySyntax, BinarySyntax, LetSyntax, IfSyntax, MatchSyntax}
+use Rattle.auth_syntax.specs.Vocabulary.{Vocabulary, Pairs}
+use Rattle.auth_syntax.specs.LanguageViews.{once_begun}
+use Rattle.auth_syntax.specs.Parsing.{read_lower, read_upper, read_optional_list, read_expression, operation_from, pair_or_refused, read_unit_or_pair, read_let, read_if, read_match, read_arms}
+use Rattle.auth_syntax.specs.Arms.{read_arm}
+use Rattle.auth_syntax.specs.Trees.{ArmSyntax, boxed_of, expression_of}
+use Rattle.std.specs.declared.alloc.Global.{Global}
+use Rattle.std.specs.declared.boxed.Box.{Box}
+use Rattle.auth_syntax.specs.declared.tree.ExpTree.{ExpTree}
+use Rattle.auth_syntax.specs.declared.tree.ExpTree as tree
+use Rattle.auth_syntax.specs.declared.tree.ExpTree.TheVariants.{rolls-Binary}
+use Rattle.auth_syntax.specs.declared.tree.ExpTree.TheFolds.{fold-roll-ExpTree}
+use Rattle.auth_syntax.specs.Parts.{Begins, BothSyntax, OperationSyntax, OnOne, OnTwo, PatternSyntax, pair_sign, read_before, read_behind, read_binding, read_both, read_operation, read_pattern, read_unit_sign, then_closed}
+use Rattle.auth_syntax.specs.declared.parser.expressions.Behind.{Behind}
+use Rattle.auth_syntax.specs.declared.parser.expressions.Behind.TheVariants as behind
+use Rattle.auth_syntax.proofs.MadeOfTokens.{expression_is_tokens}
+
+-- one reading behind another, and what is read behind both
+in_turn : {A B C : Type 0} (first : Reading A) (next : A → Tokens → Reading B) (last : B → Tokens → Reading C)
+    → then_read (then_read first next) last ≡ then_read first (λ value rest. then_read (next value rest) last)
+in_turn (Found value rest) next last = refl
+in_turn (FaultAt kind at) next last = refl
+
+alike : {A B : Type 0} (first : Reading A) (next next' : A → Tokens → Reading B) → ((value : A) (rest : Tokens) → next value rest ≡ next' value rest)
+    → then_read first next ≡ then_read first next'
+alike (Found value rest) next next' h = h value rest
+alike (FaultAt kind at) next next' h = refl
+
+then_refused : {A B : Type 0} (tokens : Tokens) (go : A → Tokens → Reading B) → refused tokens ≡ then_read (refused tokens) go
+then_refused (Next at token rest) go = refl
+then_refused (End at) go = refl
+then_refused (Faulty at kind) go = refl
+
+-- what is read, where it is read as this
+pub seen_as : {A B : Type 0} (view : A → B) (result : Result A SyntaxFault) (left : Tokens) {reading reading' : Reading B}
+    → reading ≡ reading' → Reads view reading' result left → Reads view reading result left
+seen_as {B} view result left is h = subst (λ (reading : Reading B). Reads view reading result left) (sym is) h
+
+-- the tree of an operation on two operands
+pub binary_is : (at : Place) (operation : BinaryOperator) (first second : Box ExpTree Global)
+    → expression_of (tree.Binary at operation first second) ≡ BinarySyntax at operation (boxed_of first) (boxed_of second)
+binary_is at operation first second = ap expression_of (sym (rolls-Binary at operation first second)) ∙ fold-roll-ExpTree _ _ _ _ _
+
+-- where no expression begins, none is read
+pub none_begun : {A : Type 0} (view : A → ExpSyntax) (words : Vocabulary) (levels : ℕ) (before after left : Tokens) (fault : SyntaxFault)
+    → Begins words levels before (Err fault) after → Reads view (read_expression words levels before) (Err fault) left
+none_begun view words levels before after left (At kind at) h = h
+none_begun view words levels before after left NoMemory h = tt
+
+-- where no token stands, no expression begins
+pub none_taken : (words : Vocabulary) (levels : ℕ) (before after : Tokens) (fault : SyntaxFault)
+    → Takes before (Err fault) after → Begins words levels before (Err fault) after
+none_taken words levels before after (At Expected at) h = ap (read_expression words levels) h ∙ (expression_is_tokens words levels).at_end at
+none_taken words levels before after (At (Lexical kind) at) h = ap (read_expression words levels) h ∙ (expression_is_tokens words levels).at_fault at kind
+none_taken words levels before after (At TooNested at) h = absurd h
+none_taken words levels before after NoMemory h = tt
+
+module _ (part : Tokens → Reading ExpSyntax) where
+  before_is : {A : Type 0} (behind : Behind) (tokens : Tokens) (go : ExpSyntax → Tokens → Reading A)
+      → then_read (read_before behind part tokens) go
+      ≡ then_read (part tokens) (λ expression rest. then_read (read_behind behind rest) (λ _ rest. go expression rest))
+  before_is behind tokens go =
+      in_turn (part tokens) (then_closed behind) go
+      ∙ alike (part tokens) _ _ (λ expression rest. in_turn (read_behind behind rest) (λ _ rest. Found expression rest) go)
+
+  abbrev second_of : {A : Type 0} → (BothSyntax → Tokens → Reading A) → ExpSyntax → Tokens → Reading A
+  second_of go first tokens =
+      then_read (part tokens) (λ second rest. then_read (read_mark RightParenthesis rest) (λ _ rest. go (record { first = first; second = second }) rest))
+
+  both_is : {A : Type 0} (tokens : Tokens) (go : BothSyntax → Tokens → Reading A)
+      → then_read (read_both part tokens) go
+      ≡ then_read (part tokens) (λ first rest. then_read (read_mark Comma rest) (λ _ rest. second_of go first rest))
+  both_is tokens go =
+      in_turn (read_before (behind.Mark Comma) part tokens) _ go
+      ∙ (alike (read_before (behind.Mark Comma) part tokens) _ (second_of go)
+          (λ first rest. in_turn (read_before (behind.Mark RightParenthesis) part rest) _ go
+          ∙ before_is (behind.Mark RightParenthesis) rest (λ second rest. go (record { first = first; second = second }) rest))
+        ∙ before_is (behind.Mark Comma) tokens (second_of go))
+
+  -- behind a parenthesis
+  abbrev pub as_pair : Place → BothSyntax → Tokens → Reading ExpSyntax
+  as_pair at both rest = Found (PairSyntax at both.first both.second) rest
+
+  abbrev pub unit_or_both : Place → Bool → Tokens → Reading ExpSyntax
+  unit_or_both at true rest = Found (UnitSyntax at) rest
+  unit_or_both at false rest = then_read (read_both part rest) (as_pair at)
+
+  sign_is : (pairs : Bool) (at : Place) (tokens : Tokens)
+      → pair_or_refused pairs part at tokens ≡ then_read (pair_sign pairs tokens) (unit_or_both at)
+  sign_is true at tokens = sym (both_is tokens (as_pair at))
+  sign_is false at tokens = then_refused tokens (unit_or_both at)
+
+  pub unit_or_pair_is : (words : Vocabulary) (at : Place) (tokens : Tokens)
+      → read_unit_or_pair words part at tokens ≡ then_read (read_unit_sign (words Pairs) tokens) (unit_or_both at)
+  unit_or_pair_is words at (Next next (MarkToken RightParenthesis) rest) = refl
+  unit_or_pair_is words at tokens = sign_is (words Pairs) at tokens
+
+  -- operations
+  abbrev pub operated : Place → OperationSyntax → Tokens → Reading ExpSyntax
+  operated at (OnOne operation) tokens =
+      then_read (read_before (behind.Mark RightParenthesis) part tokens) (λ operand rest. Found (UnarySyntax at operation operand) rest)
+  operated at (OnTwo operation) tokens =
+      then_read (read_both part tokens) (λ both rest. Found (BinarySyntax at operation both.first both.second) rest)
+
+  pub operation_is : (words : Vocabulary) (at : Place) (unary : Option UnaryOperation) (binary : Option BinaryOperator) (tokens : Tokens)
+      → operation_from (once_begun words) part at unary binary tokens ≡ then_read (read_operation at unary binary tokens) (operated at)
+  operation_is words at (Some operation) binary tokens =
+      sym (in_turn (read_mark LeftParenthesis tokens) (λ _ rest. Found (OnOne operation) rest) (operated at)
+      ∙ alike (read_mark LeftParenthesis tokens) _ _
+        (λ _ rest. before_is (behind.Mark RightParenthesis) rest (λ operand rest. Found (UnarySyntax at operation operand) rest)))
+  operation_is words at None (Some operation) tokens =
+      sym (in_turn (read_mark LeftParenthesis tokens) (λ _ rest. Found (OnTwo operation) rest) (operated at)
+      ∙ alike (read_mark LeftParenthesis tokens) _ _
+        (λ _ rest. both_is rest (λ both rest. Found (BinarySyntax at operation both.first both.second) rest)))
+  operation_is words at None None tokens = refl
+
+  -- `let`
+  abbrev pub let_body : Place → NameSyntax → ExpSyntax → Tokens → Reading ExpSyntax
+  let_body at name bound tokens = then_read (read_before behind.Nothing part tokens) (λ body rest. Found (LetSyntax at name bound body) rest)
+
+  abbrev pub let_bound : Place → NameSyntax → Tokens → Reading ExpSyntax
+  let_bound at name tokens = then_read (read_before (behind.Word InWord) part tokens) (let_body at name)
+
+  pub let_is : (at : Place) (tokens : Tokens) → read_let part at tokens ≡ then_read (read_binding tokens) (let_bound at)
+  let_is at tokens =
+      sym (in_turn (read_lower tokens) _ (let_bound at)
+      ∙ alike (read_lower tokens) _ _ (λ name rest. in_turn (read_mark EqualsSign rest) (λ _ rest. Found name rest) (let_bound at)
+        ∙ alike (read_mark EqualsSign rest) _ _ (λ _ rest. before_is (behind.Word InWord) rest (let_body at name)
+          ∙ alike (part rest) _ _ (λ bound rest. alike (read_keyword InWord rest) _ _ (λ _ rest.
+            before_is behind.Nothing rest (λ body rest. Found (LetSyntax at name bound body) rest))))))
+
+  -- `if`
+  abbrev pub if_other : Place → ExpSyntax → ExpSyntax → Tokens → Reading ExpSyntax
+  if_other at test first tokens = then_read (read_before behind.Nothing part tokens) (λ other rest. Found (IfSyntax at test first other) rest)
+
+  abbrev pub if_first : Place → ExpSyntax → Tokens → Reading ExpSyntax
+  if_first at test tokens = then_read (read_before (behind.Word ElseWord) part tokens) (if_other at test)
+
+  pub if_is : (at : Place) (tokens : Tokens) → read_if part at tokens ≡ then_read (read_before (behind.Word ThenWord) part tokens) (if_first at)
+  if_is at tokens =
+      sym (before_is (behind.Word ThenWord) tokens (if_first at)
+      ∙ alike (part tokens) _ _ (λ test rest. alike (read_keyword ThenWord rest) _ _ (λ _ rest.
+        before_is (behind.Word ElseWord) rest (if_other at test)
+        ∙ alike (part rest) _ _ (λ first rest. alike (read_keyword ElseWord rest) _ _ (λ _ rest.
+          before_is behind.Nothing rest (λ other rest. Found (IfSyntax at test first other) rest))))))
+
+  -- `match`, and an arm
+  abbrev pub match_arms : Place → ExpSyntax → Tokens → Reading ExpSyntax
+  match_arms at subject tokens =
+      then_read (read_mark Bar tokens) (λ _ tokens.
+      then_read (read_arms part (count tokens) tokens) (λ arms tokens. Found (MatchSyntax at subject arms) tokens))
+
+  pub match_is : (at : Place) (tokens : Tokens) → read_match part at tokens ≡ then_read (read_before (behind.Word WithWord) part tokens) (match_arms at)
+  match_is at tokens = sym (before_is (behind.Word WithWord) tokens (match_arms at))
+
+  abbrev pub arm_body : PatternSyntax → Tokens → Reading ArmSyntax
+  arm_body pattern tokens =
+      then_read (part tokens) (λ body rest. Found (record { constructor = pattern.constructor; fields = pattern.fields; body = body }) rest)
+
+  pub arm_is : (tokens : Tokens) → read_arm part tokens ≡ then_read (read_pattern tokens) arm_body
+  arm_is tokens =
+      sym (in_turn (read_upper tokens) _ arm_body
+      ∙ alike (read_upper tokens) _ _ (λ constructor rest. in_turn (read_optional_list read_lower rest) _ arm_body
+        ∙ alike (read_optional_list read_lower rest) _ _ (λ fields rest.
+          in_turn (read_mark Arrow rest) (λ _ rest. Found (record { constructor = constructor; fields = fields }) rest) arm_body)))

@@ -1,0 +1,115 @@
+-- Parts of expressions as the code reads them: each with what has to stand behind it.
+use Rattle.std.specs.Prelude.{◌≡◌, ◌≢◌, ℕ, ⊤, Result, Ok, Err, Bool, true, false, Option, Some, None, List, Box}
+use Rattle.std.specs.declared.alloc.Global.{Global}
+use Rattle.core_terms.specs.declared.language.term.BinaryOperator.{BinaryOperator}
+use Rattle.lexemes.specs.declared.place.Place.{Place}
+use Rattle.lexemes.specs.declared.token.Mark.TheVariants.{LeftParenthesis, RightParenthesis, Comma, EqualsSign, Arrow}
+use Rattle.lexemes.specs.declared.fault.SyntaxKind.TheVariants.{Expected}
+use Rattle.core_terms.specs.Texts.{bytes_of}
+use Rattle.core_terms.specs.declared.fault.Fault.TheVariants.{At, NoMemory}
+use Rattle.lexemes.specs.Tokens.{Token, KeywordToken, MarkToken, LowerToken, UpperToken, IntToken, TextToken, Tokens, Next}
+use Rattle.lexemes.specs.Readings.{SyntaxFault, Reading, Found, FaultAt, then_read, refused, read_mark, read_keyword}
+use Rattle.auth_syntax.specs.Syntax.{NameSyntax, UnaryOperation, ExpSyntax}
+use Rattle.auth_syntax.specs.Parsing.{begins_expression, read_expression, read_lower, read_upper, read_optional_list}
+use Rattle.auth_syntax.specs.Vocabulary.{Vocabulary}
+use Rattle.auth_syntax.specs.Trees.{name_of, names_of, unary_of, boxed_of}
+use Rattle.auth_syntax.specs.declared.tree.ExpTree.{ExpTree}
+use Rattle.auth_syntax.specs.declared.parser.expressions.Behind.{Behind}
+use Rattle.auth_syntax.specs.declared.parser.expressions.Behind.TheVariants as behind
+use Rattle.auth_syntax.specs.declared.parser.expressions.Head.{Head}
+use Rattle.auth_syntax.specs.declared.parser.expressions.Head.TheVariants as head
+use Rattle.auth_syntax.specs.declared.parser.expressions.PlacedHead.{PlacedHead}
+use Rattle.auth_syntax.specs.declared.parser.expressions.Operator.{Operator}
+use Rattle.auth_syntax.specs.declared.parser.expressions.Operator.TheVariants as code
+use Rattle.auth_syntax.specs.declared.parser.expressions.Pattern.{Pattern}
+
+-- the token that begins an expression
+abbrev pub head_token : Head → Token
+head_token (head.Keyword keyword) = KeywordToken keyword
+head_token (head.Mark mark) = MarkToken mark
+head_token (head.Lower name) = LowerToken name
+head_token (head.Upper name) = UpperToken name
+head_token (head.Int z) = IntToken z
+head_token (head.Text text) = TextToken (bytes_of text)
+
+-- a token that begins an expression is taken, where a level is left; or there is none, and this is the fault
+pub record IsBegun (words : Vocabulary) (levels : ℕ) (before : Tokens) (placed : PlacedHead) (after : Tokens) : Type 0 where
+  pub taken : before ≡ Next placed.at (head_token placed.head) after
+  pub begins : begins_expression words (head_token placed.head) ≡ true
+  pub nested : levels ≢ 0
+
+abbrev pub Begins : Vocabulary → ℕ → Tokens → Result PlacedHead SyntaxFault → Tokens → Type 0
+Begins words levels before (Ok placed) after = IsBegun words levels before placed after
+Begins words levels before (Err (At kind at)) after = read_expression words levels before ≡ FaultAt kind at
+Begins words levels before (Err NoMemory) after = ⊤
+
+-- what has to stand behind a part
+abbrev pub read_behind : Behind → Tokens → Reading (Unit {0})
+read_behind behind.Nothing tokens = Found tt tokens
+read_behind (behind.Mark mark) tokens = read_mark mark tokens
+read_behind (behind.Word keyword) tokens = read_keyword keyword tokens
+
+-- a part that was read, once what has to stand behind it is
+abbrev pub then_closed : Behind → ExpSyntax → Tokens → Reading ExpSyntax
+then_closed behind expression tokens = then_read (read_behind behind tokens) (λ _ tokens. Found expression tokens)
+
+abbrev pub read_before : Behind → (Tokens → Reading ExpSyntax) → Tokens → Reading ExpSyntax
+read_before behind part tokens = then_read (part tokens) (then_closed behind)
+
+-- two parts
+pub record BothSyntax : Type 0 where
+  pub first : ExpSyntax
+  pub second : ExpSyntax
+
+abbrev pub both_of : Box ExpTree Global × Box ExpTree Global → BothSyntax
+both_of both = record { first = boxed_of both.0; second = boxed_of both.1 }
+
+abbrev pub read_both : (Tokens → Reading ExpSyntax) → Tokens → Reading BothSyntax
+read_both part tokens =
+    then_read (read_before (behind.Mark Comma) part tokens) (λ first tokens.
+    then_read (read_before (behind.Mark RightParenthesis) part tokens) (λ second tokens.
+    Found (record { first = first; second = second }) tokens))
+
+-- behind a parenthesis: whether it is ended at once; where it is not, there have to be pairs
+abbrev pub pair_sign : Bool → Tokens → Reading Bool
+pair_sign true tokens = Found false tokens
+pair_sign false tokens = refused tokens
+
+abbrev pub read_unit_sign : Bool → Tokens → Reading Bool
+read_unit_sign pairs (Next at (MarkToken RightParenthesis) rest) = Found true rest
+read_unit_sign pairs tokens = pair_sign pairs tokens
+
+-- an operation, with the parenthesis before its operands
+pub data OperationSyntax : Type 0 where
+  OnOne : (operation : UnaryOperation) → OperationSyntax
+  OnTwo : (operation : BinaryOperator) → OperationSyntax
+
+abbrev pub operation_of : Operator → OperationSyntax
+operation_of (code.Unary operation) = OnOne (unary_of operation)
+operation_of (code.Binary operation) = OnTwo operation
+
+abbrev pub read_operation : Place → Option UnaryOperation → Option BinaryOperator → Tokens → Reading OperationSyntax
+read_operation at (Some operation) binary tokens = then_read (read_mark LeftParenthesis tokens) (λ _ tokens. Found (OnOne operation) tokens)
+read_operation at None (Some operation) tokens = then_read (read_mark LeftParenthesis tokens) (λ _ tokens. Found (OnTwo operation) tokens)
+read_operation at None None tokens = FaultAt Expected at
+
+-- the name that is bound, with the sign behind it
+abbrev pub read_binding : Tokens → Reading NameSyntax
+read_binding tokens =
+    then_read (read_lower tokens) (λ name tokens.
+    then_read (read_mark EqualsSign tokens) (λ _ tokens. Found name tokens))
+
+-- what an arm matches, with the arrow behind it
+pub record PatternSyntax : Type 0 where
+  pub constructor : NameSyntax
+  pub fields : List NameSyntax
+
+abbrev pub pattern_of : Pattern → PatternSyntax
+pattern_of pattern = record { constructor = name_of pattern.constructor; fields = names_of pattern.fields }
+
+abbrev pub read_pattern : Tokens → Reading PatternSyntax
+read_pattern tokens =
+    then_read (read_upper tokens) (λ constructor tokens.
+    then_read (read_optional_list read_lower tokens) (λ fields tokens.
+    then_read (read_mark Arrow tokens) (λ _ tokens.
+    Found (record { constructor = constructor; fields = fields }) tokens)))
