@@ -13,6 +13,8 @@ pub mod Outcomes
 pub mod CheckedLaws
 pub mod Locals
 pub mod Elaborators
+pub mod Joins
+pub mod Applications
 pub mod InOrder
 pub mod TypingRules
 pub mod BrokenRules
