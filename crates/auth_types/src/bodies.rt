@@ -7,6 +7,7 @@ mod calls;
 mod elaborator;
 mod functions;
 mod joins;
+mod leaves;
 mod operations;
 
 ghost use Rattle.std.specs.Prelude.{◌≡◌, ◌<◌, length, map, All, IfOk, IfSome, OnOk};
@@ -79,13 +80,11 @@ impl<'s, 'a> Elaborator<'s, 'a> {
         ensures literals { OnOk result (HasGoodLiterals (written.expression_of tree.now)) }
     {
         match tree {
-            ExpTree::UnitLiteral(_) => self.plain(Term::UnitLiteral, TyForm::UnitForm),
-            ExpTree::BoolLiteral(_, value) => {
-                self.plain(Term::BoolLiteral(*value), TyForm::BoolForm)
-            }
-            ExpTree::IntLiteral(_, value) => self.plain(Term::IntLiteral(*value), TyForm::IntForm),
-            ExpTree::TextLiteral(_, text) => self.text(text),
-            ExpTree::Local(at, name) => self.local(*at, name),
+            ExpTree::UnitLiteral(_)
+            | ExpTree::BoolLiteral(_, _)
+            | ExpTree::IntLiteral(_, _)
+            | ExpTree::TextLiteral(_, _)
+            | ExpTree::Local(_, _) => self.leaf(tree),
             ExpTree::Pair(_, first, second) => self.two(Join::Pair, first, second),
             ExpTree::Unary(_, operator, operand) => {
                 let at = place(operand);

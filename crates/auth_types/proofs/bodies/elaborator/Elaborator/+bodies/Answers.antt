@@ -48,54 +48,6 @@ use Rattle.declared_types.proofs.TypeNumbers.{grows_on, grows_self, shows_grow}
 use Rattle.auth_types.proofs.bodies.elaborator.Elaborator.+bodies.Goals as goal
 
 -- the forms of expressions
-pub term-returns-in-UnitLiteral : goal.term-returns-in-UnitLiteral
-term-returns-in-UnitLiteral t c = record {
-  keeps = c.plain.ensures.keeps;
-  found = c.plain.ensures.found _
-      (λ _. literal_shows (types_of c.plain.new.self) _ term.UnitLiteral UnitE UnitTy
-      (ap (found_at c.args.self.now) (ap expression_of c.in-UnitLiteral.is ∙ expression-UnitLiteral _)) (λ types. terms.expression-UnitLiteral types));
-  inside = c.plain.ensures.inside;
-  literals = rw (c.in-UnitLiteral.is, expression-UnitLiteral) (on_ok c.plain.result tt);
-}
-
-pub term-returns-in-BoolLiteral : goal.term-returns-in-BoolLiteral
-term-returns-in-BoolLiteral t c = record {
-  keeps = c.plain-in-BoolLiteral.ensures.keeps;
-  found = c.plain-in-BoolLiteral.ensures.found _
-      (λ _. literal_shows (types_of c.plain-in-BoolLiteral.new.self) _ (term.BoolLiteral c.in-BoolLiteral.value) (BoolE c.in-BoolLiteral.value) BoolTy
-      (ap (found_at c.args.self.now) (ap expression_of c.in-BoolLiteral.is ∙ expression-BoolLiteral _ _))
-      (λ types. terms.expression-BoolLiteral types c.in-BoolLiteral.value));
-  inside = c.plain-in-BoolLiteral.ensures.inside;
-  literals = rw (c.in-BoolLiteral.is, expression-BoolLiteral) (on_ok c.plain-in-BoolLiteral.result tt);
-}
-
-pub term-returns-in-IntLiteral : goal.term-returns-in-IntLiteral
-term-returns-in-IntLiteral t c = record {
-  keeps = c.plain-in-IntLiteral.ensures.keeps;
-  found = c.plain-in-IntLiteral.ensures.found _
-      (λ _. int_shows (types_of c.plain-in-IntLiteral.new.self) _ c.in-IntLiteral.value _
-      (ap (found_at c.args.self.now) (ap expression_of c.in-IntLiteral.is ∙ expression-IntLiteral _ _)) (search rules));
-  inside = c.plain-in-IntLiteral.ensures.inside;
-  literals = rw (c.in-IntLiteral.is, expression-IntLiteral) (on_ok c.plain-in-IntLiteral.result (search rules));
-}
-
-pub term-returns-in-TextLiteral : goal.term-returns-in-TextLiteral
-term-returns-in-TextLiteral t c = record {
-  keeps = c.text.ensures.keeps;
-  found = rw (c.in-TextLiteral.is, expression-TextLiteral) c.text.ensures.found;
-  inside = c.text.ensures.inside;
-  literals = rw (c.in-TextLiteral.is, expression-TextLiteral) (on_ok c.text.result
-      (IsUtf8-from_is_utf8 c.in-TextLiteral.text.bytes.items c.in-TextLiteral.text.utf8, c.in-TextLiteral.text.fits));
-}
-
-pub term-returns-in-Local : goal.term-returns-in-Local
-term-returns-in-Local t c = record {
-  keeps = on_ok c.local.result (keeps_self c.args.self.now);
-  found = rw (c.in-Local.is, expression-Local) c.local.ensures.found;
-  inside = c.local.ensures.inside;
-  literals = rw (c.in-Local.is, expression-Local) (on_ok c.local.result tt);
-}
-
 pub term-returns-in-Pair : goal.term-returns-in-Pair
 term-returns-in-Pair t c =
     let e = c.args.self.now in
