@@ -8,7 +8,6 @@ use Rattle.core_terms.specs.LanguageTrees.{expression_of, types_at}
 use Rattle.core_terms.specs.declared.fault.Fault.TheVariants.{At, NoMemory}
 use Rattle.core_terms.specs.declared.language.term.Term.{Term}
 use Rattle.core_terms.specs.declared.program.FunctionId.{FunctionId}
-use Rattle.core_terms.specs.declared.types.TyId.{TyId}
 use Rattle.lexemes.specs.declared.place.Place.{Place}
 use Rattle.auth_syntax.specs.Syntax.{ExpsSyntax}
 use Rattle.declared_types.specs.Checking.{Checking, then_checked}

@@ -1,8 +1,6 @@
 -- Lemmas of two expressions that are joined.
-use Rattle.std.proofs.Common.{◌≡◌, ◌≢◌, ◌<◌, ◌≤◌, Bool, true, false, List, [], ◌∷◌, ◌++◌, length, take, nat_lt, Result, Ok, Err, Some, slice_get, refl, sym, ap, ◌∙◌, subst, arith}
+use Rattle.std.proofs.Common.{◌≡◌, ◌≢◌, ◌<◌, Bool, true, false, List, [], ◌∷◌, ◌++◌, length, take, nat_lt, Result, Ok, Err, Some, slice_get, refl, sym, ap, ◌∙◌, subst}
 use Rattle.std.specs.Prelude.{OnOk}
-use Rattle.std.specs.declared.alloc.Global.{Global}
-use Rattle.std.specs.declared.boxed.Box.{Box}
 use Rattle.std.proofs.lemmas.Option.{get_or_from_slice_get}
 use Rattle.core_terms.specs.declared.language.term.BinaryOperator.{BinaryOperator}
 use Rattle.core_terms.specs.declared.language.term.Term as term
@@ -16,7 +14,7 @@ use Rattle.core_terms.proofs.TermViews.{expression-Let}
 use Rattle.core_terms.proofs.TypingComplete.{same_self}
 use Rattle.core_terms.proofs.TypingSound.{same_sound}
 use Rattle.lexemes.specs.declared.place.Place.{Place}
-use Rattle.auth_syntax.specs.Syntax.{ExpSyntax, NameSyntax, PairSyntax, BinarySyntax, LetSyntax, place_of}
+use Rattle.auth_syntax.specs.Syntax.{ExpSyntax, NameSyntax, LetSyntax, place_of}
 use Rattle.declared_types.specs.Checking.{Checking, Sound, FaultAt, then_checked, unless_fault}
 use Rattle.declared_types.specs.Findings.{Finds, TypeFault}
 use Rattle.declared_types.specs.OverTypes.{FindsOver, Grows, Shows}
@@ -25,7 +23,7 @@ use Rattle.declared_types.specs.declared.fault.TypeKind.{TypeKind}
 use Rattle.declared_types.specs.declared.fault.TypeKind.TheVariants.{Limit, WrongType}
 use Rattle.declared_types.specs.declared.fault.Limited.TheVariants.{Locals}
 use Rattle.declared_types.proofs.ScopeStays.{type_stays_at}
-use Rattle.declared_types.proofs.TypeNumbers.{shows_grow, shows_now}
+use Rattle.declared_types.proofs.TypeNumbers.{shows_now}
 use Rattle.auth_types.specs.Bodies.{Local, Typed, binary, binary_expression, elaborated, operand_type, pair, result_type, typed, wanted}
 use Rattle.auth_types.specs.Elaborators.{ShowsTerm, boxed_of, typed_of}
 use Rattle.auth_types.specs.Joins.{inner_locals, joined, two}
@@ -34,7 +32,7 @@ use Rattle.auth_types.specs.declared.bodies.joins.Join.{Join}
 use Rattle.auth_types.specs.declared.bodies.joins.Join.TheVariants.{Pair, Operation, Let}
 use Rattle.auth_types.proofs.BoundNames.{named_local, with_local, with_local_is}
 use Rattle.auth_types.proofs.ElaboratorSteps.{one_outer}
-use Rattle.auth_types.proofs.FindingSteps.{fault_second, finds_is, refused_at, refused_by}
+use Rattle.auth_types.proofs.FindingSteps.{finds_is, refused_at, refused_by}
 
 -- all that stand there
 pub all_taken : (locals : List Local) → take (length locals) locals ≡ locals

@@ -3,9 +3,7 @@ use Rattle.std.proofs.Common.{◌≡◌, ◌<◌, ◌≤◌, ◌∙◌, [], List
 use Rattle.std.proofs.lemmas.List.{length-map}
 use Rattle.std.proofs.lemmas.Option.{get_or_from_slice_get}
 use Rattle.std.proofs.lemmas.Result.{err_from_is_err_and}
-use Rattle.std.proofs.lemmas.Str.{IsUtf8-from_is_utf8}
 use Rattle.core_terms.specs.Types.{Ty, UnitTy, BoolTy}
-use Rattle.core_terms.specs.Terms.{UnitE, BoolE}
 use Rattle.core_terms.specs.TypeTables.{type_at}
 use Rattle.core_terms.specs.LanguageTrees.{types_at}
 use Rattle.core_terms.specs.declared.types.TyId.{TyId}
@@ -20,30 +18,28 @@ use Rattle.auth_syntax.specs.declared.tree.ExpTree.{ExpTree}
 use Rattle.auth_syntax.specs.declared.tree.ExpTree.TheViews.{size-ExpTree, size-Arm}
 use Rattle.auth_syntax.specs.declared.tree.Arm.{Arm}
 use Rattle.declared_types.specs.Findings.{Finds}
-use Rattle.auth_types.specs.Bodies.{Local, arm_names, bound_names, elaborated, elaborated_arms, operand_type, unary, wanted, wanted_arm}
+use Rattle.auth_types.specs.Bodies.{Local, arm_names, bound_names, elaborated, elaborated_arms, unary, wanted, wanted_arm}
 use Rattle.declared_types.specs.Signatures.{Scope}
 use Rattle.declared_types.specs.Checking.{Sound, then_checked}
 use Rattle.auth_types.specs.Joins.{joined}
 use Rattle.auth_types.specs.CheckedLaws.{HasGoodLiterals}
 use Rattle.auth_types.specs.Elaborators.{Keeps, Matches, arms_found, arms_of, boxed_of, fields_of, found_at, found_in, locals_of, row_found, row_of, scope_of, typed_of, types_of, want_of}
 use Rattle.declared_types.specs.OverTypes.{FindsOver, Grows, Shows}
-use Rattle.declared_types.specs.Scopes.{AreWithin, function_meant}
+use Rattle.declared_types.specs.Scopes.{AreWithin}
 use Rattle.auth_types.proofs.ApplicationSteps.{application_shows, name_unfit, parts_refused, row_kept}
 use Rattle.auth_types.proofs.ArmSteps.{arm_finds, arm_kept, arm_miscounted, arm_refused, names_bound, names_refused, next_fields, wanted_arm_fault}
-use Rattle.auth_types.proofs.BoundNames.{with_local, with_local_is}
-use Rattle.auth_types.proofs.CallSteps.{constructors_count, parameters_count, types_count}
-use Rattle.auth_types.proofs.ElaboratorSteps.{found_kept, keeps_closed, keeps_on, keeps_self, one_outer, scope_is, wanted_kept}
-use Rattle.auth_types.proofs.ExpressionSteps.{call_found, call_refused, constructor_found, constructor_refused, count_row, if_shows, let_shows}
+use Rattle.auth_types.proofs.CallSteps.{constructors_count}
+use Rattle.auth_types.proofs.ElaboratorSteps.{found_kept, keeps_closed, keeps_on, keeps_self, scope_is, wanted_kept}
+use Rattle.auth_types.proofs.ExpressionSteps.{count_row, if_shows}
 use Rattle.auth_types.proofs.FindingSteps.{fault_first, finds_is, no_value, on_more, on_ok, refused_at, refused_by, shows_is}
 use Rattle.auth_types.proofs.LiteralSteps.{arms_good, arms_good_last, row_good, row_good_last}
-use Rattle.auth_types.proofs.LocalSteps.{int_shows, literal_shows}
 use Rattle.auth_types.proofs.MatchSteps.{match_arms_refused, match_found, match_refused}
-use Rattle.auth_types.proofs.RefusedParts.{body_refused, callee_refused, first_operand_refused, first_refused, maker_refused, name_refused, operands_found, other_refused, pair_refused, second_operand_refused, test_refused, unary_refused}
+use Rattle.auth_types.proofs.RefusedParts.{first_refused, other_refused, test_refused, unary_refused}
 use Rattle.auth_types.proofs.JoinSteps.{between_refused, inner_found, let_is_two, operation_is_two, pair_is_two, second_refused, two_found}
 use Rattle.auth_types.proofs.RowSteps.{arms_behind_none, arms_last, arms_more, arms_refused, constructor_within, next_mapped, none_mapped, row_behind_none, row_last, row_more, row_refused, want_stays, want_within}
 use Rattle.declared_types.proofs.ScopeStays.{grows_length, type_stays_at}
 use Rattle.core_terms.proofs.TermViews as terms
-use Rattle.auth_types.proofs.TreeViews.{arm-parts, expression-UnitLiteral, expression-BoolLiteral, expression-IntLiteral, expression-TextLiteral, expression-Local, expression-Pair, expression-Unary, expression-Binary, expression-Call, expression-Constructor, expression-Let, expression-If, expression-Match}
+use Rattle.auth_types.proofs.TreeViews.{arm-parts, expression-Pair, expression-Unary, expression-Binary, expression-Call, expression-Constructor, expression-Let, expression-If, expression-Match}
 use Rattle.declared_types.proofs.TypeNumbers.{grows_on, grows_self, shows_grow}
 use Rattle.auth_types.proofs.bodies.elaborator.Elaborator.+bodies.Goals as goal
 
@@ -164,6 +160,12 @@ part-returns t c = record {
       (c.wanted.ensures found c.in_ok-part.ensures.found);
   literals = on_ok c.wanted.result c.in_ok-part.ensures.literals;
 }
+
+pub part-wanted-requires-clause-wanted : goal.part-wanted-requires-clause-wanted
+part-wanted-requires-clause-wanted t c =
+    let longer = grows_length (types_of c.args.self.now) (types_of c.term.new.self) c.in_ok-part.ensures.keeps.grows in
+    let here = c.requires in
+    omega (arith, here, longer)
 
 pub part-returns-in_err-part : goal.part-returns-in_err-part
 part-returns-in_err-part t c =
@@ -505,6 +507,12 @@ condition-returns-in_err-other t c =
       inside = no_value _ _ r e;
       literals = no_value _ _ r e;
     }
+
+pub condition-typed-requires : goal.condition-typed-requires
+condition-typed-requires t c =
+    let longer = grows_length (types_of c.term.new.self) (types_of c.part-2.new.self) c.in_ok-other.ensures.keeps.grows in
+    let here = c.in_ok-first.ensures.inside in
+    omega (arith, here, longer)
 
 pub condition-returns : goal.condition-returns
 condition-returns t c = record {
