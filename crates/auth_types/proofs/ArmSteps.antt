@@ -1,5 +1,5 @@
 -- Lemmas of an arm of a match.
-use Rattle.std.proofs.Common.{◌≡◌, ◌≢◌, ℕ, ◌+◌, ◌<◌, Bool, List, [], ◌∷◌, length, map, drop, nat_eq, Option, Result, slice_index_or, sym, ap, ◌∙◌}
+use Rattle.std.proofs.Common.{◌≡◌, ◌≢◌, ℕ, ◌+◌, ◌<◌, Bool, List, [], ◌∷◌, length, map, drop, nat_eq, Option, Some, None, Result, slice_index_or, refl, sym, ap, ◌∙◌}
 use Rattle.std.proofs.lemmas.Bool.{eq-eqb, ne_eqb}
 use Rattle.std.proofs.lemmas.List.{length-map}
 use Rattle.core_terms.specs.Types.{Ty}
@@ -88,3 +88,12 @@ pub next_fields : (types : List Ty) (cs : List Constructor) (i : ℕ) (c : Const
 next_fields types cs i c ids inside is same =
     next_mapped (λ (c : Constructor). types_at types c.fields.items) cs i c c inside is
     ∙ ap (λ ids. types_at types ids ∷ drop (i + 1) (fields_of types cs)) (sym same)
+
+-- a body that is refused, whatever type is wanted
+pub wanted_arm_fault : (want : Option Ty) (place : Place) (found : Checking Typed) (kind : TypeKind) (at : Place) → found ≡ FaultAt kind at
+    → wanted_arm want place found ≡ FaultAt kind at
+wanted_arm_fault want place found kind at is = ap (wanted_arm want place) is ∙ by want
+  where
+    by : (want : Option Ty) → wanted_arm want place (FaultAt kind at) ≡ FaultAt kind at
+    by None = refl
+    by (Some t) = refl

@@ -6,8 +6,11 @@ pub mod FindingSteps
 pub mod LocalSteps
 pub mod OperationSteps
 pub mod CallSteps
+pub mod ApplicationSteps
 pub mod BoundNames
--- the cycle of bodies.rt: what binds, conditions, calls and constructors; rows; matches and their arms; parts that are refused
+-- joins.rt, and `two` of bodies.rt
+pub mod JoinSteps
+-- the cycle of bodies.rt: conditions, calls and constructors; rows; matches and their arms; parts that are refused
 pub mod ExpressionSteps
 pub mod RowSteps
 pub mod MatchSteps

@@ -164,6 +164,10 @@ pub want_stays : (old new : List Ty) (want : Option TyId) → Grows old new → 
 want_stays old new None grows inside = refl
 want_stays old new (Some ty) grows inside = ap Some (type_stays_at old new grows ty inside)
 
+pub want_within : (m n : ℕ) (want : Option TyId) → m ≤ n → IfSome want (λ ty. ty.0 < m) → IfSome want (λ ty. ty.0 < n)
+want_within m n None more inside = tt
+want_within m n (Some ty) more inside = omega (arith, more, inside)
+
 module _ (scope : Scope) (locals : List Local) where
   -- what is found of the expressions that are left, and of the arms
   abbrev pub row_left : List ExpSyntax → List Ty → ℕ → Checking Expressions

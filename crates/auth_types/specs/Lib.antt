@@ -13,6 +13,9 @@ pub mod Outcomes
 pub mod CheckedLaws
 pub mod Locals
 pub mod Elaborators
+pub mod Joins
+pub mod Applications
+pub mod Leaves
 pub mod InOrder
 pub mod TypingRules
 pub mod BrokenRules

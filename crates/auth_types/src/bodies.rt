@@ -6,6 +6,8 @@ mod binders;
 mod calls;
 mod elaborator;
 mod functions;
+mod joins;
+mod leaves;
 mod operations;
 
 ghost use Rattle.std.specs.Prelude.{◌≡◌, ◌<◌, length, map, All, IfOk, IfSome, OnOk};
@@ -15,15 +17,19 @@ ghost use Rattle.auth_syntax.specs.Parsing.{in_a_row};
 ghost use Rattle.lexemes.specs.Places.{start};
 ghost use Rattle.auth_syntax.specs.Syntax as syntax;
 ghost use Rattle.auth_syntax.specs.Trees as written;
+ghost use Rattle.auth_types.specs.Applications.{application};
 ghost use Rattle.auth_types.specs.Bodies as specified;
 ghost use Rattle.auth_types.specs.CheckedLaws.{ArmsHaveGoodLiterals, HasGoodLiterals, HaveGoodLiterals};
-ghost use Rattle.auth_types.specs.Elaborators.{Keeps, arm_found, arms_found, arms_of, boxed_of, fields_of, found_at, found_in, row_found, row_of, typed_of, types_of, want_of};
+ghost use Rattle.auth_types.specs.Elaborators.{Keeps, arm_found, arms_found, arms_of, boxed_of, fields_of, found_at, found_in, locals_of, row_found, row_of, scope_of, typed_of, types_of, want_of};
+ghost use Rattle.auth_types.specs.Joins as joins;
 ghost use Rattle.declared_types.specs.OverTypes.{FindsOver};
 ghost use Rattle.declared_types.specs.Scopes.{AreWithin, IsConstructorWithin};
 
+use crate::bodies::calls::{Space, applied_term};
 use crate::bodies::elaborator::Elaborator;
-use auth_syntax::tree::{Arm, ExpTree, PlacedName};
-use core_terms::language::{BinaryOperator, Constructor, Term, TyForm};
+use crate::bodies::joins::Join;
+use auth_syntax::tree::{Arm, ExpTree};
+use core_terms::language::{Constructor, Term, TyForm};
 use core_terms::{Name, TyId};
 use declared_types::fault::{TypeFault, TypeKind};
 pub(crate) use functions::{Bodies, fourth_pass};
@@ -74,28 +80,32 @@ impl<'s, 'a> Elaborator<'s, 'a> {
         ensures literals { OnOk result (HasGoodLiterals (written.expression_of tree.now)) }
     {
         match tree {
-            ExpTree::UnitLiteral(_) => self.plain(Term::UnitLiteral, TyForm::UnitForm),
-            ExpTree::BoolLiteral(_, value) => {
-                self.plain(Term::BoolLiteral(*value), TyForm::BoolForm)
-            }
-            ExpTree::IntLiteral(_, value) => self.plain(Term::IntLiteral(*value), TyForm::IntForm),
-            ExpTree::TextLiteral(_, text) => self.text(text),
-            ExpTree::Local(at, name) => self.local(*at, name),
-            ExpTree::Pair(_, first, second) => self.pair(first, second),
+            ExpTree::UnitLiteral(_)
+            | ExpTree::BoolLiteral(_, _)
+            | ExpTree::IntLiteral(_, _)
+            | ExpTree::TextLiteral(_, _)
+            | ExpTree::Local(_, _) => self.leaf(tree),
+            ExpTree::Pair(_, first, second) => self.two(Join::Pair, first, second),
             ExpTree::Unary(_, operator, operand) => {
                 let at = place(operand);
                 let operand = self.term(operand)?;
                 self.unary(*operator, at, operand)
             }
-            ExpTree::Binary(_, operator, first, second) => self.binary(*operator, first, second),
-            ExpTree::Call(at, name, operands) => self.call(*at, name, operands),
-            ExpTree::Constructor(at, name, operands) => self.constructor(*at, name, operands),
+            ExpTree::Binary(_, operator, first, second) => {
+                self.two(Join::Operation(*operator), first, second)
+            }
+            ExpTree::Call(at, name, operands) => {
+                self.applied(Space::Functions, *at, name, operands)
+            }
+            ExpTree::Constructor(at, name, operands) => {
+                self.applied(Space::Constructors, *at, name, operands)
+            }
             ExpTree::Let {
                 name,
                 bound,
                 body,
                 ..
-            } => self.let_in(name, bound, body),
+            } => self.two(Join::Let(name), bound, body),
             ExpTree::If {
                 test,
                 first,
@@ -118,70 +128,44 @@ impl<'s, 'a> Elaborator<'s, 'a> {
         self.wanted(place(tree), ty, part)
     }
 
-    /// Two expressions between parentheses.
+    /// Two expressions, of which the second stands behind the first.
     #[cycle(bodies)]
-    fn pair(&mut self, first: &'a ExpTree, second: &'a ExpTree) -> Result<Typed, TypeFault>
-        ensures keeps { OnOk result (Keeps self.old self.new) }
-        ensures found { FindsOver (types_of self.new) typed_of (specified.pair (found_in self.old first.now) (found_in self.old second.now)) result }
-        ensures inside { IfOk result (λ typed. typed.ty.0 < length (types_of self.new)) }
-        ensures literals { OnOk result (HasGoodLiterals (written.expression_of first.now) × HasGoodLiterals (written.expression_of second.now)) }
-    {
-        let first = self.term(first)?;
-        let second = self.term(second)?;
-        self.paired(first, second)
-    }
-
-    /// An operation on two operands.
-    #[cycle(bodies)]
-    fn binary(
+    fn two(
         &mut self,
-        operator: BinaryOperator,
+        join: Join<'a>,
         first: &'a ExpTree,
         second: &'a ExpTree,
     ) -> Result<Typed, TypeFault>
         ensures keeps { OnOk result (Keeps self.old self.new) }
-        ensures found { FindsOver (types_of self.new) typed_of (specified.binary operator (syntax.place_of (written.expression_of first.now)) (found_in self.old first.now) (syntax.place_of (written.expression_of second.now)) (found_in self.old second.now)) result }
+        ensures found { FindsOver (types_of self.new) typed_of (joins.two (scope_of self.old) (locals_of self.old) join.entry (written.expression_of first.now) (written.expression_of second.now)) result }
         ensures inside { IfOk result (λ typed. typed.ty.0 < length (types_of self.new)) }
         ensures literals { OnOk result (HasGoodLiterals (written.expression_of first.now) × HasGoodLiterals (written.expression_of second.now)) }
     {
-        let ty = self.operand_type(operator)?;
-        let first = self.part(first, ty)?;
-        let second = self.part(second, ty)?;
-        self.combined(operator, first, second)
+        let outer = self.depth();
+        let one = self.term(first)?;
+        self.between(join, place(first), one.ty)?;
+        let other = self.term(second)?;
+        self.close(outer);
+        self.joined(join, one, place(second), other)
     }
 
-    /// A call of the function of a name at this place.
+    /// A name of this space at this place, with the expressions behind it.
     #[cycle(bodies)]
-    fn call(&mut self, at: Place, name: &Name, operands: &'a [ExpTree]) -> Result<Typed, TypeFault>
-        ensures keeps { OnOk result (Keeps self.old self.new) }
-        ensures found { FindsOver (types_of self.new) typed_of (found_at self.old (syntax.CallSyntax at name.now (in_a_row (map written.expression_of operands.now)))) result }
-        ensures inside { IfOk result (λ typed. typed.ty.0 < length (types_of self.new)) }
-        ensures literals { OnOk result (HaveGoodLiterals (in_a_row (map written.expression_of operands.now))) }
-    {
-        let function = self.callee(at, name, operands.len())?;
-        let head = self.scope.head(function);
-        let arguments = self.operands(operands, &head.parameters)?;
-        self.typed(Term::Call(function, arguments), head.result)
-    }
-
-    /// The constructor of a name at this place, with its fields.
-    #[cycle(bodies)]
-    fn constructor(
+    fn applied(
         &mut self,
+        space: Space,
         at: Place,
         name: &Name,
         operands: &'a [ExpTree],
     ) -> Result<Typed, TypeFault>
         ensures keeps { OnOk result (Keeps self.old self.new) }
-        ensures found { FindsOver (types_of self.new) typed_of (found_at self.old (syntax.ConstructorSyntax at name.now (in_a_row (map written.expression_of operands.now)))) result }
+        ensures found { FindsOver (types_of self.new) typed_of (application (scope_of self.old) space at name.now (specified.count_of (in_a_row (map written.expression_of operands.now))) (row_found self.old (in_a_row (map written.expression_of operands.now)))) result }
         ensures inside { IfOk result (λ typed. typed.ty.0 < length (types_of self.new)) }
         ensures literals { OnOk result (HaveGoodLiterals (in_a_row (map written.expression_of operands.now))) }
     {
-        let id = self.maker(at, name, operands.len())?;
-        let types = self.scope.fields(id);
-        let fields = self.operands(operands, types)?;
-        let ty = self.intern(TyForm::NamedForm(id.named))?;
-        self.typed(Term::Constructor(id.named, id.tag, fields), ty)
+        let callee = self.named(space, at, name, operands.len())?;
+        let terms = self.operands(operands, callee.types)?;
+        self.typed(applied_term(callee.applied, terms), callee.ty)
     }
 
     /// Expressions in a row, of these types.
@@ -199,32 +183,6 @@ impl<'s, 'a> Elaborator<'s, 'a> {
             terms.push(Box::into_inner(part))?;
         }
         Ok(terms)
-    }
-
-    /// An expression that binds a name.
-    #[cycle(bodies)]
-    fn let_in(
-        &mut self,
-        name: &'a PlacedName,
-        bound: &'a ExpTree,
-        body: &'a ExpTree,
-    ) -> Result<Typed, TypeFault>
-        ensures keeps { OnOk result (Keeps self.old self.new) }
-        ensures found { FindsOver (types_of self.new) typed_of (found_at self.old (syntax.LetSyntax start (written.name_of name.now) (written.expression_of bound.now) (written.expression_of body.now))) result }
-        ensures inside { IfOk result (λ typed. typed.ty.0 < length (types_of self.new)) }
-        ensures literals { OnOk result (HasGoodLiterals (written.expression_of bound.now) × HasGoodLiterals (written.expression_of body.now)) }
-    {
-        let outer = self.depth();
-        let bound = self.term(bound)?;
-        self.bind(name, bound.ty)?;
-        let body = self.term(body)?;
-        self.close(outer);
-        let term = Term::Let {
-            bound_type: bound.ty,
-            bound: bound.term,
-            body: body.term,
-        };
-        self.typed(term, body.ty)
     }
 
     /// A condition.
@@ -323,26 +281,8 @@ impl<'s, 'a> Elaborator<'s, 'a> {
         }
         let outer = self.depth();
         self.bind_each(&arm.fields, fields)?;
-        let body = self.body(&arm.body, wanted)?;
+        let body = self.term(&arm.body)?;
         self.close(outer);
-        Ok(body)
-    }
-
-    /// The body of an arm, whose type may be wanted.
-    #[cycle(bodies)]
-    fn body(&mut self, tree: &'a ExpTree, wanted: Option<TyId>) -> Result<Typed, TypeFault>
-        requires { IfSome wanted (λ ty. ty.0 < length (types_of self.old)) }
-        ensures keeps { OnOk result (Keeps self.old self.new) }
-        ensures found { FindsOver (types_of self.new) typed_of (specified.wanted_arm (want_of (types_of self.old) wanted) (syntax.place_of (written.expression_of tree.now)) (found_in self.old tree.now)) result }
-        ensures inside { IfOk result (λ typed. typed.ty.0 < length (types_of self.new)) }
-        ensures literals { OnOk result (HasGoodLiterals (written.expression_of tree.now)) }
-    {
-        match wanted {
-            Some(ty) => {
-                let term = self.part(tree, ty)?;
-                Ok(Typed { term, ty })
-            }
-            None => self.term(tree),
-        }
+        self.wanted_arm(place(&arm.body), wanted, body)
     }
 }

@@ -1,20 +1,54 @@
 // What calls, constructors and matches name, before their parts are elaborated.
-ghost use Rattle.std.specs.Prelude.{◌≡◌, ◌<◌, [], length, map, slice_get, unwrap_or, IfOk};
-ghost use Rattle.core_terms.specs.Types.{fields_at};
+ghost use Rattle.std.specs.Prelude.{◌≡◌, ◌<◌, [], length, map, slice_get, unwrap_or, IfOk, List, OnOk};
+ghost use Rattle.core_terms.specs.LanguageTrees.{expression_of};
+ghost use Rattle.core_terms.specs.Types.{Ty, fields_at};
 ghost use Rattle.core_terms.specs.TypeTables.{type_at};
 ghost use Rattle.auth_syntax.specs.Trees as written;
+ghost use Rattle.auth_types.specs.Applications.{Applies, applied_expression};
 ghost use Rattle.auth_types.specs.Bodies.{arm_names, same_names};
 ghost use Rattle.declared_types.specs.Signatures.{constructor_named, function_named};
-ghost use Rattle.declared_types.specs.Scopes.{function_meant};
-ghost use Rattle.auth_types.specs.Elaborators.{Calls, Constructs, Matches, scope_of, types_of};
+ghost use Rattle.declared_types.specs.Scopes.{AreWithin, function_meant};
+ghost use Rattle.auth_types.specs.Elaborators.{Calls, Constructs, Keeps, Matches, row_of, scope_of, types_of};
 
 use crate::bodies::elaborator::Elaborator;
 use auth_syntax::tree::Arm;
-use core_terms::language::{Constructor, NamedId, TyForm};
+use core_terms::language::{Constructor, NamedId, Term, TyForm};
 use core_terms::{FunctionId, Name, TyId};
 use declared_types::fault::{TypeFault, TypeKind};
 use declared_types::scope::ConstructorId;
 use lexemes::place::Place;
+
+/// Names of functions, or of constructors.
+#[derive(Clone, Copy)]
+pub(super) enum Space {
+    Functions,
+    Constructors,
+}
+
+/// What stands before expressions in a row.
+#[derive(Clone, Copy)]
+pub(super) enum Applied {
+    Function(FunctionId),
+    Constructor(ConstructorId),
+}
+
+/// A function or a constructor, with the numbers of the types of its parts and of the whole.
+#[derive(Clone, Copy)]
+pub(super) struct Callee<'s> {
+    pub applied: Applied,
+    pub types: &'s [TyId],
+    pub ty: TyId,
+}
+
+/// The term of a function or a constructor with these terms behind it.
+pub(super) fn applied_term(applied: Applied, terms: Vec<Term>) -> Term
+    ensures { (types : List Ty) → expression_of types result ≡ applied_expression applied (row_of types terms) }
+{
+    match applied {
+        Applied::Function(id) => Term::Call(id, terms),
+        Applied::Constructor(id) => Term::Constructor(id.named, id.tag, terms),
+    }
+}
 
 /// Whether the arms are of these constructors, in order.
 fn are_of(arms: &[Arm], constructors: &[Constructor]) -> bool
@@ -32,8 +66,45 @@ fn are_of(arms: &[Arm], constructors: &[Constructor]) -> bool
 }
 
 impl<'s, 'a> Elaborator<'s, 'a> {
+    /// What a name of this space at this place stands for, which has so many parts.
+    pub(super) fn named(
+        &mut self,
+        space: Space,
+        at: Place,
+        name: &Name,
+        count: usize,
+    ) -> Result<Callee<'s>, TypeFault>
+        ensures keeps { OnOk result (Keeps self.old self.new) }
+        ensures found { Applies (scope_of self.old) space at name.now count (types_of self.new) result }
+        ensures count { IfOk result (λ callee. count ≡ length callee.types.now) }
+        ensures within { IfOk result (λ callee. AreWithin (length (types_of self.new)) callee.types.now) }
+        ensures inside { IfOk result (λ callee. callee.ty.0 < length (types_of self.new)) }
+    {
+        match space {
+            Space::Functions => {
+                let id = self.callee(at, name, count)?;
+                let head = self.scope.head(id);
+                Ok(Callee {
+                    applied: Applied::Function(id),
+                    types: &head.parameters,
+                    ty: head.result,
+                })
+            }
+            Space::Constructors => {
+                let id = self.maker(at, name, count)?;
+                let types = self.scope.fields(id);
+                let ty = self.intern(TyForm::NamedForm(id.named))?;
+                Ok(Callee {
+                    applied: Applied::Constructor(id),
+                    types,
+                    ty,
+                })
+            }
+        }
+    }
+
     /// The function that a call at this place names, which has so many parameters.
-    pub(super) fn callee(
+    fn callee(
         &self,
         at: Place,
         name: &Name,
@@ -53,7 +124,7 @@ impl<'s, 'a> Elaborator<'s, 'a> {
     }
 
     /// The constructor of a name at this place, which has so many fields.
-    pub(super) fn maker(
+    fn maker(
         &self,
         at: Place,
         name: &Name,

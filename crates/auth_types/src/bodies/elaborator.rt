@@ -68,11 +68,12 @@ impl<'s, 'a> Elaborator<'s, 'a> {
     ghost use Rattle.core_terms.specs.Texts.{bytes_of};
     ghost use Rattle.core_terms.specs.Terms.{Expression, TextE};
     ghost use Rattle.core_terms.specs.Types.{TextTy, UnitTy};
+    ghost use Rattle.core_terms.specs.Typing.{same_type};
     ghost use Rattle.auth_syntax.specs.Syntax.{LocalSyntax};
     ghost use Rattle.auth_types.specs.Bodies as specified;
-    ghost use Rattle.auth_types.specs.Bodies.{most_locals, typed, wanted};
+    ghost use Rattle.auth_types.specs.Bodies.{most_locals, typed, wanted, wanted_arm};
     ghost use Rattle.declared_types.specs.Checking.{Checking, Sound, is_among, unless_fault};
-    ghost use Rattle.declared_types.specs.declared.fault.TypeKind.TheVariants.{Limit};
+    ghost use Rattle.declared_types.specs.declared.fault.TypeKind.TheVariants.{Limit, WrongType};
     ghost use Rattle.declared_types.specs.declared.fault.Limited.TheVariants.{Locals};
     ghost use Rattle.declared_types.specs.OverTypes.{FindsOver, Grows, Shows};
     ghost use Rattle.declared_types.specs.Findings.{Finds};
@@ -136,6 +137,40 @@ impl<'s, 'a> Elaborator<'s, 'a> {
             Ok(part.term)
         } else {
             Err(TypeFault::At(TypeKind::WrongType, at))
+        }
+    }
+
+    /// The type at this place is the one that is wanted.
+    pub(super) fn compared(&self, at: Place, wanted: TyId, ty: TyId) -> Result<(), TypeFault>
+        requires wanted { wanted.0 < length (types_of self.now) }
+        requires ty { ty.0 < length (types_of self.now) }
+        ensures { (locals : List specified.Local) → Finds (λ _. locals) (unless_fault (same_type (type_at (types_of self.now) ty) (type_at (types_of self.now) wanted)) WrongType at (Sound locals)) result }
+    {
+        if self.types.is_same(ty, wanted) {
+            Ok(())
+        } else {
+            Err(TypeFault::At(TypeKind::WrongType, at))
+        }
+    }
+
+    /// The body of an arm at this place, whose type may be wanted.
+    pub(super) fn wanted_arm(
+        &self,
+        at: Place,
+        wanted: Option<TyId>,
+        body: Typed,
+    ) -> Result<Typed, TypeFault>
+        requires wanted { IfSome wanted (λ ty. ty.0 < length (types_of self.now)) }
+        requires body { body.ty.0 < length (types_of self.now) }
+        ensures found { (found : Checking specified.Typed) → Shows (types_of self.now) typed_of found body → FindsOver (types_of self.now) typed_of (wanted_arm (want_of (types_of self.now) wanted) at found) result }
+        ensures inside { IfOk result (λ typed. typed.ty.0 < length (types_of self.now)) }
+    {
+        match wanted {
+            Some(ty) => {
+                let term = self.wanted(at, ty, body)?;
+                Ok(Typed { term, ty })
+            }
+            None => Ok(body),
         }
     }
 

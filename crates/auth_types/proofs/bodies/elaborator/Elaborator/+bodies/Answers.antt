@@ -1,11 +1,9 @@
 use denote.Param.Weighed.{at_most, most}
-use Rattle.std.proofs.Common.{◌≡◌, ◌<◌, ◌≤◌, ◌∙◌, [], List, Err, Ok, None, map, length, slice_index_or, unwrap_or, slice_get, refl, sym, ap, subst, arith, rules}
+use Rattle.std.proofs.Common.{◌≡◌, ◌<◌, ◌≤◌, ◌∙◌, [], List, Err, Ok, None, map, length, slice_index_or, unwrap_or, slice_get, take, refl, sym, ap, subst, arith, rules}
 use Rattle.std.proofs.lemmas.List.{length-map}
 use Rattle.std.proofs.lemmas.Option.{get_or_from_slice_get}
 use Rattle.std.proofs.lemmas.Result.{err_from_is_err_and}
-use Rattle.std.proofs.lemmas.Str.{IsUtf8-from_is_utf8}
 use Rattle.core_terms.specs.Types.{Ty, UnitTy, BoolTy}
-use Rattle.core_terms.specs.Terms.{UnitE, BoolE}
 use Rattle.core_terms.specs.TypeTables.{type_at}
 use Rattle.core_terms.specs.LanguageTrees.{types_at}
 use Rattle.core_terms.specs.declared.types.TyId.{TyId}
@@ -20,86 +18,44 @@ use Rattle.auth_syntax.specs.declared.tree.ExpTree.{ExpTree}
 use Rattle.auth_syntax.specs.declared.tree.ExpTree.TheViews.{size-ExpTree, size-Arm}
 use Rattle.auth_syntax.specs.declared.tree.Arm.{Arm}
 use Rattle.declared_types.specs.Findings.{Finds}
-use Rattle.auth_types.specs.Bodies.{Local, arm_names, bound_names, elaborated, elaborated_arms, operand_type, unary, wanted, wanted_arm}
+use Rattle.auth_types.specs.Bodies.{Local, arm_names, bound_names, elaborated, elaborated_arms, unary, wanted, wanted_arm}
 use Rattle.declared_types.specs.Signatures.{Scope}
-use Rattle.declared_types.specs.Checking.{Sound}
+use Rattle.declared_types.specs.Checking.{Sound, then_checked}
+use Rattle.auth_types.specs.Joins.{joined}
 use Rattle.auth_types.specs.CheckedLaws.{HasGoodLiterals}
 use Rattle.auth_types.specs.Elaborators.{Keeps, Matches, arms_found, arms_of, boxed_of, fields_of, found_at, found_in, locals_of, row_found, row_of, scope_of, typed_of, types_of, want_of}
-use Rattle.declared_types.specs.OverTypes.{FindsOver, Grows}
-use Rattle.declared_types.specs.Scopes.{AreWithin, function_meant}
-use Rattle.auth_types.proofs.ArmSteps.{arm_finds, arm_kept, arm_miscounted, arm_refused, names_bound, names_refused, next_fields}
-use Rattle.auth_types.proofs.BoundNames.{with_local, with_local_is}
-use Rattle.auth_types.proofs.CallSteps.{constructors_count, parameters_count, types_count}
-use Rattle.auth_types.proofs.ElaboratorSteps.{found_kept, keeps_closed, keeps_on, keeps_self, one_outer, scope_is, wanted_kept}
-use Rattle.auth_types.proofs.ExpressionSteps.{call_found, call_refused, constructor_found, constructor_refused, count_row, if_shows, let_shows}
+use Rattle.declared_types.specs.OverTypes.{FindsOver, Grows, Shows}
+use Rattle.declared_types.specs.Scopes.{AreWithin}
+use Rattle.auth_types.proofs.ApplicationSteps.{application_shows, name_unfit, parts_refused, row_kept}
+use Rattle.auth_types.proofs.ArmSteps.{arm_finds, arm_kept, arm_miscounted, arm_refused, names_bound, names_refused, next_fields, wanted_arm_fault}
+use Rattle.auth_types.proofs.CallSteps.{constructors_count}
+use Rattle.auth_types.proofs.ElaboratorSteps.{found_kept, keeps_closed, keeps_on, keeps_self, scope_is, wanted_kept}
+use Rattle.auth_types.proofs.ExpressionSteps.{count_row, if_shows}
 use Rattle.auth_types.proofs.FindingSteps.{fault_first, finds_is, no_value, on_more, on_ok, refused_at, refused_by, shows_is}
 use Rattle.auth_types.proofs.LiteralSteps.{arms_good, arms_good_last, row_good, row_good_last}
-use Rattle.auth_types.proofs.LocalSteps.{int_shows, literal_shows}
 use Rattle.auth_types.proofs.MatchSteps.{match_arms_refused, match_found, match_refused}
-use Rattle.auth_types.proofs.RefusedParts.{body_refused, callee_refused, first_operand_refused, first_refused, maker_refused, name_refused, operands_found, other_refused, pair_refused, second_operand_refused, test_refused, unary_refused}
-use Rattle.auth_types.proofs.RowSteps.{arms_behind_none, arms_last, arms_more, arms_refused, body_shows, constructor_within, next_mapped, none_mapped, row_behind_none, row_last, row_more, row_refused}
+use Rattle.auth_types.proofs.RefusedParts.{first_refused, other_refused, test_refused, unary_refused}
+use Rattle.auth_types.proofs.JoinSteps.{between_refused, inner_found, let_is_two, operation_is_two, pair_is_two, second_refused, two_found}
+use Rattle.auth_types.proofs.RowSteps.{arms_behind_none, arms_last, arms_more, arms_refused, constructor_within, next_mapped, none_mapped, row_behind_none, row_last, row_more, row_refused, want_stays, want_within}
 use Rattle.declared_types.proofs.ScopeStays.{grows_length, type_stays_at}
 use Rattle.core_terms.proofs.TermViews as terms
-use Rattle.auth_types.proofs.TreeViews.{arm-parts, expression-UnitLiteral, expression-BoolLiteral, expression-IntLiteral, expression-TextLiteral, expression-Local, expression-Pair, expression-Unary, expression-Binary, expression-Call, expression-Constructor, expression-Let, expression-If, expression-Match}
+use Rattle.auth_types.proofs.TreeViews.{arm-parts, expression-Pair, expression-Unary, expression-Binary, expression-Call, expression-Constructor, expression-Let, expression-If, expression-Match}
 use Rattle.declared_types.proofs.TypeNumbers.{grows_on, grows_self, shows_grow}
 use Rattle.auth_types.proofs.bodies.elaborator.Elaborator.+bodies.Goals as goal
 
 -- the forms of expressions
-pub term-returns-in-UnitLiteral : goal.term-returns-in-UnitLiteral
-term-returns-in-UnitLiteral t c = record {
-  keeps = c.plain.ensures.keeps;
-  found = c.plain.ensures.found _
-      (λ _. literal_shows (types_of c.plain.new.self) _ term.UnitLiteral UnitE UnitTy
-      (ap (found_at c.args.self.now) (ap expression_of c.in-UnitLiteral.is ∙ expression-UnitLiteral _)) (λ types. terms.expression-UnitLiteral types));
-  inside = c.plain.ensures.inside;
-  literals = rw (c.in-UnitLiteral.is, expression-UnitLiteral) (on_ok c.plain.result tt);
-}
-
-pub term-returns-in-BoolLiteral : goal.term-returns-in-BoolLiteral
-term-returns-in-BoolLiteral t c = record {
-  keeps = c.plain-in-BoolLiteral.ensures.keeps;
-  found = c.plain-in-BoolLiteral.ensures.found _
-      (λ _. literal_shows (types_of c.plain-in-BoolLiteral.new.self) _ (term.BoolLiteral c.in-BoolLiteral.value) (BoolE c.in-BoolLiteral.value) BoolTy
-      (ap (found_at c.args.self.now) (ap expression_of c.in-BoolLiteral.is ∙ expression-BoolLiteral _ _))
-      (λ types. terms.expression-BoolLiteral types c.in-BoolLiteral.value));
-  inside = c.plain-in-BoolLiteral.ensures.inside;
-  literals = rw (c.in-BoolLiteral.is, expression-BoolLiteral) (on_ok c.plain-in-BoolLiteral.result tt);
-}
-
-pub term-returns-in-IntLiteral : goal.term-returns-in-IntLiteral
-term-returns-in-IntLiteral t c = record {
-  keeps = c.plain-in-IntLiteral.ensures.keeps;
-  found = c.plain-in-IntLiteral.ensures.found _
-      (λ _. int_shows (types_of c.plain-in-IntLiteral.new.self) _ c.in-IntLiteral.value _
-      (ap (found_at c.args.self.now) (ap expression_of c.in-IntLiteral.is ∙ expression-IntLiteral _ _)) (search rules));
-  inside = c.plain-in-IntLiteral.ensures.inside;
-  literals = rw (c.in-IntLiteral.is, expression-IntLiteral) (on_ok c.plain-in-IntLiteral.result (search rules));
-}
-
-pub term-returns-in-TextLiteral : goal.term-returns-in-TextLiteral
-term-returns-in-TextLiteral t c = record {
-  keeps = c.text.ensures.keeps;
-  found = rw (c.in-TextLiteral.is, expression-TextLiteral) c.text.ensures.found;
-  inside = c.text.ensures.inside;
-  literals = rw (c.in-TextLiteral.is, expression-TextLiteral) (on_ok c.text.result
-      (IsUtf8-from_is_utf8 c.in-TextLiteral.text.bytes.items c.in-TextLiteral.text.utf8, c.in-TextLiteral.text.fits));
-}
-
-pub term-returns-in-Local : goal.term-returns-in-Local
-term-returns-in-Local t c = record {
-  keeps = on_ok c.local.result (keeps_self c.args.self.now);
-  found = rw (c.in-Local.is, expression-Local) c.local.ensures.found;
-  inside = c.local.ensures.inside;
-  literals = rw (c.in-Local.is, expression-Local) (on_ok c.local.result tt);
-}
-
 pub term-returns-in-Pair : goal.term-returns-in-Pair
-term-returns-in-Pair t c = record {
-  keeps = c.pair.ensures.keeps;
-  found = rw (c.in-Pair.is, expression-Pair) (rw (c.deref.ensures, c.deref-in-Pair.ensures) at c.pair.ensures.found);
-  inside = c.pair.ensures.inside;
-  literals = rw (c.in-Pair.is, expression-Pair) (rw (c.deref.ensures, c.deref-in-Pair.ensures) at c.pair.ensures.literals);
-}
+term-returns-in-Pair t c =
+    let e = c.args.self.now in
+    record {
+      keeps = c.two.ensures.keeps;
+      found = rw (c.in-Pair.is, expression-Pair)
+          (finds_is (types_of c.two.new.self) typed_of _ _ c.two.result (pair_is_two (scope_of e) (locals_of e)
+          (expression_of c.in-Pair.first.value) (expression_of c.in-Pair.second.value))
+          (rw (c.deref.ensures, c.deref-in-Pair.ensures) at c.two.ensures.found));
+      inside = c.two.ensures.inside;
+      literals = rw (c.in-Pair.is, expression-Pair) (rw (c.deref.ensures, c.deref-in-Pair.ensures) at c.two.ensures.literals);
+    }
 
 pub term-returns-in_err-operand-in-Unary : goal.term-returns-in_err-operand-in-Unary
 term-returns-in_err-operand-in-Unary t c =
@@ -131,36 +87,49 @@ term-returns-in_ok-operand-in-Unary t c = record {
 }
 
 pub term-returns-in-Binary : goal.term-returns-in-Binary
-term-returns-in-Binary t c = record {
-  keeps = c.binary.ensures.keeps;
-  found = rw (c.in-Binary.is, expression-Binary) (rw (c.deref-in-Binary.ensures, c.deref-in-Binary-2.ensures) at c.binary.ensures.found);
-  inside = c.binary.ensures.inside;
-  literals = rw (c.in-Binary.is, expression-Binary) (rw (c.deref-in-Binary.ensures, c.deref-in-Binary-2.ensures) at c.binary.ensures.literals);
-}
+term-returns-in-Binary t c =
+    let e = c.args.self.now in
+    record {
+      keeps = c.two-in-Binary.ensures.keeps;
+      found = rw (c.in-Binary.is, expression-Binary)
+          (finds_is (types_of c.two-in-Binary.new.self) typed_of _ _ c.two-in-Binary.result
+          (operation_is_two (scope_of e) (locals_of e) c.in-Binary.operator (expression_of c.in-Binary.first.value)
+          (expression_of c.in-Binary.second.value))
+          (rw (c.deref-in-Binary.ensures, c.deref-in-Binary-2.ensures) at c.two-in-Binary.ensures.found));
+      inside = c.two-in-Binary.ensures.inside;
+      literals = rw (c.in-Binary.is, expression-Binary)
+          (rw (c.deref-in-Binary.ensures, c.deref-in-Binary-2.ensures) at c.two-in-Binary.ensures.literals);
+    }
 
 pub term-returns-in-Call : goal.term-returns-in-Call
 term-returns-in-Call t c = record {
-  keeps = c.call.ensures.keeps;
-  found = rw (c.in-Call.is, expression-Call) (rw c.deref-in-Call.ensures.value at c.call.ensures.found);
-  inside = c.call.ensures.inside;
-  literals = rw (c.in-Call.is, expression-Call) (rw c.deref-in-Call.ensures.value at c.call.ensures.literals);
+  keeps = c.applied.ensures.keeps;
+  found = rw (c.in-Call.is, expression-Call) (rw c.deref-in-Call.ensures.value at c.applied.ensures.found);
+  inside = c.applied.ensures.inside;
+  literals = rw (c.in-Call.is, expression-Call) (rw c.deref-in-Call.ensures.value at c.applied.ensures.literals);
 }
 
 pub term-returns-in-Constructor : goal.term-returns-in-Constructor
 term-returns-in-Constructor t c = record {
-  keeps = c.constructor.ensures.keeps;
-  found = rw (c.in-Constructor.is, expression-Constructor) (rw c.deref-in-Constructor.ensures.value at c.constructor.ensures.found);
-  inside = c.constructor.ensures.inside;
-  literals = rw (c.in-Constructor.is, expression-Constructor) (rw c.deref-in-Constructor.ensures.value at c.constructor.ensures.literals);
+  keeps = c.applied-in-Constructor.ensures.keeps;
+  found = rw (c.in-Constructor.is, expression-Constructor) (rw c.deref-in-Constructor.ensures.value at c.applied-in-Constructor.ensures.found);
+  inside = c.applied-in-Constructor.ensures.inside;
+  literals = rw (c.in-Constructor.is, expression-Constructor) (rw c.deref-in-Constructor.ensures.value at c.applied-in-Constructor.ensures.literals);
 }
 
 pub term-returns-in-Let : goal.term-returns-in-Let
-term-returns-in-Let t c = record {
-  keeps = c.let_in.ensures.keeps;
-  found = rw (c.in-Let.is, expression-Let) (rw (c.deref-in-Let.ensures, c.deref-in-Let-2.ensures) at c.let_in.ensures.found);
-  inside = c.let_in.ensures.inside;
-  literals = rw (c.in-Let.is, expression-Let) (rw (c.deref-in-Let.ensures, c.deref-in-Let-2.ensures) at c.let_in.ensures.literals);
-}
+term-returns-in-Let t c =
+    let e = c.args.self.now in
+    record {
+      keeps = c.two-in-Let.ensures.keeps;
+      found = rw (c.in-Let.is, expression-Let)
+          (finds_is (types_of c.two-in-Let.new.self) typed_of _ _ c.two-in-Let.result
+          (let_is_two (scope_of e) (locals_of e) start (name_of c.in-Let.name) (expression_of c.in-Let.bound.value)
+          (expression_of c.in-Let.body.value))
+          (rw (c.deref-in-Let.ensures, c.deref-in-Let-2.ensures) at c.two-in-Let.ensures.found));
+      inside = c.two-in-Let.ensures.inside;
+      literals = rw (c.in-Let.is, expression-Let) (rw (c.deref-in-Let.ensures, c.deref-in-Let-2.ensures) at c.two-in-Let.ensures.literals);
+    }
 
 pub term-returns-in-If : goal.term-returns-in-If
 term-returns-in-If t c = record {
@@ -192,6 +161,12 @@ part-returns t c = record {
   literals = on_ok c.wanted.result c.in_ok-part.ensures.literals;
 }
 
+pub part-wanted-requires-clause-wanted : goal.part-wanted-requires-clause-wanted
+part-wanted-requires-clause-wanted t c =
+    let longer = grows_length (types_of c.args.self.now) (types_of c.term.new.self) c.in_ok-part.ensures.keeps.grows in
+    let here = c.requires in
+    omega (arith, here, longer)
+
 pub part-returns-in_err-part : goal.part-returns-in_err-part
 part-returns-in_err-part t c =
     let r = c.from_residual.result in
@@ -204,262 +179,172 @@ part-returns-in_err-part t c =
       literals = no_value _ _ r e;
     }
 
--- pairs
-pub pair-returns-in_err-second : goal.pair-returns-in_err-second
-pair-returns-in_err-second t c =
-    let r = c.from_residual-in_err-second.result in
-    let e = c.from_residual-in_err-second.ensures.1 in
-    record {
-      keeps = no_value _ _ r e;
-      found = let p = err_from_is_err_and r e in
-          pair_refused (types_of c.term.new.self) (types_of c.term-2.new.self) _ (found_in c.args.self.now c.args.first.now)
-          (found_in c.args.self.now c.args.second.now) c.in_ok-first.first _ _ (p.1 ∙ ap Err p.2) c.in_ok-first.ensures.found
-          (finds_is (types_of c.term-2.new.self) typed_of _ _ (Err c.in_err-second.field-0.0)
-          (found_kept c.args.self.now c.term.new.self c.in_ok-first.ensures.keeps (expression_of c.args.second.now)) c.in_err-second.ensures.found);
-      inside = no_value _ _ r e;
-      literals = no_value _ _ r e;
-    }
-
-pub pair-returns : goal.pair-returns
-pair-returns t c = record {
-  keeps = on_more c.paired.result (λ keeps. keeps_on (keeps_on c.in_ok-first.ensures.keeps c.in_ok-second.ensures.keeps) keeps) c.paired.ensures.keeps;
-  found = let first = found_in c.args.self.now c.args.first.now in
-      let second = found_in c.args.self.now c.args.second.now in
-      c.paired.ensures.found first second
-      (shows_grow (types_of c.term.new.self) (types_of c.term-2.new.self) typed_of first c.in_ok-first.first c.in_ok-second.ensures.keeps.grows
-      c.in_ok-first.ensures.found)
-      (shows_is (types_of c.term-2.new.self) typed_of _ second c.in_ok-second.second
-      (found_kept c.args.self.now c.term.new.self c.in_ok-first.ensures.keeps (expression_of c.args.second.now)) c.in_ok-second.ensures.found);
-  inside = c.paired.ensures.inside;
-  literals = on_ok c.paired.result (c.in_ok-first.ensures.literals, c.in_ok-second.ensures.literals);
-}
-
-pub pair-returns-in_err-first : goal.pair-returns-in_err-first
-pair-returns-in_err-first t c =
+-- two of which the second stands behind the first
+pub two-returns-in_err-one : goal.two-returns-in_err-one
+two-returns-in_err-one t c =
     let r = c.from_residual.result in
     let e = c.from_residual.ensures.1 in
     record {
       keeps = no_value _ _ r e;
       found = let p = err_from_is_err_and r e in
           fault_first (types_of c.term.new.self) _ typed_of typed_of (found_in c.args.self.now c.args.first.now) _ _ _ (p.1 ∙ ap Err p.2)
-          c.in_err-first.ensures.found;
+          c.in_err-one.ensures.found;
       inside = no_value _ _ r e;
       literals = no_value _ _ r e;
     }
 
--- operations on two operands
-pub binary-returns-in_err-first : goal.binary-returns-in_err-first
-binary-returns-in_err-first t c =
-    let r = c.from_residual-in_err-first.result in
-    let e = c.from_residual-in_err-first.ensures.1 in
+pub two-between-requires : goal.two-between-requires
+two-between-requires t c = c.in_ok-one.ensures.inside
+
+pub two-returns-in_err-between : goal.two-returns-in_err-between
+two-returns-in_err-between t c =
+    let r = c.from_residual-in_err-between.result in
+    let e = c.from_residual-in_err-between.ensures.1 in
     record {
       keeps = no_value _ _ r e;
       found = let p = err_from_is_err_and r e in
-          let op = c.args.operator in
-          let types = types_of c.operand_type.new.self in
-          let first = found_in c.args.self.now c.args.first.now in
-          let second = found_in c.args.self.now c.args.second.now in
-          first_operand_refused op (types_of c.part.new.self) _ _ (type_at types c.in_ok-ty.ty) (operand_type op) first
-          (found_in c.operand_type.new.self c.args.first.now) second second
-          (get_or_from_slice_get types c.in_ok-ty.ty.0 (operand_type op) UnitTy c.in_ok-ty.ensures.found) refl
-          (found_kept c.args.self.now c.operand_type.new.self c.in_ok-ty.ensures.keeps (expression_of c.args.first.now)) refl
-          (types_of c.part.new.self) _ _ (p.1 ∙ ap Err p.2) c.in_err-first.ensures.found;
+          let types = types_of c.term.new.self in
+          let x = expression_of c.args.first.now in
+          let y = expression_of c.args.second.now in
+          between_refused (scope_of c.args.self.now) (locals_of c.args.self.now) c.args.join x y types c.in_ok-one.one c.in_ok-one.ensures.found _
+          (locals_of c.between.new.self) _ _ (p.1 ∙ ap Err p.2)
+          (inner_found c.args.join c.in_ok-one.ensures.keeps.locals c.place.ensures (type_at types c.in_ok-one.one.ty) (locals_of c.between.new.self)
+          (Err c.in_err-between.field-0.0) c.in_err-between.ensures.found);
       inside = no_value _ _ r e;
       literals = no_value _ _ r e;
     }
 
-pub binary-returns-in_err-second : goal.binary-returns-in_err-second
-binary-returns-in_err-second t c =
-    let r = c.from_residual-in_err-second.result in
-    let e = c.from_residual-in_err-second.ensures.1 in
+pub two-returns-in_err-other : goal.two-returns-in_err-other
+two-returns-in_err-other t c =
+    let r = c.from_residual-in_err-other.result in
+    let e = c.from_residual-in_err-other.ensures.1 in
     record {
       keeps = no_value _ _ r e;
       found = let p = err_from_is_err_and r e in
-          let op = c.args.operator in
-          let types = types_of c.operand_type.new.self in
-          let middle = types_of c.part.new.self in
-          let one : type_at types c.in_ok-ty.ty ≡ operand_type op =
-          get_or_from_slice_get types c.in_ok-ty.ty.0 (operand_type op) UnitTy c.in_ok-ty.ensures.found in
-          second_operand_refused op (types_of c.part-2.new.self) _ _ (type_at types c.in_ok-ty.ty) (type_at middle c.in_ok-ty.ty)
-          (found_in c.args.self.now c.args.first.now) (found_in c.operand_type.new.self c.args.first.now) (found_in c.args.self.now c.args.second.now)
-          (found_in c.part.new.self c.args.second.now)
-          one (type_stays_at types middle c.in_ok-first.ensures.keeps.grows c.in_ok-ty.ty c.in_ok-ty.ensures.inside ∙ one)
-          (found_kept c.args.self.now c.operand_type.new.self c.in_ok-ty.ensures.keeps (expression_of c.args.first.now))
-          (found_kept c.args.self.now c.part.new.self (keeps_on c.in_ok-ty.ensures.keeps c.in_ok-first.ensures.keeps) (expression_of c.args.second.now))
-          middle (types_of c.part-2.new.self) c.in_ok-first.first _ _ (p.1 ∙ ap Err p.2) c.in_ok-first.ensures.found c.in_err-second.ensures.found;
+          let types = types_of c.term.new.self in
+          let x = expression_of c.args.first.now in
+          let y = expression_of c.args.second.now in
+          let inner = locals_of c.between.new.self in
+          let there = inner_found c.args.join c.in_ok-one.ensures.keeps.locals c.place.ensures (type_at types c.in_ok-one.one.ty) inner
+          (Ok tt) c.in_ok-between.ensures.found in
+          second_refused (scope_of c.args.self.now) (locals_of c.args.self.now) c.args.join x y types c.in_ok-one.one c.in_ok-one.ensures.found
+          inner there (types_of c.term-2.new.self) _ _ _ (p.1 ∙ ap Err p.2)
+          (finds_is (types_of c.term-2.new.self) typed_of _ _ (Err c.in_err-other.field-0.0)
+          (ap (λ s. elaborated s inner y) (c.in_ok-between.ensures.scope ∙ c.in_ok-one.ensures.keeps.scope)) c.in_err-other.ensures.found);
       inside = no_value _ _ r e;
       literals = no_value _ _ r e;
     }
 
-pub binary-returns : goal.binary-returns
-binary-returns t c = record {
-  keeps = on_more c.combined.result (λ keeps. keeps_on (keeps_on (keeps_on c.in_ok-ty.ensures.keeps c.in_ok-first.ensures.keeps) c.in_ok-second.ensures.keeps) keeps) c.combined.ensures.keeps;
-  found = let op = c.args.operator in
-      let types = types_of c.operand_type.new.self in
-      let middle = types_of c.part.new.self in
-      let one : type_at types c.in_ok-ty.ty ≡ operand_type op =
-      get_or_from_slice_get types c.in_ok-ty.ty.0 (operand_type op) UnitTy c.in_ok-ty.ensures.found in
-      operands_found op (types_of c.combined.new.self) _ _ (type_at types c.in_ok-ty.ty) (type_at middle c.in_ok-ty.ty)
-      (found_in c.args.self.now c.args.first.now) (found_in c.operand_type.new.self c.args.first.now) (found_in c.args.self.now c.args.second.now)
-      (found_in c.part.new.self c.args.second.now)
-      one (type_stays_at types middle c.in_ok-first.ensures.keeps.grows c.in_ok-ty.ty c.in_ok-ty.ensures.inside ∙ one)
-      (found_kept c.args.self.now c.operand_type.new.self c.in_ok-ty.ensures.keeps (expression_of c.args.first.now))
-      (found_kept c.args.self.now c.part.new.self (keeps_on c.in_ok-ty.ensures.keeps c.in_ok-first.ensures.keeps) (expression_of c.args.second.now))
-      middle (types_of c.part-2.new.self) c.in_ok-first.first c.in_ok-second.second _ c.in_ok-second.ensures.keeps.grows c.in_ok-first.ensures.found
-      c.in_ok-second.ensures.found c.combined.ensures.found;
-  inside = c.combined.ensures.inside;
-  literals = on_ok c.combined.result (c.in_ok-first.ensures.literals, c.in_ok-second.ensures.literals);
-}
+pub two-joined-requires : goal.two-joined-requires
+two-joined-requires t c =
+    let between = grows_length (types_of c.term.new.self) (types_of c.between.new.self) c.in_ok-between.ensures.grows in
+    let longer = grows_length (types_of c.between.new.self) (types_of c.term-2.new.self) c.in_ok-other.ensures.keeps.grows in
+    let first = c.in_ok-one.ensures.inside in
+    let same = ap length c.close.ensures.types in
+    let second = c.in_ok-other.ensures.inside in
+    record { first = omega (arith, first, between, longer, same); second = omega (arith, second, same) }
 
-pub binary-returns-in_err-ty : goal.binary-returns-in_err-ty
-binary-returns-in_err-ty t c =
-    let r = c.from_residual.result in
-    let e = c.from_residual.ensures.1 in
+pub two-returns : goal.two-returns
+two-returns t c =
+    let e = c.args.self.now in
+    let types = types_of c.term.new.self in
+    let x = expression_of c.args.first.now in
+    let y = expression_of c.args.second.now in
+    let inner = locals_of c.between.new.self in
+    let keeps = c.in_ok-one.ensures.keeps in
+    let scope = c.in_ok-between.ensures.scope ∙ keeps.scope in
     record {
-      keeps = no_value _ _ r e;
-      found = let p = err_from_is_err_and r e in rw (p.1, p.2) tt;
-      inside = no_value _ _ r e;
-      literals = no_value _ _ r e;
+      keeps = on_more c.joined.result (λ more. keeps_on (keeps_closed e c.between.new.self c.term-2.new.self c.close.new.self c.depth-outer.result
+          (grows_on (types_of e) types (types_of c.between.new.self) keeps.grows c.in_ok-between.ensures.grows) scope
+          (subst (λ (ls : List Local). take (length ls) inner ≡ ls) keeps.locals c.in_ok-between.ensures.outer)
+          c.in_ok-other.ensures.keeps c.close.ensures.types c.close.ensures.scope c.close.ensures.locals c.depth-outer.ensures) more)
+          c.joined.ensures.keeps;
+      found = let there = inner_found c.args.join keeps.locals c.place.ensures (type_at types c.in_ok-one.one.ty) inner (Ok tt)
+          c.in_ok-between.ensures.found in
+          let first = found_in e c.args.first.now in
+          let end = types_of c.term-2.new.self in
+          let closed = types_of c.close.new.self in
+          let grows : Grows types end = grows_on types (types_of c.between.new.self) end c.in_ok-between.ensures.grows
+          c.in_ok-other.ensures.keeps.grows in
+          let over : (l : List Ty) → l ≡ end → Shows l typed_of first c.in_ok-one.one × Shows l typed_of (elaborated (scope_of e) inner y)
+          c.in_ok-other.other = λ l is. rw is
+          (shows_grow types end typed_of first c.in_ok-one.one grows c.in_ok-one.ensures.found,
+          shows_is end typed_of _ (elaborated (scope_of e) inner y) c.in_ok-other.other (ap (λ s. elaborated s inner y) scope)
+          c.in_ok-other.ensures.found) in
+          let both = over closed c.close.ensures.types in
+          two_found (scope_of e) (locals_of e) c.args.join x y types c.in_ok-one.one c.in_ok-one.ensures.found inner there
+          (types_of c.joined.new.self) c.joined.result
+          (subst (λ at. FindsOver (types_of c.joined.new.self) typed_of
+          (then_checked first (λ a. joined c.args.join a at (elaborated (scope_of e) inner y))) c.joined.result) c.place-2.ensures
+          (c.joined.ensures.found first (elaborated (scope_of e) inner y) both.0 both.1));
+      inside = c.joined.ensures.inside;
+      literals = on_ok c.joined.result (c.in_ok-one.ensures.literals, c.in_ok-other.ensures.literals);
     }
 
--- calls
-pub call-returns-in_err-function : goal.call-returns-in_err-function
-call-returns-in_err-function t c =
+-- calls and constructors
+pub applied-returns-in_err-callee : goal.applied-returns-in_err-callee
+applied-returns-in_err-callee t c =
     let r = c.from_residual.result in
     let e = c.from_residual.ensures.1 in
     record {
       keeps = no_value _ _ r e;
       found = let p = err_from_is_err_and r e in
           let xs = map expression_of c.args.operands.now in
-          callee_refused c.args.at (in_a_row xs) (length c.args.operands.now) _ (function_meant (types_of c.args.self.now) c.args.self.now.scope.now)
-          (row_found c.args.self.now (in_a_row xs)) _ _ _
-          (sym (count_row xs ∙ length-map c.args.operands.now expression_of)) (p.1 ∙ ap Err p.2) c.in_err-function.ensures.found;
+          name_unfit (scope_of c.args.self.now) c.args.space c.args.at c.args.name.now (length c.args.operands.now) _
+          (sym (count_row xs ∙ length-map c.args.operands.now expression_of)) (row_found c.args.self.now (in_a_row xs))
+          (types_of c.named.new.self) _ _ _ (p.1 ∙ ap Err p.2) c.in_err-callee.ensures.found;
       inside = no_value _ _ r e;
       literals = no_value _ _ r e;
     }
 
-pub call-operands-requires : goal.call-operands-requires
-call-operands-requires t c =
-    let types = types_of c.args.self.now in
-    let v = (function_meant types c.args.self.now.scope.now c.in_ok-function.function).value in
-    let count = c.in_ok-function.ensures.count ∙ parameters_count types v c.head-head.result.now (c.head-head.ensures.signature types)
-    ∙ ap length (sym c.deref.ensures.value) in
-    let within = c.head-head.ensures.within (length types) c.args.self.now.scope_within in
-    (search rules, (count, subst (AreWithin (length types)) (sym c.deref.ensures.value) within.parameters))
+pub applied-operands-requires : goal.applied-operands-requires
+applied-operands-requires t c = (search rules, (c.in_ok-callee.ensures.count, c.in_ok-callee.ensures.within))
 
-pub call-returns-in_err-arguments : goal.call-returns-in_err-arguments
-call-returns-in_err-arguments t c =
-    let r = c.from_residual-in_err-arguments.result in
-    let e = c.from_residual-in_err-arguments.ensures.1 in
+pub applied-returns-in_err-terms : goal.applied-returns-in_err-terms
+applied-returns-in_err-terms t c =
+    let r = c.from_residual-in_err-terms.result in
+    let e = c.from_residual-in_err-terms.ensures.1 in
     record {
       keeps = no_value _ _ r e;
       found = let p = err_from_is_err_and r e in
-          let types = types_of c.args.self.now in
           let xs = map expression_of c.args.operands.now in
           let each = row_found c.args.self.now (in_a_row xs) in
-          let v = (function_meant types c.args.self.now.scope.now c.in_ok-function.function).value in
-          call_refused types c.args.at (in_a_row xs) (length c.args.operands.now) (sym (count_row xs ∙ length-map c.args.operands.now expression_of)) _ each
-          v c.head-head.result.now c.in_ok-function.function
-          (c.in_ok-function.ensures.found each) (c.head-head.ensures.signature types) (types_of c.operands.new.self) _ _ _ (p.1 ∙ ap Err p.2)
-          (finds_is (types_of c.operands.new.self) row_of _ _ (Err c.in_err-arguments.field-0.0)
-          (ap (λ ids. each (types_at types ids)) c.deref.ensures.value) c.in_err-arguments.ensures.found);
+          let types = types_of c.named.new.self in
+          let callee = c.in_ok-callee.callee in
+          parts_refused (scope_of c.args.self.now) c.args.space c.args.at c.args.name.now (length c.args.operands.now) _
+          (sym (count_row xs ∙ length-map c.args.operands.now expression_of)) each types callee
+          (c.in_ok-callee.ensures.found each) (types_of c.operands.new.self) _ _ _ (p.1 ∙ ap Err p.2)
+          (finds_is (types_of c.operands.new.self) row_of _ _ (Err c.in_err-terms.field-0.0)
+          (row_kept c.args.self.now c.named.new.self c.in_ok-callee.ensures.keeps (in_a_row xs) (types_at types callee.types.now))
+          c.in_err-terms.ensures.found);
       inside = no_value _ _ r e;
       literals = no_value _ _ r e;
     }
 
-pub call-returns : goal.call-returns
-call-returns t c = record {
-  keeps = on_ok c.typed.result c.in_ok-arguments.ensures.keeps;
-  found = let types = types_of c.args.self.now in
-      let xs = map expression_of c.args.operands.now in
-      let each = row_found c.args.self.now (in_a_row xs) in
-      let v = (function_meant types c.args.self.now.scope.now c.in_ok-function.function).value in
-      let within = c.head-head.ensures.within (length types) c.args.self.now.scope_within in
-      c.typed.ensures.found _
-      (call_found types c.args.at (in_a_row xs) (length c.args.operands.now) (sym (count_row xs ∙ length-map c.args.operands.now expression_of)) _ each
-      v c.head-head.result.now c.in_ok-function.function
-      (c.in_ok-function.ensures.found each) (c.head-head.ensures.signature types) (types_of c.operands.new.self) c.in_ok-arguments.arguments
-      c.in_ok-arguments.ensures.keeps.grows within.result
-      (rw c.deref.ensures.value at c.in_ok-arguments.ensures.found));
-  inside = c.typed.ensures.inside;
-  literals = on_ok c.typed.result c.in_ok-arguments.ensures.literals;
-}
-
-pub call-typed-requires : goal.call-typed-requires
-call-typed-requires t c =
-    let types = types_of c.args.self.now in
-    let within = c.head-head.ensures.within (length types) c.args.self.now.scope_within in
-    let longer = grows_length types (types_of c.operands.new.self) c.in_ok-arguments.ensures.keeps.grows in
-    let here = within.result in
+pub applied-typed-requires : goal.applied-typed-requires
+applied-typed-requires t c =
+    let longer = grows_length (types_of c.named.new.self) (types_of c.operands.new.self) c.in_ok-terms.ensures.keeps.grows in
+    let here = c.in_ok-callee.ensures.inside in
     omega (arith, here, longer)
 
--- constructors
-pub constructor-returns-in_err-id : goal.constructor-returns-in_err-id
-constructor-returns-in_err-id t c =
-    let r = c.from_residual.result in
-    let e = c.from_residual.ensures.1 in
+pub applied-returns : goal.applied-returns
+applied-returns t c =
+    let e = c.args.self.now in
+    let xs = map expression_of c.args.operands.now in
+    let each = row_found e (in_a_row xs) in
+    let types = types_of c.named.new.self in
+    let callee = c.in_ok-callee.callee in
+    let new = types_of c.operands.new.self in
     record {
-      keeps = no_value _ _ r e;
-      found = let p = err_from_is_err_and r e in
-          let xs = map expression_of c.args.operands.now in
-          maker_refused c.args.at (in_a_row xs) (length c.args.operands.now) _ _ (row_found c.args.self.now (in_a_row xs)) _ _ _
-          (sym (count_row xs ∙ length-map c.args.operands.now expression_of)) (p.1 ∙ ap Err p.2) c.in_err-id.ensures.found;
-      inside = no_value _ _ r e;
-      literals = no_value _ _ r e;
-    }
-
-pub constructor-operands-requires : goal.constructor-operands-requires
-unfolding scope_of
-constructor-operands-requires t c =
-    let types = types_of c.args.self.now in
-    let count = c.in_ok-id.ensures.count ∙ sym (types_count types c.fields-types.result.now _ (c.fields-types.ensures.fields types)) in
-    (search rules, (count, c.fields-types.ensures.within (length types) c.args.self.now.scope_within))
-
-pub constructor-returns-in_err-fields : goal.constructor-returns-in_err-fields
-unfolding scope_of
-constructor-returns-in_err-fields t c =
-    let r = c.from_residual-in_err-fields.result in
-    let e = c.from_residual-in_err-fields.ensures.1 in
-    record {
-      keeps = no_value _ _ r e;
-      found = let p = err_from_is_err_and r e in
-          let types = types_of c.args.self.now in
-          let xs = map expression_of c.args.operands.now in
-          let each = row_found c.args.self.now (in_a_row xs) in
-          constructor_refused types c.args.at (in_a_row xs) (length c.args.operands.now) (sym (count_row xs ∙ length-map c.args.operands.now expression_of))
-          _ _ each c.in_ok-id.id.named c.in_ok-id.id.tag c.fields-types.result.now
-          (c.in_ok-id.ensures.found each) (c.fields-types.ensures.fields types) (types_of c.operands.new.self) _ _ _ (p.1 ∙ ap Err p.2)
-          c.in_err-fields.ensures.found;
-      inside = no_value _ _ r e;
-      literals = no_value _ _ r e;
-    }
-
-pub constructor-returns : goal.constructor-returns
-unfolding scope_of
-constructor-returns t c = record {
-  keeps = on_ok c.typed.result (keeps_on c.in_ok-fields.ensures.keeps c.in_ok-ty.ensures.keeps);
-  found = let types = types_of c.args.self.now in
-      let xs = map expression_of c.args.operands.now in
-      let each = row_found c.args.self.now (in_a_row xs) in
-      c.typed.ensures.found _
-      (constructor_found types c.args.at (in_a_row xs) (length c.args.operands.now) (sym (count_row xs ∙ length-map c.args.operands.now expression_of))
-      _ _ each c.in_ok-id.id.named c.in_ok-id.id.tag c.fields-types.result.now
-      (c.in_ok-id.ensures.found each) (c.fields-types.ensures.fields types) (types_of c.operands.new.self) (types_of c.intern.new.self)
-      c.in_ok-fields.fields c.in_ok-ty.ty c.in_ok-ty.ensures.keeps.grows c.in_ok-ty.ensures.number
-      c.in_ok-fields.ensures.found);
-  inside = c.typed.ensures.inside;
-  literals = on_ok c.typed.result c.in_ok-fields.ensures.literals;
-}
-
-pub constructor-returns-in_err-ty : goal.constructor-returns-in_err-ty
-constructor-returns-in_err-ty t c =
-    let r = c.from_residual-in_err-ty.result in
-    let e = c.from_residual-in_err-ty.ensures.1 in
-    record {
-      keeps = no_value _ _ r e;
-      found = let p = err_from_is_err_and r e in rw (p.1, p.2) tt;
-      inside = no_value _ _ r e;
-      literals = no_value _ _ r e;
+      keeps = on_ok c.typed.result (keeps_on c.in_ok-callee.ensures.keeps c.in_ok-terms.ensures.keeps);
+      found = c.typed.ensures.found _
+          (application_shows (scope_of e) c.args.space c.args.at c.args.name.now (length c.args.operands.now) _
+          (sym (count_row xs ∙ length-map c.args.operands.now expression_of)) each types callee (c.in_ok-callee.ensures.found each) new
+          c.in_ok-terms.terms _ c.in_ok-terms.ensures.keeps.grows c.in_ok-callee.ensures.inside c.applied_term.ensures
+          (shows_is new row_of _ _ c.in_ok-terms.terms
+          (row_kept e c.named.new.self c.in_ok-callee.ensures.keeps (in_a_row xs) (types_at types callee.types.now)) c.in_ok-terms.ensures.found));
+      inside = c.typed.ensures.inside;
+      literals = on_ok c.typed.result c.in_ok-terms.ensures.literals;
     }
 
 -- expressions in a row
@@ -554,86 +439,6 @@ operands-returns-in_err-push t c =
       literals = no_value _ _ r e;
     }
 
--- let
-pub let_in-returns-in_err-bind : goal.let_in-returns-in_err-bind
-let_in-returns-in_err-bind t c =
-    let r = c.from_residual-in_err-bind.result in
-    let e = c.from_residual-in_err-bind.ensures.1 in
-    record {
-      keeps = no_value _ _ r e;
-      found = let p = err_from_is_err_and r e in
-          name_refused (scope_of c.args.self.now) (locals_of c.args.self.now) start _ (name_of c.args.name.now) (expression_of c.args.bound.now)
-          (expression_of c.args.body.now) (types_of c.term.new.self) c.in_ok-bound.bound c.in_ok-bound.ensures.found
-          (locals_of c.bind.new.self) _ _ (p.1 ∙ ap Err p.2) (subst
-          (λ (ls : List Local). Finds {A = Unit {0}} {B = List Local} (λ _. ls)
-          (with_local ls (name_of c.args.name.now) (type_at (types_of c.term.new.self) c.in_ok-bound.bound.ty)) (Err c.in_err-bind.field-0.0))
-          c.in_ok-bound.ensures.keeps.locals c.in_err-bind.ensures.found);
-      inside = no_value _ _ r e;
-      literals = no_value _ _ r e;
-    }
-
-pub let_in-returns-in_err-body : goal.let_in-returns-in_err-body
-let_in-returns-in_err-body t c =
-    let r = c.from_residual-in_err-body.result in
-    let e = c.from_residual-in_err-body.ensures.1 in
-    record {
-      keeps = no_value _ _ r e;
-      found = let p = err_from_is_err_and r e in
-          let there : with_local (locals_of c.args.self.now) (name_of c.args.name.now)
-          (type_at (types_of c.term.new.self) c.in_ok-bound.bound.ty) ≡ Sound (locals_of c.bind.new.self) =
-          rw c.in_ok-bound.ensures.keeps.locals at c.in_ok-bind.ensures.found in
-          body_refused (scope_of c.args.self.now) (locals_of c.args.self.now) start _ _ _ (p.1 ∙ ap Err p.2) (name_of c.args.name.now)
-          (expression_of c.args.bound.now) (expression_of c.args.body.now) (types_of c.term.new.self) c.in_ok-bound.bound c.in_ok-bound.ensures.found
-          (types_of c.term-2.new.self) (locals_of c.bind.new.self) there
-          (finds_is (types_of c.term-2.new.self) typed_of _ _ (Err c.in_err-body.field-0.0)
-          (ap (λ s. elaborated s (locals_of c.bind.new.self) (expression_of c.args.body.now))
-          (c.in_ok-bind.ensures.scope ∙ c.in_ok-bound.ensures.keeps.scope)) c.in_err-body.ensures.found);
-      inside = no_value _ _ r e;
-      literals = no_value _ _ r e;
-    }
-
-pub let_in-returns : goal.let_in-returns
-let_in-returns t c = record {
-  keeps = let there : with_local (locals_of c.args.self.now) (name_of c.args.name.now)
-      (type_at (types_of c.term.new.self) c.in_ok-bound.bound.ty) ≡ Sound (locals_of c.bind.new.self) =
-      rw c.in_ok-bound.ensures.keeps.locals at c.in_ok-bind.ensures.found in
-      on_ok c.typed.result
-      (keeps_closed c.args.self.now c.bind.new.self c.term-2.new.self c.close.new.self c.depth-outer.result
-      (subst (Grows (types_of c.args.self.now)) (sym c.in_ok-bind.ensures.types) c.in_ok-bound.ensures.keeps.grows)
-      (c.in_ok-bind.ensures.scope ∙ c.in_ok-bound.ensures.keeps.scope)
-      (one_outer (locals_of c.args.self.now) (locals_of c.bind.new.self)
-      _ (with_local_is (locals_of c.args.self.now) (locals_of c.bind.new.self) (name_of c.args.name.now) _ there))
-      c.in_ok-body.ensures.keeps c.close.ensures.types c.close.ensures.scope c.close.ensures.locals c.depth-outer.ensures);
-  found = let there : with_local (locals_of c.args.self.now) (name_of c.args.name.now)
-      (type_at (types_of c.term.new.self) c.in_ok-bound.bound.ty) ≡ Sound (locals_of c.bind.new.self) =
-      rw c.in_ok-bound.ensures.keeps.locals at c.in_ok-bind.ensures.found in
-      let grows : Grows (types_of c.term.new.self) (types_of c.term-2.new.self) =
-      subst (λ (l : List Ty). Grows l (types_of c.term-2.new.self)) c.in_ok-bind.ensures.types c.in_ok-body.ensures.keeps.grows in
-      c.typed.ensures.found _
-      (rw c.close.ensures.types
-      (let_shows (scope_of c.args.self.now) (locals_of c.args.self.now) start (name_of c.args.name.now) (expression_of c.args.bound.now)
-      (expression_of c.args.body.now) (types_of c.term.new.self) (types_of c.term-2.new.self)
-      c.in_ok-bound.bound c.in_ok-body.body (locals_of c.bind.new.self) grows c.in_ok-bound.ensures.found there
-      (shows_is (types_of c.term-2.new.self) typed_of _ _ c.in_ok-body.body
-      (ap (λ s. elaborated s (locals_of c.bind.new.self) (expression_of c.args.body.now))
-      (c.in_ok-bind.ensures.scope ∙ c.in_ok-bound.ensures.keeps.scope)) c.in_ok-body.ensures.found)));
-  inside = c.typed.ensures.inside;
-  literals = on_ok c.typed.result (c.in_ok-bound.ensures.literals, c.in_ok-body.ensures.literals);
-}
-
-pub let_in-returns-in_err-bound : goal.let_in-returns-in_err-bound
-let_in-returns-in_err-bound t c =
-    let r = c.from_residual.result in
-    let e = c.from_residual.ensures.1 in
-    record {
-      keeps = no_value _ _ r e;
-      found = let p = err_from_is_err_and r e in
-          fault_first (types_of c.term.new.self) _ typed_of typed_of (found_in c.args.self.now c.args.bound.now) _ _ _ (p.1 ∙ ap Err p.2)
-          c.in_err-bound.ensures.found;
-      inside = no_value _ _ r e;
-      literals = no_value _ _ r e;
-    }
-
 -- conditions
 pub condition-returns-in_err-test : goal.condition-returns-in_err-test
 condition-returns-in_err-test t c =
@@ -702,6 +507,12 @@ condition-returns-in_err-other t c =
       inside = no_value _ _ r e;
       literals = no_value _ _ r e;
     }
+
+pub condition-typed-requires : goal.condition-typed-requires
+condition-typed-requires t c =
+    let longer = grows_length (types_of c.term.new.self) (types_of c.part-2.new.self) c.in_ok-other.ensures.keeps.grows in
+    let here = c.in_ok-first.ensures.inside in
+    omega (arith, here, longer)
 
 pub condition-returns : goal.condition-returns
 condition-returns t c = record {
@@ -994,72 +805,57 @@ arm-returns-in_err-body t c =
           let count : length c.args.arm.now.fields.items ≡ length c.args.fields.now = cc in
           let x = expression_of c.args.arm.now.body in
           let inner = locals_of c.bind_each.new.self in
-          refused_by (types_of c.body.new.self) _ typed_of typed_of
-          (wanted_arm (want_of (types_of e) c.args.wanted) (place_of x) (elaborated (scope_of e) inner x)) _ _ _ (p.1 ∙ ap Err p.2)
-          (arm_refused (scope_of e) (locals_of e) (want_of (types_of e) c.args.wanted) (types_of e) c.args.fields.now c.args.arm.now count inner names)
-          (finds_is (types_of c.body.new.self) typed_of _ _ (Err c.in_err-body.field-0.0)
-          (ap (λ (l : List Ty). wanted_arm (want_of l c.args.wanted) (place_of x) (elaborated (scope_of c.bind_each.new.self) inner x))
-          c.in_ok-bind_each.ensures.types
-          ∙ ap (λ s. wanted_arm (want_of (types_of e) c.args.wanted) (place_of x) (elaborated s inner x)) c.in_ok-bind_each.ensures.scope)
-          c.in_err-body.ensures.found);
+          refused_by (types_of c.term.new.self) _ typed_of typed_of (elaborated (scope_of e) inner x) _ _ _ (p.1 ∙ ap Err p.2)
+          (λ kind at is. arm_refused (scope_of e) (locals_of e) (want_of (types_of e) c.args.wanted) (types_of e) c.args.fields.now c.args.arm.now count
+          inner names kind at (wanted_arm_fault (want_of (types_of e) c.args.wanted) (place_of x) (elaborated (scope_of e) inner x) kind at is))
+          (finds_is (types_of c.term.new.self) typed_of _ _ (Err c.in_err-body.field-0.0)
+          (ap (λ s. elaborated s inner x) c.in_ok-bind_each.ensures.scope) c.in_err-body.ensures.found);
       inside = no_value _ _ r e;
       literals = no_value _ _ r e;
+    }
+
+pub arm-wanted_arm-requires : goal.arm-wanted_arm-requires
+arm-wanted_arm-requires t c =
+    let more = grows_length (types_of c.bind_each.new.self) (types_of c.term.new.self) c.in_ok-body.ensures.keeps.grows in
+    let bound = ap length c.in_ok-bind_each.ensures.types in
+    let same = ap length c.close.ensures.types in
+    let body = c.in_ok-body.ensures.inside in
+    record {
+      wanted = want_within (length (types_of c.args.self.now)) (length (types_of c.close.new.self)) c.args.wanted (omega (arith, more, bound, same))
+          c.requires.wanted;
+      body = omega (arith, body, same);
     }
 
 pub arm-returns : goal.arm-returns
-arm-returns t c = record {
-  keeps = keeps_closed c.args.self.now c.bind_each.new.self c.body.new.self c.close.new.self c.depth-outer.result
-      (subst (Grows (types_of c.args.self.now)) (sym c.in_ok-bind_each.ensures.types) (grows_self (types_of c.args.self.now)))
-      c.in_ok-bind_each.ensures.scope c.in_ok-bind_each.ensures.outer
-      c.in_ok-body.ensures.keeps c.close.ensures.types c.close.ensures.scope c.close.ensures.locals c.depth-outer.ensures;
-  found = let e = c.args.self.now in
-      let names : names_bound (scope_of e) (locals_of e) (want_of (types_of e) c.args.wanted) (types_of e) c.args.fields.now
-      c.args.arm.now ≡ Sound (locals_of c.bind_each.new.self) = rw c.deref.ensures.value at c.in_ok-bind_each.ensures.found in
-      let ok = c.args.arm.now.fields.ok in
-      let count : length c.args.arm.now.fields.items ≡ length c.args.fields.now = cc in
-      rw c.close.ensures.types
-      (arm_finds (scope_of e) (locals_of e) (want_of (types_of e) c.args.wanted) (types_of e) c.args.fields.now c.args.arm.now count
-      (types_of c.body.new.self) (locals_of c.bind_each.new.self) (Ok c.in_ok-body.body) names
-      (rw (c.in_ok-bind_each.ensures.types, c.in_ok-bind_each.ensures.scope) at c.in_ok-body.ensures.found));
-  inside = rw c.close.ensures.types c.in_ok-body.ensures.inside;
-  literals = subst (λ (a : ArmSyntax). HasGoodLiterals a.body) (sym (arm-parts c.args.arm.now)) c.in_ok-body.ensures.literals;
-}
-
--- the body of an arm
-pub body-returns-in_err-term-in-Some : goal.body-returns-in_err-term-in-Some
-body-returns-in_err-term-in-Some t c =
-    let r = c.from_residual.result in
-    let e = c.from_residual.ensures.1 in
+arm-returns t c =
+    let e = c.args.self.now in
+    let x = expression_of c.args.arm.now.body in
+    let inner = locals_of c.bind_each.new.self in
+    let old = types_of e in
+    let grows : Grows old (types_of c.term.new.self) =
+    subst (λ (l : List Ty). Grows l (types_of c.term.new.self)) c.in_ok-bind_each.ensures.types c.in_ok-body.ensures.keeps.grows in
     record {
-      keeps = no_value _ _ r e;
-      found = let p = err_from_is_err_and r e in
-          rw c.in-Some.is
-          (fault_first (types_of c.part.new.self) _ boxed_of typed_of
-          (wanted (place_of (expression_of c.args.tree.now)) (type_at (types_of c.args.self.now) c.in-Some.ty) (found_in c.args.self.now c.args.tree.now))
-          (λ e. Sound (record { expression = e; of_type = type_at (types_of c.args.self.now) c.in-Some.ty })) _ _ (p.1 ∙ ap Err p.2)
-          c.in_err-term-in-Some.ensures.found);
-      inside = no_value _ _ r e;
-      literals = no_value _ _ r e;
+      keeps = on_ok c.wanted_arm.result (keeps_closed c.args.self.now c.bind_each.new.self c.term.new.self c.close.new.self c.depth-outer.result
+          (subst (Grows old) (sym c.in_ok-bind_each.ensures.types) (grows_self old))
+          c.in_ok-bind_each.ensures.scope c.in_ok-bind_each.ensures.outer
+          c.in_ok-body.ensures.keeps c.close.ensures.types c.close.ensures.scope c.close.ensures.locals c.depth-outer.ensures);
+      found = let names : names_bound (scope_of e) (locals_of e) (want_of old c.args.wanted) old c.args.fields.now
+          c.args.arm.now ≡ Sound inner = rw c.deref.ensures.value at c.in_ok-bind_each.ensures.found in
+          let ok = c.args.arm.now.fields.ok in
+          let count : length c.args.arm.now.fields.items ≡ length c.args.fields.now = cc in
+          let shown : Shows (types_of c.close.new.self) typed_of (elaborated (scope_of e) inner x) c.in_ok-body.body =
+          rw c.close.ensures.types (shows_is (types_of c.term.new.self) typed_of _ (elaborated (scope_of e) inner x) c.in_ok-body.body
+          (ap (λ s. elaborated s inner x) c.in_ok-bind_each.ensures.scope) c.in_ok-body.ensures.found) in
+          let want : want_of (types_of c.close.new.self) c.args.wanted ≡ want_of old c.args.wanted =
+          ap (λ (l : List Ty). want_of l c.args.wanted) c.close.ensures.types
+          ∙ want_stays old (types_of c.term.new.self) c.args.wanted grows c.requires.wanted in
+          arm_finds (scope_of e) (locals_of e) (want_of old c.args.wanted) old c.args.fields.now c.args.arm.now count
+          (types_of c.close.new.self) inner c.wanted_arm.result names
+          (finds_is (types_of c.close.new.self) typed_of _ _ c.wanted_arm.result
+          (ap (λ at. wanted_arm (want_of (types_of c.close.new.self) c.args.wanted) at (elaborated (scope_of e) inner x)) c.place.ensures
+          ∙ ap (λ w. wanted_arm w (place_of x) (elaborated (scope_of e) inner x)) want)
+          (c.wanted_arm.ensures.found (elaborated (scope_of e) inner x) shown));
+      inside = c.wanted_arm.ensures.inside;
+      literals = on_ok c.wanted_arm.result
+          (subst (λ (a : ArmSyntax). HasGoodLiterals a.body) (sym (arm-parts c.args.arm.now)) c.in_ok-body.ensures.literals);
     }
-
-pub body-returns-in_ok-term-in-Some : goal.body-returns-in_ok-term-in-Some
-body-returns-in_ok-term-in-Some t c = record {
-  keeps = c.in_ok-term-in-Some.ensures.keeps;
-  found = let inside : c.in-Some.ty.0 < length (types_of c.args.self.now) = rw c.in-Some.is at c.requires in
-      rw c.in-Some.is
-      (body_shows (types_of c.args.self.now) (types_of c.part.new.self) c.in-Some.ty (place_of (expression_of c.args.tree.now))
-      (found_in c.args.self.now c.args.tree.now) c.in_ok-term-in-Some.term c.in_ok-term-in-Some.ensures.keeps.grows inside
-      c.in_ok-term-in-Some.ensures.found);
-  inside = let inside : c.in-Some.ty.0 < length (types_of c.args.self.now) = rw c.in-Some.is at c.requires in
-      let longer = grows_length (types_of c.args.self.now) (types_of c.part.new.self) c.in_ok-term-in-Some.ensures.keeps.grows in
-      omega (arith, inside, longer);
-  literals = c.in_ok-term-in-Some.ensures.literals;
-}
-
-pub body-returns-in-None : goal.body-returns-in-None
-body-returns-in-None t c = record {
-  keeps = c.term.ensures.keeps;
-  found = rw c.in-None.is c.term.ensures.found;
-  inside = c.term.ensures.inside;
-  literals = c.term.ensures.literals;
-}

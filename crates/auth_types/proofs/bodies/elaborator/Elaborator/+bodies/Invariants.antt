@@ -40,17 +40,8 @@ decreases-term l = 6 * goal.size-term l
 abbrev pub decreases-part : goal.decreases-part
 decreases-part l = 6 * goal.size-part l + 1
 
-abbrev pub decreases-body : goal.decreases-body
-decreases-body l = 6 * goal.size-body l + 2
-
-abbrev pub decreases-pair : goal.decreases-pair
-decreases-pair l = 6 * max (size-ExpTree l.first.now) (size-ExpTree l.second.now) + 1
-
-abbrev pub decreases-binary : goal.decreases-binary
-decreases-binary l = 6 * max (size-ExpTree l.first.now) (size-ExpTree l.second.now) + 2
-
-abbrev pub decreases-let_in : goal.decreases-let_in
-decreases-let_in l = 6 * max (size-ExpTree l.bound.now) (size-ExpTree l.body.now) + 1
+abbrev pub decreases-two : goal.decreases-two
+decreases-two l = 6 * max (size-ExpTree l.first.now) (size-ExpTree l.second.now) + 1
 
 abbrev pub decreases-condition : goal.decreases-condition
 decreases-condition l = 6 * max (size-ExpTree l.test.now) (max (size-ExpTree l.first.now) (size-ExpTree l.other.now)) + 2
@@ -58,11 +49,8 @@ decreases-condition l = 6 * max (size-ExpTree l.test.now) (max (size-ExpTree l.f
 abbrev pub decreases-match_with : goal.decreases-match_with
 decreases-match_with l = 6 * max (size-ExpTree l.subject.now) (most size-Arm l.arms.now) + 2
 
-abbrev pub decreases-call : goal.decreases-call
-decreases-call l = 6 * goal.size-call l + 4
-
-abbrev pub decreases-constructor : goal.decreases-constructor
-decreases-constructor l = 6 * goal.size-constructor l + 4
+abbrev pub decreases-applied : goal.decreases-applied
+decreases-applied l = 6 * goal.size-applied l + 4
 
 abbrev pub decreases-operands : goal.decreases-operands
 decreases-operands l = 6 * goal.size-operands l + 3
