@@ -19,6 +19,10 @@ use Rattle.value_store.proofs.TypedNodes.{shallow_stands}
 use Rattle.ring_prover.specs.Seen.{AreSeen, IsSeen, pieces_of}
 use Rattle.ring_prover.specs.declared.opened.Opened.{Opened}
 
+-- one frame more
+pub one_counted : (frames before i : ℕ) → frames ≡ suc before → before ≡ i → frames ≡ i + 1
+one_counted frames before i more is = omega (arith, more, is)
+
 -- the spelling of a shallow value that a node stands for is short
 pub short_spelling : (types : Table) (nodes : List Node) (t : Ty) (v : Value) (r : ℕ) → AreSound nodes → StandsFor VerifierNodes types nodes r t v
     → (made bytes : List ℕ) → bytes ≡ made → made ≡ spelling v → length bytes < 2 ^ 32

@@ -1,5 +1,8 @@
 //! The prover: the machine runs a call on the prover's nodes, and each opening notes what is opened. What was opened is then written
 //! as the frames of a proof, over a ring of the pieces that came before.
+//!
+//! [`prove`] gives the frames of one proof among others that follow one another, [`prove_file`] a proof file. [`prover_run`] is the run
+//! alone.
 #![tactic(auto)]
 
 mod frames;

@@ -5,7 +5,7 @@ ghost use Rattle.core_terms.specs.Formats.{first_format};
 ghost use Rattle.core_terms.specs.Projection.{digest_at};
 ghost use Rattle.core_terms.specs.Terms.{function_at};
 ghost use Rattle.core_terms.specs.Values.{Value};
-ghost use Rattle.ideal_meaning.specs.Frames.{proof_file};
+ghost use Rattle.ideal_meaning.specs.Frames.{frame_bytes, proof_file};
 ghost use Rattle.ideal_meaning.specs.Headline.{call_of};
 ghost use Rattle.ideal_meaning.specs.Ideal as ideal;
 ghost use Rattle.value_store.specs.Standing.{Keeps, ProverNodes};
@@ -46,6 +46,8 @@ pub fn prove_file<H: Hash32, N: Nodes>(
         → IsOutcome (ProverNodes (digest_at H.hash P)) P.types (N.nodes store.new) (function_at P role.0).result told.0.value (ideal.outcome (ideal.ideal P role.0 (call_of s a) fuel))) }
     ensures outcome { let P = program_of code.now in IfOk result (λ told. (s a : Value) → IsCalledOn H.hash P role.0 (N.nodes store.old) state argument s a
         → IsSpelled (ideal.outcome_projection H.hash P (function_at P role.0).result (ideal.outcome (ideal.ideal P role.0 (call_of s a) fuel))) told.0.outcome) }
+    ensures frames { let P = program_of code.now in IfOk result (λ told. (s a : Value) → IsCalledOn H.hash P role.0 (N.nodes store.old) state argument s a
+        → told.0.frames.items ≡ frame_bytes (run_frames H.hash P role.0 (call_of s a) fuel size [])) }
     ensures fresh { let P = program_of code.now in IfOk result (λ told. (s a : Value) → IsCalledOn H.hash P role.0 (N.nodes store.old) state argument s a
         → told.0.fresh ≡ fresh_in (run_frames H.hash P role.0 (call_of s a) fuel size [])) }
     ensures again { let P = program_of code.now in IfOk result (λ told. (s a : Value) → IsCalledOn H.hash P role.0 (N.nodes store.old) state argument s a

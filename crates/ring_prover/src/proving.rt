@@ -40,7 +40,8 @@ pub struct Proved {
 /// nodes, with a ring that holds the last of the new pieces that came before. It gives the ring back, which holds the last of them and
 /// of the new pieces of this proof.
 ///
-/// The frames have no header. A run that ends without a value is proved too. Where memory is wanting the ring is dropped.
+/// The frames have no header. A run that ends without a value is proved too. What a verifier makes of honest frames is said by the laws
+/// of `ideal_meaning`. Where memory is wanting the ring is dropped.
 pub fn prove<H: Hash32, N: Nodes>(
     alloc: Global,
     code: &Code,

@@ -1,9 +1,9 @@
-use Rattle.std.proofs.Common.{◌≡◌, ◌≤◌, ◌+◌, ◌++◌, ◌∷◌, [], ℕ, List, suc, length, arith, sym, ap, ◌∙◌, subst}
+use Rattle.std.proofs.Common.{◌≤◌, ◌+◌, ◌++◌, ◌∷◌, [], ℕ, List, length, arith, sym, ap, ◌∙◌, subst}
 use Rattle.core_terms.specs.Formats.{IsHash}
 use Rattle.core_terms.specs.ProgramTypes.{types_meaning}
 use Rattle.ring_prover.specs.Seen.{pieces_of}
 use Rattle.ring_prover.specs.Written.{HasWritten}
-use Rattle.ring_prover.proofs.Pieces.{is_honest, no_piece, seen_at, seen_ends, seen_whole, short_spelling, shows, stands_at}
+use Rattle.ring_prover.proofs.Pieces.{is_honest, no_piece, one_counted, seen_at, seen_ends, seen_whole, short_spelling, shows, stands_at}
 use Rattle.ring_prover.proofs.frames.write_frames.Goals as goal
 
 pub loop-ty-init : goal.loop-ty-init
@@ -41,7 +41,7 @@ loop-ty-preserved g c =
     let types = c.args.types.now in
     let nodes = g.N.Nodes.nodes c.args.store.now in
     record {
-      count = (let next : suc c.loop-ty.ty-index ≡ c.loop-ty.ty-index + 1 = omega arith in c.in_ok-put.ensures.count ∙ ap suc c.loop-ty.invariant.count ∙ next);
+      count = one_counted (c.put.new.self.fresh + c.put.new.self.again) (c.loop-ty.writer.fresh + c.loop-ty.writer.again) c.loop-ty.ty-index c.in_ok-put.ensures.count c.loop-ty.invariant.count;
       written = λ seen recent h holds.
           let e = seen_ends hash types nodes c.args.opened.now c.loop-ty.ty-index _ seen h c.loop-ty-test.true in
           let spelled = c.in_ok-piece.ensures.projected hash _ is_hash (stands_at hash types nodes is_hash _ e.last e.is_seen) in
