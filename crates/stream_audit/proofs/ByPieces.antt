@@ -25,6 +25,7 @@ use Rattle.collision_audit.specs.Audits.{Audit, Collides, Judges, unless_split, 
 use Rattle.collision_audit.specs.Splits.{Split, first_split, offered_behind, split_from, split_of}
 use Rattle.stream_audit.specs.PieceAudits.{audit_by_pieces, audit_file, audit_frames, audit_from, differing, outcome_seen}
 use Rattle.stream_audit.specs.PieceLaws.{AuditIsByPieces}
+use Rattle.stream_audit.proofs.Parting.{not_same}
 use Rattle.stream_audit.proofs.Reaching.{Reaches, ReachesIn, place_behind, reaches_one, run_reaches}
 
 module _ (hash : Hash) (P : Program) (o : Outcome) where
@@ -117,13 +118,6 @@ module _ (hash : Hash) (P : Program) (o : Outcome) where
   Parts_at place x v (Offers bytes left more) =
       (bytes ≢ honest_bytes hash P x)
       × (digest x.ty bytes ≢ digest x.ty (honest_bytes hash P x) → v ≡ Rejected (WrongPiece place (digest x.ty (honest_bytes hash P x)) (digest x.ty bytes)))
-
-  not_same : (x y : List ℕ) → x ≢ y → bytes_eq x y ≡ false
-  not_same x y differs = by (bytes_eq x y) refl
-    where
-      by : (b : Bool) → bytes_eq x y ≡ b → b ≡ false
-      by true e = absurd (differs ((bytes_eq-Decides x y).0 e))
-      by false e = refl
 
   parted_there : (after : List Opened) (x : Opened) (v : Verdict) (place left : ℕ) (more : Offer) → Parts_at place x v more
       → unless_split (split_from digest place (offered_pieces more) (pieces_of (x ∷ after))) v ≡ audit_from digest o place (pieces_of (x ∷ after)) left more
@@ -245,7 +239,7 @@ module _ (hash : Hash) (is_hash : IsHash hash) (P : Program) (format : IsFormat 
     refused r place left (Offers bytes l more) h q = (
       λ e. (r.only (offered_pieces more) (sym q ∙ ap (λ bytes. bytes ∷ offered_pieces more) e)).2 (p.fits tt),
       λ apart.
-          let cause = wrong_refused hash P x.ty want bytes (offered_pieces more) at.place at.more at r.left r.cause (sym q) (not_same hash P result (digest_at hash P x.ty bytes) want apart) r.refused in
+          let cause = wrong_refused hash P x.ty want bytes (offered_pieces more) at.place at.more at r.left r.cause (sym q) (not_same (digest_at hash P x.ty bytes) want apart) r.refused in
           ap judged r.is ∙ (ap Rejected cause ∙ ap (λ n. Rejected (WrongPiece n want (digest_at hash P x.ty bytes))) (one_place _ h)),
     )
 

@@ -1,5 +1,5 @@
 -- One honest piece compared with the next that is offered.
-use Rattle.std.proofs.Common.{◌≡◌, ◌≢◌, ℕ, zero, suc, ◌+◌, ◌<◌, ◌≤◌, Bool, true, false, List, [], ◌∷◌, length, get_or, drop, Option, Some, None, Result, Ok, Err, IfOk, bytes_eq, if◌then◌else◌, refl, sym, ap, ◌∙◌, subst, arith}
+use Rattle.std.proofs.Common.{◌≡◌, ◌≢◌, ℕ, zero, suc, ◌+◌, ◌<◌, ◌≤◌, Bool, true, false, List, [], ◌∷◌, length, map, get_or, drop, Option, Some, None, Result, Ok, Err, IfOk, bytes_eq, if◌then◌else◌, refl, sym, ap, ◌∙◌, subst, arith}
 use Rattle.std.specs.Option.{option_and_then}
 use Rattle.std.specs.Prelude.{Vec}
 use Rattle.std.specs.declared.alloc.Global.{Global}
@@ -36,7 +36,7 @@ use Rattle.stream_audit.specs.declared.offers.Offered.{Offered}
 use Rattle.stream_audit.specs.declared.offers.Offered.TheVariants.{Same, Other, Ended}
 use Rattle.ring_prover.specs.declared.opened.Opened.{Opened}
 
-not_same : (x y : List ℕ) → x ≢ y → bytes_eq x y ≡ false
+pub not_same : (x y : List ℕ) → x ≢ y → bytes_eq x y ≡ false
 not_same x y differs = by (bytes_eq x y) refl
   where
     by : (b : Bool) → bytes_eq x y ≡ b → b ≡ false
@@ -159,6 +159,58 @@ module _ (digest : Ty → List ℕ → List ℕ) (honest : List Piece) (count : 
     pub stands_ended : (c : Cause) → TakesPiece i b.bytes s.offer limit' ring' left' (Ok (Ended c)) → Compares Audit_now (left_behind o) left' (Ok (Some (audited.Rejected c)))
     stands_ended c (e, is, told) =
         (λ outcome. s.audit outcome ∙ (ap (λ offer. audit_from digest outcome i (b ∷ later) s.bytes_left offer) is ∙ ap (λ c. Judges (Rejected c)) (sym told)), stops_ended (left_behind o) left' c e i told)
+
+-- The i-th value that was opened, against what was taken for it.
+module _ (hash : Hash) (types : Types) (nodes : List Node) (opened : List Opened) (seen : List ideal.Opened) (count : ℕ) (o : Offer) (i : ℕ) (limit : ℕ) (ring : Kept) (left : Option (List ℕ))
+    (h : AreSeen hash types nodes opened seen) (inside : i < length opened) (d : Opened) where
+  abbrev digest : Ty → List ℕ → List ℕ
+  digest = digest_at hash (types_meaning types)
+
+  abbrev pieces : List ideal.Opened → List Piece
+  pieces seen = map (honest_piece hash (types_meaning types)) seen
+
+  abbrev node : Opened
+  node = get_or opened i d
+
+  abbrev pub SpelledOf : List ℕ → Type 0
+  SpelledOf bytes =
+      (v : Value) → StandsFor (ProverNodes (digest_at hash (types_meaning types))) (types_meaning types).types nodes node.value.0 (type_at (types_by_number types) node.ty) v
+      → bytes ≡ spelling (projection hash (types_meaning types) (type_at (types_by_number types) node.ty) v)
+
+  module _ (stands : Stands digest (pieces seen) count o i (pieces (drop i seen)) limit ring left) (place : ℕ) (here : place ≡ i) (bytes lent : List ℕ) (spelled : SpelledOf bytes) (same : lent ≡ bytes)
+      (limit' : ℕ) (ring' : Kept) (left' : Option (List ℕ)) (found : Offered) (takes : (n : ℕ) (offer : Offer) → IsAhead limit ring left n offer → TakesPiece place lent offer limit' ring' left' (Ok found)) where
+    at : (x : ideal.Opened) × (drop i seen ≡ x ∷ drop (i + 1) seen) × IsSeen hash types nodes node x
+    at = seen_at hash types nodes opened seen i d h inside
+
+    abbrev b : Piece
+    b = honest_piece hash (types_meaning types) at.0
+
+    abbrev later : List Piece
+    later = pieces (drop (i + 1) seen)
+
+    now : Stands digest (pieces seen) count o i (b ∷ later) limit ring left
+    now = subst (λ l. Stands digest (pieces seen) count o i (pieces l) limit ring left) at.1 stands
+
+    honest : bytes ≡ b.bytes
+    honest = honest_is hash types nodes node at.0 bytes at.2 spelled
+
+    took : (found' : Offered) → found ≡ found' → TakesPiece i b.bytes now.offer limit' ring' left' (Ok found')
+    took found' is = taken digest (pieces seen) count o i limit ring left b later now limit' ring' left' place lent found found' here (same ∙ honest) is (takes now.bytes_left now.offer now.ahead)
+
+    pub goes_on : found ≡ Same → Stands digest (pieces seen) count o (i + 1) later limit' ring' left'
+    goes_on is = stands_next digest (pieces seen) count o i limit ring left b later now limit' ring' left' (took Same is)
+
+    pub parts : (piece : Vec ℕ Global) (answer : Audited) → found ≡ Other piece → ((ty : Ty) → TellsDifference (differing digest place (record { ty = ty; bytes = bytes }) piece.items) answer)
+        → ((behind : ℕ → Option ℕ) (left : Option (List ℕ)) → AreLeft (behind place) left → StopsBehind behind left answer)
+        → Compares (λ outcome. audit_from digest outcome 0 (pieces seen) count o) (left_behind o) left' (Ok (Some answer))
+    parts piece answer is tells stops =
+        let told = subst (λ place. TellsDifference (differing digest place b piece.items) answer) here
+        (subst (λ bytes. TellsDifference (differing digest place (record { ty = b.ty; bytes = bytes }) piece.items) answer) honest (tells b.ty)) in
+        stands_other digest (pieces seen) count o i limit ring left b later now limit' ring' left' piece answer (took (Other piece) is) told
+        (λ behind left stood. stops behind left (subst (λ place. AreLeft (behind place) left) (sym here) stood))
+
+    pub has_none : (c : Cause) → found ≡ Ended c → Compares (λ outcome. audit_from digest outcome 0 (pieces seen) count o) (left_behind o) left' (Ok (Some (audited.Rejected c)))
+    has_none c is = stands_ended digest (pieces seen) count o i limit ring left b later now limit' ring' left' c (took (Ended c) is)
 
 -- the same to the end of the source
 pub counted : (audit : Outcome → Audit) (behind : ℕ → Option ℕ) (left left' : Option (List ℕ)) (result : Result (Option Audited) AuditFault) (h : Compares audit behind left (Ok None)) → IsCounted h.0 left' result
