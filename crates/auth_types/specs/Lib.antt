@@ -16,6 +16,7 @@ pub mod Elaborators
 pub mod Joins
 pub mod Applications
 pub mod Leaves
+pub mod Parts
 pub mod InOrder
 pub mod TypingRules
 pub mod BrokenRules

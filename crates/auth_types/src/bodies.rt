@@ -9,6 +9,7 @@ mod functions;
 mod joins;
 mod leaves;
 mod operations;
+mod parts;
 
 ghost use Rattle.std.specs.Prelude.{◌≡◌, ◌<◌, length, map, All, IfOk, IfSome, OnOk};
 ghost use Rattle.core_terms.specs.LanguageTrees.{types_at};
@@ -28,6 +29,7 @@ ghost use Rattle.declared_types.specs.Scopes.{AreWithin, IsConstructorWithin};
 use crate::bodies::calls::{Space, applied_term};
 use crate::bodies::elaborator::Elaborator;
 use crate::bodies::joins::Join;
+use crate::bodies::parts::{Parts, parts_of};
 use auth_syntax::tree::{Arm, ExpTree};
 use core_terms::language::{Constructor, Term, TyForm};
 use core_terms::{Name, TyId};
@@ -79,40 +81,16 @@ impl<'s, 'a> Elaborator<'s, 'a> {
         ensures inside { IfOk result (λ typed. typed.ty.0 < length (types_of self.new)) }
         ensures literals { OnOk result (HasGoodLiterals (written.expression_of tree.now)) }
     {
-        match tree {
-            ExpTree::UnitLiteral(_)
-            | ExpTree::BoolLiteral(_, _)
-            | ExpTree::IntLiteral(_, _)
-            | ExpTree::TextLiteral(_, _)
-            | ExpTree::Local(_, _) => self.leaf(tree),
-            ExpTree::Pair(_, first, second) => self.two(Join::Pair, first, second),
-            ExpTree::Unary(_, operator, operand) => {
-                let at = place(operand);
-                let operand = self.term(operand)?;
-                self.unary(*operator, at, operand)
+        match parts_of(tree) {
+            Parts::Leaf => self.leaf(tree),
+            Parts::One(operator, operand) => {
+                let part = self.term(operand)?;
+                self.unary(operator, place(operand), part)
             }
-            ExpTree::Binary(_, operator, first, second) => {
-                self.two(Join::Operation(*operator), first, second)
-            }
-            ExpTree::Call(at, name, operands) => {
-                self.applied(Space::Functions, *at, name, operands)
-            }
-            ExpTree::Constructor(at, name, operands) => {
-                self.applied(Space::Constructors, *at, name, operands)
-            }
-            ExpTree::Let {
-                name,
-                bound,
-                body,
-                ..
-            } => self.two(Join::Let(name), bound, body),
-            ExpTree::If {
-                test,
-                first,
-                other,
-                ..
-            } => self.condition(test, first, other),
-            ExpTree::Match { at, subject, arms } => self.match_with(*at, subject, arms),
+            Parts::Two(join, first, second) => self.two(join, first, second),
+            Parts::Row(space, at, name, operands) => self.applied(space, at, name, operands),
+            Parts::Branches(test, first, other) => self.condition(test, first, other),
+            Parts::Arms(at, subject, arms) => self.match_with(at, subject, arms),
         }
     }
 

@@ -35,117 +35,127 @@ use Rattle.auth_types.proofs.FindingSteps.{fault_first, finds_is, no_value, on_m
 use Rattle.auth_types.proofs.LiteralSteps.{arms_good, arms_good_last, row_good, row_good_last}
 use Rattle.auth_types.proofs.MatchSteps.{match_arms_refused, match_found, match_refused}
 use Rattle.auth_types.proofs.RefusedParts.{first_refused, other_refused, test_refused, unary_refused}
-use Rattle.auth_types.proofs.JoinSteps.{between_refused, inner_found, let_is_two, operation_is_two, pair_is_two, second_refused, two_found}
+use Rattle.auth_types.proofs.JoinSteps.{between_refused, inner_found, second_refused, two_found}
 use Rattle.auth_types.proofs.RowSteps.{arms_behind_none, arms_last, arms_more, arms_refused, constructor_within, next_mapped, none_mapped, row_behind_none, row_last, row_more, row_refused, want_stays, want_within}
 use Rattle.declared_types.proofs.ScopeStays.{grows_length, type_stays_at}
 use Rattle.core_terms.proofs.TermViews as terms
-use Rattle.auth_types.proofs.TreeViews.{arm-parts, expression-Pair, expression-Unary, expression-Binary, expression-Call, expression-Constructor, expression-Let, expression-If, expression-Match}
+use Rattle.auth_types.proofs.TreeViews.{arm-parts}
 use Rattle.declared_types.proofs.TypeNumbers.{grows_on, grows_self, shows_grow}
 use Rattle.auth_types.proofs.bodies.elaborator.Elaborator.+bodies.Goals as goal
 
--- the forms of expressions
-pub term-returns-in-Pair : goal.term-returns-in-Pair
-term-returns-in-Pair t c =
-    let e = c.args.self.now in
-    record {
-      keeps = c.two.ensures.keeps;
-      found = rw (c.in-Pair.is, expression-Pair)
-          (finds_is (types_of c.two.new.self) typed_of _ _ c.two.result (pair_is_two (scope_of e) (locals_of e)
-          (expression_of c.in-Pair.first.value) (expression_of c.in-Pair.second.value))
-          (rw (c.deref.ensures, c.deref-in-Pair.ensures) at c.two.ensures.found));
-      inside = c.two.ensures.inside;
-      literals = rw (c.in-Pair.is, expression-Pair) (rw (c.deref.ensures, c.deref-in-Pair.ensures) at c.two.ensures.literals);
-    }
+-- an expression, by its parts
+pub term-leaf-requires : goal.term-leaf-requires
+term-leaf-requires t c = rw c.in-Leaf.is at c.parts_of.ensures.whole
 
-pub term-returns-in_err-operand-in-Unary : goal.term-returns-in_err-operand-in-Unary
-term-returns-in_err-operand-in-Unary t c =
+pub term-term-requires : goal.term-term-requires
+term-term-requires t c =
+    let below : size-ExpTree c.in-One.operand.now < size-ExpTree c.args.tree.now = rw c.in-One.is at c.parts_of.ensures.below in
+    omega (arith, below, c.decreases)
+
+pub term-two-requires : goal.term-two-requires
+term-two-requires t c =
+    let n = size-ExpTree c.args.tree.now in
+    let below : (size-ExpTree c.in-Two.first.now < n) × (size-ExpTree c.in-Two.second.now < n) = rw c.in-Two.is at c.parts_of.ensures.below in
+    let one = below.0 in
+    let other = below.1 in
+    omega (arith, one, other, c.decreases)
+
+pub term-applied-requires : goal.term-applied-requires
+term-applied-requires t c =
+    let below : most size-ExpTree c.in-Row.operands.now < size-ExpTree c.args.tree.now = rw c.in-Row.is at c.parts_of.ensures.below in
+    omega (arith, below, c.decreases)
+
+pub term-condition-requires : goal.term-condition-requires
+term-condition-requires t c =
+    let n = size-ExpTree c.args.tree.now in
+    let below : (size-ExpTree c.in-Branches.test.now < n) × (size-ExpTree c.in-Branches.first.now < n) × (size-ExpTree c.in-Branches.other.now < n) =
+    rw c.in-Branches.is at c.parts_of.ensures.below in
+    let test = below.0 in
+    let one = below.1 in
+    let other = below.2 in
+    omega (arith, test, one, other, c.decreases)
+
+pub term-match_with-requires : goal.term-match_with-requires
+term-match_with-requires t c =
+    let n = size-ExpTree c.args.tree.now in
+    let below : (size-ExpTree c.in-Arms.subject.now < n) × (most size-Arm c.in-Arms.arms.now < n) = rw c.in-Arms.is at c.parts_of.ensures.below in
+    let subject = below.0 in
+    let arms = below.1 in
+    omega (arith, subject, arms, c.decreases)
+
+pub term-returns-in_err-part-in-One : goal.term-returns-in_err-part-in-One
+term-returns-in_err-part-in-One t c =
     let r = c.from_residual.result in
     let e = c.from_residual.ensures.1 in
     record {
       keeps = no_value _ _ r e;
       found = let p = err_from_is_err_and r e in
-          rw (c.in-Unary.is, expression-Unary)
-          (unary_refused (unary_of c.in-Unary.operator) (place_of (expression_of c.in-Unary.operand.value)) (types_of c.term.new.self)
-          _ (found_in c.args.self.now c.in-Unary.operand.value) _ _ (p.1 ∙ ap Err p.2)
-          (finds_is (types_of c.term.new.self) typed_of _ _ (Err c.in_err-operand-in-Unary.field-0.0)
-          (ap (found_in c.args.self.now) c.deref-in-Unary-2.ensures) c.in_err-operand-in-Unary.ensures.found));
+          let e = c.args.self.now in
+          let x = expression_of c.in-One.operand.now in
+          finds_is _ typed_of _ _ r (sym (rw c.in-One.is at (c.parts_of.ensures.found (scope_of e) (locals_of e))))
+          (unary_refused (unary_of c.in-One.operator) (place_of x) (types_of c.term.new.self) _ (found_at e x) _ _ (p.1 ∙ ap Err p.2)
+          c.in_err-part-in-One.ensures.found);
       inside = no_value _ _ r e;
       literals = no_value _ _ r e;
     }
 
-pub term-returns-in_ok-operand-in-Unary : goal.term-returns-in_ok-operand-in-Unary
-term-returns-in_ok-operand-in-Unary t c = record {
-  keeps = on_more c.unary.result (λ keeps. keeps_on c.in_ok-operand-in-Unary.ensures.keeps keeps) c.unary.ensures.keeps;
-  found = let whole = found_in c.args.self.now c.in-Unary.operand.value in
-      let place_is : c.place-at.result ≡ place_of (expression_of c.in-Unary.operand.value) =
-      c.place-at.ensures ∙ ap (λ t. place_of (expression_of t)) c.deref-in-Unary.ensures in
-      rw (c.in-Unary.is, expression-Unary)
-      (subst (λ at. FindsOver (types_of c.unary.new.self) typed_of (unary (unary_of c.in-Unary.operator) at whole) c.unary.result) place_is
-      (c.unary.ensures.found whole (rw c.deref-in-Unary-2.ensures at c.in_ok-operand-in-Unary.ensures.found)));
-  inside = c.unary.ensures.inside;
-  literals = rw (c.in-Unary.is, expression-Unary) (on_ok c.unary.result (rw c.deref-in-Unary-2.ensures at c.in_ok-operand-in-Unary.ensures.literals));
-}
-
-pub term-returns-in-Binary : goal.term-returns-in-Binary
-term-returns-in-Binary t c =
+pub term-returns-in_ok-part-in-One : goal.term-returns-in_ok-part-in-One
+term-returns-in_ok-part-in-One t c =
     let e = c.args.self.now in
+    let x = expression_of c.in-One.operand.now in
     record {
-      keeps = c.two-in-Binary.ensures.keeps;
-      found = rw (c.in-Binary.is, expression-Binary)
-          (finds_is (types_of c.two-in-Binary.new.self) typed_of _ _ c.two-in-Binary.result
-          (operation_is_two (scope_of e) (locals_of e) c.in-Binary.operator (expression_of c.in-Binary.first.value)
-          (expression_of c.in-Binary.second.value))
-          (rw (c.deref-in-Binary.ensures, c.deref-in-Binary-2.ensures) at c.two-in-Binary.ensures.found));
-      inside = c.two-in-Binary.ensures.inside;
-      literals = rw (c.in-Binary.is, expression-Binary)
-          (rw (c.deref-in-Binary.ensures, c.deref-in-Binary-2.ensures) at c.two-in-Binary.ensures.literals);
+      keeps = on_more c.unary.result (λ keeps. keeps_on c.in_ok-part-in-One.ensures.keeps keeps) c.unary.ensures.keeps;
+      found = finds_is (types_of c.unary.new.self) typed_of _ _ c.unary.result
+          (ap (λ at. unary (unary_of c.in-One.operator) at (found_at e x)) c.place.ensures
+          ∙ sym (rw c.in-One.is at (c.parts_of.ensures.found (scope_of e) (locals_of e))))
+          (c.unary.ensures.found (found_at e x) c.in_ok-part-in-One.ensures.found);
+      inside = c.unary.ensures.inside;
+      literals = on_ok c.unary.result ((rw c.in-One.is at c.parts_of.ensures.literals) c.in_ok-part-in-One.ensures.literals);
     }
 
-pub term-returns-in-Call : goal.term-returns-in-Call
-term-returns-in-Call t c = record {
-  keeps = c.applied.ensures.keeps;
-  found = rw (c.in-Call.is, expression-Call) (rw c.deref-in-Call.ensures.value at c.applied.ensures.found);
-  inside = c.applied.ensures.inside;
-  literals = rw (c.in-Call.is, expression-Call) (rw c.deref-in-Call.ensures.value at c.applied.ensures.literals);
-}
-
-pub term-returns-in-Constructor : goal.term-returns-in-Constructor
-term-returns-in-Constructor t c = record {
-  keeps = c.applied-in-Constructor.ensures.keeps;
-  found = rw (c.in-Constructor.is, expression-Constructor) (rw c.deref-in-Constructor.ensures.value at c.applied-in-Constructor.ensures.found);
-  inside = c.applied-in-Constructor.ensures.inside;
-  literals = rw (c.in-Constructor.is, expression-Constructor) (rw c.deref-in-Constructor.ensures.value at c.applied-in-Constructor.ensures.literals);
-}
-
-pub term-returns-in-Let : goal.term-returns-in-Let
-term-returns-in-Let t c =
+pub term-returns-in-Two : goal.term-returns-in-Two
+term-returns-in-Two t c =
     let e = c.args.self.now in
     record {
-      keeps = c.two-in-Let.ensures.keeps;
-      found = rw (c.in-Let.is, expression-Let)
-          (finds_is (types_of c.two-in-Let.new.self) typed_of _ _ c.two-in-Let.result
-          (let_is_two (scope_of e) (locals_of e) start (name_of c.in-Let.name) (expression_of c.in-Let.bound.value)
-          (expression_of c.in-Let.body.value))
-          (rw (c.deref-in-Let.ensures, c.deref-in-Let-2.ensures) at c.two-in-Let.ensures.found));
-      inside = c.two-in-Let.ensures.inside;
-      literals = rw (c.in-Let.is, expression-Let) (rw (c.deref-in-Let.ensures, c.deref-in-Let-2.ensures) at c.two-in-Let.ensures.literals);
+      keeps = c.two.ensures.keeps;
+      found = finds_is (types_of c.two.new.self) typed_of _ _ c.two.result (sym (rw c.in-Two.is at (c.parts_of.ensures.found (scope_of e) (locals_of e))))
+          c.two.ensures.found;
+      inside = c.two.ensures.inside;
+      literals = on_more c.two.result (rw c.in-Two.is at c.parts_of.ensures.literals) c.two.ensures.literals;
     }
 
-pub term-returns-in-If : goal.term-returns-in-If
-term-returns-in-If t c = record {
-  keeps = c.condition.ensures.keeps;
-  found = rw (c.in-If.is, expression-If) (rw (c.deref-in-If.ensures, c.deref-in-If-2.ensures, c.deref-in-If-3.ensures) at c.condition.ensures.found);
-  inside = c.condition.ensures.inside;
-  literals = rw (c.in-If.is, expression-If) (rw (c.deref-in-If.ensures, c.deref-in-If-2.ensures, c.deref-in-If-3.ensures) at c.condition.ensures.literals);
-}
+pub term-returns-in-Row : goal.term-returns-in-Row
+term-returns-in-Row t c =
+    let e = c.args.self.now in
+    record {
+      keeps = c.applied.ensures.keeps;
+      found = finds_is (types_of c.applied.new.self) typed_of _ _ c.applied.result (sym (rw c.in-Row.is at (c.parts_of.ensures.found (scope_of e) (locals_of e))))
+          c.applied.ensures.found;
+      inside = c.applied.ensures.inside;
+      literals = on_more c.applied.result (rw c.in-Row.is at c.parts_of.ensures.literals) c.applied.ensures.literals;
+    }
 
-pub term-returns-in-Match : goal.term-returns-in-Match
-term-returns-in-Match t c = record {
-  keeps = c.match_with.ensures.keeps;
-  found = rw (c.in-Match.is, expression-Match) (rw (c.deref-in-Match.ensures, c.deref-in-Match-2.ensures.value) at c.match_with.ensures.found);
-  inside = c.match_with.ensures.inside;
-  literals = rw (c.in-Match.is, expression-Match) (rw (c.deref-in-Match.ensures, c.deref-in-Match-2.ensures.value) at c.match_with.ensures.literals);
-}
+pub term-returns-in-Branches : goal.term-returns-in-Branches
+term-returns-in-Branches t c =
+    let e = c.args.self.now in
+    record {
+      keeps = c.condition.ensures.keeps;
+      found = finds_is (types_of c.condition.new.self) typed_of _ _ c.condition.result (sym (rw c.in-Branches.is at (c.parts_of.ensures.found (scope_of e) (locals_of e))))
+          c.condition.ensures.found;
+      inside = c.condition.ensures.inside;
+      literals = on_more c.condition.result (rw c.in-Branches.is at c.parts_of.ensures.literals) c.condition.ensures.literals;
+    }
+
+pub term-returns-in-Arms : goal.term-returns-in-Arms
+term-returns-in-Arms t c =
+    let e = c.args.self.now in
+    record {
+      keeps = c.match_with.ensures.keeps;
+      found = finds_is (types_of c.match_with.new.self) typed_of _ _ c.match_with.result (sym (rw c.in-Arms.is at (c.parts_of.ensures.found (scope_of e) (locals_of e))))
+          c.match_with.ensures.found;
+      inside = c.match_with.ensures.inside;
+      literals = on_more c.match_with.result (rw c.in-Arms.is at c.parts_of.ensures.literals) c.match_with.ensures.literals;
+    }
 
 -- a part of a type
 pub part-returns : goal.part-returns
