@@ -1,10 +1,9 @@
 -- Each honest piece against the next that is offered.
-use Rattle.std.proofs.Common.{◌≡◌, List, drop, map, arith, ◌∙◌, subst}
+use Rattle.std.proofs.Common.{map, arith, ◌∙◌, subst}
 use Rattle.core_terms.specs.ProgramTypes.{types_meaning}
 use Rattle.core_terms.specs.Projection.{digest_at}
 use Rattle.ideal_meaning.specs.Ideal.{honest_piece}
 use Rattle.proof_stream.specs.Readers.{limit_of}
-use Rattle.stream_audit.specs.declared.offers.Offered.TheVariants.{Same, Other, Ended}
 use Rattle.stream_audit.proofs.Parting.{Stands, goes_on, has_none, parts, seen_at, seen_end, stands_last, stands_seen}
 use Rattle.stream_audit.proofs.comparing.compare.Goals as goal
 
