@@ -62,7 +62,8 @@ tells_difference P f audit (audited.Collision c) h = h
 tells_difference P f audit (audited.Rejected cause) h = h
 
 -- The answer of an audit says what is true.
-module _ (hash : Hash) (is_hash : IsHash hash) (P : Program) (format : IsFormat P.format) (typed : IsTyped P) (f : ℕ) (kind : Kind) (t answer : Ty) (role : IsRole P f kind t answer) (reads : ReadsState kind)
+module _ (hash : Hash) (is_hash : IsHash hash) (P : Program) (format : IsFormat P.format) (typed : IsTyped P) (f : ℕ) (kind : Kind) (t answer : Ty) (role : IsRole P f kind t answer)
+    (reads : ReadsState kind)
     (state argument : Value) (state_ideal : IsIdeal P.types P.state state) (argument_ideal : IsIdeal P.types t argument) (k : ℕ) (proof : List ℕ) where
   pub audits_truly : (result : Result Audited AuditFault) → TellsAudit P f (audit_of hash P t f state argument k proof) result → AuditsTruly hash P f state argument k proof result
   audits_truly (Ok (audited.Agrees told)) (o, agreed, spelled) =

@@ -157,7 +157,8 @@ module _ (hash : Hash) (P : Program) (o : Outcome) where
       ∙ sym (passed before (x ∷ after) began b reached e))
 
 -- why a piece is refused: there is none, or its digest isn't the one that is held
-none_refused : (hash : Hash) (P : Program) (t : Ty) (want : List ℕ) (place : ℕ) (more : Offer) (w left : Taking) (cause : Cause) → offered_pieces more ≡ [] → take_piece hash P t want place more w ≡ Refuses cause left
+none_refused : (hash : Hash) (P : Program) (t : Ty) (want : List ℕ) (place : ℕ) (more : Offer) (w left : Taking) (cause : Cause) → offered_pieces more ≡ []
+    → take_piece hash P t want place more w ≡ Refuses cause left
     → (e : End) × (more ≡ NoMore e) × (cause ≡ cause_of e place) × (left ≡ w)
 none_refused hash P t want place (NoMore e) w left cause none r = (e, refl, cc, cc)
 none_refused hash P t want place (Offers bytes l more) w left cause none r = absurd (cc (none))
@@ -293,7 +294,8 @@ module _ (hash : Hash) (is_hash : IsHash hash) (P : Program) (format : IsFormat 
       subst (λ ts. unless_split (first_split (digest_at hash P) (offered_pieces (offered P.format.limit frames n [])) (honest_pieces hash P f args k)) (judge hash P f (projections hash P ts args) k frames n [])
       ≡ audit_frames (digest_at hash P) P.format.limit (outcome_seen hash P f state argument k) (honest_pieces hash P f (call_of state argument) k) frames n []) shape one
 
-  at_header : (h : Option ℕ) → unless_split (first_split (digest_at hash P) (offered_behind P.format h bytes) (honest_pieces hash P f (call_of state argument) k)) (with_header hash P h f (call_of s a) k bytes)
+  at_header : (h : Option ℕ)
+      → unless_split (first_split (digest_at hash P) (offered_behind P.format h bytes) (honest_pieces hash P f (call_of state argument) k)) (with_header hash P h f (call_of s a) k bytes)
       ≡ audit_file (digest_at hash P) P.format.limit (outcome_seen hash P f state argument k) (honest_pieces hash P f (call_of state argument) k) h bytes
   at_header None = ap (λ o. unless_split o (Rejected Header)) (none_offered hash P (outcome_seen hash P f state argument k) 0 (honest_pieces hash P f (call_of state argument) k))
   at_header (Some n) = on_frames (drop 6 bytes) n

@@ -126,7 +126,8 @@ module _ (digest : Ty → List ℕ → List ℕ) (honest : List Piece) (count : 
     compared outcome a n more e = s.audit outcome ∙ ap (λ offer. audit_from digest outcome i (b ∷ later) s.bytes_left offer) e
 
     -- what was taken, in these words
-    pub taken : (place : ℕ) (bytes : List ℕ) (found found' : Offered) → place ≡ i → bytes ≡ b.bytes → found ≡ found' → TakesPiece place bytes s.offer limit' ring' left' (Ok found) → TakesPiece i b.bytes s.offer limit' ring' left' (Ok found')
+    pub taken : (place : ℕ) (bytes : List ℕ) (found found' : Offered) → place ≡ i → bytes ≡ b.bytes → found ≡ found' → TakesPiece place bytes s.offer limit' ring' left' (Ok found)
+        → TakesPiece i b.bytes s.offer limit' ring' left' (Ok found')
     taken place bytes found found' at same is takes =
         subst (λ found. TakesPiece i b.bytes s.offer limit' ring' left' (Ok found)) is
         (subst (λ bytes. TakesPiece i bytes s.offer limit' ring' left' (Ok found)) same
@@ -177,8 +178,10 @@ module _ (hash : Hash) (types : Types) (nodes : List Node) (opened : List Opened
       (v : Value) → StandsFor (ProverNodes (digest_at hash (types_meaning types))) (types_meaning types).types nodes node.value.0 (type_at (types_by_number types) node.ty) v
       → bytes ≡ spelling (projection hash (types_meaning types) (type_at (types_by_number types) node.ty) v)
 
-  module _ (stands : Stands digest (pieces seen) count o i (pieces (drop i seen)) limit ring left) (place : ℕ) (here : place ≡ i) (bytes lent : List ℕ) (spelled : SpelledOf bytes) (same : lent ≡ bytes)
-      (limit' : ℕ) (ring' : Kept) (left' : Option (List ℕ)) (found : Offered) (takes : (n : ℕ) (offer : Offer) → IsAhead limit ring left n offer → TakesPiece place lent offer limit' ring' left' (Ok found)) where
+  module _ (stands : Stands digest (pieces seen) count o i (pieces (drop i seen)) limit ring left) (place : ℕ) (here : place ≡ i) (bytes lent : List ℕ) (spelled : SpelledOf bytes)
+      (same : lent ≡ bytes)
+      (limit' : ℕ) (ring' : Kept) (left' : Option (List ℕ)) (found : Offered)
+      (takes : (n : ℕ) (offer : Offer) → IsAhead limit ring left n offer → TakesPiece place lent offer limit' ring' left' (Ok found)) where
     at : (x : ideal.Opened) × (drop i seen ≡ x ∷ drop (i + 1) seen) × IsSeen hash types nodes node x
     at = seen_at hash types nodes opened seen i d h inside
 
@@ -213,7 +216,8 @@ module _ (hash : Hash) (types : Types) (nodes : List Node) (opened : List Opened
     has_none c is = stands_ended digest (pieces seen) count o i limit ring left b later now limit' ring' left' c (took (Ended c) is)
 
 -- the same to the end of the source
-pub counted : (audit : Outcome → Audit) (behind : ℕ → Option ℕ) (left left' : Option (List ℕ)) (result : Result (Option Audited) AuditFault) (h : Compares audit behind left (Ok None)) → IsCounted h.0 left' result
+pub counted : (audit : Outcome → Audit) (behind : ℕ → Option ℕ) (left left' : Option (List ℕ)) (result : Result (Option Audited) AuditFault) (h : Compares audit behind left (Ok None))
+    → IsCounted h.0 left' result
     → ComparesAll audit behind left' result
 counted audit behind left left' (Ok None) h c = (c.1, λ outcome. h.2 outcome ∙ ap (λ bytes. Judges (with_rest outcome (length bytes))) c.0)
 counted audit behind left left' (Ok (Some answer)) h c = (λ outcome. subst (λ a. TellsDifference a answer) (sym (h.2 outcome)) (c.0 outcome), c.1 behind)
@@ -225,7 +229,8 @@ module _ (digest : Ty → List ℕ → List ℕ) (limit : ℕ) (honest : List Pi
   FileCompares size result = ComparesAll (λ o. audit_file digest limit o honest size bytes) (λ i. option_and_then (λ n. left_behind (offered limit (drop 6 bytes) n []) i) size) left result
 
   pub good_file : (size : Option ℕ) (n : ℕ) (result : Result (Option Audited) AuditFault) → size ≡ Some n
-      → ComparesAll (λ o. audit_from digest o 0 honest (length (drop 6 bytes)) (offered limit (drop 6 bytes) n [])) (left_behind (offered limit (drop 6 bytes) n [])) left result → FileCompares size result
+      → ComparesAll (λ o. audit_from digest o 0 honest (length (drop 6 bytes)) (offered limit (drop 6 bytes) n [])) (left_behind (offered limit (drop 6 bytes) n [])) left result
+      → FileCompares size result
   good_file size n result e h = subst (λ size. FileCompares size result) (sym e) h
 
   pub bad_file : (size : Option ℕ) → size ≡ None → FileCompares size (Ok (Some (audited.Rejected cause.Header)))

@@ -17,7 +17,8 @@ use Rattle.stream_audit.specs.declared.offers.Offered.TheVariants.{Same, Other, 
 pub holds_last : (ring : Kept) (n : ℕ) (recent : List (List ℕ)) → ring ≡ kept n recent → ring ≡ kept ring.size recent
 holds_last ring n recent e = e ∙ ap (λ m. kept m recent) (sym (ap (λ (r : Kept). r.size) e))
 
-module _ (limit : ℕ) (ring : Kept) (left : Option (List ℕ)) (count : ℕ) (o : Offer) (ahead : IsAhead limit ring left count o) (place : ℕ) (honest : List ℕ) (limit' : ℕ) (same : limit' ≡ limit) (left' : Option (List ℕ)) where
+module _ (limit : ℕ) (ring : Kept) (left : Option (List ℕ)) (count : ℕ) (o : Offer) (ahead : IsAhead limit ring left count o) (place : ℕ) (honest : List ℕ) (limit' : ℕ) (same : limit' ≡ limit)
+    (left' : Option (List ℕ)) where
   abbrev n : ℕ
   n = ring.size
 
@@ -85,7 +86,8 @@ module _ (limit : ℕ) (ring : Kept) (left : Option (List ℕ)) (count : ℕ) (o
   nothing frame_end.ReadFault e h q = absurd (cc (q))
   nothing frame_end.NoMemory e h q = absurd (cc (q))
 
-  pub takes_none : (end : FrameEnd) (ring' : Kept) (found : Result Offered AuditFault) → EndsBy limit ahead.bytes left' end → EndsAs end place found → TakesPiece place honest o limit' ring' left' found
+  pub takes_none : (end : FrameEnd) (ring' : Kept) (found : Result Offered AuditFault) → EndsBy limit ahead.bytes left' end → EndsAs end place found
+      → TakesPiece place honest o limit' ring' left' found
   takes_none end ring' (Ok (Ended cause)) ends told = by (end_told end) refl told
     where
       by : (e : Option End) → end_told end ≡ e → option_map (λ e. cause_of e place) e ≡ Some (cause_told cause) → TakesPiece place honest o limit' ring' left' (Ok (Ended cause))

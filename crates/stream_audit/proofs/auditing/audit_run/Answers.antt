@@ -27,8 +27,10 @@ returns-in-Some-clause-tells g c o seen proved h bytes told =
     let nodes = g.N.Nodes.nodes c.args.store.now in
     let left = g.S.Source.left c.args.proof.now in
     let left' = g.S.Source.left c.compare_file.new.proof in
-    let compares = file_told hash nodes left left' (Ok c.in_ok-answer.field-0) c.types.result.now p.types c.deref.result.now c.args.run.now.opened.items c.types.ensures c.deref.ensures.value c.in_ok-answer.ensures.compares in
-    let is = subst (λ r. ComparesAll (λ o. audit_file (digest_at hash R) R.format.limit o (map (honest_piece hash R) seen) (header R.format bytes) bytes) (rest_behind R.format bytes) left' (Ok r)) c.in-Some.is (compares seen h bytes told) in
+    let compares = file_told hash nodes left left' (Ok c.in_ok-answer.field-0) c.types.result.now p.types c.deref.result.now c.args.run.now.opened.items c.types.ensures c.deref.ensures.value
+    c.in_ok-answer.ensures.compares in
+    let is = subst
+    (λ r. ComparesAll (λ o. audit_file (digest_at hash R) R.format.limit o (map (honest_piece hash R) seen) (header R.format bytes) bytes) (rest_behind R.format bytes) left' (Ok r)) c.in-Some.is (compares seen h bytes told) in
     tells_difference R f (run_audit hash R f o seen bytes) c.in-Some.answer (is.0 (outcome_projection hash R (function_at R f).result o))
 
 pub returns-in_ok-outcome-in-None-clause-tells : goal.returns-in_ok-outcome-in-None-clause-tells
@@ -42,11 +44,14 @@ returns-in_ok-outcome-in-None-clause-tells g c o seen proved h bytes told =
     let nodes = g.N.Nodes.nodes c.args.store.now in
     let left = g.S.Source.left c.args.proof.now in
     let left' = g.S.Source.left c.compare_file.new.proof in
-    let compares = file_told hash nodes left left' (Ok c.in_ok-answer.field-0) c.types.result.now p.types c.deref.result.now c.args.run.now.opened.items c.types.ensures c.deref.ensures.value c.in_ok-answer.ensures.compares in
-    let is = subst (λ r. ComparesAll (λ o. audit_file (digest_at hash R) R.format.limit o (map (honest_piece hash R) seen) (header R.format bytes) bytes) (rest_behind R.format bytes) left' (Ok r)) c.in-None.is (compares seen h bytes told) in
+    let compares = file_told hash nodes left left' (Ok c.in_ok-answer.field-0) c.types.result.now p.types c.deref.result.now c.args.run.now.opened.items c.types.ensures c.deref.ensures.value
+    c.in_ok-answer.ensures.compares in
+    let is = subst
+    (λ r. ComparesAll (λ o. audit_file (digest_at hash R) R.format.limit o (map (honest_piece hash R) seen) (header R.format bytes) bytes) (rest_behind R.format bytes) left' (Ok r)) c.in-None.is (compares seen h bytes told) in
     let at : type_at (types_of p) c.function.result.now.result ≡ z =
     ap (λ (f : tree.Function). f.result) (subst (λ q. function_of (types_of q) c.function.result.now ≡ function_at (meaning q) f) c.program.ensures c.function.ensures.function) in
-    let spelled = outcome_told hash nodes c.args.run.now.value c.in_ok-outcome-in-None.outcome c.types-in-None.result.now p.types (type_at (types_by_number c.types-in-None.result.now) c.function.result.now.result) z c.types-in-None.ensures
+    let spelled = outcome_told hash nodes c.args.run.now.value c.in_ok-outcome-in-None.outcome c.types-in-None.result.now p.types
+    (type_at (types_by_number c.types-in-None.result.now) c.function.result.now.result) z c.types-in-None.ensures
     (ap (λ ts. type_at (types_by_number ts) c.function.result.now.result) c.types-in-None.ensures ∙ at) c.in_ok-outcome-in-None.ensures o proved in
     let seen_as = outcome_projection hash R z o in
     (seen_as, is.1 seen_as, spells_too (types_meaning p.types) R z seen_as c.in_ok-outcome-in-None.outcome refl spelled)

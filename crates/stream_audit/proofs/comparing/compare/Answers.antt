@@ -1,10 +1,9 @@
 -- Each honest piece against the next that is offered.
-use Rattle.std.proofs.Common.{◌≡◌, List, drop, map, arith, ◌∙◌, subst}
+use Rattle.std.proofs.Common.{map, arith, ◌∙◌, subst}
 use Rattle.core_terms.specs.ProgramTypes.{types_meaning}
 use Rattle.core_terms.specs.Projection.{digest_at}
 use Rattle.ideal_meaning.specs.Ideal.{honest_piece}
 use Rattle.proof_stream.specs.Readers.{limit_of}
-use Rattle.stream_audit.specs.declared.offers.Offered.TheVariants.{Same, Other, Ended}
 use Rattle.stream_audit.proofs.Parting.{Stands, goes_on, has_none, parts, seen_at, seen_end, stands_last, stands_seen}
 use Rattle.stream_audit.proofs.comparing.compare.Goals as goal
 
@@ -23,7 +22,8 @@ returns-in-Other-clause-compares g c seen count o h ahead =
     let left = g.S.Source.left c.loop-one.proof in
     let left' = g.S.Source.left c.take.new.proof in
     parts g.H.Hash32.hash c.args.types.now nodes c.args.opened.now seen count o i (limit_of reader) c.loop-one.offers.ring left h c.loop-one-test.true _ (c.loop-one.invariant.3 seen count o h ahead)
-    c.loop-one.place c.loop-one.invariant.0 c.in_ok-honest.honest c.as_bytes.result.now c.in_ok-honest.ensures c.as_bytes.ensures (limit_of c.take.new.self.reader) c.take.new.self.ring left' c.in_ok-take.field-0
+    c.loop-one.place c.loop-one.invariant.0 c.in_ok-honest.honest c.as_bytes.result.now c.in_ok-honest.ensures c.as_bytes.ensures (limit_of c.take.new.self.reader) c.take.new.self.ring left'
+    c.in_ok-take.field-0
     c.in_ok-take.ensures.takes c.in-Other.piece c.answer_to.result c.in-Other.is c.answer_to.ensures.tells c.answer_to.ensures.stops
 
 pub returns-in-Ended-clause-compares : goal.returns-in-Ended-clause-compares
@@ -33,8 +33,10 @@ returns-in-Ended-clause-compares g c seen count o h ahead =
     let reader = c.loop-one.offers.reader in
     let left = g.S.Source.left c.loop-one.proof in
     let left' = g.S.Source.left c.take.new.proof in
-    has_none g.H.Hash32.hash c.args.types.now nodes c.args.opened.now seen count o i (limit_of reader) c.loop-one.offers.ring left h c.loop-one-test.true _ (c.loop-one.invariant.3 seen count o h ahead)
-    c.loop-one.place c.loop-one.invariant.0 c.in_ok-honest.honest c.as_bytes.result.now c.in_ok-honest.ensures c.as_bytes.ensures (limit_of c.take.new.self.reader) c.take.new.self.ring left' c.in_ok-take.field-0
+    has_none g.H.Hash32.hash c.args.types.now nodes c.args.opened.now seen count o i (limit_of reader) c.loop-one.offers.ring left h c.loop-one-test.true _
+    (c.loop-one.invariant.3 seen count o h ahead)
+    c.loop-one.place c.loop-one.invariant.0 c.in_ok-honest.honest c.as_bytes.result.now c.in_ok-honest.ensures c.as_bytes.ensures (limit_of c.take.new.self.reader) c.take.new.self.ring left'
+    c.in_ok-take.field-0
     c.in_ok-take.ensures.takes c.in-Ended.cause c.in-Ended.is
 
 pub loop-one-preserved : goal.loop-one-preserved
@@ -48,8 +50,10 @@ loop-one-preserved g c = (
       let reader = c.loop-one.offers.reader in
       let left = g.S.Source.left c.loop-one.proof in
       let left' = g.S.Source.left c.take.new.proof in
-      goes_on g.H.Hash32.hash c.args.types.now nodes c.args.opened.now seen count o i (limit_of reader) c.loop-one.offers.ring left h c.loop-one-test.true _ (c.loop-one.invariant.3 seen count o h ahead)
-      c.loop-one.place c.loop-one.invariant.0 c.in_ok-honest.honest c.as_bytes.result.now c.in_ok-honest.ensures c.as_bytes.ensures (limit_of c.take.new.self.reader) c.take.new.self.ring left' c.in_ok-take.field-0
+      goes_on g.H.Hash32.hash c.args.types.now nodes c.args.opened.now seen count o i (limit_of reader) c.loop-one.offers.ring left h c.loop-one-test.true _
+      (c.loop-one.invariant.3 seen count o h ahead)
+      c.loop-one.place c.loop-one.invariant.0 c.in_ok-honest.honest c.as_bytes.result.now c.in_ok-honest.ensures c.as_bytes.ensures (limit_of c.take.new.self.reader) c.take.new.self.ring left'
+      c.in_ok-take.field-0
       c.in_ok-take.ensures.takes c.in-Same.is,
 )
 

@@ -20,8 +20,10 @@ returns-in-Ok-Back-clause-takes g c count o ahead =
     let limit = limit_of c.args.self.now.reader in
     let left' = g.S.Source.left c.next.new.source in
     let piece = piece_of c.next.new.self in
-    takes_kept limit c.args.self.now.ring (g.S.Source.left c.args.proof.now) count o ahead c.args.place c.args.honest.now (limit_of c.next.new.self) c.in-Ok-Back.ensures.limit left' c.in-Ok-Back.k piece
-    c.compare_kept.result (subst (λ (f : Frame). TakesFrame limit ahead.bytes piece left' (Ok f)) c.in-Ok-Back.field-0-is (c.in-Ok-Back.ensures.takes ahead.bytes ahead.told)) c.compare_kept.ensures.compares
+    takes_kept limit c.args.self.now.ring (g.S.Source.left c.args.proof.now) count o ahead c.args.place c.args.honest.now (limit_of c.next.new.self) c.in-Ok-Back.ensures.limit left'
+    c.in-Ok-Back.k piece
+    c.compare_kept.result (subst (λ (f : Frame). TakesFrame limit ahead.bytes piece left' (Ok f)) c.in-Ok-Back.field-0-is (c.in-Ok-Back.ensures.takes ahead.bytes ahead.told))
+    c.compare_kept.ensures.compares
 
 pub returns-in-Ok-Back-clause-faults : goal.returns-in-Ok-Back-clause-faults
 returns-in-Ok-Back-clause-faults g c =
