@@ -82,20 +82,20 @@ row_kept a b keeps xs ts =
 -- a refusal of a function, and of a constructor
 module _ (scope : Scope) (at : Place) (name : List ℕ) (n : ℕ) (types : List Ty) (fault : TypeFault) (r : Result Callee TypeFault) (is : r ≡ Err fault)
   where
-  pub call_unfit : (meant : FunctionId → Numbered Signature) → Calls at n (function_named 0 scope.functions name) meant (Err fault)
-      → Applies scope Functions at name n types r
-  call_unfit meant h = subst (λ (r : Result Callee TypeFault). Applies scope Functions at name n types r) (sym is) (by fault h)
-    where
-      by : (fault : TypeFault) → Calls at n (function_named 0 scope.functions name) meant (Err fault)
-          → Applies scope Functions at name n types (Err fault)
-      by (At kind place) h = h
-      by NoMemory h = tt
+    pub call_unfit : (meant : FunctionId → Numbered Signature) → Calls at n (function_named 0 scope.functions name) meant (Err fault)
+        → Applies scope Functions at name n types r
+    call_unfit meant h = subst (λ (r : Result Callee TypeFault). Applies scope Functions at name n types r) (sym is) (by fault h)
+      where
+        by : (fault : TypeFault) → Calls at n (function_named 0 scope.functions name) meant (Err fault)
+            → Applies scope Functions at name n types (Err fault)
+        by (At kind place) h = h
+        by NoMemory h = tt
 
-  pub constructor_unfit : Constructs at n scope.table (constructor_named 0 scope.constructors name) (Err fault)
-      → Applies scope Constructors at name n types r
-  constructor_unfit h = subst (λ (r : Result Callee TypeFault). Applies scope Constructors at name n types r) (sym is) (by fault h)
-    where
-      by : (fault : TypeFault) → Constructs at n scope.table (constructor_named 0 scope.constructors name) (Err fault)
-          → Applies scope Constructors at name n types (Err fault)
-      by (At kind place) h = h
-      by NoMemory h = tt
+    pub constructor_unfit : Constructs at n scope.table (constructor_named 0 scope.constructors name) (Err fault)
+        → Applies scope Constructors at name n types r
+    constructor_unfit h = subst (λ (r : Result Callee TypeFault). Applies scope Constructors at name n types r) (sym is) (by fault h)
+      where
+        by : (fault : TypeFault) → Constructs at n scope.table (constructor_named 0 scope.constructors name) (Err fault)
+            → Applies scope Constructors at name n types (Err fault)
+        by (At kind place) h = h
+        by NoMemory h = tt

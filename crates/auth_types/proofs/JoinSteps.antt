@@ -62,6 +62,7 @@ operation_is_two scope locals operation x y = by (elaborated scope locals x)
         (λ b. typed (binary_expression operation e b) (result_type operation)))
     first a true = refl
     first a false = refl
+
     by : (found : Checking Typed)
         → then_checked found (λ a. then_checked (inner_locals (Operation operation) locals (place_of x) a.of_type)
         (λ inner. joined (Operation operation) a (place_of y) (elaborated scope inner y)))
@@ -81,6 +82,7 @@ let_is_two scope locals at name x y = by (elaborated scope locals x)
         → then_checked (unless_fault b (Limit Locals) name.at (Sound inner)) (let_behind scope y a) ≡ unless_fault b (Limit Locals) name.at (let_behind scope y a inner)
     few a true inner = refl
     few a false inner = refl
+
     by : (found : Checking Typed)
         → then_checked found (λ a. then_checked (with_local locals name a.of_type) (let_behind scope y a))
         ≡ then_checked found (λ e. unless_fault (nat_lt (length locals) most_locals) (Limit Locals) name.at

@@ -2,15 +2,15 @@
 pub mod TreeViews
 pub mod ElaboratorSteps
 pub mod FindingSteps
--- `local`, `plain` and `text` of elaborator.rt; operations.rt; calls.rt; `bind_each` of binders.rt
+-- `local`, `plain` and `text` of elaborator.rt, and leaves.rt; operations.rt; calls.rt, the names and then the terms; `bind_each` of binders.rt
 pub mod LocalSteps
 pub mod OperationSteps
 pub mod CallSteps
 pub mod ApplicationSteps
 pub mod BoundNames
--- joins.rt, and `two` of bodies.rt
+-- joins.rt, parts.rt, and `two` of bodies.rt
 pub mod JoinSteps
--- the cycle of bodies.rt: conditions, calls and constructors; rows; matches and their arms; parts that are refused
+-- the cycle of bodies.rt: conditions; rows; matches and their arms; parts that are refused
 pub mod ExpressionSteps
 pub mod RowSteps
 pub mod MatchSteps

@@ -104,12 +104,7 @@ impl<'s, 'a> Elaborator<'s, 'a> {
     }
 
     /// The function that a call at this place names, which has so many parameters.
-    fn callee(
-        &self,
-        at: Place,
-        name: &Name,
-        count: usize,
-    ) -> Result<FunctionId, TypeFault>
+    fn callee(&self, at: Place, name: &Name, count: usize) -> Result<FunctionId, TypeFault>
         ensures found { Calls at count (function_named 0 (scope_of self.now).functions name.now) (function_meant (types_of self.now) self.now.scope.now) result }
         ensures count { IfOk result (λ id. count ≡ length (function_meant (types_of self.now) self.now.scope.now id).value.parameters) }
         ensures inside { IfOk result (λ id. id.0 < length self.now.scope.now.heads.items) }
@@ -124,12 +119,7 @@ impl<'s, 'a> Elaborator<'s, 'a> {
     }
 
     /// The constructor of a name at this place, which has so many fields.
-    fn maker(
-        &self,
-        at: Place,
-        name: &Name,
-        count: usize,
-    ) -> Result<ConstructorId, TypeFault>
+    fn maker(&self, at: Place, name: &Name, count: usize) -> Result<ConstructorId, TypeFault>
         ensures found { Constructs at count (scope_of self.now).table (constructor_named 0 (scope_of self.now).constructors name.now) result }
         ensures count { IfOk result (λ id. count ≡ length (unwrap_or (fields_at (scope_of self.now).table id.named.0 id.tag.0) [])) }
     {

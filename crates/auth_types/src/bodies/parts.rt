@@ -47,10 +47,16 @@ pub(super) fn parts_of(tree: &ExpTree) -> Parts<'_>
             Parts::Row(Space::Constructors, *at, name, operands)
         }
         ExpTree::Let {
-            name, bound, body, ..
+            name,
+            bound,
+            body,
+            ..
         } => Parts::Two(Join::Let(name), bound, body),
         ExpTree::If {
-            test, first, other, ..
+            test,
+            first,
+            other,
+            ..
         } => Parts::Branches(test, first, other),
         ExpTree::Match { at, subject, arms } => Parts::Arms(*at, subject, arms),
     }

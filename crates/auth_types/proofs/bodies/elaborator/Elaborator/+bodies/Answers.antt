@@ -277,10 +277,11 @@ two-returns t c =
           let grows : Grows types end = grows_on types (types_of c.between.new.self) end c.in_ok-between.ensures.grows
           c.in_ok-other.ensures.keeps.grows in
           let over : (l : List Ty) → l ≡ end → Shows l typed_of first c.in_ok-one.one × Shows l typed_of (elaborated (scope_of e) inner y)
-          c.in_ok-other.other = λ l is. rw is
-          (shows_grow types end typed_of first c.in_ok-one.one grows c.in_ok-one.ensures.found,
-          shows_is end typed_of _ (elaborated (scope_of e) inner y) c.in_ok-other.other (ap (λ s. elaborated s inner y) scope)
-          c.in_ok-other.ensures.found) in
+          c.in_ok-other.other = λ l is. rw is (
+            shows_grow types end typed_of first c.in_ok-one.one grows c.in_ok-one.ensures.found,
+            shows_is end typed_of _ (elaborated (scope_of e) inner y) c.in_ok-other.other (ap (λ s. elaborated s inner y) scope)
+                c.in_ok-other.ensures.found,
+          ) in
           let both = over closed c.close.ensures.types in
           two_found (scope_of e) (locals_of e) c.args.join x y types c.in_ok-one.one c.in_ok-one.ensures.found inner there
           (types_of c.joined.new.self) c.joined.result
