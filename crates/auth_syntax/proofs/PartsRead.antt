@@ -1,5 +1,5 @@
 -- Expressions by the parts that the code reads: each reading, where a part is read with what has to stand behind it.
-use Rattle.std.proofs.Common.{◌≡◌, ◌∙◌, ℕ, ap, Bool, true, false, Option, Some, None, Result, Ok, Err, refl, sym, subst}
+use Rattle.std.proofs.Common.{◌≡◌, ◌∙◌, ℕ, ap, Bool, true, false, Option, Some, None, Result, Err, refl, sym, subst}
 use Rattle.core_terms.specs.declared.language.term.BinaryOperator.{BinaryOperator}
 use Rattle.lexemes.specs.declared.place.Place.{Place}
 use Rattle.lexemes.specs.declared.token.Mark.TheVariants.{LeftParenthesis, RightParenthesis, Comma, EqualsSign, Bar, Arrow}
@@ -21,7 +21,8 @@ use Rattle.auth_syntax.specs.declared.tree.ExpTree.{ExpTree}
 use Rattle.auth_syntax.specs.declared.tree.ExpTree as tree
 use Rattle.auth_syntax.specs.declared.tree.ExpTree.TheVariants.{rolls-Binary}
 use Rattle.auth_syntax.specs.declared.tree.ExpTree.TheFolds.{fold-roll-ExpTree}
-use Rattle.auth_syntax.specs.Parts.{Begins, BothSyntax, OperationSyntax, OnOne, OnTwo, PatternSyntax, pair_sign, read_before, read_behind, read_binding, read_both, read_operation, read_pattern, read_unit_sign, then_closed}
+use Rattle.auth_syntax.specs.Parts.{Begins, BothSyntax, OperationSyntax, OnOne, OnTwo, PatternSyntax, pair_sign, then_closed}
+use Rattle.auth_syntax.specs.Parts.{read_before, read_behind, read_binding, read_both, read_operation, read_pattern, read_unit_sign}
 use Rattle.auth_syntax.specs.declared.parser.expressions.Behind.{Behind}
 use Rattle.auth_syntax.specs.declared.parser.expressions.Behind.TheVariants as behind
 use Rattle.auth_syntax.proofs.MadeOfTokens.{expression_is_tokens}
@@ -84,9 +85,9 @@ module _ (part : Tokens → Reading ExpSyntax) where
   both_is tokens go =
       in_turn (read_before (behind.Mark Comma) part tokens) _ go
       ∙ (alike (read_before (behind.Mark Comma) part tokens) _ (second_of go)
-          (λ first rest. in_turn (read_before (behind.Mark RightParenthesis) part rest) _ go
-          ∙ before_is (behind.Mark RightParenthesis) rest (λ second rest. go (record { first = first; second = second }) rest))
-        ∙ before_is (behind.Mark Comma) tokens (second_of go))
+      (λ first rest. in_turn (read_before (behind.Mark RightParenthesis) part rest) _ go
+      ∙ before_is (behind.Mark RightParenthesis) rest (λ second rest. go (record { first = first; second = second }) rest))
+      ∙ before_is (behind.Mark Comma) tokens (second_of go))
 
   -- behind a parenthesis
   abbrev pub as_pair : Place → BothSyntax → Tokens → Reading ExpSyntax
@@ -118,11 +119,11 @@ module _ (part : Tokens → Reading ExpSyntax) where
   operation_is words at (Some operation) binary tokens =
       sym (in_turn (read_mark LeftParenthesis tokens) (λ _ rest. Found (OnOne operation) rest) (operated at)
       ∙ alike (read_mark LeftParenthesis tokens) _ _
-        (λ _ rest. before_is (behind.Mark RightParenthesis) rest (λ operand rest. Found (UnarySyntax at operation operand) rest)))
+      (λ _ rest. before_is (behind.Mark RightParenthesis) rest (λ operand rest. Found (UnarySyntax at operation operand) rest)))
   operation_is words at None (Some operation) tokens =
       sym (in_turn (read_mark LeftParenthesis tokens) (λ _ rest. Found (OnTwo operation) rest) (operated at)
       ∙ alike (read_mark LeftParenthesis tokens) _ _
-        (λ _ rest. both_is rest (λ both rest. Found (BinarySyntax at operation both.first both.second) rest)))
+      (λ _ rest. both_is rest (λ both rest. Found (BinarySyntax at operation both.first both.second) rest)))
   operation_is words at None None tokens = refl
 
   -- `let`
@@ -136,9 +137,9 @@ module _ (part : Tokens → Reading ExpSyntax) where
   let_is at tokens =
       sym (in_turn (read_lower tokens) _ (let_bound at)
       ∙ alike (read_lower tokens) _ _ (λ name rest. in_turn (read_mark EqualsSign rest) (λ _ rest. Found name rest) (let_bound at)
-        ∙ alike (read_mark EqualsSign rest) _ _ (λ _ rest. before_is (behind.Word InWord) rest (let_body at name)
-          ∙ alike (part rest) _ _ (λ bound rest. alike (read_keyword InWord rest) _ _ (λ _ rest.
-            before_is behind.Nothing rest (λ body rest. Found (LetSyntax at name bound body) rest))))))
+      ∙ alike (read_mark EqualsSign rest) _ _ (λ _ rest. before_is (behind.Word InWord) rest (let_body at name)
+      ∙ alike (part rest) _ _ (λ bound rest. alike (read_keyword InWord rest) _ _ (λ _ rest.
+      before_is behind.Nothing rest (λ body rest. Found (LetSyntax at name bound body) rest))))))
 
   -- `if`
   abbrev pub if_other : Place → ExpSyntax → ExpSyntax → Tokens → Reading ExpSyntax
@@ -151,9 +152,9 @@ module _ (part : Tokens → Reading ExpSyntax) where
   if_is at tokens =
       sym (before_is (behind.Word ThenWord) tokens (if_first at)
       ∙ alike (part tokens) _ _ (λ test rest. alike (read_keyword ThenWord rest) _ _ (λ _ rest.
-        before_is (behind.Word ElseWord) rest (if_other at test)
-        ∙ alike (part rest) _ _ (λ first rest. alike (read_keyword ElseWord rest) _ _ (λ _ rest.
-          before_is behind.Nothing rest (λ other rest. Found (IfSyntax at test first other) rest))))))
+      before_is (behind.Word ElseWord) rest (if_other at test)
+      ∙ alike (part rest) _ _ (λ first rest. alike (read_keyword ElseWord rest) _ _ (λ _ rest.
+      before_is behind.Nothing rest (λ other rest. Found (IfSyntax at test first other) rest))))))
 
   -- `match`, and an arm
   abbrev pub match_arms : Place → ExpSyntax → Tokens → Reading ExpSyntax
@@ -172,5 +173,5 @@ module _ (part : Tokens → Reading ExpSyntax) where
   arm_is tokens =
       sym (in_turn (read_upper tokens) _ arm_body
       ∙ alike (read_upper tokens) _ _ (λ constructor rest. in_turn (read_optional_list read_lower rest) _ arm_body
-        ∙ alike (read_optional_list read_lower rest) _ _ (λ fields rest.
-          in_turn (read_mark Arrow rest) (λ _ rest. Found (record { constructor = constructor; fields = fields }) rest) arm_body)))
+      ∙ alike (read_optional_list read_lower rest) _ _ (λ fields rest.
+      in_turn (read_mark Arrow rest) (λ _ rest. Found (record { constructor = constructor; fields = fields }) rest) arm_body)))

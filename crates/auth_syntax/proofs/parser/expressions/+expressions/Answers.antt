@@ -1,19 +1,18 @@
 use Rattle.std.proofs.Common.{◌≡◌, ◌∙◌, true, false, refl, ap, subst, sym, List, map}
 use Rattle.std.proofs.lemmas.Result.{err_from_is_err_and}
-use Rattle.lexemes.specs.TokenViews.{token_view}
-use Rattle.lexemes.specs.Tokens.{Next, count}
+use Rattle.lexemes.specs.Tokens.{count}
 use Rattle.lexemes.specs.Readings.{Reading, Found, read_separator}
-use Rattle.auth_syntax.specs.Parsing.{begins_expression, read_expression, read_arm_separator, read_list, read_arms}
+use Rattle.auth_syntax.specs.Parsing.{read_expression, read_arm_separator, read_list, read_arms}
 use Rattle.auth_syntax.specs.Parsing as parsing
 use Rattle.auth_syntax.specs.Arms.{read_arm}
 use Rattle.auth_syntax.specs.LanguageViews.{words_of}
-use Rattle.auth_syntax.specs.Trees.{boxed_of, expression_of, expressions_of, ArmSyntax, arm_of, arms_of, arms_in_a_row, name_of, names_of}
-use Rattle.lexemes.specs.Remaining.{Reads}
-use Rattle.lexemes.specs.Remaining.{remaining}
+use Rattle.auth_syntax.specs.Trees.{boxed_of, expression_of, expressions_of, ArmSyntax, arm_of, arms_of, arms_in_a_row, name_of}
+use Rattle.lexemes.specs.Remaining.{Reads, remaining}
 use Rattle.auth_syntax.specs.Syntax.{ExpSyntax}
 use Rattle.auth_syntax.proofs.Faults.{refused_part}
-use Rattle.auth_syntax.proofs.PartsRead.{binary_is, none_begun, seen_as, if_is, operation_is}
-use Rattle.auth_syntax.proofs.LevelSteps.{read_expression-none, read_expression-step}
+use Rattle.auth_syntax.proofs.PartsRead.{arm_is, binary_is, if_is, let_is, match_is, none_begun, operation_is, seen_as, unit_or_pair_is}
+use Rattle.auth_syntax.specs.Parts.{both_of, pattern_of}
+use Rattle.auth_syntax.proofs.LevelSteps.{read_expression-step}
 use Rattle.auth_syntax.proofs.MadeOfTokens.{expression_is_tokens}
 use Rattle.auth_syntax.proofs.Loops.{IsReadSoFar, read_so_far-none, read_so_far-other, read_so_far-end, read_so_far-more, one_is_shorter, listed_by_one, arms_by_one, pushed}
 use Rattle.auth_syntax.proofs.parser.expressions.+expressions.Goals as goal
@@ -34,76 +33,118 @@ expression-returns t c =
 
 pub expression_list-returns-in_err-next : goal.expression_list-returns-in_err-next
 expression_list-returns-in_err-next t c =
+    let reads = read_expression (words_of c.args.language) c.args.levels in
     let p = err_from_is_err_and c.from_residual.result c.from_residual.ensures.1 in
-    rw (p.1, p.2) (read_so_far-none read_separator (read_expression (words_of c.args.language) c.args.levels) (λ expressions. expressions) (λ tokens. read_list (read_expression (words_of c.args.language) c.args.levels) (count tokens) tokens) (listed_by_one (read_expression (words_of c.args.language) c.args.levels) (expression_is_tokens (words_of c.args.language) c.args.levels)) (remaining c.args.parser.now) (map expression_of c.each.expressions.items) (remaining c.each.parser) c.each.invariant
+    rw (p.1, p.2) (read_so_far-none read_separator reads (λ expressions. expressions) (λ tokens. read_list reads (count tokens) tokens)
+    (listed_by_one reads (expression_is_tokens (words_of c.args.language) c.args.levels)) (remaining c.args.parser.now)
+    (map expression_of c.each.expressions.items) (remaining c.each.parser) c.each.invariant
     expression_of expressions_of (remaining c.expression.new.parser) (remaining c.expression.new.parser) c.in_err-next.field-0.0 c.in_err-next.ensures)
 
 pub expression_list-returns-in_err-listed : goal.expression_list-returns-in_err-listed
 expression_list-returns-in_err-listed t c =
+    let reads = read_expression (words_of c.args.language) c.args.levels in
     let p = err_from_is_err_and c.from_residual-in_err-listed.result c.from_residual-in_err-listed.ensures.1 in
-    rw (p.1, p.2) (read_so_far-other read_separator (read_expression (words_of c.args.language) c.args.levels) (λ expressions. expressions) (λ tokens. read_list (read_expression (words_of c.args.language) c.args.levels) (count tokens) tokens) (listed_by_one (read_expression (words_of c.args.language) c.args.levels) (expression_is_tokens (words_of c.args.language) c.args.levels)) (remaining c.args.parser.now) (map expression_of c.each.expressions.items) (remaining c.each.parser) c.each.invariant
+    rw (p.1, p.2) (read_so_far-other read_separator reads (λ expressions. expressions) (λ tokens. read_list reads (count tokens) tokens)
+    (listed_by_one reads (expression_is_tokens (words_of c.args.language) c.args.levels)) (remaining c.args.parser.now)
+    (map expression_of c.each.expressions.items) (remaining c.each.parser) c.each.invariant
     expressions_of (remaining c.expression.new.parser) (expression_of c.in_ok-next.next) c.in_ok-next.ensures
     (remaining c.listed.new.parser) (remaining c.listed.new.parser) c.in_err-listed.field-0.0 c.in_err-listed.ensures.follows)
 
 pub expression_list-returns-then-not-branch : goal.expression_list-returns-then-not-branch
 expression_list-returns-then-not-branch t c =
+    let reads = read_expression (words_of c.args.language) c.args.levels in
     let kept = pushed expression_of c.each.expressions.items c.listed.new.expressions.items c.in_ok-next.next c.in_ok-listed.ensures.added in
     let closed : read_separator (remaining c.expression.new.parser) ≡ Found false (remaining c.listed.new.parser) = rw c.if-not-branch.true at c.in_ok-listed.ensures.follows in
-    rw kept (read_so_far-end read_separator (read_expression (words_of c.args.language) c.args.levels) (λ expressions. expressions) (λ tokens. read_list (read_expression (words_of c.args.language) c.args.levels) (count tokens) tokens) (listed_by_one (read_expression (words_of c.args.language) c.args.levels) (expression_is_tokens (words_of c.args.language) c.args.levels)) (remaining c.args.parser.now) (map expression_of c.each.expressions.items) (remaining c.each.parser) c.each.invariant
+    rw kept (read_so_far-end read_separator reads (λ expressions. expressions) (λ tokens. read_list reads (count tokens) tokens)
+    (listed_by_one reads (expression_is_tokens (words_of c.args.language) c.args.levels)) (remaining c.args.parser.now)
+    (map expression_of c.each.expressions.items) (remaining c.each.parser) c.each.invariant
     (remaining c.expression.new.parser) (remaining c.listed.new.parser) (expression_of c.in_ok-next.next) c.in_ok-next.ensures closed)
 
 pub expression_list-each-smaller : goal.expression_list-each-smaller
 expression_list-each-smaller t c =
-    one_is_shorter read_separator (read_expression (words_of c.args.language) c.args.levels) (λ expressions. expressions) (λ tokens. read_list (read_expression (words_of c.args.language) c.args.levels) (count tokens) tokens) (listed_by_one (read_expression (words_of c.args.language) c.args.levels) (expression_is_tokens (words_of c.args.language) c.args.levels)) (remaining c.args.parser.now) (map expression_of c.each.expressions.items) (remaining c.each.parser) c.each.invariant
+    let reads = read_expression (words_of c.args.language) c.args.levels in
+    one_is_shorter read_separator reads (λ expressions. expressions) (λ tokens. read_list reads (count tokens) tokens)
+    (listed_by_one reads (expression_is_tokens (words_of c.args.language) c.args.levels)) (remaining c.args.parser.now)
+    (map expression_of c.each.expressions.items) (remaining c.each.parser) c.each.invariant
     (remaining c.expression.new.parser) (remaining c.listed.new.parser) (expression_of c.in_ok-next.next) c.in_ok-listed.field-0 c.in_ok-next.ensures c.in_ok-listed.ensures.follows
 
 pub expression_list-each-preserved : goal.expression_list-each-preserved
 expression_list-each-preserved t c =
+    let reads = read_expression (words_of c.args.language) c.args.levels in
     let kept = pushed expression_of c.each.expressions.items c.listed.new.expressions.items c.in_ok-next.next c.in_ok-listed.ensures.added in
     let sign : read_separator (remaining c.expression.new.parser) ≡ Found true (remaining c.listed.new.parser) = rw c.if-not-branch.false at c.in_ok-listed.ensures.follows in
-    subst (λ (so_far : List ExpSyntax). IsReadSoFar read_separator (read_expression (words_of c.args.language) c.args.levels) (remaining c.args.parser.now) so_far (remaining c.listed.new.parser)) (sym kept)
-    (read_so_far-more read_separator (read_expression (words_of c.args.language) c.args.levels) (λ expressions. expressions) (λ tokens. read_list (read_expression (words_of c.args.language) c.args.levels) (count tokens) tokens) (listed_by_one (read_expression (words_of c.args.language) c.args.levels) (expression_is_tokens (words_of c.args.language) c.args.levels)) (remaining c.args.parser.now) (map expression_of c.each.expressions.items) (remaining c.each.parser) c.each.invariant
+    subst (λ (so_far : List ExpSyntax). IsReadSoFar read_separator reads (remaining c.args.parser.now) so_far (remaining c.listed.new.parser)) (sym kept)
+    (read_so_far-more read_separator reads (λ expressions. expressions) (λ tokens. read_list reads (count tokens) tokens)
+    (listed_by_one reads (expression_is_tokens (words_of c.args.language) c.args.levels)) (remaining c.args.parser.now)
+    (map expression_of c.each.expressions.items) (remaining c.each.parser) c.each.invariant
     (remaining c.expression.new.parser) (remaining c.listed.new.parser) (expression_of c.in_ok-next.next) c.in_ok-next.ensures sign)
 
 pub arm_list-returns-in_err-next : goal.arm_list-returns-in_err-next
 arm_list-returns-in_err-next t c =
+    let reads = read_expression (words_of c.args.language) c.args.levels in
     let p = err_from_is_err_and c.from_residual.result c.from_residual.ensures.1 in
-    rw (p.1, p.2) (read_so_far-none read_arm_separator (read_arm (read_expression (words_of c.args.language) c.args.levels)) arms_in_a_row (λ tokens. read_arms (read_expression (words_of c.args.language) c.args.levels) (count tokens) tokens) (arms_by_one (words_of c.args.language) c.args.levels) (remaining c.args.parser.now) (map arm_of c.each.arms.items) (remaining c.each.parser) c.each.invariant
+    rw (p.1, p.2) (read_so_far-none read_arm_separator (read_arm reads) arms_in_a_row (λ tokens. read_arms reads (count tokens) tokens)
+    (arms_by_one (words_of c.args.language) c.args.levels) (remaining c.args.parser.now) (map arm_of c.each.arms.items) (remaining c.each.parser) c.each.invariant
     arm_of arms_of (remaining c.arm.new.parser) (remaining c.arm.new.parser) c.in_err-next.field-0.0 c.in_err-next.ensures)
 
 pub arm_list-returns-in_err-arm_listed : goal.arm_list-returns-in_err-arm_listed
 arm_list-returns-in_err-arm_listed t c =
+    let reads = read_expression (words_of c.args.language) c.args.levels in
     let p = err_from_is_err_and c.from_residual-in_err-arm_listed.result c.from_residual-in_err-arm_listed.ensures.1 in
-    rw (p.1, p.2) (read_so_far-other read_arm_separator (read_arm (read_expression (words_of c.args.language) c.args.levels)) arms_in_a_row (λ tokens. read_arms (read_expression (words_of c.args.language) c.args.levels) (count tokens) tokens) (arms_by_one (words_of c.args.language) c.args.levels) (remaining c.args.parser.now) (map arm_of c.each.arms.items) (remaining c.each.parser) c.each.invariant
+    rw (p.1, p.2) (read_so_far-other read_arm_separator (read_arm reads) arms_in_a_row (λ tokens. read_arms reads (count tokens) tokens)
+    (arms_by_one (words_of c.args.language) c.args.levels) (remaining c.args.parser.now) (map arm_of c.each.arms.items) (remaining c.each.parser) c.each.invariant
     arms_of (remaining c.arm.new.parser) (arm_of c.in_ok-next.next) c.in_ok-next.ensures
     (remaining c.arm_listed.new.parser) (remaining c.arm_listed.new.parser) c.in_err-arm_listed.field-0.0 c.in_err-arm_listed.ensures.follows)
 
 pub arm_list-returns-then-not-branch : goal.arm_list-returns-then-not-branch
 arm_list-returns-then-not-branch t c =
+    let reads = read_expression (words_of c.args.language) c.args.levels in
     let kept = pushed arm_of c.each.arms.items c.arm_listed.new.arms.items c.in_ok-next.next c.in_ok-arm_listed.ensures.added in
     let closed : read_arm_separator (remaining c.arm.new.parser) ≡ Found false (remaining c.arm_listed.new.parser) = rw c.if-not-branch.true at c.in_ok-arm_listed.ensures.follows in
-    rw kept (read_so_far-end read_arm_separator (read_arm (read_expression (words_of c.args.language) c.args.levels)) arms_in_a_row (λ tokens. read_arms (read_expression (words_of c.args.language) c.args.levels) (count tokens) tokens) (arms_by_one (words_of c.args.language) c.args.levels) (remaining c.args.parser.now) (map arm_of c.each.arms.items) (remaining c.each.parser) c.each.invariant
+    rw kept (read_so_far-end read_arm_separator (read_arm reads) arms_in_a_row (λ tokens. read_arms reads (count tokens) tokens)
+    (arms_by_one (words_of c.args.language) c.args.levels) (remaining c.args.parser.now) (map arm_of c.each.arms.items) (remaining c.each.parser) c.each.invariant
     (remaining c.arm.new.parser) (remaining c.arm_listed.new.parser) (arm_of c.in_ok-next.next) c.in_ok-next.ensures closed)
 
 pub arm_list-each-smaller : goal.arm_list-each-smaller
 arm_list-each-smaller t c =
-    one_is_shorter read_arm_separator (read_arm (read_expression (words_of c.args.language) c.args.levels)) arms_in_a_row (λ tokens. read_arms (read_expression (words_of c.args.language) c.args.levels) (count tokens) tokens) (arms_by_one (words_of c.args.language) c.args.levels) (remaining c.args.parser.now) (map arm_of c.each.arms.items) (remaining c.each.parser) c.each.invariant
+    let reads = read_expression (words_of c.args.language) c.args.levels in
+    one_is_shorter read_arm_separator (read_arm reads) arms_in_a_row (λ tokens. read_arms reads (count tokens) tokens)
+    (arms_by_one (words_of c.args.language) c.args.levels) (remaining c.args.parser.now) (map arm_of c.each.arms.items) (remaining c.each.parser) c.each.invariant
     (remaining c.arm.new.parser) (remaining c.arm_listed.new.parser) (arm_of c.in_ok-next.next) c.in_ok-arm_listed.field-0 c.in_ok-next.ensures c.in_ok-arm_listed.ensures.follows
 
 pub arm_list-each-preserved : goal.arm_list-each-preserved
 arm_list-each-preserved t c =
+    let reads = read_expression (words_of c.args.language) c.args.levels in
     let kept = pushed arm_of c.each.arms.items c.arm_listed.new.arms.items c.in_ok-next.next c.in_ok-arm_listed.ensures.added in
     let sign : read_arm_separator (remaining c.arm.new.parser) ≡ Found true (remaining c.arm_listed.new.parser) = rw c.if-not-branch.false at c.in_ok-arm_listed.ensures.follows in
-    subst (λ (so_far : List ArmSyntax). IsReadSoFar read_arm_separator (read_arm (read_expression (words_of c.args.language) c.args.levels)) (remaining c.args.parser.now) so_far (remaining c.arm_listed.new.parser)) (sym kept)
-    (read_so_far-more read_arm_separator (read_arm (read_expression (words_of c.args.language) c.args.levels)) arms_in_a_row (λ tokens. read_arms (read_expression (words_of c.args.language) c.args.levels) (count tokens) tokens) (arms_by_one (words_of c.args.language) c.args.levels) (remaining c.args.parser.now) (map arm_of c.each.arms.items) (remaining c.each.parser) c.each.invariant
+    subst (λ (so_far : List ArmSyntax). IsReadSoFar read_arm_separator (read_arm reads) (remaining c.args.parser.now) so_far (remaining c.arm_listed.new.parser)) (sym kept)
+    (read_so_far-more read_arm_separator (read_arm reads) arms_in_a_row (λ tokens. read_arms reads (count tokens) tokens)
+    (arms_by_one (words_of c.args.language) c.args.levels) (remaining c.args.parser.now) (map arm_of c.each.arms.items) (remaining c.each.parser) c.each.invariant
     (remaining c.arm.new.parser) (remaining c.arm_listed.new.parser) (arm_of c.in_ok-next.next) c.in_ok-next.ensures sign)
 
--- a condition, and operands
-pub conditional-returns-in_err-first : goal.conditional-returns-in_err-first
-conditional-returns-in_err-first t c =
-    seen_as expression_of c.from_residual-in_err-first.result (remaining c.boxed-2.new.parser) (if_is (read_expression (words_of c.args.language) c.args.levels) c.args.at (remaining c.args.parser.now))
-    (rw c.in_ok-test.ensures
-    (refused_part boxed_of expression_of _ _ _ (remaining c.boxed-2.new.parser) c.from_residual-in_err-first.result c.from_residual-in_err-first.ensures.1 c.in_err-first.ensures))
+-- where a part is refused
+pub boxed-returns-in_err-part : goal.boxed-returns-in_err-part
+boxed-returns-in_err-part t c =
+    let r = c.from_residual in
+    refused_part expression_of boxed_of _ _ _ (remaining c.expression.new.parser) r.result r.ensures.1 c.in_err-part.ensures
+
+pub both-returns-in_err-first : goal.both-returns-in_err-first
+both-returns-in_err-first t c =
+    let r = c.from_residual in
+    refused_part boxed_of both_of _ _ _ (remaining c.boxed.new.parser) r.result r.ensures.1 c.in_err-first.ensures
+
+pub both-returns-in_err-second : goal.both-returns-in_err-second
+both-returns-in_err-second t c =
+    let r = c.from_residual-in_err-second in
+    rw (c.in_ok-first.ensures)
+    (refused_part boxed_of both_of _ _ _ (remaining c.boxed-2.new.parser) r.result r.ensures.1 c.in_err-second.ensures)
+
+pub unit_or_pair-returns-in_err-unit_sign : goal.unit_or_pair-returns-in_err-unit_sign
+unit_or_pair-returns-in_err-unit_sign t c =
+    let reads = read_expression (words_of c.args.language) c.args.levels in
+    let r = c.from_residual in
+    seen_as expression_of r.result (remaining c.unit_sign.new.parser) (unit_or_pair_is reads (words_of c.args.language) c.args.at (remaining c.args.parser.now))
+    (refused_part (λ ends. ends) expression_of _ _ _ (remaining c.unit_sign.new.parser) r.result r.ensures.1 c.in_err-unit_sign.ensures)
 
 pub operation-returns-in_err-operand-in-Unary : goal.operation-returns-in_err-operand-in-Unary
 operation-returns-in_err-operand-in-Unary t c =
@@ -114,8 +155,101 @@ operation-returns-in_err-operand-in-Unary t c =
     (rw (c.in_ok-operator.ensures, c.in-Unary.is)
     (refused_part boxed_of expression_of _ _ _ (remaining c.boxed.new.parser) r.result r.ensures.1 c.in_err-operand-in-Unary.ensures))
 
+pub operation-returns-in_err-first-in-Binary : goal.operation-returns-in_err-first-in-Binary
+operation-returns-in_err-first-in-Binary t c =
+    let reads = read_expression (words_of c.args.language) c.args.levels in
+    let r = c.from_residual-in_err-first-in-Binary in
+    seen_as expression_of r.result (remaining c.both.new.parser)
+    (operation_is reads (words_of c.args.language) c.args.at (parsing.unary_of c.args.keyword) (parsing.binary_of c.args.keyword) (remaining c.args.parser.now))
+    (rw (c.in_ok-operator.ensures, c.in-Binary.is)
+    (refused_part both_of expression_of _ _ _ (remaining c.both.new.parser) r.result r.ensures.1 c.in_err-first-in-Binary.ensures))
+
 pub operation-returns-in_ok-first-in-Binary : goal.operation-returns-in_ok-first-in-Binary
 operation-returns-in_ok-first-in-Binary t c =
     let reads = read_expression (words_of c.args.language) c.args.levels in
     operation_is reads (words_of c.args.language) c.args.at (parsing.unary_of c.args.keyword) (parsing.binary_of c.args.keyword) (remaining c.args.parser.now)
     ∙ rw (c.in_ok-operator.ensures, c.in-Binary.is, c.in_ok-first-in-Binary.ensures, binary_is) refl
+
+pub let_in-returns-in_err-name : goal.let_in-returns-in_err-name
+let_in-returns-in_err-name t c =
+    let reads = read_expression (words_of c.args.language) c.args.levels in
+    let r = c.from_residual in
+    seen_as expression_of r.result (remaining c.binding.new.parser) (let_is reads c.args.at (remaining c.args.parser.now))
+    (refused_part name_of expression_of _ _ _ (remaining c.binding.new.parser) r.result r.ensures.1 c.in_err-name.ensures)
+
+pub let_in-returns-in_err-bound : goal.let_in-returns-in_err-bound
+let_in-returns-in_err-bound t c =
+    let reads = read_expression (words_of c.args.language) c.args.levels in
+    let r = c.from_residual-in_err-bound in
+    seen_as expression_of r.result (remaining c.boxed.new.parser) (let_is reads c.args.at (remaining c.args.parser.now))
+    (rw (c.in_ok-name.ensures)
+    (refused_part boxed_of expression_of _ _ _ (remaining c.boxed.new.parser) r.result r.ensures.1 c.in_err-bound.ensures))
+
+pub let_in-returns-in_err-body : goal.let_in-returns-in_err-body
+let_in-returns-in_err-body t c =
+    let reads = read_expression (words_of c.args.language) c.args.levels in
+    let r = c.from_residual-in_err-body in
+    seen_as expression_of r.result (remaining c.boxed-2.new.parser) (let_is reads c.args.at (remaining c.args.parser.now))
+    (rw (c.in_ok-name.ensures, c.in_ok-bound.ensures)
+    (refused_part boxed_of expression_of _ _ _ (remaining c.boxed-2.new.parser) r.result r.ensures.1 c.in_err-body.ensures))
+
+pub conditional-returns-in_err-test : goal.conditional-returns-in_err-test
+conditional-returns-in_err-test t c =
+    let reads = read_expression (words_of c.args.language) c.args.levels in
+    let r = c.from_residual in
+    seen_as expression_of r.result (remaining c.boxed.new.parser) (if_is reads c.args.at (remaining c.args.parser.now))
+    (refused_part boxed_of expression_of _ _ _ (remaining c.boxed.new.parser) r.result r.ensures.1 c.in_err-test.ensures)
+
+pub conditional-returns-in_err-first : goal.conditional-returns-in_err-first
+conditional-returns-in_err-first t c =
+    let reads = read_expression (words_of c.args.language) c.args.levels in
+    let r = c.from_residual-in_err-first in
+    seen_as expression_of r.result (remaining c.boxed-2.new.parser) (if_is reads c.args.at (remaining c.args.parser.now))
+    (rw (c.in_ok-test.ensures)
+    (refused_part boxed_of expression_of _ _ _ (remaining c.boxed-2.new.parser) r.result r.ensures.1 c.in_err-first.ensures))
+
+pub conditional-returns-in_err-other : goal.conditional-returns-in_err-other
+conditional-returns-in_err-other t c =
+    let reads = read_expression (words_of c.args.language) c.args.levels in
+    let r = c.from_residual-in_err-other in
+    seen_as expression_of r.result (remaining c.boxed-3.new.parser) (if_is reads c.args.at (remaining c.args.parser.now))
+    (rw (c.in_ok-test.ensures, c.in_ok-first.ensures)
+    (refused_part boxed_of expression_of _ _ _ (remaining c.boxed-3.new.parser) r.result r.ensures.1 c.in_err-other.ensures))
+
+pub matching-returns-in_err-subject : goal.matching-returns-in_err-subject
+matching-returns-in_err-subject t c =
+    let reads = read_expression (words_of c.args.language) c.args.levels in
+    let r = c.from_residual in
+    seen_as expression_of r.result (remaining c.boxed.new.parser) (match_is reads c.args.at (remaining c.args.parser.now))
+    (refused_part boxed_of expression_of _ _ _ (remaining c.boxed.new.parser) r.result r.ensures.1 c.in_err-subject.ensures)
+
+pub matching-returns-in_err-mark : goal.matching-returns-in_err-mark
+matching-returns-in_err-mark t c =
+    let reads = read_expression (words_of c.args.language) c.args.levels in
+    let r = c.from_residual-in_err-mark in
+    seen_as expression_of r.result (remaining c.mark.new.self) (match_is reads c.args.at (remaining c.args.parser.now))
+    (rw (c.in_ok-subject.ensures)
+    (refused_part (λ (_ : Unit {0}). tt) expression_of _ _ _ (remaining c.mark.new.self) r.result r.ensures.1 c.in_err-mark.ensures))
+
+pub matching-returns-in_err-arms : goal.matching-returns-in_err-arms
+matching-returns-in_err-arms t c =
+    let reads = read_expression (words_of c.args.language) c.args.levels in
+    let r = c.from_residual-in_err-arms in
+    seen_as expression_of r.result (remaining c.arm_list.new.parser) (match_is reads c.args.at (remaining c.args.parser.now))
+    (rw (c.in_ok-subject.ensures, c.in_ok-mark.ensures)
+    (refused_part arms_of expression_of _ _ _ (remaining c.arm_list.new.parser) r.result r.ensures.1 c.in_err-arms.ensures))
+
+pub arm-returns-in_err-pattern : goal.arm-returns-in_err-pattern
+arm-returns-in_err-pattern t c =
+    let reads = read_expression (words_of c.args.language) c.args.levels in
+    let r = c.from_residual in
+    seen_as arm_of r.result (remaining c.arm_pattern.new.parser) (arm_is reads (remaining c.args.parser.now))
+    (refused_part pattern_of arm_of _ _ _ (remaining c.arm_pattern.new.parser) r.result r.ensures.1 c.in_err-pattern.ensures)
+
+pub arm-returns-in_err-body : goal.arm-returns-in_err-body
+arm-returns-in_err-body t c =
+    let reads = read_expression (words_of c.args.language) c.args.levels in
+    let r = c.from_residual-in_err-body in
+    seen_as arm_of r.result (remaining c.expression.new.parser) (arm_is reads (remaining c.args.parser.now))
+    (rw (c.in_ok-pattern.ensures)
+    (refused_part expression_of arm_of _ _ _ (remaining c.expression.new.parser) r.result r.ensures.1 c.in_err-body.ensures))
