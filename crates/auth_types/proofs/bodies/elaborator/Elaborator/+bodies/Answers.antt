@@ -38,7 +38,6 @@ use Rattle.auth_types.proofs.RefusedParts.{first_refused, other_refused, test_re
 use Rattle.auth_types.proofs.JoinSteps.{between_refused, inner_found, second_refused, two_found}
 use Rattle.auth_types.proofs.RowSteps.{arms_behind_none, arms_last, arms_more, arms_refused, constructor_within, next_mapped, none_mapped, row_behind_none, row_last, row_more, row_refused, want_stays, want_within}
 use Rattle.declared_types.proofs.ScopeStays.{grows_length, type_stays_at}
-use Rattle.core_terms.proofs.TermViews as terms
 use Rattle.auth_types.proofs.TreeViews.{arm-parts}
 use Rattle.declared_types.proofs.TypeNumbers.{grows_on, grows_self, shows_grow}
 use Rattle.auth_types.proofs.bodies.elaborator.Elaborator.+bodies.Goals as goal
