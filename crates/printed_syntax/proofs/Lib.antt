@@ -1,6 +1,7 @@
 -- print::print and its functions
 pub mod LineLemmas
 pub mod TreeTokens
+pub mod PrintedForms
 -- printing::push_quoted
 pub mod PrintedTexts
 -- printing::leaves and printing::language; PairDepths has the measure of its cycle

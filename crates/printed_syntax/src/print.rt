@@ -170,7 +170,6 @@ impl Printer {
 
     /// Adds an operation on one operand.
     #[cycle(expressions)]
-    #[tactic(auto, using(crate::proofs::LineLemmas::with_tokens_append))]
     fn unary(&mut self, operation: UnaryOperator, operand: &ExpTree) -> Result<(), AllocError>
         ensures { OnOk result (line_of self.new ≡ with_tokens (line_of self.old) (expression_tokens (UnarySyntax start (unary_of operation) (expression_of operand.now)))) }
     {
@@ -182,7 +181,6 @@ impl Printer {
 
     /// Adds an operation on two operands.
     #[cycle(expressions)]
-    #[tactic(auto, using(crate::proofs::LineLemmas::with_tokens_append))]
     fn binary(
         &mut self,
         operation: BinaryOperator,
@@ -209,7 +207,6 @@ impl Printer {
 
     /// Adds an expression that binds a name.
     #[cycle(expressions)]
-    #[tactic(auto, using(crate::proofs::LineLemmas::with_tokens_append))]
     fn let_in(
         &mut self,
         name: &PlacedName,
@@ -228,7 +225,6 @@ impl Printer {
 
     /// Adds a condition.
     #[cycle(expressions)]
-    #[tactic(auto, using(crate::proofs::LineLemmas::with_tokens_append))]
     fn condition(
         &mut self,
         test: &ExpTree,
@@ -247,7 +243,6 @@ impl Printer {
 
     /// Adds a match with its arms.
     #[cycle(expressions)]
-    #[tactic(auto, using(crate::proofs::LineLemmas::with_tokens_append))]
     fn match_with(&mut self, subject: &ExpTree, arms: &[Arm]) -> Result<(), AllocError>
         ensures { OnOk result (line_of self.new ≡ with_tokens (line_of self.old) (expression_tokens (MatchSyntax start (expression_of subject.now) (arms_in_a_row (map arm_of arms.now))))) }
     {
@@ -260,7 +255,6 @@ impl Printer {
 
     /// Adds two expressions between parentheses.
     #[cycle(expressions)]
-    #[tactic(auto, using(crate::proofs::LineLemmas::with_tokens_append))]
     fn pair(&mut self, first: &ExpTree, second: &ExpTree) -> Result<(), AllocError>
         ensures { OnOk result (line_of self.new ≡ with_tokens (line_of self.old) (expression_tokens (PairSyntax start (expression_of first.now) (expression_of second.now)))) }
     {

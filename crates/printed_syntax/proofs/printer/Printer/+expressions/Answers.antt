@@ -1,12 +1,14 @@
-use Rattle.std.proofs.Common.{refl}
+use Rattle.std.proofs.Common.{◌∙◌, ap, map, refl}
 use Rattle.std.proofs.lemmas.Result.{on_ok_weaker}
+use Rattle.lexemes.specs.Tokens.{KeywordToken}
 use Rattle.lexemes.specs.declared.token.Mark.TheVariants.{Comma}
 use Rattle.auth_syntax.specs.Grammar.{expression_tokens, expressions_tokens}
 use Rattle.auth_syntax.specs.Parsing.{in_a_row}
-use Rattle.auth_syntax.specs.Trees.{expression_of}
-use Rattle.printed_syntax.specs.LineViews.{line_of}
+use Rattle.auth_syntax.specs.Trees.{arm_of, arms_in_a_row, expression_of, name_of, unary_of}
+use Rattle.printed_syntax.specs.LineViews.{line_of, with_token}
 use Rattle.auth_syntax.proofs.Expressions.{expression_tokens-some}
 use Rattle.printed_syntax.proofs.LineLemmas.{row_in_parentheses, row_more}
+use Rattle.printed_syntax.proofs.PrintedForms.{binary_written, if_written, let_written, match_written, pair_written, unary_written}
 use Rattle.printed_syntax.proofs.TreeTokens.{arm_written, arms_more}
 use Rattle.printed_syntax.proofs.printer.Printer.+expressions.Goals as goal
 
@@ -39,3 +41,55 @@ expressions-loop-index-preserved t c =
     c.args.expressions.now c.loop-index.index c.index-expressions-index.result (line_of c.loop-index.self) (line_of c.separator.new.self)
     (line_of c.expression.new.self) c.loop-index.invariant c.in_ok-separator.ensures c.in_ok-expression.ensures c.index-expressions-index.is
     c.loop-index-test.true
+
+-- the forms of an expression
+pub pair-returns : goal.pair-returns
+pair-returns t c =
+    on_ok_weaker c.mark-3.result
+    (pair_written (line_of c.args.self.now) (line_of c.mark.new.self) (line_of c.expression.new.self) (line_of c.mark-2.new.self) (line_of c.expression-2.new.self) (line_of c.mark-3.new.self)
+    (expression_of c.args.first.now) (expression_of c.args.second.now)
+    c.in_ok-mark.ensures c.in_ok-expression.ensures c.in_ok-mark-2.ensures c.in_ok-expression-2.ensures)
+    c.mark-3.ensures
+
+pub unary-returns : goal.unary-returns
+unary-returns t c =
+    on_ok_weaker c.mark-2.result
+    (unary_written (line_of c.args.self.now) (line_of c.word.new.self) (line_of c.mark.new.self) (line_of c.expression.new.self) (line_of c.mark-2.new.self)
+    (unary_of c.args.operation) (expression_of c.args.operand.now)
+    (c.in_ok-word.ensures ∙ ap (λ word. with_token (line_of c.args.self.now) (KeywordToken word)) c.unary_word.ensures) c.in_ok-mark.ensures c.in_ok-expression.ensures)
+    c.mark-2.ensures
+
+pub binary-returns : goal.binary-returns
+binary-returns t c =
+    on_ok_weaker c.pair.result
+    (binary_written (line_of c.args.self.now) (line_of c.word.new.self) (line_of c.pair.new.self)
+    c.args.operation (expression_of c.args.first.now) (expression_of c.args.second.now)
+    c.in_ok-word.ensures)
+    c.pair.ensures
+
+pub let_in-returns : goal.let_in-returns
+let_in-returns t c =
+    on_ok_weaker c.expression-2.result
+    (let_written (line_of c.args.self.now) (line_of c.word.new.self) (line_of c.lower.new.self) (line_of c.mark.new.self) (line_of c.expression.new.self)
+    (line_of c.word-2.new.self) (line_of c.expression-2.new.self)
+    (name_of c.args.name.now) (expression_of c.args.bound.now) (expression_of c.args.body.now)
+    c.in_ok-word.ensures c.in_ok-lower.ensures c.in_ok-mark.ensures c.in_ok-expression.ensures c.in_ok-word-2.ensures)
+    c.expression-2.ensures
+
+pub condition-returns : goal.condition-returns
+condition-returns t c =
+    on_ok_weaker c.expression-3.result
+    (if_written (line_of c.args.self.now) (line_of c.word.new.self) (line_of c.expression.new.self) (line_of c.word-2.new.self)
+    (line_of c.expression-2.new.self) (line_of c.word-3.new.self) (line_of c.expression-3.new.self)
+    (expression_of c.args.test.now) (expression_of c.args.first.now) (expression_of c.args.other.now)
+    c.in_ok-word.ensures c.in_ok-expression.ensures c.in_ok-word-2.ensures c.in_ok-expression-2.ensures c.in_ok-word-3.ensures)
+    c.expression-3.ensures
+
+pub match_with-returns : goal.match_with-returns
+match_with-returns t c =
+    on_ok_weaker c.word-3.result
+    (match_written (line_of c.args.self.now) (line_of c.word.new.self) (line_of c.expression.new.self) (line_of c.word-2.new.self)
+    (line_of c.arms.new.self) (line_of c.word-3.new.self)
+    (expression_of c.args.subject.now) (arms_in_a_row (map arm_of c.args.arms.now))
+    c.in_ok-word.ensures c.in_ok-expression.ensures c.in_ok-word-2.ensures c.in_ok-arms.ensures)
+    c.word-3.ensures
