@@ -8,7 +8,6 @@ use Rattle.core_terms.specs.TypeTables.{type_at}
 use Rattle.core_terms.specs.LanguageTrees.{types_at}
 use Rattle.core_terms.specs.declared.types.TyId.{TyId}
 use Rattle.core_terms.specs.declared.language.term.Constructor.{Constructor}
-use Rattle.core_terms.specs.declared.language.term.Term as term
 use Rattle.auth_syntax.specs.Parsing.{in_a_row}
 use Rattle.lexemes.specs.Places.{start}
 use Rattle.auth_syntax.specs.Syntax.{place_of}
