@@ -1,0 +1,10 @@
+//! Tests that tie the prover, the verifier and the audit of programs together, at SHA-256: what is proved is accepted and agreed with,
+//! and what is altered is told alike.
+#![tactic(auto)]
+
+#[cfg(test)]
+mod altered;
+#[cfg(test)]
+mod honest;
+#[cfg(test)]
+mod stage;

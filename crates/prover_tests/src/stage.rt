@@ -1,0 +1,201 @@
+// The program of the tests, and its calls: proved, verified and audited.
+ghost use Rattle.std.specs.Prelude.{◌≡◌, ◌<◌, ◌∷◌, [], length, IfOk, IfSome, IsTrue};
+ghost use Rattle.core_terms.specs.Formats.{Hash};
+ghost use Rattle.core_terms.specs.LanguagePrograms.{meaning};
+ghost use Rattle.core_terms.specs.Terms.{function_at};
+ghost use Rattle.core_terms.specs.Types.{IntTy};
+ghost use Rattle.core_terms.specs.Values.{Value};
+ghost use Rattle.value_store.specs.Stores.{nodes_in};
+ghost use Rattle.mode_vm.specs.Meanings.{program_of};
+ghost use Rattle.ring_prover.specs.Calls.{IsCalledOn};
+ghost use Rattle.stream_verifier.specs.Verdicts.{TakesState};
+ghost use Rattle.stream_audit.specs.Calls.{IsAudited};
+
+use auth_syntax::parser::parse;
+use auth_types::check::check;
+use code_gen::Code;
+use core_terms::language::{Program, RoleId, RoleKind, TyForm};
+use core_terms::{Digest, FunctionId, Outcome, Spelling, Trap};
+use digest_layer::Sha;
+use lam_outside::{MemLink, Plan};
+use proof_stream::put_header;
+use reuse_buffer::Ring;
+use ring_prover::{Proved, prove};
+use std::alloc::{AllocError, Global};
+use stream_audit::{AuditFault, Audited, audit};
+use stream_verifier::{Verdict, verify};
+use value_store::{Nodes, Ref, Store};
+
+/// The program of the tests. `opened` opens a piece of 17 bytes, the n-th one; `again` opens m pieces, each with its number modulo k.
+const TEXT: &[u8] =
+    b"state int; fun opened(n: int): int = fst(unauth(auth((n, \"piece\")))); fun sum(n: int, k: int, s: int): int = if le(n, 0) then s else sum(sub(n, 1), k, add(s, opened(rem(n, k)))); query again(k: int, m: int): int = sum(m, k, 0); query over(s: int, x: int): int = add(opened(s), opened(x)); update swap(s: int, x: int): (int, int) = (opened(x), opened(s));";
+
+/// A call on a state and an argument that are ints, with so much fuel.
+#[derive(Clone, Copy)]
+pub struct Call {
+    pub role: &'static str,
+    pub state: i64,
+    pub argument: i64,
+    pub fuel: u64,
+}
+
+/// How a call ends.
+#[derive(Clone, Copy)]
+pub enum End {
+    Done(&'static [u8]),
+    Overflow,
+    Out,
+}
+
+impl End {
+    /// Whether it is this.
+    pub fn is(&self, outcome: &Outcome<Spelling>) -> bool {
+        match (self, outcome) {
+            (End::Done(bytes), Outcome::Done(value)) => value.as_bytes() == *bytes,
+            (End::Overflow, Outcome::Trapped(Trap::Overflow)) => true,
+            (End::Out, Outcome::Out) => true,
+            _ => false,
+        }
+    }
+}
+
+/// A call that is put into a store.
+#[derive(Clone, Copy)]
+pub struct PutCall {
+    role: FunctionId,
+    state: Ref,
+    argument: Ref,
+}
+
+/// The code of the program.
+pub fn code(alloc: Global) -> Result<Box<Code>, AllocError> {
+    let Ok(ast) = parse(alloc, TEXT) else {
+        return Err(AllocError);
+    };
+    let Ok(program) = check(alloc, ast, Digest([7; 32])) else {
+        return Err(AllocError);
+    };
+    Ok(Box::new(alloc, Code::generate(program, alloc)?)?)
+}
+
+/// The function of a role that reads the state.
+fn reading(program: &Program, name: &str) -> Option<FunctionId>
+    ensures { IfSome result (λ f. (f.0 < length (meaning program.now).functions) × TakesState (meaning program.now) f.0) }
+{
+    let RoleId(number) = program.role(name)?;
+    let role = program.roles().get(number)?;
+    match role.kind {
+        RoleKind::Init => None,
+        RoleKind::Query | RoleKind::Update => Some(role.function),
+    }
+}
+
+/// Whether the state is an int, and the function takes two ints.
+fn takes_ints(program: &Program, function: FunctionId) -> bool
+    requires { function.0 < length (meaning program.now).functions }
+    ensures state { IsTrue result → (meaning program.now).state ≡ IntTy }
+    ensures ints { IsTrue result → (function_at (meaning program.now) function.0).parameters ≡ IntTy ∷ IntTy ∷ [] }
+{
+    if program.form(program.state_type()) != TyForm::IntForm {
+        return false;
+    }
+    match program.function(function).parameters.as_slice() {
+        [state, argument] => {
+            program.form(*state) == TyForm::IntForm && program.form(*argument) == TyForm::IntForm
+        }
+        _ => false,
+    }
+}
+
+/// Puts the state and the argument of a call.
+fn put_call(code: &Code, store: &mut Store, call: Call) -> Result<PutCall, AllocError>
+    ensures there { IfOk result (λ put. put.role.0 < length (program_of code.now).functions) }
+    ensures role { IfOk result (λ put. TakesState (program_of code.now) put.role.0) }
+    ensures called { IfOk result (λ put. (hash : Hash) → (s : Value) × (a : Value) × IsCalledOn hash (program_of code.now) put.role.0 (nodes_in store.new) put.state put.argument s a) }
+    ensures audited { IfOk result (λ put. (hash : Hash) → (s : Value) × (a : Value) × IsAudited hash (program_of code.now) put.role.0 (nodes_in store.new) put.state put.argument s a) }
+{
+    let Some(role) = reading(code.program(), call.role) else {
+        return Err(AllocError);
+    };
+    if !takes_ints(code.program(), role) {
+        return Err(AllocError);
+    }
+    let state = store.put_int(call.state)?;
+    let argument = store.put_int(call.argument)?;
+    Ok(PutCall {
+        role,
+        state,
+        argument,
+    })
+}
+
+/// The proof of a call with a ring of so many pieces, of 1,024 at most.
+pub fn proved(
+    alloc: Global,
+    code: &Code,
+    store: &mut Store,
+    call: Call,
+    size: u16,
+) -> Result<Proved, AllocError> {
+    let PutCall {
+        role,
+        state,
+        argument,
+    } = put_call(code, store, call)?;
+    let ring = Ring::with_size(alloc, size.min(1024))?;
+    let fuel = call.fuel.min(5000);
+    let told = prove::<Sha, Store>(alloc, code, store, role, state, argument, fuel, ring)?;
+    Ok(told.0)
+}
+
+/// The proof file with these frames, which asks for so many pieces to be kept.
+pub fn file(alloc: Global, size: u16, frames: &[u8]) -> Result<Vec<u8>, AllocError> {
+    let mut bytes = Vec::new(alloc);
+    put_header(&mut bytes, *b"LAP1", size)?;
+    bytes.extend_from_slice(frames)?;
+    Ok(bytes)
+}
+
+/// A source of these bytes, which gives so many a read, and one at least.
+pub fn source(alloc: Global, bytes: &[u8], most: usize) -> Result<MemLink, AllocError> {
+    let plan = Plan::new(Vec::new(alloc));
+    Ok(MemLink::new(alloc, Vec::from_slice(alloc, bytes)?, most.max(1), plan))
+}
+
+/// The verdict on a call.
+pub fn verdict(
+    alloc: Global,
+    code: &Code,
+    call: Call,
+    proof: &mut MemLink,
+) -> Result<Result<Outcome<Spelling>, Verdict>, AllocError> {
+    let Some(role) = reading(code.program(), call.role) else {
+        return Err(AllocError);
+    };
+    Ok(verify::<Sha, MemLink>(
+        alloc,
+        code,
+        role,
+        &call.state.to_be_bytes(),
+        &call.argument.to_be_bytes(),
+        call.fuel.min(5000),
+        proof,
+    ))
+}
+
+/// The audit of a call.
+pub fn audited(
+    alloc: Global,
+    code: &Code,
+    store: &mut Store,
+    call: Call,
+    proof: &mut MemLink,
+) -> Result<Result<Audited, AuditFault>, AllocError> {
+    let PutCall {
+        role,
+        state,
+        argument,
+    } = put_call(code, store, call)?;
+    let fuel = call.fuel.min(5000);
+    Ok(audit::<Sha, MemLink, Store>(alloc, code, store, role, state, argument, fuel, proof))
+}
