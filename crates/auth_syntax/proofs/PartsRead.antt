@@ -1,5 +1,5 @@
 -- Expressions by the parts that the code reads: each reading, where a part is read with what has to stand behind it.
-use Rattle.std.proofs.Common.{◌≡◌, ◌∙◌, ℕ, ap, Bool, true, false, Option, Some, None, Result, Err, refl, sym, subst}
+use Rattle.std.proofs.Common.{◌≡◌, ◌∙◌, ℕ, ap, Bool, true, false, Option, Some, None, Result, Err, Vec, refl, sym, subst}
 use Rattle.core_terms.specs.declared.language.term.BinaryOperator.{BinaryOperator}
 use Rattle.lexemes.specs.declared.place.Place.{Place}
 use Rattle.lexemes.specs.declared.token.Mark.TheVariants.{LeftParenthesis, RightParenthesis, Comma, EqualsSign, Bar, Arrow}
@@ -14,12 +14,15 @@ use Rattle.auth_syntax.specs.Vocabulary.{Vocabulary, Pairs}
 use Rattle.auth_syntax.specs.LanguageViews.{once_begun}
 use Rattle.auth_syntax.specs.Parsing.{read_lower, read_upper, read_optional_list, read_expression, operation_from, pair_or_refused, read_unit_or_pair, read_let, read_if, read_match, read_arms}
 use Rattle.auth_syntax.specs.Arms.{read_arm}
-use Rattle.auth_syntax.specs.Trees.{ArmSyntax, boxed_of, expression_of}
+use Rattle.auth_syntax.specs.Trees.{ArmSyntax, arms_of, boxed_of, expression_of, name_of, unary_of}
 use Rattle.std.specs.declared.alloc.Global.{Global}
 use Rattle.std.specs.declared.boxed.Box.{Box}
+use Rattle.auth_syntax.specs.declared.tree.Arm.{Arm}
 use Rattle.auth_syntax.specs.declared.tree.ExpTree.{ExpTree}
+use Rattle.auth_syntax.specs.declared.tree.PlacedName.{PlacedName}
+use Rattle.auth_syntax.specs.declared.tree.UnaryOperator.{UnaryOperator}
 use Rattle.auth_syntax.specs.declared.tree.ExpTree as tree
-use Rattle.auth_syntax.specs.declared.tree.ExpTree.TheVariants.{rolls-Binary}
+use Rattle.auth_syntax.specs.declared.tree.ExpTree.TheVariants.{rolls-Unary, rolls-Binary, rolls-Let, rolls-If, rolls-Match}
 use Rattle.auth_syntax.specs.declared.tree.ExpTree.TheFolds.{fold-roll-ExpTree}
 use Rattle.auth_syntax.specs.Parts.{Begins, BothSyntax, OperationSyntax, OnOne, OnTwo, PatternSyntax, pair_sign, then_closed}
 use Rattle.auth_syntax.specs.Parts.{read_before, read_behind, read_binding, read_both, read_operation, read_pattern, read_unit_sign}
@@ -48,10 +51,26 @@ pub seen_as : {A B : Type 0} (view : A → B) (result : Result A SyntaxFault) (l
     → reading ≡ reading' → Reads view reading' result left → Reads view reading result left
 seen_as {B} view result left is h = subst (λ (reading : Reading B). Reads view reading result left) (sym is) h
 
--- the tree of an operation on two operands
-pub binary_is : (at : Place) (operation : BinaryOperator) (first second : Box ExpTree Global)
+-- what trees stand for, by their parts
+pub unary_tree : (at : Place) (operation : UnaryOperator) (operand : Box ExpTree Global)
+    → expression_of (tree.Unary at operation operand) ≡ UnarySyntax at (unary_of operation) (boxed_of operand)
+unary_tree at operation operand = ap expression_of (sym (rolls-Unary at operation operand)) ∙ fold-roll-ExpTree _ _ _ _ _
+
+pub binary_tree : (at : Place) (operation : BinaryOperator) (first second : Box ExpTree Global)
     → expression_of (tree.Binary at operation first second) ≡ BinarySyntax at operation (boxed_of first) (boxed_of second)
-binary_is at operation first second = ap expression_of (sym (rolls-Binary at operation first second)) ∙ fold-roll-ExpTree _ _ _ _ _
+binary_tree at operation first second = ap expression_of (sym (rolls-Binary at operation first second)) ∙ fold-roll-ExpTree _ _ _ _ _
+
+pub let_tree : (at : Place) (name : PlacedName) (bound body : Box ExpTree Global)
+    → expression_of (tree.Let at name bound body) ≡ LetSyntax at (name_of name) (boxed_of bound) (boxed_of body)
+let_tree at name bound body = ap expression_of (sym (rolls-Let at name bound body)) ∙ fold-roll-ExpTree _ _ _ _ _
+
+pub if_tree : (at : Place) (test first other : Box ExpTree Global)
+    → expression_of (tree.If at test first other) ≡ IfSyntax at (boxed_of test) (boxed_of first) (boxed_of other)
+if_tree at test first other = ap expression_of (sym (rolls-If at test first other)) ∙ fold-roll-ExpTree _ _ _ _ _
+
+pub match_tree : (at : Place) (subject : Box ExpTree Global) (arms : Vec Arm Global)
+    → expression_of (tree.Match at subject arms) ≡ MatchSyntax at (boxed_of subject) (arms_of arms)
+match_tree at subject arms = ap expression_of (sym (rolls-Match at subject arms)) ∙ fold-roll-ExpTree _ _ _ _ _
 
 -- where no expression begins, none is read
 pub none_begun : {A : Type 0} (view : A → ExpSyntax) (words : Vocabulary) (levels : ℕ) (before after left : Tokens) (fault : SyntaxFault)

@@ -10,7 +10,7 @@ use Rattle.auth_syntax.specs.Trees.{boxed_of, expression_of, expressions_of, Arm
 use Rattle.lexemes.specs.Remaining.{Reads, remaining}
 use Rattle.auth_syntax.specs.Syntax.{ExpSyntax}
 use Rattle.auth_syntax.proofs.Faults.{refused_part}
-use Rattle.auth_syntax.proofs.PartsRead.{arm_is, binary_is, if_is, let_is, match_is, none_begun, operation_is, seen_as, unit_or_pair_is}
+use Rattle.auth_syntax.proofs.PartsRead.{arm_is, binary_tree, if_is, if_tree, let_is, let_tree, match_is, match_tree, none_begun, operation_is, seen_as, unary_tree, unit_or_pair_is}
 use Rattle.auth_syntax.specs.Parts.{both_of, pattern_of}
 use Rattle.auth_syntax.proofs.LevelSteps.{read_expression-step}
 use Rattle.auth_syntax.proofs.MadeOfTokens.{expression_is_tokens}
@@ -168,7 +168,7 @@ pub operation-returns-in_ok-first-in-Binary : goal.operation-returns-in_ok-first
 operation-returns-in_ok-first-in-Binary t c =
     let reads = read_expression (words_of c.args.language) c.args.levels in
     operation_is reads (words_of c.args.language) c.args.at (parsing.unary_of c.args.keyword) (parsing.binary_of c.args.keyword) (remaining c.args.parser.now)
-    ∙ rw (c.in_ok-operator.ensures, c.in-Binary.is, c.in_ok-first-in-Binary.ensures, binary_is) refl
+    ∙ rw (c.in_ok-operator.ensures, c.in-Binary.is, c.in_ok-first-in-Binary.ensures, binary_tree) refl
 
 pub let_in-returns-in_err-name : goal.let_in-returns-in_err-name
 let_in-returns-in_err-name t c =
@@ -253,3 +253,34 @@ arm-returns-in_err-body t c =
     seen_as arm_of r.result (remaining c.expression.new.parser) (arm_is reads (remaining c.args.parser.now))
     (rw (c.in_ok-pattern.ensures)
     (refused_part expression_of arm_of _ _ _ (remaining c.expression.new.parser) r.result r.ensures.1 c.in_err-body.ensures))
+
+-- where all parts are read
+pub boxed-returns : goal.boxed-returns
+boxed-returns t c = rw c.in_ok-part.ensures c.closed.ensures
+
+pub both-returns : goal.both-returns
+both-returns t c = rw (c.in_ok-first.ensures, c.in_ok-second.ensures) refl
+
+pub operation-returns-in_ok-operand-in-Unary : goal.operation-returns-in_ok-operand-in-Unary
+operation-returns-in_ok-operand-in-Unary t c =
+    let reads = read_expression (words_of c.args.language) c.args.levels in
+    operation_is reads (words_of c.args.language) c.args.at (parsing.unary_of c.args.keyword) (parsing.binary_of c.args.keyword) (remaining c.args.parser.now)
+    ∙ rw (c.in_ok-operator.ensures, c.in-Unary.is, c.in_ok-operand-in-Unary.ensures, unary_tree) refl
+
+pub let_in-returns : goal.let_in-returns
+let_in-returns t c =
+    let reads = read_expression (words_of c.args.language) c.args.levels in
+    let_is reads c.args.at (remaining c.args.parser.now)
+    ∙ rw (c.in_ok-name.ensures, c.in_ok-bound.ensures, c.in_ok-body.ensures, let_tree) refl
+
+pub conditional-returns : goal.conditional-returns
+conditional-returns t c =
+    let reads = read_expression (words_of c.args.language) c.args.levels in
+    if_is reads c.args.at (remaining c.args.parser.now)
+    ∙ rw (c.in_ok-test.ensures, c.in_ok-first.ensures, c.in_ok-other.ensures, if_tree) refl
+
+pub matching-returns : goal.matching-returns
+matching-returns t c =
+    let reads = read_expression (words_of c.args.language) c.args.levels in
+    match_is reads c.args.at (remaining c.args.parser.now)
+    ∙ rw (c.in_ok-subject.ensures, c.in_ok-mark.ensures, c.in_ok-arms.ensures, match_tree) refl
