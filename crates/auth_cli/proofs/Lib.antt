@@ -13,7 +13,7 @@ pub mod PutArguments  -- `put_argument`
 pub mod LiteralsRead  -- `read_value`
 pub mod PlainArguments  -- `read_value`
 pub mod TextNames  -- `read_language_program`
-pub mod MarkedStates  -- `mark_auth`, `spell_state`
+pub mod MarkedStates  -- `load_state`, `spell_state`, `value_line`, `role_output`
 pub mod StateOutputs  -- `spell_state`
 pub mod EndedRuns  -- `run_init`, `run_on_state`
 pub mod RoleReports  -- `value_line`, `role_report`, `state_made`

@@ -1,19 +1,24 @@
 -- The value of a literal, put into a store: it stands there over the prover's nodes, since nothing in it is authenticated.
 use Rattle.std.proofs.Common.{◌≡◌, ℕ, List, [], Option, Result, Ok, Err, IsErrAnd, sym, ap, ◌∙◌, subst, lit<}
 use Rattle.core_terms.specs.LanguagePrograms.{constructor_names, meaning}
+use Rattle.core_terms.specs.ProgramTypes.{types_meaning}
 use Rattle.core_terms.specs.Projection.{read_at}
 use Rattle.core_terms.specs.Reading.{BadAt, Good}
 use Rattle.core_terms.specs.Roles.{IsPlain}
 use Rattle.core_terms.specs.Types.{Ty}
 use Rattle.core_terms.specs.Values.{Value}
 use Rattle.core_terms.specs.declared.fault.Fault.TheVariants as literal_fault
+use Rattle.core_terms.specs.declared.types.TyId.{TyId}
 use Rattle.core_terms.specs.declared.language.program.Program.{Program}
+use Rattle.core_terms.specs.declared.language.program_types.Types.{Types}
 use Rattle.printed_syntax.specs.LiteralAnswers.{LiteralFault, ReadsLiteral, SpellsLiteral}
 use Rattle.printed_syntax.specs.LiteralLaws.{IsLiteralValue}
 use Rattle.printed_syntax.specs.Literals.{ConstructorNames, literal_in}
 use Rattle.printed_syntax.proofs.LiteralsReadBack.{literals_are_read_back}
 use Rattle.value_store.specs.Nodes.{Node}
 use Rattle.value_store.specs.Standing.{StandsFor, VerifierNodes}
+use Rattle.value_store.specs.declared.node.Ref.{Ref}
+use Rattle.shallow_codec.specs.ProgramTypes.{table, ty_of}
 use Rattle.shallow_codec.specs.Unspelled.{IsUnspelled}
 use Rattle.shallow_codec.specs.declared.fault.UnspellFault.{UnspellFault}
 use Rattle.shallow_codec.specs.declared.fault.UnspellFault.TheVariants.{Bad}
@@ -25,6 +30,13 @@ use Rattle.auth_cli.specs.ReadPrograms.{language_named}
 use Rattle.auth_cli.specs.RoleCalls.{named_literal}
 use Rattle.auth_cli.specs.RolesCalled.{prover_nodes}
 use Rattle.auth_cli.specs.declared.report.Halt.{Halt}
+
+-- what was read by the types of a program was read by the program
+pub read_by_types : (p : Program) (types : Types) → types ≡ p.types → (nodes : List Node) (ty : TyId) (bytes : List ℕ) (result : Result Ref UnspellFault)
+    → IsUnspelled (table types) nodes (ty_of types ty) (read_at (types_meaning types) (ty_of types ty) bytes) result
+    → IsUnspelled (meaning p).types nodes (ty_of p.types ty) (read_at (meaning p) (ty_of p.types ty) bytes) result
+read_by_types p types is nodes ty bytes result h =
+    subst (λ (t : Types). IsUnspelled (table t) nodes (ty_of t ty) (read_at (types_meaning t) (ty_of t ty) bytes) result) is h
 
 -- a text that is no literal of a type is refused
 pub literal_refused_for : {T : Type 0} (p : NamedProgram) (t : Ty) (text : List ℕ) (Stands : T → Value → Type 0) (fault : LiteralFault) (result : Result T Halt)

@@ -165,7 +165,7 @@ fn put_argument(
     ensures keeps { Keeps (nodes_in store.old) (nodes_in store.new) }
 {
     let spelling = parse_literal(alloc, program, ty, text)?;
-    match unspell(alloc, program, store, spelling.as_bytes(), ty) {
+    match unspell(alloc, program.types(), store, spelling.as_bytes(), ty) {
         Ok(value) => Ok(value),
         Err(UnspellFault::Bad(_)) => unreachable!(),
         Err(UnspellFault::NoMemory) => Err(Halt::NoMemory),

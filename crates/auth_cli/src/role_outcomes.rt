@@ -62,7 +62,9 @@ pub fn role_output(alloc: Global, program: &Program, ended: &Ended) -> Result<Ou
     let report = role_report(alloc, program, ended)?;
     match state_made(ended) {
         Some(state) => {
-            let image = save_image(alloc, program, &ended.store, state)?;
+            let types = program.types();
+            let digest = program.text_digest();
+            let image = save_image(alloc, types, digest, &ended.store, state)?;
             let file = Some(image);
             Ok(Output { report, file })
         }
@@ -82,7 +84,7 @@ fn value_line(
     ensures { IfOk result (λ line. (v : Value) → StandsFor (prover_nodes program.now) (meaning program.now).types (nodes_in store.now) value.0 (type_at (types_of program.now) ty) v
         → line.items ≡ projection_line program.now (type_at (types_of program.now) ty) v) }
 {
-    let spelled = spell(alloc, program, store, value, ty)?;
+    let spelled = spell(alloc, program.types(), store, value, ty)?;
     named_done_line(alloc, program, ty, spelled.as_bytes())
 }
 

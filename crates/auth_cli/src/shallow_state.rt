@@ -72,7 +72,7 @@ fn spell_state(alloc: Global, program: &Program, state: &Loaded) -> Result<Outpu
         (λ output. (name : List ℕ) (v : Value) → IsStoredState (meaning program.now) state.now v → IsOutput (state_answer (language_named program.now) v name) name output) }
 {
     let ty = program.state_type();
-    let spelled = spell(alloc, program, &state.store, state.root, ty)?;
+    let spelled = spell(alloc, program.types(), &state.store, state.root, ty)?;
     let text = state_line(alloc, program, ty, spelled.as_bytes())?;
     let report = Report {
         ending: Ending::Done,

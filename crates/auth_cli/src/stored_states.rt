@@ -44,5 +44,7 @@ fn load_state(alloc: Global, program: &Program, bytes: &[u8]) -> Result<Loaded, 
     ensures stands { IfOk result (λ loaded. (v : Value) × IsStoredState (meaning program.now) loaded v) }
 {
     let mut marker = ProverMarker::new(alloc);
-    Ok(load_image(alloc, program, &mut marker, bytes)?)
+    let types = program.types();
+    let digest = program.text_digest();
+    Ok(load_image(alloc, types, digest, &mut marker, bytes)?)
 }

@@ -2,11 +2,11 @@
 use Rattle.std.proofs.Common.{◌≡◌, ℕ, ◌≤◌, true, ◌&&◌, List, [], ◌∷◌, ◌++◌, length, reverse, nat_lt, Result, Option, Some, unwrap_or, refl, ap, ◌∙◌, subst, arith, lt-ltb}
 use Rattle.std.specs.List.{list_all}
 use Rattle.std.proofs.lemmas.List.{reverse-append, length-map, length-reverse}
+use Rattle.core_terms.specs.ProgramTypes.{named_table}
 use Rattle.core_terms.specs.Types.{Ty, Table, NamedTy, fields_at}
 use Rattle.core_terms.specs.Values.{Values, NoV, AndV, ConV}
 use Rattle.core_terms.specs.Terms.{Program}
-use Rattle.core_terms.specs.LanguagePrograms.{meaning}
-use Rattle.core_terms.specs.declared.language.program.Program.{Program as Coded}
+use Rattle.core_terms.specs.declared.language.program_types.Types.{Types}
 use Rattle.core_terms.specs.declared.outcome.Trap.{Trap}
 use Rattle.ideal_meaning.specs.Run.{limited}
 use Rattle.code_gen.specs.Instructions.{Make}
@@ -95,7 +95,9 @@ module _ (m : Marking) (P : Program) (nodes : List Node) (frame : Frame) (number
             ∙ popped_args (kind_of m P) P.types nodes (numbers_of fields) makes_of.0 split.vs split.args_stand (tie makes_of.1 split.below) go
 
 -- the number of fields, as the code counts them
-pub fields_counted : (p q : Coded) (number tag n : ℕ) (o : Option (List Ty)) → p ≡ q → o ≡ fields_at (meaning p).types number tag → n ≡ length (unwrap_or o [])
-    → n ≡ field_count (meaning q).types number tag
-fields_counted p q number tag n o same found count =
-    count ∙ ap (λ o. length (unwrap_or o [])) found ∙ ap (λ p. field_count (meaning p).types number tag) same
+pub fields_counted : (types : Table) (number tag n : ℕ) (o : Option (List Ty)) → o ≡ fields_at types number tag → n ≡ length (unwrap_or o []) → n ≡ field_count types number tag
+fields_counted types number tag n o found count = count ∙ ap (λ o. length (unwrap_or o [])) found
+
+-- and as its program has them
+pub counted_by : (t u : Types) (number tag n : ℕ) → t ≡ u → n ≡ field_count (named_table t) number tag → n ≡ field_count (named_table u) number tag
+counted_by t u number tag n same count = count ∙ ap (λ t. field_count (named_table t) number tag) same

@@ -27,13 +27,13 @@ pub mod Lifting
 pub mod Entering
 -- the machine: start, auth, unauth, step, run_slice
 pub mod Starting
+pub mod TypesAlone
 pub mod Authenticating
 pub mod Opens
 pub mod Stepping
 pub mod Slicing
 -- the ideal mode, over ideal nodes and the prover's, and runs in it
 pub mod IdealOpenings
-pub mod Digested
 pub mod IdealOutcomes
 -- the law `growing`
 pub mod Growing

@@ -24,7 +24,7 @@ use Rattle.value_store.proofs.TypedNodes.{ideal_refers, ideal_stands, prover_ref
 use Rattle.mode_vm.specs.Meanings.{CauseOf, StateOf, mode_of, program_of}
 use Rattle.code_gen.specs.declared.code.Code.{Code}
 use Rattle.code_gen.proofs.CodeSizes.{code_has_a_limit}
-use Rattle.code_gen.specs.CodeSizes.{code_size, most_instructions}
+use Rattle.code_gen.specs.CodeSizes.{code_size}
 use Rattle.mode_vm.specs.Machines.{ValueFrame, ValueStack, enters, end_of, AreWaiting, IsDeep, Represents, frame_left, frames_left, left_if, steps_left, OpensFew}
 use Rattle.mode_vm.specs.Runs.{Ready, WillRun}
 use Rattle.mode_vm.specs.StateParts.{Starts}

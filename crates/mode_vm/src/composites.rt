@@ -2,6 +2,7 @@
 ghost use Rattle.std.specs.Prelude.{◌≡◌, ◌+◌, ◌<◌, ◌^◌, true, List, IfOk, Some, length, nat_lt};
 ghost use Rattle.code_gen.specs.Instructions as instruction;
 ghost use Rattle.std.specs.List.{list_all};
+ghost use Rattle.core_terms.specs.ProgramTypes.{named_table};
 ghost use Rattle.core_terms.specs.Types.{NamedTy, PairTy, Table, Ty, fields_at};
 ghost use Rattle.core_terms.specs.Values.{ConV, PairV, Value, Values};
 ghost use Rattle.ideal_meaning.specs.Run as meant;
@@ -18,7 +19,7 @@ use crate::limits::{DEPTH_LIMIT, SIZE_LIMIT};
 use crate::values::parts_in;
 use code_gen::Code;
 use core_terms::Trap;
-use core_terms::language::{NamedId, Tag};
+use core_terms::language::{NamedId, Tag, Types};
 use shallow_codec::field_types;
 use std::alloc::AllocError;
 use value_store::{Nodes, Ref};
@@ -87,7 +88,7 @@ impl Frame {
         ensures keeps { Keeps (N.nodes store.old) (N.nodes store.new) }
         ensures lent { N.lent store.new ≡ N.lent store.old }
     {
-        let count = field_count(code, named, tag);
+        let count = field_count(code.types(), named, tag);
         let fields = self.pop_many(count)?;
         let made = new_constructor(store, named, tag, &fields)?;
         self.finish(made)
@@ -118,11 +119,11 @@ fn new_pair<N: Nodes>(
 }
 
 /// The number of fields of a constructor; 0 where there is no such constructor.
-fn field_count(code: &Code, named: NamedId, tag: Tag) -> usize
-    ensures { result ≡ code_meant.field_count (program_of code.now).types named.0 tag.0 }
+fn field_count(types: &Types, named: NamedId, tag: Tag) -> usize
+    ensures { result ≡ code_meant.field_count (named_table types.now) named.0 tag.0 }
 {
-    match field_types(code.program(), named, tag.0) {
-        Some(types) => types.len(),
+    match field_types(types, named, tag.0) {
+        Some(fields) => fields.len(),
         None => 0,
     }
 }

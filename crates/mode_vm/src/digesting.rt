@@ -7,7 +7,7 @@ ghost use Rattle.value_store.specs.Standing.{ProverNodes, StandsFor};
 
 use crate::ideal::Never;
 use crate::mode::{Mode, Stop};
-use core_terms::language::Program;
+use core_terms::language::Types;
 use core_terms::{Hash32, TyId};
 use shallow_codec::spell;
 use std::alloc::Global;
@@ -40,7 +40,7 @@ impl<H: Hash32> Mode for DigestingMode<H> {
 
     ghost marking = { ProverMarking H.hash };
 
-    ghost Follows = { λ p mode world nodes w. Unit {0} };
+    ghost Follows = { λ t mode world nodes w. Unit {0} };
 
     ghost cause = { λ f. None };
 
@@ -54,22 +54,22 @@ impl<H: Hash32> Mode for DigestingMode<H> {
 
     ghost rest = { λ world. tt };
 
-    ghost Moves = { λ P a v b w. Unit {0} };
+    ghost Moves = { λ a v b w. Unit {0} };
 
-    ghost moves_not = { λ P a v. tt };
+    ghost moves_not = { λ a v. tt };
 
-    ghost moves_on = { λ P a b c v w x h k. tt };
+    ghost moves_on = { λ a b c v w x h k. tt };
 
-    ghost follows_on = { λ p mode world old new w k h. h };
+    ghost follows_on = { λ t mode world old new w k h. h };
 
     fn auth<N: Nodes>(
         &mut self,
-        program: &Program,
+        types: &Types,
         store: &mut N,
         ty: TyId,
         v: Ref,
     ) -> Result<Ref, Stop<Never>> {
-        let Ok(spelling) = spell(self.alloc, program, store, v, ty) else {
+        let Ok(spelling) = spell(self.alloc, types, store, v, ty) else {
             return Err(Stop::NoMemory);
         };
         let digest = H::of(spelling.as_bytes());
@@ -82,7 +82,7 @@ impl<H: Hash32> Mode for DigestingMode<H> {
     fn unauth<N: Nodes>(
         &mut self,
         _world: &mut (),
-        _program: &Program,
+        _types: &Types,
         store: &mut N,
         _ty: TyId,
         v: Ref,

@@ -1,10 +1,10 @@
 // The ideal mode.
-ghost use Rattle.std.specs.Prelude.{Some, None};
+ghost use Rattle.std.specs.Prelude.{None};
 ghost use Rattle.value_store.specs.Markings.{IdealMarking};
 
 use crate::mode::{Mode, Stop};
 use core_terms::TyId;
-use core_terms::language::Program;
+use core_terms::language::Types;
 use value_store::{Held, Nodes, Ref, View};
 
 /// The ideal mode: an authenticated value is the value.
@@ -22,7 +22,7 @@ impl Mode for IdealMode {
 
     ghost marking = { IdealMarking };
 
-    ghost Follows = { λ p mode world nodes w. Unit {0} };
+    ghost Follows = { λ t mode world nodes w. Unit {0} };
 
     ghost cause = { λ f. None };
 
@@ -36,17 +36,17 @@ impl Mode for IdealMode {
 
     ghost rest = { λ world. tt };
 
-    ghost Moves = { λ P a v b w. Unit {0} };
+    ghost Moves = { λ a v b w. Unit {0} };
 
-    ghost moves_not = { λ P a v. tt };
+    ghost moves_not = { λ a v. tt };
 
-    ghost moves_on = { λ P a b c v w x h k. tt };
+    ghost moves_on = { λ a b c v w x h k. tt };
 
-    ghost follows_on = { λ p mode world old new w k h. h };
+    ghost follows_on = { λ t mode world old new w k h. h };
 
     fn auth<N: Nodes>(
         &mut self,
-        _program: &Program,
+        _types: &Types,
         store: &mut N,
         _ty: TyId,
         v: Ref,
@@ -60,7 +60,7 @@ impl Mode for IdealMode {
     fn unauth<N: Nodes>(
         &mut self,
         _world: &mut (),
-        _program: &Program,
+        _types: &Types,
         store: &mut N,
         _ty: TyId,
         v: Ref,

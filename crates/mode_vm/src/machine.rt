@@ -1,5 +1,5 @@
 // The virtual machine, over a mode.
-ghost use Rattle.std.specs.Prelude.{◌≡◌, ◌<◌, ◌≤◌, ◌+◌, ◌^◌, ℕ, List, suc, true, false, [], ◌-◌, IfOk, OnOk, length, Option};
+ghost use Rattle.std.specs.Prelude.{◌≡◌, ◌<◌, ◌≤◌, ◌+◌, ◌^◌, List, suc, true, IfOk, OnOk, length};
 ghost use Rattle.core_terms.specs.LanguagePrograms.{types_of};
 ghost use Rattle.core_terms.specs.Types.{Ty};
 ghost use Rattle.core_terms.specs.Values.{Values};
@@ -9,7 +9,7 @@ ghost use Rattle.value_store.specs.Nodes.{Node};
 ghost use Rattle.value_store.specs.Standing.{Keeps};
 ghost use Rattle.code_gen.specs.Programs.{program_in};
 ghost use Rattle.code_gen.specs.CodeTrees.{instruction_of};
-ghost use Rattle.mode_vm.specs.Meanings.{CauseOf, RunOf, StateOf, mode_of, program_of};
+ghost use Rattle.mode_vm.specs.Meanings.{RunOf, StateOf, mode_of, program_of};
 
 use crate::mode::{Mode, Stop};
 use crate::state::{State, Step};
@@ -72,10 +72,10 @@ impl<M: Mode> Machine<M> {
         ensures stands { (z : Ty) (cs : ValueStack) → Represents M.marking (program_of code.now) z (N.nodes store.old) self.old.state cs
             → IsNext (instruction_of (types_of (program_in code.now)) (Instruction.Auth ty)) cs.top
             → StepStands M.marking (program_of code.now) z (N.nodes store.new) self.new.state result }
-        ensures is { (z : Ty) (w : StateOf M.marking) (run : RunOf M.marking) → M.Follows (program_in code.now) self.old.mode world.now (N.nodes store.old) w
+        ensures is { (z : Ty) (w : StateOf M.marking) (run : RunOf M.marking) → M.Follows (program_in code.now).types self.old.mode world.now (N.nodes store.old) w
             → (will : WillRun M.marking (program_of code.now) z (N.nodes store.old) self.old.state w run)
             → IsNext (instruction_of (types_of (program_in code.now)) (Instruction.Auth ty)) will.stack.top
-            → StepIs M.marking (program_of code.now) z M.cause (M.Follows (program_in code.now) self.new.mode world.now (N.nodes store.new)) (N.nodes store.new) self.new.state result run }
+            → StepIs M.marking (program_of code.now) z M.cause (M.Follows (program_in code.now).types self.new.mode world.now (N.nodes store.new)) (N.nodes store.new) self.new.state result run }
         ensures fewer { OnGoes result (steps_left (program_of code.now) self.new.state < steps_left (program_of code.now) self.old.state) }
         ensures keeps { Keeps (N.nodes store.old) (N.nodes store.new) }
         ensures lent { N.lent store.new ≡ N.lent store.old }
@@ -85,7 +85,7 @@ impl<M: Mode> Machine<M> {
         ensures mode { self.new.mode ≡ self.old.mode }
     {
         let v = self.state.pop_top();
-        match self.mode.auth(code.program(), store, ty, v) {
+        match self.mode.auth(code.types(), store, ty, v) {
             Ok(made) => match self.state.push_top(made) {
                 Ok(()) => Ok(Step::Paused),
                 Err(_) => Err(Stop::NoMemory),
@@ -110,10 +110,10 @@ impl<M: Mode> Machine<M> {
         ensures stands { (z : Ty) (cs : ValueStack) → Represents M.marking (program_of code.now) z (N.nodes store.old) self.old.state cs
             → IsNext (instruction_of (types_of (program_in code.now)) (Instruction.Unauth ty)) cs.top
             → StepStands M.marking (program_of code.now) z (N.nodes store.new) self.new.state result }
-        ensures is { (z : Ty) (w : StateOf M.marking) (run : RunOf M.marking) → M.Follows (program_in code.now) self.old.mode world.old (N.nodes store.old) w
+        ensures is { (z : Ty) (w : StateOf M.marking) (run : RunOf M.marking) → M.Follows (program_in code.now).types self.old.mode world.old (N.nodes store.old) w
             → (will : WillRun M.marking (program_of code.now) z (N.nodes store.old) self.old.state w run)
             → IsNext (instruction_of (types_of (program_in code.now)) (Instruction.Unauth ty)) will.stack.top
-            → StepIs M.marking (program_of code.now) z M.cause (M.Follows (program_in code.now) self.new.mode world.new (N.nodes store.new)) (N.nodes store.new) self.new.state result run }
+            → StepIs M.marking (program_of code.now) z M.cause (M.Follows (program_in code.now).types self.new.mode world.new (N.nodes store.new)) (N.nodes store.new) self.new.state result run }
         ensures fewer { OnGoes result (steps_left (program_of code.now) self.new.state < steps_left (program_of code.now) self.old.state) }
         ensures keeps { Keeps (N.nodes store.old) (N.nodes store.new) }
         ensures lent { N.lent store.new ≡ N.lent store.old }
@@ -121,10 +121,10 @@ impl<M: Mode> Machine<M> {
         ensures fuel { OnOk result (self.new.state.fuel ≡ self.old.state.fuel) }
         ensures faults { Counts M.cause M.Rose (M.faults world.old) (M.faults world.new) result }
         ensures rest { M.rest world.new ≡ M.rest world.old }
-        ensures moves { OnOk result (M.Moves (program_of code.now) self.old.mode world.old self.new.mode world.new) }
+        ensures moves { OnOk result (M.Moves self.old.mode world.old self.new.mode world.new) }
     {
         let v = self.state.pop_top();
-        match self.mode.unauth(world, code.program(), store, ty, v) {
+        match self.mode.unauth(world, code.types(), store, ty, v) {
             Ok(opened) => match self.state.push_top(opened) {
                 Ok(()) => Ok(Step::Paused),
                 Err(_) => Err(Stop::NoMemory),
@@ -144,9 +144,9 @@ impl<M: Mode> Machine<M> {
         requires few { M.opened self.old.mode < 2 ^ 63 }
         ensures stands { (z : Ty) → Ready M.marking (program_of code.now) z (N.nodes store.old) self.old.state
             → StepStands M.marking (program_of code.now) z (N.nodes store.new) self.new.state result }
-        ensures is { (z : Ty) (w : StateOf M.marking) (run : RunOf M.marking) → M.Follows (program_in code.now) self.old.mode world.old (N.nodes store.old) w
+        ensures is { (z : Ty) (w : StateOf M.marking) (run : RunOf M.marking) → M.Follows (program_in code.now).types self.old.mode world.old (N.nodes store.old) w
             → WillRun M.marking (program_of code.now) z (N.nodes store.old) self.old.state w run
-            → StepIs M.marking (program_of code.now) z M.cause (M.Follows (program_in code.now) self.new.mode world.new (N.nodes store.new)) (N.nodes store.new) self.new.state result run }
+            → StepIs M.marking (program_of code.now) z M.cause (M.Follows (program_in code.now).types self.new.mode world.new (N.nodes store.new)) (N.nodes store.new) self.new.state result run }
         ensures fewer { OnGoes result (steps_left (program_of code.now) self.new.state < steps_left (program_of code.now) self.old.state) }
         ensures keeps { Keeps (N.nodes store.old) (N.nodes store.new) }
         ensures lent { N.lent store.new ≡ N.lent store.old }
@@ -154,7 +154,7 @@ impl<M: Mode> Machine<M> {
         ensures fuel { OnOk result (self.new.state.fuel ≡ fuel_after self.old.state.entered self.old.state.fuel) }
         ensures faults { Counts M.cause M.Rose (M.faults world.old) (M.faults world.new) result }
         ensures rest { M.rest world.new ≡ M.rest world.old }
-        ensures moves { OnOk result (M.Moves (program_of code.now) self.old.mode world.old self.new.mode world.new) }
+        ensures moves { OnOk result (M.Moves self.old.mode world.old self.new.mode world.new) }
     {
         if !self.state.entered {
             return Ok(self.state.enter());
@@ -183,16 +183,16 @@ impl<M: Mode> Machine<M> {
         requires some { 0 < units }
         ensures stands { (z : Ty) → Ready M.marking (program_of code.now) z (N.nodes store.old) self.old.state
             → StepStands M.marking (program_of code.now) z (N.nodes store.new) self.new.state result }
-        ensures is { (z : Ty) (w : StateOf M.marking) (run : RunOf M.marking) → M.Follows (program_in code.now) self.old.mode world.old (N.nodes store.old) w
+        ensures is { (z : Ty) (w : StateOf M.marking) (run : RunOf M.marking) → M.Follows (program_in code.now).types self.old.mode world.old (N.nodes store.old) w
             → WillRun M.marking (program_of code.now) z (N.nodes store.old) self.old.state w run
-            → StepIs M.marking (program_of code.now) z M.cause (M.Follows (program_in code.now) self.new.mode world.new (N.nodes store.new)) (N.nodes store.new) self.new.state result run }
+            → StepIs M.marking (program_of code.now) z M.cause (M.Follows (program_in code.now).types self.new.mode world.new (N.nodes store.new)) (N.nodes store.new) self.new.state result run }
         ensures few { OnGoes result (OpensFew (M.opened self.new.mode) (program_of code.now) self.new.state) }
         ensures calls { Slices units self.old.state self.new.state result }
         ensures keeps { Keeps (N.nodes store.old) (N.nodes store.new) }
         ensures lent { N.lent store.new ≡ N.lent store.old }
         ensures faults { Counts M.cause M.Rose (M.faults world.old) (M.faults world.new) result }
         ensures rest { M.rest world.new ≡ M.rest world.old }
-        ensures moves { OnOk result (M.Moves (program_of code.now) self.old.mode world.old self.new.mode world.new) }
+        ensures moves { OnOk result (M.Moves self.old.mode world.old self.new.mode world.new) }
     {
         let start = self.state.fuel;
         loop {
@@ -217,14 +217,14 @@ impl<M: Mode> Machine<M> {
         requires ready { (z : Ty) × Ready M.marking (program_of code.now) z (N.nodes store.old) self.old.state }
         requires few { OpensFew (M.opened self.old.mode) (program_of code.now) self.old.state }
         ensures stands { (z : Ty) → Ready M.marking (program_of code.now) z (N.nodes store.old) self.old.state → RunStands M.marking (program_of code.now) z (N.nodes store.new) result }
-        ensures is { (z : Ty) (w : StateOf M.marking) (run : RunOf M.marking) → M.Follows (program_in code.now) self.old.mode world.old (N.nodes store.old) w
+        ensures is { (z : Ty) (w : StateOf M.marking) (run : RunOf M.marking) → M.Follows (program_in code.now).types self.old.mode world.old (N.nodes store.old) w
             → WillRun M.marking (program_of code.now) z (N.nodes store.old) self.old.state w run
-            → RunIs M.marking (program_of code.now) z M.cause (M.Follows (program_in code.now) self.new.mode world.new (N.nodes store.new)) (N.nodes store.new) self.new.state result run }
+            → RunIs M.marking (program_of code.now) z M.cause (M.Follows (program_in code.now).types self.new.mode world.new (N.nodes store.new)) (N.nodes store.new) self.new.state result run }
         ensures keeps { Keeps (N.nodes store.old) (N.nodes store.new) }
         ensures lent { N.lent store.new ≡ N.lent store.old }
         ensures faults { Counts M.cause M.Rose (M.faults world.old) (M.faults world.new) result }
         ensures rest { M.rest world.new ≡ M.rest world.old }
-        ensures moves { OnOk result (M.Moves (program_of code.now) self.old.mode world.old self.new.mode world.new) }
+        ensures moves { OnOk result (M.Moves self.old.mode world.old self.new.mode world.new) }
     {
         match self.run_slice(code, store, world, u64::MAX) {
             Ok(Step::Ended(outcome)) => Ok(outcome),

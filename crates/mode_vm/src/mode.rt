@@ -1,17 +1,16 @@
 // Modes: what `auth` and `unauth` do.
 ghost use Rattle.std.specs.Prelude.{◌≡◌, ℕ, suc, ◌<◌, ◌≤◌, ◌^◌, List, Option, IfOk, OnOk};
-ghost use Rattle.core_terms.specs.LanguagePrograms.{meaning, types_of};
+ghost use Rattle.core_terms.specs.ProgramTypes.{types_by_number, types_meaning};
 ghost use Rattle.core_terms.specs.Types.{AuthTy};
 ghost use Rattle.core_terms.specs.TypeTables.{type_at};
 ghost use Rattle.core_terms.specs.Values.{Value};
-ghost use Rattle.core_terms.specs.Terms.{Program as Meant};
-ghost use Rattle.core_terms.specs.declared.language.program.Program.{Program as Coded};
+ghost use Rattle.core_terms.specs.declared.language.program_types.Types.{Types as Typed};
 ghost use Rattle.value_store.specs.Nodes.{Node};
 ghost use Rattle.value_store.specs.Markings.{Marking};
 ghost use Rattle.value_store.specs.Standing.{Keeps};
 
 use core_terms::TyId;
-use core_terms::language::Program;
+use core_terms::language::Types;
 use value_store::{Nodes, Ref};
 
 /// What ends a run before its outcome.
@@ -38,7 +37,7 @@ pub trait Mode: Drop {
     ghost marking: { Marking };
 
     /// Where the mode and its world, over nodes, stand in the definitions' state.
-    ghost Follows: { Coded → Self → Self.World → List Node → StateOf marking → Type 0 };
+    ghost Follows: { Typed → Self → Self.World → List Node → StateOf marking → Type 0 };
 
     /// The cause that a fault tells; none where the outside failed.
     ghost cause: { Self.Fault → Option (CauseOf marking) };
@@ -56,7 +55,7 @@ pub trait Mode: Drop {
     ghost rest: { Self.World → Rest };
 
     /// How a mode and its world may go on.
-    ghost Moves: { Meant → Self → Self.World → Self → Self.World → Type 0 };
+    ghost Moves: { Self → Self.World → Self → Self.World → Type 0 };
 
     /// How many values were opened.
     ghost opened: { Self → ℕ };
@@ -64,15 +63,15 @@ pub trait Mode: Drop {
     /// Makes the authenticated value of a value.
     fn auth<N: Nodes>(
         &mut self,
-        program: &Program,
+        types: &Types,
         store: &mut N,
         ty: TyId,
         v: Ref,
     ) -> Result<Ref, Stop<Self::Fault>>
-        requires stands { (x : Value) × Stands marking (meaning program.now) (N.nodes store.old) v.0 (type_at (types_of program.now) ty) x }
-        ensures stands { IfOk result (λ r. (x : Value) → Stands marking (meaning program.now) (N.nodes store.old) v.0 (type_at (types_of program.now) ty) x
-            → Stands marking (meaning program.now) (N.nodes store.new) r.0 (AuthTy (type_at (types_of program.now) ty))
-            ((mode_of marking (meaning program.now)).auth (type_at (types_of program.now) ty) x)) }
+        requires stands { (x : Value) × Stands marking (types_meaning types.now) (N.nodes store.old) v.0 (type_at (types_by_number types.now) ty) x }
+        ensures stands { IfOk result (λ r. (x : Value) → Stands marking (types_meaning types.now) (N.nodes store.old) v.0 (type_at (types_by_number types.now) ty) x
+            → Stands marking (types_meaning types.now) (N.nodes store.new) r.0 (AuthTy (type_at (types_by_number types.now) ty))
+            ((mode_of marking (types_meaning types.now)).auth (type_at (types_by_number types.now) ty) x)) }
         ensures keeps { Keeps (N.nodes store.old) (N.nodes store.new) }
         ensures lent { N.lent store.new ≡ N.lent store.old }
         ensures mode { self.new ≡ self.old }
@@ -82,30 +81,30 @@ pub trait Mode: Drop {
     fn unauth<N: Nodes>(
         &mut self,
         world: &mut Self::World,
-        program: &Program,
+        types: &Types,
         store: &mut N,
         ty: TyId,
         v: Ref,
     ) -> Result<Ref, Stop<Self::Fault>>
-        requires stands { (x : Value) × Stands marking (meaning program.now) (N.nodes store.old) v.0 (AuthTy (type_at (types_of program.now) ty)) x }
+        requires stands { (x : Value) × Stands marking (types_meaning types.now) (N.nodes store.old) v.0 (AuthTy (type_at (types_by_number types.now) ty)) x }
         requires few { opened self.old < 2 ^ 63 }
-        ensures some { OpensSome marking (meaning program.now) (N.nodes store.new) (type_at (types_of program.now) ty) result }
-        ensures opens { (x : Value) (w : StateOf marking) → Stands marking (meaning program.now) (N.nodes store.old) v.0 (AuthTy (type_at (types_of program.now) ty)) x
-            → Follows program.now self.old world.old (N.nodes store.old) w
-            → OpensAs marking (meaning program.now) cause (Follows program.now self.new world.new (N.nodes store.new)) (N.nodes store.new) (type_at (types_of program.now) ty) x w result }
+        ensures some { OpensSome marking (types_meaning types.now) (N.nodes store.new) (type_at (types_by_number types.now) ty) result }
+        ensures opens { (x : Value) (w : StateOf marking) → Stands marking (types_meaning types.now) (N.nodes store.old) v.0 (AuthTy (type_at (types_by_number types.now) ty)) x
+            → Follows types.now self.old world.old (N.nodes store.old) w
+            → OpensAs marking (types_meaning types.now) cause (Follows types.now self.new world.new (N.nodes store.new)) (N.nodes store.new) (type_at (types_by_number types.now) ty) x w result }
         ensures keeps { Keeps (N.nodes store.old) (N.nodes store.new) }
         ensures lent { N.lent store.new ≡ N.lent store.old }
         ensures faults { Counts cause Rose (faults world.old) (faults world.new) result }
         ensures rest { rest world.new ≡ rest world.old }
-        ensures moves { OnOk result (Moves (meaning program.now) self.old world.old self.new world.new) }
+        ensures moves { OnOk result (Moves self.old world.old self.new world.new) }
         ensures opened { opened self.new ≤ suc (opened self.old) };
 
     /// A mode may stay as it is.
-    ghost moves_not: { (P : Meant) (mode : Self) (world : Self.World) → Moves P mode world mode world };
+    ghost moves_not: { (mode : Self) (world : Self.World) → Moves mode world mode world };
 
     /// It may go on in steps.
-    ghost moves_on: { (P : Meant) (a b c : Self) (v w x : Self.World) → Moves P a v b w → Moves P b w c x → Moves P a v c x };
+    ghost moves_on: { (a b c : Self) (v w x : Self.World) → Moves a v b w → Moves b w c x → Moves a v c x };
 
     /// Putting nodes changes nothing.
-    ghost follows_on: { (p : Coded) (mode : Self) (world : Self.World) (old new : List Node) (w : StateOf marking) → Keeps old new → Follows p mode world old w → Follows p mode world new w };
+    ghost follows_on: { (t : Typed) (mode : Self) (world : Self.World) (old new : List Node) (w : StateOf marking) → Keeps old new → Follows t mode world old w → Follows t mode world new w };
 }

@@ -1,7 +1,7 @@
 // Reading the values that bytes spell into a store.
 ghost use Rattle.std.specs.Prelude.{◌≡◌, ◌+◌, ◌≤◌, ◌<◌, suc, length, IfOk};
 ghost use Rattle.core_terms.specs.Formats.{depth_limit};
-ghost use Rattle.core_terms.specs.LanguagePrograms.{types_of};
+ghost use Rattle.core_terms.specs.ProgramTypes.{types_by_number};
 ghost use Rattle.core_terms.specs.Reading as meant;
 ghost use Rattle.core_terms.specs.Types.{NamedTy, PairTy};
 ghost use Rattle.shallow_codec.specs.KnownNothings.{AreKnown};
@@ -17,7 +17,7 @@ use crate::fields::field_types;
 use crate::leaves::{known_nothing, put_bool, put_digest, put_int, put_text, put_unit};
 use crate::nothings::Nothings;
 use core_terms::TyId;
-use core_terms::language::{NamedId, Program, Tag, TyForm};
+use core_terms::language::{NamedId, Tag, TyForm, Types};
 use std::alloc::Global;
 use value_store::{Nodes, Ref};
 
@@ -39,7 +39,7 @@ pub(crate) struct Fronts<'a> {
 /// an error nodes may stand behind the others.
 #[derive(Clone, Copy)]
 pub(crate) struct Reader<'p> {
-    pub program: &'p Program,
+    pub types: &'p Types,
     pub alloc: Global,
 }
 
@@ -56,17 +56,17 @@ impl Reader<'_> {
     ) -> Result<Front<'a>, UnspellFault>
         requires short { at.offset + length at.rest.now ≤ size_limit }
         requires levels { levels ≤ depth_limit }
-        requires known { AreKnown (table self.now.program.now) (types_of self.now.program.now) (N.nodes store.old) nothings.old }
-        ensures read { IsRead (table self.now.program.now) (N.nodes store.new) levels (ty_of self.now.program.now ty) at.entry
-            (meant.read_value (table self.now.program.now) levels (ty_of self.now.program.now ty) at.entry.rest.now at.entry.offset) result }
-        ensures known { IfOk result (λ _. AreKnown (table self.now.program.now) (types_of self.now.program.now) (N.nodes store.new) nothings.new) }
+        requires known { AreKnown (table self.now.types.now) (types_by_number self.now.types.now) (N.nodes store.old) nothings.old }
+        ensures read { IsRead (table self.now.types.now) (N.nodes store.new) levels (ty_of self.now.types.now ty) at.entry
+            (meant.read_value (table self.now.types.now) levels (ty_of self.now.types.now ty) at.entry.rest.now at.entry.offset) result }
+        ensures known { IfOk result (λ _. AreKnown (table self.now.types.now) (types_by_number self.now.types.now) (N.nodes store.new) nothings.new) }
         ensures grows { Grows (N.nodes store.old) (N.nodes store.new) }
         ensures lent { N.lent store.new ≡ N.lent store.old }
     {
         if levels == 0 {
             return Err(at.bad());
         }
-        match self.program.form(ty) {
+        match self.types.form(ty) {
             TyForm::UnitForm => put_unit(store, at),
             TyForm::BoolForm => put_bool(store, at),
             TyForm::IntForm => put_int(store, at),
@@ -93,11 +93,11 @@ impl Reader<'_> {
     ) -> Result<Front<'a>, UnspellFault>
         requires short { at.offset + length at.rest.now ≤ size_limit }
         requires levels { levels < depth_limit }
-        requires ty { ty_of self.now.program.now ty ≡ PairTy (ty_of self.now.program.now parts.0) (ty_of self.now.program.now parts.1) }
-        requires known { AreKnown (table self.now.program.now) (types_of self.now.program.now) (N.nodes store.old) nothings.old }
-        ensures read { IsRead (table self.now.program.now) (N.nodes store.new) (suc levels) (ty_of self.now.program.now ty) at.entry
-            (meant.read_value (table self.now.program.now) (suc levels) (ty_of self.now.program.now ty) at.entry.rest.now at.entry.offset) result }
-        ensures known { IfOk result (λ _. AreKnown (table self.now.program.now) (types_of self.now.program.now) (N.nodes store.new) nothings.new) }
+        requires ty { ty_of self.now.types.now ty ≡ PairTy (ty_of self.now.types.now parts.0) (ty_of self.now.types.now parts.1) }
+        requires known { AreKnown (table self.now.types.now) (types_by_number self.now.types.now) (N.nodes store.old) nothings.old }
+        ensures read { IsRead (table self.now.types.now) (N.nodes store.new) (suc levels) (ty_of self.now.types.now ty) at.entry
+            (meant.read_value (table self.now.types.now) (suc levels) (ty_of self.now.types.now ty) at.entry.rest.now at.entry.offset) result }
+        ensures known { IfOk result (λ _. AreKnown (table self.now.types.now) (types_by_number self.now.types.now) (N.nodes store.new) nothings.new) }
         ensures grows { Grows (N.nodes store.old) (N.nodes store.new) }
         ensures lent { N.lent store.new ≡ N.lent store.old }
     {
@@ -121,10 +121,10 @@ impl Reader<'_> {
     ) -> Result<Front<'a>, UnspellFault>
         requires short { at.offset + length at.rest.now ≤ size_limit }
         requires levels { levels < depth_limit }
-        requires known { AreKnown (table self.now.program.now) (types_of self.now.program.now) (N.nodes store.old) nothings.old }
-        ensures read { IsRead (table self.now.program.now) (N.nodes store.new) (suc levels) (PairTy (ty_of self.now.program.now parts.0) (ty_of self.now.program.now parts.1)) at.entry
-            (meant.read_value (table self.now.program.now) (suc levels) (PairTy (ty_of self.now.program.now parts.0) (ty_of self.now.program.now parts.1)) at.entry.rest.now at.entry.offset) result }
-        ensures known { IfOk result (λ _. AreKnown (table self.now.program.now) (types_of self.now.program.now) (N.nodes store.new) nothings.new) }
+        requires known { AreKnown (table self.now.types.now) (types_by_number self.now.types.now) (N.nodes store.old) nothings.old }
+        ensures read { IsRead (table self.now.types.now) (N.nodes store.new) (suc levels) (PairTy (ty_of self.now.types.now parts.0) (ty_of self.now.types.now parts.1)) at.entry
+            (meant.read_value (table self.now.types.now) (suc levels) (PairTy (ty_of self.now.types.now parts.0) (ty_of self.now.types.now parts.1)) at.entry.rest.now at.entry.offset) result }
+        ensures known { IfOk result (λ _. AreKnown (table self.now.types.now) (types_by_number self.now.types.now) (N.nodes store.new) nothings.new) }
         ensures grows { Grows (N.nodes store.old) (N.nodes store.new) }
         ensures lent { N.lent store.new ≡ N.lent store.old }
     {
@@ -145,17 +145,17 @@ impl Reader<'_> {
     ) -> Result<Front<'a>, UnspellFault>
         requires short { at.offset + length at.rest.now ≤ size_limit }
         requires levels { levels < depth_limit }
-        requires known { AreKnown (table self.now.program.now) (types_of self.now.program.now) (N.nodes store.old) nothings.old }
-        ensures read { IsRead (table self.now.program.now) (N.nodes store.new) (suc levels) (NamedTy named.0) at.entry
-            (meant.read_value (table self.now.program.now) (suc levels) (NamedTy named.0) at.entry.rest.now at.entry.offset) result }
-        ensures known { IfOk result (λ _. AreKnown (table self.now.program.now) (types_of self.now.program.now) (N.nodes store.new) nothings.new) }
+        requires known { AreKnown (table self.now.types.now) (types_by_number self.now.types.now) (N.nodes store.old) nothings.old }
+        ensures read { IsRead (table self.now.types.now) (N.nodes store.new) (suc levels) (NamedTy named.0) at.entry
+            (meant.read_value (table self.now.types.now) (suc levels) (NamedTy named.0) at.entry.rest.now at.entry.offset) result }
+        ensures known { IfOk result (λ _. AreKnown (table self.now.types.now) (types_by_number self.now.types.now) (N.nodes store.new) nothings.new) }
         ensures grows { Grows (N.nodes store.old) (N.nodes store.new) }
         ensures lent { N.lent store.new ≡ N.lent store.old }
     {
         let Some((tag, behind)) = at.read_tag() else {
             return Err(at.bad());
         };
-        let Some(types) = field_types(self.program, named, tag) else {
+        let Some(types) = field_types(self.types, named, tag) else {
             return Err(at.bad());
         };
         let fields = self.fields(store, nothings, types, levels, behind)?;
@@ -174,10 +174,10 @@ impl Reader<'_> {
     ) -> Result<Fronts<'a>, UnspellFault>
         requires short { at.offset + length at.rest.now ≤ size_limit }
         requires levels { levels < depth_limit }
-        requires known { AreKnown (table self.now.program.now) (types_of self.now.program.now) (N.nodes store.old) nothings.old }
-        ensures read { AreRead (table self.now.program.now) (N.nodes store.new) levels (tys_of self.now.program.now types.now) at.entry
-            (meant.read_each (meant.read_value (table self.now.program.now) levels) (tys_of self.now.program.now types.now) at.entry.rest.now at.entry.offset) result }
-        ensures known { IfOk result (λ _. AreKnown (table self.now.program.now) (types_of self.now.program.now) (N.nodes store.new) nothings.new) }
+        requires known { AreKnown (table self.now.types.now) (types_by_number self.now.types.now) (N.nodes store.old) nothings.old }
+        ensures read { AreRead (table self.now.types.now) (N.nodes store.new) levels (tys_of self.now.types.now types.now) at.entry
+            (meant.read_each (meant.read_value (table self.now.types.now) levels) (tys_of self.now.types.now types.now) at.entry.rest.now at.entry.offset) result }
+        ensures known { IfOk result (λ _. AreKnown (table self.now.types.now) (types_by_number self.now.types.now) (N.nodes store.new) nothings.new) }
         ensures grows { Grows (N.nodes store.old) (N.nodes store.new) }
         ensures lent { N.lent store.new ≡ N.lent store.old }
     {

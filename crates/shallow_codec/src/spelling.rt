@@ -2,7 +2,7 @@
 ghost use Rattle.std.specs.Prelude.{◌≡◌, ◌<◌, ◌^◌, ◌++◌, length, IfOk};
 ghost use Rattle.std.specs.Int.{w32, to_be_bytes};
 ghost use Rattle.core_terms.specs.Formats.{Hash, IsHash};
-ghost use Rattle.core_terms.specs.LanguagePrograms.{meaning};
+ghost use Rattle.core_terms.specs.ProgramTypes.{types_meaning};
 ghost use Rattle.core_terms.specs.Projection.{digest_at, projection};
 ghost use Rattle.core_terms.specs.Spelling.{spelling};
 ghost use Rattle.core_terms.specs.Values.{Value};
@@ -10,7 +10,7 @@ ghost use Rattle.shallow_codec.specs.ProgramTypes.{table, ty_of};
 ghost use Rattle.shallow_codec.specs.Spelled.{IsShown, IsSpelledBehind};
 ghost use Rattle.value_store.specs.Standing.{ProverNodes, StandsFor, VerifierNodes};
 
-use core_terms::language::Program;
+use core_terms::language::Types;
 use core_terms::{Spelling, TyId};
 use std::alloc::{AllocError, Global};
 use value_store::{Held, Nodes, Ref, View};
@@ -20,18 +20,18 @@ use value_store::{Held, Nodes, Ref, View};
 /// proportion to the parts whose spelling has a byte.
 pub fn spell<N: Nodes>(
     alloc: Global,
-    program: &Program,
+    types: &Types,
     store: &N,
     r: Ref,
     ty: TyId,
 ) -> Result<Spelling, AllocError>
-    requires { (v : Value) × StandsFor VerifierNodes (table program.now) (N.nodes store.now) r.0 (ty_of program.now ty) v }
+    requires { (v : Value) × StandsFor VerifierNodes (table types.now) (N.nodes store.now) r.0 (ty_of types.now ty) v }
     ensures spelling { IfOk result
-        (λ bytes. (v : Value) → StandsFor VerifierNodes (table program.now) (N.nodes store.now) r.0 (ty_of program.now ty) v → bytes ≡ spelling v) }
+        (λ bytes. (v : Value) → StandsFor VerifierNodes (table types.now) (N.nodes store.now) r.0 (ty_of types.now ty) v → bytes ≡ spelling v) }
     ensures projected { IfOk result
         (λ bytes. (hash : Hash) (v : Value) → IsHash hash
-        → StandsFor (ProverNodes (digest_at hash (meaning program.now))) (table program.now) (N.nodes store.now) r.0 (ty_of program.now ty) v
-        → bytes ≡ spelling (projection hash (meaning program.now) (ty_of program.now ty) v)) }
+        → StandsFor (ProverNodes (digest_at hash (types_meaning types.now))) (table types.now) (N.nodes store.now) r.0 (ty_of types.now ty) v
+        → bytes ≡ spelling (projection hash (types_meaning types.now) (ty_of types.now ty) v)) }
 {
     let mut bytes = Vec::with_capacity(alloc, store.shallow_size(r) as usize)?;
     write(store, r, &mut bytes)?;

@@ -1,6 +1,6 @@
 // Reading a spelling into a store.
 ghost use Rattle.std.specs.Prelude.{◌≡◌, IfOk, OnErr};
-ghost use Rattle.core_terms.specs.LanguagePrograms.{meaning};
+ghost use Rattle.core_terms.specs.ProgramTypes.{types_meaning};
 ghost use Rattle.core_terms.specs.Projection.{read_at};
 ghost use Rattle.shallow_codec.specs.ProgramTypes.{table, ty_of};
 ghost use Rattle.shallow_codec.specs.Unspelled.{IsUnspelled, StandsForSpelled};
@@ -11,7 +11,7 @@ use crate::cursor::Cursor;
 use crate::nothings::Nothings;
 use crate::reader::Reader;
 use core_terms::TyId;
-use core_terms::language::Program;
+use core_terms::language::Types;
 use std::alloc::Global;
 use value_store::{Nodes, Ref};
 
@@ -27,20 +27,20 @@ const DEPTH_LIMIT: u32 = 512;
 /// nodes.
 pub fn unspell<N: Nodes>(
     alloc: Global,
-    program: &Program,
+    types: &Types,
     store: &mut N,
     bytes: &[u8],
     ty: TyId,
 ) -> Result<Ref, UnspellFault>
-    ensures value { IsUnspelled (table program.now) (N.nodes store.new) (ty_of program.now ty) (read_at (meaning program.now) (ty_of program.now ty) bytes.now) result }
-    ensures spelled { IfOk result (StandsForSpelled (table program.now) (N.nodes store.new) (ty_of program.now ty) bytes.now) }
+    ensures value { IsUnspelled (table types.now) (N.nodes store.new) (ty_of types.now ty) (read_at (types_meaning types.now) (ty_of types.now ty) bytes.now) result }
+    ensures spelled { IfOk result (StandsForSpelled (table types.now) (N.nodes store.new) (ty_of types.now ty) bytes.now) }
     ensures grows { Grows (N.nodes store.old) (N.nodes store.new) }
     ensures lent { N.lent store.new ≡ N.lent store.old }
     ensures keeps { Keeps (N.nodes store.old) (N.nodes store.new) }
     ensures refused { OnErr result (N.nodes store.new ≡ N.nodes store.old) }
 {
     let mark = store.mark();
-    let result = read_whole(alloc, program, store, bytes, ty);
+    let result = read_whole(alloc, types, store, bytes, ty);
     if result.is_err() {
         store.cut_to(mark);
     }
@@ -50,20 +50,20 @@ pub fn unspell<N: Nodes>(
 /// Puts the value that the bytes spell as a whole. After an error nodes may stand behind the others.
 fn read_whole<N: Nodes>(
     alloc: Global,
-    program: &Program,
+    types: &Types,
     store: &mut N,
     bytes: &[u8],
     ty: TyId,
 ) -> Result<Ref, UnspellFault>
-    ensures value { IsUnspelled (table program.now) (N.nodes store.new) (ty_of program.now ty) (read_at (meaning program.now) (ty_of program.now ty) bytes.now) result }
+    ensures value { IsUnspelled (table types.now) (N.nodes store.new) (ty_of types.now ty) (read_at (types_meaning types.now) (ty_of types.now ty) bytes.now) result }
     ensures grows { Grows (N.nodes store.old) (N.nodes store.new) }
     ensures lent { N.lent store.new ≡ N.lent store.old }
 {
-    let limit = program.spelling_limit();
+    let limit = types.spelling_limit();
     if bytes.len() > limit {
         return Err(UnspellFault::Bad(limit as u32));
     }
-    let reader = Reader { program, alloc };
+    let reader = Reader { types, alloc };
     let start = Cursor {
         offset: 0,
         rest: bytes,

@@ -22,11 +22,12 @@ pub fn refused_at(
     bytes: &[u8],
     ty: TyId,
 ) -> Result<Option<u32>, AllocError> {
+    let types = program.types();
     let mut store = Store::new(alloc);
     store.put_bool(true)?;
     let mark = store.mark();
-    match unspell(alloc, program, &mut store, bytes, ty) {
-        Ok(read) if spell(alloc, program, &store, read, ty)?.as_bytes() == bytes => Ok(None),
+    match unspell(alloc, types, &mut store, bytes, ty) {
+        Ok(read) if spell(alloc, types, &store, read, ty)?.as_bytes() == bytes => Ok(None),
         Err(UnspellFault::Bad(offset)) if store.mark() == mark => Ok(Some(offset)),
         _ => Err(AllocError),
     }

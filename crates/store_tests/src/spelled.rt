@@ -44,11 +44,12 @@ fn held_int(alloc: Global) -> Result<Program, AllocError>
 fn a_provers_node_by_its_digest(rt: HostRuntime) -> Result<(), Fail> {
     let alloc = rt.alloc();
     let program = held_int(alloc)?;
-    let held = program.state_type();
+    let types = program.types();
+    let held = types.state_type();
     let mut store = Store::new(alloc);
     let inner = store.put_int(5)?;
     let value = store.put_auth(Held::Both(Digest([9; 32]), inner))?;
-    let spelling = spell(alloc, &program, &store, value, held)?;
+    let spelling = spell(alloc, types, &store, value, held)?;
     assert!(rt; spelling.as_bytes() == [9; 32].as_slice());
     Ok(())
 }

@@ -3,7 +3,7 @@ ghost use Rattle.value_store.specs.Markings.{IdealMarking};
 
 use auth_syntax::parser::parse;
 use auth_types::check::check;
-use core_terms::language::Program;
+use core_terms::language::{Program, Types};
 use core_terms::{Digest, TyId};
 use std::alloc::{AllocError, Global};
 use stored_images::{ImageFault, load_image, save_image};
@@ -24,7 +24,7 @@ impl Marker for Ideal {
 
     fn mark_auth(
         &mut self,
-        _program: &Program,
+        _types: &Types,
         store: &mut Store,
         _ty: TyId,
         inner: Ref,
@@ -79,7 +79,13 @@ pub fn add_record(records: &mut Vec<u8>, kind: &[u8], parts: &[u32]) -> Result<(
 
 /// The first fault of an image; none where it loads.
 pub fn fault_of(alloc: Global, program: &Program, bytes: &[u8]) -> Option<ImageFault> {
-    match load_image(alloc, program, &mut Ideal, bytes) {
+    match load_image(
+        alloc,
+        program.types(),
+        program.text_digest(),
+        &mut Ideal,
+        bytes,
+    ) {
         Ok(_) => None,
         Err(fault) => Some(fault),
     }
@@ -87,10 +93,12 @@ pub fn fault_of(alloc: Global, program: &Program, bytes: &[u8]) -> Option<ImageF
 
 /// The image that is saved for the state that an image keeps; none where it doesn't load, or can't be saved.
 fn saved_again(alloc: Global, program: &Program, bytes: &[u8]) -> Option<Vec<u8>> {
-    let Ok(loaded) = load_image(alloc, program, &mut Ideal, bytes) else {
+    let types = program.types();
+    let digest = program.text_digest();
+    let Ok(loaded) = load_image(alloc, types, digest, &mut Ideal, bytes) else {
         return None;
     };
-    save_image(alloc, program, &loaded.store, loaded.root).ok()
+    save_image(alloc, types, digest, &loaded.store, loaded.root).ok()
 }
 
 /// Whether the state that an image keeps is saved as these bytes.

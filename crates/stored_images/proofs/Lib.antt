@@ -52,6 +52,8 @@ mod WholeLast
 mod ReadEntries
 mod LoadedAgain
 mod SavedLoads
+-- a program's images are by its types alone: for callers that have a program
+pub mod ImagesByTypes
 -- the laws saved_parts_are_once and parts_are_found
 mod SavedOnce
 mod PartsFound

@@ -1,8 +1,8 @@
 -- An image as a whole: its header, its records, its root.
 use Rattle.std.proofs.Common.{◌≡◌, ℕ, List, [], length, Result, Ok, Err, sym, ap, ◌∙◌, subst}
-use Rattle.core_terms.specs.LanguagePrograms.{meaning}
+use Rattle.core_terms.specs.ProgramTypes.{types_meaning}
 use Rattle.core_terms.specs.Values.{Value}
-use Rattle.core_terms.specs.declared.language.program.Program.{Program}
+use Rattle.core_terms.specs.declared.language.program_types.Types.{Types}
 use Rattle.images.specs.Images.{Entry, Image, Loaded, FaultyImage, Refused, Root, as_image, headed, image_of, last, load_records, rooted}
 use Rattle.images.specs.Images as meant
 use Rattle.images.specs.Loads.{IsHeaded, TellsFault}
@@ -25,38 +25,36 @@ told_on F G on RootType h = on _ h
 told_on F G on (Leftover n) h = on _ h
 told_on F G on NoMemory h = h
 
-module _ (marking : Marking) (p : Program) (digest bytes : List ℕ) where
+module _ (marking : Marking) (p : Types) (digest bytes : List ℕ) where
   abbrev go : ℕ → List ℕ → Image
-  go count records = as_image (meaning p).state (load_records (meaning p) (length bytes) count [] records)
+  go count records = as_image (types_meaning p).state (load_records (types_meaning p) (length bytes) count [] records)
 
   -- the fault of an image is what is told of it
   pub fault_told : (fault : ImageFault) (result : Result code.Loaded ImageFault) → result ≡ Err fault
-      → TellsFault (λ f. image_of (meaning p) digest bytes ≡ Refused f) fault → LoadsOver marking (meaning p) (image_of (meaning p) digest bytes) result
-  fault_told fault result is h = subst (λ r. LoadsOver marking (meaning p) (image_of (meaning p) digest bytes) r) (sym is) h
+      → TellsFault (λ f. image_of (types_meaning p) digest bytes ≡ Refused f) fault → LoadsOver marking (types_meaning p) (image_of (types_meaning p) digest bytes) result
+  fault_told fault result is h = subst (λ r. LoadsOver marking (types_meaning p) (image_of (types_meaning p) digest bytes) r) (sym is) h
 
-  module _ (told : List ℕ) (is_digest : told ≡ digest) where
-    pub header_fault : (fault : ImageFault) → IsHeaded (λ go. headed told bytes go) (Err fault) → TellsFault (λ f. image_of (meaning p) digest bytes ≡ Refused f) fault
-    header_fault fault h = subst (λ (d : List ℕ). TellsFault (λ f. image_of (meaning p) d bytes ≡ Refused f) fault) is_digest (h go)
+  pub header_fault : (fault : ImageFault) → IsHeaded (λ go. headed digest bytes go) (Err fault) → TellsFault (λ f. image_of (types_meaning p) digest bytes ≡ Refused f) fault
+  header_fault fault h = h go
 
-    pub with_header : (header : Header) → IsHeaded (λ go. headed told bytes go) (Ok header)
-        → image_of (meaning p) digest bytes ≡ go header.count header.records.now
-    with_header header h = sym (ap (λ d. image_of (meaning p) d bytes) is_digest) ∙ h go
+  pub with_header : (header : Header) → IsHeaded (λ go. headed digest bytes go) (Ok header) → image_of (types_meaning p) digest bytes ≡ go header.count header.records.now
+  with_header header h = h go
 
-  module _ (count : ℕ) (behind : List ℕ) (is : image_of (meaning p) digest bytes ≡ go count behind) where
-    pub records_fault : (fault : ImageFault) → TellsFault (λ f. load_records (meaning p) (length bytes) count [] behind ≡ FaultyImage f) fault
-        → TellsFault (λ f. image_of (meaning p) digest bytes ≡ Refused f) fault
+  module _ (count : ℕ) (behind : List ℕ) (is : image_of (types_meaning p) digest bytes ≡ go count behind) where
+    pub records_fault : (fault : ImageFault) → TellsFault (λ f. load_records (types_meaning p) (length bytes) count [] behind ≡ FaultyImage f) fault
+        → TellsFault (λ f. image_of (types_meaning p) digest bytes ≡ Refused f) fault
     records_fault fault h =
-        told_on (λ f. load_records (meaning p) (length bytes) count [] behind ≡ FaultyImage f) (λ f. image_of (meaning p) digest bytes ≡ Refused f)
-        (λ f loading. is ∙ ap (as_image (meaning p).state) loading) fault h
+        told_on (λ f. load_records (types_meaning p) (length bytes) count [] behind ≡ FaultyImage f) (λ f. image_of (types_meaning p) digest bytes ≡ Refused f)
+        (λ f loading. is ∙ ap (as_image (types_meaning p).state) loading) fault h
 
-    module _ (entries : List Entry) (rest : List ℕ) (loading : load_records (meaning p) (length bytes) count [] behind ≡ Loaded entries rest) where
-      with_records : image_of (meaning p) digest bytes ≡ rooted (meaning p).state (last entries) rest
-      with_records = is ∙ ap (as_image (meaning p).state) loading
+    module _ (entries : List Entry) (rest : List ℕ) (loading : load_records (types_meaning p) (length bytes) count [] behind ≡ Loaded entries rest) where
+      with_records : image_of (types_meaning p) digest bytes ≡ rooted (types_meaning p).state (last entries) rest
+      with_records = is ∙ ap (as_image (types_meaning p).state) loading
 
-      pub root_fault : (fault : ImageFault) → TellsFault (λ f. rooted (meaning p).state (last entries) rest ≡ Refused f) fault
-          → TellsFault (λ f. image_of (meaning p) digest bytes ≡ Refused f) fault
+      pub root_fault : (fault : ImageFault) → TellsFault (λ f. rooted (types_meaning p).state (last entries) rest ≡ Refused f) fault
+          → TellsFault (λ f. image_of (types_meaning p) digest bytes ≡ Refused f) fault
       root_fault fault h =
-          told_on (λ f. rooted (meaning p).state (last entries) rest ≡ Refused f) (λ f. image_of (meaning p) digest bytes ≡ Refused f) (λ f refused. with_records ∙ refused) fault h
+          told_on (λ f. rooted (types_meaning p).state (last entries) rest ≡ Refused f) (λ f. image_of (types_meaning p) digest bytes ≡ Refused f) (λ f refused. with_records ∙ refused) fault h
 
-      pub root_told : (v : Value) → rooted (meaning p).state (last entries) rest ≡ Root v → image_of (meaning p) digest bytes ≡ Root v
+      pub root_told : (v : Value) → rooted (types_meaning p).state (last entries) rest ≡ Root v → image_of (types_meaning p) digest bytes ≡ Root v
       root_told v root = with_records ∙ root

@@ -7,7 +7,7 @@ use Rattle.core_terms.specs.LanguageTrees.{are_below}
 use Rattle.core_terms.proofs.TypingSound.{first_of, second_of}
 use Rattle.core_terms.specs.declared.types.TyId.{TyId}
 use Rattle.core_terms.specs.declared.language.term.Constructor.{Constructor}
-use Rattle.core_terms.specs.declared.language.program.Program.{Program}
+use Rattle.core_terms.specs.declared.language.program_types.Types.{Types}
 use Rattle.stored_images.specs.PartMarks.{AddsMarks, IsAmong, IsMarked, IsOfField, IsOpened, constructors_in, type_of}
 
 -- a number that is marked is the place of a mark
@@ -110,7 +110,7 @@ fields_below_at count [] i c h at = absurd (cc)
 fields_below_at count (x ∷ xs) zero c h at = let same : x ≡ c = cc in subst (λ (c : Constructor). are_below count c.fields.items ≡ true) same (first_of _ _ h)
 fields_below_at count (x ∷ xs) (suc i) c h at = fields_below_at count xs i c (second_of (are_below count x.fields.items) _ h) at
 
-module _ (p : Program) (opened : List Bool) (n : ℕ) (old now new : List Bool) where
+module _ (p : Types) (opened : List Bool) (n : ℕ) (old now new : List Bool) where
   -- a type that isn't marked adds nothing
   pub open_skip : slice_index_or opened n false ≡ false → AddsMarks (IsOpened p opened n) old now → AddsMarks (IsOpened p opened (n + 1)) old now
   open_skip not_marked before = same_marked (IsOpened p opened n) (IsOpened p opened (n + 1)) old now before to (λ i a. (a.0, omega (arith, a.1), a.2, a.3))

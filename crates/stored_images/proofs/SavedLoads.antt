@@ -6,8 +6,8 @@ use Rattle.std.proofs.lemmas.List.Elements.{All-head, All-nil, All-tail}
 use Rattle.core_terms.specs.Types.{Ty, UnitTy, BoolTy, IntTy, TextTy, PairTy, NamedTy, AuthTy, Table, has_numbers}
 use Rattle.core_terms.specs.Values.{Value, UnitV, BoolV, IntV, TextV, PairV, ConV, IsIdeal}
 use Rattle.core_terms.specs.Terms.{Program}
-use Rattle.core_terms.specs.LanguagePrograms.{meaning}
-use Rattle.core_terms.specs.declared.language.program.Program as code
+use Rattle.core_terms.specs.ProgramTypes.{types_meaning}
+use Rattle.core_terms.specs.declared.language.program_types.Types as code
 use Rattle.core_terms.proofs.TypingComplete.{same_self}
 use Rattle.value_store.specs.Stores.{nodes_in}
 use Rattle.value_store.specs.declared.node.Ref.{Ref}
@@ -77,10 +77,10 @@ module _ (P : Program) (digest : List ℕ) (v : Value) where
       ∙ root_again P.state entries (distinct [] (walks P.types (parts P.types P.state v))) v (whole_last P.types P.state v)
 
 -- the image that is written for a state that stands in a store loads to it
-pub state_loads : (p : code.Program) (store : Store) (root : Ref) (v : Value) (image : Vec ℕ Global) → length p.text_digest.0 ≡ 32 → IsStateAt (meaning p) store root v
-    → IsSaved (saved_image (meaning p) p.text_digest.0 v) (Ok image) → image_of (meaning p) p.text_digest.0 image.items ≡ Root v
-state_loads p store root v image long stands saved =
-    let P = meaning p in
+pub state_loads : (p : code.Types) (digest : List ℕ) (store : Store) (root : Ref) (v : Value) (image : Vec ℕ Global) → length digest ≡ 32
+    → IsStateAt (types_meaning p) store root v → IsSaved (saved_image (types_meaning p) digest v) (Ok image) → image_of (types_meaning p) digest image.items ≡ Root v
+state_loads p digest store root v image long stands saved =
+    let P = types_meaning p in
     let whole = itself P.types (length P.types) P.state in
     let fit = fit_walk P (nodes_in store) store.sound refl P.state v root.0 stands whole in
-    ap (image_of P p.text_digest.0) saved.0 ∙ loads_again P p.text_digest.0 v p.types.numbers (omega arith) long fit (let short = saved.1 in omega (arith, short))
+    ap (image_of P digest) saved.0 ∙ loads_again P digest v p.numbers (omega arith) long fit (let short = saved.1 in omega (arith, short))

@@ -19,7 +19,7 @@ use Rattle.stored_images.proofs.NumberedEntries.{entry_numbered, once_more}
 use Rattle.stored_images.proofs.RecordBytes.{record_more}
 use Rattle.stored_images.proofs.RecordReading.{one_record, record_of}
 use Rattle.stored_images.proofs.Saving.{AreNumbered, IsPlaced}
-use Rattle.stored_images.proofs.SavingLists.{at_map, at_more, at_push, length-map, map_at, map_push}
+use Rattle.stored_images.proofs.SavingLists.{at_map, at_more, length-map, map_at, map_push}
 use Rattle.stored_images.proofs.SavingWalk.{known_walk}
 
 few_of : (records : Records) (done : List Entry) (f : Entry → List ℕ) → records_in records ≡ map f done → length done ≤ 4294967296

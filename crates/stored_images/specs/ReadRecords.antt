@@ -1,10 +1,10 @@
 -- The records that the code reads, as those of the definitions.
 use Rattle.std.specs.Prelude.{◌≡◌, ◌*◌, ℕ, true, List, length, Option, Some, None, Result, Ok, Err}
 use Rattle.std.specs.Borrow.{Bor}
-use Rattle.core_terms.specs.LanguagePrograms.{meaning, types_of}
+use Rattle.core_terms.specs.ProgramTypes.{types_by_number, types_meaning}
 use Rattle.core_terms.specs.LanguageTrees.{are_below, types_at}
 use Rattle.core_terms.specs.Types.{NamedTy, fields_at}
-use Rattle.core_terms.specs.declared.language.program.Program.{Program}
+use Rattle.core_terms.specs.declared.language.program_types.Types.{Types}
 use Rattle.core_terms.specs.declared.types.TyId.{TyId}
 use Rattle.images.specs.Images.{field_count}
 use Rattle.images.specs.Parts.{is_part}
@@ -28,18 +28,18 @@ record_told (AuthRecord inner) = meant.AuthRecord inner
 
 -- These are the types of the fields of the constructor, whose type is a part of the state's, and they are in the program's table; or there is no
 -- such constructor.
-abbrev pub AreFieldsOf : Program → (number tag : ℕ) → Option (Bor (List TyId)) → Type 0
-AreFieldsOf p number tag None = (size : ℕ) → field_count (meaning p) size number tag ≡ None
-AreFieldsOf p number tag (Some fields) = (is_part (meaning p).types (NamedTy number) (meaning p).state ≡ true)
-    × (fields_at (meaning p).types number tag ≡ Some (types_at (types_of p) fields.now))
-    × (are_below (length (types_of p)) fields.now ≡ true)
+abbrev pub AreFieldsOf : Types → (number tag : ℕ) → Option (Bor (List TyId)) → Type 0
+AreFieldsOf p number tag None = (size : ℕ) → field_count (types_meaning p) size number tag ≡ None
+AreFieldsOf p number tag (Some fields) = (is_part (types_meaning p).types (NamedTy number) (types_meaning p).state ≡ true)
+    × (fields_at (types_meaning p).types number tag ≡ Some (types_at (types_by_number p) fields.now))
+    × (are_below (length (types_by_number p)) fields.now ≡ true)
 
 -- A record of a constructor is of one whose type is a part of the state's; it has the types of its fields, which are in the program's table, and
 -- 4 bytes for each.
-abbrev pub HasConstructor : Program → Record → Type 0
-HasConstructor p (OfConstructor c) = (is_part (meaning p).types (NamedTy c.named.0) (meaning p).state ≡ true)
-    × (fields_at (meaning p).types c.named.0 c.tag.0 ≡ Some (types_at (types_of p) c.fields.now))
-    × (are_below (length (types_of p)) c.fields.now ≡ true)
+abbrev pub HasConstructor : Types → Record → Type 0
+HasConstructor p (OfConstructor c) = (is_part (types_meaning p).types (NamedTy c.named.0) (types_meaning p).state ≡ true)
+    × (fields_at (types_meaning p).types c.named.0 c.tag.0 ≡ Some (types_at (types_by_number p) c.fields.now))
+    × (are_below (length (types_by_number p)) c.fields.now ≡ true)
     × (length c.numbers.now ≡ 4 * length c.fields.now)
 HasConstructor p r = Unit {0}
 

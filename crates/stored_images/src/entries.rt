@@ -1,6 +1,6 @@
 // What a record stands for, put into the store: its type is a part of the state's, and its value is within the limits.
 ghost use Rattle.std.specs.Prelude.{ℕ, List, Some};
-ghost use Rattle.core_terms.specs.LanguagePrograms.{meaning, types_of};
+ghost use Rattle.core_terms.specs.ProgramTypes.{types_by_number, types_meaning};
 ghost use Rattle.core_terms.specs.Types.{UnitTy, BoolTy, IntTy, TextTy};
 ghost use Rattle.core_terms.specs.Values.{UnitV, BoolV, IntV, TextV};
 ghost use Rattle.images.specs.Images.{Entry, checked_entry, entry};
@@ -35,8 +35,8 @@ pub(crate) fn unit(
     store: &mut Store,
     number: u32,
 ) -> Result<StoredRecord, ImageFault>
-    requires marked { IsMarksOf types.now.program.now types.now.parts.now }
-    ensures loaded { (marking : Marking) (size : ℕ) → IsLoaded marking (meaning types.now.program.now) (types_of types.now.program.now) (nodes_in store.new) (λ go. checked_entry (meaning types.now.program.now) size number (Some (entry UnitTy UnitV)) go) result }
+    requires marked { IsMarksOf types.now.types.now types.now.parts.now }
+    ensures loaded { (marking : Marking) (size : ℕ) → IsLoaded marking (types_meaning types.now.types.now) (types_by_number types.now.types.now) (nodes_in store.new) (λ go. checked_entry (types_meaning types.now.types.now) size number (Some (entry UnitTy UnitV)) go) result }
     ensures keeps { Keeps (nodes_in store.old) (nodes_in store.new) }
 {
     let Some(ty) = types.part(TyForm::UnitForm) else {
@@ -53,8 +53,8 @@ pub(crate) fn bool(
     number: u32,
     value: bool,
 ) -> Result<StoredRecord, ImageFault>
-    requires marked { IsMarksOf types.now.program.now types.now.parts.now }
-    ensures loaded { (marking : Marking) (size : ℕ) → IsLoaded marking (meaning types.now.program.now) (types_of types.now.program.now) (nodes_in store.new) (λ go. checked_entry (meaning types.now.program.now) size number (Some (entry BoolTy (BoolV value))) go) result }
+    requires marked { IsMarksOf types.now.types.now types.now.parts.now }
+    ensures loaded { (marking : Marking) (size : ℕ) → IsLoaded marking (types_meaning types.now.types.now) (types_by_number types.now.types.now) (nodes_in store.new) (λ go. checked_entry (types_meaning types.now.types.now) size number (Some (entry BoolTy (BoolV value))) go) result }
     ensures keeps { Keeps (nodes_in store.old) (nodes_in store.new) }
 {
     let Some(ty) = types.part(TyForm::BoolForm) else {
@@ -71,8 +71,8 @@ pub(crate) fn int(
     number: u32,
     value: i64,
 ) -> Result<StoredRecord, ImageFault>
-    requires marked { IsMarksOf types.now.program.now types.now.parts.now }
-    ensures loaded { (marking : Marking) (size : ℕ) → IsLoaded marking (meaning types.now.program.now) (types_of types.now.program.now) (nodes_in store.new) (λ go. checked_entry (meaning types.now.program.now) size number (Some (entry IntTy (IntV value))) go) result }
+    requires marked { IsMarksOf types.now.types.now types.now.parts.now }
+    ensures loaded { (marking : Marking) (size : ℕ) → IsLoaded marking (types_meaning types.now.types.now) (types_by_number types.now.types.now) (nodes_in store.new) (λ go. checked_entry (types_meaning types.now.types.now) size number (Some (entry IntTy (IntV value))) go) result }
     ensures keeps { Keeps (nodes_in store.old) (nodes_in store.new) }
 {
     let Some(ty) = types.part(TyForm::IntForm) else {
@@ -89,8 +89,8 @@ pub(crate) fn text(
     number: u32,
     text: &str,
 ) -> Result<StoredRecord, ImageFault>
-    requires marked { IsMarksOf types.now.program.now types.now.parts.now }
-    ensures loaded { (marking : Marking) (size : ℕ) → IsLoaded marking (meaning types.now.program.now) (types_of types.now.program.now) (nodes_in store.new) (λ go. checked_entry (meaning types.now.program.now) size number (Some (entry TextTy (TextV text.now))) go) result }
+    requires marked { IsMarksOf types.now.types.now types.now.parts.now }
+    ensures loaded { (marking : Marking) (size : ℕ) → IsLoaded marking (types_meaning types.now.types.now) (types_by_number types.now.types.now) (nodes_in store.new) (λ go. checked_entry (types_meaning types.now.types.now) size number (Some (entry TextTy (TextV text.now))) go) result }
     ensures keeps { Keeps (nodes_in store.old) (nodes_in store.new) }
 {
     let Some(ty) = types.part(TyForm::TextForm) else {
@@ -112,10 +112,10 @@ pub(crate) fn pair(
     first: u32,
     second: u32,
 ) -> Result<StoredRecord, ImageFault>
-    requires marked { IsMarksOf types.now.program.now types.now.parts.now }
-    requires stored { (marking : Marking) × (entries : List Entry) × AreStored marking (meaning types.now.program.now) (types_of types.now.program.now) (nodes_in store.old) loaded.now entries }
-    ensures loaded { (marking : Marking) (entries : List Entry) → AreStored marking (meaning types.now.program.now) (types_of types.now.program.now) (nodes_in store.old) loaded.now entries
-        → (size : ℕ) → IsLoaded marking (meaning types.now.program.now) (types_of types.now.program.now) (nodes_in store.new) (λ go. checked_entry (meaning types.now.program.now) size number (meant.stands_for (meaning types.now.program.now).types entries (defined.PairRecord first second)) go) result }
+    requires marked { IsMarksOf types.now.types.now types.now.parts.now }
+    requires stored { (marking : Marking) × (entries : List Entry) × AreStored marking (types_meaning types.now.types.now) (types_by_number types.now.types.now) (nodes_in store.old) loaded.now entries }
+    ensures loaded { (marking : Marking) (entries : List Entry) → AreStored marking (types_meaning types.now.types.now) (types_by_number types.now.types.now) (nodes_in store.old) loaded.now entries
+        → (size : ℕ) → IsLoaded marking (types_meaning types.now.types.now) (types_by_number types.now.types.now) (nodes_in store.new) (λ go. checked_entry (types_meaning types.now.types.now) size number (meant.stands_for (types_meaning types.now.types.now).types entries (defined.PairRecord first second)) go) result }
     ensures keeps { Keeps (nodes_in store.old) (nodes_in store.new) }
 {
     let Some(first) = earlier(loaded, first) else {
@@ -150,10 +150,10 @@ pub(crate) fn authenticated<M: Marker>(
     number: u32,
     inner: u32,
 ) -> Result<StoredRecord, ImageFault>
-    requires marked { IsMarksOf types.now.program.now types.now.parts.now }
-    requires stored { (entries : List Entry) × AreStored M.marking (meaning types.now.program.now) (types_of types.now.program.now) (nodes_in store.old) loaded.now entries }
-    ensures loaded { (entries : List Entry) → AreStored M.marking (meaning types.now.program.now) (types_of types.now.program.now) (nodes_in store.old) loaded.now entries
-        → (size : ℕ) → IsLoaded M.marking (meaning types.now.program.now) (types_of types.now.program.now) (nodes_in store.new) (λ go. checked_entry (meaning types.now.program.now) size number (meant.stands_for (meaning types.now.program.now).types entries (defined.AuthRecord inner)) go) result }
+    requires marked { IsMarksOf types.now.types.now types.now.parts.now }
+    requires stored { (entries : List Entry) × AreStored M.marking (types_meaning types.now.types.now) (types_by_number types.now.types.now) (nodes_in store.old) loaded.now entries }
+    ensures loaded { (entries : List Entry) → AreStored M.marking (types_meaning types.now.types.now) (types_by_number types.now.types.now) (nodes_in store.old) loaded.now entries
+        → (size : ℕ) → IsLoaded M.marking (types_meaning types.now.types.now) (types_by_number types.now.types.now) (nodes_in store.new) (λ go. checked_entry (types_meaning types.now.types.now) size number (meant.stands_for (types_meaning types.now.types.now).types entries (defined.AuthRecord inner)) go) result }
     ensures keeps { Keeps (nodes_in store.old) (nodes_in store.new) }
 {
     let Some(inner) = earlier(loaded, inner) else {
@@ -162,7 +162,7 @@ pub(crate) fn authenticated<M: Marker>(
     let Some(ty) = types.part(TyForm::AuthForm(inner.ty)) else {
         return Err(ImageFault::BadRecord(number));
     };
-    let value = marker.mark_auth(types.program, store, inner.ty, inner.value)?;
+    let value = marker.mark_auth(types.types, store, inner.ty, inner.value)?;
     Ok(StoredRecord { ty, value })
 }
 
@@ -175,11 +175,11 @@ pub(crate) fn constructor(
     number: u32,
     found: ConstructorRecord,
 ) -> Result<StoredRecord, ImageFault>
-    requires marked { IsMarksOf types.now.program.now types.now.parts.now }
-    requires stored { (marking : Marking) × (entries : List Entry) × AreStored marking (meaning types.now.program.now) (types_of types.now.program.now) (nodes_in store.old) loaded.now entries }
-    requires of_program { HasConstructor types.now.program.now (Record.Constructor found) }
-    ensures loaded { (marking : Marking) (entries : List Entry) → AreStored marking (meaning types.now.program.now) (types_of types.now.program.now) (nodes_in store.old) loaded.now entries
-        → (size : ℕ) → IsLoaded marking (meaning types.now.program.now) (types_of types.now.program.now) (nodes_in store.new) (λ go. checked_entry (meaning types.now.program.now) size number (meant.stands_for (meaning types.now.program.now).types entries (record_told (Record.Constructor found.entry))) go) result }
+    requires marked { IsMarksOf types.now.types.now types.now.parts.now }
+    requires stored { (marking : Marking) × (entries : List Entry) × AreStored marking (types_meaning types.now.types.now) (types_by_number types.now.types.now) (nodes_in store.old) loaded.now entries }
+    requires of_program { HasConstructor types.now.types.now (Record.Constructor found) }
+    ensures loaded { (marking : Marking) (entries : List Entry) → AreStored marking (types_meaning types.now.types.now) (types_by_number types.now.types.now) (nodes_in store.old) loaded.now entries
+        → (size : ℕ) → IsLoaded marking (types_meaning types.now.types.now) (types_by_number types.now.types.now) (nodes_in store.new) (λ go. checked_entry (types_meaning types.now.types.now) size number (meant.stands_for (types_meaning types.now.types.now).types entries (record_told (Record.Constructor found.entry))) go) result }
     ensures keeps { Keeps (nodes_in store.old) (nodes_in store.new) }
 {
     let Some(ty) = types.part(TyForm::NamedForm(found.named)) else {

@@ -1,6 +1,6 @@
 // Loading the records of an image into a store.
 ghost use Rattle.std.specs.Prelude.{ℕ, List, [], IfOk};
-ghost use Rattle.core_terms.specs.LanguagePrograms.{meaning, types_of};
+ghost use Rattle.core_terms.specs.ProgramTypes.{types_by_number, types_meaning};
 ghost use Rattle.images.specs.Images.{Entry, checked_entry, field_count, image_of, last, rooted};
 ghost use Rattle.images.specs.Images as meant;
 ghost use Rattle.images.specs.Records as defined;
@@ -20,7 +20,8 @@ use crate::part_types::PartTypes;
 use crate::parts::PartMarks;
 use crate::record::{Front, Record, RecordFault, read_record};
 use crate::stored::StoredRecord;
-use core_terms::language::Program;
+use core_terms::Digest;
+use core_terms::language::Types;
 use images::header::{Header, read_header};
 use std::alloc::Global;
 use value_store::{Marker, Ref, Store};
@@ -40,7 +41,8 @@ struct Records<'a> {
     rest: &'a [u8],
 }
 
-/// The state that an image of the program keeps, over nodes of the marker's kind. Each record is read once and put as one node.
+/// The state that an image keeps, of the program that has these types and whose text has this digest, over nodes of the marker's kind.
+/// Each record is read once and put as one node.
 ///
 /// # Errors
 ///
@@ -48,20 +50,21 @@ struct Records<'a> {
 /// `NoMemory` where there is no memory for the nodes.
 pub fn load_image<M: Marker>(
     alloc: Global,
-    program: &Program,
+    types: &Types,
+    text_digest: &Digest,
     marker: &mut M,
     bytes: &[u8],
 ) -> Result<Loaded, ImageFault>
-    ensures loads { LoadsOver M.marking (meaning program.now) (image_of (meaning program.now) program.now.text_digest.0 bytes.now) result }
+    ensures loads { LoadsOver M.marking (types_meaning types.now) (image_of (types_meaning types.now) text_digest.now.0 bytes.now) result }
 {
-    let header = read_header(program.text_digest(), bytes)?;
-    let parts = PartMarks::of(alloc, program)?;
-    let types = PartTypes {
-        program,
+    let header = read_header(text_digest, bytes)?;
+    let parts = PartMarks::of(alloc, types)?;
+    let part_types = PartTypes {
+        types,
         parts: &parts,
     };
-    let records = load_records(alloc, &types, marker, bytes.len(), header)?;
-    let root = root(program, &records.loaded, records.rest)?;
+    let records = load_records(alloc, &part_types, marker, bytes.len(), header)?;
+    let root = root(types, &records.loaded, records.rest)?;
     Ok(Loaded {
         store: records.store,
         root,
@@ -76,8 +79,8 @@ fn load_records<'a, M: Marker>(
     size: usize,
     header: Header<'a>,
 ) -> Result<Records<'a>, ImageFault>
-    requires marked { IsMarksOf types.now.program.now types.now.parts.now }
-    ensures { AreLoaded M.marking (meaning types.now.program.now) (types_of types.now.program.now) (meant.load_records (meaning types.now.program.now) size header.entry.count [] header.entry.records.now) result }
+    requires marked { IsMarksOf types.now.types.now types.now.parts.now }
+    ensures { AreLoaded M.marking (types_meaning types.now.types.now) (types_by_number types.now.types.now) (meant.load_records (types_meaning types.now.types.now) size header.entry.count [] header.entry.records.now) result }
 {
     let mut store = Store::new(alloc);
     let mut loaded = Vec::new(alloc);
@@ -110,11 +113,11 @@ fn next_front<'a>(
     size: usize,
     bytes: &'a [u8],
 ) -> Result<Front<'a>, ImageFault>
-    requires marked { IsMarksOf types.now.program.now types.now.parts.now }
-    ensures front { IsRecordFront (meaning types.now.program.now) size number (defined.read_record (field_count (meaning types.now.program.now) size) bytes.now) result }
-    ensures constructor { IfOk result (λ front. HasConstructor types.now.program.now front.record) }
+    requires marked { IsMarksOf types.now.types.now types.now.parts.now }
+    ensures front { IsRecordFront (types_meaning types.now.types.now) size number (defined.read_record (field_count (types_meaning types.now.types.now) size) bytes.now) result }
+    ensures constructor { IfOk result (λ front. HasConstructor types.now.types.now front.record) }
 {
-    match read_record(types.program, types.parts, bytes) {
+    match read_record(types.types, types.parts, bytes) {
         Ok(front) => Ok(front),
         Err(RecordFault::Cut) => Err(ImageFault::Cut(size)),
         Err(RecordFault::Bad) => Err(ImageFault::BadRecord(number)),
@@ -131,11 +134,11 @@ fn stored<M: Marker>(
     number: u32,
     found: Record,
 ) -> Result<StoredRecord, ImageFault>
-    requires marked { IsMarksOf types.now.program.now types.now.parts.now }
-    requires stored { (entries : List Entry) × AreStored M.marking (meaning types.now.program.now) (types_of types.now.program.now) (nodes_in store.old) loaded.now entries }
-    requires constructor { HasConstructor types.now.program.now found }
-    ensures loaded { (entries : List Entry) → AreStored M.marking (meaning types.now.program.now) (types_of types.now.program.now) (nodes_in store.old) loaded.now entries
-        → (size : ℕ) → IsLoaded M.marking (meaning types.now.program.now) (types_of types.now.program.now) (nodes_in store.new) (λ go. checked_entry (meaning types.now.program.now) size number (meant.stands_for (meaning types.now.program.now).types entries (record_told found.entry)) go) result }
+    requires marked { IsMarksOf types.now.types.now types.now.parts.now }
+    requires stored { (entries : List Entry) × AreStored M.marking (types_meaning types.now.types.now) (types_by_number types.now.types.now) (nodes_in store.old) loaded.now entries }
+    requires constructor { HasConstructor types.now.types.now found }
+    ensures loaded { (entries : List Entry) → AreStored M.marking (types_meaning types.now.types.now) (types_by_number types.now.types.now) (nodes_in store.old) loaded.now entries
+        → (size : ℕ) → IsLoaded M.marking (types_meaning types.now.types.now) (types_by_number types.now.types.now) (nodes_in store.new) (λ go. checked_entry (types_meaning types.now.types.now) size number (meant.stands_for (types_meaning types.now.types.now).types entries (record_told found.entry)) go) result }
     ensures keeps { Keeps (nodes_in store.old) (nodes_in store.new) }
 {
     match found {
@@ -150,14 +153,14 @@ fn stored<M: Marker>(
 }
 
 /// The node of the last record, which must be of the state's type; nothing stands behind it.
-fn root(program: &Program, loaded: &[StoredRecord], rest: &[u8]) -> Result<Ref, ImageFault>
-    ensures { (marking : Marking) (nodes : List Node) (entries : List Entry) → AreStored marking (meaning program.now) (types_of program.now) nodes loaded.now entries
-        → IsRoot marking (meaning program.now) nodes (rooted (meaning program.now).state (last entries) rest.now) result }
+fn root(types: &Types, loaded: &[StoredRecord], rest: &[u8]) -> Result<Ref, ImageFault>
+    ensures { (marking : Marking) (nodes : List Node) (entries : List Entry) → AreStored marking (types_meaning types.now) (types_by_number types.now) nodes loaded.now entries
+        → IsRoot marking (types_meaning types.now) nodes (rooted (types_meaning types.now).state (last entries) rest.now) result }
 {
     let Some(root) = loaded.last() else {
         return Err(ImageFault::RootType);
     };
-    if !root.is_of(program.state_type()) {
+    if !root.is_of(types.state_type()) {
         return Err(ImageFault::RootType);
     }
     if !rest.is_empty() {

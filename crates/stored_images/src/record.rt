@@ -1,7 +1,7 @@
 // The records of an image of a program of the whole language, read from their bytes.
 ghost use Rattle.std.specs.Prelude.{◌≡◌, ◌∷◌, ℕ, List, Option, IfOk};
-ghost use Rattle.core_terms.specs.LanguagePrograms.{meaning};
-ghost use Rattle.core_terms.specs.declared.language.program.Program as code;
+ghost use Rattle.core_terms.specs.ProgramTypes.{types_meaning};
+ghost use Rattle.core_terms.specs.declared.language.program_types.Types as code;
 ghost use Rattle.images.specs.Images.{field_count};
 ghost use Rattle.images.specs.ReadRecords.{HasText};
 ghost use Rattle.images.specs.ReadRecords as leaves;
@@ -11,7 +11,7 @@ ghost use Rattle.stored_images.specs.ReadRecords.{AreFieldsOf, HasConstructor, I
 
 use crate::parts::PartMarks;
 use core_terms::TyId;
-use core_terms::language::{NamedId, Program, Tag, TyForm};
+use core_terms::language::{NamedId, Tag, TyForm, Types};
 use images::record as plain;
 use std::str::from_utf8;
 
@@ -58,19 +58,19 @@ pub(crate) enum RecordFault {
 
 /// The record that the bytes begin with.
 pub(crate) fn read_record<'a>(
-    program: &'a Program,
+    types: &'a Types,
     parts: &PartMarks,
     bytes: &'a [u8],
 ) -> Result<Front<'a>, RecordFault>
-    requires parts { IsMarksOf program.now parts.now }
-    ensures read { (size : ℕ) → IsRead (meant.read_record (field_count (meaning program.now) size) bytes.now) result }
-    ensures constructor { IfOk result (λ front. HasConstructor program.now front.record) }
+    requires parts { IsMarksOf types.now parts.now }
+    ensures read { (size : ℕ) → IsRead (meant.read_record (field_count (types_meaning types.now) size) bytes.now) result }
+    ensures constructor { IfOk result (λ front. HasConstructor types.now front.record) }
 {
     let Some((kind, behind)) = bytes.split_first() else {
         return Err(RecordFault::Cut);
     };
     if *kind == 5 {
-        read_constructor(program, parts, behind)
+        read_constructor(types, parts, behind)
     } else {
         read_other(bytes)
     }
@@ -78,13 +78,13 @@ pub(crate) fn read_record<'a>(
 
 /// A constructor's value: the number of its type in 2 bytes, its tag, and 4 bytes for each of its fields.
 fn read_constructor<'a>(
-    program: &'a Program,
+    types: &'a Types,
     parts: &PartMarks,
     bytes: &'a [u8],
 ) -> Result<Front<'a>, RecordFault>
-    requires parts { IsMarksOf program.now parts.now }
-    ensures read { (size : ℕ) → IsRead (meant.con_record (field_count (meaning program.now) size) bytes.now) result }
-    ensures constructor { IfOk result (λ front. HasConstructor program.now front.record) }
+    requires parts { IsMarksOf types.now parts.now }
+    ensures read { (size : ℕ) → IsRead (meant.con_record (field_count (types_meaning types.now) size) bytes.now) result }
+    ensures constructor { IfOk result (λ front. HasConstructor types.now front.record) }
 {
     let Some((number, behind)) = bytes.split_first_chunk::<2>() else {
         return Err(RecordFault::Cut);
@@ -94,7 +94,7 @@ fn read_constructor<'a>(
     };
     let named = NamedId(u16::from_be_bytes(*number) as usize);
     let tag = Tag(*tag);
-    let Some(fields) = fields_of(program, parts, named, tag) else {
+    let Some(fields) = fields_of(types, parts, named, tag) else {
         return Err(RecordFault::Bad);
     };
     let Some((numbers, rest)) = behind.split_at_checked(4 * fields.len()) else {
@@ -113,16 +113,16 @@ fn read_constructor<'a>(
 
 /// The types of the fields of a constructor whose type is a part of the state's; none where there is no such one.
 fn fields_of<'a>(
-    program: &'a Program,
+    types: &'a Types,
     parts: &PartMarks,
     named: NamedId,
     tag: Tag,
 ) -> Option<&'a [TyId]>
-    requires parts { IsMarksOf program.now parts.now }
-    ensures fields { AreFieldsOf program.now named.0 tag.0 result }
+    requires parts { IsMarksOf types.now parts.now }
+    ensures fields { AreFieldsOf types.now named.0 tag.0 result }
 {
-    parts.part_of(program, TyForm::NamedForm(named))?;
-    let declared = program.named_types().get(named.0)?;
+    parts.part_of(types, TyForm::NamedForm(named))?;
+    let declared = types.named_types().get(named.0)?;
     let constructor = declared.constructors.get(tag.0 as usize)?;
     Some(&constructor.fields)
 }
@@ -131,7 +131,7 @@ fn fields_of<'a>(
 fn read_other(bytes: &[u8]) -> Result<Front<'_>, RecordFault>
     requires { (rest : List ℕ) → bytes.now ≡ 5 ∷ rest → ⊥ }
     ensures read { (count : ℕ → ℕ → Option ℕ) → IsRead (meant.read_record count bytes.now) result }
-    ensures constructor { (p : code.Program) → IfOk result (λ front. HasConstructor p front.record) }
+    ensures constructor { (p : code.Types) → IfOk result (λ front. HasConstructor p front.record) }
 {
     match plain::read_record(bytes) {
         Ok(front) => Ok(Front {
@@ -147,7 +147,7 @@ fn read_other(bytes: &[u8]) -> Result<Front<'_>, RecordFault>
 fn with_text(found: plain::Record<'_>) -> Record<'_>
     requires text { HasText found }
     ensures told { record_told result ≡ leaves.record_told found.entry }
-    ensures constructor { (p : code.Program) → HasConstructor p result }
+    ensures constructor { (p : code.Types) → HasConstructor p result }
 {
     match found {
         plain::Record::UnitRecord => Record::Unit,

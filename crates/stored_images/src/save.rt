@@ -3,7 +3,7 @@ mod record;
 mod records;
 
 ghost use Rattle.std.specs.Prelude.{◌≡◌, true, ◌<◌, ◌≤◌, ◌∷◌, ◌++◌, [], length, IfOk, OnOk};
-ghost use Rattle.core_terms.specs.LanguagePrograms.{meaning};
+ghost use Rattle.core_terms.specs.ProgramTypes.{types_meaning};
 ghost use Rattle.core_terms.specs.Types.{Table, Ty, has_numbers};
 ghost use Rattle.core_terms.specs.Values.{Value};
 ghost use Rattle.images.specs.Images.{image_of, Root};
@@ -16,7 +16,8 @@ ghost use Rattle.value_store.specs.Standing.{IdealNodes, StandsFor};
 ghost use Rattle.value_store.specs.Stores.{nodes_in};
 
 use crate::SaveFault;
-use core_terms::language::Program;
+use core_terms::Digest;
+use core_terms::language::Types;
 use images::header::{digest_bytes, write_header};
 use record::part;
 use records::Records;
@@ -32,15 +33,16 @@ use value_store::{Nodes, Ref, Store};
 /// `TooLong` exactly where the image has more than 67,108,864 bytes, and `NoMemory` where there is no memory for it.
 pub fn save_image(
     alloc: Global,
-    program: &Program,
+    types: &Types,
+    text_digest: &Digest,
     store: &Store,
     root: Ref,
 ) -> Result<Vec<u8>, SaveFault>
-    requires { (v : Value) × IsStateAt (meaning program.now) store.now root v }
-    ensures saved { (v : Value) → IsStateAt (meaning program.now) store.now root v → IsSaved (saved_image (meaning program.now) program.now.text_digest.0 v) result }
-    ensures loads { (v : Value) → IsStateAt (meaning program.now) store.now root v → IfOk result (λ image. image_of (meaning program.now) program.now.text_digest.0 image.items ≡ Root v) }
+    requires { (v : Value) × IsStateAt (types_meaning types.now) store.now root v }
+    ensures saved { (v : Value) → IsStateAt (types_meaning types.now) store.now root v → IsSaved (saved_image (types_meaning types.now) text_digest.now.0 v) result }
+    ensures loads { (v : Value) → IsStateAt (types_meaning types.now) store.now root v → IfOk result (λ image. image_of (types_meaning types.now) text_digest.now.0 image.items ≡ Root v) }
 {
-    let digest = digest_bytes(program.text_digest());
+    let digest = digest_bytes(text_digest);
     let records = records_of(alloc, store, root)?;
     let mut image = write_header(alloc, digest, records.count() as u32)?;
     records.write(&mut image)?;

@@ -23,16 +23,17 @@ use Rattle.stream_verifier.specs.Faults.{fault_cause}
 use Rattle.stream_verifier.specs.Spelled.{OutcomeStands}
 use Rattle.stream_verifier.specs.Takings.{FollowsFrames, HasCome, MovesOn, taking}
 
-module _ (hash : Hash) (P : Program) (z : Ty) (nodes : List Node) (limit : ℕ) (ring : Kept) (place : ℕ) (left : Option (List ℕ)) (k : ℕ) (run : RunOf (VerifierMarking hash)) where
-  is_left : (w : Taking) → FollowsFrames P limit ring place left w → IsLeft left w
+-- Q is the program by its types alone, by which the verifier is followed
+module _ (hash : Hash) (P Q : Program) (z : Ty) (nodes : List Node) (limit : ℕ) (ring : Kept) (place : ℕ) (left : Option (List ℕ)) (k : ℕ) (run : RunOf (VerifierMarking hash)) where
+  is_left : (w : Taking) → FollowsFrames Q limit ring place left w → IsLeft left w
   is_left w h = (h.bytes, h.told, ap (λ (w : Taking). w.left) h.is)
 
-  pub came_to : (o : Outcome Ref) → OutcomeIs (VerifierMarking hash) P z fault_cause (FollowsFrames P limit ring place left) nodes k o run → CameTo P nodes z left run o
+  pub came_to : (o : Outcome Ref) → OutcomeIs (VerifierMarking hash) P z fault_cause (FollowsFrames Q limit ring place left) nodes k o run → CameTo P nodes z left run o
   came_to (Done r) h = (h.0, k, h.1, is_left h.1 h.2, h.3, h.4)
   came_to (Trapped trap) h = (k, h.0, is_left h.0 h.1, h.2)
   came_to Out h = (k, h.0, is_left h.0 h.1, h.2)
 
-  pub stopped_as : (size : ℕ) (all : List (List ℕ)) (s : Stop VerifierFault) → StopIs (VerifierMarking hash) P z fault_cause (FollowsFrames P limit ring place left) nodes k s run
+  pub stopped_as : (size : ℕ) (all : List (List ℕ)) (s : Stop VerifierFault) → StopIs (VerifierMarking hash) P z fault_cause (FollowsFrames Q limit ring place left) nodes k s run
       → IsChecked P nodes z size left all run (Err s)
   stopped_as size all (Mode f) h = λ c e. (let a = h c e in (k, a.0, a.1))
   stopped_as size all NoMemory h = tt

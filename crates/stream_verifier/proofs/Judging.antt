@@ -57,29 +57,29 @@ module _ (P : Program) (nodes : List Node) (t : Ty) (left : Option (List ℕ)) (
   -- the rest of a run by its outcome
   abbrev pub Rests : (o : Outcome Ref) → Type 0
   Rests o = (outcome : ideal.Outcome) × (checked.judged run ≡ checked.with_rest outcome (length bytes))
-      × ((result : Outcome Spelling) → IsSpelledAs P nodes t o result → SpellsOutcome P t outcome result)
+      × ((result : Outcome Spelling) → IsSpelledAs P.types nodes t o result → SpellsOutcome P t outcome result)
 
   rests : (o : Outcome Ref) → CameTo P nodes t left run o → Rests o
   rests (told.Done r) (v, k, w, h, stands, is) = (ideal.Done v, ap checked.judged is ∙ ap (checked.with_rest (ideal.Done v)) (is_left w h), spells)
     where
-      spells : (result : Outcome Spelling) → IsSpelledAs P nodes t (told.Done r) result → SpellsOutcome P t (ideal.Done v) result
+      spells : (result : Outcome Spelling) → IsSpelledAs P.types nodes t (told.Done r) result → SpellsOutcome P t (ideal.Done v) result
       spells (told.Done bytes) e = (v, refl, shallow_stands P.types nodes t v r.0 stands, sym (e v stands))
       spells (told.Trapped trap) e = absurd e
       spells told.Out e = absurd e
   rests (told.Trapped trap) (k, w, h, is) = (ideal.Trapped (trap_told trap), ap checked.judged is ∙ ap (checked.with_rest (ideal.Trapped (trap_told trap))) (is_left w h), spells)
     where
-      spells : (result : Outcome Spelling) → IsSpelledAs P nodes t (told.Trapped trap) result → SpellsOutcome P t (ideal.Trapped (trap_told trap)) result
+      spells : (result : Outcome Spelling) → IsSpelledAs P.types nodes t (told.Trapped trap) result → SpellsOutcome P t (ideal.Trapped (trap_told trap)) result
       spells (told.Trapped trap') e = ap (λ trap. ideal.Trapped (trap_told trap)) e
       spells (told.Done bytes) e = absurd e
       spells told.Out e = absurd e
   rests told.Out (k, w, h, is) = (ideal.Out, ap checked.judged is ∙ ap (checked.with_rest ideal.Out) (is_left w h), spells)
     where
-      spells : (result : Outcome Spelling) → IsSpelledAs P nodes t told.Out result → SpellsOutcome P t ideal.Out result
+      spells : (result : Outcome Spelling) → IsSpelledAs P.types nodes t told.Out result → SpellsOutcome P t ideal.Out result
       spells told.Out e = refl
       spells (told.Done bytes) e = absurd e
       spells (told.Trapped trap) e = absurd e
 
-  pub answered : (o : Outcome Ref) (result : Outcome Spelling) → CameTo P nodes t left run o → bytes ≡ [] → IsSpelledAs P nodes t o result
+  pub answered : (o : Outcome Ref) (result : Outcome Spelling) → CameTo P nodes t left run o → bytes ≡ [] → IsSpelledAs P.types nodes t o result
       → Tells P t (checked.judged run) (Ok result)
   answered o result came none e =
       let r = rests o came in
@@ -117,7 +117,7 @@ module _ (hash : Hash) (P : Program) (f : ℕ) (state argument : List ℕ) (k : 
         → on_frames ≡ checked.judge hash P f (AndV s (AndV a NoV)) k bytes n recent
     on_good_call s a e e' = on_good_state s e ∙ ap (λ r. checked.on_argument hash P s r f k bytes n recent) e'.1
 
-    pub refused_on : (nodes : List Node) (v : Verdict) → ArePut P nodes f state argument (Err v) → AnswersWithRing P f on_frames (Err v)
+    pub refused_on : (nodes : List Node) (v : Verdict) → ArePut P nodes ty state argument (Err v) → AnswersWithRing P f on_frames (Err v)
     refused_on nodes (BadState offset) h = ap (λ r. checked.on_state hash P ty r argument f k bytes n recent) h
     refused_on nodes (BadArgument offset) (s, e, h) = on_good_state s e ∙ ap (λ r. checked.on_argument hash P s r f k bytes n recent) h
     refused_on nodes NoMemory h = tt
@@ -137,17 +137,17 @@ module _ (hash : Hash) (P : Program) (f : ℕ) (state argument : List ℕ) (k : 
     good_call s a e e' found is =
         good_state s e ∙ ap (λ r. with_argument hash P most s r f k bytes) e'.1 ∙ ap (λ found. checked.with_header hash P found f (AndV s (AndV a NoV)) k bytes) is
 
-    pub refused : (nodes : List Node) (v : Verdict) → ArePut P nodes f state argument (Err v) → Answers P f on_file (Err v)
+    pub refused : (nodes : List Node) (v : Verdict) → ArePut P nodes ty state argument (Err v) → Answers P f on_file (Err v)
     refused nodes (BadState offset) h = ap (λ r. with_state hash P most ty r argument f k bytes) h
     refused nodes (BadArgument offset) (s, e, h) = good_state s e ∙ ap (λ r. with_argument hash P most s r f k bytes) h
     refused nodes NoMemory h = tt
     refused nodes (Rejected cause) h = absurd h
     refused nodes ReadFault h = absurd h
 
-pub put_cause : (T : Type 0) (P : Program) (nodes : List Node) (f : ℕ) (state argument : List ℕ) (before : ℕ) (v : Verdict) → ArePut P nodes f state argument (Err v)
+pub put_cause : (T : Type 0) (P : Program) (nodes : List Node) (t : Ty) (state argument : List ℕ) (before : ℕ) (v : Verdict) → ArePut P nodes t state argument (Err v)
     → VerdictCause {T = T} before before (Err v)
-put_cause T P nodes f state argument before (BadState offset) h = refl
-put_cause T P nodes f state argument before (BadArgument offset) h = refl
-put_cause T P nodes f state argument before NoMemory h = refl
-put_cause T P nodes f state argument before (Rejected cause) h = absurd h
-put_cause T P nodes f state argument before ReadFault h = absurd h
+put_cause T P nodes t state argument before (BadState offset) h = refl
+put_cause T P nodes t state argument before (BadArgument offset) h = refl
+put_cause T P nodes t state argument before NoMemory h = refl
+put_cause T P nodes t state argument before (Rejected cause) h = absurd h
+put_cause T P nodes t state argument before ReadFault h = absurd h

@@ -4,8 +4,10 @@ pub mod Pieces
 pub mod Checking
 -- verify, verify_on, judge_call: the verdict from the run and from what is read before it
 pub mod Judging
--- put_call: the types of the state and of the argument
+-- argument_of, put_call: the types of the state and of the argument
 pub mod Parameters
+-- verify, verify_on, judge_call: what is put and spelled by the types of the program
+pub mod TypesAlone
 -- verify, verify_on: the headline
 pub mod SaysTrue
 pub mod Given

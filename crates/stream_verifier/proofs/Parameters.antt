@@ -4,7 +4,7 @@ use Rattle.std.proofs.lemmas.List.{length-map, get_or-map}
 use Rattle.core_terms.specs.Types.{Ty, UnitTy}
 use Rattle.core_terms.specs.Terms.{Kind, Inner, Init, Query, Update, function_at, no_function}
 use Rattle.core_terms.specs.Terms as tree
-use Rattle.core_terms.specs.Values.{Value, NoV, AndV}
+use Rattle.core_terms.specs.Values.{Values}
 use Rattle.core_terms.specs.Roles.{ReadsState, argument_type, role_parameters}
 use Rattle.core_terms.specs.Projection.{read_at}
 use Rattle.core_terms.specs.LanguagePrograms.{meaning, types_of}
@@ -14,7 +14,7 @@ use Rattle.core_terms.specs.declared.language.program.Program.{Program}
 use Rattle.core_terms.specs.declared.language.term.Function.{Function}
 use Rattle.core_terms.specs.declared.types.TyId.{TyId}
 use Rattle.value_store.specs.Nodes.{Node}
-use Rattle.value_store.specs.Standing.{AllStandFor, StandsFor, VerifierNodes}
+use Rattle.value_store.specs.Standing.{AllStandFor, VerifierNodes}
 use Rattle.value_store.specs.declared.node.Ref.{Ref}
 use Rattle.shallow_codec.specs.Unspelled.{IsUnspelled}
 use Rattle.shallow_codec.specs.declared.fault.UnspellFault.{UnspellFault}
@@ -32,12 +32,10 @@ module _ (P : tree.Program) (f : ℕ) where
       let is : (function_at P f).parameters ≡ P.state ∷ t ∷ [] = ap (λ g. (unwrap_or g no_function).parameters) role.there ∙ role.parameters ∙ shaped kind t reads in
       is ∙ ap (λ (u : Ty). P.state ∷ u ∷ []) (sym (ap (λ ts. slice_index_or ts 1 UnitTy) is))
 
-  -- a state and an argument stand for what the function takes
-  pub both_stand : TakesState P f → (nodes : List Node) (r q : ℕ) (s a : Value) → StandsFor VerifierNodes P.types nodes r P.state s
-      → StandsFor VerifierNodes P.types nodes q (argument_type P f) a
-      → AllStandFor VerifierNodes P.types nodes (r ∷ q ∷ []) (function_at P f).parameters (AndV s (AndV a NoV))
-  both_stand takes nodes r q s a h j =
-      subst (λ ts. AllStandFor VerifierNodes P.types nodes (r ∷ q ∷ []) ts (AndV s (AndV a NoV))) (sym (parameters_of takes)) (h, (j, tt))
+  -- what stands for a state and an argument stands for what the function takes
+  pub both_stand : TakesState P f → (nodes : List Node) (rs : List ℕ) (vs : Values) → AllStandFor VerifierNodes P.types nodes rs (P.state ∷ argument_type P f ∷ []) vs
+      → AllStandFor VerifierNodes P.types nodes rs (function_at P f).parameters vs
+  both_stand takes nodes rs vs h = subst (λ ts. AllStandFor VerifierNodes P.types nodes rs ts vs) (sym (parameters_of takes)) h
 
 module _ (p : Program) (f : ℕ) (fn : Function) (takes : TakesState (meaning p) f) (is : function_of (types_of p) fn ≡ function_at (meaning p) f) where
   in_code : map (type_at (types_of p)) fn.parameters.items ≡ (meaning p).state ∷ argument_type (meaning p) f ∷ []

@@ -49,7 +49,7 @@ pub fn checked_run<H: Hash32, S: Source, N: Nodes>(
     ensures faults { Counts fault_cause Rose (S.faults source.old) (S.faults source.new) result }
     ensures rest { S.rest source.new ≡ S.rest source.old }
 {
-    let limit = code.program().spelling_limit();
+    let limit = code.types().spelling_limit();
     let verifier = Verifier::<H, S>::new(alloc, limit, ring);
     let Ok(mut machine) = Machine::start(code, function, args, fuel, verifier, alloc) else {
         return Err(Stop::NoMemory);

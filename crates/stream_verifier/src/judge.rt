@@ -2,6 +2,7 @@
 ghost use Rattle.std.specs.Prelude.{◌≡◌, ◌<◌, ◌≤◌, ◌^◌, ℕ, List, [], Some, IfOk, length};
 ghost use Rattle.std.specs.Option.{ForSome};
 ghost use Rattle.core_terms.specs.LanguagePrograms.{meaning, types_of};
+ghost use Rattle.core_terms.specs.ProgramTypes.{named_table, types_by_number, types_meaning};
 ghost use Rattle.core_terms.specs.Roles.{argument_type};
 ghost use Rattle.core_terms.specs.Terms.{function_at};
 ghost use Rattle.core_terms.specs.TypeTables.{type_at};
@@ -21,7 +22,7 @@ ghost use Rattle.stream_verifier.specs.Verdicts.{Answers, AnswersWithRing, SaysT
 use crate::checked_runs::checked_run;
 use crate::verdict::Verdict;
 use code_gen::Code;
-use core_terms::language::Program;
+use core_terms::language::{Program, Types};
 use core_terms::{Cause, FunctionId, Hash32, Outcome, Spelling, TyId};
 use lam_outside::Source;
 use proof_stream::FrameReader;
@@ -62,7 +63,8 @@ pub fn verify<H: Hash32, S: Source>(
     ensures rest { S.rest proof.new ≡ S.rest proof.old }
 {
     let mut store = Store::new(alloc);
-    let refs = put_call(alloc, code.program(), &mut store, role, state, argument)?;
+    let ty = argument_of(code.program(), role);
+    let refs = put_call(alloc, code.types(), &mut store, state, argument, ty)?;
     judge_file::<H, S>(alloc, code, &mut store, role, &refs, fuel, proof)
 }
 
@@ -94,31 +96,37 @@ pub fn verify_on<H: Hash32, S: Source>(
     ensures rest { S.rest proof.new ≡ S.rest proof.old }
 {
     let mut store = Store::new(alloc);
-    let refs = put_call(alloc, code.program(), &mut store, role, state, argument)?;
+    let ty = argument_of(code.program(), role);
+    let refs = put_call(alloc, code.types(), &mut store, state, argument, ty)?;
     judge_call::<H, S>(alloc, code, &mut store, role, &refs, fuel, proof, ring)
 }
 
-/// Puts the state and the argument of a call into the store.
-fn put_call(
-    alloc: Global,
-    program: &Program,
-    store: &mut Store,
-    role: FunctionId,
-    state: &[u8],
-    argument: &[u8],
-) -> Result<[Ref; 2], Verdict>
+/// The type of the argument of a query or an update, whose parameters are the state and the argument.
+fn argument_of(program: &Program, role: FunctionId) -> TyId
     requires there { role.0 < length (meaning program.now).functions }
     requires role { TakesState (meaning program.now) role.0 }
-    ensures { ArePut (meaning program.now) (nodes_in store.new) role.0 state.now argument.now result }
+    ensures { type_at (types_of program.now) result ≡ argument_type (meaning program.now) role.0 }
 {
-    // of a query or an update: the state and the argument
-    let parameters = &program.function(role).parameters;
-    let state = match unspell(alloc, program, store, state, program.state_type()) {
+    program.function(role).parameters[1]
+}
+
+/// Puts the state of a call and its argument, which is of this type, into the store.
+fn put_call(
+    alloc: Global,
+    types: &Types,
+    store: &mut Store,
+    state: &[u8],
+    argument: &[u8],
+    ty: TyId,
+) -> Result<[Ref; 2], Verdict>
+    ensures { ArePut (types_meaning types.now) (nodes_in store.new) (type_at (types_by_number types.now) ty) state.now argument.now result }
+{
+    let state = match unspell(alloc, types, store, state, types.state_type()) {
         Ok(state) => state,
         Err(UnspellFault::Bad(offset)) => return Err(Verdict::BadState(offset)),
         Err(UnspellFault::NoMemory) => return Err(Verdict::NoMemory),
     };
-    match unspell(alloc, program, store, argument, parameters[1]) {
+    match unspell(alloc, types, store, argument, ty) {
         Ok(argument) => Ok([state, argument]),
         Err(UnspellFault::Bad(offset)) => Err(Verdict::BadArgument(offset)),
         Err(UnspellFault::NoMemory) => Err(Verdict::NoMemory),
@@ -185,23 +193,23 @@ fn judge_call<H: Hash32, S: Source>(
     }
     let (outcome, ring) = run;
     let ty = code.program().function(role).result;
-    let told = spelled(alloc, code.program(), store, outcome, ty)?;
+    let told = spelled(alloc, code.types(), store, outcome, ty)?;
     Ok((told, ring))
 }
 
 /// The outcome with the spelling of its value, which stands in the store at a type.
 fn spelled(
     alloc: Global,
-    program: &Program,
+    types: &Types,
     store: &Store,
     outcome: Outcome<Ref>,
     ty: TyId,
 ) -> Result<Outcome<Spelling>, AllocError>
-    requires { OutcomeStands (meaning program.now) (nodes_in store.now) (type_at (types_of program.now) ty) outcome }
-    ensures { IfOk result (IsSpelledAs (meaning program.now) (nodes_in store.now) (type_at (types_of program.now) ty) outcome) }
+    requires { OutcomeStands (types_meaning types.now) (nodes_in store.now) (type_at (types_by_number types.now) ty) outcome }
+    ensures { IfOk result (IsSpelledAs (named_table types.now) (nodes_in store.now) (type_at (types_by_number types.now) ty) outcome) }
 {
     Ok(match outcome {
-        Outcome::Done(value) => Outcome::Done(spell(alloc, program, store, value, ty)?),
+        Outcome::Done(value) => Outcome::Done(spell(alloc, types, store, value, ty)?),
         Outcome::Trapped(trap) => Outcome::Trapped(trap),
         Outcome::Out => Outcome::Out,
     })

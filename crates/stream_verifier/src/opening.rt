@@ -1,7 +1,7 @@
 // What the next piece of a proof opens.
 ghost use Rattle.std.specs.Prelude.{◌≡◌, ℕ, bytes_eq, option_map, Err};
 ghost use Rattle.core_terms.specs.Formats.{Hash};
-ghost use Rattle.core_terms.specs.LanguagePrograms.{meaning, types_of};
+ghost use Rattle.core_terms.specs.ProgramTypes.{types_by_number, types_meaning};
 ghost use Rattle.core_terms.specs.Projection.{digest_at};
 ghost use Rattle.core_terms.specs.TypeTables.{type_at};
 ghost use Rattle.core_terms.specs.Types.{AuthTy, Table, Ty};
@@ -19,7 +19,7 @@ ghost use Rattle.stream_verifier.specs.Faults.{IsTold, end_told, fault_cause, st
 ghost use Rattle.stream_verifier.specs.Takings.{PieceOpens, behind_piece};
 
 use crate::verifier::VerifierFault;
-use core_terms::language::Program;
+use core_terms::language::Types;
 use core_terms::{Cause, Digest, TyId};
 use mode_vm::Stop;
 use proof_stream::FrameEnd;
@@ -35,17 +35,17 @@ pub(crate) struct Asked {
 
 /// Opens a piece, whose digest is `found`, as the one that is asked for at a type.
 pub(crate) fn open_piece<N: Nodes>(
-    program: &Program,
+    types: &Types,
     store: &mut N,
     ty: TyId,
     asked: Asked,
     piece: &[u8],
     found: Digest,
 ) -> Result<Ref, Stop<VerifierFault>>
-    ensures some { (hash : Hash) → OpensSome (VerifierMarking hash) (meaning program.now) (N.nodes store.new) (type_at (types_of program.now) ty) result }
-    ensures opens { (hash : Hash) (left : ℕ) (more : Offer) (w : Taking) → found.0 ≡ digest_at hash (meaning program.now) (type_at (types_of program.now) ty) piece.now
-        → PieceOpens (meaning program.now) (N.nodes store.new) (type_at (types_of program.now) ty)
-        (take_piece hash (meaning program.now) (type_at (types_of program.now) ty) asked.want.0 asked.place (Offers piece.now left more) w) (behind_piece asked.place left more) result }
+    ensures some { (hash : Hash) → OpensSome (VerifierMarking hash) (types_meaning types.now) (N.nodes store.new) (type_at (types_by_number types.now) ty) result }
+    ensures opens { (hash : Hash) (left : ℕ) (more : Offer) (w : Taking) → found.0 ≡ digest_at hash (types_meaning types.now) (type_at (types_by_number types.now) ty) piece.now
+        → PieceOpens (types_meaning types.now) (N.nodes store.new) (type_at (types_by_number types.now) ty)
+        (take_piece hash (types_meaning types.now) (type_at (types_by_number types.now) ty) asked.want.0 asked.place (Offers piece.now left more) w) (behind_piece asked.place left more) result }
     ensures told { IsTold result }
     ensures keeps { Keeps (N.nodes store.old) (N.nodes store.new) }
     ensures lent { N.lent store.new ≡ N.lent store.old }
@@ -57,7 +57,7 @@ pub(crate) fn open_piece<N: Nodes>(
             found,
         ))));
     }
-    match unspell(store.alloc(), program, store, piece, ty) {
+    match unspell(store.alloc(), types, store, piece, ty) {
         Ok(r) => Ok(r),
         Err(UnspellFault::Bad(offset)) => Err(Stop::Mode(VerifierFault::Rejected(Cause::BadPiece(
             asked.place,

@@ -1,6 +1,6 @@
 // The verifier as a mode of the machine.
 ghost use Rattle.std.specs.Prelude.{◌≡◌};
-ghost use Rattle.core_terms.specs.LanguagePrograms.{meaning};
+ghost use Rattle.core_terms.specs.ProgramTypes.{types_meaning};
 ghost use Rattle.lam_outside.specs.Causes.{Rose};
 ghost use Rattle.proof_stream.specs.Readers.{limit_of};
 ghost use Rattle.value_store.specs.Markings.{VerifierMarking};
@@ -8,7 +8,7 @@ ghost use Rattle.stream_verifier.specs.Faults.{fault_cause};
 ghost use Rattle.stream_verifier.specs.Takings.{FollowsFrames, MovesOn};
 
 use crate::opening::{Asked, held_digest, open_piece, stop_of};
-use core_terms::language::Program;
+use core_terms::language::Types;
 use core_terms::{Cause, Hash32, TyId};
 use lam_outside::Source;
 use mode_vm::{Mode, Stop};
@@ -81,7 +81,7 @@ impl<H: Hash32, S: Source> Mode for Verifier<H, S> {
 
     ghost marking = { VerifierMarking H.hash };
 
-    ghost Follows = { λ p mode world nodes w. FollowsFrames (meaning p) (limit_of mode.reader) mode.ring mode.place (S.left world) w };
+    ghost Follows = { λ t mode world nodes w. FollowsFrames (types_meaning t) (limit_of mode.reader) mode.ring mode.place (S.left world) w };
 
     ghost cause = { fault_cause };
 
@@ -93,25 +93,25 @@ impl<H: Hash32, S: Source> Mode for Verifier<H, S> {
 
     ghost rest = { λ world. S.rest world };
 
-    ghost Moves = { λ P a v b w. MovesOn (limit_of a.reader) a.ring (S.left v) (limit_of b.reader) b.ring (S.left w) };
+    ghost Moves = { λ a v b w. MovesOn (limit_of a.reader) a.ring (S.left v) (limit_of b.reader) b.ring (S.left w) };
 
-    ghost moves_not = { λ P a v. moves_not (limit_of a.reader) a.ring (S.left v) };
+    ghost moves_not = { λ a v. moves_not (limit_of a.reader) a.ring (S.left v) };
 
-    ghost moves_on = { λ P a b c v w x h k.
+    ghost moves_on = { λ a b c v w x h k.
         moves_on (limit_of a.reader) a.ring (S.left v) (limit_of b.reader) b.ring (S.left w) (limit_of c.reader) c.ring (S.left x) h k };
 
     ghost opened = { λ mode. mode.place };
 
-    ghost follows_on = { λ p mode world old new w k h. h };
+    ghost follows_on = { λ t mode world old new w k h. h };
 
     fn auth<N: Nodes>(
         &mut self,
-        program: &Program,
+        types: &Types,
         store: &mut N,
         ty: TyId,
         v: Ref,
     ) -> Result<Ref, Stop<VerifierFault>> {
-        let Ok(spelling) = spell(store.alloc(), program, store, v, ty) else {
+        let Ok(spelling) = spell(store.alloc(), types, store, v, ty) else {
             return Err(Stop::NoMemory);
         };
         let digest = H::of(spelling.as_bytes());
@@ -124,7 +124,7 @@ impl<H: Hash32, S: Source> Mode for Verifier<H, S> {
     fn unauth<N: Nodes>(
         &mut self,
         world: &mut S,
-        program: &Program,
+        types: &Types,
         store: &mut N,
         ty: TyId,
         v: Ref,
@@ -137,7 +137,7 @@ impl<H: Hash32, S: Source> Mode for Verifier<H, S> {
             Ok(Frame::New) => {
                 let piece = self.reader.take_piece();
                 let found = H::of(&piece);
-                let fresh = open_piece(program, store, ty, asked, &piece, found)?;
+                let fresh = open_piece(types, store, ty, asked, &piece, found)?;
                 self.ring.push(piece);
                 self.place += 1;
                 Ok(fresh)
@@ -152,7 +152,7 @@ impl<H: Hash32, S: Source> Mode for Verifier<H, S> {
                     ))));
                 };
                 let kept = H::of(piece);
-                let used = open_piece(program, store, ty, asked, piece, kept)?;
+                let used = open_piece(types, store, ty, asked, piece, kept)?;
                 self.place += 1;
                 Ok(used)
             }

@@ -1,10 +1,10 @@
-use Rattle.std.proofs.Common.{sym, ap, ◌∙◌}
+use Rattle.std.proofs.Common.{Ok, Err, sym, ap, ◌∙◌}
 use Rattle.core_terms.specs.LanguagePrograms.{meaning, types_of}
 use Rattle.core_terms.specs.Projection.{read_at}
 use Rattle.core_terms.specs.TypeTables.{type_at}
 use Rattle.value_store.specs.Stores.{nodes_in}
 use Rattle.auth_cli.specs.ReadPrograms.{language_named}
-use Rattle.auth_cli.proofs.PutArguments.{literal_goes_on, literal_refused_for, put_refused, put_stands}
+use Rattle.auth_cli.proofs.PutArguments.{literal_goes_on, literal_refused_for, put_refused, put_stands, read_by_types}
 use Rattle.auth_cli.proofs.machine_calls.put_argument.Goals as goal
 
 pub returns-in_err-spelling-clause-goes : goal.returns-in_err-spelling-clause-goes
@@ -17,7 +17,7 @@ returns-in-Ok-clause-goes c =
     let p = c.args.program.now in
     let t = type_at (types_of p) c.args.ty in
     let bytes = c.in_ok-spelling.spelling in
-    let value = c.in-Ok.ensures.value in (
+    let value = read_by_types p c.types.result.now c.types.ensures (nodes_in c.unspell.new.store) c.args.ty c.as_bytes.result.now (Ok c.in-Ok.value) c.in-Ok.ensures.value in (
       c.in_ok-spelling.ensures.0,
       literal_goes_on p t c.args.text.now bytes c.in_ok-spelling.ensures,
       put_stands p t c.args.text.now bytes c.in_ok-spelling.ensures _ _ value.0 value.1 c.requires
@@ -28,4 +28,5 @@ pub unreachable-requires : goal.unreachable-requires
 unreachable-requires c =
     let p = c.args.program.now in
     let t = type_at (types_of p) c.args.ty in
-    absurd (put_refused p t c.args.text.now c.in_ok-spelling.spelling c.in_ok-spelling.ensures (nodes_in c.unspell.new.store) c.as_bytes.result.now _ _ c.as_bytes.ensures c.in-Err-Bad.field-0-is c.in-Err-Bad.ensures.value)
+    absurd (put_refused p t c.args.text.now c.in_ok-spelling.spelling c.in_ok-spelling.ensures (nodes_in c.unspell.new.store) c.as_bytes.result.now _ _ c.as_bytes.ensures c.in-Err-Bad.field-0-is
+    (read_by_types p c.types.result.now c.types.ensures (nodes_in c.unspell.new.store) c.args.ty c.as_bytes.result.now (Err c.in-Err-Bad.field-0) c.in-Err-Bad.ensures.value))

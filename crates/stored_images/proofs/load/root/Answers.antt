@@ -5,20 +5,20 @@ use Rattle.stored_images.proofs.load.root.Goals as goal
 
 pub returns-then-not-is_of : goal.returns-then-not-is_of
 returns-then-not-is_of c marking nodes entries stored =
-    other_root marking c.args.program.now nodes c.args.loaded.now entries stored c.args.rest.now c.in-Some.root.now (sym c.in-Some.ensures.value)
-    c.state_type.result (state_number c.args.program.now c.state_type.result c.state_type.ensures.state c.state_type.ensures.within) c.is_of.result
+    other_root marking c.args.types.now nodes c.args.loaded.now entries stored c.args.rest.now c.in-Some.root.now (sym c.in-Some.ensures.value)
+    c.state_type.result (state_number c.args.types.now c.state_type.result c.state_type.ensures.state c.state_type.ensures.within) c.is_of.result
     c.is_of.ensures c.if-not-is_of.true
 
 pub returns-then-not-is_empty : goal.returns-then-not-is_empty
 returns-then-not-is_empty c marking nodes entries stored =
-    left_over marking c.args.program.now nodes c.args.loaded.now entries stored c.args.rest.now c.in-Some.root.now (sym c.in-Some.ensures.value)
-    c.state_type.result (state_number c.args.program.now c.state_type.result c.state_type.ensures.state c.state_type.ensures.within) c.is_of.result
+    left_over marking c.args.types.now nodes c.args.loaded.now entries stored c.args.rest.now c.in-Some.root.now (sym c.in-Some.ensures.value)
+    c.state_type.result (state_number c.args.types.now c.state_type.result c.state_type.ensures.state c.state_type.ensures.within) c.is_of.result
     c.is_of.ensures c.if-not-is_of.false
     (is_some c.args.rest.now c.is_empty.result c.is_empty.ensures c.if-not-is_empty.true)
 
 pub returns : goal.returns
 returns c marking nodes entries stored =
-    root_found marking c.args.program.now nodes c.args.loaded.now entries stored c.args.rest.now c.in-Some.root.now (sym c.in-Some.ensures.value)
-    c.state_type.result (state_number c.args.program.now c.state_type.result c.state_type.ensures.state c.state_type.ensures.within) c.is_of.result
+    root_found marking c.args.types.now nodes c.args.loaded.now entries stored c.args.rest.now c.in-Some.root.now (sym c.in-Some.ensures.value)
+    c.state_type.result (state_number c.args.types.now c.state_type.result c.state_type.ensures.state c.state_type.ensures.within) c.is_of.result
     c.is_of.ensures c.if-not-is_of.false
     (is_none c.args.rest.now c.is_empty.result c.is_empty.ensures c.if-not-is_empty.false)

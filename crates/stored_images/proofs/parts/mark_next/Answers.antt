@@ -5,5 +5,5 @@ use Rattle.stored_images.proofs.parts.mark_next.Goals as goal
 
 pub returns : goal.returns
 returns c level now =
-    next_level c.args.program.now level c.args.opened.now now c.open.new.marks c.spread.new.marks
-    (subst (λ old. AddsMarks (IsOpened c.args.program.now c.args.opened.now (length c.args.opened.now)) old c.open.new.marks) c.requires.same c.open.ensures) c.spread.ensures
+    next_level c.args.types.now level c.args.opened.now now c.open.new.marks c.spread.new.marks
+    (subst (λ old. AddsMarks (IsOpened c.args.types.now c.args.opened.now (length c.args.opened.now)) old c.open.new.marks) c.requires.same c.open.ensures) c.spread.ensures

@@ -3,4 +3,4 @@ use Rattle.stored_images.proofs.parts.open.Given as goal
 
 -- the fields of the types so far are marked
 abbrev pub invariant-loop-number : goal.invariant-loop-number
-invariant-loop-number l = AddsMarks (IsOpened l.program l.opened l.number) l.initial.marks l.marks
+invariant-loop-number l = AddsMarks (IsOpened l.types l.opened l.number) l.initial.marks l.marks

@@ -3,4 +3,4 @@ use Rattle.stored_images.proofs.parts.part_marks.Given as goal
 
 -- the marks are those of the level
 abbrev pub invariant-loop-level : goal.invariant-loop-level
-invariant-loop-level l = AreLevelMarks l.program l._level l.marks.items
+invariant-loop-level l = AreLevelMarks l.types l._level l.marks.items

@@ -1,6 +1,8 @@
 -- The run that was started is the one of the definitions, and the ring has come as far.
 use Rattle.std.proofs.Common.{◌≡◌, length, ap, ◌∙◌}
+use Rattle.core_terms.specs.ProgramTypes.{types_meaning}
 use Rattle.core_terms.specs.Terms.{function_at}
+use Rattle.code_gen.specs.Programs.{program_in}
 use Rattle.ideal_meaning.specs.Checked.{before_all, checked}
 use Rattle.ideal_meaning.specs.Following.{after_bytes}
 use Rattle.ideal_meaning.specs.Frames.{offered}
@@ -19,6 +21,7 @@ pub returns-in-Ok-run-clause-is : goal.returns-in-Ok-run-clause-is
 returns-in-Ok-run-clause-is g c vs bytes recent stand told holds =
     let hash = g.H.Hash32.hash in
     let P = program_of c.args.code.now in
+    let Q = types_meaning (program_in c.args.code.now).types in
     let z = (function_at P c.args.function.0).result in
     let left = g.S.Source.left c.args.source.now in
     let left' = g.S.Source.left c.run.new.world in
@@ -30,9 +33,9 @@ returns-in-Ok-run-clause-is g c vs bytes recent stand told holds =
     let same : mode.ring ≡ c.args.ring = ap (λ m. m.ring) c.in-Ok.ensures.mode ∙ c.new-verifier.ensures.ring in
     let first : mode.place ≡ 0 = ap (λ m. m.place) c.in-Ok.ensures.mode ∙ c.new-verifier.ensures.place in
     let out : c.into_ring.result ≡ after.ring = c.into_ring.ensures ∙ ap (λ m. m.ring) c.into_mode.ensures in
-    let follows = starts P c.args.ring left (limit_of mode.reader) mode.ring within same bytes recent told holds mode.place first in
+    let follows = starts Q c.args.ring left (limit_of mode.reader) mode.ring within same bytes recent told holds mode.place first in
     let e = ends P c.args.ring left (limit_of mode.reader) mode.ring within same bytes recent told holds (limit_of after.reader) after.ring c.into_ring.result left' c.in-Ok-run.ensures.moves out in (
-      came_to hash P z (g.N.Nodes.nodes c.run.new.store) (limit_of after.reader) after.ring after.place left' c.run.new.self.state.fuel run c.in-Ok-run.outcome
+      came_to hash P Q z (g.N.Nodes.nodes c.run.new.store) (limit_of after.reader) after.ring after.place left' c.run.new.self.state.fuel run c.in-Ok-run.outcome
           (c.in-Ok-run.ensures.is z w run follows (c.in-Ok.ensures.will (g.N.Nodes.nodes c.args.store.now) vs w stand)),
       e.0,
       e.1,
@@ -42,6 +45,7 @@ pub returns-in-Err-clause-is : goal.returns-in-Err-clause-is
 returns-in-Err-clause-is g c vs bytes recent stand told holds =
     let hash = g.H.Hash32.hash in
     let P = program_of c.args.code.now in
+    let Q = types_meaning (program_in c.args.code.now).types in
     let z = (function_at P c.args.function.0).result in
     let left = g.S.Source.left c.args.source.now in
     let left' = g.S.Source.left c.run.new.world in
@@ -52,8 +56,8 @@ returns-in-Err-clause-is g c vs bytes recent stand told holds =
     let within : limit_of mode.reader ≡ P.format.limit = ap (λ m. limit_of m.reader) c.in-Ok.ensures.mode ∙ c.new-verifier.ensures.limit ∙ c.spelling_limit-limit.ensures in
     let same : mode.ring ≡ c.args.ring = ap (λ m. m.ring) c.in-Ok.ensures.mode ∙ c.new-verifier.ensures.ring in
     let first : mode.place ≡ 0 = ap (λ m. m.place) c.in-Ok.ensures.mode ∙ c.new-verifier.ensures.place in
-    let follows = starts P c.args.ring left (limit_of mode.reader) mode.ring within same bytes recent told holds mode.place first in
-    stopped_as hash P z (g.N.Nodes.nodes c.run.new.store) (limit_of after.reader) after.ring after.place left' c.run.new.self.state.fuel run c.args.ring.size
+    let follows = starts Q c.args.ring left (limit_of mode.reader) mode.ring within same bytes recent told holds mode.place first in
+    stopped_as hash P Q z (g.N.Nodes.nodes c.run.new.store) (limit_of after.reader) after.ring after.place left' c.run.new.self.state.fuel run c.args.ring.size
     (after_bytes P.format.limit bytes c.args.ring.size recent) c.in-Err.stop
     (c.in-Err.ensures.is z w run follows (c.in-Ok.ensures.will (g.N.Nodes.nodes c.args.store.now) vs w stand))
 

@@ -4,17 +4,16 @@ use Rattle.core_terms.specs.LanguagePrograms.{meaning, types_of}
 use Rattle.core_terms.specs.LanguageTrees.{function_of}
 use Rattle.core_terms.specs.Terms.{function_at}
 use Rattle.core_terms.specs.Terms as tree
-use Rattle.core_terms.specs.Types.{Ty}
 use Rattle.core_terms.specs.TypeTables.{type_at}
 use Rattle.code_gen.specs.Programs.{program_in}
 use Rattle.ideal_meaning.specs.Checked as checked
 use Rattle.ideal_meaning.specs.Following.{after_bytes}
 use Rattle.value_store.specs.Stores.{nodes_in}
 use Rattle.mode_vm.specs.Meanings.{program_of}
-use Rattle.stream_verifier.specs.Spelled.{IsSpelledAs}
 use Rattle.stream_verifier.specs.Verdicts.{AnswersWithRing}
 use Rattle.stream_verifier.proofs.Given.{gives_with}
 use Rattle.stream_verifier.proofs.Judging.{all_kept, all_taken, answered, left_over, stopped}
+use Rattle.stream_verifier.proofs.TypesAlone.{spelled_by}
 use Rattle.stream_verifier.proofs.judge.judge_call.Goals as goal
 
 pub returns-in_err-run-clause-verdict : goal.returns-in_err-run-clause-verdict
@@ -45,11 +44,9 @@ returns-clause-verdict g c vs bytes recent stand told holds =
     let none : c.in_ok-left.left ≡ 0 = omega (arith, c.if-left-gt0.false) in
     let all = all_taken is.2.bytes (g.S.Source.left c.count_rest.new.source) c.in_ok-left.left none (c.in_ok-left.ensures.counts is.2.bytes is.2.told) in
     let program : c.program.result.now ≡ p = c.program.ensures in
-    let again : c.program-2.result.now ≡ p = c.program-2.ensures in
     let at : type_at (types_of p) c.function.result.now.result ≡ z =
     ap (λ (f : tree.Function). f.result) (subst (λ q. function_of (types_of q) c.function.result.now ≡ function_at (meaning q) c.args.role.0) program c.function.ensures.function) in
-    let spelled : IsSpelledAs P nodes z c.in_ok-run.run'.0 c.in_ok-told.told = subst (λ (t : Ty). IsSpelledAs P nodes t c.in_ok-run.run'.0 c.in_ok-told.told) at
-    (subst (λ q. IsSpelledAs (meaning q) nodes (type_at (types_of q) c.function.result.now.result) c.in_ok-run.run'.0 c.in_ok-told.told) again c.in_ok-told.ensures) in
+    let spelled = spelled_by p c.types.result.now c.types.ensures nodes c.function.result.now.result z at c.in_ok-run.run'.0 c.in_ok-told.told c.in_ok-told.ensures in
     answered P nodes z (g.S.Source.left c.checked_run.new.source) _ is.2.bytes is.2.told c.in_ok-run.run'.0 c.in_ok-told.told is.0 all.0 spelled
 
 pub returns-clause-ring : goal.returns-clause-ring

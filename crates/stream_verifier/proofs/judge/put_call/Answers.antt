@@ -1,24 +1,20 @@
--- The state is read first, at its type, and then the argument, at that of the second parameter.
+-- The state is read first, at its type, and then the argument.
 use Rattle.std.proofs.Common.{◌≡◌, Ok, Err, subst}
-use Rattle.core_terms.specs.LanguagePrograms.{meaning, types_of}
+use Rattle.core_terms.specs.ProgramTypes.{types_by_number, types_meaning}
 use Rattle.core_terms.specs.Projection.{read_at}
 use Rattle.core_terms.specs.Reading.{BadAt}
-use Rattle.core_terms.specs.Roles.{argument_type}
 use Rattle.core_terms.specs.TypeTables.{type_at}
 use Rattle.shallow_codec.specs.Unspelled.{IsUnspelled}
 use Rattle.shallow_codec.specs.declared.fault.UnspellFault.TheVariants.{Bad}
 use Rattle.value_store.specs.Standing.{VerifierNodes}
 use Rattle.value_store.specs.Stores.{nodes_in}
-use Rattle.stream_verifier.proofs.Parameters.{both_stand, read_there, second_type, two_parameters}
+use Rattle.stream_verifier.proofs.Parameters.{read_there}
 use Rattle.stream_verifier.proofs.judge.put_call.Goals as goal
-
-pub index-requires : goal.index-requires
-index-requires c = two_parameters c.args.program.now c.args.role.0 c.function.result.now c.requires.role c.function.ensures.function
 
 pub returns-in-Err-Bad : goal.returns-in-Err-Bad
 returns-in-Err-Bad c =
-    let P = meaning c.args.program.now in
-    let t = type_at (types_of c.args.program.now) c.state_type.result in
+    let P = types_meaning c.args.types.now in
+    let t = type_at (types_by_number c.args.types.now) c.state_type.result in
     let nodes = nodes_in c.unspell.new.store in
     let read : read_at P P.state c.args.state.now ≡ BadAt c.in-Err-Bad.offset = read_there P t P.state nodes c.args.state.now (Err (Bad c.in-Err-Bad.offset)) c.state_type.ensures.state
     (subst (λ f. IsUnspelled P.types nodes t (read_at P t c.args.state.now) (Err f)) c.in-Err-Bad.field-0-is c.in-Err-Bad.ensures.value) in
@@ -27,35 +23,25 @@ returns-in-Err-Bad c =
 
 pub returns-in-Err-Bad-unspell : goal.returns-in-Err-Bad-unspell
 returns-in-Err-Bad-unspell c =
-    let p = c.args.program.now in
-    let P = meaning p in
-    let t = type_at (types_of p) c.state_type.result in
-    let u = type_at (types_of p) c.index.result.now in
+    let P = types_meaning c.args.types.now in
+    let t = type_at (types_by_number c.args.types.now) c.state_type.result in
+    let u = type_at (types_by_number c.args.types.now) c.args.ty in
     let nodes = nodes_in c.unspell-2.new.store in
     let state = read_there P t P.state (nodes_in c.unspell.new.store) c.args.state.now (Ok c.in-Ok.state) c.state_type.ensures.state c.in-Ok.ensures.value in
-    let second = second_type p c.args.role.0 c.function.result.now c.requires.role c.function.ensures.function c.index.result.now c.index.result.now c.index.ensures in
-    let read : read_at P (argument_type P c.args.role.0) c.args.argument.now ≡ BadAt c.in-Err-Bad-unspell.offset =
-    read_there P u (argument_type P c.args.role.0) nodes c.args.argument.now (Err (Bad c.in-Err-Bad-unspell.offset)) second
-    (subst (λ f. IsUnspelled P.types nodes u (read_at P u c.args.argument.now) (Err f)) c.in-Err-Bad-unspell.field-0-is c.in-Err-Bad-unspell.ensures.value) in
+    let read : read_at P u c.args.argument.now ≡ BadAt c.in-Err-Bad-unspell.offset =
+    subst (λ f. IsUnspelled P.types nodes u (read_at P u c.args.argument.now) (Err f)) c.in-Err-Bad-unspell.field-0-is c.in-Err-Bad-unspell.ensures.value in
     let same = c.in-Err-Bad-unspell.offset-is in
     (state.0, (state.1, state.2), cc)
 
 pub returns-in-Ok-unspell : goal.returns-in-Ok-unspell
 returns-in-Ok-unspell c =
-    let p = c.args.program.now in
-    let P = meaning p in
-    let f = c.args.role.0 in
-    let t = type_at (types_of p) c.state_type.result in
-    let u = type_at (types_of p) c.index.result.now in
-    let before = nodes_in c.unspell.new.store in
-    let nodes = nodes_in c.unspell-2.new.store in
-    let second = second_type p f c.function.result.now c.requires.role c.function.ensures.function c.index.result.now c.index.result.now c.index.ensures in
-    let s = read_there P t P.state before c.args.state.now (Ok c.in-Ok.state) c.state_type.ensures.state c.in-Ok.ensures.value in
-    let a = read_there P u (argument_type P f) nodes c.args.argument.now (Ok c.in-Ok-unspell.argument) second c.in-Ok-unspell.ensures.value in (
+    let P = types_meaning c.args.types.now in
+    let t = type_at (types_by_number c.args.types.now) c.state_type.result in
+    let s = read_there P t P.state (nodes_in c.unspell.new.store) c.args.state.now (Ok c.in-Ok.state) c.state_type.ensures.state c.in-Ok.ensures.value in
+    let a = c.in-Ok-unspell.ensures.value in (
       s.0,
       a.0,
       (s.1, s.2),
       (a.1, a.2),
-      both_stand P f c.requires.role nodes c.in-Ok.state.0 c.in-Ok-unspell.argument.0 s.0 a.0
-          (c.in-Ok-unspell.ensures.keeps VerifierNodes P.types c.in-Ok.state.0 P.state s.0 s.3) a.3,
+      (c.in-Ok-unspell.ensures.keeps VerifierNodes P.types c.in-Ok.state.0 P.state s.0 s.3, (a.3, tt)),
     )

@@ -1,6 +1,6 @@
 -- A piece with another digest, one that spells nothing, and one that is opened.
 use Rattle.std.proofs.Common.{refl, sym, ap, ◌∙◌, ◌≡◌, true, false, bytes_eq, subst, Err}
-use Rattle.core_terms.specs.LanguagePrograms.{meaning, types_of}
+use Rattle.core_terms.specs.ProgramTypes.{types_by_number, types_meaning}
 use Rattle.core_terms.specs.TypeTables.{type_at}
 use Rattle.core_terms.specs.Projection.{digest_at, read_at}
 use Rattle.ideal_meaning.specs.Run.{Refuses}
@@ -12,8 +12,8 @@ use Rattle.stream_verifier.proofs.opening.open_piece.Goals as goal
 
 pub returns-then-not-are_same-clause-opens : goal.returns-then-not-are_same-clause-opens
 returns-then-not-are_same-clause-opens g c hash left more w is cause e =
-    let P = meaning c.args.program.now in
-    let t = type_at (types_of c.args.program.now) c.args.ty in
+    let P = types_meaning c.args.types.now in
+    let t = type_at (types_by_number c.args.types.now) c.args.ty in
     let want = c.args.asked.want.0 in
     let apart : bytes_eq (digest_at hash P t c.args.piece.now) want ≡ false = ap (λ d. bytes_eq d want) (sym is) ∙ sym c.are_same.ensures ∙ c.if-not-are_same.true in (
       w,
@@ -26,8 +26,8 @@ returns-then-not-are_same-clause-told g c = (_, refl)
 
 pub returns-in-Err-Bad-clause-opens : goal.returns-in-Err-Bad-clause-opens
 returns-in-Err-Bad-clause-opens g c hash left more w is cause e =
-    let P = meaning c.args.program.now in
-    let t = type_at (types_of c.args.program.now) c.args.ty in
+    let P = types_meaning c.args.types.now in
+    let t = type_at (types_by_number c.args.types.now) c.args.ty in
     let want = c.args.asked.want.0 in
     let same : bytes_eq (digest_at hash P t c.args.piece.now) want ≡ true = ap (λ d. bytes_eq d want) (sym is) ∙ sym c.are_same.ensures ∙ c.if-not-are_same.false in
     let read = subst (λ f. IsUnspelled P.types (g.N.Nodes.nodes c.unspell.new.store) t (read_at P t c.args.piece.now) (Err f)) c.in-Err-Bad.field-0-is c.in-Err-Bad.ensures.value in
@@ -39,8 +39,8 @@ returns-in-Err-Bad-clause-told g c = (_, refl)
 
 pub returns-in-Ok-clause-opens : goal.returns-in-Ok-clause-opens
 returns-in-Ok-clause-opens g c hash left more w is =
-    let P = meaning c.args.program.now in
-    let t = type_at (types_of c.args.program.now) c.args.ty in
+    let P = types_meaning c.args.types.now in
+    let t = type_at (types_by_number c.args.types.now) c.args.ty in
     let want = c.args.asked.want.0 in
     let same : bytes_eq (digest_at hash P t c.args.piece.now) want ≡ true = ap (λ d. bytes_eq d want) (sym is) ∙ sym c.are_same.ensures ∙ c.if-not-are_same.false in
     let v = c.in-Ok.ensures.value in

@@ -1,18 +1,16 @@
 use Rattle.std.proofs.Common.{subst, true, sym, ◌≡◌}
 use Rattle.core_terms.specs.LanguagePrograms.{meaning, types_of}
 use Rattle.core_terms.specs.TypeTables.{type_at}
-use Rattle.core_terms.specs.Types.{AuthTy}
-use Rattle.core_terms.specs.Values.{Value}
 use Rattle.code_gen.specs.Programs.{program_in}
 use Rattle.code_meaning.specs.Execution.{Ran}
-use Rattle.mode_vm.specs.Meanings.{mode_of, program_of}
+use Rattle.mode_vm.specs.Meanings.{program_of}
 use Rattle.mode_vm.specs.Machines.{end_of}
-use Rattle.mode_vm.specs.Openings.{Stands}
 use Rattle.mode_vm.specs.declared.state.Step.TheVariants.{Paused}
 use Rattle.mode_vm.proofs.Made.{from_popped}
 use Rattle.mode_vm.proofs.Opens.{rest_then}
 use Rattle.mode_vm.proofs.Stepping.{leads_is}
 use Rattle.mode_vm.proofs.Authenticating.{operand, authenticated, only_memory}
+use Rattle.mode_vm.proofs.TypesAlone.{made_by, operand_by}
 use Rattle.mode_vm.proofs.machine.Machine.auth.Goals as goal
 
 pub auth-requires : goal.auth-requires
@@ -21,8 +19,7 @@ auth-requires g c =
     let o = operand g.M.Mode.marking (program_of c.args.code.now) b.0 (g.N.Nodes.nodes c.args.store.now) c.args.self.now.state
     (type_at (types_of (program_in c.args.code.now)) c.args.ty) b.1 b.2 b.3 c.pop_top-v.new.self.top.operands.items c.pop_top-v.result c.pop_top-v.ensures.top in
     record {
-      stands = subst (λ p. (x : Value) × Stands g.M.Mode.marking (meaning p) (g.N.Nodes.nodes c.args.store.now) c.pop_top-v.result.0 (type_at (types_of p) c.args.ty) x)
-          (sym c.program.ensures) (o.x, o.stands);
+      stands = operand_by g.M.Mode.marking (program_in c.args.code.now) c.types.result.now c.types.ensures c.args.ty (g.N.Nodes.nodes c.args.store.now) c.pop_top-v.result.0 (λ t. t) o.x o.stands;
     }
 
 pub returns-in-Ok-push_top-clause-stands : goal.returns-in-Ok-push_top-clause-stands
@@ -34,9 +31,7 @@ returns-in-Ok-push_top-clause-stands g c z cs shows next =
     let before = c.args.self.now.state in
     let mid = c.pop_top-v.new.self in
     let o = operand m (meaning p) z old before (type_at (types_of p) c.args.ty) cs shows next mid.top.operands.items c.pop_top-v.result c.pop_top-v.ensures.top in
-    let made = subst (λ p. (x : Value) → Stands m (meaning p) old c.pop_top-v.result.0 (type_at (types_of p) c.args.ty) x
-    → Stands m (meaning p) new c.in-Ok.made.0 (AuthTy (type_at (types_of p) c.args.ty)) ((mode_of m (meaning p)).auth (type_at (types_of p) c.args.ty) x)) c.program.ensures
-    c.in-Ok.ensures.stands in
+    let made = made_by m p c.types.result.now c.types.ensures c.args.ty old new c.pop_top-v.result.0 c.in-Ok.made.0 c.in-Ok.ensures.stands in
     let led = authenticated m (meaning p) z old before (type_at (types_of p) c.args.ty) cs shows next mid.top.operands.items c.pop_top-v.result c.pop_top-v.ensures.top new
     c.in-Ok.ensures.keeps c.push_top.new.self c.requires.entered c.in-Ok.made
     (from_popped before.top mid.top c.push_top.new.self.top mid.top.operands.items c.pop_top-v.ensures.at c.in-Ok.made c.in-Ok-push_top.ensures.at)
@@ -53,16 +48,14 @@ returns-in-Ok-push_top-clause-is g c z w run follows will next =
     let mid = c.pop_top-v.new.self in
     let cs = will.stack in
     let o = operand m (meaning p) z old before (type_at (types_of p) c.args.ty) cs will.shows next mid.top.operands.items c.pop_top-v.result c.pop_top-v.ensures.top in
-    let made = subst (λ p. (x : Value) → Stands m (meaning p) old c.pop_top-v.result.0 (type_at (types_of p) c.args.ty) x
-    → Stands m (meaning p) new c.in-Ok.made.0 (AuthTy (type_at (types_of p) c.args.ty)) ((mode_of m (meaning p)).auth (type_at (types_of p) c.args.ty) x)) c.program.ensures
-    c.in-Ok.ensures.stands in
+    let made = made_by m p c.types.result.now c.types.ensures c.args.ty old new c.pop_top-v.result.0 c.in-Ok.made.0 c.in-Ok.ensures.stands in
     let led = authenticated m (meaning p) z old before (type_at (types_of p) c.args.ty) cs will.shows next mid.top.operands.items c.pop_top-v.result c.pop_top-v.ensures.top new
     c.in-Ok.ensures.keeps c.push_top.new.self c.requires.entered c.in-Ok.made
     (from_popped before.top mid.top c.push_top.new.self.top mid.top.operands.items c.pop_top-v.ensures.at c.in-Ok.made c.in-Ok-push_top.ensures.at)
     (rest_then before mid c.push_top.new.self c.pop_top-v.ensures.rest c.in-Ok-push_top.ensures.rest) (made o.x o.stands) in
-    let kept = subst (λ mode. g.M.Mode.Follows p mode c.args.world.now new w) (sym c.in-Ok.ensures.mode)
-    (g.met.M.Mode.follows_on p c.args.self.now.mode c.args.world.now old new w c.in-Ok.ensures.keeps follows) in
-    leads_is m (meaning p) z new true before.fuel cs c.push_top.new.self g.M.Mode.cause (g.M.Mode.Follows p c.auth.new.self c.args.world.now new) w kept run
+    let kept = subst (λ mode. g.M.Mode.Follows p.types mode c.args.world.now new w) (sym c.in-Ok.ensures.mode)
+    (g.met.M.Mode.follows_on p.types c.args.self.now.mode c.args.world.now old new w c.in-Ok.ensures.keeps follows) in
+    leads_is m (meaning p) z new true before.fuel cs c.push_top.new.self g.M.Mode.cause (g.M.Mode.Follows p.types c.auth.new.self c.args.world.now new) w kept run
     (subst (λ b. end_of m (meaning p) b cs before.fuel w ≡ Ran run) c.requires.entered will.ends) (Unit {0}) Paused led
 
 pub returns-in-Err-clause-is : goal.returns-in-Err-clause-is

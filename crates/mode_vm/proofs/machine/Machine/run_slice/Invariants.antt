@@ -12,9 +12,9 @@ use Rattle.mode_vm.proofs.machine.Machine.run_slice.Given as goal
 abbrev pub invariant-loop-units : goal.invariant-loop-units
 invariant-loop-units g l =
     ((z : Ty) → Ready g.M.Mode.marking (program_of l.code) z (g.N.Nodes.nodes l.fn.store) l.fn.self.state → Ready g.M.Mode.marking (program_of l.code) z (g.N.Nodes.nodes l.store) l.self.state)
-    × ((z : Ty) (w : StateOf g.M.Mode.marking) (run : RunOf g.M.Mode.marking) → g.M.Mode.Follows (program_in l.code) l.fn.self.mode l.fn.world (g.N.Nodes.nodes l.fn.store) w
+    × ((z : Ty) (w : StateOf g.M.Mode.marking) (run : RunOf g.M.Mode.marking) → g.M.Mode.Follows (program_in l.code).types l.fn.self.mode l.fn.world (g.N.Nodes.nodes l.fn.store) w
     → WillRun g.M.Mode.marking (program_of l.code) z (g.N.Nodes.nodes l.fn.store) l.fn.self.state w run
-    → (w' : StateOf g.M.Mode.marking) × g.M.Mode.Follows (program_in l.code) l.self.mode l.world (g.N.Nodes.nodes l.store) w'
+    → (w' : StateOf g.M.Mode.marking) × g.M.Mode.Follows (program_in l.code).types l.self.mode l.world (g.N.Nodes.nodes l.store) w'
     × WillRun g.M.Mode.marking (program_of l.code) z (g.N.Nodes.nodes l.store) l.self.state w' run)
     × (g.M.Mode.opened l.self.mode + steps_left (program_of l.code) l.self.state < 2 ^ 63)
     × Keeps (g.N.Nodes.nodes l.fn.store) (g.N.Nodes.nodes l.store)
@@ -23,7 +23,7 @@ invariant-loop-units g l =
     × (l.fn.self.state.entered ≡ false → 0 < l.fn.self.state.fuel → Begun l.fn.self.state.fuel l.self.state.fuel l.self.state.entered)
     × (g.M.Mode.faults l.world ≡ g.M.Mode.faults l.fn.world)
     × (g.M.Mode.rest l.world ≡ g.M.Mode.rest l.fn.world)
-    × g.M.Mode.Moves (program_of l.code) l.fn.self.mode l.fn.world l.self.mode l.world
+    × g.M.Mode.Moves l.fn.self.mode l.fn.world l.self.mode l.world
     × (g.N.Nodes.lent l.store ≡ g.N.Nodes.lent l.fn.store)
 
 abbrev pub decreases-loop-units : goal.decreases-loop-units

@@ -58,8 +58,8 @@ returns-in-Ok g c = record {
       (c.in-Ok.ensures.leads g.M.Mode.marking z ready.0 ready.1 (c.next-instruction.ensures.next g.M.Mode.marking z (g.N.Nodes.nodes c.args.store.now) ready.0 ready.1));
   is = λ z w run follows will.
       leads_is g.M.Mode.marking (program_of c.args.code.now) z (g.N.Nodes.nodes c.act.new.store) true c.args.self.now.state.fuel will.stack c.act.new.self g.M.Mode.cause
-      (g.M.Mode.Follows (program_in c.args.code.now) c.args.self.now.mode c.args.world.now (g.N.Nodes.nodes c.act.new.store)) w
-      (g.met.M.Mode.follows_on (program_in c.args.code.now) c.args.self.now.mode c.args.world.now (g.N.Nodes.nodes c.args.store.now)
+      (g.M.Mode.Follows (program_in c.args.code.now).types c.args.self.now.mode c.args.world.now (g.N.Nodes.nodes c.act.new.store)) w
+      (g.met.M.Mode.follows_on (program_in c.args.code.now).types c.args.self.now.mode c.args.world.now (g.N.Nodes.nodes c.args.store.now)
       (g.N.Nodes.nodes c.act.new.store) w c.in-Ok.ensures.keeps follows) run
       (subst (λ b. end_of g.M.Mode.marking (program_of c.args.code.now) b will.stack c.args.self.now.state.fuel w ≡ Ran run) c.if-not-self.false will.ends)
       (Unit {0}) c.in-Ok.step
@@ -73,7 +73,7 @@ returns-in-Ok g c = record {
   fuel = c.in-Ok.ensures.fuel ∙ sym (ap (λ b. fuel_after b c.args.self.now.state.fuel) c.if-not-self.false);
   faults = refl;
   rest = refl;
-  moves = g.met.M.Mode.moves_not (program_of c.args.code.now) c.args.self.now.mode c.args.world.now;
+  moves = g.met.M.Mode.moves_not c.args.self.now.mode c.args.world.now;
 }
 
 pub returns-then-not-self-clause-fewer : goal.returns-then-not-self-clause-fewer
@@ -94,4 +94,4 @@ returns-in-Auth-clause-is g c z w run follows will =
     (c.next-instruction.ensures.next g.M.Mode.marking z (g.N.Nodes.nodes c.args.store.now) will.stack will.shows))
 
 pub returns-then-not-self-clause-moves : goal.returns-then-not-self-clause-moves
-returns-then-not-self-clause-moves g c = g.met.M.Mode.moves_not (program_of c.args.code.now) c.args.self.now.mode c.args.world.now
+returns-then-not-self-clause-moves g c = g.met.M.Mode.moves_not c.args.self.now.mode c.args.world.now

@@ -2,15 +2,24 @@ use Rattle.std.proofs.Common.{subst, sym, ◌∙◌, Ok, Err, ◌≡◌}
 use Rattle.core_terms.specs.LanguagePrograms.{meaning, types_of}
 use Rattle.core_terms.specs.TypeTables.{type_at}
 use Rattle.core_terms.specs.Types.{AuthTy}
-use Rattle.core_terms.specs.Values.{Value}
 use Rattle.code_gen.specs.Programs.{program_in}
-use Rattle.mode_vm.specs.Meanings.{StateOf}
 use Rattle.mode_vm.specs.Machines.{end_of}
 use Rattle.code_meaning.specs.Execution.{Ran}
-use Rattle.mode_vm.specs.Openings.{OpensSome, OpensAs, Stands}
 use Rattle.mode_vm.proofs.Made.{from_popped}
 use Rattle.mode_vm.proofs.Opens.{operand, stop_is, ran_is, refused, opened_cores, opened_shows, opened_same, rest_then}
+use Rattle.mode_vm.proofs.TypesAlone.{operand_by, opens_by, some_by}
 use Rattle.mode_vm.proofs.machine.Machine.unauth.Goals as goal
+
+pub unauth-requires-clause-stands : goal.unauth-requires-clause-stands
+unauth-requires-clause-stands g c =
+    let m = g.M.Mode.marking in
+    let p = program_in c.args.code.now in
+    let nodes = g.N.Nodes.nodes c.args.store.now in
+    let mid = c.pop_top-v.new.self in
+    let b = c.requires.before in
+    let o = operand m (meaning p) b.0 nodes nodes (λ kind types r t v h. h) c.args.self.now.state (type_at (types_of p) c.args.ty) b.1 b.2 b.3 c.requires.entered mid.top.operands.items
+    c.pop_top-v.result c.pop_top-v.ensures.top in
+    operand_by m p c.types.result.now c.types.ensures c.args.ty nodes c.pop_top-v.result.0 AuthTy o.x o.stands
 
 pub returns-in-Err-clause-is : goal.returns-in-Err-clause-is
 returns-in-Err-clause-is g c z w run follows will next =
@@ -23,12 +32,10 @@ returns-in-Err-clause-is g c z w run follows will next =
     let mid = c.pop_top-v.new.self in
     let cs = will.stack in
     let x = operand m (meaning p) z old new c.in-Err.ensures.keeps before t cs will.shows next c.requires.entered mid.top.operands.items c.pop_top-v.result c.pop_top-v.ensures.top in
-    let opens = subst (λ p. (x : Value) (w : StateOf m) → Stands m (meaning p) old c.pop_top-v.result.0 (AuthTy (type_at (types_of p) c.args.ty)) x
-    → g.M.Mode.Follows p c.args.self.now.mode c.args.world.now old w
-    → OpensAs m (meaning p) g.M.Mode.cause (g.M.Mode.Follows p c.unauth.new.self c.unauth.new.world new) new (type_at (types_of p) c.args.ty) x w (Err c.in-Err.stop))
-    c.program.ensures c.in-Err.ensures.opens in
+    let opens = opens_by m p c.types.result.now c.types.ensures c.args.ty g.M.Mode.cause (λ t. g.M.Mode.Follows t c.args.self.now.mode c.args.world.now old)
+    (λ t. g.M.Mode.Follows t c.unauth.new.self c.unauth.new.world new) old new c.pop_top-v.result.0 (Err c.in-Err.stop) c.in-Err.ensures.opens in
     let ends = subst (λ b. end_of m (meaning p) b cs before.fuel w ≡ Ran run) c.requires.entered will.ends in
-    stop_is m (meaning p) z g.M.Mode.cause (g.M.Mode.Follows p c.unauth.new.self c.unauth.new.world new) new t x.x w before.fuel mid.fuel c.pop_top-v.ensures.rest.fuel run
+    stop_is m (meaning p) z g.M.Mode.cause (g.M.Mode.Follows p.types c.unauth.new.self c.unauth.new.world new) new t x.x w before.fuel mid.fuel c.pop_top-v.ensures.rest.fuel run
     (λ cause w' e. ran_is _ run _ ends (refused m (meaning p) z old new c.in-Err.ensures.keeps before t cs will.shows next c.requires.entered mid.top.operands.items c.pop_top-v.result
     c.pop_top-v.ensures.top before.fuel w w' cause e))
     c.in-Err.stop (opens x.x w x.stands follows)
@@ -41,7 +48,7 @@ returns-in-Ok-push_top-clause-stands g c z cs shows next =
     let new = g.N.Nodes.nodes c.unauth.new.store in
     let before = c.args.self.now.state in
     let mid = c.pop_top-v.new.self in
-    let y = subst (λ p. OpensSome g.M.Mode.marking (meaning p) {F = Unit {0}} new (type_at (types_of p) c.args.ty) (Ok c.in-Ok.opened)) c.program.ensures c.in-Ok.ensures.some in
+    let y = some_by g.M.Mode.marking p c.types.result.now c.types.ensures c.args.ty {F = Unit {0}} new (Ok c.in-Ok.opened) c.in-Ok.ensures.some in
     let at = from_popped before.top mid.top c.push_top.new.self.top mid.top.operands.items c.pop_top-v.ensures.at c.in-Ok.opened c.in-Ok-push_top.ensures.at in
     let others = rest_then before mid c.push_top.new.self c.pop_top-v.ensures.rest c.in-Ok-push_top.ensures.rest in (
       opened_cores g.M.Mode.marking (meaning p) z old new c.in-Ok.ensures.keeps before t cs shows next c.requires.entered mid.top.operands.items c.pop_top-v.result c.pop_top-v.ensures.top
@@ -61,10 +68,8 @@ returns-in-Ok-push_top-clause-is g c z w run follows will next =
     let mid = c.pop_top-v.new.self in
     let cs = will.stack in
     let x = operand m (meaning p) z old new c.in-Ok.ensures.keeps before t cs will.shows next c.requires.entered mid.top.operands.items c.pop_top-v.result c.pop_top-v.ensures.top in
-    let opens = subst (λ p. (x : Value) (w : StateOf m) → Stands m (meaning p) old c.pop_top-v.result.0 (AuthTy (type_at (types_of p) c.args.ty)) x
-    → g.M.Mode.Follows p c.args.self.now.mode c.args.world.now old w
-    → OpensAs m (meaning p) g.M.Mode.cause (g.M.Mode.Follows p c.unauth.new.self c.unauth.new.world new) new (type_at (types_of p) c.args.ty) x w (Ok c.in-Ok.opened))
-    c.program.ensures c.in-Ok.ensures.opens in
+    let opens = opens_by m p c.types.result.now c.types.ensures c.args.ty g.M.Mode.cause (λ t. g.M.Mode.Follows t c.args.self.now.mode c.args.world.now old)
+    (λ t. g.M.Mode.Follows t c.unauth.new.self c.unauth.new.world new) old new c.pop_top-v.result.0 (Ok c.in-Ok.opened) c.in-Ok.ensures.opens in
     let o = opens x.x w x.stands follows in
     let at = from_popped before.top mid.top c.push_top.new.self.top mid.top.operands.items c.pop_top-v.ensures.at c.in-Ok.opened c.in-Ok-push_top.ensures.at in
     let others = rest_then before mid c.push_top.new.self c.pop_top-v.ensures.rest c.in-Ok-push_top.ensures.rest in (
@@ -79,7 +84,3 @@ returns-in-Ok-push_top-clause-is g c z w run follows will next =
             c.push_top.new.self c.in-Ok.opened at others o.0 o.3 w o.1 o.0 o.2 o.3) ∙ subst (λ b. end_of m (meaning p) b cs before.fuel w ≡ Ran run) c.requires.entered will.ends;
       },
     )
-
-pub returns-in-Ok-push_top-clause-moves : goal.returns-in-Ok-push_top-clause-moves
-returns-in-Ok-push_top-clause-moves g c = subst (λ p. g.M.Mode.Moves (meaning p) c.args.self.now.mode c.args.world.now c.unauth.new.self c.unauth.new.world) c.program.ensures
-    c.in-Ok.ensures.moves

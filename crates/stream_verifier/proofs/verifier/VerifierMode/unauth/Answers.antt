@@ -1,6 +1,6 @@
 -- The piece that is taken is the one that the definitions take, a new one or a kept one; or there is none.
 use Rattle.std.proofs.Common.{◌≡◌, ◌+◌, ◌∷◌, suc, length, sym, ap, ◌∙◌, arith}
-use Rattle.core_terms.specs.LanguagePrograms.{meaning, types_of}
+use Rattle.core_terms.specs.ProgramTypes.{types_by_number, types_meaning}
 use Rattle.core_terms.specs.TypeTables.{type_at}
 use Rattle.ideal_meaning.specs.Frames.{Offers}
 use Rattle.proof_stream.specs.Readers.{limit_of, piece_of}
@@ -11,8 +11,8 @@ use Rattle.stream_verifier.proofs.verifier.VerifierMode.unauth.Goals as goal
 
 pub returns-in_err-fresh-in-Ok-New-clause-opens : goal.returns-in_err-fresh-in-Ok-New-clause-opens
 returns-in_err-fresh-in-Ok-New-clause-opens g c x w stands follows =
-    let P = meaning c.args.program.now in
-    let t = type_at (types_of c.args.program.now) c.args.ty in
+    let P = types_meaning c.args.types.now in
+    let t = type_at (types_by_number c.args.types.now) c.args.ty in
     let hash = g.H.Hash32.hash in
     let want = c.held_digest.result.0 in
     let place = c.args.self.now.place in
@@ -36,8 +36,8 @@ returns-in_err-fresh-in-Ok-New-clause-opens g c x w stands follows =
 
 pub returns-in_default-clause-opens : goal.returns-in_default-clause-opens
 returns-in_default-clause-opens g c x w stands follows cause e =
-    let P = meaning c.args.program.now in
-    let t = type_at (types_of c.args.program.now) c.args.ty in
+    let P = types_meaning c.args.types.now in
+    let t = type_at (types_by_number c.args.types.now) c.args.ty in
     let hash = g.H.Hash32.hash in
     let want = c.held_digest.result.0 in
     let place = c.args.self.now.place in
@@ -53,8 +53,8 @@ returns-in_default-clause-opens g c x w stands follows cause e =
 
 pub returns-in_err-used-in-Ok-Back-clause-opens : goal.returns-in_err-used-in-Ok-Back-clause-opens
 returns-in_err-used-in-Ok-Back-clause-opens g c x w stands follows =
-    let P = meaning c.args.program.now in
-    let t = type_at (types_of c.args.program.now) c.args.ty in
+    let P = types_meaning c.args.types.now in
+    let t = type_at (types_by_number c.args.types.now) c.args.ty in
     let hash = g.H.Hash32.hash in
     let want = c.held_digest.result.0 in
     let place = c.args.self.now.place in
@@ -81,8 +81,8 @@ returns-in_ok-fresh-in-Ok-New-clause-some g c =
 
 pub returns-in_ok-fresh-in-Ok-New-clause-opens : goal.returns-in_ok-fresh-in-Ok-New-clause-opens
 returns-in_ok-fresh-in-Ok-New-clause-opens g c x w stands follows =
-    let P = meaning c.args.program.now in
-    let t = type_at (types_of c.args.program.now) c.args.ty in
+    let P = types_meaning c.args.types.now in
+    let t = type_at (types_by_number c.args.types.now) c.args.ty in
     let hash = g.H.Hash32.hash in
     let want = c.held_digest.result.0 in
     let place = c.args.self.now.place in
@@ -127,8 +127,8 @@ returns-in_ok-used-in-Ok-Back-clause-some g c =
 
 pub returns-in_ok-used-in-Ok-Back-clause-opens : goal.returns-in_ok-used-in-Ok-Back-clause-opens
 returns-in_ok-used-in-Ok-Back-clause-opens g c x w stands follows =
-    let P = meaning c.args.program.now in
-    let t = type_at (types_of c.args.program.now) c.args.ty in
+    let P = types_meaning c.args.types.now in
+    let t = type_at (types_by_number c.args.types.now) c.args.ty in
     let hash = g.H.Hash32.hash in
     let want = c.held_digest.result.0 in
     let place = c.args.self.now.place in
@@ -163,8 +163,8 @@ returns-in_ok-used-in-Ok-Back-clause-moves g c =
 
 pub returns-in-Err-clause-opens : goal.returns-in-Err-clause-opens
 returns-in-Err-clause-opens g c x w stands follows =
-    let P = meaning c.args.program.now in
-    let t = type_at (types_of c.args.program.now) c.args.ty in
+    let P = types_meaning c.args.types.now in
+    let t = type_at (types_by_number c.args.types.now) c.args.ty in
     let hash = g.H.Hash32.hash in
     let want = c.held_digest.result.0 in
     let place = c.args.self.now.place in

@@ -1,0 +1,108 @@
+-- What a mode does by the types of a program alone, and by the program: the same, whatever the marking.
+use Rattle.std.proofs.Common.{◌≡◌, ℕ, suc, List, bytes_eq, if◌then◌else◌, Option, Result, Ok, Err, refl, sym, ap, ◌∙◌, subst}
+use Rattle.core_terms.specs.Formats.{Hash}
+use Rattle.core_terms.specs.LanguagePrograms.{meaning}
+use Rattle.core_terms.specs.Projection.{digest_at, read_at}
+use Rattle.core_terms.specs.ProgramTypes.{named_table, program_with, types_by_number, types_meaning}
+use Rattle.core_terms.specs.Reading.{Read, Good, BadAt}
+use Rattle.core_terms.specs.Types.{AuthTy, Ty}
+use Rattle.core_terms.specs.TypeTables.{type_at}
+use Rattle.core_terms.specs.Values.{Value}
+use Rattle.core_terms.specs.declared.types.TyId.{TyId}
+use Rattle.core_terms.specs.declared.language.term.Function.{Function}
+use Rattle.core_terms.specs.declared.language.program.Program.{Program}
+use Rattle.core_terms.specs.declared.language.program_types.Types.{Types}
+use Rattle.ideal_meaning.specs.Run.{Refuses}
+use Rattle.ideal_meaning.specs.Frames.{Offer, NoMore, Offers}
+use Rattle.ideal_meaning.specs.Checked.{Taking, WrongPiece, digest_in, opened, take_piece}
+use Rattle.value_store.specs.Nodes.{Node}
+use Rattle.value_store.specs.Standing.{StandsFor}
+use Rattle.value_store.specs.Markings.{Marking, IdealMarking, ProverMarking, VerifierMarking, kind_of}
+use Rattle.value_store.specs.declared.node.Ref.{Ref}
+use Rattle.mode_vm.specs.Meanings.{CauseOf, StateOf, mode_of}
+use Rattle.mode_vm.specs.Openings.{OpensAs, OpensSome, Stands}
+use Rattle.mode_vm.specs.declared.mode.Stop.{Stop}
+use Rattle.mode_vm.specs.declared.mode.Stop.TheVariants.{Mode as ModeStops, NoMemory}
+
+-- the piece that a verifier takes
+module _ (hash : Hash) (t : Types) (fs : List Function) where
+  same_opened : (r : Read Value) (place : ℕ) (w : Taking) → opened hash (types_meaning t) r place w ≡ opened hash (program_with t fs) r place w
+  same_opened (Good v rest end) place w = refl
+  same_opened (BadAt offset) place w = refl
+
+  same_piece : (ty : Ty) (want : List ℕ) (place : ℕ) (o : Offer) (w : Taking)
+      → take_piece hash (types_meaning t) ty want place o w ≡ take_piece hash (program_with t fs) ty want place o w
+  same_piece ty want place (NoMore e) w = refl
+  same_piece ty want place (Offers bytes left more) w =
+      let digest = digest_at hash (types_meaning t) ty bytes in
+      ap (λ o. if bytes_eq digest want then o else Refuses (WrongPiece place want digest) w)
+      (same_opened (read_at (types_meaning t) ty bytes) place (record { place = suc place; left = left; more = more }))
+
+same_kind : (m : Marking) (t : Types) (fs : List Function) → kind_of m (types_meaning t) ≡ kind_of m (program_with t fs)
+same_kind IdealMarking t fs = refl
+same_kind (ProverMarking hash) t fs = refl
+same_kind (VerifierMarking hash) t fs = refl
+
+same_auth : (m : Marking) (t : Types) (fs : List Function) (ty : Ty) (x : Value) → (mode_of m (types_meaning t)).auth ty x ≡ (mode_of m (program_with t fs)).auth ty x
+same_auth IdealMarking t fs ty x = refl
+same_auth (ProverMarking hash) t fs ty x = refl
+same_auth (VerifierMarking hash) t fs ty x = refl
+
+same_unauth : (m : Marking) (t : Types) (fs : List Function) (ty : Ty) (x : Value) (w : StateOf m)
+    → (mode_of m (types_meaning t)).unauth ty x w ≡ (mode_of m (program_with t fs)).unauth ty x w
+same_unauth IdealMarking t fs ty x w = refl
+same_unauth (ProverMarking hash) t fs ty x w = refl
+same_unauth (VerifierMarking hash) t fs ty x w = same_piece hash t fs ty (digest_in x) w.place w.more w
+
+module _ (m : Marking) (t : Types) (fs : List Function) (nodes : List Node) where
+  pub stands_in : (r : ℕ) (ty : Ty) (v : Value) → Stands m (types_meaning t) nodes r ty v → Stands m (program_with t fs) nodes r ty v
+  stands_in r ty v = subst (λ kind. StandsFor kind (named_table t) nodes r ty v) (same_kind m t fs)
+
+  pub stands_back : (r : ℕ) (ty : Ty) (v : Value) → Stands m (program_with t fs) nodes r ty v → Stands m (types_meaning t) nodes r ty v
+  stands_back r ty v = subst (λ kind. StandsFor kind (named_table t) nodes r ty v) (sym (same_kind m t fs))
+
+  pub made_in : (r : ℕ) (ty : Ty) (x : Value) → Stands m (types_meaning t) nodes r (AuthTy ty) ((mode_of m (types_meaning t)).auth ty x)
+      → Stands m (program_with t fs) nodes r (AuthTy ty) ((mode_of m (program_with t fs)).auth ty x)
+  made_in r ty x h = stands_in r (AuthTy ty) _ (subst (λ v. Stands m (types_meaning t) nodes r (AuthTy ty) v) (same_auth m t fs ty x) h)
+
+  pub some_in : {F : Type 0} (ty : Ty) (result : Result Ref (Stop F)) → OpensSome m (types_meaning t) nodes ty result → OpensSome m (program_with t fs) nodes ty result
+  some_in ty (Ok r) h = (h.0, stands_in r.0 ty h.0 h.1)
+  some_in ty (Err stop) h = tt
+
+  pub as_in : {F : Type 0} (cause : F → Option (CauseOf m)) (Then : StateOf m → Type 0) (ty : Ty) (x : Value) (w : StateOf m) (result : Result Ref (Stop F))
+      → OpensAs m (types_meaning t) cause Then nodes ty x w result → OpensAs m (program_with t fs) cause Then nodes ty x w result
+  as_in cause Then ty x w (Ok r) h = (h.0, h.1, sym (same_unauth m t fs ty x w) ∙ h.2, stands_in r.0 ty h.0 h.3, h.4)
+  as_in cause Then ty x w (Err (ModeStops f)) h = λ c e. let a = h c e in (a.0, sym (same_unauth m t fs ty x w) ∙ a.1)
+  as_in cause Then ty x w (Err NoMemory) h = tt
+
+-- A mode is given the types of the code's program. What it says by them, by the program:
+module _ (m : Marking) (p : Program) (given : Types) (is : given ≡ p.types) (id : TyId) where
+  abbrev at : Types → Ty
+  at t = type_at (types_by_number t) id
+
+  abbrev fs : List Function
+  fs = p.functions.items
+
+  pub operand_by : (nodes : List Node) (r : ℕ) (under : Ty → Ty) (x : Value) → Stands m (meaning p) nodes r (under (at p.types)) x
+      → (x : Value) × Stands m (types_meaning given) nodes r (under (at given)) x
+  operand_by nodes r under x h =
+      subst (λ t. (x : Value) × Stands m (types_meaning t) nodes r (under (at t)) x) (sym is) (x, stands_back m p.types fs nodes r (under (at p.types)) x h)
+
+  pub made_by : (old new : List Node) (v r : ℕ)
+      → ((x : Value) → Stands m (types_meaning given) old v (at given) x → Stands m (types_meaning given) new r (AuthTy (at given)) ((mode_of m (types_meaning given)).auth (at given) x))
+      → (x : Value) → Stands m (meaning p) old v (at p.types) x → Stands m (meaning p) new r (AuthTy (at p.types)) ((mode_of m (meaning p)).auth (at p.types) x)
+  made_by old new v r made x h = made_in m p.types fs new r (at p.types) x
+      (subst (λ t. (x : Value) → Stands m (types_meaning t) old v (at t) x → Stands m (types_meaning t) new r (AuthTy (at t)) ((mode_of m (types_meaning t)).auth (at t) x)) is made x
+      (stands_back m p.types fs old v (at p.types) x h))
+
+  pub some_by : {F : Type 0} (nodes : List Node) (result : Result Ref (Stop F)) → OpensSome m (types_meaning given) nodes (at given) result
+      → OpensSome m (meaning p) nodes (at p.types) result
+  some_by {F = F} nodes result h = some_in m p.types fs nodes (at p.types) result (subst (λ t. OpensSome m (types_meaning t) {F = F} nodes (at t) result) is h)
+
+  pub opens_by : {F : Type 0} (cause : F → Option (CauseOf m)) (From Then : Types → StateOf m → Type 0) (old new : List Node) (v : ℕ) (result : Result Ref (Stop F))
+      → ((x : Value) (w : StateOf m) → Stands m (types_meaning given) old v (AuthTy (at given)) x → From given w
+      → OpensAs m (types_meaning given) cause (Then given) new (at given) x w result)
+      → (x : Value) (w : StateOf m) → Stands m (meaning p) old v (AuthTy (at p.types)) x → From p.types w → OpensAs m (meaning p) cause (Then p.types) new (at p.types) x w result
+  opens_by cause From Then old new v result opens x w h from = as_in m p.types fs new cause (Then p.types) (at p.types) x w result
+      (subst (λ t. (x : Value) (w : StateOf m) → Stands m (types_meaning t) old v (AuthTy (at t)) x → From t w → OpensAs m (types_meaning t) cause (Then t) new (at t) x w result) is opens x w
+      (stands_back m p.types fs old v (AuthTy (at p.types)) x h) from)
