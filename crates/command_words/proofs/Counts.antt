@@ -151,7 +151,7 @@ module _ (name : Text) (least most n : ℕ) (b : Bool) (exact : (least == most) 
   -- what the range says of the count
   ranged : (w : Text) (ws : List Text) → behind s (reading (w ∷ ws)) ≡ range_kinds least most (length (w ∷ ws))
   unfolding clap_on_literals
-  ranged w ws = 
+  ranged w ws =
       let k = range_kinds least most (length (w ∷ ws)) in
       rw (some, bounded, all_accepted ws) (ap (λ (k : Kinds). or_else k []) (or_nothing k) ∙ or_nothing k)
 
