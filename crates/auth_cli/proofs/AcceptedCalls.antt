@@ -14,10 +14,10 @@ use Rattle.plain_meaning.specs.PlainValues.{plain_of}
 use Rattle.plain_meaning.proofs.Within.{plain_is_within}
 use Rattle.core_terms.specs.Roles.{argument_type}
 use Rattle.core_terms.proofs.CodePrograms.{is_format, is_typed, query_role}
-use Rattle.auth_cli.specs.Answer.{call_verdict, state_projection}
+use Rattle.auth_cli.specs.Answer.{state_projection}
 use Rattle.auth_cli.specs.Calls.{IsIdealCall, ideal_call_of}
 use Rattle.auth_cli.specs.IdealCalls.{call_pieces, call_proof, projected_outcome}
-use Rattle.auth_cli.specs.ProvedCalls.{IsAcceptedCall}
+use Rattle.auth_cli.specs.ProvedCalls.{IsAcceptedCall, call_verdict}
 use Rattle.auth_cli.specs.declared.ideal_calls.IdealCall.{IdealCall}
 
 pub accepted_call : (call : IdealCall) (n : ℕ) → IsIdealCall (ideal_call_of call) → n ≤ (meaning call.query.program).format.most_kept → IsAcceptedCall (ideal_call_of call) n

@@ -1,25 +1,12 @@
 -- What `shallow` stores for a client of `prove`: each step of its work goes on.
-use Rattle.std.proofs.Common.{◌≡◌, List, ℕ, Option, Some, refl, sym, ap, ◌∙◌}
-use Rattle.sha2.specs.Sha256.{sha256}
+use Rattle.std.proofs.Common.{Option, Some, refl, ap, ◌∙◌}
 use Rattle.core_terms.specs.Values.{Value}
 use Rattle.printed_lines.specs.declared.refusal.Argument.TheVariants as argument
-use Rattle.auth_cli.specs.Answer.{Answer, max_file, max_program, state_answer, with_image, with_image_file, with_language_text, with_program, with_root}
-use Rattle.auth_cli.specs.FueledQueries.{DigestedProgram, NamedProgram}
+use Rattle.auth_cli.specs.Answer.{Answer, max_file, max_program, state_answer, with_image, with_image_file, with_language_text, with_root}
+use Rattle.auth_cli.specs.FueledQueries.{NamedProgram}
 use Rattle.auth_cli.specs.ShallowLaws.{ShallowStoresTheClientsState}
-use Rattle.auth_cli.specs.TextPrograms.{IsProgram, constructor_names_of_text, program_of_text}
 use Rattle.auth_cli.proofs.VerifiedCalls.{file_goes}
-use Rattle.auth_cli.proofs.WholeTexts.{read_alike}
-
--- the program of a text, with the names of the text
-abbrev named : List ℕ → DigestedProgram → NamedProgram
-named text p = record { digested = p; names = constructor_names_of_text text }
-
--- a text of the fragment is gone on with as one of the whole language
-language_goes : (text : List ℕ) (p : DigestedProgram) (go : NamedProgram → Option Answer) → program_of_text text ≡ IsProgram p.program → p.digest ≡ sha256 text
-    → with_language_text text go ≡ go (named text p)
-language_goes text p go is digest =
-    ap (λ found. with_program (sha256 text) found (λ p. go (named text p))) (read_alike text p.program is)
-    ∙ ap (λ (digest : List ℕ). go (named text (record { program = p.program; digest = digest }))) (sym digest)
+use Rattle.auth_cli.proofs.WholeTexts.{language_goes, named}
 
 pub stores_the_clients_state : ShallowStoresTheClientsState
 stores_the_clients_state invocation files call n proof calls program image out later program_is image_is =

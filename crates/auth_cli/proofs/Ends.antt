@@ -1,5 +1,5 @@
 -- From what was found, and how it was told, to how the run ends.
-use Rattle.std.proofs.Common.{◌≡◌, ℕ, List, [], ◌∷◌, codes, Option, Some, None, Ok, Err, refl, ap, sym, ◌∙◌, inl, inr}
+use Rattle.std.proofs.Common.{◌≡◌, ℕ, List, [], ◌∷◌, codes, Option, Some, None, Result, Ok, Err, refl, ap, sym, ◌∙◌, inl, inr}
 use Rattle.std.specs.List.{concat}
 use Rattle.std.specs.Option.{ForSome}
 use Rattle.std.specs.Io.KnownBytes.{append_known}
@@ -44,7 +44,7 @@ line_is : (answer : Option Answer) (status : Status) (line : List ℕ) → answe
 line_is answer status line is = rw (is, one_line line) refl
 
 -- what may halt the reading of files may halt work that judges a proof
-pub halt_judging : (before now : ℕ) (halt : Halt) → MayHalt before now halt → MayHaltJudging before now halt
+halt_judging : (before now : ℕ) (halt : Halt) → MayHalt before now halt → MayHaltJudging before now halt
 halt_judging before now Usage cause = cause
 halt_judging before now (Refused (refusal.Program kind line column)) cause = cause
 halt_judging before now (Refused (refusal.Input fault)) cause = cause
@@ -52,8 +52,8 @@ halt_judging before now (Refused (refusal.Proof why)) cause = absurd cause
 halt_judging before now ReadFault cause = cause
 halt_judging before now NoMemory cause = cause
 
-pub judging : (before now : ℕ) (found : Found) → HaltCause before now found → JudgementCause before now found
-judging before now (Ok report) cause = cause
+pub judging : {T : Type 0} (before now : ℕ) (found : Result T Halt) → HaltCause before now found → JudgementCause before now found
+judging before now (Ok t) cause = cause
 judging before now (Err halt) cause = halt_judging before now halt cause
 
 module _ (answer : Contents → Option Answer) (old new : Outside) where

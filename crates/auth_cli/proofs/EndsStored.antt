@@ -7,18 +7,16 @@ use Rattle.lam_outside.specs.Causes.{Rose}
 use Rattle.lam_outside.specs.Told.{Contents, Stores, AddsStores}
 use Rattle.auth_cli.specs.Answer.{Answer}
 use Rattle.auth_cli.specs.Ending.{Outside, EndsAnswered, EndsAs, EndsInWriteFault, IsToldAs, StoresSome, WritesPart, lines_of}
-use Rattle.auth_cli.specs.Halting.{HaltCause, ending_status}
+use Rattle.auth_cli.specs.Halting.{HaltCause, JudgementCause, ending_status}
 use Rattle.auth_cli.specs.Storing.{FindsOutput, StoresAndTells, stored_as}
 use Rattle.auth_cli.specs.Telling.{Tells}
 use Rattle.auth_cli.specs.declared.report.Ending.{Ending}
 use Rattle.auth_cli.specs.declared.report.Ending.TheVariants as ending
 use Rattle.auth_cli.specs.declared.report.Halt.{Halt}
-use Rattle.auth_cli.specs.declared.report.Halt.TheVariants.{Usage, Refused, ReadFault, NoMemory}
 use Rattle.auth_cli.specs.declared.report.Output.{Output}
-use Rattle.auth_cli.specs.declared.report.Report.{Report}
 use Rattle.auth_cli.specs.declared.status.Status.{Status}
 use Rattle.auth_cli.specs.declared.status.Status.TheVariants as status
-use Rattle.auth_cli.proofs.Ends.{ends_as, halt_judging}
+use Rattle.auth_cli.proofs.Ends.{ends_as, judging}
 
 module _ (answer : Contents → Option Answer) (old new : Outside) (name : List ℕ) where
   module _ (output : Output) (finds : ForSome old.contents (λ files. FindsOutput name (answer files) (Ok output)))
@@ -94,18 +92,25 @@ module _ (answer : Contents → Option Answer) (old new : Outside) (name : List 
     told_ends ended reads store_faults (inr (inl told)) = subst (EndsAs answer old new) (sym told.0) (memory_ends store_faults told.1 told.2)
     told_ends ended reads store_faults (inr (inr told)) = subst (EndsAs answer old new) (sym told.0) (memory_part store_faults told.1 told.2)
 
-  both : (found : Result Output Halt) (ended : Status) → ForSome old.contents (λ files. FindsOutput name (answer files) found) → HaltCause old.read_faults new.read_faults found
+  both : (found : Result Output Halt) (ended : Status) → ForSome old.contents (λ files. FindsOutput name (answer files) found) → JudgementCause old.read_faults new.read_faults found
       → StoresAndTells name found ended old.stores new.stores old.store_faults new.store_faults old.written new.written old.write_faults new.write_faults → EndsAs answer old new ended
-  both (Err halt) ended finds cause told = ends_as answer old new (Err halt) ended finds (halt_judging old.read_faults new.read_faults halt cause) told.0 told.1 told.2
+  both (Err halt) ended finds cause told = ends_as answer old new (Err halt) ended finds cause told.0 told.1 told.2
   both (Ok output) ended finds cause (stores, inl failed) =
       subst (EndsAs answer old new) (sym failed.0) (unstored output finds stores failed.1 failed.2 failed.3)
   both (Ok output) ended finds cause (stores, inr told) = told_ends output finds stores ended cause told.0 told.1
 
   -- a command that may store a file, by what its work found and how that was stored and told
+  pub ends_judged : (found : Result Output Halt) (ended : Status) (reads : ℕ) (before : Option Stores) (store_faults : ℕ)
+      → ForSome old.contents (λ files. FindsOutput name (answer files) found) → JudgementCause old.read_faults reads found → before ≡ old.stores → store_faults ≡ old.store_faults → new.read_faults ≡ reads
+      → StoresAndTells name found ended before new.stores store_faults new.store_faults old.written new.written old.write_faults new.write_faults → EndsAs answer old new ended
+  ends_judged found ended reads before store_faults finds cause same same_faults reads_same told =
+      both found ended finds (subst (λ n. JudgementCause old.read_faults n found) (sym reads_same) cause)
+      (subst (λ n. StoresAndTells name found ended old.stores new.stores n new.store_faults old.written new.written old.write_faults new.write_faults) same_faults
+      (subst (λ s. StoresAndTells name found ended s new.stores store_faults new.store_faults old.written new.written old.write_faults new.write_faults) same told))
+
+  -- the same where no proof is judged
   pub ends_stored : (found : Result Output Halt) (ended : Status) (reads : ℕ) (before : Option Stores) (store_faults : ℕ)
       → ForSome old.contents (λ files. FindsOutput name (answer files) found) → HaltCause old.read_faults reads found → before ≡ old.stores → store_faults ≡ old.store_faults → new.read_faults ≡ reads
       → StoresAndTells name found ended before new.stores store_faults new.store_faults old.written new.written old.write_faults new.write_faults → EndsAs answer old new ended
   ends_stored found ended reads before store_faults finds cause same same_faults reads_same told =
-      both found ended finds (subst (λ n. HaltCause old.read_faults n found) (sym reads_same) cause)
-      (subst (λ n. StoresAndTells name found ended old.stores new.stores n new.store_faults old.written new.written old.write_faults new.write_faults) same_faults
-      (subst (λ s. StoresAndTells name found ended s new.stores store_faults new.store_faults old.written new.written old.write_faults new.write_faults) same told))
+      ends_judged found ended reads before store_faults finds (judging old.read_faults reads found cause) same same_faults reads_same told

@@ -1,5 +1,5 @@
 -- Where the words of `prove` or `audit` and the files mean a call, it is carried out: each step of reading it goes on.
-use Rattle.std.proofs.Common.{◌≡◌, ◌⊎◌, inl, inr, ℕ, List, [], ◌∷◌, Option, Some, None, refl, ap, sym, ◌∙◌, subst}
+use Rattle.std.proofs.Common.{◌≡◌, ◌⊎◌, inl, inr, ℕ, List, Option, Some, None, refl, ap, sym, ◌∙◌, subst}
 use Rattle.sha2.specs.Sha256.{sha256}
 use Rattle.lam_outside.specs.Told.{Contents}
 use Rattle.command_words.specs.Invocations.{Invocation, invocation_of}
@@ -9,9 +9,8 @@ use Rattle.core_terms.specs.Types.{Ty}
 use Rattle.core_terms.specs.Values.{Value}
 use Rattle.ideal_meaning.specs.Headline.{call_of}
 use Rattle.ideal_meaning.specs.Ideal.{Outcome, Done, Trapped, Out, honest_pieces}
-use Rattle.printed_lines.specs.Lines.{collision_line}
 use Rattle.printed_lines.specs.declared.refusal.Argument.TheVariants as named
-use Rattle.collision_audit.specs.Audits.{Collides, unless_split, verdict_on_projections}
+use Rattle.collision_audit.specs.Audits.{unless_split, verdict_on_projections}
 use Rattle.collision_audit.specs.Splits.{Split, offered_in}
 use Rattle.collision_audit.proofs.FirstSplits.{split_is_found}
 use Rattle.auth_cli.specs.Answer.{Answer, answer, audit_told, call_audit_answer, called_answer, command_answer, max_file, outcome_answer, proof_answer, with_file, with_fuel, with_fueled_query, with_ideal_call, with_image, with_kept, with_literal, with_number, with_query, with_root, with_value}

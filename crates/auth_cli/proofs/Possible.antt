@@ -1,5 +1,5 @@
 -- The statuses that a command may answer, from what its work found and how that was told.
-use Rattle.std.proofs.Common.{◌≡◌, ◌⊎◌, inl, inr, ℕ, List, Option, Some, None, Result, Ok, Err, IfOk, refl, sym, subst, arith}
+use Rattle.std.proofs.Common.{◌≡◌, inl, inr, ℕ, List, Option, Some, None, Result, Ok, Err, IfOk, refl, sym, subst, arith}
 use Rattle.command_words.specs.Invocations.{Invocation}
 use Rattle.command_words.specs.declared.command.Command.{Command}
 use Rattle.command_words.specs.declared.command.Command.TheVariants.{Audit}
@@ -61,6 +61,11 @@ module _ (command : Command) where
   judged_possible judges before now (Err (Refused (refusal.Proof why))) cause ending = judges
   judged_possible judges before now (Err ReadFault) cause ending = tt
   judged_possible judges before now (Err NoMemory) cause ending = tt
+
+  pub judged_output_possible : JudgesAProof command → (before now : ℕ) (found : Result Output Halt) → JudgementCause before now found
+      → IfOk found (λ output. MayAnswer command (ending_status output.report.ending)) → MayAnswer command (output_status found)
+  judged_output_possible judges before now (Ok output) cause ending = ending
+  judged_output_possible judges before now (Err halt) cause ending = judged_possible judges before now (Err halt) cause tt
 
   -- how it was told
   pub told_possible : (found : Found) (ended : Status) (old new : Option (List ℕ)) (before now : ℕ) → Tells found ended old new before now → MayAnswer command (status_of found) → MayAnswer command ended

@@ -1,5 +1,5 @@
 -- The line of a value that stands over the prover's nodes, and the state that a role makes.
-use Rattle.std.proofs.Common.{◌≡◌, ℕ, ◌<◌, ◌^◌, true, List, length, Option, Some, refl, sym, ap, ◌∙◌, subst, arith}
+use Rattle.std.proofs.Common.{◌≡◌, ℕ, ◌<◌, ◌^◌, List, length, refl, sym, ap, ◌∙◌, subst, arith}
 use Rattle.sha2.specs.Sha256.{sha256}
 use Rattle.sha2.proofs.Facts256.{length-sha256}
 use Rattle.core_terms.specs.LanguagePrograms.{constructor_names, meaning, types_of}
@@ -8,14 +8,14 @@ use Rattle.core_terms.specs.RoleViews.{role_kind_of}
 use Rattle.core_terms.specs.Spelling.{spelling}
 use Rattle.core_terms.specs.Terms as tree
 use Rattle.core_terms.specs.TypeTables.{type_at}
-use Rattle.core_terms.specs.Types.{PairTy, Table, Ty}
+use Rattle.core_terms.specs.Types.{PairTy, Ty}
 use Rattle.core_terms.specs.Values.{IsIdeal, IsShallow, PairV, Value}
 use Rattle.core_terms.specs.declared.language.program.Program.{Program}
 use Rattle.ideal_meaning.proofs.Projections.{length_piece}
 use Rattle.ideal_meaning.specs.Ideal.{Done}
 use Rattle.printed_lines.specs.Lines.{named_done_line}
 use Rattle.value_store.specs.Nodes.{AreSound, Node}
-use Rattle.value_store.specs.Standing.{Kind, StandsFor}
+use Rattle.value_store.specs.Standing.{StandsFor}
 use Rattle.value_store.proofs.StandingNodes.{within_stands}
 use Rattle.value_store.proofs.TypedNodes.{ideal_stands, prover_refers}
 use Rattle.auth_cli.specs.Answer.{outcome_told, says}
@@ -63,7 +63,7 @@ module _ (wanted : Callee) (p : Program) (called : CalledRole) (is : IsCalled wa
       → StandsFor (prover_nodes p) (meaning p).types nodes r (type_at (types_of p) called.result) v
   stands_as_told nodes r v h = subst (λ t. StandsFor (prover_nodes p) (meaning p).types nodes r t v) (sym result_type_is) h
 
-  kind_told : kind_called (role_of p called) ≡ kind
+  pub kind_told : kind_called (role_of p called) ≡ kind
   kind_told = kind_is (meaning p) called.function.0 kind argument is.answer is.shape
 
   -- an update's result is a pair, whose first component is the new state

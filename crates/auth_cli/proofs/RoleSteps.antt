@@ -1,5 +1,5 @@
 -- The steps of a call of a role, put together: what is in hand, what a file may halt, and what is found.
-use Rattle.std.proofs.Common.{◌≡◌, ℕ, List, [], Option, Some, None, Result, Ok, Err, refl, sym, ap, ◌∙◌, subst}
+use Rattle.std.proofs.Common.{◌≡◌, ℕ, List, Option, Some, Result, Ok, Err, refl, sym, ◌∙◌, subst}
 use Rattle.lam_outside.specs.Told.{Contents, Names}
 use Rattle.printed_lines.specs.declared.refusal.Refusal.TheVariants as refusal
 use Rattle.auth_cli.specs.Answer.{Answer, with_language_file}

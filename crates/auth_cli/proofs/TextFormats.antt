@@ -1,15 +1,14 @@
--- The format of a text's program.
-use Rattle.std.proofs.Common.{◌≡◌, ℕ, List, refl, subst}
+-- The format of the program of a tree.
+use Rattle.std.proofs.Common.{◌≡◌, refl, subst}
 use Rattle.core_terms.specs.ProgramTrees.{program_format}
 use Rattle.core_terms.specs.Terms.{Program}
-use Rattle.auth_syntax.specs.Vocabulary.{fragment}
 use Rattle.auth_syntax.specs.Syntax as syntax
-use Rattle.auth_syntax.specs.Parsing.{Parsed, Tree, FirstFault, parsed}
+use Rattle.auth_syntax.specs.Parsing.{Parsed, Tree, FirstFault}
 use Rattle.auth_types.specs.Checking.{Checking, Sound, FaultAt, then_checked}
 use Rattle.auth_types.specs.Declarations.{first_pass}
 use Rattle.auth_types.specs.WrittenTypes.{second_pass}
 use Rattle.auth_types.specs.CheckedPrograms.{all_passes, as_checked, checked, fourth_pass, third_pass}
-use Rattle.auth_cli.specs.TextPrograms.{IsProgram, of_checked, of_parsed, program_of_text}
+use Rattle.auth_cli.specs.TextPrograms.{IsProgram, of_checked, of_parsed}
 
 abbrev HasFormat : Checking Program → Type 0
 HasFormat (Sound P) = P.format ≡ program_format
@@ -34,7 +33,3 @@ pub parsed_format : (found : Parsed) (P : Program) → of_parsed found ≡ IsPro
 unfolding checked
 parsed_format (Tree program) P e = checked_format (all_passes program) P (passes_format program) e
 parsed_format (FirstFault kind at) P e = absurd (cc)
-
-pub text_format : (text : List ℕ) (P : Program) → program_of_text text ≡ IsProgram P → P.format ≡ program_format
-unfolding program_of_text
-text_format text P e = parsed_format (parsed fragment text) P e

@@ -21,11 +21,11 @@ use Rattle.collision_audit.specs.Splits.{offered_in, split_of}
 use Rattle.collision_audit.proofs.AuditHeadline.{agreement_is_true, collides, judges}
 use Rattle.collision_audit.proofs.FirstSplits.{no_split_is_found, split_is_found}
 use Rattle.collision_audit.proofs.OnProof.{verdict_is_on_proof}
-use Rattle.auth_cli.specs.Answer.{call_verdict, state_projection}
+use Rattle.auth_cli.specs.Answer.{state_projection}
 use Rattle.auth_cli.specs.AuditedCalls.{IsTrueAudit, SplitsNowhere}
 use Rattle.auth_cli.specs.Calls.{IsIdealCall, ideal_call_of}
 use Rattle.auth_cli.specs.IdealCalls.{call_audit, call_pieces, projected_outcome}
-use Rattle.auth_cli.specs.ProvedCalls.{client_call}
+use Rattle.auth_cli.specs.ProvedCalls.{call_verdict, client_call}
 use Rattle.auth_cli.specs.declared.ideal_calls.IdealCall.{IdealCall}
 
 module _ (call : IdealCall) (proof : List ℕ) (valid : IsIdealCall (ideal_call_of call)) where

@@ -1,5 +1,6 @@
 -- Texts of the fragment are texts of the whole language.
-use Rattle.std.proofs.Common.{◌≡◌, ℕ, List, [], ◌∷◌, refl, ap, ◌∙◌}
+use Rattle.std.proofs.Common.{◌≡◌, ℕ, List, [], ◌∷◌, Option, refl, sym, ap, ◌∙◌}
+use Rattle.sha2.specs.Sha256.{sha256}
 use Rattle.core_terms.specs.Terms.{Program}
 use Rattle.auth_syntax.specs.Grammar.{AreConstructors, AreDeclarations, AreParameters, AreTypes, ArmsHaveForms, HasForms, HasKind, HasTypeForms, HaveForms, IsDeclaration, IsProgramText}
 use Rattle.auth_syntax.specs.Parsing.{Parsed, Tree, FirstFault, parsed}
@@ -7,7 +8,9 @@ use Rattle.auth_syntax.specs.Syntax.{TypeSyntax, UnitTypeSyntax, BoolTypeSyntax,
 use Rattle.auth_syntax.specs.Syntax as syntax
 use Rattle.auth_syntax.specs.Vocabulary.{Vocabulary, fragment, whole_language}
 use Rattle.auth_syntax.proofs.Exact.{parsing_is_exact}
-use Rattle.auth_cli.specs.TextPrograms.{IsProgram, language_program_of_text, of_parsed, program_of_text}
+use Rattle.auth_cli.specs.Answer.{Answer, with_language_text, with_program}
+use Rattle.auth_cli.specs.FueledQueries.{DigestedProgram, NamedProgram}
+use Rattle.auth_cli.specs.TextPrograms.{IsProgram, constructor_names_of_text, language_program_of_text, of_parsed, program_of_text}
 
 -- what is written in a vocabulary is written in the whole language
 module _ (words : Vocabulary) where
@@ -96,3 +99,13 @@ module _ (words : Vocabulary) where
 pub read_alike : (text : List ℕ) (P : Program) → program_of_text text ≡ IsProgram P → language_program_of_text text ≡ IsProgram P
 unfolding program_of_text language_program_of_text
 read_alike text P e = same_program fragment text P e
+
+-- the program of a text of the fragment, with the names of the text, is gone on with as one of the whole language
+abbrev pub named : List ℕ → DigestedProgram → NamedProgram
+named text p = record { digested = p; names = constructor_names_of_text text }
+
+pub language_goes : (text : List ℕ) (p : DigestedProgram) (go : NamedProgram → Option Answer) → program_of_text text ≡ IsProgram p.program → p.digest ≡ sha256 text
+    → with_language_text text go ≡ go (named text p)
+language_goes text p go is digest =
+    ap (λ found. with_program (sha256 text) found (λ p. go (named text p))) (read_alike text p.program is)
+    ∙ ap (λ (digest : List ℕ). go (named text (record { program = p.program; digest = digest }))) (sym digest)

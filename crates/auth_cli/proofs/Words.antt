@@ -1,11 +1,11 @@
 -- The words behind a command, taken apart by their places.
-use Rattle.std.proofs.Common.{◌≡◌, ◌+◌, ℕ, zero, suc, List, [], ◌∷◌, length, Option, drop, get_or, ap, sym, ◌∙◌, subst, refl, inl, inr, arith, drop-cons, drop_of_length-le}
+use Rattle.std.proofs.Common.{◌≡◌, ◌≤◌, ◌+◌, ℕ, zero, suc, List, [], ◌∷◌, length, Option, option_map, slice_get, drop, get_or, ap, sym, ◌∙◌, subst, refl, inl, inr, arith, drop-cons, drop_of_length-le}
 use Rattle.std.specs.Borrow.{Bor}
 use Rattle.std.proofs.lemmas.List.{length-map}
 use Rattle.command_words.specs.Commands.{IsOfCommand, texts}
 use Rattle.command_words.specs.declared.command.Command.{Command}
 use Rattle.command_words.specs.declared.command.Command.TheVariants.{Check, Init, Ideal, Step, Shallow, Prove, Verify, Audit}
-use Rattle.auth_cli.specs.Answer.{answer_with}
+use Rattle.auth_cli.specs.Answer.{answer_with, judged_answer}
 use Rattle.lam_outside.specs.Told.{Contents, Names}
 use Rattle.auth_cli.specs.Ending.{EndsAs, Outside}
 use Rattle.auth_cli.specs.Reaching.{IsReached}
@@ -48,27 +48,58 @@ pub reached_known : (command known : Command) (ts : List (List ℕ)) (contents :
     → IsReached (answer_with command ts) contents asked
 reached_known command known ts contents asked is reached = subst (λ c. IsReached (answer_with c ts) contents asked) (sym is) reached
 
--- how many words each command has
-abbrev pub count_of : Command → ℕ
-count_of Check = 1
-count_of Init = 5
-count_of Ideal = 5
-count_of Step = 6
-count_of Shallow = 3
-count_of Prove = 7
-count_of Verify = 6
-count_of Audit = 6
+-- how many words each command has at least, and at most
+abbrev pub least_of : Command → ℕ
+least_of Check = 1
+least_of Init = 5
+least_of Ideal = 5
+least_of Step = 6
+least_of Shallow = 3
+least_of Prove = 7
+least_of Verify = 6
+least_of Audit = 6
 
-pub counted : (command : Command) (words : List (Bor (List ℕ))) → IsOfCommand command (texts words) → length words ≡ count_of command
-counted command words of = sym (length-map words (λ word. word.now)) ∙ by of
+abbrev pub most_of : Command → ℕ
+most_of Verify = 7
+most_of command = least_of command
+
+abbrev AreSoMany : ℕ → Command → Type 0
+AreSoMany n command = (least_of command ≤ n) × (n ≤ most_of command)
+
+pub within : (command : Command) (words : List (Bor (List ℕ))) → IsOfCommand command (texts words) → (least_of command ≤ length words) × (length words ≤ most_of command)
+within command words of = subst (λ n. AreSoMany n command) (length-map words (λ word. word.now)) (by of)
   where
-    by : IsOfCommand command (texts words) → length (texts words) ≡ count_of command
-    by (inl is) = is.1 ∙ ap count_of is.0
-    by (inr (inl is)) = is.1 ∙ ap count_of is.0
-    by (inr (inr (inl is))) = is.1 ∙ ap count_of is.0
-    by (inr (inr (inr (inl is)))) = is.1 ∙ ap count_of is.0
-    by (inr (inr (inr (inr (inl is))))) = is.1 ∙ ap count_of is.0
-    by (inr (inr (inr (inr (inr (inl is)))))) = is.1 ∙ ap count_of is.0
-    by (inr (inr (inr (inr (inr (inr (inl is))))))) = is.1 ∙ ap count_of is.0
-    by (inr (inr (inr (inr (inr (inr (inr (inl is)))))))) = is.1 ∙ ap count_of is.0
+    n : ℕ
+    n = length (texts words)
+
+    by : IsOfCommand command (texts words) → AreSoMany n command
+    by (inl (is, (least, most))) = subst (AreSoMany n) is (least, most)
+    by (inr (inl (is, (least, most)))) = subst (AreSoMany n) is (least, most)
+    by (inr (inr (inl (is, (least, most))))) = subst (AreSoMany n) is (least, most)
+    by (inr (inr (inr (inl (is, (least, most)))))) = subst (AreSoMany n) is (least, most)
+    by (inr (inr (inr (inr (inl (is, (least, most))))))) = subst (AreSoMany n) is (least, most)
+    by (inr (inr (inr (inr (inr (inl (is, (least, most)))))))) = subst (AreSoMany n) is (least, most)
+    by (inr (inr (inr (inr (inr (inr (inl (is, (least, most))))))))) = subst (AreSoMany n) is (least, most)
+    by (inr (inr (inr (inr (inr (inr (inr (inl (is, (least, most)))))))))) = subst (AreSoMany n) is (least, most)
     by (inr (inr (inr (inr (inr (inr (inr (inr is)))))))) = absurd is
+
+pub counted : (command : Command) (words : List (Bor (List ℕ))) → most_of command ≡ least_of command → IsOfCommand command (texts words) → length words ≡ least_of command
+counted command words same of = let so_many = within command words of in let low = so_many.0 in let high = so_many.1 in omega (arith, low, high, same)
+
+-- ---- the words of `verify`
+
+-- the text of the seventh word, where there is one
+abbrev pub seventh : List (Bor (List ℕ)) → Option (List ℕ)
+seventh words = option_map (λ word. word.now) (slice_get words 6)
+
+pub verify_apart : (words : List (Bor (List ℕ))) → 6 ≤ length words → length words ≤ 7
+    → answer_with Verify (texts words) ≡ judged_answer (text_at words 0) (text_at words 1) (text_at words 2) (text_at words 3) (text_at words 4) (text_at words 5) (seventh words)
+verify_apart (a ∷ b ∷ c ∷ d ∷ e ∷ f ∷ []) least most = refl
+verify_apart (a ∷ b ∷ c ∷ d ∷ e ∷ f ∷ g ∷ []) least most = refl
+verify_apart (a ∷ b ∷ c ∷ d ∷ e ∷ f ∷ g ∷ h ∷ ws) least most = absurd (omega (arith, most))
+verify_apart (a ∷ b ∷ c ∷ d ∷ e ∷ []) least most = absurd (omega (arith, least))
+verify_apart (a ∷ b ∷ c ∷ d ∷ []) least most = absurd (omega (arith, least))
+verify_apart (a ∷ b ∷ c ∷ []) least most = absurd (omega (arith, least))
+verify_apart (a ∷ b ∷ []) least most = absurd (omega (arith, least))
+verify_apart (a ∷ []) least most = absurd (omega (arith, least))
+verify_apart [] least most = absurd (omega (arith, least))

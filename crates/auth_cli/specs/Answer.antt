@@ -28,6 +28,7 @@ use Rattle.printed_lines.specs.declared.refusal.InputFault.TheVariants.{TooLong,
 use Rattle.printed_lines.specs.declared.refusal.Refusal.{Refusal}
 use Rattle.printed_lines.specs.declared.refusal.Refusal.TheVariants as refusal
 use Rattle.core_terms.specs.Roles.{argument_type}
+use Rattle.stream_verifier.specs.Verdicts.{verdict_keeping}
 use Rattle.collision_audit.specs.Audits.{Collides, Judges}
 use Rattle.collision_audit.specs.Audits as audits
 use Rattle.ideal_meaning.specs.Headline.{call_of}
@@ -73,13 +74,13 @@ outcome_answer t (ideal.Done v) = says Done (done_line t v)
 outcome_answer t (ideal.Trapped trap) = says Trap (trap_line trap)
 outcome_answer t ideal.Out = says OutOfFuel out_line
 
--- What is answered for a verdict. Of a call whose state was read, and whose argument is the spelling of a literal's value, it is one on
--- the proof: `VerdictLaws.antt` says that the other two don't come.
-abbrev pub verdict_answer : Ty → checked.Verdict → Answer
-verdict_answer t (checked.BadState offset) = input_refused (State offset)
-verdict_answer t (checked.BadArgument offset) = input_refused (BadLiteral Mismatch offset)
-verdict_answer t (checked.Rejected cause) = says Rejected (rejected_line cause)
-verdict_answer t (checked.Accepted o) = outcome_answer t o
+-- What is answered for a verdict, where this is answered for the outcome that is accepted. Of a call whose state was read, and whose
+-- argument is the spelling of a literal's value, it is one on the proof: `VerdictLaws.antt` says that the other two don't come.
+abbrev pub verdict_answer : (ideal.Outcome → Answer) → checked.Verdict → Answer
+verdict_answer told (checked.BadState offset) = input_refused (State offset)
+verdict_answer told (checked.BadArgument offset) = input_refused (BadLiteral Mismatch offset)
+verdict_answer told (checked.Rejected cause) = says Rejected (rejected_line cause)
+verdict_answer told (checked.Accepted o) = told o
 
 -- the longest text of a program, and the longest of all other files
 abbrev pub max_program : ℕ
@@ -93,6 +94,11 @@ max_file = 67108864
 abbrev pub with_file : ℕ → Argument → Option (List ℕ) → (List ℕ → Option Answer) → Option Answer
 with_file most word None go = None
 with_file most word (Some bytes) go = if nat_le (length bytes) most then go bytes else Some (input_refused (TooLong word))
+
+-- the same of a file that may have any length
+abbrev pub with_bytes : Option (List ℕ) → (List ℕ → Option Answer) → Option Answer
+with_bytes None go = None
+with_bytes (Some bytes) go = go bytes
 
 -- goes on with the program that a text with this digest is
 abbrev pub with_program : List ℕ → TextProgram → (DigestedProgram → Option Answer) → Option Answer
@@ -160,10 +166,6 @@ literal_at P t text = literal P t text
 abbrev pub with_value : Program → Ty → List ℕ → (Value → Option Answer) → Option Answer
 with_value P t text go = with_literal (literal_at P t text) go
 
--- goes on with the spelling of the argument of a query
-abbrev pub with_argument : Program → ℕ → List ℕ → (List ℕ → Option Answer) → Option Answer
-with_argument P f text go = with_value P (argument_type P f) text (λ v. go (spelling v))
-
 -- why the bytes of an image are refused
 abbrev pub image_kind : images.ImageFault → ImageKind
 image_kind images.Magic = kind.Magic
@@ -198,37 +200,6 @@ with_fueled_query program role fuel files go =
     with_query p.program role (λ f.
     with_fuel fuel (λ k.
     go (record { program = p; role = f; fuel = k }))))
-
--- a call of a query, with the spellings of its state and argument
-pub record Call : Type 0 where
-  pub program : Program
-  pub role : ℕ
-  pub fuel : ℕ
-  pub state : List ℕ
-  pub argument : List ℕ
-
--- goes on with the call of a query on the state that a file spells, and then on the argument
-abbrev pub with_call : FueledQuery → (state argument : List ℕ) → Contents → (Call → Option Answer) → Option Answer
-with_call q state argument files go =
-    with_state_file q.program.program (files state) (λ s.
-    with_argument q.program.program q.role argument (λ a.
-    go (record { program = q.program.program; role = q.role; fuel = q.fuel; state = s; argument = a })))
-
--- the verdict on a proof of a call
-unfoldable pub call_verdict : Call → List ℕ → checked.Verdict
-call_verdict call proof =
-    checked.verdict sha256 call.program (argument_type call.program call.role) call.role call.state call.argument call.fuel proof
-
--- what is answered for it
-abbrev pub call_answer : Call → List ℕ → Answer
-call_answer call proof = verdict_answer (function_at call.program call.role).result (call_verdict call proof)
-
--- the verdict on a proof file, which is opened when all else is well-formed
-abbrev pub judged_answer : (program role state argument fuel proof : List ℕ) → Contents → Option Answer
-judged_answer program role state argument fuel proof files =
-    with_fueled_query program role fuel files (λ q.
-    with_call q state argument files (λ call.
-    with_file max_file named.Proof (files proof) (λ bytes. Some (call_answer call bytes))))
 
 -- `check P`: the digest of the program's text, which is one of the whole language
 abbrev pub checked_answer : List ℕ → Contents → Option Answer
@@ -270,6 +241,30 @@ with_fueled_role callee p role fuel go =
 abbrev pub with_passed : FueledRole → List ℕ → (Value → Option Answer) → Option Answer
 with_passed r text go = with_literal (passed_literal r text) go
 
+-- a call of a query or an update, with the spellings of its state and argument
+pub record RoleCall : Type 0 where
+  pub role : FueledRole
+  pub state : List ℕ
+  pub argument : List ℕ
+
+-- goes on with the call of a role on the state that a file spells, and then on what is passed to it
+abbrev pub with_role_call : FueledRole → (state argument : List ℕ) → Contents → (RoleCall → Option Answer) → Option Answer
+with_role_call r state argument files go =
+    with_state_file (program_called r) (files state) (λ s.
+    with_passed r argument (λ a.
+    go (record { role = r; state = s; argument = spelling a })))
+
+-- the greatest number of pieces that a proof may ask to be kept
+abbrev pub most_kept : ℕ
+most_kept = 1024
+
+-- the verdict on a proof of a call
+unfoldable pub role_verdict : RoleCall → List ℕ → checked.Verdict
+role_verdict call proof =
+    let r = call.role in
+    let P = program_called r in
+    verdict_keeping sha256 P most_kept (argument_type P r.role) r.role call.state call.argument r.fuel proof
+
 -- goes on with an init that was called, and how it ended: the role, the fuel and the argument in this order
 abbrev pub with_ended_init : NamedProgram → (role argument fuel : List ℕ) → (EndedRole → Option Answer) → Option Answer
 with_ended_init p role argument fuel go =
@@ -285,12 +280,17 @@ with_ended_call callee p role image argument fuel files go =
     with_passed r argument (λ a.
     go (ended_with r (call_of s a)))))
 
--- what is answered for a role that was called: of a value its projection, with the names of its constructors
+-- what is answered for an outcome in projection: its value, with the names of its constructors
+abbrev pub shallow_told : FueledRole → ideal.Outcome → Answer
+shallow_told r (ideal.Done v) = says Done (named_done_line (program_called r).types r.program.names (result_called r) v)
+shallow_told r (ideal.Trapped trap) = says Trap (trap_line trap)
+shallow_told r ideal.Out = says OutOfFuel out_line
+
+-- what is answered for a role that was called: of a value its projection
 abbrev pub outcome_told : FueledRole → ideal.Outcome → Answer
-outcome_told r (ideal.Done v) =
-    says Done (named_done_line (program_called r).types r.program.names (result_called r) (projection_called r v))
-outcome_told r (ideal.Trapped trap) = says Trap (trap_line trap)
-outcome_told r ideal.Out = says OutOfFuel out_line
+outcome_told r (ideal.Done v) = shallow_told r (ideal.Done (projection_called r v))
+outcome_told r (ideal.Trapped trap) = shallow_told r (ideal.Trapped trap)
+outcome_told r ideal.Out = shallow_told r ideal.Out
 
 abbrev pub role_answer : EndedRole → Answer
 role_answer ended = outcome_told ended.role ended.outcome
@@ -331,6 +331,32 @@ stepped_answer program role image argument fuel out files =
     with_language_file (files program) (λ p.
     with_ended_call callee.Update p role image argument fuel files (λ ended. Some (storing_answer ended out)))
 
+-- which roles `verify` calls: updates alone, where a name is given for the new state
+abbrev pub callee_of : Option (List ℕ) → Callee
+callee_of None = callee.OfState
+callee_of (Some out) = callee.Update
+
+-- what is stored of an outcome in projection: the spelling of the new state, where a name is given for it
+abbrev pub spelling_stored : FueledRole → Option (List ℕ) → ideal.Outcome → Stores
+spelling_stored r (Some name) (ideal.Done v) = (name, spelling (state_made (kind_called r) v)) ∷ []
+spelling_stored r out o = []
+
+-- what is answered for an outcome that is accepted
+abbrev pub accepted_answer : FueledRole → Option (List ℕ) → ideal.Outcome → Answer
+accepted_answer r out o = record (shallow_told r o) { stored = spelling_stored r out o }
+
+-- what is answered for a proof of a call
+abbrev pub verified_answer : Option (List ℕ) → RoleCall → List ℕ → Answer
+verified_answer out call proof = verdict_answer (accepted_answer call.role out) (role_verdict call proof)
+
+-- `verify P ROLE STATE ARG FUEL PROOF [OUT]`: the verdict on a proof file, which is opened when all else is well-formed
+abbrev pub judged_answer : (program role state argument fuel proof : List ℕ) → (out : Option (List ℕ)) → Contents → Option Answer
+judged_answer program role state argument fuel proof out files =
+    with_language_file (files program) (λ p.
+    with_fueled_role (callee_of out) p role fuel (λ r.
+    with_role_call r state argument files (λ call.
+    with_bytes (files proof) (λ bytes. Some (verified_answer out call bytes)))))
+
 -- goes on with the number of pieces that a proof asks to be kept
 abbrev pub with_kept : Program → List ℕ → (ℕ → Option Answer) → Option Answer
 with_kept P text go = with_number named.Number (number_within P.format.most_kept text) go
@@ -360,16 +386,11 @@ proved_answer program role image argument fuel kept out files =
 abbrev pub agreeing : Answer → Answer
 agreeing a = record a { lines = map agrees_line a.lines }
 
--- What is answered for the verdict that an audit comes to: agreement on its outcome, or its rejection. It is one on the proof, since the
--- state and the argument are ideal values within the limits.
-abbrev pub agreed_answer : Ty → checked.Verdict → Answer
-agreed_answer t (checked.Accepted o) = agreeing (outcome_answer t o)
-agreed_answer t v = verdict_answer t v
-
--- what is answered for what an audit comes to, of a call whose result has type t
+-- What is answered for what an audit comes to, of a call whose result has type t: a collision, or what is answered for its verdict, with
+-- agreement on its outcome. The verdict is one on the proof, since the state and the argument are ideal values within the limits.
 abbrev pub audit_told : Ty → audits.Audit → Answer
 audit_told t (Collides split) = says Collision (collision_line split.place split.offered split.honest)
-audit_told t (Judges v) = agreed_answer t v
+audit_told t (Judges v) = verdict_answer (λ o. agreeing (outcome_answer t o)) v
 
 abbrev pub call_audit_answer : IdealCall → List ℕ → Answer
 call_audit_answer call proof = audit_told (result_type call) (call_audit call proof)
@@ -382,8 +403,8 @@ audited_answer program role image argument fuel proof files =
     with_file max_file named.Proof (files proof) (λ bytes. Some (call_audit_answer call bytes))))
 
 -- What is answered to a command with the texts of its arguments: `check P`, `init P ROLE ARG FUEL OUT`, `ideal P ROLE IMG ARG FUEL`,
--- `step P ROLE IMG ARG FUEL OUT`, `shallow P IMG OUT`, `prove P ROLE IMG ARG FUEL N OUT`, `verify P ROLE STATE ARG FUEL PROOF` and `audit P ROLE IMG ARG FUEL PROOF`. No command is called with
--- more texts or fewer.
+-- `step P ROLE IMG ARG FUEL OUT`, `shallow P IMG OUT`, `prove P ROLE IMG ARG FUEL N OUT`, `verify P ROLE STATE ARG FUEL PROOF`, or this with `OUT` behind it, and `audit P ROLE IMG ARG FUEL PROOF`. No command
+-- is called with more texts or fewer.
 abbrev pub answer_with : Command → List (List ℕ) → Contents → Option Answer
 answer_with Check (program ∷ []) = checked_answer program
 answer_with Init (program ∷ role ∷ argument ∷ fuel ∷ out ∷ []) = initial_answer program role argument fuel out
@@ -391,7 +412,8 @@ answer_with Ideal (program ∷ role ∷ image ∷ argument ∷ fuel ∷ []) = id
 answer_with Step (program ∷ role ∷ image ∷ argument ∷ fuel ∷ out ∷ []) = stepped_answer program role image argument fuel out
 answer_with Shallow (program ∷ image ∷ out ∷ []) = spelled_answer program image out
 answer_with Prove (program ∷ role ∷ image ∷ argument ∷ fuel ∷ kept ∷ out ∷ []) = proved_answer program role image argument fuel kept out
-answer_with Verify (program ∷ role ∷ state ∷ argument ∷ fuel ∷ proof ∷ []) = judged_answer program role state argument fuel proof
+answer_with Verify (program ∷ role ∷ state ∷ argument ∷ fuel ∷ proof ∷ []) = judged_answer program role state argument fuel proof None
+answer_with Verify (program ∷ role ∷ state ∷ argument ∷ fuel ∷ proof ∷ out ∷ []) = judged_answer program role state argument fuel proof (Some out)
 answer_with Audit (program ∷ role ∷ image ∷ argument ∷ fuel ∷ proof ∷ []) = audited_answer program role image argument fuel proof
 answer_with command texts = λ files. None
 

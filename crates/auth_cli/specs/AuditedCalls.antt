@@ -17,12 +17,12 @@ use Rattle.collision_audit.specs.AuditAnswers.{HasNoSplit}
 use Rattle.collision_audit.specs.Audits as audits
 use Rattle.collision_audit.specs.Audits.{Collides, Judges}
 use Rattle.collision_audit.specs.Splits.{Split, IsSplit, offered_in}
-use Rattle.auth_cli.specs.Answer.{agreeing, call_audit_answer, call_verdict, command_answer, max_file, outcome_answer}
+use Rattle.auth_cli.specs.Answer.{agreeing, call_audit_answer, command_answer, max_file, outcome_answer}
 use Rattle.auth_cli.specs.Ending.{Outside}
 use Rattle.auth_cli.specs.Halting.{Found}
 use Rattle.auth_cli.specs.IdealCalls.{IdealCall, call_audit, call_pieces, called_program, projected_outcome, result_type}
 use Rattle.auth_cli.specs.NamedCalls.{NamesInputs, NamesQuery}
-use Rattle.auth_cli.specs.ProvedCalls.{client_call}
+use Rattle.auth_cli.specs.ProvedCalls.{call_verdict, client_call}
 use Rattle.auth_cli.specs.TrueLines.{TellsOutcome}
 use Rattle.auth_cli.specs.declared.report.Halt.TheVariants.{Refused}
 use Rattle.auth_cli.specs.declared.status.Status.{Status}

@@ -1,30 +1,19 @@
--- The calls that a command reads from its words.
+-- The calls of queries that a command reads from its words.
 use Rattle.std.specs.Prelude.{◌≡◌, ◌<◌, ◌≤◌, ◌^◌, ℕ, length}
 use Rattle.core_terms.specs.Terms.{Program, Query, function_at}
 use Rattle.core_terms.specs.Values.{IsIdeal}
 use Rattle.plain_meaning.specs.PlainValues.{plain_of}
 use Rattle.core_terms.specs.Roles.{argument_type}
-use Rattle.auth_cli.specs.Answer as def
 use Rattle.auth_cli.specs.FueledQueries as queries
 use Rattle.auth_cli.specs.IdealCalls.{called_program}
 use Rattle.auth_cli.specs.IdealCalls as ideal
 use Rattle.auth_cli.specs.ReadPrograms.{digested}
-use Rattle.auth_cli.specs.declared.calls.Call.{Call}
 use Rattle.auth_cli.specs.declared.ideal_calls.IdealCall.{IdealCall}
 use Rattle.auth_cli.specs.declared.queries.FueledQuery.{FueledQuery}
 
--- the query, and the calls, of the definitions
+-- the query, and the call, of the definitions
 abbrev pub query_of : FueledQuery → queries.FueledQuery
 query_of query = record { program = digested query.program; role = query.role.0; fuel = query.fuel }
-
-abbrev pub call_of : Call → def.Call
-call_of call = record {
-  program = (query_of call.query).program.program;
-  role = call.query.role.0;
-  fuel = call.query.fuel;
-  state = call.state.items;
-  argument = call.argument;
-}
 
 abbrev pub ideal_call_of : IdealCall → ideal.IdealCall
 ideal_call_of call = record { query = query_of call.query; state = plain_of call.state; argument = plain_of call.argument }
@@ -37,9 +26,6 @@ pub record IsQueryOf (P : Program) (f k : ℕ) : Type 0 where
 
 abbrev pub IsQuery : queries.FueledQuery → Type 0
 IsQuery query = IsQueryOf query.program.program query.role query.fuel
-
-abbrev pub IsQueryCall : def.Call → Type 0
-IsQueryCall call = IsQueryOf call.program call.role call.fuel
 
 -- the same of a call whose state and argument are ideal values of their types
 pub record IsIdealCall (call : ideal.IdealCall) : Type 0 where

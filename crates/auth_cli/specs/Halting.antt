@@ -13,8 +13,8 @@ use Rattle.printed_lines.specs.declared.refusal.Argument.TheVariants as argument
 use Rattle.printed_lines.specs.declared.refusal.ImageKind.TheVariants as kind
 use Rattle.printed_lines.specs.declared.refusal.InputFault.TheVariants as input_fault
 use Rattle.printed_lines.specs.declared.refusal.Refusal.TheVariants as refusal
-use Rattle.verifier_mode.specs.declared.judge.Verdict.{Verdict}
-use Rattle.verifier_mode.specs.declared.judge.Verdict.TheVariants as verdict
+use Rattle.stream_verifier.specs.declared.verdict.Verdict.{Verdict}
+use Rattle.stream_verifier.specs.declared.verdict.Verdict.TheVariants as verdict
 use Rattle.auth_cli.specs.Answer.{Answer, says, refusal_status}
 use Rattle.auth_cli.specs.declared.programs.ProgramFault.{ProgramFault}
 use Rattle.auth_cli.specs.declared.programs.ProgramFault.TheVariants as program_fault
@@ -86,6 +86,7 @@ abbrev pub of_verdict : Verdict → Halt
 of_verdict (verdict.Rejected cause) = Refused (refusal.Proof cause)
 of_verdict (verdict.BadState offset) = Refused (refusal.Input (input_fault.State offset))
 of_verdict (verdict.BadArgument offset) = Refused (refusal.Input (input_fault.Literal Mismatch offset))
+of_verdict verdict.ReadFault = ReadFault
 of_verdict verdict.NoMemory = NoMemory
 
 -- what halted the work is what the answer says, unless a file could not be read or memory was wanting

@@ -16,6 +16,7 @@ pub mod ReadPrograms
 pub mod Reporting
 pub mod RoleCalls
 pub mod RolesCalled
+pub mod RolesJudged
 pub mod ShallowLaws
 pub mod SoundPrograms
 pub mod Statuses

@@ -1,5 +1,5 @@
 -- What a run of `prove` says of the verifier, in the words of its command line and its files.
-use Rattle.std.specs.Prelude.{◌≡◌, ◌≤◌, ℕ, List, [], ◌∷◌, ◌++◌, length, Option, Some}
+use Rattle.std.specs.Prelude.{◌≡◌, ℕ, List, [], ◌∷◌, ◌++◌, Option, Some, None}
 use Rattle.std.specs.List.{concat}
 use Rattle.std.specs.Option.{ForSome}
 use Rattle.std.specs.Io.KnownBytes.{append_known}
@@ -7,14 +7,30 @@ use Rattle.command_words.specs.Invocations.{Invocation, calls}
 use Rattle.command_words.specs.declared.command.Command.TheVariants.{Prove}
 use Rattle.lam_outside.specs.Told.{Contents, AddsStores}
 use Rattle.core_terms.specs.Spelling.{spelling}
-use Rattle.ideal_meaning.specs.Checked.{Accepted}
-use Rattle.auth_cli.specs.Answer.{Call, call_verdict, command_answer, judged_answer, max_file, outcome_answer, proof_answer, state_projection}
+use Rattle.sha2.specs.Sha256.{sha256}
+use Rattle.core_terms.specs.Roles.{argument_type}
+use Rattle.core_terms.specs.Terms.{Program}
+use Rattle.ideal_meaning.specs.Checked.{Accepted, Verdict, verdict}
+use Rattle.auth_cli.specs.Answer.{command_answer, judged_answer, outcome_answer, proof_answer, state_projection}
 use Rattle.auth_cli.specs.Arguments.{number_within}
 use Rattle.auth_cli.specs.Ending.{Outside}
 use Rattle.auth_cli.specs.IdealCalls.{IdealCall, call_proof, call_proof_line, called_program, projected_outcome, result_type}
 use Rattle.auth_cli.specs.NamedCalls.{NamesInputs, NamesQuery}
 use Rattle.auth_cli.specs.SoundPrograms.{IsOutcome}
 use Rattle.auth_cli.specs.declared.status.Status.{Status}
+
+-- a call of a query, with the spellings of its state and argument
+pub record Call : Type 0 where
+  pub program : Program
+  pub role : ℕ
+  pub fuel : ℕ
+  pub state : List ℕ
+  pub argument : List ℕ
+
+-- the verdict on a proof of a call, which may ask for as many pieces to be kept as the program's format allows
+unfoldable pub call_verdict : Call → List ℕ → Verdict
+call_verdict call proof =
+    verdict sha256 call.program (argument_type call.program call.role) call.role call.state call.argument call.fuel proof
 
 -- The call as a client makes it, who holds the spelling of the state's projection, as `shallow` stores it, and that of the argument.
 abbrev pub client_call : IdealCall → Call
@@ -46,12 +62,12 @@ pub record CallsProve (invocation : Invocation) (files : Contents) (call : Ideal
   pub inputs : NamesInputs image_name argument_text files call
 
 -- Whatever files hold the text of the program, what `shallow` stores of the state, and this proof: `verify` answers it with the line and
--- the status of the outcome. It reads files of at most `max_file` bytes.
+-- the status of the outcome.
 abbrev pub IsVerified : (call : IdealCall) → ℕ → (text role argument fuel : List ℕ) → Type 0
 IsVerified call n text role argument fuel =
     (program state proof : List ℕ) (files : Contents) → files program ≡ Some text → files state ≡ Some (client_call call).state
-    → files proof ≡ Some (call_proof call n) → length (call_proof call n) ≤ max_file
-    → judged_answer program role state argument fuel proof files ≡ Some (outcome_answer (result_type call) (projected_outcome call))
+    → files proof ≡ Some (call_proof call n)
+    → judged_answer program role state argument fuel proof None files ≡ Some (outcome_answer (result_type call) (projected_outcome call))
 
 -- the command means a call, its proof is answered to it, and the proof is accepted
 pub record MeansProof (invocation : Invocation) (files : Contents) : Type 0 where

@@ -1,56 +1,72 @@
 -- What a run of `verify` says of the ideal run, in the words of its command line and its files.
-use Rattle.std.specs.Prelude.{◌≡◌, ◌⊎◌, ℕ, List, [], ◌∷◌, drop, Option, Some}
+use Rattle.std.specs.Prelude.{◌≡◌, ◌⊎◌, ℕ, true, List, [], ◌∷◌, drop, Option, Some, None}
 use Rattle.std.specs.List.{concat}
 use Rattle.std.specs.Io.KnownBytes.{append_known}
 use Rattle.command_words.specs.Invocations.{calls, invocation_of}
 use Rattle.command_words.specs.declared.command.Command.TheVariants.{Verify}
 use Rattle.sha2.specs.Sha256.{sha256}
-use Rattle.lam_outside.specs.Told.{Contents}
+use Rattle.lam_outside.specs.Told.{Contents, AddsStores}
 use Rattle.core_terms.specs.Values.{Value, IsIdeal}
 use Rattle.core_terms.specs.Spelling.{spelling}
-use Rattle.core_terms.specs.Terms.{Program, function_at}
+use Rattle.core_terms.specs.Terms.{Program}
 use Rattle.core_terms.specs.Projection.{projection}
-use Rattle.printed_syntax.specs.Literals.{IsValue, literal}
+use Rattle.core_terms.specs.Roles.{argument_type, role_named}
+use Rattle.printed_syntax.specs.Literals.{IsValue}
 use Rattle.ideal_meaning.specs.Ideal.{Outcome}
 use Rattle.ideal_meaning.specs.Frames.{offered, offered_pieces, header}
 use Rattle.ideal_meaning.specs.Headline.{TrueOrSplit, call_of}
-use Rattle.core_terms.specs.Roles.{argument_type}
-use Rattle.auth_cli.specs.Answer.{outcome_answer}
-use Rattle.auth_cli.specs.Arguments.{fuel_of, query_named}
-use Rattle.auth_cli.specs.TextPrograms.{IsProgram, program_of_text}
+use Rattle.stream_verifier.specs.Verdicts.{keeping}
+use Rattle.auth_cli.specs.Answer.{accepted_answer, callee_of, most_kept}
+use Rattle.auth_cli.specs.Arguments.{fuel_of}
+use Rattle.auth_cli.specs.Ending.{Outside}
+use Rattle.auth_cli.specs.FueledQueries.{FueledRole, NamedProgram}
+use Rattle.auth_cli.specs.RoleCalls.{is_called, kind_called, passed_literal, program_called, result_called}
+use Rattle.auth_cli.specs.TextPrograms.{IsProgram, constructor_names_of_text, language_program_of_text}
 
--- The words call `verify` on files and arguments that mean these: a query of a program with so much fuel, on an ideal state
--- and an ideal argument. The state's file has the spelling of its projection, and the argument is a literal of its own; the proof's
--- file has any bytes.
-pub record CallsVerify (line : List (List ℕ)) (files : Contents) (P : Program) (f k : ℕ) (state argument : Value) (proof : List ℕ) : Type 0 where
+-- the word of the name that the new state is stored under, where there is one
+abbrev pub words_of : Option (List ℕ) → List (List ℕ)
+words_of None = []
+words_of (Some out) = out ∷ []
+
+-- a program of the whole language with the digest of its text and the names of its constructors
+abbrev pub named_program : List ℕ → Program → NamedProgram
+named_program text P = record { digested = record { program = P; digest = sha256 text }; names = constructor_names_of_text text }
+
+-- The words call `verify` on files and arguments that mean these: a query or an update of a program of the whole language with so much
+-- fuel, on an ideal state and an ideal argument, and a name for the new state, or none. Where there is a name, it is an update. The
+-- state's file has the spelling of its projection, and the argument is a literal of its own; the proof's file has any bytes.
+pub record CallsVerify (line : List (List ℕ)) (files : Contents) (r : FueledRole) (state argument : Value) (proof : List ℕ) (out : Option (List ℕ)) : Type 0 where
   pub program_name : List ℕ
   pub role_name : List ℕ
   pub state_name : List ℕ
   pub argument_text : List ℕ
   pub fuel_text : List ℕ
   pub proof_name : List ℕ
-  pub words : invocation_of line ≡ Some (calls Verify (program_name ∷ role_name ∷ state_name ∷ argument_text ∷ fuel_text ∷ proof_name ∷ []))
+  pub words : invocation_of line ≡ Some (calls Verify (program_name ∷ role_name ∷ state_name ∷ argument_text ∷ fuel_text ∷ proof_name ∷ words_of out))
   pub text : List ℕ
   pub program_file : files program_name ≡ Some text
-  pub program : program_of_text text ≡ IsProgram P
-  pub role : query_named P role_name ≡ Some f
-  pub fuel : fuel_of fuel_text ≡ Some k
-  pub ideal_state : IsIdeal P.types P.state state
-  pub state_file : files state_name ≡ Some (spelling (projection sha256 P P.state state))
-  pub ideal_argument : IsIdeal P.types (argument_type P f) argument
-  pub argument_is : literal P (argument_type P f) argument_text ≡ IsValue (projection sha256 P (argument_type P f) argument)
+  pub program : language_program_of_text text ≡ IsProgram (program_called r)
+  pub named : r.program ≡ named_program text (program_called r)
+  pub role : role_named (program_called r) role_name ≡ Some r.role
+  pub called : is_called (callee_of out) (kind_called r) ≡ true
+  pub fuel : fuel_of fuel_text ≡ Some r.fuel
+  pub ideal_state : IsIdeal (program_called r).types (program_called r).state state
+  pub state_file : files state_name ≡ Some (spelling (projection sha256 (program_called r) (program_called r).state state))
+  pub ideal_argument : IsIdeal (program_called r).types (argument_type (program_called r) r.role) argument
+  pub argument_is : passed_literal r argument_text ≡ IsValue (projection sha256 (program_called r) (argument_type (program_called r) r.role) argument)
   pub proof_file : files proof_name ≡ Some proof
 
 -- the statuses of an outcome
 abbrev pub TellsOutcome : ℕ → Type 0
 TellsOutcome number = (number ≡ 0) ⊎ ((number ≡ 3) ⊎ (number ≡ 4))
 
--- The headline of a run. Whatever ideal state and argument the words and files stand for: where the status is that of an
--- outcome, the line of that outcome was written, and the outcome is the projection of the ideal one; or the first offered
--- piece that differs from the honest one has its digest, and its place is named.
-abbrev pub IsTrueLine : List (List ℕ) → Contents → Option (List ℕ) → Option (List ℕ) → ℕ → Type 0
+-- The headline of a run. Whatever ideal state and argument the words and files stand for: where the status is that of an outcome, the
+-- line of an outcome was written, the spelling of its new state stored where there is a name for it, and the outcome is the projection of
+-- the ideal one; or the first offered piece that differs from the honest one has its digest, and its place is named.
+abbrev pub IsTrueLine : List (List ℕ) → Contents → Outside → Outside → ℕ → Type 0
 IsTrueLine line files old new number =
-    (P : Program) (f k : ℕ) (state argument : Value) (proof : List ℕ) → CallsVerify line files P f k state argument proof → TellsOutcome number
-    → (o : Outcome) × (new ≡ append_known old (concat (outcome_answer (function_at P f).result o).lines))
-    × ((n : ℕ) × (header P.format proof ≡ Some n)
-    × TrueOrSplit sha256 P f (function_at P f).result (call_of state argument) k (offered_pieces (offered P.format.limit (drop 6 proof) n [])) o)
+    (r : FueledRole) (state argument : Value) (proof : List ℕ) (out : Option (List ℕ)) → CallsVerify line files r state argument proof out → TellsOutcome number
+    → let P = program_called r in
+    (o : Outcome) × (new.written ≡ append_known old.written (concat (accepted_answer r out o).lines)) × AddsStores old.stores new.stores (accepted_answer r out o).stored
+    × ((n : ℕ) × (header (keeping most_kept P.format) proof ≡ Some n)
+    × TrueOrSplit sha256 P r.role (result_called r) (call_of state argument) r.fuel (offered_pieces (offered P.format.limit (drop 6 proof) n [])) o)

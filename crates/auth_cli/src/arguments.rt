@@ -8,7 +8,7 @@ ghost use Rattle.core_terms.specs.Values.{IsIdeal};
 ghost use Rattle.plain_meaning.specs.PlainValues.{plain_of};
 ghost use Rattle.printed_syntax.specs.Literals.{IsValue};
 ghost use Rattle.core_terms.specs.Roles.{argument_type};
-ghost use Rattle.auth_cli.specs.Answer.{literal_at, with_argument, with_fuel, with_kept, with_query, with_value};
+ghost use Rattle.auth_cli.specs.Answer.{literal_at, with_fuel, with_kept, with_query, with_value};
 ghost use Rattle.auth_cli.specs.Arguments.{fuel_of, is_number, number_within, query_named};
 ghost use Rattle.auth_cli.specs.Halting.{GoesOnInHand};
 
@@ -99,19 +99,4 @@ pub fn read_query_argument(
 {
     let parameters = &program.function(query).parameters;
     read_value(alloc, program, parameters[1], text)
-}
-
-/// The spelling of the value that a text is a literal of, at the type of a query's argument.
-pub fn read_argument(
-    alloc: Global,
-    program: &Program,
-    query: FunctionId,
-    text: &str,
-) -> Result<Spelling, Halt>
-    requires there { query.0 < length (meaning program.now).functions }
-    requires query { (function_at (meaning program.now) query.0).kind ≡ tree.Query }
-    ensures { GoesOnInHand (with_argument (meaning program.now) query.0 text.now) (λ spelling. spelling) result }
-{
-    let parameters = &program.function(query).parameters;
-    Ok(parse_fragment_literal(alloc, program, parameters[1], text)?)
 }

@@ -1,55 +1,70 @@
-// Calls of a query on the spelling of a state, as the words of a command line name them.
-ghost use Rattle.std.specs.Prelude.{◌≡◌, IfOk};
+// Calls of roles on the spelling of a state, as the words of a command line name them.
+ghost use Rattle.std.specs.Prelude.{◌≡◌, IfOk, Option};
 ghost use Rattle.std.specs.Option.{ForSome};
-ghost use Rattle.core_terms.specs.Programs.{meaning};
-ghost use Rattle.auth_cli.specs.Reaching.{FaultsAt};
-ghost use Rattle.auth_cli.specs.Answer.{with_call, with_state, with_state_file};
-ghost use Rattle.auth_cli.specs.Calls.{IsQuery, IsQueryCall, call_of, query_of};
+ghost use Rattle.core_terms.specs.LanguagePrograms.{meaning};
+ghost use Rattle.lam_outside.specs.Told.{Contents};
+ghost use Rattle.auth_cli.specs.Reaching.{FaultsAt, FaultsAtReached};
+ghost use Rattle.auth_cli.specs.Answer.{Answer, with_fueled_role, with_state, with_state_file};
+ghost use Rattle.auth_cli.specs.Answer as meant;
+ghost use Rattle.auth_cli.specs.FueledQueries.{FueledRole};
 ghost use Rattle.auth_cli.specs.Halting.{GoesOn, GoesOnInHand, HaltCause};
+ghost use Rattle.auth_cli.specs.ReadPrograms.{language_named};
+ghost use Rattle.auth_cli.specs.RolesCalled.{IsCalled, role_of};
+ghost use Rattle.auth_cli.specs.RolesJudged.{call_of, with_named_call, with_spelled};
+ghost use Rattle.auth_cli.specs.declared.roles.Callee.{Callee};
 
 use crate::Halt;
-use crate::arguments::read_argument;
-use crate::queries::FueledQuery;
+use crate::queries::CallWords;
 use crate::report::load;
-use core_terms::{Program, Spelling};
+use crate::roles::{CalledRole, Callee, called_role};
+use core_terms::Spelling;
+use core_terms::language::Program;
 use lam_outside::Files;
 use printed_lines::refusal::{Argument, InputFault};
+use printed_syntax::literal::parse_literal;
+use shallow_codec::{UnspellFault, unspell};
 use std::alloc::Global;
-use verifier_mode::reading::Shallow;
+use value_store::Store;
 
-/// A call of a query.
+/// A call of a role.
 #[derive(Drop)]
-pub struct Call {
-    pub query: FueledQuery,
+pub struct RoleCall {
+    pub called: CalledRole,
     /// A spelling at the type of the program's state.
     pub state: Vec<u8>,
     pub argument: Spelling,
 }
 
-/// The most bytes of a file that is no text of a program.
+/// The most bytes of a file that is no text of a program and no proof of [`crate::verify_command`].
 pub const MAX_FILE: usize = 67_108_864;
 
-/// The call of a query on the state that a file spells, and on an argument. The state is judged first.
-pub fn read_call<F: Files>(
+/// The call of a role that the words name, on the state that a file spells. What is refused first in this order halts it: the role, the
+/// fuel, the state, the argument.
+pub fn read_role_call<F: Files>(
     alloc: Global,
     files: &mut F,
-    query: FueledQuery,
+    program: &Program,
+    callee: Callee,
+    words: &CallWords<'_>,
     state: &str,
-    argument: &str,
-) -> Result<Call, Halt>
-    requires { IsQuery (query_of query) }
-    ensures goes { ForSome (F.contents files.old) (λ told. GoesOn (with_call (query_of query) state.now argument.now told) call_of result) }
-    ensures valid { IfOk result (λ call. IsQueryCall (call_of call)) }
-    ensures asked { FaultsAt state.now (F.asked files.new) result }
+) -> Result<RoleCall, Halt>
+    ensures goes { let words = words.now in let p = program.now in ForSome (F.contents files.old) (λ told.
+        GoesOn (with_named_call callee (language_named p) words.role.now words.fuel.now state.now words.argument.now told) (call_of p) result) }
+    ensures role { let words = words.now in let p = program.now in IfOk result (λ call.
+        (go : FueledRole → Option Answer) → with_fueled_role callee (language_named p) words.role.now words.fuel.now go ≡ go (role_of p call.called)) }
+    ensures valid { IfOk result (λ call. IsCalled callee program.now call.called) }
+    ensures reached { let words = words.now in let p = program.now in (next : Contents → meant.RoleCall → Option Answer) → FaultsAtReached
+        (λ told. with_named_call callee (language_named p) words.role.now words.fuel.now state.now words.argument.now told (next told)) (F.contents files.old) (F.asked files.new) result }
     ensures cause { HaltCause (F.faults files.old) (F.faults files.new) result }
     ensures contents { F.contents files.new ≡ F.contents files.old }
     ensures stores { F.stores files.new ≡ F.stores files.old }
     ensures store_faults { F.store_faults files.new ≡ F.store_faults files.old }
 {
-    let state = read_state_file(alloc, files, &query.program, state)?;
-    let argument = read_argument(alloc, &query.program, query.role, argument)?;
-    Ok(Call {
-        query,
+    let called = called_role(program, callee, words.role, words.fuel)?;
+    let state = read_state_file(alloc, files, program, state)?;
+    let argument = read_passed(alloc, program, &called, words.argument)?;
+    Ok(RoleCall {
+        called,
         state,
         argument,
     })
@@ -71,17 +86,38 @@ fn read_state_file<F: Files>(
     ensures store_faults { F.store_faults files.new ≡ F.store_faults files.old }
 {
     let state = load(alloc, files, Argument::State, name, MAX_FILE)?;
-    judge_state(program, &state)?;
+    judge_state(alloc, program, &state)?;
     Ok(state)
 }
 
 /// Judges whether the bytes are a spelling at the type of the program's state.
 #[tactic(auto, unfolding(crate::specs::Answer::state_read))]
-fn judge_state(program: &Program, bytes: &[u8]) -> Result<(), Halt>
+fn judge_state(alloc: Global, program: &Program, bytes: &[u8]) -> Result<(), Halt>
     ensures { GoesOnInHand (with_state (meaning program.now) bytes.now) (λ _. bytes.now) result }
 {
-    match Shallow::read(program, program.state_type(), bytes) {
+    let mut store = Store::new(alloc);
+    match unspell(
+        alloc,
+        program.types(),
+        &mut store,
+        bytes,
+        program.state_type(),
+    ) {
         Ok(_) => Ok(()),
-        Err(offset) => Err(InputFault::State(offset).into()),
+        Err(UnspellFault::Bad(offset)) => Err(InputFault::State(offset).into()),
+        Err(UnspellFault::NoMemory) => Err(Halt::NoMemory),
     }
+}
+
+/// The spelling of the value that a text is a literal of, at the type of what is passed to a role.
+fn read_passed(
+    alloc: Global,
+    program: &Program,
+    called: &CalledRole,
+    text: &str,
+) -> Result<Spelling, Halt>
+    requires { (callee : Callee) × IsCalled callee program.now called.now }
+    ensures { GoesOnInHand (with_spelled (role_of program.now called.now) text.now) (λ spelling. spelling) result }
+{
+    Ok(parse_literal(alloc, program, called.argument, text)?)
 }

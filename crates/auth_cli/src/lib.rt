@@ -26,7 +26,7 @@ mod stored_states;
 mod storing;
 mod top;
 mod values;
-mod verify_query;
+mod verify_call;
 
 pub use audit_proof::audit_command;
 pub use check_program::check_command;
@@ -38,4 +38,4 @@ pub use shallow_state::shallow_command;
 pub use status::Status;
 pub use step_state::step_command;
 pub use top::run;
-pub use verify_query::verify_command;
+pub use verify_call::verify_command;

@@ -4,7 +4,7 @@ ghost use Rattle.std.specs.Option.{ForSome};
 ghost use Rattle.std.specs.Io.KnownBytes.{append_known};
 ghost use Rattle.lam_outside.specs.Causes.{HasCause};
 ghost use Rattle.printed_lines.specs.declared.refusal.Refusal.TheVariants.{Input};
-ghost use Rattle.auth_cli.specs.declared.report.Halt.TheVariants.{NoMemory, Refused};
+ghost use Rattle.auth_cli.specs.declared.report.Halt.TheVariants.{NoMemory, ReadFault, Refused};
 ghost use Rattle.auth_cli.specs.Reaching.{FaultsAt};
 ghost use Rattle.auth_cli.specs.Answer.{refusal_status, with_file};
 ghost use Rattle.auth_cli.specs.Halting.{GoesOn, HaltCause, ending_status, of_image_fault, of_literal_fault, of_program_fault, of_save_fault, of_verdict};
@@ -18,7 +18,7 @@ use printed_lines::lines::refusal_line;
 use printed_lines::refusal::{Argument, ImageKind, InputFault, Refusal};
 use printed_syntax::fault::{LiteralFault, LiteralKind};
 use std::alloc::{AllocError, Global};
-use verifier_mode::Verdict;
+use stream_verifier::Verdict;
 
 /// How a command ends whose work was done.
 #[derive(Clone, Copy)]
@@ -62,6 +62,14 @@ impl From<AllocError> for Halt {
 
     fn from(_: AllocError) -> Self {
         Halt::NoMemory
+    }
+}
+
+impl From<Failed> for Halt {
+    ghost from_gives = { λ _ halt. halt ≡ ReadFault };
+
+    fn from(_: Failed) -> Self {
+        Halt::ReadFault
     }
 }
 
@@ -142,6 +150,7 @@ impl From<Verdict> for Halt {
                 LiteralKind::Mismatch,
                 offset as usize,
             ))),
+            Verdict::ReadFault => Halt::ReadFault,
             Verdict::NoMemory => Halt::NoMemory,
         }
     }

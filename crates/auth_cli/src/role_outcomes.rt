@@ -44,7 +44,7 @@ pub fn role_report(alloc: Global, program: &Program, ended: &Ended) -> Result<Re
 }
 
 /// A report of a line that is there.
-fn line_report(alloc: Global, ending: Ending, line: &str) -> Result<Report, AllocError>
+pub fn line_report(alloc: Global, ending: Ending, line: &str) -> Result<Report, AllocError>
     ensures ending { IfOk result (λ report. report.ending ≡ ending) }
     ensures line { IfOk result (λ report. report.text.items ≡ line.now) }
 {
@@ -104,7 +104,7 @@ fn state_made(ended: &Ended) -> Option<Ref>
 }
 
 /// The first component of a pair.
-fn first_component(store: &Store, pair: Ref) -> Ref
+pub fn first_component(store: &Store, pair: Ref) -> Ref
     requires { (kind : Kind) × (types : Table) × (a : Ty) × (b : Ty) × (v : Value) × StandsFor kind types (nodes_in store.now) pair.0 (PairTy a b) v }
     ensures { (kind : Kind) (types : Table) (a b : Ty) (x y : Value) → StandsFor kind types (nodes_in store.now) pair.0 (PairTy a b) (PairV x y)
         → StandsFor kind types (nodes_in store.now) result.0 a x }

@@ -38,7 +38,7 @@ use std::alloc::Global;
 /// |---|---|---|
 /// | 0 | `ok DIGEST` | `check`: the text is a program, and has this SHA-256 digest |
 /// | 0 | `state VALUE` | `shallow`: the projection of the state has this value, and its spelling is stored |
-/// | 0 | `done VALUE` | the outcome has this value; of `init`, `ideal` and `step` it is the projection of the result, and the image of the state that `init` or `step` made is stored |
+/// | 0 | `done VALUE` | the outcome has this value, in projection; the image of the state that `init` or `step` made is stored, and the spelling of the one that `verify` names a file for |
 /// | 0, 3, 4 | `proof new A used U bytes B` | `prove`, behind the outcome's line: the proof has A pieces of its own, names U again, and the file that is stored has B bytes |
 /// | 2 | `usage: lamauth COMMAND ARGUMENTS` | the words call no command |
 /// | 3 | `trap NAME` | the outcome is this trap: `overflow`, `divzero`, `toobig`, `toodeep` |
@@ -46,9 +46,9 @@ use std::alloc::Global;
 /// | 0, 3, 4 | `agrees ` and such a line | `audit`: the proof is accepted with this outcome, which is the projection of the ideal one |
 /// | 5 | `rejected CAUSE` | the proof is rejected, for the cause below; in `audit` it shows no collision |
 /// | 6 | `program refused: KIND LINE COLUMN` | the text is no program: its first fault |
-/// | 7 | `input refused: too long ARGUMENT` | the file that `P`, `STATE`, `PROOF` or `IMG` names is too long, or the image for `OUT` would be |
+/// | 7 | `input refused: too long ARGUMENT` | the file that `P`, `STATE` or `IMG` names is too long, or `PROOF` in `audit`, or the image for `OUT` would be |
 /// | 7 | `input refused: role unknown` | the program has no role of this name |
-/// | 7 | `input refused: role kind` | the role is not of the kind that the command calls: an init for `init`, a query or an update for `ideal`, an update for `step`, else a query |
+/// | 7 | `input refused: role kind` | the role is not of the kind that the command calls: an init for `init`, a query or an update for `ideal` and `verify`, an update for `step` and for `verify` with `OUT`, else a query |
 /// | 7 | `input refused: number FUEL` | the fuel isn't of 1 to 20 digits, or above 10^12 |
 /// | 7 | `input refused: number N` | the number of pieces that are kept isn't of 1 to 20 digits, or above 0 |
 /// | 7 | `input refused: state OFFSET` | the state's bytes are no spelling: the first fault |
@@ -80,7 +80,7 @@ use std::alloc::Global;
 /// | `bad-piece PLACE OFFSET` | the digests agree, and the piece is no spelling |
 /// | `leftover BYTES` | the run ended, and so many bytes are left, or 65536 where there are more |
 ///
-/// The program's text has at most 262,144 bytes, each other file at most 67,108,864. What is refused first in this order
+/// The program's text has at most 262,144 bytes, each other file at most 67,108,864, but that the proof of `verify` may have any length. What is refused first in this order
 /// ends the run: the words, the program, the role, the fuel, the number of pieces that are kept, the state or the image, the
 /// argument, the proof. A file is opened when all that stands before it is well-formed, so `read fault` comes only from a file
 /// that this order had reached. A file is stored before any line is written. No command of these uses the net.
@@ -109,9 +109,9 @@ pub fn run<F: Files, O: Sink, N: Net>(
         NoneRose (seen files.old out.old) (seen files.new out.new) → result ≢ 10
         → ForSome (F.contents files.old) (λ told. IsToldByCode (answer (texts words.now) told) (seen files.old out.old) (seen files.new out.new) result) }
 
-    // What a told outcome says of the ideal run, whoever made the proof.
-    ensures headline { ForSome (F.contents files.old) (λ told.
-        IsTrueLine (texts words.now) told (O.written out.old) (O.written out.new) result) }
+    // What a told outcome says of the ideal run, and the new state that is stored, whoever made the proof.
+    ensures headline { let seen = outside F.contents F.stores F.faults F.store_faults O.written O.faults in
+        ForSome (F.contents files.old) (λ told. IsTrueLine (texts words.now) told (seen files.old out.old) (seen files.new out.new) result) }
 
     // What `prove` stores is accepted: `verify` answers it, from the projected state alone, with the very status and line of the run.
     ensures companion { let seen = outside F.contents F.stores F.faults F.store_faults O.written O.faults in

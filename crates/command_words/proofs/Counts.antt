@@ -1,31 +1,40 @@
 -- clap's verdict on the texts of a command, which don't begin with `-`: it takes them exactly where they are as many as it has arguments.
-use Rattle.std.proofs.Common.{◌≡◌, ◌≢◌, ◌⊎◌, inl, inr, ◌≤◌, ◌==◌, ℕ, true≢false, eq-eqb, ne_eqb, eqb-true, ltb-false, ltb-true, lt-ltb, ◌<◌, append-nil, List, [], ◌∷◌, ◌++◌, length, Some, Bool, true, false, refl, sym, ◌∙◌, ap, ap₂, codes, fold, nat_lt, arith, append_assoc}
+use Rattle.std.proofs.Common.{◌≡◌, ◌≢◌, ◌⊎◌, inl, inr, ◌<◌, ◌≤◌, ◌==◌, ◌&&◌, ◌||◌, not, ℕ, eq-eqb, ne_eqb, eqb-true, le-leb, leb-true, le-ltb, ltb-false, ltb-true, lt-ltb, append-nil, List, [], ◌∷◌, ◌++◌, length, Some, Bool, true, false, refl, sym, ◌∙◌, ap, ap₂, codes, fold, nat_le, nat_lt, subst, arith, append_assoc}
 use Rattle.clap.specs.Words.{Kinds, Text}
 use Rattle.clap.specs.Walk.{Held, Walk, finished, nothing_held, settled, walk, walk_from, walked}
 use Rattle.clap.specs.Simple.{Shape}
-use Rattle.clap.specs.Kinds.{or_else, values_kinds}
+use Rattle.clap.specs.Kinds.{or_else, range_kinds, values_kinds}
+use Rattle.clap.specs.Lexer.{usize_max}
 use Rattle.clap.specs.Faults.{check_fault, defaults_fault, level_fault, settle_fault, turn_fault, walk_fault}
 use Rattle.clap.specs.declared.error.kind.ErrorKind.{ErrorKind}
-use Rattle.clap.specs.declared.error.kind.ErrorKind.TheVariants.{UnknownArgument, WrongNumberOfValues}
+use Rattle.clap.specs.declared.error.kind.ErrorKind.TheVariants.{MissingRequiredArgument, UnknownArgument}
 use Rattle.clap.specs.declared.builder.value_parser.ValueParser.TheVariants as vp
 use Rattle.clap.proofs.OnLiterals.{clap_on_literals}
 use Rattle.command_words.proofs.Leaves.{leaf}
 use Rattle.command_words.proofs.PlainWords.{ArePlain, IsPlainWord, at, turn_plain, walked_plain}
 
--- what clap refuses of the texts of a command of this name with n names of arguments
-abbrev pub refused : Text → ℕ → List Text → Kinds
-refused name n ws = level_fault (leaf name n) [] nothing_held ws false []
+-- the texts are from `least` to `most`
+abbrev pub fits : (least most : ℕ) → List Text → Bool
+fits least most ws = nat_le least (length ws) && nat_le (length ws) most
 
--- they are as many, and taken; or they are not, and refused
-abbrev pub IsCounted : Text → ℕ → List Text → Type 0
-IsCounted name n ws = ((length ws ≡ n) × (refused name n ws ≡ [])) ⊎ (((length ws == n) ≡ false) × (refused name n ws ≢ []))
+-- what clap refuses of the texts of a command of this name, with n names of arguments
+abbrev pub refused : Text → (least most n : ℕ) → List Text → Kinds
+refused name least most n ws = level_fault (leaf name least most n) [] nothing_held ws false []
+
+-- they are so many, and taken; or they are not, and refused
+abbrev pub IsCounted : Text → (least most n : ℕ) → List Text → Type 0
+IsCounted name least most n ws = ((fits least most ws ≡ true) × (refused name least most n ws ≡ [])) ⊎ ((fits least most ws ≡ false) × (refused name least most n ws ≢ []))
+
+not_none : (k : ErrorKind) (ks kinds : Kinds) → kinds ≡ k ∷ ks → kinds ≡ [] → ⊥
+not_none k ks kinds is none = absurd (cc)
+
+or_nothing : (k : Kinds) → or_else k [] ≡ k
+or_nothing [] = refl
+or_nothing (x ∷ xs) = refl
 
 all_accepted : (ws : List Text) → values_kinds false vp.String ws ≡ []
 all_accepted [] = refl
 all_accepted (w ∷ ws) = all_accepted ws
-
-not_none : (k : ErrorKind) (ks kinds : Kinds) → kinds ≡ k ∷ ks → kinds ≡ [] → ⊥
-not_none k ks kinds is none = absurd (cc)
 
 abbrev reading : List Text → Held
 reading seen = record { rows = []; pending = Some (codes "ARGUMENTS", seen); skip = 0 }
@@ -37,16 +46,74 @@ behind s h = or_else (settle_fault s.rules s.args_override_self h) (or_else (def
 abbrev level : Shape → Kinds → Held → Kinds
 level s f h = or_else f (behind s h)
 
--- a command with more than one argument
-module _ (name : Text) (n : ℕ) (several : nat_lt 1 n ≡ true) (positive : nat_lt 0 n ≡ true) (same : (n == n) ≡ true) where
+-- the count is in the range
+pub both_parts : (a b : Bool) → (a && b) ≡ true → (a ≡ true) × (b ≡ true)
+both_parts true b e = (refl, e)
+both_parts false b e = absurd (cc)
+
+no_part : (a b : Bool) → a ≡ true → b ≡ true → (a && b) ≡ false → ⊥
+no_part true true p q e = absurd (cc)
+no_part true false p q e = absurd (cc)
+no_part false b p q e = absurd (cc)
+
+pub not_within : (a b : ℕ) → b < a → nat_le a b ≡ false
+not_within a b above = by (nat_le a b) refl
+  where
+    by : (t : Bool) → nat_le a b ≡ t → t ≡ false
+    by true is = let within = leb-true a b is in absurd (omega (arith, above, within))
+    by false is = refl
+
+pub no_negation : (t : Bool) → not t ≡ true → t ≡ false
+no_negation true e = sym e
+no_negation false e = refl
+
+module _ (least most k : ℕ) (positive : nat_lt 0 least ≡ true) (filled : (k == 0) ≡ false) where
+  in_range : (nat_le least k && nat_le k most) ≡ true → range_kinds least most k ≡ []
+  in_range inside = by (least == most) refl
+    where
+      from : least ≤ k
+      from = leb-true least k (both_parts (nat_le least k) (nat_le k most) inside).0
+
+      to : k ≤ most
+      to = leb-true k most (both_parts (nat_le least k) (nat_le k most) inside).1
+
+      by : (b : Bool) → (least == most) ≡ b → range_kinds least most k ≡ []
+      by true is = let same : least ≡ most = eqb-true least most is in rw (positive, filled, is, eq-eqb least k (omega (arith, same, from, to))) refl
+      by false is = rw (positive, filled, is, le-ltb k least from, le-ltb most k to) refl
+
+  out_of_range : (nat_le least k && nat_le k most) ≡ false → range_kinds least most k ≢ []
+  out_of_range outside none = by (least == most) refl
+    where
+      inside : least ≤ k → k ≤ most → ⊥
+      inside from to = no_part (nat_le least k) (nat_le k most) (le-leb least k from) (le-leb k most to) outside
+
+      exact : (b : Bool) → (least == most) ≡ true → (least == k) ≡ b → ⊥
+      exact true is other = let same : least ≡ most = eqb-true least most is in let count : least ≡ k = eqb-true least k other in inside (omega (arith, count)) (omega (arith, same, count))
+      exact false is other = absurd (cc (rw (positive, filled, is, other) at none))
+
+      above : (b : Bool) → (least == most) ≡ false → nat_lt k least ≡ false → nat_lt most k ≡ b → ⊥
+      above true is low high = absurd (cc (rw (positive, filled, is, low, high) at none))
+      above false is low high = inside (ltb-false k least low) (ltb-false most k high)
+
+      below : (b : Bool) → (least == most) ≡ false → nat_lt k least ≡ b → ⊥
+      below true is low = absurd (cc (rw (positive, filled, is, low) at none))
+      below false is low = above (nat_lt most k) is low refl
+
+      by : (b : Bool) → (least == most) ≡ b → ⊥
+      by true is = exact (least == k) is refl
+      by false is = below (nat_lt k least) is refl
+
+-- a command that may take more than one text
+module _ (name : Text) (least most n : ℕ) (b : Bool) (exact : (least == most) ≡ b) (several : (not b || nat_lt 1 least) ≡ true)
+    (positive : nat_lt 0 least ≡ true) (some : (least == 0) ≡ false) (bounded : (most == usize_max) ≡ false) where
   abbrev s : Shape
-  s = leaf name n
+  s = leaf name least most n
 
   first : (w : Text) → IsPlainWord w → walked s.rules [] (walk_from nothing_held) w ≡ at (reading (w ∷ [])) true 1
-  first w p = walked_plain s.rules false 1 w nothing_held p ∙ rw (several, several, same) refl
+  first w p = walked_plain s.rules false 1 w nothing_held p ∙ rw (some, bounded, exact, several) refl
 
   next : (seen : List Text) (w : Text) → IsPlainWord w → walked s.rules [] (at (reading seen) true 1) w ≡ at (reading (seen ++ w ∷ [])) true 1
-  next seen w p = walked_plain s.rules true 1 w (reading seen) p ∙ rw (several, several, same) refl
+  next seen w p = walked_plain s.rules true 1 w (reading seen) p ∙ rw (some, bounded, exact, several) refl
 
   held : (seen ws : List Text) → ArePlain ws → fold (walked s.rules []) (at (reading seen) true 1) ws ≡ at (reading (seen ++ ws)) true 1
   held seen [] p = ap (λ xs. at (reading xs) true 1) (sym (append-nil seen))
@@ -55,7 +122,7 @@ module _ (name : Text) (n : ℕ) (several : nat_lt 1 n ≡ true) (positive : nat
       ∙ ap (λ xs. at (reading xs) true 1) (append_assoc seen (w ∷ []) ws)
 
   more : (seen : List Text) (w : Text) → IsPlainWord w → turn_fault s [] (at (reading seen) true 1) w ≡ []
-  more seen w p = turn_plain s true 1 w (reading seen) p ∙ rw (several, several, same) refl
+  more seen w p = turn_plain s true 1 w (reading seen) p ∙ rw (some, bounded, exact, several) refl
 
   passes : (seen ws : List Text) → ArePlain ws → walk_fault s [] (at (reading seen) true 1) ws ≡ []
   unfolding walk_fault
@@ -69,7 +136,7 @@ module _ (name : Text) (n : ℕ) (several : nat_lt 1 n ≡ true) (positive : nat
   turns w p = turn_plain s false 1 w nothing_held p
 
   -- at least one text
-  whole : (w : Text) (ws : List Text) → IsPlainWord w → ArePlain ws → refused name n (w ∷ ws) ≡ behind s (reading (w ∷ ws))
+  whole : (w : Text) (ws : List Text) → IsPlainWord w → ArePlain ws → refused name least most n (w ∷ ws) ≡ behind s (reading (w ∷ ws))
   unfolding walk_fault
   whole w ws p ps =
       let rest : walk_fault s [] (walked s.rules [] (walk_from nothing_held) w) ws ≡ [] = ap (λ (v : Walk). walk_fault s [] v ws) (first w p) ∙ passes (w ∷ []) ws ps in
@@ -81,45 +148,48 @@ module _ (name : Text) (n : ℕ) (several : nat_lt 1 n ≡ true) (positive : nat
   filled_up : (w : Text) (ws : List Text) → (length (w ∷ ws) == 0) ≡ false
   filled_up w ws = ne_eqb (length (w ∷ ws)) 0 (λ none. omega arith)
 
-  taken : (w : Text) (ws : List Text) → (n == length (w ∷ ws)) ≡ true → behind s (reading (w ∷ ws)) ≡ []
+  -- what the range says of the count
+  ranged : (w : Text) (ws : List Text) → behind s (reading (w ∷ ws)) ≡ range_kinds least most (length (w ∷ ws))
   unfolding clap_on_literals
-  taken w ws as_many = rw (several, positive, filled_up w ws, same, as_many, all_accepted ws) refl
+  ranged w ws =
+      let k = range_kinds least most (length (w ∷ ws)) in
+      rw (some, bounded, all_accepted ws) (ap (λ (k : Kinds). or_else k []) (or_nothing k) ∙ or_nothing k)
 
-  denied : (w : Text) (ws : List Text) → (n == length (w ∷ ws)) ≡ false → behind s (reading (w ∷ ws)) ≡ WrongNumberOfValues ∷ []
+  lacking : refused name least most n [] ≡ MissingRequiredArgument ∷ []
   unfolding clap_on_literals
-  denied w ws other = rw (several, positive, filled_up w ws, same, other) refl
+  lacking = rw (some, bounded) refl
 
-  none_given : refused name n [] ≢ []
-  unfolding clap_on_literals
-  none_given h = cc h
+  none_given : refused name least most n [] ≢ []
+  none_given none = not_none MissingRequiredArgument [] (refused name least most n []) lacking none
 
-  pub several_counted : (ws : List Text) → ArePlain ws → IsCounted name n ws
-  several_counted [] p = inr (ne_eqb 0 n (λ zero. absurd (no_several zero)), none_given)
+  no_texts : fits least most [] ≡ false
+  no_texts = rw (not_within least 0 (ltb-true 0 least positive)) refl
+
+  pub several_counted : (ws : List Text) → ArePlain ws → IsCounted name least most n ws
+  several_counted [] p = inr (no_texts, none_given)
+  several_counted (w ∷ ws) p = by (fits least most (w ∷ ws)) refl
     where
-      no_several : 0 ≡ n → ⊥
-      no_several none = true≢false (sym several ∙ ap (nat_lt 1) (sym none))
-  several_counted (w ∷ ws) p = by (n == length (w ∷ ws)) refl
-    where
-      by : (b : Bool) → (n == length (w ∷ ws)) ≡ b → IsCounted name n (w ∷ ws)
-      by true as_many = inl (sym (eqb-true n (length (w ∷ ws)) as_many), whole w ws p.0 p.1 ∙ taken w ws as_many)
-      by false other = inr (ne_eqb (length (w ∷ ws)) n (λ is. true≢false (sym (eq-eqb n (length (w ∷ ws)) (sym is)) ∙ other)), λ none. not_none _ _ _ (denied w ws other) (sym (whole w ws p.0 p.1) ∙ none))
+      by : (t : Bool) → fits least most (w ∷ ws) ≡ t → IsCounted name least most n (w ∷ ws)
+      by true inside = inl (inside, whole w ws p.0 p.1 ∙ ranged w ws ∙ in_range least most (length (w ∷ ws)) positive (filled_up w ws) inside)
+      by false outside =
+          inr (outside, λ none. out_of_range least most (length (w ∷ ws)) positive (filled_up w ws) outside (sym (ranged w ws) ∙ (sym (whole w ws p.0 p.1) ∙ none)))
 
--- a command with one argument
-module _ (name : Text) (n : ℕ) (few : nat_lt 1 n ≡ false) where
+-- a command that takes one text
+module _ (name : Text) (n : ℕ) where
   abbrev single : Shape
-  single = leaf name n
+  single = leaf name 1 1 n
 
   one : (w : Text) → IsPlainWord w → walked single.rules [] (walk_from nothing_held) w ≡ at (reading (w ∷ [])) false 2
-  one w p = walked_plain single.rules false 1 w nothing_held p ∙ rw few refl
+  one w p = walked_plain single.rules false 1 w nothing_held p
 
   one_turns : (w : Text) → IsPlainWord w → turn_fault single [] (walk_from nothing_held) w ≡ []
   one_turns w p = turn_plain single false 1 w nothing_held p
 
   one_ends : (w : Text) → behind single (reading (w ∷ [])) ≡ []
   unfolding clap_on_literals
-  one_ends w = rw few refl
+  one_ends w = refl
 
-  one_taken : (w : Text) → IsPlainWord w → refused name n (w ∷ []) ≡ []
+  one_taken : (w : Text) → IsPlainWord w → refused name 1 1 n (w ∷ []) ≡ []
   unfolding clap_on_literals
   one_taken w p =
       let faults : walk_fault single [] (walk_from nothing_held) (w ∷ []) ≡ [] = ap (λ (k : Kinds). or_else k []) (one_turns w p) in
@@ -127,7 +197,7 @@ module _ (name : Text) (n : ℕ) (few : nat_lt 1 n ≡ false) where
       ap₂ (level single) faults held ∙ one_ends w
 
   -- a second text finds no argument
-  strays : (w v : Text) (ws : List Text) → IsPlainWord w → IsPlainWord v → refused name n (w ∷ v ∷ ws) ≢ []
+  strays : (w v : Text) (ws : List Text) → IsPlainWord w → IsPlainWord v → refused name 1 1 n (w ∷ v ∷ ws) ≢ []
   unfolding walk_fault
   strays w v ws p q none = cc (sym refuses ∙ none)
     where
@@ -137,24 +207,38 @@ module _ (name : Text) (n : ℕ) (few : nat_lt 1 n ≡ false) where
       rest : Kinds
       rest = walk_fault single [] (walked single.rules [] (walked single.rules [] (walk_from nothing_held) w) v) ws
 
-      refuses : refused name n (w ∷ v ∷ ws) ≡ UnknownArgument ∷ []
+      refuses : refused name 1 1 n (w ∷ v ∷ ws) ≡ UnknownArgument ∷ []
       refuses =
           ap₂ (λ (j k : Kinds). or_else (or_else j (or_else k rest)) (behind single (walk single.rules [] nothing_held (w ∷ v ∷ ws)).held)) (one_turns w p)
           (ap (λ (u : Walk). turn_fault single [] u v) (one w p) ∙ second)
 
-  no_text : refused name n [] ≢ []
+  no_text : refused name 1 1 n [] ≢ []
   unfolding clap_on_literals
   no_text h = cc h
 
-  pub one_counted : n ≡ 1 → (ws : List Text) → ArePlain ws → IsCounted name n ws
-  one_counted is [] p = inr (ap (λ k. 0 == k) is, no_text)
-  one_counted is (w ∷ []) p = inl (sym is, one_taken w p.0)
-  one_counted is (w ∷ v ∷ ws) p = inr (ap (λ k. length (w ∷ v ∷ ws) == k) is ∙ ne_eqb (length (w ∷ v ∷ ws)) 1 (λ one. omega arith), strays w v ws p.0 p.1.0)
+  too_many : (v w : Text) (ws : List Text) → fits 1 1 (v ∷ w ∷ ws) ≡ false
+  too_many v w ws = ap₂ (λ a b. a && b) (le-leb 1 (length (v ∷ w ∷ ws)) (omega arith)) (not_within (length (v ∷ w ∷ ws)) 1 (omega arith))
 
--- by the number of arguments, at least one
-pub counted : (name : Text) (n : ℕ) → 1 ≤ n → (ws : List Text) → ArePlain ws → IsCounted name n ws
-counted name n some ws p = by (nat_lt 1 n) refl
+  pub one_counted : (ws : List Text) → ArePlain ws → IsCounted name 1 1 n ws
+  one_counted [] p = inr (refl, no_text)
+  one_counted (w ∷ []) p = inl (refl, one_taken w p.0)
+  one_counted (w ∷ v ∷ ws) p = inr (too_many w v ws, strays w v ws p.0 p.1.0)
+
+-- by the range, from at least one on
+pub counted : (name : Text) (least most n : ℕ) → 1 ≤ least → (most == usize_max) ≡ false → (ws : List Text) → ArePlain ws → IsCounted name least most n ws
+counted name least most n some bounded ws p = by (least == most) refl (nat_lt 1 least) refl
   where
-    by : (b : Bool) → nat_lt 1 n ≡ b → IsCounted name n ws
-    by true several = several_counted name n several (lt-ltb 0 n (let above : 1 < n = ltb-true 1 n several in omega (arith, above))) (eq-eqb n n refl) ws p
-    by false few = let most : n ≤ 1 = ltb-false 1 n few in one_counted name n few (omega (arith, most, some)) ws p
+    positive : nat_lt 0 least ≡ true
+    positive = lt-ltb 0 least (omega (arith, some))
+
+    nonzero : (least == 0) ≡ false
+    nonzero = ne_eqb least 0 (λ none. omega (arith, some, none))
+
+    by : (b : Bool) → (least == most) ≡ b → (c : Bool) → nat_lt 1 least ≡ c → IsCounted name least most n ws
+    by false exact c several = several_counted name least most n false exact refl positive nonzero bounded ws p
+    by true exact true several = several_counted name least most n true exact several positive nonzero bounded ws p
+    by true exact false several =
+        let same : least ≡ most = eqb-true least most exact in
+        let few : least ≤ 1 = ltb-false 1 least several in
+        let one : 1 ≡ least = omega (arith, some, few) in
+        subst (λ (k : ℕ). IsCounted name least k n ws) same (subst (λ (k : ℕ). IsCounted name k k n ws) one (one_counted name n ws p))

@@ -1,5 +1,5 @@
 -- clap's verdict on all words that the program's own test lets through: it takes exactly those that call a command.
-use Rattle.std.proofs.Common.{◌≡◌, ◌≢◌, ◌↔◌, ◌⊎◌, inl, inr, ◌==◌, ◌≤◌, List, [], ◌∷◌, length, Option, Some, None, Err, find, Bool, true, false, ◌||◌, ◌&&◌, codes, arith, refl, sym, ◌∙◌, ap, eq-eqb, nat_lt, ltb-true, option_map, if◌then◌else◌, get_or, drop, take, ◌-◌}
+use Rattle.std.proofs.Common.{◌≡◌, ◌≢◌, ◌↔◌, ◌⊎◌, inl, inr, ◌==◌, ◌≤◌, List, [], ◌∷◌, length, Option, Some, None, Err, find, Bool, true, false, ◌||◌, ◌&&◌, codes, arith, refl, sym, ◌∙◌, ap, eqb-true, nat_le, nat_lt, leb-true, ltb-true, not, subst, option_map, if◌then◌else◌, get_or, drop, take, ◌-◌}
 use Rattle.std.specs.Borrow.{Bor}
 use Rattle.std.specs.List.{list_all, list_any}
 use Rattle.std.specs.Option.{option_and_then}
@@ -7,16 +7,17 @@ use Rattle.std.specs.Str.{bytes_eq}
 use Rattle.std.proofs.lemmas.List.{take_rest}
 use Rattle.std.proofs.lemmas.Slice.Eq.{bytes_eq-Decides}
 use Rattle.clap.specs.Words.{fault_of}
+use Rattle.clap.specs.Lexer.{usize_max}
 use Rattle.clap.specs.Walk.{idle, subcommand_met}
 use Rattle.command_words.specs.CommandLine.{AreRefused, command_line}
-use Rattle.command_words.specs.Commands.{IsOfCommand, IsOfOneOf, Row, Text, commands, row_named, texts}
-use Rattle.command_words.specs.Invocations.{Invocation, called, calls, invocation_behind, invocation_of, is_refused, is_refused_word}
+use Rattle.command_words.specs.Commands.{AreCounted, IsOfCommand, IsOfOneOf, Row, Text, commands, row_named, texts}
+use Rattle.command_words.specs.Invocations.{Invocation, are_counted, called, calls, invocation_behind, invocation_of, is_refused, is_refused_word}
 use Rattle.command_words.specs.Reading.{IsJudged, Reads}
 use Rattle.command_words.specs.declared.command.Command.{Command}
 use Rattle.command_words.specs.declared.fault.WordsFault.{WordsFault}
 use Rattle.command_words.specs.declared.fault.WordsFault.TheVariants as fault
-use Rattle.command_words.proofs.Counts.{IsCounted, counted, refused}
-use Rattle.command_words.proofs.Leaves.{finds, leaf_of, meets, names}
+use Rattle.command_words.proofs.Counts.{IsCounted, both_parts, counted, fits, no_negation, refused}
+use Rattle.command_words.proofs.Leaves.{finds, leaf_of, meets, most_of, names}
 use Rattle.command_words.proofs.Levels.{faults_behind, no_name_refused, no_words_refused, unknown_refused}
 use Rattle.command_words.proofs.PlainWords.{ArePlain, IsPlainWord, either_false, plain_word, plain_words}
 
@@ -68,14 +69,14 @@ module _ {A : Type 0} (p : A → Bool) (x : A) where
       go true true is all here later = let same : y ≡ x = cc in ap q (sym same) ∙ is
       go false true is all here later = later all here
 
--- texts that are as many as the row has arguments are so many for its command
-among : (p : Row → Bool) (row : Row) (texts : List Text) → length texts ≡ length row.arguments → (rows : List Row) → find p rows ≡ Some row
+-- texts that are as many as the row takes are so many for its command
+among : (p : Row → Bool) (row : Row) (texts : List Text) → AreCounted row texts → (rows : List Row) → find p rows ≡ Some row
     → IsOfOneOf row.command texts rows
 among p row texts as_many [] e = absurd (cc)
 among p row texts as_many (r ∷ rows) e = go (p r) e (among p row texts as_many rows)
   where
     go : (b : Bool) → (if b then Some r else find p rows) ≡ Some row → (find p rows ≡ Some row → IsOfOneOf row.command texts rows) → IsOfOneOf row.command texts (r ∷ rows)
-    go true here later = let same : r ≡ row = cc in inl (ap (λ (r : Row). r.command) same, as_many ∙ ap (λ (r : Row). length r.arguments) (sym same))
+    go true here later = let same : r ≡ row = cc in inl (ap (λ (r : Row). r.command) same, subst (λ (r : Row). AreCounted r texts) (sym same) as_many)
     go false here later = inr (later here)
 
 -- ---- the verdict
@@ -95,34 +96,47 @@ module _ (program name : Text) (ws : List Text) (plain : IsPlainWord name) (rest
     unfolding row_named
     same = (bytes_eq-Decides row.name name).0 (found_passes (λ r. bytes_eq r.name name) row commands is)
 
-    some : 1 ≤ length row.arguments
+    some : 1 ≤ row.least
     unfolding row_named
-    some = ltb-true 0 (length row.arguments) (found_holds (λ r. bytes_eq r.name name) row (λ r. nat_lt 0 (length r.arguments)) commands refl is)
+    some = ltb-true 0 row.least (found_holds (λ r. bytes_eq r.name name) row (λ r. nat_lt 0 r.least) commands refl is)
+
+    bounded : (most_of row == usize_max) ≡ false
+    unfolding row_named
+    bounded = no_negation (most_of row == usize_max) (found_holds (λ r. bytes_eq r.name name) row (λ r. not (most_of r == usize_max)) commands refl is)
+
+    most : most_of row ≡ length row.arguments
+    unfolding row_named
+    most = eqb-true (most_of row) (length row.arguments) (found_holds (λ r. bytes_eq r.name name) row (λ r. most_of r == length r.arguments) commands refl is)
 
     met : subcommand_met names idle name ≡ Some name
     met = meets name other ∙ ap (option_map (λ row. row.name)) is ∙ ap (λ n. Some n) same
 
-    faults : fault_of command_line (program ∷ name ∷ ws) ≡ refused row.name (length row.arguments) ws
+    faults : fault_of command_line (program ∷ name ∷ ws) ≡ refused row.name row.least (most_of row) (length row.arguments) ws
     faults = faults_behind name (leaf_of row) met help (finds name other ∙ ap (option_map leaf_of) is) program ws
 
-    texts_counted : length ws ≡ length row.arguments → IsOfCommand row.command ws
+    texts_counted : AreCounted row ws → IsOfCommand row.command ws
     unfolding row_named
     texts_counted as_many = among (λ r. bytes_eq r.name name) row ws as_many commands is
 
-    by_count : IsCounted row.name (length row.arguments) ws → IsDecided (program ∷ name ∷ ws)
-    by_count (inl (as_many, passes)) = inl (record {
-      invocation = calls row.command ws;
-      passes = faults ∙ passes;
-      behind = ap (option_and_then (called ws)) is ∙ ap (λ b. if b then Some (calls row.command ws) else None) (eq-eqb _ _ as_many);
-      counted = texts_counted as_many;
-    })
+    same_count : fits row.least (most_of row) ws ≡ are_counted ws row
+    same_count = ap (λ k. fits row.least k ws) most
+
+    by_count : IsCounted row.name row.least (most_of row) (length row.arguments) ws → IsDecided (program ∷ name ∷ ws)
+    by_count (inl (as_many, passes)) =
+        let parts = both_parts (nat_le row.least (length ws)) (nat_le (length ws) (length row.arguments)) (sym same_count ∙ as_many) in
+        inl (record {
+          invocation = calls row.command ws;
+          passes = faults ∙ passes;
+          behind = ap (option_and_then (called ws)) is ∙ ap (λ b. if b then Some (calls row.command ws) else None) (sym same_count ∙ as_many);
+          counted = texts_counted (leb-true row.least (length ws) parts.0, leb-true (length ws) (length row.arguments) parts.1);
+        })
     by_count (inr (not_so_many, fails)) = inr (record {
       fails = λ none. fails (sym faults ∙ none);
-      uncalled = ap (option_and_then (called ws)) is ∙ ap (λ b. if b then Some (calls row.command ws) else None) not_so_many;
+      uncalled = ap (option_and_then (called ws)) is ∙ ap (λ b. if b then Some (calls row.command ws) else None) (sym same_count ∙ not_so_many);
     })
 
     named : IsDecided (program ∷ name ∷ ws)
-    named = by_count (counted row.name (length row.arguments) some ws rest)
+    named = by_count (counted row.name row.least (most_of row) (length row.arguments) some bounded ws rest)
 
   by_row : (o : Option Row) → row_named name ≡ o → IsDecided (program ∷ name ∷ ws)
   by_row None is = unnamed is
@@ -189,7 +203,7 @@ of_row name ws i is = by (row_named name) is
 
     by : (o : Option Row) → option_and_then (called ws) o ≡ Some i → (option_map (λ row. row.command) o ≡ Some i.command) × (ws ≡ i.texts)
     by None e = absurd (cc)
-    by (Some row) e = by_count row (length ws == length row.arguments) e
+    by (Some row) e = by_count row (are_counted ws row) e
 
 named_second : (words : List (Bor Text)) (given : IsTaken (texts words)) → (option_map (λ row. row.command) (row_named (get_or words 1 no_word).now) ≡ Some given.invocation.command)
     × (texts (drop 2 words) ≡ given.invocation.texts)

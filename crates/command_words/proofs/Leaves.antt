@@ -1,9 +1,9 @@
 -- The commands of the line as clap builds them, and how it finds one by its name.
-use Rattle.std.proofs.Common.{◌≡◌, ℕ, List, [], ◌∷◌, ◌++◌, map, length, Option, Some, None, Bool, true, false, ◌||◌, refl, sym, ◌∙◌, ap, codes, find, if◌then◌else◌, option_map}
+use Rattle.std.proofs.Common.{◌≡◌, ℕ, List, [], ◌∷◌, ◌++◌, map, max, length, Option, Some, None, Bool, true, false, ◌||◌, refl, sym, ◌∙◌, ap, codes, find, if◌then◌else◌, option_map}
 use Rattle.std.specs.Str.{bytes_eq}
 use Rattle.clap.specs.Words.{App, Rule, Text, built, new_app, new_rule, with_rule}
 use Rattle.clap.specs.Walk.{Names, answers_to, idle, subcommand_met}
-use Rattle.clap.specs.Simple.{Shape, built_leaf, filled, help_shape, inherited, label_of, marked_built, names_of, on_top, with_index, with_leaf_noted}
+use Rattle.clap.specs.Simple.{Shape, built_leaf, help_shape, inherited, label_of, marked_built, names_of, on_top, with_leaf_noted}
 use Rattle.clap.proofs.WalkLemmas.{find-map}
 use Rattle.command_words.specs.CommandLine.{command_line}
 use Rattle.command_words.specs.Commands.{Row, commands, row_named}
@@ -14,19 +14,25 @@ line = built command_line
 abbrev pub names : Names
 names = names_of line
 
--- the argument of a command with n names of arguments, as given and as built
-abbrev pub text_argument : ℕ → Rule
-text_argument n = record (new_rule (codes "ARGUMENTS")) { required = true; value_names = n }
+-- the argument of a command with n names of arguments that takes from `least` to `most` texts
+abbrev pub text_argument : (least most n : ℕ) → Rule
+text_argument least most n = record (new_rule (codes "ARGUMENTS")) {
+  required = true;
+  range = Some (record { start_inclusive = least; end_inclusive = most });
+  value_names = n;
+}
 
-abbrev pub built_argument : ℕ → Rule
-built_argument n = with_index 1 (filled (text_argument n))
+-- a command of this name with such an argument, as built
+abbrev pub leaf : Text → (least most n : ℕ) → Shape
+leaf name least most n =
+    built_leaf (inherited (on_top with_leaf_noted (on_top marked_built command_line)).top (with_rule (new_app name) (text_argument least most n)).top)
 
--- a command of this name with so many, as built
-abbrev pub leaf : Text → ℕ → Shape
-leaf name n = built_leaf (inherited (on_top with_leaf_noted (on_top marked_built command_line)).top (with_rule (new_app name) (text_argument n)).top)
+-- the most texts of a row's command, as clap counts them
+abbrev pub most_of : Row → ℕ
+most_of row = max (length row.arguments) row.least
 
 abbrev pub leaf_of : Row → Shape
-leaf_of row = leaf row.name (length row.arguments)
+leaf_of row = leaf row.name row.least (most_of row) (length row.arguments)
 
 leaves : line.subs ≡ map leaf_of commands ++ built_leaf help_shape ∷ []
 leaves = refl

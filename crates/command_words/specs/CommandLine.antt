@@ -1,16 +1,20 @@
 -- The command line by clap's own definition: a command whose subcommands take texts by their places.
-use Rattle.std.specs.Prelude.{◌≡◌, ◌≢◌, ◌⊎◌, List, [], length, codes, true, fold}
+use Rattle.std.specs.Prelude.{◌≡◌, ◌≢◌, ◌⊎◌, List, [], Some, length, max, codes, true, fold, ℕ}
 use Rattle.clap.specs.Words.{App, Rule, fault_of, new_app, new_rule, with_rule, with_subcommand}
 use Rattle.command_words.specs.Commands.{Row, Text, commands}
 use Rattle.command_words.specs.Invocations.{is_refused}
 
--- an argument that has to be there, and takes one text for each of these names
-abbrev pub required_texts : List Text → Rule
-required_texts names = record (new_rule (codes "ARGUMENTS")) { required = true; value_names = length names }
+-- an argument that has to be there, and takes one text for each of these names, of which all behind the least number may be left out
+abbrev pub required_texts : List Text → ℕ → Rule
+required_texts names least = record (new_rule (codes "ARGUMENTS")) {
+  required = true;
+  range = Some (record { start_inclusive = least; end_inclusive = max (length names) least });
+  value_names = length names;
+}
 
 -- the command of a row
 abbrev pub command : Row → App
-command row = with_rule (new_app row.name) (required_texts row.arguments)
+command row = with_rule (new_app row.name) (required_texts row.arguments row.least)
 
 -- a command one of whose subcommands has to be named
 abbrev pub naming_one : App

@@ -1,5 +1,5 @@
 -- The commands.
-use Rattle.std.specs.Prelude.{◌≡◌, ◌⊎◌, ℕ, List, [], ◌∷◌, length, map, find, bytes_eq, codes, Option}
+use Rattle.std.specs.Prelude.{◌≡◌, ◌⊎◌, ◌≤◌, ℕ, List, [], ◌∷◌, ◌++◌, length, map, find, bytes_eq, codes, Option}
 use Rattle.std.specs.Borrow.{Bor}
 use Rattle.command_words.specs.declared.command.Command.{Command}
 use Rattle.command_words.specs.declared.command.Command.TheVariants.{Check, Init, Ideal, Step, Shallow, Prove, Verify, Audit}
@@ -11,14 +11,20 @@ Text = List ℕ
 abbrev pub texts : List (Bor Text) → List Text
 texts words = map (λ word. word.now) words
 
--- a command with its name, and the names of its arguments
+-- A command with its name and the names of its arguments, and how many of them have to be there: those behind may be left out.
 pub record Row : Type 0 where
   pub command : Command
   pub name : Text
   pub arguments : List Text
+  pub least : ℕ
 
+-- a command all of whose arguments have to be there
 abbrev pub row : Command → Text → List Text → Row
-row command name arguments = record { command = command; name = name; arguments = arguments }
+row command name arguments = record { command = command; name = name; arguments = arguments; least = length arguments }
+
+-- one whose arguments behind these may be left out
+abbrev pub row_with : Command → Text → List Text → List Text → Row
+row_with command name arguments others = record { command = command; name = name; arguments = arguments ++ others; least = length arguments }
 
 -- the table of the commands
 abbrev pub commands : List Row
@@ -29,7 +35,7 @@ commands =
     row Step (codes "step") (codes "P" ∷ codes "ROLE" ∷ codes "IMG" ∷ codes "ARG" ∷ codes "FUEL" ∷ codes "OUT" ∷ []) ∷
     row Shallow (codes "shallow") (codes "P" ∷ codes "IMG" ∷ codes "OUT" ∷ []) ∷
     row Prove (codes "prove") (codes "P" ∷ codes "ROLE" ∷ codes "IMG" ∷ codes "ARG" ∷ codes "FUEL" ∷ codes "N" ∷ codes "OUT" ∷ []) ∷
-    row Verify (codes "verify") (codes "P" ∷ codes "ROLE" ∷ codes "STATE" ∷ codes "ARG" ∷ codes "FUEL" ∷ codes "PROOF" ∷ []) ∷
+    row_with Verify (codes "verify") (codes "P" ∷ codes "ROLE" ∷ codes "STATE" ∷ codes "ARG" ∷ codes "FUEL" ∷ codes "PROOF" ∷ []) (codes "OUT" ∷ []) ∷
     row Audit (codes "audit") (codes "P" ∷ codes "ROLE" ∷ codes "IMG" ∷ codes "ARG" ∷ codes "FUEL" ∷ codes "PROOF" ∷ []) ∷
     []
 
@@ -37,10 +43,13 @@ commands =
 unfoldable pub row_named : Text → Option Row
 row_named name = find (λ row. bytes_eq row.name name) commands
 
--- the texts are as many as the command has arguments
+-- the texts are as many as the command takes
+abbrev pub AreCounted : Row → List Text → Type 0
+AreCounted row texts = (row.least ≤ length texts) × (length texts ≤ length row.arguments)
+
 abbrev pub IsOfOneOf : Command → List Text → List Row → Type 0
 IsOfOneOf command texts [] = ⊥
-IsOfOneOf command texts (row ∷ rows) = ((row.command ≡ command) × (length texts ≡ length row.arguments)) ⊎ IsOfOneOf command texts rows
+IsOfOneOf command texts (row ∷ rows) = ((row.command ≡ command) × AreCounted row texts) ⊎ IsOfOneOf command texts rows
 
 abbrev pub IsOfCommand : Command → List Text → Type 0
 IsOfCommand command texts = IsOfOneOf command texts commands

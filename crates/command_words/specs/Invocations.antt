@@ -1,5 +1,5 @@
 -- What the words of a command line call, without a word of clap.
-use Rattle.std.specs.Prelude.{List, [], ◌∷◌, length, Bool, true, false, ◌||◌, ◌==◌, bytes_eq, codes, Option, Some, None, if◌then◌else◌, option_and_then}
+use Rattle.std.specs.Prelude.{List, [], ◌∷◌, length, Bool, true, false, ◌||◌, ◌&&◌, nat_le, bytes_eq, codes, Option, Some, None, if◌then◌else◌, option_and_then}
 use Rattle.std.specs.List.{list_any}
 use Rattle.command_words.specs.Commands.{Row, Text, row_named, texts}
 use Rattle.command_words.specs.declared.command.Command.{Command}
@@ -28,9 +28,12 @@ is_refused [] = false
 is_refused (program ∷ []) = false
 is_refused (program ∷ name ∷ arguments) = bytes_eq name (codes "help") || (is_refused_word name || list_any is_refused_word arguments)
 
--- the command of a row with these texts, where they are as many as its arguments
+-- the command of a row with these texts, where they are as many as it takes
+abbrev pub are_counted : List Text → Row → Bool
+are_counted texts row = nat_le row.least (length texts) && nat_le (length texts) (length row.arguments)
+
 abbrev pub called : List Text → Row → Option Invocation
-called texts row = if length texts == length row.arguments then Some (calls row.command texts) else None
+called texts row = if are_counted texts row then Some (calls row.command texts) else None
 
 -- what words call that are behind the program's name: a command's name, and the texts of its arguments
 abbrev pub invocation_behind : List Text → Option Invocation

@@ -20,29 +20,31 @@ pub enum Command {
 #[derive(Clone, Copy)]
 pub struct Invocation<'a> {
     pub command: Command,
-    /// As many as the command has arguments, and in their order.
+    /// As many as the command takes, and in the order of its arguments.
     pub texts: &'a [&'a str],
 }
 
-/// A command in the table: its name, and the names of its arguments, at least one.
+/// A command in the table: its name, and the names of its arguments.
 #[derive(Clone, Copy)]
 pub struct Row {
     pub command: Command,
     pub name: &'static str,
     pub arguments: &'static [&'static str],
+    /// How many of them have to be there, at least one: those behind may be left out.
+    pub least: usize,
 }
 
 /// The commands.
 #[rattlefmt::skip]
 static COMMANDS: [Row; 8] = [
-    Row { command: Command::Check, name: "check", arguments: &["P"] },
-    Row { command: Command::Init, name: "init", arguments: &["P", "ROLE", "ARG", "FUEL", "OUT"] },
-    Row { command: Command::Ideal, name: "ideal", arguments: &["P", "ROLE", "IMG", "ARG", "FUEL"] },
-    Row { command: Command::Step, name: "step", arguments: &["P", "ROLE", "IMG", "ARG", "FUEL", "OUT"] },
-    Row { command: Command::Shallow, name: "shallow", arguments: &["P", "IMG", "OUT"] },
-    Row { command: Command::Prove, name: "prove", arguments: &["P", "ROLE", "IMG", "ARG", "FUEL", "N", "OUT"] },
-    Row { command: Command::Verify, name: "verify", arguments: &["P", "ROLE", "STATE", "ARG", "FUEL", "PROOF"] },
-    Row { command: Command::Audit, name: "audit", arguments: &["P", "ROLE", "IMG", "ARG", "FUEL", "PROOF"] },
+    Row { command: Command::Check, name: "check", arguments: &["P"], least: 1 },
+    Row { command: Command::Init, name: "init", arguments: &["P", "ROLE", "ARG", "FUEL", "OUT"], least: 5 },
+    Row { command: Command::Ideal, name: "ideal", arguments: &["P", "ROLE", "IMG", "ARG", "FUEL"], least: 5 },
+    Row { command: Command::Step, name: "step", arguments: &["P", "ROLE", "IMG", "ARG", "FUEL", "OUT"], least: 6 },
+    Row { command: Command::Shallow, name: "shallow", arguments: &["P", "IMG", "OUT"], least: 3 },
+    Row { command: Command::Prove, name: "prove", arguments: &["P", "ROLE", "IMG", "ARG", "FUEL", "N", "OUT"], least: 7 },
+    Row { command: Command::Verify, name: "verify", arguments: &["P", "ROLE", "STATE", "ARG", "FUEL", "PROOF", "OUT"], least: 6 },
+    Row { command: Command::Audit, name: "audit", arguments: &["P", "ROLE", "IMG", "ARG", "FUEL", "PROOF"], least: 6 },
 ];
 
 /// The table of the commands.

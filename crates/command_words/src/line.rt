@@ -40,15 +40,16 @@ fn command<'a>(alloc: Global, row: &Row) -> Result<Command<'a>, AllocError>
     ensures local { IfOk result (λ command. (out-Command command).has_globals ≡ false) }
     ensures shape { IfOk result (λ made. app_of made ≡ command (row_of row.now)) }
 {
-    Command::new(alloc, row.name).arg(required_texts(alloc, row.arguments))
+    Command::new(alloc, row.name).arg(required_texts(alloc, row.arguments, row.least))
 }
 
-/// The argument that takes the texts of a command, one for each of these names.
-fn required_texts<'a>(alloc: Global, names: &'a [&'a str]) -> Arg<'a>
-    ensures rule { rule_of result ≡ required_texts (map (λ name. name.now) names.entry.now) }
+/// The argument that takes the texts of a command: one for each of these names, of which all behind the least number may be left out.
+fn required_texts<'a>(alloc: Global, names: &'a [&'a str], least: usize) -> Arg<'a>
+    ensures rule { rule_of result ≡ required_texts (map (λ name. name.now) names.entry.now) least }
     ensures local { result.global ≡ false }
 {
     Arg::new(alloc, "ARGUMENTS")
+        .num_args(least..=names.len())
         .value_names(names)
         .required(true)
 }

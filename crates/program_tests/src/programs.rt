@@ -1,6 +1,6 @@
-// What `check` says of the texts of programs, and where the fragment ends that the commands take which make or read a proof.
-use cli_stage::runs::{check, opening, run_words, verified};
-use cli_stage::stage::{PROOF, STATE, staged};
+// What `check` says of the texts of programs, and where the fragment ends that the commands take which make or audit a proof.
+use cli_stage::runs::{check, opening, proved, run_words, verified};
+use cli_stage::stage::{HEADER, PROOF, STATE, staged};
 use program_texts::{BST, FIRST, LOG, MERKLE, SUM};
 use std::alloc::{AllocError, Global};
 use std::test::Fail;
@@ -516,7 +516,7 @@ fn programs_of_the_fragment_are_run(rt: HostRuntime) -> Result<(), Fail> {
     Ok(())
 }
 
-/// Texts of the whole language that the rules refuse, each with what `check` tells, and what `verify` tells: where the fragment ends.
+/// Texts of the whole language that the rules refuse, each with what `check` tells, and what `prove` tells: where the fragment ends.
 const BEYOND: [(&[u8], &str, &str); 14] = [
     (
         b"state unit;\nquery q(s: unit, x: unit): unit = (x, x);",
@@ -596,7 +596,7 @@ fn the_fragment_ends_at_the_first_token_beyond_it(rt: HostRuntime) -> Result<(),
         if !check(rt.alloc(), text)?.only_tells(6, line) {
             return Err(Fail::new(*line));
         }
-        let run = verified(rt.alloc(), text, &STATE, PROOF, &opening("1"))?;
+        let run = proved(rt.alloc(), text, PROOF, &opening("1"))?;
         if !run.only_tells(6, beyond) {
             return Err(Fail::new(*beyond));
         }
@@ -604,18 +604,21 @@ fn the_fragment_ends_at_the_first_token_beyond_it(rt: HostRuntime) -> Result<(),
     Ok(())
 }
 
-/// A text that `check` takes, and each command refuses that makes or reads a proof.
+/// A text that `check` and `verify` take, and the commands refuse that make or audit a proof.
 const WHOLE: &[u8] = b"state unit; query q(s: unit, x: int): int = if lt(x, 0) then 0 else x;";
 
-const COMMANDS: [&[&str]; 3] = [
+const COMMANDS: [&[&str]; 2] = [
     &["prove", "p", "q", "q", "1", "1", "0", "o"],
-    &["verify", "p", "q", "s", "1", "1", "q"],
     &["audit", "p", "q", "q", "1", "1", "q"],
 ];
 
 #[test]
-fn proofs_are_of_the_fragment(rt: HostRuntime) -> Result<(), Fail> {
+fn proofs_are_made_of_the_fragment(rt: HostRuntime) -> Result<(), Fail> {
     assert!(rt; check(rt.alloc(), WHOLE)?.status == 0);
+    let words = ["verify", "p", "q", "s", "1", "1", "q"];
+    assert!(rt;
+        run_words(rt.alloc(), &staged(WHOLE, &[], HEADER), &words)?.only_tells(0, "done 1\n")
+    );
     for (number, words) in COMMANDS.iter().enumerate() {
         let run = run_words(rt.alloc(), &staged(WHOLE, &[], PROOF), words)?;
         if !run.only_tells(6, "program refused: Expected 1 45\n") {

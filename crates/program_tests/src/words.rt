@@ -36,7 +36,7 @@ const REFUSED: [&[&str]; 31] = [
     &["prove", "p", "open", "q", "()", "1", "0"],
     &["prove", "p", "open", "q", "()", "1", "0", "o", "o"],
     &["verify", "p", "open", "s", "()", "1"],
-    &["verify", "p", "open", "s", "()", "1", "q", "o"],
+    &["verify", "p", "open", "s", "()", "1", "q", "o", "o"],
     &["audit", "p", "open", "s", "()", "1"],
     &["audit", "p", "open", "s", "()", "1", "q", "o"],
     &["verify", "p", "more", "s", "-3", "1", "q"],

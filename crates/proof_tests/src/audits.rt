@@ -41,9 +41,8 @@ fn what_is_proved_is_agreed_on(rt: HostRuntime) -> Result<(), Fail> {
 }
 
 /// Proofs of `open` that are rejected, and the fuel.
-const REJECTED: [(&[u8], &str, &str); 7] = [
+const REJECTED: [(&[u8], &str, &str); 6] = [
     (b"LAP1\0", "1", "rejected header\n"),
-    (b"LAP1\0\x01\0\0\0\0\0", "1", "rejected header\n"),
     (b"LAP1\0\0", "1", "rejected short 0\n"),
     (b"LAP1\0\0\0\0\0", "1", "rejected cut 0\n"),
     (b"LAP1\0\0\0\0\0\0\0\x07", "1", "rejected leftover 1\n"),
@@ -67,6 +66,17 @@ fn a_rejection_is_told_as_by_the_verifier(rt: HostRuntime) -> Result<(), Fail> {
             return Err(Fail::new(*line));
         }
     }
+    Ok(())
+}
+
+// The verifier takes a proof that asks for pieces to be kept.
+#[test]
+fn no_piece_is_kept_in_an_audit(rt: HostRuntime) -> Result<(), Fail> {
+    let alloc = rt.alloc();
+    let image = made(alloc, FIRST, "()")?.file;
+    let proof = b"LAP1\0\x01\0\0\0\0\0";
+    let run = audited(alloc, FIRST, &image, proof, &opening("1"))?;
+    assert!(rt; run.only_tells(5, "rejected header\n"));
     Ok(())
 }
 

@@ -10,6 +10,8 @@ mod proofs;
 #[cfg(test)]
 mod trips;
 #[cfg(test)]
+mod updates;
+#[cfg(test)]
 mod values;
 #[cfg(test)]
 mod verdicts;

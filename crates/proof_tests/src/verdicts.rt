@@ -12,15 +12,17 @@ use std::test::Fail;
 const WORDS: [&str; 7] = ["verify", "p", "open", "s", "()", "1", "q"];
 
 /// A proof with this fuel: its bytes, the status and the line.
-const PROOFS: [(&[u8], &str, u8, &str); 23] = [
+const PROOFS: [(&[u8], &str, u8, &str); 25] = [
     (b"LAP1\0\0\0\0\0\0\0", "1", 0, "done ()\n"),
     (b"LAP1\0\0\0\0\0\0\0", "1000000000000", 0, "done ()\n"),
-    // nothing is left, and a header that isn't whole, begins otherwise, or asks for a ring
+    // nothing is left, and a header that isn't whole, begins otherwise, or asks for a ring: of 1,024 pieces at most
     (b"LAP1\0\0", "1", 5, "rejected short 0\n"),
     (b"LAP1\0", "1", 5, "rejected header\n"),
     (b"", "1", 5, "rejected header\n"),
     (b"LAP2\0\0\0\0\0\0\0", "1", 5, "rejected header\n"),
-    (b"LAP1\0\x01\0\0\0\0\0", "1", 5, "rejected header\n"),
+    (b"LAP1\0\x01\0\0\0\0\0", "1", 0, "done ()\n"),
+    (b"LAP1\x04\0\0\0\0\0\0", "1", 0, "done ()\n"),
+    (b"LAP1\x04\x01\0\0\0\0\0", "1", 5, "rejected header\n"),
     // a frame that is cut in its length, in its piece and in its number
     (b"LAP1\0\0\0", "1", 5, "rejected cut 0\n"),
     (b"LAP1\0\0\0\0\0", "1", 5, "rejected cut 0\n"),
@@ -179,13 +181,14 @@ fn stops_at_a_failed_write(rt: HostRuntime) -> Result<(), Fail> {
     Ok(())
 }
 
-// For each of the three files: start, a read of all, a read at the end.
+// Of the program and the state: start, a read of all, a read at the end. Of the proof: start, and reads of the header, of the frame's kind
+// and length, and at the end.
 #[test]
 fn each_call_of_the_files_fails_once(rt: HostRuntime) -> Result<(), Fail> {
     let stage = staged(FIRST, &STATE, PROOF);
-    for call in 0..10 {
+    for call in 0..12 {
         let run = run_failing(rt.alloc(), &stage, &WORDS, &[call], (100, &[]))?;
-        let (status, line) = if call < 9 {
+        let (status, line) = if call < 11 {
             (8, "read fault\n")
         } else {
             (0, "done ()\n")

@@ -5,6 +5,7 @@ use Rattle.core_terms.specs.Types.{Ty}
 use Rattle.core_terms.specs.Terms.{Program}
 use Rattle.core_terms.specs.Values.{Value, NoV, AndV}
 use Rattle.core_terms.specs.Projection.{read_at}
+use Rattle.core_terms.specs.Spelling.{Spells, spelling}
 use Rattle.core_terms.specs.Roles.{argument_type}
 use Rattle.core_terms.specs.declared.outcome.Outcome.{Outcome}
 use Rattle.core_terms.specs.declared.outcome.Outcome.TheVariants as told
@@ -15,8 +16,10 @@ use Rattle.ideal_meaning.specs.Frames.{header}
 use Rattle.ideal_meaning.specs.Following.{after_bytes}
 use Rattle.ideal_meaning.specs.Checked as checked
 use Rattle.ideal_meaning.specs.Told.{cause_told, trap_told}
-use Rattle.value_store.specs.Nodes.{Node}
+use Rattle.value_store.specs.Nodes.{AreSound, Node, size_limit}
+use Rattle.value_store.specs.Standing.{StandsFor, VerifierNodes}
 use Rattle.value_store.specs.declared.node.Ref.{Ref}
+use Rattle.value_store.proofs.StandingNodes.{within_stands}
 use Rattle.value_store.proofs.TypedNodes.{shallow_stands}
 use Rattle.mode_vm.specs.declared.mode.Stop.{Stop}
 use Rattle.mode_vm.specs.declared.mode.Stop.TheVariants as stop
@@ -28,9 +31,9 @@ use Rattle.stream_verifier.specs.declared.verdict.Verdict.{Verdict}
 use Rattle.stream_verifier.specs.declared.verdict.Verdict.TheVariants.{Rejected, BadState, BadArgument, ReadFault, NoMemory}
 use Rattle.stream_verifier.specs.CallParts.{ArePut, IsReadAs}
 use Rattle.stream_verifier.specs.CheckedRuns.{CameTo, IsChecked, IsLeft}
-use Rattle.stream_verifier.specs.Spelled.{IsSpelledAs}
+use Rattle.stream_verifier.specs.Spelled.{IsSpelledAs, OutcomeStands}
 use Rattle.stream_verifier.specs.Takings.{HasCome}
-use Rattle.stream_verifier.specs.Verdicts.{Answers, AnswersWithRing, SpellsOutcome, Tells, VerdictCause, keeping, verdict_keeping, verdict_of, with_argument, with_state}
+use Rattle.stream_verifier.specs.Verdicts.{Answers, AnswersWithRing, IsTold, SpellsOutcome, Tells, VerdictCause, keeping, verdict_keeping, verdict_of, with_argument, with_state}
 use Rattle.stream_verifier.proofs.Pieces.{some_same}
 
 -- a run that was stopped
@@ -50,7 +53,27 @@ all_taken bytes left n zero_is counts =
     let none = no_byte bytes (sym zero_is ∙ counts.0) in
     (none, counts.1 ∙ ap (λ n. Some (drop n bytes)) zero_is ∙ ap Some none)
 
-module _ (P : Program) (nodes : List Node) (t : Ty) (left : Option (List ℕ)) (run : Run checked.Cause checked.Taking Value) (bytes : List ℕ) (is_told : left ≡ Some bytes) where
+-- what stands in a store is within the limits
+spelled_stands : (P : Program) (nodes : List Node) → AreSound nodes → (t : Ty) (r : Ref) (v : Value) (bytes : List ℕ) → StandsFor VerifierNodes P.types nodes r.0 t v → bytes ≡ spelling v → Spells size_limit P.types bytes t v
+spelled_stands P nodes sound t r v bytes stands is = record {
+  shape = shallow_stands P.types nodes t v r.0 stands;
+  within = within_stands VerifierNodes P.types nodes t v r.0 sound stands;
+  is = is;
+}
+
+-- an outcome that stands there is told by its spelling
+pub told_as : (P : Program) (nodes : List Node) → AreSound nodes → (t : Ty) (o : Outcome Ref) (result : Outcome Spelling) → OutcomeStands P nodes t o → IsSpelledAs P.types nodes t o result → IsTold P t result
+told_as P nodes sound t (told.Done r) (told.Done bytes) (v, stands) e = (ideal.Done v, (v, refl, spelled_stands P nodes sound t r v bytes stands (e v stands)))
+told_as P nodes sound t (told.Trapped trap) (told.Trapped trap') h e = (ideal.Trapped (trap_told trap'), refl)
+told_as P nodes sound t told.Out told.Out h e = (ideal.Out, refl)
+told_as P nodes sound t (told.Done r) (told.Trapped trap) h e = absurd e
+told_as P nodes sound t (told.Done r) told.Out h e = absurd e
+told_as P nodes sound t (told.Trapped trap) (told.Done bytes) h e = absurd e
+told_as P nodes sound t (told.Trapped trap) told.Out h e = absurd e
+told_as P nodes sound t told.Out (told.Done bytes) h e = absurd e
+told_as P nodes sound t told.Out (told.Trapped trap) h e = absurd e
+
+module _ (P : Program) (nodes : List Node) (sound : AreSound nodes) (t : Ty) (left : Option (List ℕ)) (run : Run checked.Cause checked.Taking Value) (bytes : List ℕ) (is_told : left ≡ Some bytes) where
   is_left : (w : checked.Taking) → IsLeft left w → w.left ≡ length bytes
   is_left w h = h.2 ∙ ap length (some_same h.0 bytes (sym h.1 ∙ is_told))
 
@@ -63,7 +86,7 @@ module _ (P : Program) (nodes : List Node) (t : Ty) (left : Option (List ℕ)) (
   rests (told.Done r) (v, k, w, h, stands, is) = (ideal.Done v, ap checked.judged is ∙ ap (checked.with_rest (ideal.Done v)) (is_left w h), spells)
     where
       spells : (result : Outcome Spelling) → IsSpelledAs P.types nodes t (told.Done r) result → SpellsOutcome P t (ideal.Done v) result
-      spells (told.Done bytes) e = (v, refl, shallow_stands P.types nodes t v r.0 stands, sym (e v stands))
+      spells (told.Done bytes) e = (v, refl, spelled_stands P nodes sound t r v bytes stands (e v stands))
       spells (told.Trapped trap) e = absurd e
       spells told.Out e = absurd e
   rests (told.Trapped trap) (k, w, h, is) = (ideal.Trapped (trap_told trap), ap checked.judged is ∙ ap (checked.with_rest (ideal.Trapped (trap_told trap))) (is_left w h), spells)

@@ -24,19 +24,9 @@ use Rattle.stream_verifier.specs.declared.verdict.Verdict.{Verdict}
 use Rattle.stream_verifier.specs.Verdicts.{Answers, AnswersWithRing, SaysTrue, SaysTrueOn, TakesState, keeping, verdict_keeping, with_argument, with_state}
 use Rattle.stream_verifier.proofs.Parameters.{parameters_of}
 
--- a program of the code is well-typed, and its format is one that the laws speak of
-is_typed : (p : Coded) → IsTyped (meaning p)
-is_typed p = (typing_test_is_exact (meaning p)).0 p.typed
-
-is_format : (p : Coded) → IsFormat (meaning p).format
-is_format p = first_format_is_format 0 (lit< tt)
-
 -- The state and the argument are read back, or refused; the rest is the headline of frames.
-module _ (hash : Hash) (is_hash : IsHash hash) (p : Coded) (f : ℕ) (takes : TakesState (meaning p) f) (k : ℕ) (v a : Value) (o : ideal.Outcome)
-    (ideal_state : IsIdeal (meaning p).types (meaning p).state v) (ideal_argument : IsIdeal (meaning p).types (argument_type (meaning p) f) a) where
-  abbrev P : Program
-  P = meaning p
-
+module _ (hash : Hash) (is_hash : IsHash hash) (P : Program) (typed : IsTyped P) (format : IsFormat P.format) (f : ℕ) (takes : TakesState P f) (k : ℕ) (v a : Value) (o : ideal.Outcome)
+    (ideal_state : IsIdeal P.types P.state v) (ideal_argument : IsIdeal P.types (argument_type P f) a) where
   abbrev t : Ty
   t = argument_type P f
 
@@ -54,7 +44,7 @@ module _ (hash : Hash) (is_hash : IsHash hash) (p : Coded) (f : ℕ) (takes : Ta
       let shape = parameters_of P f takes in
       let ideals : AreIdeal P.types (function_at P f).parameters (call_of v a) = subst (λ ts. AreIdeal P.types ts (call_of v a)) (sym shape) (ideal_state, (ideal_argument, tt)) in
       let all_fit : AllFit P (function_at P f).parameters (call_of v a) = subst (λ ts. AllFit P ts (call_of v a)) (sym shape) (fits, (fits', tt)) in
-      headline_of_frames hash is_hash P (is_format p) (is_typed p) f (call_of v a) k bytes n recent o ideals all_fit
+      headline_of_frames hash is_hash P format typed f (call_of v a) k bytes n recent o ideals all_fit
       (subst (λ ts. judge hash P f (projections hash P ts (call_of v a)) k bytes n recent ≡ Accepted o) (sym shape) accepted)
 
   module _ (bytes : List ℕ) (n : ℕ) (recent : List (List ℕ)) where
@@ -67,7 +57,7 @@ module _ (hash : Hash) (is_hash : IsHash hash) (p : Coded) (f : ℕ) (takes : Ta
     on_frames (inr s) r accepted = let e = sym (ap (λ x. on_state hash P t x (spelling passed) f k bytes n recent) s.1.1) ∙ accepted in absurd (cc (e))
 
     pub true_on : verdict_on hash P t f (spelling shown) (spelling passed) k bytes n recent ≡ Accepted o → Claim bytes n recent
-    true_on = on_frames (reads_back hash is_hash P (is_format p) P.state v ideal_state) (reads_back hash is_hash P (is_format p) t a ideal_argument)
+    true_on = on_frames (reads_back hash is_hash P format P.state v ideal_state) (reads_back hash is_hash P format t a ideal_argument)
 
   module _ (most : ℕ) (bytes : List ℕ) where
     abbrev Filed : Type 0
@@ -86,7 +76,14 @@ module _ (hash : Hash) (is_hash : IsHash hash) (p : Coded) (f : ℕ) (takes : Ta
     on_file (inr s) r accepted = let e = sym (ap (λ x. with_state hash P most t x (spelling passed) f k bytes) s.1.1) ∙ accepted in absurd (cc (e))
 
     pub true_of_file : verdict_keeping hash P most t f (spelling shown) (spelling passed) k bytes ≡ Accepted o → Filed
-    true_of_file = on_file (reads_back hash is_hash P (is_format p) P.state v ideal_state) (reads_back hash is_hash P (is_format p) t a ideal_argument)
+    true_of_file = on_file (reads_back hash is_hash P format P.state v ideal_state) (reads_back hash is_hash P format t a ideal_argument)
+
+-- a program of the code is well-typed, and its format is one that the laws speak of
+is_typed : (p : Coded) → IsTyped (meaning p)
+is_typed p = (typing_test_is_exact (meaning p)).0 p.typed
+
+is_format : (p : Coded) → IsFormat (meaning p).format
+is_format p = first_format_is_format 0 (lit< tt)
 
 module _ (hash : Hash) (is_hash : IsHash hash) (p : Coded) (f : ℕ) (takes : TakesState (meaning p) f) (state argument : List ℕ) (k : ℕ) where
   abbrev ty : Ty
@@ -100,7 +97,7 @@ module _ (hash : Hash) (is_hash : IsHash hash) (p : Coded) (f : ℕ) (takes : Ta
       let P = meaning p in
       let same = sym (ap (λ state. verdict_on hash P ty f state (spelling (projection hash P ty a)) k bytes n recent) state_is)
       ∙ (sym (ap (λ argument. verdict_on hash P ty f state argument k bytes n recent) argument_is) ∙ accepted) in
-      (o, spelled, true_on hash is_hash p f takes k v a o ideal_state ideal_argument bytes n recent same)
+      (o, spelled, true_on hash is_hash P (is_typed p) (is_format p) f takes k v a o ideal_state ideal_argument bytes n recent same)
 
   pub says_true : (most : ℕ) (proof : List ℕ) (result : Result (Outcome Spelling) Verdict)
       → Answers (meaning p) f (verdict_keeping hash (meaning p) most ty f state argument k proof) result
@@ -110,4 +107,4 @@ module _ (hash : Hash) (is_hash : IsHash hash) (p : Coded) (f : ℕ) (takes : Ta
       let P = meaning p in
       let same = sym (ap (λ state. verdict_keeping hash P most ty f state (spelling (projection hash P ty a)) k proof) state_is)
       ∙ (sym (ap (λ argument. verdict_keeping hash P most ty f state argument k proof) argument_is) ∙ accepted) in
-      (o, spelled, true_of_file hash is_hash p f takes k v a o ideal_state ideal_argument most proof same)
+      (o, spelled, true_of_file hash is_hash P (is_typed p) (is_format p) f takes k v a o ideal_state ideal_argument most proof same)

@@ -3,9 +3,9 @@ use Rattle.std.specs.Prelude.{◌≡◌, ℕ, List, [], drop, Some, Result, Ok, 
 use Rattle.lam_outside.specs.Causes.{Rose}
 use Rattle.core_terms.specs.Types.{Ty}
 use Rattle.core_terms.specs.Formats.{Format, Hash}
-use Rattle.core_terms.specs.Values.{Value, NoV, AndV, IsIdeal, IsShallow}
+use Rattle.core_terms.specs.Values.{Value, NoV, AndV, IsIdeal}
 use Rattle.core_terms.specs.Reading.{Read, Good, BadAt}
-use Rattle.core_terms.specs.Spelling.{spelling}
+use Rattle.core_terms.specs.Spelling.{Spells, spelling}
 use Rattle.core_terms.specs.Terms.{Kind, Program, function_at}
 use Rattle.core_terms.specs.Roles.{IsRole, ReadsState, argument_type}
 use Rattle.core_terms.specs.Projection.{projection, read_at}
@@ -23,6 +23,7 @@ use Rattle.mode_vm.specs.declared.mode.Stop.TheVariants as stop
 use Rattle.proof_stream.specs.declared.frame.HeadEnd.{HeadEnd}
 use Rattle.proof_stream.specs.declared.frame.HeadEnd.TheVariants as head_end
 use Rattle.reuse_buffer.specs.Kept.{Kept}
+use Rattle.value_store.specs.Nodes.{size_limit}
 use Rattle.stream_verifier.specs.declared.verifier.VerifierFault.{VerifierFault}
 use Rattle.stream_verifier.specs.declared.verifier.VerifierFault.TheVariants as fault
 use Rattle.stream_verifier.specs.declared.verdict.Verdict.{Verdict}
@@ -60,11 +61,16 @@ module _ (hash : Hash) (P : Program) (most : ℕ) where
   abbrev pub verdict_keeping : Ty → ℕ → List ℕ → List ℕ → ℕ → List ℕ → checked.Verdict
   verdict_keeping t f state argument k bytes = with_state t (read_at P P.state state) argument f k bytes
 
--- The outcome of the definitions that an outcome with a spelling tells: its value is a shallow one of type t, with this spelling.
+-- The outcome of the definitions that an outcome with a spelling tells: its value is a shallow one of type t within the limits, with this
+-- spelling.
 abbrev pub SpellsOutcome : Program → Ty → ideal.Outcome → Outcome Spelling → Type 0
-SpellsOutcome P t o (told.Done bytes) = (v : Value) × (o ≡ ideal.Done v) × IsShallow P.types t v × (spelling v ≡ bytes)
+SpellsOutcome P t o (told.Done bytes) = (v : Value) × (o ≡ ideal.Done v) × Spells size_limit P.types bytes t v
 SpellsOutcome P t o (told.Trapped trap) = o ≡ ideal.Trapped (trap_told trap)
 SpellsOutcome P t o told.Out = o ≡ ideal.Out
+
+-- it tells some outcome
+abbrev pub IsTold : Program → Ty → Outcome Spelling → Type 0
+IsTold P t told = (o : ideal.Outcome) × SpellsOutcome P t o told
 
 -- The verdict is told with the outcome, whose value has type t, or with its cause or its offset. Where the source failed or memory was
 -- wanting nothing is told.

@@ -17,7 +17,7 @@ ghost use Rattle.mode_vm.specs.Meanings.{program_of};
 ghost use Rattle.reuse_buffer.specs.Kept.{kept};
 ghost use Rattle.stream_verifier.specs.CallParts.{ArePut};
 ghost use Rattle.stream_verifier.specs.Spelled.{IsSpelledAs, OutcomeStands};
-ghost use Rattle.stream_verifier.specs.Verdicts.{Answers, AnswersWithRing, SaysTrue, SaysTrueOn, TakesState, VerdictCause, keeping, verdict_keeping};
+ghost use Rattle.stream_verifier.specs.Verdicts.{Answers, AnswersWithRing, IsTold, SaysTrue, SaysTrueOn, TakesState, VerdictCause, keeping, verdict_keeping};
 
 use crate::checked_runs::checked_run;
 use crate::verdict::Verdict;
@@ -58,6 +58,7 @@ pub fn verify<H: Hash32, S: Source>(
     ensures verdict { ForSome (S.left proof.old) (λ bytes. let P = program_of code.now in
         Answers P role.0 (verdict_keeping H.hash P 1024 (argument_type P role.0) role.0 state.now argument.now fuel bytes) result) }
     ensures headline { ForSome (S.left proof.old) (λ bytes. SaysTrue H.hash (program_of code.now) 1024 role.0 state.now argument.now fuel bytes result) }
+    ensures told { IfOk result (IsTold (program_of code.now) (function_at (program_of code.now) role.0).result) }
     ensures end { ForSome (S.left proof.old) (λ bytes. IfOk result (λ _. S.left proof.new ≡ Some [])) }
     ensures faults { VerdictCause (S.faults proof.old) (S.faults proof.new) result }
     ensures rest { S.rest proof.new ≡ S.rest proof.old }
@@ -91,6 +92,7 @@ pub fn verify_on<H: Hash32, S: Source>(
         SaysTrueOn H.hash (program_of code.now) role.0 state.now argument.now fuel bytes ring.size recent result) }
     ensures ring { (recent : List (List ℕ)) → ring ≡ kept ring.size recent → ForSome (S.left proof.old) (λ bytes.
         IfOk result (λ told. told.1 ≡ kept ring.size (after_bytes (program_of code.now).format.limit bytes ring.size recent))) }
+    ensures told { IfOk result (λ told. IsTold (program_of code.now) (function_at (program_of code.now) role.0).result told.0) }
     ensures end { (recent : List (List ℕ)) → ring ≡ kept ring.size recent → ForSome (S.left proof.old) (λ bytes. IfOk result (λ _. S.left proof.new ≡ Some [])) }
     ensures faults { VerdictCause (S.faults proof.old) (S.faults proof.new) result }
     ensures rest { S.rest proof.new ≡ S.rest proof.old }
@@ -149,6 +151,7 @@ fn judge_file<H: Hash32, S: Source>(
     ensures verdict { (vs : Values) → AllStandFor VerifierNodes (program_of code.now).types (nodes_in store.old) (numbers_of args.now) (function_at (program_of code.now) role.0).parameters vs
         → ForSome (S.left proof.old) (λ bytes. let P = program_of code.now in
         Answers P role.0 (checked.with_header H.hash P (header (keeping 1024 P.format) bytes) role.0 vs fuel bytes) result) }
+    ensures told { IfOk result (IsTold (program_of code.now) (function_at (program_of code.now) role.0).result) }
     ensures end { ForSome (S.left proof.old) (λ bytes. IfOk result (λ _. S.left proof.new ≡ Some [])) }
     ensures faults { VerdictCause (S.faults proof.old) (S.faults proof.new) result }
     ensures rest { S.rest proof.new ≡ S.rest proof.old }
@@ -181,6 +184,7 @@ fn judge_call<H: Hash32, S: Source>(
         → AnswersWithRing (program_of code.now) role.0 (checked.judge H.hash (program_of code.now) role.0 vs fuel bytes ring.size recent) result }
     ensures ring { (bytes : List ℕ) (recent : List (List ℕ)) → S.left proof.old ≡ Some bytes → ring ≡ kept ring.size recent
         → IfOk result (λ told. told.1 ≡ kept ring.size (after_bytes (program_of code.now).format.limit bytes ring.size recent)) }
+    ensures told { IfOk result (λ told. IsTold (program_of code.now) (function_at (program_of code.now) role.0).result told.0) }
     ensures end { (bytes : List ℕ) (recent : List (List ℕ)) → S.left proof.old ≡ Some bytes → ring ≡ kept ring.size recent
         → IfOk result (λ _. S.left proof.new ≡ Some []) }
     ensures faults { VerdictCause (S.faults proof.old) (S.faults proof.new) result }

@@ -1,12 +1,9 @@
 use Rattle.std.proofs.Common.{◌≡◌, ◌∙◌, refl, sym, subst}
 use Rattle.std.proofs.lemmas.Result.{err_from_is_err_and}
 use Rattle.std.specs.Prelude.{ℕ, List, Option, Some}
-use Rattle.command_words.specs.Invocations.{calls}
-use Rattle.command_words.specs.declared.command.Command.TheVariants.{Audit}
 use Rattle.lam_outside.specs.Told.{Contents}
 use Rattle.printed_lines.specs.declared.refusal.Argument.TheVariants.{Proof}
-use Rattle.auth_cli.specs.Answer.{Answer, call_audit_answer, max_file, with_file, with_fueled_query, with_ideal_call}
-use Rattle.auth_cli.specs.AuditedCalls.{MeansAudit}
+use Rattle.auth_cli.specs.Answer.{Answer, call_audit_answer, max_file, with_file, with_ideal_call}
 use Rattle.auth_cli.specs.Calls.{ideal_call_of, query_of}
 use Rattle.auth_cli.specs.FueledQueries.{FueledQuery}
 use Rattle.auth_cli.specs.Halting.{Finds}

@@ -7,7 +7,6 @@ use Rattle.auth_cli.specs.FueledQueries.{NamedProgram}
 use Rattle.auth_cli.specs.Halting.{Finds}
 use Rattle.auth_cli.specs.ReadPrograms.{language_named}
 use Rattle.auth_cli.specs.Reaching.{without}
-use Rattle.auth_cli.specs.Storing.{FindsOutput}
 use Rattle.auth_cli.specs.declared.roles.Callee.TheVariants.{OfState}
 use Rattle.auth_cli.proofs.Reached.{faults_reached, is_missing}
 use Rattle.auth_cli.proofs.RoleSteps.{program_reached}

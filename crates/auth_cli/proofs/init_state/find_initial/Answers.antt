@@ -1,6 +1,5 @@
-use Rattle.std.proofs.Common.{◌≡◌, List, ℕ, Option, Some, Ok, ap, sym, subst}
+use Rattle.std.proofs.Common.{List, ℕ, Option, Some, ap, sym, subst}
 use Rattle.std.proofs.lemmas.Result.{err_from_is_err_and}
-use Rattle.lam_outside.specs.Told.{Contents}
 use Rattle.code_gen.specs.Programs.{program_in}
 use Rattle.auth_cli.specs.Answer.{Answer, initial_answer, storing_answer, with_ended_init, with_language_file}
 use Rattle.auth_cli.specs.FueledQueries.{NamedProgram}

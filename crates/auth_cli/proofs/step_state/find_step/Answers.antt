@@ -4,7 +4,6 @@ use Rattle.lam_outside.specs.Told.{Contents}
 use Rattle.code_gen.specs.Programs.{program_in}
 use Rattle.auth_cli.specs.Answer.{Answer, stepped_answer, storing_answer, with_ended_call, with_language_file}
 use Rattle.auth_cli.specs.FueledQueries.{NamedProgram}
-use Rattle.auth_cli.specs.Halting.{Finds}
 use Rattle.auth_cli.specs.ReadPrograms.{language_named}
 use Rattle.auth_cli.specs.Reaching.{without}
 use Rattle.auth_cli.specs.Storing.{FindsOutput}

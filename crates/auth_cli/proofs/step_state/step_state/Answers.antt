@@ -1,10 +1,9 @@
-use Rattle.std.proofs.Common.{ℕ, List, Option, Some, Err, ap, sym, ◌∙◌, subst}
+use Rattle.std.proofs.Common.{Some, ap, sym, ◌∙◌, subst}
 use Rattle.std.proofs.lemmas.Result.{err_from_is_err_and}
 use Rattle.code_gen.specs.Programs.{program_in}
-use Rattle.auth_cli.specs.Answer.{outcome_stored, outcome_told, storing_answer, with_ended_call}
-use Rattle.auth_cli.specs.Halting.{Finds}
+use Rattle.auth_cli.specs.Answer.{outcome_stored, storing_answer, with_ended_call}
 use Rattle.auth_cli.specs.ReadPrograms.{language_named}
-use Rattle.auth_cli.specs.RolesCalled.{EndsIn, HasEnded, IsEnded, role_of}
+use Rattle.auth_cli.specs.RolesCalled.{EndsIn, HasEnded, role_of}
 use Rattle.auth_cli.specs.Storing.{FindsOutput}
 use Rattle.auth_cli.specs.declared.roles.Callee.TheVariants.{Update}
 use Rattle.auth_cli.proofs.Reached.{output_reached}

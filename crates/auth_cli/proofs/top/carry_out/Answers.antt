@@ -1,12 +1,12 @@
-use Rattle.std.proofs.Common.{sym, subst}
+use Rattle.std.proofs.Common.{refl, sym, subst}
 use Rattle.command_words.specs.Commands.{IsOfCommand, texts}
 use Rattle.command_words.specs.declared.command.Command.TheVariants.{Check, Init, Ideal, Step, Shallow, Prove, Verify, Audit}
 use Rattle.auth_cli.specs.Statuses.{MayAnswer}
-use Rattle.auth_cli.proofs.Words.{counted, ends_known, reached_known}
+use Rattle.auth_cli.proofs.Words.{counted, ends_known, reached_known, within}
 use Rattle.auth_cli.proofs.top.carry_out.Goals as goal
 
 pub check_command-requires : goal.check_command-requires
-check_command-requires g c = counted Check c.args.words.now (subst (λ command. IsOfCommand command (texts c.args.words.now)) c.in-Check.is c.requires)
+check_command-requires g c = counted Check c.args.words.now refl (subst (λ command. IsOfCommand command (texts c.args.words.now)) c.in-Check.is c.requires)
 
 pub returns-in-Check-clause-ends : goal.returns-in-Check-clause-ends
 returns-in-Check-clause-ends g c = ends_known c.args.command Check (texts c.args.words.now) _ _ c.check_command.result c.in-Check.is c.check_command.ensures.ends
@@ -15,7 +15,7 @@ pub returns-in-Check-clause-possible : goal.returns-in-Check-clause-possible
 returns-in-Check-clause-possible g c = subst (λ command. MayAnswer command c.check_command.result) (sym c.in-Check.is) c.check_command.ensures.possible
 
 pub init_command-requires : goal.init_command-requires
-init_command-requires g c = counted Init c.args.words.now (subst (λ command. IsOfCommand command (texts c.args.words.now)) c.in-Init.is c.requires)
+init_command-requires g c = counted Init c.args.words.now refl (subst (λ command. IsOfCommand command (texts c.args.words.now)) c.in-Init.is c.requires)
 
 pub returns-in-Init-clause-ends : goal.returns-in-Init-clause-ends
 returns-in-Init-clause-ends g c = ends_known c.args.command Init (texts c.args.words.now) _ _ c.init_command.result c.in-Init.is c.init_command.ensures.ends
@@ -24,7 +24,7 @@ pub returns-in-Init-clause-possible : goal.returns-in-Init-clause-possible
 returns-in-Init-clause-possible g c = subst (λ command. MayAnswer command c.init_command.result) (sym c.in-Init.is) c.init_command.ensures.possible
 
 pub ideal_command-requires : goal.ideal_command-requires
-ideal_command-requires g c = counted Ideal c.args.words.now (subst (λ command. IsOfCommand command (texts c.args.words.now)) c.in-Ideal.is c.requires)
+ideal_command-requires g c = counted Ideal c.args.words.now refl (subst (λ command. IsOfCommand command (texts c.args.words.now)) c.in-Ideal.is c.requires)
 
 pub returns-in-Ideal-clause-ends : goal.returns-in-Ideal-clause-ends
 returns-in-Ideal-clause-ends g c = ends_known c.args.command Ideal (texts c.args.words.now) _ _ c.ideal_command.result c.in-Ideal.is c.ideal_command.ensures.ends
@@ -33,7 +33,7 @@ pub returns-in-Ideal-clause-possible : goal.returns-in-Ideal-clause-possible
 returns-in-Ideal-clause-possible g c = subst (λ command. MayAnswer command c.ideal_command.result) (sym c.in-Ideal.is) c.ideal_command.ensures.possible
 
 pub step_command-requires : goal.step_command-requires
-step_command-requires g c = counted Step c.args.words.now (subst (λ command. IsOfCommand command (texts c.args.words.now)) c.in-Step.is c.requires)
+step_command-requires g c = counted Step c.args.words.now refl (subst (λ command. IsOfCommand command (texts c.args.words.now)) c.in-Step.is c.requires)
 
 pub returns-in-Step-clause-ends : goal.returns-in-Step-clause-ends
 returns-in-Step-clause-ends g c = ends_known c.args.command Step (texts c.args.words.now) _ _ c.step_command.result c.in-Step.is c.step_command.ensures.ends
@@ -42,7 +42,7 @@ pub returns-in-Step-clause-possible : goal.returns-in-Step-clause-possible
 returns-in-Step-clause-possible g c = subst (λ command. MayAnswer command c.step_command.result) (sym c.in-Step.is) c.step_command.ensures.possible
 
 pub shallow_command-requires : goal.shallow_command-requires
-shallow_command-requires g c = counted Shallow c.args.words.now (subst (λ command. IsOfCommand command (texts c.args.words.now)) c.in-Shallow.is c.requires)
+shallow_command-requires g c = counted Shallow c.args.words.now refl (subst (λ command. IsOfCommand command (texts c.args.words.now)) c.in-Shallow.is c.requires)
 
 pub returns-in-Shallow-clause-ends : goal.returns-in-Shallow-clause-ends
 returns-in-Shallow-clause-ends g c = ends_known c.args.command Shallow (texts c.args.words.now) _ _ c.shallow_command.result c.in-Shallow.is c.shallow_command.ensures.ends
@@ -51,7 +51,7 @@ pub returns-in-Shallow-clause-possible : goal.returns-in-Shallow-clause-possible
 returns-in-Shallow-clause-possible g c = subst (λ command. MayAnswer command c.shallow_command.result) (sym c.in-Shallow.is) c.shallow_command.ensures.possible
 
 pub prove_command-requires : goal.prove_command-requires
-prove_command-requires g c = counted Prove c.args.words.now (subst (λ command. IsOfCommand command (texts c.args.words.now)) c.in-Prove.is c.requires)
+prove_command-requires g c = counted Prove c.args.words.now refl (subst (λ command. IsOfCommand command (texts c.args.words.now)) c.in-Prove.is c.requires)
 
 pub returns-in-Prove-clause-ends : goal.returns-in-Prove-clause-ends
 returns-in-Prove-clause-ends g c = ends_known c.args.command Prove (texts c.args.words.now) _ _ c.prove_command.result c.in-Prove.is c.prove_command.ensures.ends
@@ -59,8 +59,11 @@ returns-in-Prove-clause-ends g c = ends_known c.args.command Prove (texts c.args
 pub returns-in-Prove-clause-possible : goal.returns-in-Prove-clause-possible
 returns-in-Prove-clause-possible g c = subst (λ command. MayAnswer command c.prove_command.result) (sym c.in-Prove.is) c.prove_command.ensures.possible
 
-pub verify_command-requires : goal.verify_command-requires
-verify_command-requires g c = counted Verify c.args.words.now (subst (λ command. IsOfCommand command (texts c.args.words.now)) c.in-Verify.is c.requires)
+pub verify_command-requires-clause-least : goal.verify_command-requires-clause-least
+verify_command-requires-clause-least g c = (within Verify c.args.words.now (subst (λ command. IsOfCommand command (texts c.args.words.now)) c.in-Verify.is c.requires)).0
+
+pub verify_command-requires-clause-most : goal.verify_command-requires-clause-most
+verify_command-requires-clause-most g c = (within Verify c.args.words.now (subst (λ command. IsOfCommand command (texts c.args.words.now)) c.in-Verify.is c.requires)).1
 
 pub returns-in-Verify-clause-ends : goal.returns-in-Verify-clause-ends
 returns-in-Verify-clause-ends g c = ends_known c.args.command Verify (texts c.args.words.now) _ _ c.verify_command.result c.in-Verify.is c.verify_command.ensures.ends
@@ -69,7 +72,7 @@ pub returns-in-Verify-clause-possible : goal.returns-in-Verify-clause-possible
 returns-in-Verify-clause-possible g c = subst (λ command. MayAnswer command c.verify_command.result) (sym c.in-Verify.is) c.verify_command.ensures.possible
 
 pub audit_command-requires : goal.audit_command-requires
-audit_command-requires g c = counted Audit c.args.words.now (subst (λ command. IsOfCommand command (texts c.args.words.now)) c.in-Audit.is c.requires)
+audit_command-requires g c = counted Audit c.args.words.now refl (subst (λ command. IsOfCommand command (texts c.args.words.now)) c.in-Audit.is c.requires)
 
 pub returns-in-Audit-clause-ends : goal.returns-in-Audit-clause-ends
 returns-in-Audit-clause-ends g c = ends_known c.args.command Audit (texts c.args.words.now) _ _ c.audit_command.result c.in-Audit.is c.audit_command.ensures.ends

@@ -1,4 +1,4 @@
-use Rattle.std.proofs.Common.{◌≡◌, ◌⊎◌, ℕ, inl, inr, ap, sym, subst, ◌∙◌}
+use Rattle.std.proofs.Common.{◌≡◌, ◌⊎◌, ℕ, inl, inr, sym, subst, ◌∙◌}
 use Rattle.command_words.specs.Commands.{texts}
 use Rattle.command_words.proofs.Judging.{refused_exactly}
 use Rattle.auth_cli.specs.Answer.{answer}

@@ -9,7 +9,7 @@ use Rattle.command_words.specs.declared.command.Row.{Row}
 use Rattle.command_words.proofs.line.command_line.Goals as goal
 
 abbrev no_row : Row
-no_row = record { command = Check; name = record { ref_ptr = (0, 0); now = [] }; arguments = record { ref_ptr = (0, 0); now = [] } }
+no_row = record { command = Check; name = record { ref_ptr = (0, 0); now = [] }; arguments = record { ref_ptr = (0, 0); now = [] }; least = 0 }
 
 pub loop-row-preserved : goal.loop-row-preserved
 loop-row-preserved c =

@@ -12,7 +12,7 @@ use Rattle.value_store.specs.Stores.{nodes_in}
 use Rattle.mode_vm.specs.Meanings.{program_of}
 use Rattle.stream_verifier.specs.Verdicts.{AnswersWithRing}
 use Rattle.stream_verifier.proofs.Given.{gives_with}
-use Rattle.stream_verifier.proofs.Judging.{all_kept, all_taken, answered, left_over, stopped}
+use Rattle.stream_verifier.proofs.Judging.{all_kept, all_taken, answered, left_over, stopped, told_as}
 use Rattle.stream_verifier.proofs.TypesAlone.{spelled_by}
 use Rattle.stream_verifier.proofs.judge.judge_call.Goals as goal
 
@@ -30,7 +30,7 @@ returns-then-left-gt0-clause-verdict g c vs bytes recent stand told holds =
     let z = (function_at P c.args.role.0).result in
     let is = c.in_ok-run.ensures.is vs bytes recent stand told holds in
     let some : c.in_ok-left.left ≢ 0 = omega (arith, c.if-left-gt0.true) in
-    left_over P (nodes_in c.checked_run.new.store) z (g.S.Source.left c.checked_run.new.source) _ is.2.bytes is.2.told
+    left_over P (nodes_in c.checked_run.new.store) c.checked_run.new.store.sound z (g.S.Source.left c.checked_run.new.source) _ is.2.bytes is.2.told
     c.in_ok-run.run'.0 (g.S.Source.left c.count_rest.new.source) c.in_ok-left.left is.0
     (c.in_ok-left.ensures.counts is.2.bytes is.2.told) some
 
@@ -47,7 +47,7 @@ returns-clause-verdict g c vs bytes recent stand told holds =
     let at : type_at (types_of p) c.function.result.now.result ≡ z =
     ap (λ (f : tree.Function). f.result) (subst (λ q. function_of (types_of q) c.function.result.now ≡ function_at (meaning q) c.args.role.0) program c.function.ensures.function) in
     let spelled = spelled_by p c.types.result.now c.types.ensures nodes c.function.result.now.result z at c.in_ok-run.run'.0 c.in_ok-told.told c.in_ok-told.ensures in
-    answered P nodes z (g.S.Source.left c.checked_run.new.source) _ is.2.bytes is.2.told c.in_ok-run.run'.0 c.in_ok-told.told is.0 all.0 spelled
+    answered P nodes c.checked_run.new.store.sound z (g.S.Source.left c.checked_run.new.source) _ is.2.bytes is.2.told c.in_ok-run.run'.0 c.in_ok-told.told is.0 all.0 spelled
 
 pub returns-clause-ring : goal.returns-clause-ring
 returns-clause-ring g c bytes recent told holds =
@@ -62,3 +62,14 @@ returns-clause-end g c bytes recent told holds =
     let is = c.in_ok-run.ensures.is c.requires.stand.0 bytes recent c.requires.stand.1 told holds in
     let none : c.in_ok-left.left ≡ 0 = omega (arith, c.if-left-gt0.false) in
     (all_taken is.2.bytes (g.S.Source.left c.count_rest.new.source) c.in_ok-left.left none (c.in_ok-left.ensures.counts is.2.bytes is.2.told)).1
+
+pub returns-clause-told : goal.returns-clause-told
+returns-clause-told g c =
+    let p = program_in c.args.code.now in
+    let P = program_of c.args.code.now in
+    let z = (function_at P c.args.role.0).result in
+    let store = c.checked_run.new.store in
+    let at : type_at (types_of p) c.function.result.now.result ≡ z =
+    ap (λ (f : tree.Function). f.result) (subst (λ q. function_of (types_of q) c.function.result.now ≡ function_at (meaning q) c.args.role.0) c.program.ensures c.function.ensures.function) in
+    told_as P (nodes_in store) store.sound z c.in_ok-run.run'.0 c.in_ok-told.told c.in_ok-run.ensures.stands
+    (spelled_by p c.types.result.now c.types.ensures (nodes_in store) c.function.result.now.result z at c.in_ok-run.run'.0 c.in_ok-told.told c.in_ok-told.ensures)
