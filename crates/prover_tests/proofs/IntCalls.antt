@@ -4,7 +4,7 @@ use Rattle.core_terms.specs.Formats.{Hash}
 use Rattle.core_terms.specs.Projection.{digest_at}
 use Rattle.core_terms.specs.Roles.{argument_type}
 use Rattle.core_terms.specs.Terms.{Program, function_at}
-use Rattle.core_terms.specs.Types.{Ty, IntTy, UnitTy}
+use Rattle.core_terms.specs.Types.{IntTy, UnitTy}
 use Rattle.core_terms.specs.Values.{IntV}
 use Rattle.value_store.specs.Nodes.{Node}
 use Rattle.value_store.specs.Standing.{ProverNodes, StandsFor}

@@ -1,6 +1,9 @@
 // Calls that are proved: the proof is accepted and agreed with.
-use crate::stage::{Call, End, audited, code, file, proved, source, verdict};
+use crate::stage::{
+    Call, End, audited, code, file, proved, proved_on, source, verdict, verdict_on,
+};
 use code_gen::Code;
+use reuse_buffer::Ring;
 use std::alloc::{AllocError, Global};
 use std::test::Fail;
 use stream_audit::Audited;
@@ -126,6 +129,50 @@ fn each_end_is_proved(rt: HostRuntime) -> Result<(), Fail> {
         if !is_proved(rt.alloc(), &code, (call, size, end, frames))? {
             return Err(Fail::new(format_args!("{role} of {state} and {argument} with {fuel}")));
         }
+    }
+    Ok(())
+}
+
+/// Two pieces, the state's and the argument's.
+const SWAP: Call = Call {
+    role: "swap",
+    state: 7,
+    argument: 9,
+    fuel: 3,
+};
+
+/// The frames of two proofs of [`SWAP`] that follow one another with a ring of two pieces, and how many of the second are new.
+fn two_proofs(alloc: Global, code: &Code) -> Result<(Vec<u8>, Vec<u8>, u64), AllocError> {
+    let mut store = Store::new(alloc);
+    let ring = Ring::with_size(alloc, 2)?;
+    let (first, ring) = proved_on(alloc, code, &mut store, SWAP, ring)?;
+    let (second, _ring) = proved_on(alloc, code, &mut store, SWAP, ring)?;
+    Ok((first.frames, second.frames, second.fresh))
+}
+
+/// Whether both are accepted, where a ring of two pieces goes from one to the other.
+fn are_accepted(
+    alloc: Global,
+    code: &Code,
+    first: &[u8],
+    second: &[u8],
+) -> Result<bool, AllocError> {
+    let ring = Ring::with_size(alloc, 2)?;
+    let (one, ring) = verdict_on(alloc, code, SWAP, first, ring)?;
+    let (two, _ring) = verdict_on(alloc, code, SWAP, second, ring)?;
+    let end = End::Done(b"\0\0\0\0\0\0\0\x09\0\0\0\0\0\0\0\x07");
+    Ok(end.is(&one) && end.is(&two))
+}
+
+#[test]
+fn the_ring_goes_on(rt: HostRuntime) -> Result<(), Fail> {
+    let code = code(rt.alloc())?;
+    let (first, second, fresh) = two_proofs(rt.alloc(), &code)?;
+    if fresh != 0 || second.as_slice() != b"\x01\0\x01\x01\0\0".as_slice() {
+        return Err(Fail::new("the second proof"));
+    }
+    if !are_accepted(rt.alloc(), &code, &first, &second)? {
+        return Err(Fail::new("the verdicts"));
     }
     Ok(())
 }

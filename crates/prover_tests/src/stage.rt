@@ -17,13 +17,13 @@ use code_gen::Code;
 use core_terms::language::{Program, RoleId, RoleKind, TyForm};
 use core_terms::{Digest, FunctionId, Outcome, Spelling, Trap};
 use digest_layer::Sha;
-use lam_outside::{MemLink, Plan};
+use lam_outside::{Bytes, MemLink, Plan};
 use proof_stream::put_header;
 use reuse_buffer::Ring;
 use ring_prover::{Proved, prove};
 use std::alloc::{AllocError, Global};
 use stream_audit::{AuditFault, Audited, audit};
-use stream_verifier::{Verdict, verify};
+use stream_verifier::{Verdict, verify, verify_on};
 use value_store::{Nodes, Ref, Store};
 
 /// The program of the tests. `opened` opens a piece of 17 bytes, the n-th one; `again` opens m pieces, each with its number modulo k.
@@ -129,7 +129,24 @@ fn put_call(code: &Code, store: &mut Store, call: Call) -> Result<PutCall, Alloc
     })
 }
 
-/// The proof of a call with a ring of so many pieces, of 1,024 at most.
+/// The proof of a call with a ring, and the ring behind it.
+pub fn proved_on(
+    alloc: Global,
+    code: &Code,
+    store: &mut Store,
+    call: Call,
+    ring: Ring,
+) -> Result<(Proved, Ring), AllocError> {
+    let PutCall {
+        role,
+        state,
+        argument,
+    } = put_call(code, store, call)?;
+    let fuel = call.fuel.min(5000);
+    prove::<Sha, Store>(alloc, code, store, role, state, argument, fuel, ring)
+}
+
+/// The proof of a call with a new ring of so many pieces, of 1,024 at most.
 pub fn proved(
     alloc: Global,
     code: &Code,
@@ -137,14 +154,8 @@ pub fn proved(
     call: Call,
     size: u16,
 ) -> Result<Proved, AllocError> {
-    let PutCall {
-        role,
-        state,
-        argument,
-    } = put_call(code, store, call)?;
     let ring = Ring::with_size(alloc, size.min(1024))?;
-    let fuel = call.fuel.min(5000);
-    let told = prove::<Sha, Store>(alloc, code, store, role, state, argument, fuel, ring)?;
+    let told = proved_on(alloc, code, store, call, ring)?;
     Ok(told.0)
 }
 
@@ -181,6 +192,27 @@ pub fn verdict(
         call.fuel.min(5000),
         proof,
     ))
+}
+
+/// The verdict on a call by frames without a header, with a ring.
+pub fn verdict_on(
+    alloc: Global,
+    code: &Code,
+    call: Call,
+    frames: &[u8],
+    ring: Ring,
+) -> Result<(Outcome<Spelling>, Ring), AllocError> {
+    let Some(role) = reading(code.program(), call.role) else {
+        return Err(AllocError);
+    };
+    let state = call.state.to_be_bytes();
+    let argument = call.argument.to_be_bytes();
+    let fuel = call.fuel.min(5000);
+    let mut proof = Bytes::new(frames);
+    match verify_on::<Sha, Bytes>(alloc, code, role, &state, &argument, fuel, &mut proof, ring) {
+        Ok(told) => Ok(told),
+        Err(_) => Err(AllocError),
+    }
 }
 
 /// The audit of a call.
