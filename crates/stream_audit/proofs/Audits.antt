@@ -5,10 +5,10 @@ use Rattle.core_terms.specs.LanguagePrograms.{meaning}
 use Rattle.core_terms.specs.Projection.{digest_at, projection}
 use Rattle.core_terms.specs.ProgramTypes.{types_meaning}
 use Rattle.core_terms.specs.Roles.{IsRole, ReadsState, argument_type}
-use Rattle.core_terms.specs.Spelling.{spelling}
+use Rattle.core_terms.specs.Spelling.{Spells, spelling}
 use Rattle.core_terms.specs.Terms.{Kind, Program, IsTyped, function_at}
 use Rattle.core_terms.specs.Types.{Ty, UnitTy}
-use Rattle.core_terms.specs.Values.{Value, IsIdeal, IsShallow}
+use Rattle.core_terms.specs.Values.{Value, IsIdeal}
 use Rattle.core_terms.specs.declared.language.program.Program.{Program as Coded}
 use Rattle.core_terms.specs.declared.language.program_types.Types.{Types}
 use Rattle.core_terms.specs.declared.outcome.Outcome as code_outcome
@@ -23,8 +23,8 @@ use Rattle.ideal_meaning.specs.Ideal.{Outcome, honest_pieces, outcome, outcome_p
 use Rattle.ideal_meaning.specs.Run.{state_of}
 use Rattle.ideal_meaning.specs.Told.{cause_told}
 use Rattle.ideal_meaning.proofs.RoleCalls.{parameters_are, result_is}
-use Rattle.value_store.specs.Nodes.{AreSound, Node}
-use Rattle.value_store.specs.Standing.{AllStandFor, ProverNodes, StandsFor}
+use Rattle.value_store.specs.Nodes.{AreSound, Node, size_limit}
+use Rattle.value_store.specs.Standing.{AllStandFor, ProverNodes, StandsFor, VerifierNodes}
 use Rattle.value_store.specs.declared.node.Ref.{Ref}
 use Rattle.value_store.proofs.ProverNodes.{shown_shallow}
 use Rattle.value_store.proofs.DeepNodes.{standing_is_deep}
@@ -144,14 +144,23 @@ module _ (hash : Hash) (p : Coded) (f : ℕ) (takes : TakesState (meaning p) f) 
 -- an outcome with the spelling of its value's projection
 module _ (hash : Hash) (P : Program) (nodes : List Node) (t : Ty) where
   pub spells_done : (r : Ref) (bytes : List ℕ) (o : Outcome) → ((v : Value) → StandsFor (ProverNodes (digest_at hash P)) P.types nodes r.0 t v → bytes ≡ spelling (projection hash P t v))
-      → (long : (t : Ty) (bytes : List ℕ) → length (digest_at hash P t bytes) ≡ 32) → IsProved hash P nodes t (told.Done r) o → SpellsOutcome P t (outcome_projection hash P t o) (told.Done bytes)
-  spells_done r bytes o spelled long (v, stands, is) =
-      let shown = shown_shallow (digest_at hash P) P.types long nodes t v r.0 stands in
-      (projection hash P t v, ap (outcome_projection hash P t) is, shallow_stands P.types nodes t (projection hash P t v) r.0 shown, sym (spelled v stands))
+      → (long : (t : Ty) (bytes : List ℕ) → length (digest_at hash P t bytes) ≡ 32) → AreSound nodes → IsProved hash P nodes t (told.Done r) o
+      → SpellsOutcome P t (outcome_projection hash P t o) (told.Done bytes)
+  spells_done r bytes o spelled long sound (v, stands, is) =
+      let seen = projection hash P t v in
+      let shown = shown_shallow (digest_at hash P) P.types long nodes t v r.0 stands in (
+        seen,
+        ap (outcome_projection hash P t) is,
+        record {
+          shape = shallow_stands P.types nodes t seen r.0 shown;
+          within = within_stands VerifierNodes P.types nodes t seen r.0 sound shown;
+          is = spelled v stands;
+        },
+      )
 
 -- a value is spelled alike by programs with the same types
 pub spells_too : (P Q : Program) (t : Ty) (o : Outcome) (result : code_outcome.Outcome Spelling) → P.types ≡ Q.types → SpellsOutcome P t o result → SpellsOutcome Q t o result
-spells_too P Q t o (told.Done bytes) same (v, is, shallow, spelled) = (v, is, subst (λ types. IsShallow types t v) same shallow, spelled)
+spells_too P Q t o (told.Done bytes) same (v, is, spells) = (v, is, subst (λ types. Spells size_limit types bytes t v) same spells)
 spells_too P Q t o (told.Trapped trap) same h = h
 spells_too P Q t o told.Out same h = h
 

@@ -13,5 +13,5 @@ returns-in_ok-bytes-in-Done g c o proved =
     let P = types_meaning c.args.types.now in
     let t = type_at (types_by_number c.args.types.now) c.args.ty in
     let nodes = g.N.Nodes.nodes c.args.store.now in
-    spells_done g.H.Hash32.hash P nodes t c.in-Done.value c.in_ok-bytes-in-Done.bytes o c.in_ok-bytes-in-Done.ensures (λ t bytes. is_hash bytes)
+    spells_done g.H.Hash32.hash P nodes t c.in-Done.value c.in_ok-bytes-in-Done.bytes o c.in_ok-bytes-in-Done.ensures (λ t bytes. is_hash bytes) (g.met.N.Nodes.sound c.args.store.now)
     (subst (λ outcome. IsProved g.H.Hash32.hash P nodes t outcome o) c.in-Done.is proved)
