@@ -22,7 +22,7 @@ use Rattle.value_store.proofs.ProverNodes.{shown_shallow}
 use Rattle.stored_images.proofs.ImagesByTypes.{images_alike}
 
 pub language_format : (p : Program) → IsFormat (meaning p).format
-language_format p = first_format_is_format 0 (lit< tt)
+language_format p = first_format_is_format 1024 (lit< tt)
 
 -- what stands for a value over the prover's nodes stands for its projection over the verifier's
 pub projected : (p : Program) (nodes : List Node) (t : Ty) (v : Value) (r : ℕ) → StandsFor (ProverNodes (digest_at sha256 (meaning p))) (meaning p).types nodes r t v

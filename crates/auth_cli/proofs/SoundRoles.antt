@@ -28,7 +28,7 @@ is_well_typed : (P : Program) → IsSound P → IsTyped P
 is_well_typed P sound = (typing_test_is_exact P).0 sound.typed
 
 has_format : (P : Program) → IsSound P → IsFormat P.format
-has_format P sound = subst IsFormat (sym sound.format) (first_format_is_format 0 (lit< tt))
+has_format P sound = subst IsFormat (sym sound.format) (first_format_is_format 1024 (lit< tt))
 
 -- the roles that `verify` calls read a state
 pub callee_reads : (out : Option (List ℕ)) → CallsOnStates (callee_of out)

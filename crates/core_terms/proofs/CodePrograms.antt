@@ -20,7 +20,7 @@ pub is_typed : (p : Program) → IsTyped (meaning p)
 is_typed p = (typing_test_is_exact (meaning p)).0 p.typed
 
 pub is_format : (p : Program) → IsFormat (meaning p).format
-is_format p = first_format_is_format 0 (lit< tt)
+is_format p = first_format_is_format 1024 (lit< tt)
 
 -- a function whose number is in range is there
 pub there : (P : tree.Program) (f : ℕ) → f < length P.functions → slice_get P.functions f ≡ Some (function_at P f)

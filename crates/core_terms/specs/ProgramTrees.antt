@@ -15,9 +15,9 @@ use Rattle.core_terms.specs.declared.term.Kind.{Kind}
 use Rattle.core_terms.specs.declared.term.Kind.TheVariants.{Init, Query}
 use Rattle.core_terms.specs.declared.term.Function.{Function}
 
--- The format of every program so far: the first one, with no pieces kept. A proof that asks for a ring is refused by its header.
+-- The format of every program: the first one. A proof may ask that up to 1,024 pieces are kept.
 abbrev pub program_format : Format
-program_format = first_format 0
+program_format = first_format 1024
 
 abbrev pub kind_of : Kind → tree.Kind
 kind_of Init = tree.Init

@@ -99,7 +99,7 @@ impl Program {
     pub fn most_kept(&self) -> u16
         ensures { result ≡ (meaning self.now).format.most_kept }
     {
-        0
+        1_024
     }
 
     /// The digest of a spelling at a type. Every digest of a prover or verifier is made here.

@@ -56,7 +56,7 @@ pub plain_held : (p : Program) (f : ℕ) (vs : Values) (k left : ℕ) (v : Plain
 plain_held p f vs k left v h arguments =
     let P = meaning p in
     let typed : IsTyped P = (typing_test_is_exact P).0 p.typed in
-    let format : IsFormat P.format = first_format_is_format 0 (lit< tt) in
+    let format : IsFormat P.format = first_format_is_format 1024 (lit< tt) in
     let t = (function_at P f).result in
     let held : Held P format t (plain_of v) = subst (Holds (Held P format t)) h.1 (ideal_holds P format typed f vs k arguments.0 arguments.1 arguments.2) in
     (held.ideal, held.within, held.deep tt)

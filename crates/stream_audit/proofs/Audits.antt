@@ -53,7 +53,7 @@ is_typed : (p : Coded) → IsTyped (meaning p)
 is_typed p = (typing_test_is_exact (meaning p)).0 p.typed
 
 is_format : (p : Coded) → IsFormat (meaning p).format
-is_format p = first_format_is_format 0 (lit< tt)
+is_format p = first_format_is_format 1024 (lit< tt)
 
 -- an answer that shows a difference tells the audit
 pub tells_difference : (P : Program) (f : ℕ) (audit : Audit) (answer : Audited) → TellsDifference audit answer → TellsAudit P f audit (Ok answer)

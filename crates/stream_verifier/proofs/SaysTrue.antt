@@ -83,7 +83,7 @@ is_typed : (p : Coded) → IsTyped (meaning p)
 is_typed p = (typing_test_is_exact (meaning p)).0 p.typed
 
 is_format : (p : Coded) → IsFormat (meaning p).format
-is_format p = first_format_is_format 0 (lit< tt)
+is_format p = first_format_is_format 1024 (lit< tt)
 
 module _ (hash : Hash) (is_hash : IsHash hash) (p : Coded) (f : ℕ) (takes : TakesState (meaning p) f) (state argument : List ℕ) (k : ℕ) where
   abbrev ty : Ty
