@@ -1,8 +1,7 @@
 -- The code of expressions, and of programs.
 use Rattle.std.specs.Prelude.{ℕ, zero, suc, ◌+◌, List, [], ◌∷◌, ◌++◌, length, map, unwrap_or, slice_get}
 use Rattle.core_terms.specs.Types.{Ty, UnitTy, Table, fields_at}
-use Rattle.core_terms.specs.Terms.{Expression, UnitE, BoolE, IntE, TextE, LocalE, PairE, FstE, SndE, NotE, LenE, AuthE, UnauthE, ConE, ArithE, CompareE, TextCompareE, CatE, LetE, IfE, MatchE, CallE}
-use Rattle.core_terms.specs.Terms.{Expressions, NoE, AndE, Arms, NoArm, AndArm, Function, Program}
+use Rattle.core_terms.specs.Terms.{Expression, UnitE, BoolE, IntE, TextE, LocalE, PairE, FstE, SndE, NotE, LenE, AuthE, UnauthE, ConE, ArithE, CompareE, TextCompareE, CatE, LetE, IfE, MatchE, CallE, Expressions, NoE, AndE, Arms, NoArm, AndArm, Function, Program}
 use Rattle.code_gen.specs.Instructions.{Instruction, PushUnit, PushBool, PushInt, PushText, Load, Bind, Unbind, Pair, Fst, Snd, Make, Switch, Branch, Jump, Call, Return, Auth, Unauth}
 use Rattle.code_gen.specs.Instructions.{ArithOp, CompareOp, TextCompareOp, Cat, Len, Not}
 

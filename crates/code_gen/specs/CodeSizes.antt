@@ -2,7 +2,7 @@
 use Rattle.std.specs.Prelude.{ℕ, ◌+◌, ◌*◌, ◌≤◌, List, [], ◌∷◌, length}
 use Rattle.core_terms.specs.Terms.{Program}
 use Rattle.core_terms.specs.ProgramLimits.{expressions_in_all, most_expressions, most_functions}
-use Rattle.core_terms.specs.LanguagePrograms.{meaning}
+use Rattle.core_terms.specs.Programs.{meaning}
 use Rattle.code_gen.specs.Code.{FunctionCode, generated}
 use Rattle.code_gen.specs.Programs.{program_in}
 use Rattle.code_gen.specs.declared.code.Code.{Code}

@@ -4,8 +4,8 @@ use Rattle.core_terms.specs.Types.{Ty, Table}
 use Rattle.core_terms.specs.Terms.{Expression}
 use Rattle.core_terms.specs.TypeTables.{type_at}
 use Rattle.core_terms.specs.Texts.{bytes_of}
-use Rattle.core_terms.specs.LanguagePrograms.{meaning}
-use Rattle.core_terms.specs.declared.language.program.Program.{Program}
+use Rattle.core_terms.specs.Programs.{meaning}
+use Rattle.core_terms.specs.declared.program.Program.{Program}
 use Rattle.code_gen.specs.Instructions as meant
 use Rattle.code_gen.specs.Code.{FunctionCode, code_of, generated}
 use Rattle.code_gen.specs.declared.instruction.Instruction.{Instruction}

@@ -1,9 +1,9 @@
 -- The instructions of a function's code. A frame has locals and a stack of operands; a call works on a frame of its own.
 use Rattle.std.specs.Prelude.{ℕ, Bool, List, ℤ}
 use Rattle.core_terms.specs.Types.{Ty}
-use Rattle.core_terms.specs.declared.language.term.Arith.{Arith}
-use Rattle.core_terms.specs.declared.language.term.Compare.{Compare}
-use Rattle.core_terms.specs.declared.language.term.TextCompare.{TextCompare}
+use Rattle.core_terms.specs.declared.term.Arith.{Arith}
+use Rattle.core_terms.specs.declared.term.Compare.{Compare}
+use Rattle.core_terms.specs.declared.term.TextCompare.{TextCompare}
 
 -- An instruction pops its operands, the last one first, and pushes what it gives. Jumps go forward alone: `n` says how many of
 -- the instructions behind the jump are passed over.

@@ -1,12 +1,12 @@
 // The arms of a match, laid one behind the other.
 ghost use Rattle.std.specs.Prelude.{◌≡◌, ◌≤◌, ◌+◌, ◌-◌, ◌++◌, length, map, IfOk, OnOk};
-ghost use Rattle.core_terms.specs.LanguagePrograms.{types_of};
+ghost use Rattle.core_terms.specs.Programs.{types_of};
 ghost use Rattle.code_gen.specs.CodeTrees.{instructions_of};
 ghost use Rattle.code_gen.specs.Code as meant;
 
 use crate::instruction::Instruction;
 use crate::pieces::{append, put};
-use core_terms::language::{NamedId, Program};
+use core_terms::{NamedId, Program};
 use std::alloc::{AllocError, Global};
 
 /// Adds a match behind its subject: the switch, and its arms.

@@ -1,7 +1,7 @@
 // The generator: from terms to instructions.
 ghost use Rattle.std.specs.Prelude.{◌≡◌, ◌++◌, ◌∷◌, [], List, map, slice_get, unwrap_or, IfOk, OnOk};
-ghost use Rattle.core_terms.specs.LanguagePrograms.{meaning, types_of};
-ghost use Rattle.core_terms.specs.LanguageTrees.{arms_in_a_row, expression_of, function_of};
+ghost use Rattle.core_terms.specs.Programs.{meaning, types_of};
+ghost use Rattle.core_terms.specs.ProgramTrees.{arms_in_a_row, expression_of, function_of};
 ghost use Rattle.code_gen.specs.CodeTrees.{all_of, codes_of, instruction_of, instructions_of};
 ghost use Rattle.code_gen.specs.Code as meant;
 ghost use Rattle.code_gen.specs.Instructions as instruction;
@@ -9,7 +9,7 @@ ghost use Rattle.code_gen.specs.Instructions as instruction;
 use crate::arms::select;
 use crate::instruction::Instruction;
 use crate::pieces::{choose, put, put_text, put_unbind};
-use core_terms::language::{Function, NamedId, Program, Term};
+use core_terms::{Function, NamedId, Program, Term};
 use std::alloc::{AllocError, Global};
 
 /// The instructions of each function of a program.

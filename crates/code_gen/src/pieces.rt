@@ -1,14 +1,13 @@
 // Pieces of code, added behind what is there. The program is passed to say what its types stand for.
 ghost use Rattle.std.specs.Prelude.{◌≡◌, ◌++◌, ◌∷◌, [], length, unwrap_or, IfOk, OnOk};
-ghost use Rattle.core_terms.specs.LanguagePrograms.{meaning, types_of};
+ghost use Rattle.core_terms.specs.Programs.{meaning, types_of};
 ghost use Rattle.core_terms.specs.Texts.{bytes_of};
 ghost use Rattle.code_gen.specs.CodeTrees.{instruction_of, instructions_of};
 ghost use Rattle.code_gen.specs.Code as meant;
 ghost use Rattle.code_gen.specs.Instructions as instruction;
 
 use crate::instruction::Instruction;
-use core_terms::Text;
-use core_terms::language::{NamedId, Program};
+use core_terms::{NamedId, Program, Text};
 use std::alloc::{AllocError, Global};
 
 /// Adds an instruction.

@@ -3,7 +3,7 @@ use Rattle.std.specs.Prelude.{◌≡◌, ℕ, List, [], ◌∷◌, codes, pos, t
 use Rattle.core_terms.specs.Types.{BoolTy, IntTy, NamedTy, UnitTy}
 use Rattle.core_terms.specs.Values.{UnitV, BoolV, IntV, PairV, ConV, Values, NoV}
 use Rattle.core_terms.specs.Terms.{Expression, IntE, LocalE, ArithE, MatchE, CallE, Inner, Program}
-use Rattle.core_terms.specs.declared.language.term.Arith.TheVariants.{Add, Div}
+use Rattle.core_terms.specs.declared.term.Arith.TheVariants.{Add, Div}
 use Rattle.ideal_meaning.specs.Run.{Gives, Ends, Traps, IsOut, Overflow, DivZero}
 use Rattle.ideal_meaning.specs.Ideal.{Opened, ideal_mode}
 use Rattle.ideal_meaning.specs.Headline.{call_of}

@@ -12,14 +12,14 @@ use Rattle.std.specs.List.{list_any}
 use Rattle.core_terms.specs.Types.{Ty, UnitTy, BoolTy, IntTy, TextTy, PairTy, NamedTy, AuthTy, Table}
 use Rattle.core_terms.specs.Roles.{some_passes, has_auth_within}
 use Rattle.core_terms.specs.TypeTables.{type_at}
-use Rattle.core_terms.specs.LanguageTypes.{type_of_form, stands_behind}
-use Rattle.core_terms.specs.LanguageTrees.{table_of, types_at}
+use Rattle.core_terms.specs.TypeTables.{type_of_form, stands_behind}
+use Rattle.core_terms.specs.ProgramTrees.{table_of, types_at}
 use Rattle.core_terms.specs.AuthMarks.{AreAuthMarks, AreLevelMarks, AreOpenedMarks, is_marked_field, is_marked_type, mark_of_form}
 use Rattle.core_terms.specs.declared.types.TyId.{TyId}
-use Rattle.core_terms.specs.declared.language.types.TyForm.{TyForm}
-use Rattle.core_terms.specs.declared.language.types.TyForm.TheVariants.{UnitForm, BoolForm, IntForm, TextForm, AuthForm, PairForm, NamedForm}
-use Rattle.core_terms.specs.declared.language.term.Constructor.{Constructor}
-use Rattle.core_terms.specs.declared.language.term.NamedType.{NamedType}
+use Rattle.core_terms.specs.declared.types.TyForm.{TyForm}
+use Rattle.core_terms.specs.declared.types.TyForm.TheVariants.{UnitForm, BoolForm, IntForm, TextForm, AuthForm, PairForm, NamedForm}
+use Rattle.core_terms.specs.declared.term.Constructor.{Constructor}
+use Rattle.core_terms.specs.declared.term.NamedType.{NamedType}
 use Rattle.core_terms.proofs.TypingSound.{first_of, second_of}
 
 -- no `auth` stands in these on any level

@@ -17,21 +17,18 @@ pub mod LawProofs
 -- what other crates know of every program
 pub mod CodePrograms
 pub mod TypesAlone
--- language::types: the table of types
-pub mod LanguageTypeTables
-pub mod LanguageTypePushing
--- language::marks
+-- the table of types
+pub mod TypeTables
+pub mod TypePushing
+-- the marks of types
 pub mod AuthLevels
--- language::roles, and Program's role
-pub mod Roles
-pub mod LanguageRoles
+-- roles_of, and Program's role
+pub mod Places
+pub mod FoundRoles
 -- Program's new and roles, then the constructor of Types
 pub mod Limited
 pub mod RoleShapes
-pub mod LanguageConstructors
--- the fragment's table of types
-pub mod TypeTables
-pub mod TypePushing
+pub mod Constructors
 -- the definitions of limits, computed on cases
 mod LimitRows
 -- for the crates above: what terms stand for, by their forms

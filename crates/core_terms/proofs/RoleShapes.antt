@@ -8,9 +8,9 @@ use Rattle.core_terms.specs.Terms as tree
 use Rattle.core_terms.specs.Terms.{Kind, Inner, Init, Query, Update, Program}
 use Rattle.core_terms.specs.Roles.{HasRoleShape, IsRole, argument_place, is_entered, role_parameters, role_result, role_with, roles_among, program_roles}
 use Rattle.core_terms.specs.Typing.{is_shaped}
-use Rattle.core_terms.specs.LanguageTrees.{function_of}
+use Rattle.core_terms.specs.ProgramTrees.{function_of}
 use Rattle.core_terms.specs.RoleViews.{HaveArguments}
-use Rattle.core_terms.specs.declared.language.term.Function.{Function}
+use Rattle.core_terms.specs.declared.term.Function.{Function}
 use Rattle.core_terms.proofs.Shapes.{roles_sound}
 
 -- what its caller passes stands at its place among the parameters

@@ -1,21 +1,14 @@
 -- The types of a table of forms, by number.
-use Rattle.std.proofs.Common.{◌≡◌, ℕ, zero, suc, ◌+◌, ◌<◌, Bool, true, false, ◌&&◌, List, [], ◌∷◌, ◌++◌, length, slice_index_or, unwrap_or, refl, sym, ap, ◌∙◌, arith, length-append, add-zero, zero-add, ltb-true}
+use Rattle.std.proofs.Common.{◌≡◌, ℕ, zero, suc, ◌+◌, ◌<◌, nat_lt, true, List, [], ◌∷◌, ◌++◌, length, slice_index_or, unwrap_or, refl, sym, ap, ◌∙◌, arith, length-append, add-zero, zero-add, ltb-true}
 use Rattle.std.proofs.Math.ListN.{get_or-append}
 use Rattle.std.proofs.Math.Seq.{get_or-append_seam}
 use Rattle.std.proofs.lemmas.Option.{unwrap_or-slice_get, slice_get_past}
 use Rattle.std.proofs.lemmas.Grind.{common_steps}
-use Rattle.core_terms.specs.Types.{Ty, UnitTy, AuthTy}
+use Rattle.core_terms.specs.Types.{Ty, UnitTy, AuthTy, PairTy}
 use Rattle.core_terms.specs.TypeTables.{type_of_form, types_behind, types_of_forms, stands_behind, is_in_order}
+use Rattle.core_terms.proofs.TypingSound.{first_of, second_of}
 use Rattle.core_terms.specs.declared.types.TyForm.{TyForm}
-use Rattle.core_terms.specs.declared.types.TyForm.TheVariants.{UnitForm, BoolForm, IntForm, TextForm, AuthForm}
-
-both_first : (a b : Bool) → a && b ≡ true → a ≡ true
-both_first true b h = refl
-both_first false b h = absurd (cc)
-
-both_second : (a b : Bool) → a && b ≡ true → b ≡ true
-both_second true b h = h
-both_second false b h = absurd (cc)
+use Rattle.core_terms.specs.declared.types.TyForm.TheVariants.{UnitForm, BoolForm, IntForm, TextForm, AuthForm, PairForm, NamedForm}
 
 -- the types in front stay
 pub types_behind-front : (before : List Ty) (forms : List TyForm) (i : ℕ) → i < length before → slice_index_or (types_behind before forms) i UnitTy ≡ slice_index_or before i UnitTy
@@ -32,15 +25,19 @@ length-types_behind before (f ∷ fs) =
     grind (arith, common_steps, e, l)
 
 -- a form among these parts means the same among these and more
-more_parts : (before : List Ty) (forms : List TyForm) (f : TyForm) → stands_behind (length before) f ≡ true → type_of_form (types_behind before forms) f ≡ type_of_form before f
+pub more_parts : (before : List Ty) (forms : List TyForm) (f : TyForm) → stands_behind (length before) f ≡ true → type_of_form (types_behind before forms) f ≡ type_of_form before f
 more_parts before forms UnitForm h = refl
 more_parts before forms BoolForm h = refl
 more_parts before forms IntForm h = refl
 more_parts before forms TextForm h = refl
+more_parts before forms (NamedForm named) h = refl
 more_parts before forms (AuthForm part) h = ap AuthTy (types_behind-front before forms part.0 (ltb-true part.0 (length before) h))
+more_parts before forms (PairForm first second) h =
+    ap (λ a. PairTy a (slice_index_or (types_behind before forms) second.0 UnitTy)) (types_behind-front before forms first.0 (ltb-true first.0 (length before) (first_of _ _ h)))
+    ∙ ap (PairTy (slice_index_or before first.0 UnitTy)) (types_behind-front before forms second.0 (ltb-true second.0 (length before) (second_of (nat_lt first.0 (length before)) _ h)))
 
 -- past the end there is `unit`
-pub past_end : (types : List Ty) (i : ℕ) → slice_index_or types (length types + i) UnitTy ≡ UnitTy
+past_end : (types : List Ty) (i : ℕ) → slice_index_or types (length types + i) UnitTy ≡ UnitTy
 past_end types i = sym (unwrap_or-slice_get types (length types + i) UnitTy) ∙ ap (λ o. unwrap_or o UnitTy) (slice_get_past types (length types + i) (grind (arith, common_steps)))
 
 -- the form with a number means the type with that number
@@ -50,13 +47,13 @@ form_behind before [] i h = sym (past_end before i)
 form_behind before (f ∷ fs) zero h =
     let next = before ++ type_of_form before f ∷ [] in
     let here : length before < length next = rw length-append (grind (arith, common_steps)) in
-    let one : stands_behind (length before) f ≡ true = both_first _ _ h in
+    let one : stands_behind (length before) f ≡ true = first_of _ _ h in
     more_parts before (f ∷ fs) f one
     ∙ sym (ap (λ n. slice_index_or (types_behind next fs) n UnitTy) (add-zero (length before)) ∙ types_behind-front next fs (length before) here ∙ get_or-append_seam before (type_of_form before f) [] UnitTy)
 form_behind before (f ∷ fs) (suc i) h =
     let next = before ++ type_of_form before f ∷ [] in
     let n : length next ≡ length before + 1 = length-append before (type_of_form before f ∷ []) in
-    let rest : is_in_order (length next) fs ≡ true = rw n (both_second _ _ h) in
+    let rest : is_in_order (length next) fs ≡ true = rw n (second_of (stands_behind (length before) f) _ h) in
     let e : length next + i ≡ length before + suc i = grind (arith, common_steps, n) in
     form_behind next fs i rest ∙ ap (λ n. slice_index_or (types_behind next fs) n UnitTy) e
 

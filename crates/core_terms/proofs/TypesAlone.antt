@@ -5,8 +5,8 @@ use Rattle.core_terms.specs.Formats.{Hash}
 use Rattle.core_terms.specs.Values.{Value}
 use Rattle.core_terms.specs.Projection.{Fits, digest_at, projection, read_at}
 use Rattle.core_terms.specs.ProgramTypes.{types_meaning}
-use Rattle.core_terms.specs.LanguagePrograms.{meaning}
-use Rattle.core_terms.specs.declared.language.program.Program.{Program}
+use Rattle.core_terms.specs.Programs.{meaning}
+use Rattle.core_terms.specs.declared.program.Program.{Program}
 
 module _ (p : Program) where
   pub same_digest : (hash : Hash) (t : Ty) (bytes : List ℕ) → digest_at hash (types_meaning p.types) t bytes ≡ digest_at hash (meaning p) t bytes

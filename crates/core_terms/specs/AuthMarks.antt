@@ -3,12 +3,12 @@ use Rattle.std.specs.Prelude.{◌≡◌, ℕ, ◌<◌, Bool, true, false, ◌||�
 use Rattle.std.specs.List.{list_any}
 use Rattle.core_terms.specs.Types.{Ty, UnitTy, NamedTy, Table}
 use Rattle.core_terms.specs.Roles.{has_auth, has_auth_within}
-use Rattle.core_terms.specs.LanguageTrees.{table_of}
+use Rattle.core_terms.specs.ProgramTrees.{table_of}
 use Rattle.core_terms.specs.declared.types.TyId.{TyId}
-use Rattle.core_terms.specs.declared.language.types.TyForm.{TyForm}
-use Rattle.core_terms.specs.declared.language.types.TyForm.TheVariants.{AuthForm, PairForm, NamedForm}
-use Rattle.core_terms.specs.declared.language.term.Constructor.{Constructor}
-use Rattle.core_terms.specs.declared.language.term.NamedType.{NamedType}
+use Rattle.core_terms.specs.declared.types.TyForm.{TyForm}
+use Rattle.core_terms.specs.declared.types.TyForm.TheVariants.{AuthForm, PairForm, NamedForm}
+use Rattle.core_terms.specs.declared.term.Constructor.{Constructor}
+use Rattle.core_terms.specs.declared.term.NamedType.{NamedType}
 
 -- the mark of each type says whether an `auth` stands in it
 abbrev pub AreAuthMarks : List Ty → List NamedType → List Bool → Type 0

@@ -10,14 +10,11 @@ pub mod Typing
 pub mod TypeTables
 pub mod Texts
 pub mod ProgramTrees
-pub mod Programs
-pub mod Laws
-pub mod LanguageTypes
-pub mod LanguageTrees
 pub mod ProgramTypes
 pub mod ProgramLimits
-pub mod LanguageNames
-pub mod LanguagePrograms
+pub mod TypeNames
+pub mod Programs
+pub mod Laws
 pub mod AuthMarks
 pub mod RoleViews
 pub mod ValueRows

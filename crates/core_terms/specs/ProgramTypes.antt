@@ -2,10 +2,10 @@
 use Rattle.std.specs.Prelude.{List, []}
 use Rattle.core_terms.specs.Types.{Ty, Table}
 use Rattle.core_terms.specs.Terms as tree
-use Rattle.core_terms.specs.LanguageTypes.{types_of_forms}
-use Rattle.core_terms.specs.LanguageTrees.{program_of, table_of}
-use Rattle.core_terms.specs.declared.language.program_types.Types.{Types}
-use Rattle.core_terms.specs.declared.language.term.Function.{Function}
+use Rattle.core_terms.specs.TypeTables.{types_of_forms}
+use Rattle.core_terms.specs.ProgramTrees.{program_of, table_of}
+use Rattle.core_terms.specs.declared.program_types.Types.{Types}
+use Rattle.core_terms.specs.declared.term.Function.{Function}
 
 -- the types by number
 abbrev pub types_by_number : Types → List Ty

@@ -1,20 +1,28 @@
--- What a program of the code means.
-use Rattle.std.specs.Prelude.{List}
+-- What a program of the code means, and its names.
+use Rattle.std.specs.Prelude.{ℕ, List, [], map, slice_get, option_map, unwrap_or}
 use Rattle.core_terms.specs.Types.{Ty}
 use Rattle.core_terms.specs.Terms as tree
 use Rattle.core_terms.specs.TypeTables.{types_of_forms}
-use Rattle.core_terms.specs.ProgramTrees.{program_of}
+pub use Rattle.core_terms.specs.TypeNames.{type_names}
+use Rattle.core_terms.specs.ProgramTypes.{program_with, types_by_number}
+use Rattle.core_terms.specs.declared.term.Constructor.{Constructor}
+use Rattle.core_terms.specs.declared.term.NamedType.{NamedType}
 use Rattle.core_terms.specs.declared.types.TyTable.{TyTable}
 use Rattle.core_terms.specs.declared.program.Program.{Program}
 
 -- the types of a table, by number
 abbrev pub types_in : TyTable → List Ty
-types_in table = types_of_forms table.forms.items
+types_in table = types_of_forms table.forms.keys
 
 -- the types of a program, by number
 abbrev pub types_of : Program → List Ty
-types_of p = types_in p.types
+types_of p = types_by_number p.types
 
 -- the program of the definitions
 abbrev pub meaning : Program → tree.Program
-meaning p = program_of p.types.forms.items p.state p.functions.items
+meaning p = program_with p.types p.functions.items
+
+-- the names of the constructors of each named type, by number and by tag
+abbrev pub constructor_names : List NamedType → ℕ → List (List ℕ)
+constructor_names named number =
+    unwrap_or (option_map (λ (declared : NamedType). map (λ (constructor : Constructor). constructor.name) declared.constructors.items) (slice_get named number)) []

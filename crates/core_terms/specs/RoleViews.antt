@@ -5,11 +5,11 @@ use Rattle.core_terms.specs.Terms as tree
 use Rattle.core_terms.specs.Roles as definition
 use Rattle.core_terms.specs.Roles.{argument_place}
 use Rattle.core_terms.specs.TypeTables.{type_at}
-use Rattle.core_terms.specs.LanguageTrees.{is_role, kind_of}
-use Rattle.core_terms.specs.declared.language.roles.Role.{Role}
-use Rattle.core_terms.specs.declared.language.roles.RoleKind.{RoleKind}
-use Rattle.core_terms.specs.declared.language.roles.RoleKind.TheVariants.{Init, Query, Update}
-use Rattle.core_terms.specs.declared.language.term.Function.{Function}
+use Rattle.core_terms.specs.ProgramTrees.{is_role, kind_of}
+use Rattle.core_terms.specs.declared.roles.Role.{Role}
+use Rattle.core_terms.specs.declared.roles.RoleKind.{RoleKind}
+use Rattle.core_terms.specs.declared.roles.RoleKind.TheVariants.{Init, Query, Update}
+use Rattle.core_terms.specs.declared.term.Function.{Function}
 
 abbrev pub role_kind_of : RoleKind → tree.Kind
 role_kind_of Init = tree.Init

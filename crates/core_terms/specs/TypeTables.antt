@@ -1,9 +1,9 @@
 -- The types that the forms of a table stand for.
-use Rattle.std.specs.Prelude.{◌≡◌, ℕ, ◌+◌, ◌<◌, Bool, true, ◌&&◌, List, [], ◌∷◌, ◌++◌, length, nat_lt, slice_index_or}
-use Rattle.core_terms.specs.Types.{Ty, UnitTy, BoolTy, IntTy, TextTy, AuthTy}
+use Rattle.std.specs.Prelude.{◌≡◌, ◌≢◌, ◌⊎◌, ℕ, ◌+◌, ◌<◌, Bool, true, ◌&&◌, List, [], ◌∷◌, ◌++◌, length, nat_lt, Some, slice_get, slice_index_or}
+use Rattle.core_terms.specs.Types.{Ty, UnitTy, BoolTy, IntTy, TextTy, AuthTy, PairTy, NamedTy}
 use Rattle.core_terms.specs.declared.types.TyId.{TyId}
 use Rattle.core_terms.specs.declared.types.TyForm.{TyForm}
-use Rattle.core_terms.specs.declared.types.TyForm.TheVariants.{UnitForm, BoolForm, IntForm, TextForm, AuthForm}
+use Rattle.core_terms.specs.declared.types.TyForm.TheVariants.{UnitForm, BoolForm, IntForm, TextForm, AuthForm, PairForm, NamedForm}
 
 -- the type with a number, among these
 abbrev pub type_at : List Ty → TyId → Ty
@@ -16,6 +16,8 @@ type_of_form types BoolForm = BoolTy
 type_of_form types IntForm = IntTy
 type_of_form types TextForm = TextTy
 type_of_form types (AuthForm part) = AuthTy (type_at types part)
+type_of_form types (PairForm first second) = PairTy (type_at types first) (type_at types second)
+type_of_form types (NamedForm named) = NamedTy named.0
 
 -- the types of the forms behind these, each with its parts among the earlier ones
 abbrev pub types_behind : List Ty → List TyForm → List Ty
@@ -29,6 +31,7 @@ types_of_forms forms = types_behind [] forms
 -- the parts of a form are among the first n types
 abbrev pub stands_behind : ℕ → TyForm → Bool
 stands_behind n (AuthForm part) = nat_lt part.0 n
+stands_behind n (PairForm first second) = nat_lt first.0 n && nat_lt second.0 n
 stands_behind n form = true
 
 -- parts stand before what they are parts of, where n types stand before these forms
@@ -39,3 +42,11 @@ is_in_order n (form ∷ forms) = stands_behind n form && is_in_order (n + 1) for
 -- no two numbers stand for one type
 abbrev pub HasOneNumber : List Ty → Type 0
 HasOneNumber types = (i j : ℕ) → i < length types → j < length types → slice_index_or types i UnitTy ≡ slice_index_or types j UnitTy → i ≡ j
+
+-- the new forms are the old ones, or the old ones and this form behind them, where it is none of them
+abbrev pub IsWithForm : (old : List TyForm) (form : TyForm) (new : List TyForm) → Type 0
+IsWithForm old form new = (new ≡ old) ⊎ ((new ≡ old ++ form ∷ []) × ((i : ℕ) → slice_get old i ≢ Some form))
+
+-- no number stands for the type of this form, where the parts of the form are among the types
+abbrev pub HasNoNumber : List Ty → TyForm → Type 0
+HasNoNumber types form = stands_behind (length types) form ≡ true → (i : ℕ) → slice_get types i ≢ Some (type_of_form types form)

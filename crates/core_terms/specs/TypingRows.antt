@@ -5,9 +5,9 @@ use lib.Utf8.{encode}
 use Rattle.core_terms.specs.Types.{Ty, UnitTy, BoolTy, IntTy, TextTy, PairTy, NamedTy, AuthTy}
 use Rattle.core_terms.specs.Formats.{first_format}
 use Rattle.core_terms.specs.Terms.{Expression, UnitE, BoolE, IntE, TextE, LocalE, PairE, FstE, SndE, NotE, LenE, AuthE, UnauthE, ConE, ArithE, CompareE, TextCompareE, CatE, LetE, IfE, MatchE, CallE, NoE, AndE, NoArm, AndArm, Inner, Init, Query, Update, Function, Kind, Program}
-use Rattle.core_terms.specs.declared.language.term.Arith.TheVariants.{Rem}
-use Rattle.core_terms.specs.declared.language.term.Compare.TheVariants.{Lt}
-use Rattle.core_terms.specs.declared.language.term.TextCompare.TheVariants.{Lt as TLt}
+use Rattle.core_terms.specs.declared.term.Arith.TheVariants.{Rem}
+use Rattle.core_terms.specs.declared.term.Compare.TheVariants.{Lt}
+use Rattle.core_terms.specs.declared.term.TextCompare.TheVariants.{Lt as TLt}
 use Rattle.core_terms.specs.Typing.{has_type, is_typed, shape_test}
 
 -- a program with one named type of two constructors, of no field, and of an int and a text; and a function from an int and a bool to a text

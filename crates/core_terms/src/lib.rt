@@ -1,19 +1,18 @@
 //! Types, terms and programs of lambda-auth, digests, and the outcomes of a run.
 //!
-//! `specs/` has what they mean: values, spellings and projections, expressions, typing and roles, for the whole language.
-//! `language` has the types, terms and programs of the whole language.
-//! The other types hold the programs of a fragment of it: the types `unit`, `bool`, `int`, `text` and `auth`, the expressions
-//! `()`, `true` and `false`, ints, texts, names, `add`, `auth` and `unauth`, and the roles `init` and `query`.
+//! `specs/` has what they mean: values, spellings and projections, expressions, typing and roles.
 #![tactic(auto)]
 
 pub mod byte_string;
 pub mod cause;
 pub mod digest;
 pub mod fault;
-pub mod language;
 pub mod laws;
+mod marks;
 pub mod outcome;
 pub mod program;
+pub mod program_types;
+pub mod roles;
 pub mod term;
 pub mod types;
 
@@ -21,7 +20,13 @@ pub use byte_string::{ByteString, Piece, Spelling};
 pub use cause::Cause;
 pub use digest::{Digest, Hash32};
 pub use fault::Fault;
+pub use marks::auth_marks;
 pub use outcome::{Outcome, Trap};
 pub use program::{FunctionId, Program};
-pub use term::{Function, Kind, LocalId, Name, Term, Text};
-pub use types::{TyForm, TyId, TyTable};
+pub use program_types::Types;
+pub use roles::{Role, RoleId, RoleKind};
+pub use term::{
+    Arith, BinaryOperator, Compare, Constructor, Function, Kind, LocalId, Name, NamedType, Term,
+    Text, TextCompare,
+};
+pub use types::{NamedId, Tag, TyForm, TyId, TyTable};

@@ -1,45 +1,81 @@
 // Programs, well-typed by their type.
-ghost use Rattle.std.specs.Prelude.{◌≡◌, ◌<◌, true, length, option_map, bytes_eq};
-ghost use Rattle.std.specs.List.{position};
-ghost use Rattle.core_terms.specs.ProgramTrees.{function_of, program_format, program_of};
-ghost use Rattle.core_terms.specs.TypeTables.{type_at, type_of_form};
-ghost use Rattle.core_terms.specs.Roles.{role_named};
-ghost use Rattle.core_terms.specs.Terms.{function_at};
+ghost use Rattle.std.specs.Prelude.{◌≡◌, ◌<◌, true, length, map, Some, slice_get, option_map, bytes_eq, IfOk, IfSome, IsNone};
+ghost use Rattle.std.specs.List.{All, list_all, position};
+ghost use Rattle.std.proofs.Props.{props};
+ghost use Rattle.core_terms.specs.TypeNames.{AreNamed};
+ghost use Rattle.core_terms.specs.ProgramTrees.{function_of, has_fields_below, has_types_below, is_within, program_of, types_at};
+ghost use Rattle.core_terms.specs.TypeTables.{HasNoNumber, stands_behind, type_of_form};
+ghost use Rattle.core_terms.specs.ProgramLimits.{IsWithinLimits};
+ghost use Rattle.core_terms.specs.ProgramTypes.{program_with, types_by_number};
+ghost use Rattle.core_terms.specs.RoleViews.{has_role_below, role_of};
+ghost use Rattle.core_terms.specs.Roles.{HasRoleShape, has_auth, role_function, role_named, program_roles, roles_set};
+ghost use Rattle.core_terms.specs.Terms.{function_at, kinds_set};
+ghost use Rattle.core_terms.specs.TypeTables.{type_at};
+ghost use Rattle.core_terms.specs.Types.{fields_at, has_numbers, has_tags, types_set};
 ghost use Rattle.core_terms.specs.Typing.{is_shaped, is_typed};
 
-use crate::{Digest, Function, Hash32, TyForm, TyId, TyTable};
+use crate::roles::{place_of, roles_of};
+use crate::{
+    Digest, Function, NamedId, NamedType, Role, RoleId, Tag, TyForm, TyId, TyTable, Types,
+};
+use std::alloc::{AllocError, Global};
 
-/// The number of a function in its program, in the order of declarations. A role goes by the number of its function.
+/// The number of a function in its program, in the order of declarations.
 #[derive(Clone, Copy)]
 pub struct FunctionId(pub usize);
 
-/// A program: its types, the type of its state and its functions. It is well-typed, and its roles have their shapes.
+/// A program: its types and its functions. It is well-typed and within the limits of a program, its roles have their shapes, and
+/// the types of its parameters and results are in its table.
 #[derive(Drop)]
 pub struct Program {
-    types: TyTable,
-    state: TyId,
+    types: Types,
     functions: Vec<Function>,
     text_digest: Digest,
-    ghost typed: { is_typed (program_of types.forms.items state functions.items) ≡ true },
-    ghost shaped: { is_shaped (program_of types.forms.items state functions.items) ≡ true },
+    roles: Vec<Role>,
+    ghost found: { map (role_of (types_by_number types)) roles.items ≡ program_roles (program_with types functions.items) } by { Prim.hlevel (props, types_set, kinds_set, roles_set) },
+    ghost typed: { is_typed (program_with types functions.items) ≡ true },
+    ghost shaped: { is_shaped (program_with types functions.items) ≡ true },
+    ghost limits: { IsWithinLimits (program_with types functions.items) } by { Prim.hlevel props },
+    ghost within: { list_all (has_types_below (length (types_by_number types))) functions.items ≡ true },
+    ghost roles_within: { list_all (has_role_below (length (types_by_number types))) roles.items ≡ true },
 }
 
 impl Program {
-    ghost use Rattle.core_terms.specs.Programs.{meaning, types_in, types_of};
+    ghost use Rattle.core_terms.specs.Programs.{constructor_names, meaning, types_of};
 
-    /// A program of these parts, whose text has this digest.
-    pub fn new(types: TyTable, state: TyId, functions: Vec<Function>, text_digest: Digest) -> Self
-        requires typed { is_typed (program_of types.forms.items state functions.items) ≡ true }
-        requires shaped { is_shaped (program_of types.forms.items state functions.items) ≡ true }
-        ensures meaning { meaning result ≡ program_of types.forms.items state functions.items }
-        ensures digest { result.text_digest ≡ text_digest }
+    /// A program of these parts, whose text has this digest. Its roles, and which types have an `auth`, are found here, once.
+    pub fn new(
+        types: TyTable,
+        named: Vec<NamedType>,
+        state: TyId,
+        functions: Vec<Function>,
+        text_digest: Digest,
+        alloc: Global,
+    ) -> Result<Self, AllocError>
+        requires typed { is_typed (program_of types.forms.keys named.items state functions.items) ≡ true }
+        requires shaped { is_shaped (program_of types.forms.keys named.items state functions.items) ≡ true }
+        requires within { is_within types.forms.keys named.items state functions.items ≡ true }
+        requires names { AreNamed named.items }
+        requires limits { IsWithinLimits (program_of types.forms.keys named.items state functions.items) }
+        ensures meaning { IfOk result (λ program. meaning program ≡ program_of types.forms.keys named.items state functions.items) }
+        ensures named { IfOk result (λ program. program.types.named.items ≡ named.items) }
+        ensures digest { IfOk result (λ program. program.text_digest ≡ text_digest) }
     {
-        Program {
+        let types = Types::new(types, named, state, alloc)?;
+        let roles = roles_of(&functions, alloc)?;
+        Ok(Program {
             types,
-            state,
             functions,
             text_digest,
-        }
+            roles,
+        })
+    }
+
+    /// The types.
+    pub fn types(&self) -> &Types
+        ensures { result.now ≡ self.now.types }
+    {
+        &self.types
     }
 
     /// The SHA-256 digest of the program's text.
@@ -49,72 +85,104 @@ impl Program {
         &self.text_digest
     }
 
-    /// The form of a type.
+    /// The number of types. Their numbers are those below it.
+    pub fn type_count(&self) -> usize
+        ensures { result ≡ length (types_of self.now) }
+    {
+        self.types.type_count()
+    }
+
+    /// The form of a type. Its parts stand before the type.
     pub fn form(&self, ty: TyId) -> TyForm
-        ensures { type_of_form (types_of self.now) result ≡ type_at (types_of self.now) ty }
+        ensures form { type_of_form (types_of self.now) result ≡ type_at (types_of self.now) ty }
+        ensures parts { stands_behind ty.0 result ≡ true }
     {
         self.types.form(ty)
     }
 
-    /// The type of the state.
-    pub fn state_type(&self) -> TyId
-        ensures { type_at (types_of self.now) result ≡ (meaning self.now).state }
+    /// The type of this form; none where it isn't one of the program's, as long as the form's parts are.
+    pub fn type_of(&self, form: TyForm) -> Option<TyId>
+        ensures found { IfSome result (λ id. slice_get (types_of self.now) id.0 ≡ Some (type_of_form (types_of self.now) form)) }
+        ensures within { IfSome result (λ id. id.0 < length (types_of self.now)) }
+        ensures none { IsNone result → HasNoNumber (types_of self.now) form }
     {
-        self.state
+        self.types.type_of(form)
     }
 
-    /// The role of this name; none exactly where no role has it.
-    pub fn role(&self, name: &str) -> Option<FunctionId>
-        ensures { option_map (λ id. id.0) result ≡ role_named (meaning self.now) name.now }
+    /// The named types, in the order of declarations.
+    pub fn named_types(&self) -> &[NamedType]
+        ensures named { result.now ≡ self.now.types.named.items }
+        ensures within { list_all (has_fields_below (length (types_of self.now))) result.now ≡ true }
+        ensures numbers { has_numbers (meaning self.now).types ≡ true }
+        ensures tags { has_tags (meaning self.now).types ≡ true }
     {
-        match named(&self.functions, name) {
-            Some(number) => Some(FunctionId(number)),
-            None => None,
-        }
+        self.types.named_types()
+    }
+
+    /// The constructor of this name among those of a named type, with the types of its fields; none exactly where it has no such one.
+    pub fn constructor(&self, named: NamedId, name: &[u8]) -> Option<(Tag, &[TyId])>
+        ensures tag { option_map (λ found. found.0.0) result ≡ position (λ other. bytes_eq other name.now) (constructor_names self.now.types.named.items named.0) }
+        ensures fields { IfSome result (λ found. fields_at (meaning self.now).types named.0 found.0.0 ≡ Some (types_at (types_of self.now) found.1.now)) }
+    {
+        self.types.constructor(named, name)
+    }
+
+    /// The type of the state.
+    pub fn state_type(&self) -> TyId
+        ensures state { type_at (types_of self.now) result ≡ (meaning self.now).state }
+        ensures within { result.0 < length (types_of self.now) }
+    {
+        self.types.state_type()
+    }
+
+    /// Whether an `auth` stands in the type, at any depth and through named types.
+    pub fn has_auth(&self, ty: TyId) -> bool
+        ensures { result ≡ has_auth (meaning self.now).types (type_at (types_of self.now) ty) }
+    {
+        self.types.has_auth(ty)
+    }
+
+    /// The functions, in the order of declarations. There are at most 1,024, and at most 262,144 expressions in all of them.
+    pub fn functions(&self) -> &[Function]
+        ensures functions { map (function_of (types_of self.now)) result.now ≡ (meaning self.now).functions }
+        ensures limits { IsWithinLimits (meaning self.now) }
+        ensures within { list_all (has_types_below (length (types_of self.now))) result.now ≡ true }
+    {
+        &self.functions
     }
 
     /// The function with a number.
     pub fn function(&self, id: FunctionId) -> &Function
         requires { id.0 < length (meaning self.now).functions }
-        ensures { function_of (types_of self.now) result.now ≡ function_at (meaning self.now) id.0 }
+        ensures function { function_of (types_of self.now) result.now ≡ function_at (meaning self.now) id.0 }
+        ensures within { has_types_below (length (types_of self.now)) result.now ≡ true }
     {
         &self.functions[id.0]
+    }
+
+    /// The roles, in the order of declarations. Each has the shape that its kind asks for.
+    pub fn roles(&self) -> &[Role]
+        ensures roles { map (role_of (types_of self.now)) result.now ≡ program_roles (meaning self.now) }
+        ensures within { list_all (has_role_below (length (types_of self.now))) result.now ≡ true }
+        ensures shapes { All (HasRoleShape (meaning self.now)) (program_roles (meaning self.now)) }
+    {
+        &self.roles
+    }
+
+    /// The role of this name; none exactly where no role has it.
+    pub fn role(&self, name: &str) -> Option<RoleId>
+        ensures { option_map (λ id. role_function (meaning self.now) id.0) result ≡ option_map Some (role_named (meaning self.now) name.now) }
+    {
+        match place_of(&self.roles, name) {
+            Some(place) => Some(RoleId(place)),
+            None => None,
+        }
     }
 
     /// The greatest number of bytes of a spelling, and so of a piece of a proof.
     pub fn spelling_limit(&self) -> usize
         ensures { result ≡ (meaning self.now).format.limit }
     {
-        65_536
+        self.types.spelling_limit()
     }
-
-    /// The bytes that a proof file begins with.
-    pub fn proof_magic(&self) -> [u8; 4]
-        ensures { result ≡ (meaning self.now).format.magic }
-    {
-        *b"LAP1"
-    }
-
-    /// The greatest number of pieces that a proof may ask its verifier to keep.
-    pub fn most_kept(&self) -> u16
-        ensures { result ≡ (meaning self.now).format.most_kept }
-    {
-        1_024
-    }
-
-    /// The digest of a spelling at a type. Every digest of a prover or verifier is made here.
-    pub fn digest_at<H: Hash32>(&self, ty: TyId, spelling: &[u8]) -> Digest
-        ensures { result.0 ≡ (meaning self.now).format.digest H.hash (type_at (types_of self.now) ty) spelling.now }
-    {
-        H::of(spelling)
-    }
-}
-
-/// The place of the first function of this name.
-fn named(functions: &[Function], name: &str) -> Option<usize>
-    ensures { result ≡ position (λ f. bytes_eq f.name name.now) functions.now }
-{
-    functions
-        .iter()
-        .position(|function| function.name.as_bytes() == name.as_bytes())
 }

@@ -2,7 +2,7 @@
 ghost use Rattle.std.specs.Prelude.{◌≡◌, ◌≤◌, true, length, ℕ, List};
 ghost use Rattle.std.specs.Str.{is_utf8};
 
-use crate::TyId;
+use crate::{FunctionId, NamedId, Tag, TyId};
 use std::marker::Model;
 
 /// A name of a program. Clauses see the list of its bytes.
@@ -86,6 +86,41 @@ impl Text {
 #[derive(Clone, Copy)]
 pub struct LocalId(pub usize);
 
+/// An operation on two ints that gives an int.
+#[derive(Clone, Copy)]
+pub enum Arith {
+    Add,
+    Sub,
+    Mul,
+    Div,
+    Rem,
+}
+
+/// A comparison of two ints.
+#[derive(Clone, Copy)]
+pub enum Compare {
+    Eq,
+    Lt,
+    Le,
+}
+
+/// A comparison of two texts, by their bytes.
+#[derive(Clone, Copy)]
+pub enum TextCompare {
+    Eq,
+    Lt,
+}
+
+/// An operator on two operands.
+#[derive(Clone, Copy)]
+pub enum BinaryOperator {
+    Arith(Arith),
+    Compare(Compare),
+    TextCompare(TextCompare),
+    /// Two texts, joined.
+    Cat,
+}
+
 /// An expression. Types stand where those of the parts don't follow.
 #[derive(Drop)]
 pub enum Term {
@@ -94,21 +129,72 @@ pub enum Term {
     IntLiteral(i64),
     TextLiteral(Text),
     Local(LocalId),
-    /// The sum of two ints.
-    Add(Box<Term>, Box<Term>),
+    /// Two terms, of these types.
+    Pair(TyId, TyId, Box<Term>, Box<Term>),
+    /// The first of a pair of these types.
+    Fst(TyId, TyId, Box<Term>),
+    /// The second of a pair of these types.
+    Snd(TyId, TyId, Box<Term>),
+    Not(Box<Term>),
+    /// The number of bytes of a text.
+    Len(Box<Term>),
     /// `auth` of a term of this type.
     Auth(TyId, Box<Term>),
     /// `unauth` to a value of this type.
     Unauth(TyId, Box<Term>),
+    /// A constructor of a named type, and its fields.
+    Constructor(NamedId, Tag, Vec<Term>),
+    Arith(Arith, Box<Term>, Box<Term>),
+    Compare(Compare, Box<Term>, Box<Term>),
+    TextCompare(TextCompare, Box<Term>, Box<Term>),
+    /// Two texts, joined.
+    Cat(Box<Term>, Box<Term>),
+    /// Binds a term of this type as the next local.
+    Let {
+        bound_type: TyId,
+        bound: Box<Term>,
+        body: Box<Term>,
+    },
+    If {
+        test: Box<Term>,
+        first: Box<Term>,
+        other: Box<Term>,
+    },
+    /// One arm for each constructor of the named type, by tag. The constructor's fields are the next locals of its arm.
+    Match {
+        named: NamedId,
+        subject: Box<Term>,
+        arms: Vec<Term>,
+    },
+    /// A call of a function, and its arguments.
+    Call(FunctionId, Vec<Term>),
 }
 
-/// How a function may be entered from outside: every function of the fragment is a role.
+/// A named type, with its constructors by tag.
+#[derive(Drop)]
+pub struct NamedType {
+    pub name: Name,
+    pub constructors: Vec<Constructor>,
+}
+
+/// A constructor of a named type, with the types of its fields.
+#[derive(Drop)]
+pub struct Constructor {
+    pub name: Name,
+    pub fields: Vec<TyId>,
+}
+
+/// How a function may be entered.
 #[derive(Clone, Copy)]
 pub enum Kind {
-    /// Makes a state.
+    /// By calls of the program alone.
+    Inner,
+    /// From outside, to make a state.
     Init,
-    /// Reads a state and answers.
+    /// From outside, to read a state and answer.
     Query,
+    /// From outside, to give a new state and answer.
+    Update,
 }
 
 /// A function of a program.

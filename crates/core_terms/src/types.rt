@@ -1,31 +1,42 @@
 // Types by number, in a table in which equal types have one number.
-ghost use Rattle.std.specs.Prelude.{◌≡◌, ◌≢◌, true, ◌<◌, ◌++◌, ◌⊎◌, ◌∷◌, [], ℕ, length, Some, slice_get, IfOk, IfSome, IsNone, IsTrue, OnErr, OnOk, ◌↔◌, slice_index_or};
-ghost use Rattle.core_terms.specs.TypeTables.{HasOneNumber, is_in_order, stands_behind, type_at, type_of_form, types_of_forms};
-ghost use Rattle.core_terms.specs.Types.{Ty, UnitTy};
-ghost use Rattle.core_terms.specs.declared.types.TyForm.{TyForm};
+ghost use Rattle.std.specs.Prelude.{◌≡◌, ◌≢◌, true, ◌<◌, ◌≤◌, ◌++◌, ◌⊎◌, ◌∷◌, [], ℕ, length, Some, slice_get, IfOk, IfSome, IsNone, IsTrue, OnErr, ◌↔◌, slice_index_or};
+ghost use Rattle.core_terms.specs.TypeTables.{HasOneNumber, type_at};
+ghost use Rattle.core_terms.specs.TypeTables.{HasNoNumber, IsWithForm, is_in_order, stands_behind, type_of_form, types_of_forms};
 
+use indexmap::IndexSet;
 use std::alloc::{AllocError, Global};
 
 /// The number of a type in the table of its program. A number that isn't in the table stands for `unit`.
 #[derive(Clone, Copy, PartialEq, Eq, Hash)]
 pub struct TyId(pub usize);
 
-/// The form of a type, with the numbers of its parts.
+/// The number of a named type, in the order of declarations.
+#[derive(Clone, Copy, PartialEq, Eq, Hash)]
+pub struct NamedId(pub usize);
+
+/// The number of a constructor in its type, in the order of declaration.
 #[derive(Clone, Copy, PartialEq)]
+pub struct Tag(pub u8);
+
+/// The form of a type, with the numbers of its parts. A named type is one by its name alone.
+#[derive(Clone, Copy, PartialEq, Eq, Hash)]
 pub enum TyForm {
     UnitForm,
     BoolForm,
     IntForm,
     TextForm,
     AuthForm(TyId),
+    PairForm(TyId, TyId),
+    NamedForm(NamedId),
 }
 
-/// The types of a program. Parts stand before what they are parts of, and no two are equal, so types are compared by number.
+/// The types of a program. Parts stand before what they are parts of, and no two are equal, so types are compared by number,
+/// and a type costs one entry however long it is when it is written.
 #[derive(Drop)]
 pub struct TyTable {
-    forms: Vec<TyForm>,
-    ghost in_order: { is_in_order 0 forms.items ≡ true },
-    ghost one_number: { HasOneNumber (types_of_forms forms.items) },
+    forms: IndexSet<TyForm>,
+    ghost in_order: { is_in_order 0 forms.keys ≡ true },
+    ghost one_number: { HasOneNumber (types_of_forms forms.keys) },
 }
 
 impl TyTable {
@@ -36,7 +47,7 @@ impl TyTable {
         ensures { types_in result ≡ [] }
     {
         TyTable {
-            forms: Vec::new(alloc),
+            forms: IndexSet::new(alloc),
         }
     }
 
@@ -46,14 +57,31 @@ impl TyTable {
         requires parts { stands_behind (length (types_in self.old)) form ≡ true }
         ensures number { IfOk result (λ id. slice_get (types_in self.new) id.0 ≡ Some (type_of_form (types_in self.old) form)) }
         ensures types { (types_in self.new ≡ types_in self.old) ⊎ (types_in self.new ≡ types_in self.old ++ type_of_form (types_in self.old) form ∷ []) }
+        ensures within { IfOk result (λ id. id.0 < length (types_in self.new)) }
+        ensures grows { length (types_in self.old) ≤ length (types_in self.new) }
         ensures err { OnErr result (types_in self.new ≡ types_in self.old) }
     {
-        if let Some(id) = number_of(&self.forms, form) {
-            return Ok(id);
+        let number = add(&mut self.forms, form)?;
+        Ok(TyId(number))
+    }
+
+    /// The number of types.
+    pub fn len(&self) -> usize
+        ensures { result ≡ length (types_in self.now) }
+    {
+        self.forms.len()
+    }
+
+    /// The number of the type of this form; none where the type isn't in the table, as long as the form's parts are.
+    pub fn number_of(&self, form: TyForm) -> Option<TyId>
+        ensures found { IfSome result (λ id. slice_get (types_in self.now) id.0 ≡ Some (type_of_form (types_in self.now) form)) }
+        ensures within { IfSome result (λ id. id.0 < length (types_in self.now)) }
+        ensures none { IsNone result → HasNoNumber (types_in self.now) form }
+    {
+        match place_of(&self.forms, form) {
+            Some(number) => Some(TyId(number)),
+            None => None,
         }
-        let id = TyId(self.forms.len());
-        add(&mut self.forms, form)?;
-        Ok(id)
     }
 
     /// Whether two types of the table are equal. Equal types have one number.
@@ -74,36 +102,32 @@ impl TyTable {
     }
 }
 
-/// The number of a form, where it is among these.
-fn number_of(forms: &[TyForm], form: TyForm) -> Option<TyId>
-    ensures found { IfSome result (λ id. slice_get forms.now id.0 ≡ Some form) }
-    ensures none { IsNone result → (i : ℕ) → slice_get forms.now i ≢ Some form }
+/// The number of a form, which is added at the end where it isn't there yet.
+fn add(forms: &mut IndexSet<TyForm>, form: TyForm) -> Result<usize, AllocError>
+    ensures number { IfOk result (λ number. slice_get forms.new.keys number ≡ Some form) }
+    ensures either { IsWithForm forms.old.keys form forms.new.keys }
+    ensures err { OnErr result (forms.new.keys ≡ forms.old.keys) }
 {
-    for (number, known) in forms.iter().enumerate() {
-        if *known == form {
-            return Some(TyId(number));
-        }
+    match forms.insert_full(form) {
+        Ok((number, _)) => Ok(number),
+        Err(_) => Err(AllocError),
     }
-    None
 }
 
-/// Adds a form at the end.
-fn add(forms: &mut Vec<TyForm>, form: TyForm) -> Result<(), AllocError>
-    ensures either { (forms.new.items ≡ forms.old.items) ⊎ (forms.new.items ≡ forms.old.items ++ form ∷ []) }
-    ensures ok { OnOk result (forms.new.items ≡ forms.old.items ++ form ∷ []) }
-    ensures err { OnErr result (forms.new.items ≡ forms.old.items) }
+/// The place of a form among these.
+fn place_of(forms: &IndexSet<TyForm>, form: TyForm) -> Option<usize>
+    ensures found { IfSome result (λ place. slice_get forms.now.keys place ≡ Some form) }
+    ensures none { IsNone result → (i : ℕ) → slice_get forms.now.keys i ≢ Some form }
 {
-    forms.push(form)?;
-    Ok(())
+    forms.get_index_of(&form)
 }
 
 /// The form with a number, among these.
-fn form_at(forms: &[TyForm], ty: TyId) -> TyForm
-    ensures { result ≡ slice_index_or forms.now ty.0 TyForm.UnitForm }
+fn form_at(forms: &IndexSet<TyForm>, ty: TyId) -> TyForm
+    ensures { result ≡ slice_index_or forms.now.keys ty.0 TyForm.UnitForm }
 {
-    if ty.0 < forms.len() {
-        forms[ty.0]
-    } else {
-        TyForm::UnitForm
+    match forms.get_index(ty.0) {
+        Some(form) => *form,
+        None => TyForm::UnitForm,
     }
 }

@@ -4,8 +4,8 @@ use Rattle.core_terms.specs.Types.{Ty, PairTy, NamedTy, TextTy}
 use Rattle.core_terms.specs.Formats.{depth_limit}
 use Rattle.core_terms.specs.Values.{Value, TextV, PairV, ConV, Values, NoV, AndV, size, depth, int_fits}
 use Rattle.core_terms.specs.Terms.{Expression, UnitE, BoolE, IntE, TextE, LocalE, PairE, FstE, SndE, NotE, LenE, AuthE, UnauthE, ConE, ArithE, CompareE, TextCompareE, CatE, LetE, IfE, MatchE, CallE, Expressions, NoE, AndE, Arms, NoArm, AndArm, Program, function_at}
-use Rattle.core_terms.specs.declared.language.term.Arith.{Arith}
-use Rattle.core_terms.specs.declared.language.term.Arith.TheVariants.{Add, Sub, Mul, Div, Rem}
+use Rattle.core_terms.specs.declared.term.Arith.{Arith}
+use Rattle.core_terms.specs.declared.term.Arith.TheVariants.{Add, Sub, Mul, Div, Rem}
 use Rattle.ideal_meaning.specs.Run.{Run, Gives, Ends, Opening, Opens, Refuses, with_fuel, Mode, then_run, fuel_of, divided, arith_of, choose, limited, run, run_all, run_arm, call, call_from, bool_in, int_in, text_in, tag_in, fields_in, join}
 
 module _ (C W : Type 0) where

@@ -2,8 +2,8 @@
 use Rattle.std.proofs.Common.{◌≡◌, ℕ, zero, suc, Bool, true, false, pos, negsuc, ℤ, List, int_div, int_rem, if◌then◌else◌, refl}
 use Rattle.core_terms.specs.Values.{Value, Values}
 use Rattle.core_terms.specs.Terms.{Expression, Program}
-use Rattle.core_terms.specs.declared.language.term.Arith.{Arith}
-use Rattle.core_terms.specs.declared.language.term.Arith.TheVariants.{Div, Rem}
+use Rattle.core_terms.specs.declared.term.Arith.{Arith}
+use Rattle.core_terms.specs.declared.term.Arith.TheVariants.{Div, Rem}
 use Rattle.ideal_meaning.specs.Run.{Gives, Ends, IsOut, then_run, choose, bool_in, int_in, arith_of, divided, call}
 use Rattle.ideal_meaning.specs.Ideal.{Opened, ideal_mode}
 use Rattle.ideal_meaning.specs.Table.{IdealTable, Evaluation, eval, divides}

@@ -9,8 +9,8 @@ use Rattle.core_terms.specs.Formats.{Hash, IsFormat, depth_limit}
 use Rattle.core_terms.specs.Values.{Value, UnitV, BoolV, IntV, TextV, PairV, ConV, DigestV, Values, NoV, AndV, IsIdeal, int_fits, size, depth}
 use Rattle.core_terms.specs.Spelling.{spelling}
 use Rattle.core_terms.specs.Terms.{Expression, UnitE, BoolE, IntE, TextE, LocalE, PairE, FstE, SndE, NotE, LenE, AuthE, UnauthE, ConE, ArithE, CompareE, TextCompareE, CatE, LetE, IfE, MatchE, CallE, Expressions, NoE, AndE, Arms, NoArm, AndArm, Function, no_function, OnFunction, Program, function_at, HasType, HaveTypes, HaveArms}
-use Rattle.core_terms.specs.declared.language.term.Arith.{Arith}
-use Rattle.core_terms.specs.declared.language.term.Arith.TheVariants.{Add, Sub, Mul, Div, Rem}
+use Rattle.core_terms.specs.declared.term.Arith.{Arith}
+use Rattle.core_terms.specs.declared.term.Arith.TheVariants.{Add, Sub, Mul, Div, Rem}
 use Rattle.core_terms.specs.Projection.{digest_at, projection, projections}
 use Rattle.core_terms.proofs.Numbers.{mag_of, of_mag}
 use Rattle.core_terms.proofs.Fields.{on_fields}

@@ -4,7 +4,7 @@ use Rattle.core_terms.specs.Types.{Ty, UnitTy, BoolTy, IntTy, PairTy, AuthTy}
 use Rattle.core_terms.specs.Formats.{Hash}
 use Rattle.core_terms.specs.Values.{Value, UnitV, BoolV, IntV, TextV, PairV, DigestV}
 use Rattle.core_terms.specs.Terms.{Expression, UnitE, IntE, LocalE, PairE, ArithE, LetE, Query, Update}
-use Rattle.core_terms.specs.declared.language.term.Arith.TheVariants.{Sub, Div, Rem}
+use Rattle.core_terms.specs.declared.term.Arith.TheVariants.{Sub, Div, Rem}
 use Rattle.core_terms.specs.Typing.{is_typed}
 use Rattle.core_terms.specs.Roles.{IsPlain, IsRole, role_named}
 use Rattle.core_terms.specs.Projection.{projection}

@@ -2,8 +2,8 @@
 use Rattle.std.specs.Prelude.{ℕ, List, [], ◌∷◌, codes, pos}
 use Rattle.core_terms.specs.Types.{Ty, UnitTy, IntTy, PairTy, NamedTy, AuthTy}
 use Rattle.core_terms.specs.Terms.{Expression, UnitE, IntE, LocalE, PairE, FstE, SndE, AuthE, UnauthE, ConE, ArithE, CompareE, LetE, IfE, MatchE, CallE, Inner, Init, Query, Update, Function, Program}
-use Rattle.core_terms.specs.declared.language.term.Arith.TheVariants.{Sub, Mul, Div}
-use Rattle.core_terms.specs.declared.language.term.Compare.TheVariants.{Eq, Lt, Le}
+use Rattle.core_terms.specs.declared.term.Arith.TheVariants.{Sub, Mul, Div}
+use Rattle.core_terms.specs.declared.term.Compare.TheVariants.{Eq, Lt, Le}
 use Rattle.ideal_meaning.specs.Examples.{operands, arms_of, function, program}
 
 -- of both programs, the types `tree` and `found` by number, and an authenticated tree

@@ -3,9 +3,9 @@ use Rattle.std.specs.Prelude.{◌≡◌, List, [], ◌∷◌, pos, negsuc, true,
 use Rattle.core_terms.specs.Types.{IntTy}
 use Rattle.core_terms.specs.Values.{Value, BoolV, IntV, TextV, NoV}
 use Rattle.core_terms.specs.Terms.{Expression, BoolE, IntE, TextE, LocalE, PairE, NotE, LenE, ConE, ArithE, CompareE, TextCompareE, CatE, LetE, IfE, MatchE, CallE, NoE, Program, Inner}
-use Rattle.core_terms.specs.declared.language.term.Arith.TheVariants.{Add, Sub, Mul, Div, Rem}
-use Rattle.core_terms.specs.declared.language.term.Compare.TheVariants.{Eq, Lt, Le}
-use Rattle.core_terms.specs.declared.language.term.TextCompare.TheVariants.{Eq as TEq, Lt as TLt}
+use Rattle.core_terms.specs.declared.term.Arith.TheVariants.{Add, Sub, Mul, Div, Rem}
+use Rattle.core_terms.specs.declared.term.Compare.TheVariants.{Eq, Lt, Le}
+use Rattle.core_terms.specs.declared.term.TextCompare.TheVariants.{Eq as TEq, Lt as TLt}
 use Rattle.ideal_meaning.specs.Run.{Run, Gives, Ends, Traps, IsOut, Overflow, DivZero, TooBig}
 use Rattle.ideal_meaning.specs.Ideal.{Opened, ideal}
 use Rattle.ideal_meaning.specs.Examples.{values, function, program, arms_of, operands}

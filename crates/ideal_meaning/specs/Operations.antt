@@ -2,9 +2,9 @@
 -- Each stands on the first locals here: that operands are evaluated before it, from left to right, is in the table of rules.
 use Rattle.std.specs.Prelude.{◌≡◌, ◌≢◌, ◌⊎◌, ℕ, ◌+◌, ◌-◌, ◌^◌, ◌<◌, ◌≤◌, Bool, true, false, List, ◌∷◌, ◌++◌, length, ℤ, pos, negsuc, ◌+ℤ◌, ◌-ℤ◌, ◌*ℤ◌, ◌≤ℤ◌, ◌<ℤ◌, nat_abs}
 use Rattle.core_terms.specs.Values.{Value, BoolV, IntV, TextV, NoV, AndV}
-use Rattle.core_terms.specs.declared.language.term.Arith.TheVariants.{Add, Sub, Mul, Div, Rem}
-use Rattle.core_terms.specs.declared.language.term.Compare.TheVariants.{Eq, Lt, Le}
-use Rattle.core_terms.specs.declared.language.term.TextCompare.TheVariants.{Eq as TEq, Lt as TLt}
+use Rattle.core_terms.specs.declared.term.Arith.TheVariants.{Add, Sub, Mul, Div, Rem}
+use Rattle.core_terms.specs.declared.term.Compare.TheVariants.{Eq, Lt, Le}
+use Rattle.core_terms.specs.declared.term.TextCompare.TheVariants.{Eq as TEq, Lt as TLt}
 use Rattle.core_terms.specs.Terms.{Expression, LocalE, NotE, LenE, ArithE, CompareE, TextCompareE, CatE, Program}
 use Rattle.ideal_meaning.specs.Run.{Traps, Overflow, DivZero, TooBig, Gives, Ends}
 use Rattle.ideal_meaning.specs.Ideal.{Opened}

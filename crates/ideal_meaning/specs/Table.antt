@@ -4,9 +4,9 @@ use Rattle.std.specs.Ordering.{int_eq}
 use Rattle.core_terms.specs.Types.{Ty, TextTy, PairTy, NamedTy}
 use Rattle.core_terms.specs.Values.{Value, UnitV, BoolV, IntV, TextV, PairV, ConV, Values, NoV, AndV, int_fits, size, depth}
 use Rattle.core_terms.specs.Terms.{Expression, UnitE, BoolE, IntE, TextE, LocalE, PairE, FstE, SndE, NotE, LenE, AuthE, UnauthE, ConE, ArithE, CompareE, TextCompareE, CatE, LetE, IfE, MatchE, CallE, Expressions, NoE, AndE, Arms, AndArm, Program, function_at}
-use Rattle.core_terms.specs.declared.language.term.Arith.TheVariants.{Add, Sub, Mul, Div, Rem}
-use Rattle.core_terms.specs.declared.language.term.Compare.TheVariants.{Eq, Lt, Le}
-use Rattle.core_terms.specs.declared.language.term.TextCompare.TheVariants.{Eq as TEq, Lt as TLt}
+use Rattle.core_terms.specs.declared.term.Arith.TheVariants.{Add, Sub, Mul, Div, Rem}
+use Rattle.core_terms.specs.declared.term.Compare.TheVariants.{Eq, Lt, Le}
+use Rattle.core_terms.specs.declared.term.TextCompare.TheVariants.{Eq as TEq, Lt as TLt}
 use Rattle.ideal_meaning.specs.Run.{TooBig, TooDeep, Overflow, DivZero, Traps, IsOut, Run, Gives, Ends, then_run, local, join, first_in, second_in, bool_in, int_in, text_in, text_lt, tag_in, fields_in, run, run_all, run_arm, call}
 use Rattle.ideal_meaning.specs.Ideal.{Opened, ideal_mode}
 

@@ -6,7 +6,7 @@ use Rattle.core_terms.specs.ProgramTypes.{named_table}
 use Rattle.core_terms.specs.Types.{Ty, Table, NamedTy, fields_at}
 use Rattle.core_terms.specs.Values.{Values, NoV, AndV, ConV}
 use Rattle.core_terms.specs.Terms.{Program}
-use Rattle.core_terms.specs.declared.language.program_types.Types.{Types}
+use Rattle.core_terms.specs.declared.program_types.Types.{Types}
 use Rattle.core_terms.specs.declared.outcome.Trap.{Trap}
 use Rattle.ideal_meaning.specs.Run.{limited}
 use Rattle.code_gen.specs.Instructions.{Make}

@@ -3,8 +3,8 @@ use Rattle.std.proofs.Common.{◌≡◌, ℕ, ℤ, ◌++◌, List, [], ◌∷◌
 use Rattle.core_terms.specs.Types.{IntTy, BoolTy}
 use Rattle.core_terms.specs.Values.{Value, IntV, BoolV}
 use Rattle.core_terms.specs.Terms.{Program}
-use Rattle.core_terms.specs.declared.language.term.Arith.{Arith}
-use Rattle.core_terms.specs.declared.language.term.Compare.{Compare}
+use Rattle.core_terms.specs.declared.term.Arith.{Arith}
+use Rattle.core_terms.specs.declared.term.Compare.{Compare}
 use Rattle.core_terms.specs.declared.outcome.Trap.{Trap}
 use Rattle.ideal_meaning.specs.Run.{Run, Gives, arith_of, compare_of, int_in}
 use Rattle.code_gen.specs.Instructions.{ArithOp, CompareOp}

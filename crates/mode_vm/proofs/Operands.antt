@@ -4,9 +4,9 @@ use Rattle.std.proofs.lemmas.List.{reverse-append}
 use Rattle.core_terms.specs.Types.{Ty, Table, PairTy, IntTy, BoolTy, TextTy}
 use Rattle.core_terms.specs.Values.{Value, Values, NoV, AndV, size, depth}
 use Rattle.core_terms.specs.Formats.{depth_limit}
-use Rattle.core_terms.specs.declared.language.term.Arith.{Arith}
-use Rattle.core_terms.specs.declared.language.term.Compare.{Compare}
-use Rattle.core_terms.specs.declared.language.term.TextCompare.{TextCompare}
+use Rattle.core_terms.specs.declared.term.Arith.{Arith}
+use Rattle.core_terms.specs.declared.term.Compare.{Compare}
+use Rattle.core_terms.specs.declared.term.TextCompare.{TextCompare}
 use Rattle.ideal_meaning.specs.Run.{Gives, Ends, Traps, TooBig, TooDeep, limited}
 use Rattle.code_gen.specs.Instructions.{Pair, Fst, Snd, ArithOp, CompareOp, TextCompareOp, Cat, Len, Not}
 use Rattle.code_gen.specs.Code.{Body}

@@ -3,7 +3,7 @@ use Rattle.std.proofs.Common.{◌≡◌, ℕ, ◌++◌, List, [], ◌∷◌, Res
 use Rattle.core_terms.specs.Types.{TextTy, IntTy, BoolTy}
 use Rattle.core_terms.specs.Values.{Value, TextV, IntV, BoolV}
 use Rattle.core_terms.specs.Terms.{Program}
-use Rattle.core_terms.specs.declared.language.term.TextCompare.{TextCompare}
+use Rattle.core_terms.specs.declared.term.TextCompare.{TextCompare}
 use Rattle.core_terms.specs.declared.outcome.Trap.{Trap}
 use Rattle.ideal_meaning.specs.Run.{Run, Gives, limited, text_compare_of, text_in}
 use Rattle.code_gen.specs.Instructions.{TextCompareOp, Cat, Len}

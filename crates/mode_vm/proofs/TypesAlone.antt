@@ -1,7 +1,7 @@
 -- What a mode does by the types of a program alone, and by the program: the same, whatever the marking.
 use Rattle.std.proofs.Common.{◌≡◌, ℕ, suc, List, bytes_eq, if◌then◌else◌, Option, Result, Ok, Err, refl, sym, ap, ◌∙◌, subst}
 use Rattle.core_terms.specs.Formats.{Hash}
-use Rattle.core_terms.specs.LanguagePrograms.{meaning}
+use Rattle.core_terms.specs.Programs.{meaning}
 use Rattle.core_terms.specs.Projection.{digest_at, read_at}
 use Rattle.core_terms.specs.ProgramTypes.{named_table, program_with, types_by_number, types_meaning}
 use Rattle.core_terms.specs.Reading.{Read, Good, BadAt}
@@ -9,9 +9,9 @@ use Rattle.core_terms.specs.Types.{AuthTy, Ty}
 use Rattle.core_terms.specs.TypeTables.{type_at}
 use Rattle.core_terms.specs.Values.{Value}
 use Rattle.core_terms.specs.declared.types.TyId.{TyId}
-use Rattle.core_terms.specs.declared.language.term.Function.{Function}
-use Rattle.core_terms.specs.declared.language.program.Program.{Program}
-use Rattle.core_terms.specs.declared.language.program_types.Types.{Types}
+use Rattle.core_terms.specs.declared.term.Function.{Function}
+use Rattle.core_terms.specs.declared.program.Program.{Program}
+use Rattle.core_terms.specs.declared.program_types.Types.{Types}
 use Rattle.ideal_meaning.specs.Run.{Refuses}
 use Rattle.ideal_meaning.specs.Frames.{Offer, NoMore, Offers}
 use Rattle.ideal_meaning.specs.Checked.{Taking, WrongPiece, digest_in, opened, take_piece}

@@ -8,8 +8,7 @@ ghost use Rattle.mode_vm.specs.Meanings.{program_of};
 use crate::frame::Frame;
 use crate::values::bool_in;
 use code_gen::Code;
-use core_terms::Trap;
-use core_terms::language::NamedId;
+use core_terms::{NamedId, Trap};
 use std::alloc::AllocError;
 use value_store::{Nodes, View};
 

@@ -7,8 +7,7 @@ ghost use Rattle.value_store.specs.Standing.{ProverNodes, StandsFor};
 
 use crate::ideal::Never;
 use crate::mode::{Mode, Stop};
-use core_terms::language::Types;
-use core_terms::{Hash32, TyId};
+use core_terms::{Hash32, TyId, Types};
 use shallow_codec::spell;
 use std::alloc::Global;
 use std::marker::PhantomData;

@@ -1,6 +1,6 @@
 // A frame: a function that runs or waits, and what its instructions do to it.
 ghost use Rattle.std.specs.Prelude.{◌≡◌, ◌+◌, ◌<◌, ◌≤◌, ◌^◌, ◌++◌, ◌∷◌, [], true, IfOk, OnOk, length};
-ghost use Rattle.core_terms.specs.LanguagePrograms.{types_of};
+ghost use Rattle.core_terms.specs.Programs.{types_of};
 ghost use Rattle.value_store.specs.Standing.{Keeps};
 ghost use Rattle.code_gen.specs.Code.{code_at, generated};
 ghost use Rattle.code_gen.specs.CodeTrees.{instruction_of};

@@ -3,8 +3,7 @@ ghost use Rattle.std.specs.Prelude.{None};
 ghost use Rattle.value_store.specs.Markings.{IdealMarking};
 
 use crate::mode::{Mode, Stop};
-use core_terms::TyId;
-use core_terms::language::Types;
+use core_terms::{TyId, Types};
 use value_store::{Held, Nodes, Ref, View};
 
 /// The ideal mode: an authenticated value is the value.

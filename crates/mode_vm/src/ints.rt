@@ -12,8 +12,7 @@ ghost use Rattle.mode_vm.specs.Meanings.{CauseOf, StateOf, program_of};
 use crate::frame::Frame;
 use crate::values::int_in;
 use code_gen::Code;
-use core_terms::Trap;
-use core_terms::language::{Arith, Compare};
+use core_terms::{Arith, Compare, Trap};
 use std::alloc::AllocError;
 use value_store::{Nodes, Ref};
 

@@ -1,6 +1,6 @@
 // The virtual machine, over a mode.
 ghost use Rattle.std.specs.Prelude.{◌≡◌, ◌<◌, ◌≤◌, ◌+◌, ◌^◌, List, suc, true, IfOk, OnOk, length};
-ghost use Rattle.core_terms.specs.LanguagePrograms.{types_of};
+ghost use Rattle.core_terms.specs.Programs.{types_of};
 ghost use Rattle.core_terms.specs.Types.{Ty};
 ghost use Rattle.core_terms.specs.Values.{Values};
 ghost use Rattle.core_terms.specs.Terms.{function_at};

@@ -4,13 +4,12 @@ ghost use Rattle.core_terms.specs.ProgramTypes.{types_by_number, types_meaning};
 ghost use Rattle.core_terms.specs.Types.{AuthTy};
 ghost use Rattle.core_terms.specs.TypeTables.{type_at};
 ghost use Rattle.core_terms.specs.Values.{Value};
-ghost use Rattle.core_terms.specs.declared.language.program_types.Types.{Types as Typed};
+ghost use Rattle.core_terms.specs.declared.program_types.Types.{Types as Typed};
 ghost use Rattle.value_store.specs.Nodes.{Node};
 ghost use Rattle.value_store.specs.Markings.{Marking};
 ghost use Rattle.value_store.specs.Standing.{Keeps};
 
-use core_terms::TyId;
-use core_terms::language::Types;
+use core_terms::{TyId, Types};
 use value_store::{Nodes, Ref};
 
 /// What ends a run before its outcome.

@@ -1,6 +1,6 @@
 // The state of a machine: the frames and the fuel, calls and returns.
 ghost use Rattle.std.specs.Prelude.{◌≡◌, ◌+◌, ◌<◌, ◌^◌, ◌++◌, ◌∷◌, [], ◌-◌, ◌≢◌, ◌≤◌, true, false, MatchBool, Ok, List, IfOk, OnOk, length};
-ghost use Rattle.core_terms.specs.LanguagePrograms.{types_of};
+ghost use Rattle.core_terms.specs.Programs.{types_of};
 ghost use Rattle.core_terms.specs.Terms.{Program as Meant};
 ghost use Rattle.core_terms.specs.Types.{Ty};
 ghost use Rattle.value_store.specs.Nodes.{Node};

@@ -14,8 +14,7 @@ use crate::frame::Frame;
 use crate::limits::SIZE_LIMIT;
 use crate::values::text_in;
 use code_gen::Code;
-use core_terms::Trap;
-use core_terms::language::TextCompare;
+use core_terms::{TextCompare, Trap};
 use std::alloc::AllocError;
 use value_store::{Nodes, Ref};
 

@@ -3,9 +3,9 @@ use Rattle.std.proofs.Common.{◌≡◌, ℕ, zero, suc, ◌≤◌, List, [], �
 use Rattle.core_terms.specs.Values.{Values, UnitV}
 use Rattle.core_terms.specs.Terms as tree
 use Rattle.core_terms.specs.Terms.{Expression, UnitE, function_at, no_function}
-use Rattle.core_terms.specs.LanguagePrograms.{types_of}
-use Rattle.core_terms.specs.LanguageTrees.{arms_in_a_row, function_of}
-use Rattle.core_terms.specs.declared.language.term.Function.{Function}
+use Rattle.core_terms.specs.Programs.{types_of}
+use Rattle.core_terms.specs.ProgramTrees.{arms_in_a_row, function_of}
+use Rattle.core_terms.specs.declared.term.Function.{Function}
 use Rattle.ideal_meaning.specs.Run.{Gives, Ends, IsOut, call}
 use Rattle.ideal_meaning.specs.Ideal.{Opened, ideal_mode}
 use Rattle.ideal_meaning.specs.Table.{eval, eval_arm}

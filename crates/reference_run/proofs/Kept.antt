@@ -8,8 +8,8 @@ use Rattle.core_terms.specs.Formats.{IsFormat, depth_limit}
 use Rattle.core_terms.specs.Values.{Value, UnitV, BoolV, IntV, TextV, PairV, ConV, Values, NoV, AndV, AreIdeal, AuthWithinAll, int_fits, size, depth}
 use Rattle.core_terms.specs.Terms.{Expression, UnitE, BoolE, IntE, TextE, LocalE, PairE, FstE, SndE, NotE, LenE, AuthE, UnauthE, ConE, ArithE, CompareE, TextCompareE, CatE, LetE, IfE, MatchE, CallE, Expressions, NoE, AndE, Arms, NoArm, AndArm, Function, no_function, OnFunction, Program, function_at, HasType, HaveTypes, HaveArms, IsTyped}
 use Rattle.core_terms.specs.Projection.{AllFit}
-use Rattle.core_terms.specs.declared.language.term.Arith.{Arith}
-use Rattle.core_terms.specs.declared.language.term.Arith.TheVariants.{Add, Sub, Mul, Div, Rem}
+use Rattle.core_terms.specs.declared.term.Arith.{Arith}
+use Rattle.core_terms.specs.declared.term.Arith.TheVariants.{Add, Sub, Mul, Div, Rem}
 use Rattle.core_terms.proofs.Numbers.{mag_of, of_mag}
 use Rattle.core_terms.proofs.Fields.{on_fields}
 use Rattle.ideal_meaning.specs.Run.{Traps, Overflow, Run, Gives, Ends, then_run, join, bool_in, int_in, text_in, tag_in, fields_in, divided, arith_of, choose, limited, run, run_all, run_arm, call}

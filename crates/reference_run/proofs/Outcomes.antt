@@ -4,9 +4,9 @@ use Rattle.std.specs.declared.alloc.Global.{Global}
 use Rattle.core_terms.specs.Formats.{IsFormat}
 use Rattle.core_terms.specs.Values.{Value, Values}
 use Rattle.core_terms.specs.Terms.{IsTyped, function_at}
-use Rattle.core_terms.specs.LanguagePrograms.{meaning, types_of}
-use Rattle.core_terms.specs.LanguageTrees.{function_of}
-use Rattle.core_terms.specs.declared.language.program.Program.{Program}
+use Rattle.core_terms.specs.Programs.{meaning, types_of}
+use Rattle.core_terms.specs.ProgramTrees.{function_of}
+use Rattle.core_terms.specs.declared.program.Program.{Program}
 use Rattle.core_terms.specs.declared.outcome.Trap.{Trap}
 use Rattle.core_terms.specs.declared.outcome.Outcome.TheVariants as told
 use Rattle.core_terms.proofs.LawProofs.{first_format_is_format, typing_test_is_exact}

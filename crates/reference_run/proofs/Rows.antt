@@ -2,7 +2,7 @@
 use Rattle.std.proofs.Common.{◌≡◌, ℕ, zero, suc, ◌≤◌, List, [], ◌∷◌, ◌++◌, length, drop, refl, ap, ◌∙◌, arith}
 use Rattle.core_terms.specs.Values.{Value, Values, NoV, AndV}
 use Rattle.core_terms.specs.Terms.{Expression, NoE, AndE}
-use Rattle.core_terms.specs.LanguageTrees.{in_a_row}
+use Rattle.core_terms.specs.ProgramTrees.{in_a_row}
 use Rattle.core_terms.specs.Terms as tree
 use Rattle.ideal_meaning.specs.Run.{Gives, Ends, then_run, join}
 use Rattle.ideal_meaning.specs.Ideal.{Opened}

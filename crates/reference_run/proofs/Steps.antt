@@ -3,8 +3,8 @@ use Rattle.std.proofs.Common.{◌≡◌, ℕ, List, map, Result, sym, ap, subst,
 use Rattle.std.specs.declared.alloc.Global.{Global}
 use Rattle.core_terms.specs.Values.{Value, Values}
 use Rattle.core_terms.specs.Terms.{Expression}
-use Rattle.core_terms.specs.LanguageTrees.{in_a_row}
-use Rattle.core_terms.specs.declared.language.term.Term.{Term}
+use Rattle.core_terms.specs.ProgramTrees.{in_a_row}
+use Rattle.core_terms.specs.declared.term.Term.{Term}
 use Rattle.ideal_meaning.specs.Run.{then_run}
 use Rattle.ideal_meaning.specs.Ideal.{Opened}
 use Rattle.ideal_meaning.specs.Table.{eval, eval_all}

@@ -5,7 +5,7 @@ use Rattle.std.specs.declared.boxed.Box.{Box}
 use Rattle.core_terms.specs.Values.{UnitV, BoolV, IntV, PairV, ConV, TextV}
 use Rattle.core_terms.specs.Texts.{bytes_of}
 use Rattle.core_terms.specs.declared.term.Text.{Text}
-use Rattle.core_terms.specs.declared.language.types.Tag.{Tag}
+use Rattle.core_terms.specs.declared.types.Tag.{Tag}
 use Rattle.reference_run.specs.PlainValues.{plain_of, plains_of}
 use Rattle.reference_run.specs.declared.values.Plain as plain
 use Rattle.reference_run.specs.declared.values.Plain.{Plain}

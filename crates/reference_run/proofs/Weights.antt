@@ -3,8 +3,8 @@ use denote.Param.Weighed.{at_most, most}
 use Rattle.std.proofs.Common.{◌≡◌, ℕ, suc, ◌+◌, ◌*◌, ◌<◌, ◌≤◌, List, length, slice_get, Some, subst, arith}
 use Rattle.std.proofs.Math.Nat.{mul-le-mul_right, suc-mul}
 use Rattle.std.proofs.lemmas.Option.{get_or_from_slice_get, slice_get_within}
-use Rattle.core_terms.specs.declared.language.term.Function.{Function}
-use Rattle.core_terms.specs.declared.language.term.Term.TheViews.{size-Term}
+use Rattle.core_terms.specs.declared.term.Function.{Function}
+use Rattle.core_terms.specs.declared.term.Term.TheViews.{size-Term}
 
 abbrev pub body_size : Function → ℕ
 body_size f = size-Term f.body

@@ -4,9 +4,9 @@ use Rattle.std.specs.declared.alloc.Global.{Global}
 use Rattle.core_terms.specs.Values.{Value, Values, NoV, AndV}
 use Rattle.core_terms.specs.Terms as tree
 use Rattle.core_terms.specs.Terms.{Expression}
-use Rattle.core_terms.specs.LanguagePrograms.{meaning, types_of}
-use Rattle.core_terms.specs.LanguageTrees.{arms_in_a_row, expression_of, function_of, in_a_row}
-use Rattle.core_terms.specs.declared.language.term.Term.{Term}
+use Rattle.core_terms.specs.Programs.{meaning, types_of}
+use Rattle.core_terms.specs.ProgramTrees.{arms_in_a_row, expression_of, function_of, in_a_row}
+use Rattle.core_terms.specs.declared.term.Term.{Term}
 use Rattle.ideal_meaning.specs.Ideal.{Opened, ideal_mode}
 use Rattle.ideal_meaning.specs.Run.{Gives, then_run, choose, join, bool_in, tag_in, fields_in, call}
 use Rattle.ideal_meaning.specs.Table.{eval, eval_all, eval_arm}

@@ -1,6 +1,6 @@
 // Calls of a program's functions on ideal values.
 ghost use Rattle.std.specs.Prelude.{◌≡◌, ◌≤◌, IfOk, OnOk};
-ghost use Rattle.core_terms.specs.LanguagePrograms.{meaning};
+ghost use Rattle.core_terms.specs.Programs.{meaning};
 ghost use Rattle.core_terms.specs.Terms.{function_at};
 ghost use Rattle.ideal_meaning.specs.Ideal.{ideal, outcome};
 ghost use Rattle.ideal_meaning.specs.Run.{fuel_of};
@@ -10,8 +10,7 @@ ghost use Rattle.reference_run.specs.Telling.{AreArguments, IsPlainOf, plain_out
 use crate::evaluator::Evaluator;
 use crate::stop::Stop;
 use crate::values::Plain;
-use core_terms::language::Program;
-use core_terms::{FunctionId, Outcome};
+use core_terms::{FunctionId, Outcome, Program};
 use std::alloc::{AllocError, Global};
 
 /// Calls a function on these arguments with this much fuel: the outcome is that of the ideal run. A call takes one unit of fuel, and

@@ -1,7 +1,7 @@
 // The evaluator: a recursion on terms, with the values of the locals and the fuel left.
 ghost use Rattle.std.specs.Prelude.{◌≡◌, ◌≤◌, map};
-ghost use Rattle.core_terms.specs.LanguagePrograms.{meaning, types_of};
-ghost use Rattle.core_terms.specs.LanguageTrees.{function_of};
+ghost use Rattle.core_terms.specs.Programs.{meaning, types_of};
+ghost use Rattle.core_terms.specs.ProgramTrees.{function_of};
 ghost use Rattle.reference_run.specs.Evaluations.{ArmEvaluates, BothEvaluate, CallEvaluates, ChoiceEvaluates, Evaluates, LetEvaluates, RowEvaluates};
 ghost use Rattle.reference_run.specs.PlainValues.{plain_of, plains_of};
 ghost use Rattle.reference_run.specs.Telling.{pair_values, row_values};
@@ -13,8 +13,7 @@ use crate::operations::{first, negation, second};
 use crate::stop::Stop;
 use crate::texts::{cat, compare_texts, len};
 use crate::values::{Plain, bool_in, fields_in, tag_in};
-use core_terms::FunctionId;
-use core_terms::language::{Function, Program, Term};
+use core_terms::{Function, FunctionId, Program, Term};
 use std::alloc::Global;
 
 /// What each evaluation needs: the program, its functions, and where memory comes from.

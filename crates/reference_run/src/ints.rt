@@ -7,8 +7,7 @@ ghost use Rattle.reference_run.specs.Telling.{GoesOn, calculation_of, pair_value
 
 use crate::stop::Stop;
 use crate::values::{Plain, int_in};
-use core_terms::Trap;
-use core_terms::language::{Arith, Compare};
+use core_terms::{Arith, Compare, Trap};
 
 /// The result of an operation on two ints.
 pub(crate) fn arith(op: Arith, operands: Result<(Plain, Plain), Stop>) -> Result<Plain, Stop>

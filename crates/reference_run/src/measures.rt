@@ -1,7 +1,7 @@
 // What the limits measure: how long a value's spelling is, and how deep the value is.
 ghost use Rattle.std.specs.Prelude.{◌≡◌, ◌+◌, ℕ, List, [], max, option_map, unwrap_or};
-ghost use Rattle.core_terms.specs.LanguagePrograms.{meaning, types_of};
-ghost use Rattle.core_terms.specs.LanguageTrees.{types_at};
+ghost use Rattle.core_terms.specs.Programs.{meaning, types_of};
+ghost use Rattle.core_terms.specs.ProgramTrees.{types_at};
 ghost use Rattle.core_terms.specs.TypeTables.{type_at};
 ghost use Rattle.core_terms.specs.Types.{NamedTy, PairTy, Table, TextTy, Ty, fields_at};
 ghost use Rattle.core_terms.specs.Values.{ConV, PairV, depth, depths, size, sizes};
@@ -13,8 +13,7 @@ ghost use Rattle.reference_run.specs.Telling.{GoesOn, Tells, pair_values, row_va
 
 use crate::stop::Stop;
 use crate::values::{Plain, pair_of};
-use core_terms::language::{Constructor, NamedId, Program, Tag, TyForm};
-use core_terms::{Trap, TyId};
+use core_terms::{Constructor, NamedId, Program, Tag, Trap, TyForm, TyId};
 use std::alloc::Global;
 
 /// The greatest depth of a new value.

@@ -1,7 +1,7 @@
 // Operations on texts.
 ghost use Rattle.std.specs.Prelude.{◌≡◌, ◌≤◌, ◌++◌, ℕ, List, true, pos, length};
 ghost use Rattle.std.specs.Str.{is_utf8};
-ghost use Rattle.core_terms.specs.LanguagePrograms.{meaning};
+ghost use Rattle.core_terms.specs.Programs.{meaning};
 ghost use Rattle.core_terms.specs.Types.{TextTy};
 ghost use Rattle.core_terms.specs.Values.{BoolV, IntV, TextV};
 ghost use Rattle.ideal_meaning.specs.Ideal.{Opened};
@@ -11,8 +11,7 @@ ghost use Rattle.reference_run.specs.Telling.{GoesOn, Tells, pair_values};
 
 use crate::stop::Stop;
 use crate::values::{Plain, text_in};
-use core_terms::language::{Program, TextCompare};
-use core_terms::{Text, Trap};
+use core_terms::{Program, Text, TextCompare, Trap};
 use std::alloc::Global;
 
 /// The number of bytes of the length in the spelling of a text.

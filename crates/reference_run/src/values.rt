@@ -9,8 +9,7 @@ ghost use Rattle.core_terms.specs.Texts.{bytes_of};
 ghost use Rattle.ideal_meaning.specs.Run as meant;
 ghost use Rattle.reference_run.specs.PlainValues.{plain_of, plains_of, text_bytes};
 
-use core_terms::Text;
-use core_terms::language::Tag;
+use core_terms::{Tag, Text};
 use std::alloc::{AllocError, Global};
 
 /// An ideal value. An ideal value of `auth t` is one of `t`.

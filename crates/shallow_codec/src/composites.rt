@@ -7,7 +7,7 @@ ghost use Rattle.value_store.specs.Standing.{Grows};
 
 use crate::UnspellFault;
 use crate::reader::{Front, Fronts};
-use core_terms::language::{NamedId, Tag};
+use core_terms::{NamedId, Tag};
 use value_store::Nodes;
 
 /// The pair of two values that were read one after the other.

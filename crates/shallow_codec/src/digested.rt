@@ -8,8 +8,7 @@ ghost use Rattle.shallow_codec.specs.ProgramTypes.{table, ty_of};
 ghost use Rattle.value_store.specs.Standing.{Grows, Keeps, ProverNodes, StandsFor};
 
 use crate::spell;
-use core_terms::language::Types;
-use core_terms::{Hash32, TyId};
+use core_terms::{Hash32, TyId, Types};
 use std::alloc::{AllocError, Global};
 use value_store::{Held, Nodes, Ref};
 

@@ -16,8 +16,7 @@ use crate::cursor::Cursor;
 use crate::fields::field_types;
 use crate::leaves::{known_nothing, put_bool, put_digest, put_int, put_text, put_unit};
 use crate::nothings::Nothings;
-use core_terms::TyId;
-use core_terms::language::{NamedId, Tag, TyForm, Types};
+use core_terms::{NamedId, Tag, TyForm, TyId, Types};
 use std::alloc::Global;
 use value_store::{Nodes, Ref};
 

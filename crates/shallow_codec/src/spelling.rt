@@ -10,8 +10,7 @@ ghost use Rattle.shallow_codec.specs.ProgramTypes.{table, ty_of};
 ghost use Rattle.shallow_codec.specs.Spelled.{IsShown, IsSpelledBehind};
 ghost use Rattle.value_store.specs.Standing.{ProverNodes, StandsFor, VerifierNodes};
 
-use core_terms::language::Types;
-use core_terms::{Spelling, TyId};
+use core_terms::{Spelling, TyId, Types};
 use std::alloc::{AllocError, Global};
 use value_store::{Held, Nodes, Ref, View};
 

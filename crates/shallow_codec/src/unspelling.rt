@@ -10,8 +10,7 @@ use crate::UnspellFault;
 use crate::cursor::Cursor;
 use crate::nothings::Nothings;
 use crate::reader::Reader;
-use core_terms::TyId;
-use core_terms::language::Types;
+use core_terms::{TyId, Types};
 use std::alloc::Global;
 use value_store::{Nodes, Ref};
 

@@ -1,7 +1,6 @@
 // Nodes, and their numbers.
 
-use core_terms::Digest;
-use core_terms::language::{NamedId, Tag};
+use core_terms::{Digest, NamedId, Tag};
 
 /// The number of a node in its store.
 #[derive(Clone, Copy, PartialEq)]

@@ -11,7 +11,7 @@ ghost use Rattle.value_store.specs.Standing.{AllStandFor, Holds, Keeps, Kind, St
 use crate::node::{Form, Held, Node, Ref};
 use crate::store::Mark;
 use crate::view::View;
-use core_terms::language::{NamedId, Tag};
+use core_terms::{NamedId, Tag};
 use std::alloc::{AllocError, Global};
 
 /// The number of bytes of the spelling of an int.

@@ -1,7 +1,7 @@
 use Rattle.std.proofs.Common.{◌-◌, ◌++◌, length, map, sym, ap, ◌∙◌, arith}
 use Rattle.std.specs.Vec.Iter.{into_iter_items}
 use Rattle.std.proofs.lemmas.List.{length-map}
-use Rattle.core_terms.specs.LanguagePrograms.{types_of}
+use Rattle.core_terms.specs.Programs.{types_of}
 use Rattle.code_gen.specs.CodeTrees.{instruction_of, instructions_of}
 use Rattle.code_gen.specs.Code.{jump_code, laid}
 use Rattle.code_gen.proofs.Layouts.{arm_fits, left_later, one_laid}

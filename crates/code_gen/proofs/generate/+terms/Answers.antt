@@ -1,6 +1,6 @@
 use Rattle.std.proofs.Common.{subst, sym, ap, ◌∙◌, append-nil, ◌++◌, ◌∷◌, [], map, slice_get, unwrap_or, OnOk, ◌≡◌}
-use Rattle.core_terms.specs.LanguagePrograms.{meaning, types_of}
-use Rattle.core_terms.specs.LanguageTrees.{arms_in_a_row, expression_of}
+use Rattle.core_terms.specs.Programs.{meaning, types_of}
+use Rattle.core_terms.specs.ProgramTrees.{arms_in_a_row, expression_of}
 use Rattle.core_terms.proofs.TermViews.{expression-Constructor, expression-Call}
 use Rattle.code_gen.specs.CodeTrees.{all_of, instructions_of}
 use Rattle.code_gen.specs.Instructions as instruction

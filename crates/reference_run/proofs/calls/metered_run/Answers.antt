@@ -1,5 +1,5 @@
 use Rattle.std.proofs.Common.{Ok, Err}
-use Rattle.core_terms.specs.LanguagePrograms.{meaning}
+use Rattle.core_terms.specs.Programs.{meaning}
 use Rattle.ideal_meaning.specs.Ideal.{ideal}
 use Rattle.reference_run.specs.Telling.{row_values}
 use Rattle.reference_run.proofs.Outcomes.{called_ideally, done, out, plain_held, trapped}

@@ -1,6 +1,6 @@
 use Rattle.std.proofs.Common.{take}
-use Rattle.core_terms.specs.LanguagePrograms.{meaning, types_of}
-use Rattle.core_terms.specs.LanguageTrees.{types_at}
+use Rattle.core_terms.specs.Programs.{meaning, types_of}
+use Rattle.core_terms.specs.ProgramTrees.{types_at}
 use Rattle.core_terms.specs.Values.{depths, sizes}
 use Rattle.reference_run.specs.Measured.{IsMeasured}
 use Rattle.reference_run.specs.PlainValues.{plains_of}

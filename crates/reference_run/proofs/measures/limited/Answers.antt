@@ -1,6 +1,6 @@
 use Rattle.std.proofs.Common.{◌<◌, ◌≤◌, arith, le-ltb, lt-ltb}
 use Rattle.core_terms.specs.Formats.{depth_limit}
-use Rattle.core_terms.specs.LanguagePrograms.{meaning}
+use Rattle.core_terms.specs.Programs.{meaning}
 use Rattle.core_terms.specs.Values.{depth, size}
 use Rattle.reference_run.specs.PlainValues.{plain_of}
 use Rattle.reference_run.proofs.Limits.{above, below, limited_big, limited_deep, limited_gives}

@@ -1,5 +1,5 @@
 use Rattle.std.proofs.Common.{subst}
-use Rattle.core_terms.specs.LanguagePrograms.{meaning}
+use Rattle.core_terms.specs.Programs.{meaning}
 use Rattle.core_terms.specs.Types.{NamedTy}
 use Rattle.core_terms.specs.Values.{ConV}
 use Rattle.ideal_meaning.specs.Run as meant

@@ -4,6 +4,6 @@ use Rattle.core_terms.proofs.types.TyTable.form.Goals as goal
 
 pub returns : goal.returns
 returns c = record {
-  form = rw (c.form_at.ensures, c.deref.ensures.value) (form_means c.args.self.now.forms.items c.args.ty.0 c.args.self.now.in_order);
-  parts = rw (c.form_at.ensures, c.deref.ensures.value) (parts_before c.args.self.now.forms.items c.args.ty.0 c.args.self.now.in_order);
+  form = rw c.form_at.ensures (form_means c.args.self.now.forms.keys c.args.ty.0 c.args.self.now.in_order);
+  parts = rw c.form_at.ensures (parts_before c.args.self.now.forms.keys c.args.ty.0 c.args.self.now.in_order);
 }

@@ -1,20 +1,29 @@
-use Rattle.std.proofs.Common.{inr, refl}
-use Rattle.core_terms.proofs.TypePushing.{types_push, in_order_either, one_number_either, type_there, type_pushed}
+use Rattle.std.proofs.Common.{◌∙◌, ap, Some}
+use Rattle.core_terms.proofs.TypePushing.{in_order_either, one_number_either, types_either, form_either, grows_either, type_there}
+use Rattle.core_terms.specs.TypeTables.{types_of_forms}
+use Rattle.std.proofs.lemmas.Option.{slice_get_within}
 use Rattle.core_terms.proofs.types.TyTable.intern.Goals as goal
-
-pub returns-in-Some-clause-number : goal.returns-in-Some-clause-number
-returns-in-Some-clause-number c = type_there c.args.self.now.forms.items c.in-Some.id.0 c.args.form c.args.self.now.in_order (rw c.deref.ensures.value at c.in-Some.ensures.found)
 
 pub invariant_of-self : goal.invariant_of-self
 invariant_of-self c = record {
-  in_order = in_order_either c.args.self.now.forms.items _ c.args.form c.add.ensures.either c.args.self.now.in_order c.requires.parts;
-  one_number =
-      one_number_either c.args.self.now.forms.items _ c.args.form c.add.ensures.either c.args.self.now.in_order c.args.self.now.one_number c.requires.parts
-      (rw c.deref.ensures.value at (c.in_default.ensures.none refl));
+  in_order = in_order_either c.args.self.now.forms.keys _ c.args.form c.add.ensures.either c.args.self.now.in_order c.requires.parts;
+  one_number = one_number_either c.args.self.now.forms.keys _ c.args.form c.add.ensures.either c.args.self.now.in_order c.args.self.now.one_number c.requires.parts;
 }
 
-pub returns-clause-number : goal.returns-clause-number
-returns-clause-number c = rw (c.in_ok-add.ensures.ok, c.len.ensures, ← c.deref.ensures.len, c.deref.ensures.value) (type_pushed c.args.self.now.forms.items c.args.form)
-
 pub returns-clause-types : goal.returns-clause-types
-returns-clause-types c = inr (rw c.in_ok-add.ensures.ok (types_push c.args.self.now.forms.items c.args.form))
+returns-clause-types c = types_either c.args.self.now.forms.keys _ c.args.form c.add.ensures.either
+
+pub returns-clause-grows : goal.returns-clause-grows
+returns-clause-grows c = grows_either c.args.self.now.forms.keys _ c.args.form c.add.ensures.either
+
+pub returns-clause-within : goal.returns-clause-within
+returns-clause-within c =
+    let order = in_order_either c.args.self.now.forms.keys c.add.new.forms.keys c.args.form c.add.ensures.either c.args.self.now.in_order c.requires.parts in
+    slice_get_within (types_of_forms c.add.new.forms.keys) c.in_ok-number.number _
+    (type_there c.add.new.forms.keys c.in_ok-number.number c.args.form order c.in_ok-number.ensures.number)
+
+pub returns-clause-number : goal.returns-clause-number
+returns-clause-number c =
+    let order = in_order_either c.args.self.now.forms.keys c.add.new.forms.keys c.args.form c.add.ensures.either c.args.self.now.in_order c.requires.parts in
+    type_there c.add.new.forms.keys c.in_ok-number.number c.args.form order c.in_ok-number.ensures.number
+    ∙ ap Some (form_either c.args.self.now.forms.keys c.add.new.forms.keys c.args.form c.add.ensures.either c.requires.parts)

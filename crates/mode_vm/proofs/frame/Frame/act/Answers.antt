@@ -1,5 +1,5 @@
 use Rattle.std.proofs.Common.{ap, ◌∙◌, sym, subst, arith}
-use Rattle.core_terms.specs.LanguagePrograms.{meaning, types_of}
+use Rattle.core_terms.specs.Programs.{meaning, types_of}
 use Rattle.code_gen.specs.CodeTrees.{instruction_of}
 use Rattle.code_gen.specs.Instructions as instruction
 use Rattle.code_gen.specs.Programs.{program_in}

@@ -1,6 +1,6 @@
 use Rattle.std.specs.declared.alloc.AllocError.{AllocError}
 use Rattle.std.proofs.Common.{subst, arith, true, false, refl, ap, sym, ◌∙◌, ◌≡◌}
-use Rattle.core_terms.specs.LanguagePrograms.{types_of}
+use Rattle.core_terms.specs.Programs.{types_of}
 use Rattle.code_gen.specs.Programs.{program_in}
 use Rattle.code_gen.specs.CodeTrees.{instruction_of}
 use Rattle.mode_vm.specs.StateParts.{fuel_after}

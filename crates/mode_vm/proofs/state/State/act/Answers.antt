@@ -1,6 +1,6 @@
 use Rattle.std.proofs.Common.{subst, refl, sym, true, Ok}
 use Rattle.mode_vm.specs.declared.state.State.{State}
-use Rattle.core_terms.specs.LanguagePrograms.{types_of}
+use Rattle.core_terms.specs.Programs.{types_of}
 use Rattle.code_gen.specs.Programs.{program_in}
 use Rattle.code_gen.specs.CodeTrees.{instruction_of}
 use Rattle.mode_vm.specs.Machines.{IsNext}

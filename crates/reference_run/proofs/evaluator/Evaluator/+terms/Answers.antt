@@ -1,10 +1,10 @@
 use denote.Param.Weighed.{at_most, most}
 use Rattle.std.proofs.Common.{◌≡◌, ◌≤◌, ◌+◌, ◌∷◌, ◌∙◌, suc, [], Ok, Err, map, drop, refl, sym, ap, subst, arith}
 use Rattle.std.proofs.lemmas.List.{drop_more}
-use Rattle.core_terms.specs.LanguagePrograms.{types_of}
-use Rattle.core_terms.specs.LanguageTrees.{arms_in_a_row, in_a_row}
+use Rattle.core_terms.specs.Programs.{types_of}
+use Rattle.core_terms.specs.ProgramTrees.{arms_in_a_row, in_a_row}
 use Rattle.core_terms.specs.Values.{IntV, TextV}
-use Rattle.core_terms.specs.declared.language.term.Term.TheViews.{size-Term}
+use Rattle.core_terms.specs.declared.term.Term.TheViews.{size-Term}
 use Rattle.core_terms.proofs.TermViews.{expression-UnitLiteral, expression-BoolLiteral, expression-IntLiteral, expression-TextLiteral, expression-Local, expression-Pair, expression-Fst, expression-Snd, expression-Not, expression-Len, expression-Auth, expression-Unauth, expression-Constructor, expression-Arith, expression-Compare, expression-TextCompare, expression-Cat, expression-Let, expression-If, expression-Match, expression-Call}
 use Rattle.ideal_meaning.specs.Ideal.{ideal_mode}
 use Rattle.ideal_meaning.specs.Run as meant

@@ -1,8 +1,8 @@
 -- What is left decreases: the fuel, and with the same fuel the term. A call's body is smaller than what one unit of fuel weighs.
 use denote.Param.Weighed.{most}
 use Rattle.std.proofs.Common.{◌≡◌, ◌≤◌, ◌+◌, ◌*◌, ℕ, List, max, drop, map}
-use Rattle.core_terms.specs.LanguageTrees.{in_a_row}
-use Rattle.core_terms.specs.declared.language.term.Term.TheViews.{size-Term}
+use Rattle.core_terms.specs.ProgramTrees.{in_a_row}
+use Rattle.core_terms.specs.declared.term.Term.TheViews.{size-Term}
 use Rattle.ideal_meaning.specs.Ideal.{Opened}
 use Rattle.ideal_meaning.specs.Table.{eval_all}
 use Rattle.reference_run.specs.PlainValues.{plains_of}

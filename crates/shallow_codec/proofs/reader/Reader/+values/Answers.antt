@@ -2,7 +2,7 @@ use Rattle.std.proofs.Common.{◌∙◌, refl, List, Err, arith, subst, sym, add
 use Rattle.core_terms.specs.ProgramTypes.{types_by_number}
 use Rattle.core_terms.specs.Reading.{read_value}
 use Rattle.core_terms.specs.TypeTables.{type_at}
-use Rattle.core_terms.specs.declared.language.types.TyForm.TheVariants.{UnitForm, BoolForm, IntForm, TextForm}
+use Rattle.core_terms.specs.declared.types.TyForm.TheVariants.{UnitForm, BoolForm, IntForm, TextForm}
 use Rattle.value_store.specs.CodeNodes.{numbers_of}
 use Rattle.value_store.specs.declared.node.Ref.{Ref}
 use Rattle.std.proofs.lemmas.Result.{err_from_is_err_and}

@@ -1,6 +1,0 @@
-use Rattle.std.proofs.Common.{◌∙◌, sym}
-use Rattle.core_terms.proofs.LanguageTypePushing.{length-types}
-use Rattle.core_terms.proofs.language.types.TyTable.len.Goals as goal
-
-pub returns : goal.returns
-returns c = c.len.ensures.len ∙ sym (length-types c.args.self.now.forms.keys)
