@@ -11,8 +11,7 @@ use Rattle.std.proofs.Math.Seq.{get_or-append_seam}
 use Rattle.std.specs.List.{list_any}
 use Rattle.core_terms.specs.Types.{Ty, UnitTy, BoolTy, IntTy, TextTy, PairTy, NamedTy, AuthTy, Table}
 use Rattle.core_terms.specs.Roles.{some_passes, has_auth_within}
-use Rattle.core_terms.specs.TypeTables.{type_at}
-use Rattle.core_terms.specs.TypeTables.{type_of_form, stands_behind}
+use Rattle.core_terms.specs.TypeTables.{stands_behind, type_at, type_of_form}
 use Rattle.core_terms.specs.ProgramTrees.{table_of, types_at}
 use Rattle.core_terms.specs.AuthMarks.{AreAuthMarks, AreLevelMarks, AreOpenedMarks, is_marked_field, is_marked_type, mark_of_form}
 use Rattle.core_terms.specs.declared.types.TyId.{TyId}
@@ -46,9 +45,6 @@ auth_has_one table (suc opened) t = refl
 pub pair_has : (table : Table) (opened : ℕ) (a b : Ty) → has_auth_within table opened a || has_auth_within table opened b ≡ has_auth_within table opened (PairTy a b)
 pair_has table zero a b = refl
 pair_has table (suc opened) a b = refl
-
-pub none_opened : (table : Table) (n : ℕ) → has_auth_within table 0 (NamedTy n) ≡ false
-none_opened table n = refl
 
 -- levels that agree on the named types agree on all types
 same_level : (table : Table) (j k : ℕ) → ((n : ℕ) → has_auth_within table j (NamedTy n) ≡ has_auth_within table k (NamedTy n))

@@ -1,5 +1,5 @@
 -- What the type of the code's programs says of them: they are well-typed, and their format is one that the laws speak of.
-use Rattle.std.proofs.Common.{◌≡◌, ℕ, ◌<◌, List, length, slice_get, Some, unwrap_or, sym, ap, ◌∙◌, lit<}
+use Rattle.std.proofs.Common.{◌≡◌, ℕ, ◌<◌, List, length, slice_get, Some, sym, ap, ◌∙◌, lit<}
 use Rattle.std.proofs.lemmas.Option.{slice_get-get_or, unwrap_or-slice_get}
 use Rattle.core_terms.specs.Formats.{IsFormat}
 use Rattle.core_terms.specs.Programs.{meaning}

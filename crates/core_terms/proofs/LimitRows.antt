@@ -1,8 +1,8 @@
 -- Which values are within limits: of what is authenticated, of each of some values, and in a program's format.
-use Rattle.std.proofs.Common.{◌≤◌, ℕ, List, [], ◌∷◌, true, arith}
+use Rattle.std.proofs.Common.{◌≤◌, [], ◌∷◌, true, arith}
 use Rattle.std.specs.Prelude.{pos, replicate}
-use Rattle.core_terms.specs.Types.{Ty, BoolTy, IntTy, TextTy, PairTy, NamedTy, AuthTy}
-use Rattle.core_terms.specs.Values.{Value, BoolV, IntV, TextV, PairV, NoV, AndV, IsWithin, AreWithin, AuthWithin}
+use Rattle.core_terms.specs.Types.{BoolTy, IntTy, TextTy, PairTy, NamedTy, AuthTy}
+use Rattle.core_terms.specs.Values.{Value, BoolV, IntV, TextV, PairV, NoV, AndV, AreWithin, AuthWithin}
 use Rattle.core_terms.specs.Projection.{AllFit, Fits}
 use Rattle.core_terms.specs.FormatRows.{other_program}
 use Rattle.core_terms.specs.ValueRows.{of_three, two_types}

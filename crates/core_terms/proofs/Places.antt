@@ -1,5 +1,5 @@
 -- The first place in a list whose element passes a test.
-use Rattle.std.proofs.Common.{◌≡◌, ℕ, suc, Bool, true, false, ◌&&◌, List, [], ◌∷◌, map, Some, None, option_map, bytes_eq, if◌then◌else◌, refl, ap, ◌∙◌, sym, cond, not, nat_lt, length, ◌+◌, lt-ltb, ltb-true, arith}
+use Rattle.std.proofs.Common.{◌≡◌, ℕ, suc, Bool, true, false, List, [], ◌∷◌, map, Some, None, option_map, if◌then◌else◌, refl, ap, ◌∙◌, sym, cond, not, nat_lt, length, ◌+◌, lt-ltb, ltb-true, arith}
 use Rattle.std.specs.List.{position, position_or_len}
 
 -- the test of two numbers is that of their successors

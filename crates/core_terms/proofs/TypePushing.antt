@@ -5,7 +5,6 @@ use Rattle.std.proofs.Math.Seq.{get_or-append_seam}
 use Rattle.std.proofs.lemmas.Bool.{ltb-false, eqb-true}
 use Rattle.std.proofs.lemmas.List.{get_or_past}
 use Rattle.std.proofs.lemmas.Option.{slice_get-get_or, slice_get_within, get_or_from_slice_get}
-use Rattle.std.proofs.lemmas.Grind.{common_steps}
 use Rattle.std.specs.List.{list_any, position}
 use Rattle.std.proofs.lemmas.List.Quantifiers.{position-Some}
 use Rattle.std.proofs.lemmas.List.Folds.{list_any_at}
@@ -107,16 +106,6 @@ type_there forms i form h at =
     let inside : i < length (types_of_forms forms) = rw (length-types forms) (slice_get_within forms i form at) in
     let means = form_means forms i h in
     slice_get-get_or (types_of_forms forms) i UnitTy inside ∙ ap Some (sym means ∙ ap (type_of_form (types_of_forms forms)) (get_or_from_slice_get forms i form UnitForm at))
-
-pub type_pushed : (forms : List TyForm) (form : TyForm) → slice_get (types_of_forms (forms ++ form ∷ [])) (length forms) ≡ Some (type_of_form (types_of_forms forms) form)
-type_pushed forms form =
-    let types = types_of_forms forms in
-    let t = type_of_form types form in
-    let inside : length types < length (types ++ t ∷ []) = rw length-append (grind (arith, common_steps)) in
-    ap (λ ts. slice_get ts (length forms)) (types_push forms form)
-    ∙ ap (λ n. slice_get (types ++ t ∷ []) n) (sym (length-types forms))
-    ∙ slice_get-get_or (types ++ t ∷ []) (length types) UnitTy inside
-    ∙ ap Some (get_or-append_seam types t [] UnitTy)
 
 -- a form that isn't there is that of no type which is
 pub no_type : (forms : List TyForm) (form : TyForm) → is_in_order 0 forms ≡ true → HasOneNumber (types_of_forms forms) → ((i : ℕ) → slice_get forms i ≢ Some form)

@@ -4,13 +4,12 @@ ghost use Rattle.std.specs.List.{All, list_all, position};
 ghost use Rattle.std.proofs.Props.{props};
 ghost use Rattle.core_terms.specs.TypeNames.{AreNamed};
 ghost use Rattle.core_terms.specs.ProgramTrees.{function_of, has_fields_below, has_types_below, is_within, program_of, types_at};
-ghost use Rattle.core_terms.specs.TypeTables.{HasNoNumber, stands_behind, type_of_form};
+ghost use Rattle.core_terms.specs.TypeTables.{HasNoNumber, stands_behind, type_at, type_of_form};
 ghost use Rattle.core_terms.specs.ProgramLimits.{IsWithinLimits};
 ghost use Rattle.core_terms.specs.ProgramTypes.{program_with, types_by_number};
 ghost use Rattle.core_terms.specs.RoleViews.{has_role_below, role_of};
 ghost use Rattle.core_terms.specs.Roles.{HasRoleShape, has_auth, role_function, role_named, program_roles, roles_set};
 ghost use Rattle.core_terms.specs.Terms.{function_at, kinds_set};
-ghost use Rattle.core_terms.specs.TypeTables.{type_at};
 ghost use Rattle.core_terms.specs.Types.{fields_at, has_numbers, has_tags, types_set};
 ghost use Rattle.core_terms.specs.Typing.{is_shaped, is_typed};
 

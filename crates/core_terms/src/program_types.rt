@@ -5,9 +5,8 @@ ghost use Rattle.std.proofs.Props.{props};
 ghost use Rattle.core_terms.specs.AuthMarks.{AreAuthMarks};
 ghost use Rattle.core_terms.specs.TypeNames.{AreNamed};
 ghost use Rattle.core_terms.specs.ProgramTrees.{are_types_within, has_fields_below, table_of, types_at};
-ghost use Rattle.core_terms.specs.TypeTables.{HasNoNumber, stands_behind, type_of_form, types_of_forms};
+ghost use Rattle.core_terms.specs.TypeTables.{HasNoNumber, stands_behind, type_at, type_of_form, types_of_forms};
 ghost use Rattle.core_terms.specs.Roles.{has_auth};
-ghost use Rattle.core_terms.specs.TypeTables.{type_at};
 ghost use Rattle.core_terms.specs.Types.{fields_at, has_numbers, has_tags};
 
 use crate::marks::{auth_marks, is_marked};

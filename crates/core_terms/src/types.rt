@@ -1,7 +1,6 @@
 // Types by number, in a table in which equal types have one number.
 ghost use Rattle.std.specs.Prelude.{◌≡◌, ◌≢◌, true, ◌<◌, ◌≤◌, ◌++◌, ◌⊎◌, ◌∷◌, [], ℕ, length, Some, slice_get, IfOk, IfSome, IsNone, IsTrue, OnErr, ◌↔◌, slice_index_or};
-ghost use Rattle.core_terms.specs.TypeTables.{HasOneNumber, type_at};
-ghost use Rattle.core_terms.specs.TypeTables.{HasNoNumber, IsWithForm, is_in_order, stands_behind, type_of_form, types_of_forms};
+ghost use Rattle.core_terms.specs.TypeTables.{HasNoNumber, HasOneNumber, IsWithForm, is_in_order, stands_behind, type_at, type_of_form, types_of_forms};
 
 use indexmap::IndexSet;
 use std::alloc::{AllocError, Global};

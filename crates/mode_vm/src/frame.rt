@@ -86,6 +86,8 @@ impl Frame {
     }
 
     /// Does an instruction that changes the running frame alone: it goes on behind the instruction, or it traps.
+    // The machine calls it for each instruction, in each of its modes, so LLVM would not inline it by itself.
+    #[inline(always)]
     pub(crate) fn act<N: Nodes>(
         &mut self,
         code: &Code,

@@ -176,6 +176,8 @@ impl State {
     }
 
     /// Does an instruction that asks nothing of the mode.
+    // The machine calls it for each instruction, in each of its modes, so LLVM would not inline it by itself.
+    #[inline(always)]
     pub(crate) fn act<N: Nodes>(
         &mut self,
         code: &Code,

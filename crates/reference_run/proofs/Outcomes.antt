@@ -1,15 +1,14 @@
 -- What a call from outside tells.
-use Rattle.std.proofs.Common.{◌≡◌, ℕ, [], map, Result, Ok, Err, refl, sym, ap, subst, le_refl, lit<, Vec}
+use Rattle.std.proofs.Common.{◌≡◌, ℕ, [], map, Result, Ok, Err, refl, sym, ap, subst, le_refl, Vec}
 use Rattle.std.specs.declared.alloc.Global.{Global}
-use Rattle.core_terms.specs.Formats.{IsFormat}
 use Rattle.core_terms.specs.Values.{Value, Values}
-use Rattle.core_terms.specs.Terms.{IsTyped, function_at}
+use Rattle.core_terms.specs.Terms.{function_at}
 use Rattle.core_terms.specs.Programs.{meaning, types_of}
 use Rattle.core_terms.specs.ProgramTrees.{function_of}
 use Rattle.core_terms.specs.declared.program.Program.{Program}
 use Rattle.core_terms.specs.declared.outcome.Trap.{Trap}
 use Rattle.core_terms.specs.declared.outcome.Outcome.TheVariants as told
-use Rattle.core_terms.proofs.LawProofs.{first_format_is_format, typing_test_is_exact}
+use Rattle.core_terms.proofs.CodePrograms.{is_format, is_typed}
 use Rattle.ideal_meaning.specs.Run.{Gives, fuel_of}
 use Rattle.ideal_meaning.specs.Ideal as ideal
 use Rattle.ideal_meaning.specs.Ideal.{ideal, outcome}
@@ -55,8 +54,6 @@ pub plain_held : (p : Program) (f : ℕ) (vs : Values) (k left : ℕ) (v : Plain
     → IsPlainOf (meaning p) (function_at (meaning p) f).result (told.Done v)
 plain_held p f vs k left v h arguments =
     let P = meaning p in
-    let typed : IsTyped P = (typing_test_is_exact P).0 p.typed in
-    let format : IsFormat P.format = first_format_is_format 1024 (lit< tt) in
     let t = (function_at P f).result in
-    let held : Held P format t (plain_of v) = subst (Holds (Held P format t)) h.1 (ideal_holds P format typed f vs k arguments.0 arguments.1 arguments.2) in
+    let held : Held P (is_format p) t (plain_of v) = subst (Holds (Held P (is_format p) t)) h.1 (ideal_holds P (is_format p) (is_typed p) f vs k arguments.0 arguments.1 arguments.2) in
     (held.ideal, held.within, held.deep tt)

@@ -1,4 +1,4 @@
-//! The whole language, run by a slow evaluator over trees: it says what the ideal meaning of a program is, and is there to test
+//! The language, run by a slow evaluator over trees: it says what the ideal meaning of a program is, and is there to test
 //! the machine against.
 //!
 //! [`plain_run`] calls a function on ideal values, which are trees of their own ([`Plain`]), and gives what the ideal run of the
