@@ -13,7 +13,7 @@ use Rattle.images.specs.SavedImages.{saved_image}
 
 -- programs with a state of this type: without named types, and with these
 abbrev with_types : Table → Ty → Program
-with_types types t = record { format = first_format 0; types = types; state = t; functions = [] }
+with_types types t = record { format = first_format 1024; types = types; state = t; functions = [] }
 
 abbrev with_state : Ty → Program
 with_state = with_types []

@@ -1,26 +1,47 @@
 -- The records that the code reads, as those of the definitions.
-use Rattle.std.specs.Prelude.{◌≡◌, true, Result, Ok, Err}
-use Rattle.std.specs.Str.{is_utf8}
-use Rattle.images.specs.Records.{RecordRead, ReadRecord, CutRecord, NoRecord}
+use Rattle.std.specs.Prelude.{◌≡◌, ◌*◌, ℕ, true, List, length, Option, Some, None, Result, Ok, Err}
+use Rattle.std.specs.Borrow.{Bor}
+use Rattle.core_terms.specs.ProgramTypes.{types_by_number, types_meaning}
+use Rattle.core_terms.specs.LanguageTrees.{are_below, types_at}
+use Rattle.core_terms.specs.Types.{NamedTy, fields_at}
+use Rattle.core_terms.specs.declared.language.program_types.Types.{Types}
+use Rattle.core_terms.specs.declared.types.TyId.{TyId}
+use Rattle.images.specs.Images.{field_count}
+use Rattle.images.specs.Parts.{is_part}
+use Rattle.images.specs.Records.{RecordRead, ReadRecord, CutRecord, NoRecord, numbers_of}
 use Rattle.images.specs.Records as meant
 use Rattle.images.specs.declared.record.Front.{Front}
 use Rattle.images.specs.declared.record.Record.{Record}
-use Rattle.images.specs.declared.record.Record.TheVariants.{UnitRecord, BoolRecord, IntRecord, TextRecord, PairRecord, AuthRecord}
+use Rattle.images.specs.declared.record.Record.TheVariants.{Unit as UnitRecord, Bool as BoolRecord, Int as IntRecord, Text as TextRecord, Pair as PairRecord, Constructor as OfConstructor, Auth as AuthRecord}
 use Rattle.images.specs.declared.record.RecordFault.{RecordFault}
 use Rattle.images.specs.declared.record.RecordFault.TheVariants.{Cut, Bad}
 
+-- the record of the definitions that a record stands for
 abbrev pub record_told : Record → meant.Record
 record_told UnitRecord = meant.UnitRecord
 record_told (BoolRecord b) = meant.BoolRecord b
 record_told (IntRecord z) = meant.IntRecord z
-record_told (TextRecord bytes) = meant.TextRecord bytes.now
+record_told (TextRecord text) = meant.TextRecord text.now
 record_told (PairRecord first second) = meant.PairRecord first second
+record_told (OfConstructor c) = meant.ConRecord c.named.0 c.tag.0 (numbers_of (length c.fields.now) c.numbers.now)
 record_told (AuthRecord inner) = meant.AuthRecord inner
 
--- the bytes of a text are UTF-8
-abbrev pub HasText : Record → Type 0
-HasText (TextRecord bytes) = is_utf8 bytes.now ≡ true
-HasText r = Unit {0}
+-- These are the types of the fields of the constructor, whose type is a part of the state's, and they are in the program's table; or there is no
+-- such constructor.
+abbrev pub AreFieldsOf : Types → (number tag : ℕ) → Option (Bor (List TyId)) → Type 0
+AreFieldsOf p number tag None = (size : ℕ) → field_count (types_meaning p) size number tag ≡ None
+AreFieldsOf p number tag (Some fields) = (is_part (types_meaning p).types (NamedTy number) (types_meaning p).state ≡ true)
+    × (fields_at (types_meaning p).types number tag ≡ Some (types_at (types_by_number p) fields.now))
+    × (are_below (length (types_by_number p)) fields.now ≡ true)
+
+-- A record of a constructor is of one whose type is a part of the state's; it has the types of its fields, which are in the program's table, and
+-- 4 bytes for each.
+abbrev pub HasConstructor : Types → Record → Type 0
+HasConstructor p (OfConstructor c) = (is_part (types_meaning p).types (NamedTy c.named.0) (types_meaning p).state ≡ true)
+    × (fields_at (types_meaning p).types c.named.0 c.tag.0 ≡ Some (types_at (types_by_number p) c.fields.now))
+    × (are_below (length (types_by_number p)) c.fields.now ≡ true)
+    × (length c.numbers.now ≡ 4 * length c.fields.now)
+HasConstructor p r = Unit {0}
 
 -- the result tells what stands at the front: a record and the bytes behind it, or why there is none
 abbrev pub IsRead : RecordRead → Result Front RecordFault → Type 0

@@ -11,18 +11,15 @@ use std::alloc::{AllocError, Global};
 /// The bytes that an image begins with.
 const MAGIC: [u8; 4] = *b"LAI1";
 
-/// The number of bytes of the header: the magic, the digest of the program's text, and the number of records.
-pub(crate) const HEADER_LENGTH: usize = 40;
-
 /// What the header of an image says, and the bytes behind it.
 #[derive(Clone, Copy)]
-pub struct Header<'a> {
+pub(crate) struct Header<'a> {
     pub count: u32,
     pub records: &'a [u8],
 }
 
 /// The header of an image of the program whose text has this digest. An error is `Magic`, `Cut` or `OtherProgram`.
-pub fn read_header<'a>(digest: &Digest, bytes: &'a [u8]) -> Result<Header<'a>, ImageFault>
+pub(crate) fn read_header<'a>(digest: &Digest, bytes: &'a [u8]) -> Result<Header<'a>, ImageFault>
     ensures { IsHeaded (λ go. headed digest.now.0 bytes.now go) result }
 {
     let Some((magic, behind)) = bytes.split_first_chunk::<4>() else {
@@ -47,7 +44,7 @@ pub fn read_header<'a>(digest: &Digest, bytes: &'a [u8]) -> Result<Header<'a>, I
 }
 
 /// The header of an image of so many records, of the program whose text has the digest with these 32 bytes.
-pub fn write_header(alloc: Global, digest: &[u8], count: u32) -> Result<Vec<u8>, AllocError>
+pub(crate) fn write_header(alloc: Global, digest: &[u8], count: u32) -> Result<Vec<u8>, AllocError>
     ensures { IfOk result (λ bytes. bytes.items ≡ image_magic ++ digest.now ++ to_be_bytes w32 count) }
 {
     let mut bytes = MAGIC.to_vec(alloc)?;
@@ -57,7 +54,7 @@ pub fn write_header(alloc: Global, digest: &[u8], count: u32) -> Result<Vec<u8>,
 }
 
 /// The 32 bytes of a digest.
-pub fn digest_bytes(digest: &Digest) -> &[u8]
+pub(crate) fn digest_bytes(digest: &Digest) -> &[u8]
     ensures bytes { result.now ≡ digest.now.0 }
     ensures length { length result.now ≡ 32 }
 {

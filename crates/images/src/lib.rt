@@ -1,19 +1,23 @@
 //! Images: the bytes that keep an ideal value of a program's state.
 //!
-//! `specs/` says what an image is, for the whole language: which bytes are one, what its first fault is where they aren't, and the one
-//! image that is written for a value. [`load_image`] and [`save_image`] are for a fragment of the language: the types `unit`, `bool`,
-//! `int`, `text` and `auth`.
+//! `specs/` says what an image is: which bytes are one, what its first fault is where they aren't, and the one image that is written for a
+//! value. [`load_image`] puts each record as one node of a store, so what the records share the store shares; [`save_image`] writes each
+//! distinct part of a value once, and takes time linear in the records, however large the value is as a tree. What it writes loads to the
+//! value.
 #![tactic(auto)]
 
+mod entries;
 mod fault;
-pub mod header;
-mod kept;
+mod fields;
+mod header;
+pub mod laws;
 mod load;
-mod plain_type;
-pub mod record;
+mod part_types;
+mod parts;
+mod record;
 mod save;
+mod stored;
 
 pub use fault::{ImageFault, SaveFault};
-pub use load::load_image;
-pub use plain_meaning::Plain;
+pub use load::{Loaded, load_image};
 pub use save::save_image;

@@ -1,186 +1,170 @@
-// Loading an image: record by record, and then the root.
-ghost use Rattle.std.specs.Prelude.{◌≡◌, ℕ, [], length, IfOk, Some, true};
-ghost use Rattle.core_terms.specs.Programs.{meaning};
-ghost use Rattle.core_terms.specs.declared.program.Program as code;
-ghost use Rattle.images.specs.Images.{checked_entry, entry, field_count, image_of, last, rooted, with_record};
+// Loading the records of an image into a store.
+ghost use Rattle.std.specs.Prelude.{ℕ, List, [], IfOk};
+ghost use Rattle.core_terms.specs.ProgramTypes.{types_by_number, types_meaning};
+ghost use Rattle.images.specs.Images.{Entry, checked_entry, field_count, image_of, last, rooted};
 ghost use Rattle.images.specs.Images as meant;
-ghost use Rattle.images.specs.KeptValues.{entries_of, entry_of, leaf_type, leaf_value};
-ghost use Rattle.images.specs.Loads.{AreLoaded, IsNext, LoadsAs, StandsForEntry};
-ghost use Rattle.images.specs.PlainTypes.{type_of};
-ghost use Rattle.plain_meaning.specs.PlainValues.{plain_of};
-ghost use Rattle.images.specs.ReadRecords.{HasText, record_told};
 ghost use Rattle.images.specs.Records as defined;
-ghost use Rattle.core_terms.specs.Types.{TextTy};
-ghost use Rattle.core_terms.specs.Values.{IsIdeal, TextV};
-ghost use Rattle.std.specs.Str.{is_utf8};
+ghost use Rattle.images.specs.LoadedRoots.{LoadsOver};
+ghost use Rattle.images.specs.LoadedRecords.{AreLoaded, IsRecordFront, IsRoot};
+ghost use Rattle.images.specs.PartMarks.{IsMarksOf};
+ghost use Rattle.images.specs.ReadRecords.{HasConstructor, record_told};
+ghost use Rattle.images.specs.StoredRecords.{AreStored, IsLoaded};
+ghost use Rattle.value_store.specs.Markings.{Marking};
+ghost use Rattle.value_store.specs.Nodes.{Node};
+ghost use Rattle.value_store.specs.Standing.{Keeps};
+ghost use Rattle.value_store.specs.Stores.{nodes_in};
 
-use crate::header::read_header;
-use crate::kept::{Kept, Leaf, LentText};
-use crate::plain_type::{LeafType, PlainType};
+use crate::ImageFault;
+use crate::entries::{authenticated, bool, constructor, int, pair, text, unit};
+use crate::part_types::PartTypes;
+use crate::parts::PartMarks;
 use crate::record::{Front, Record, RecordFault, read_record};
-use crate::{ImageFault, Plain};
-use core_terms::Program;
+use crate::stored::StoredRecord;
+use core_terms::Digest;
+use core_terms::language::Types;
+use crate::header::{Header, read_header};
 use std::alloc::Global;
+use value_store::{Marker, Ref, Store};
 
-/// The greatest number of bytes of a text: its spelling has 4 more, and at most 65,536.
-const MOST_TEXT: usize = 65_532;
-
-/// What a record stands for, and the bytes behind it.
-#[derive(Clone, Copy)]
-struct Next<'a> {
-    kept: Kept<'a>,
-    rest: &'a [u8],
+/// The records of an image as nodes of a store, and the root: the last of them, which stands for a state of the program.
+#[derive(Drop)]
+pub struct Loaded {
+    pub store: Store,
+    pub root: Ref,
 }
 
 /// What all records stand for, and the bytes behind them.
 #[derive(Drop)]
 struct Records<'a> {
-    kept: Vec<Kept<'a>>,
+    store: Store,
+    loaded: Vec<StoredRecord>,
     rest: &'a [u8],
 }
 
-/// Loads an image of the program's state. No text is copied but the root's, and each record costs as much as any other.
+/// The state that an image keeps, of the program that has these types and whose text has this digest, over nodes of the marker's kind.
+/// Each record is read once and put as one node.
 ///
 /// # Errors
 ///
-/// The first fault in this order: `Magic`, `Cut` in the header, `OtherProgram`; record by record `Cut`, `BadRecord` and `TooBig`;
-/// `RootType`; `Leftover`. `NoMemory` where there is no memory for the records or the value.
-pub fn load_image(alloc: Global, program: &Program, bytes: &[u8]) -> Result<Plain, ImageFault>
-    ensures value { LoadsAs (image_of (meaning program.now) program.now.text_digest.0 bytes.now) result }
-    ensures ideal { IfOk result (λ plain. IsIdeal (meaning program.now).types (meaning program.now).state (plain_of plain)) }
-{
-    let header = read_header(program.text_digest(), bytes)?;
-    let state = PlainType::of(program, program.state_type());
-    let records = load_records(alloc, state, header.count, bytes.len(), header.records)?;
-    root(alloc, state, &records)
-}
-
-/// So many records, one after another, in an image of `size` bytes.
-fn load_records<'a>(
+/// The first fault of the image: of its header, then record by record, then of its root and of what stands behind the records. And
+/// `NoMemory` where there is no memory for the nodes.
+pub fn load_image<M: Marker>(
     alloc: Global,
-    state: PlainType,
-    count: u32,
-    size: usize,
-    bytes: &'a [u8],
-) -> Result<Records<'a>, ImageFault>
-    ensures { (p : code.Program) → type_of state ≡ (meaning p).state → AreLoaded (meant.load_records (meaning p) size count [] bytes.now) result }
+    types: &Types,
+    text_digest: &Digest,
+    marker: &mut M,
+    bytes: &[u8],
+) -> Result<Loaded, ImageFault>
+    ensures loads { LoadsOver M.marking (types_meaning types.now) (image_of (types_meaning types.now) text_digest.now.0 bytes.now) result }
 {
-    let mut kept = Vec::new(alloc);
-    let mut rest = bytes;
-    for number in 0..count {
-        let next = next_record(state, &kept, number, size, rest)?;
-        kept.push(next.kept)?;
-        rest = next.rest;
-    }
-    Ok(Records { kept, rest })
-}
-
-/// The record with this number, behind those that are kept.
-fn next_record<'a>(
-    state: PlainType,
-    kept: &[Kept<'a>],
-    number: u32,
-    size: usize,
-    bytes: &'a [u8],
-) -> Result<Next<'a>, ImageFault>
-    requires { number ≡ length kept.now }
-    ensures { (p : code.Program) → type_of state ≡ (meaning p).state → IsNext (λ go. with_record (meaning p) size number (entries_of kept.now)
-        (defined.read_record (field_count (meaning p) size) bytes.now) go) result }
-{
-    let Front { record, rest } = match read_record(bytes) {
-        Ok(front) => front,
-        Err(RecordFault::Cut) => return Err(ImageFault::Cut(size)),
-        Err(RecordFault::Bad) => return Err(ImageFault::BadRecord(number)),
+    let header = read_header(text_digest, bytes)?;
+    let parts = PartMarks::of(alloc, types)?;
+    let part_types = PartTypes {
+        types,
+        parts: &parts,
     };
-    let kept = stands_for(state, kept, number, record)?;
-    Ok(Next { kept, rest })
-}
-
-/// What the record with this number stands for, behind those that are kept: its type is a part of the state's, and its value is within
-/// the limits.
-fn stands_for<'a>(
-    state: PlainType,
-    kept: &[Kept<'a>],
-    number: u32,
-    found: Record<'a>,
-) -> Result<Kept<'a>, ImageFault>
-    requires { HasText found }
-    ensures { (p : code.Program) → type_of state ≡ (meaning p).state → (size : ℕ) → StandsForEntry (λ go. checked_entry (meaning p) size number (meant.stands_for [] (entries_of kept.now) (record_told found.entry)) go) result }
-{
-    match found {
-        Record::UnitRecord => leaf(state, number, Leaf::UnitValue),
-        Record::BoolRecord(value) => leaf(state, number, Leaf::BoolValue(value)),
-        Record::IntRecord(value) => leaf(state, number, Leaf::IntValue(value)),
-        Record::TextRecord(bytes) => text(state, number, bytes),
-        Record::PairRecord(_, _) => Err(ImageFault::BadRecord(number)),
-        Record::AuthRecord(inner) => authenticated(state, kept, number, inner),
-    }
-}
-
-/// A value of a type without parts, which must be a part of the state's. No such value is beyond the limits.
-fn leaf<'a>(state: PlainType, number: u32, leaf: Leaf<'a>) -> Result<Kept<'a>, ImageFault>
-    ensures { (p : code.Program) → type_of state ≡ (meaning p).state → (size : ℕ) → StandsForEntry (λ go. checked_entry (meaning p) size number (Some (entry (leaf_type leaf.entry) (leaf_value leaf.entry))) go) result }
-{
-    let kept = Kept { leaf, layers: 0 };
-    if !kept.plain_type().is_part_of(state) {
-        return Err(ImageFault::BadRecord(number));
-    }
-    Ok(kept)
-}
-
-/// A text, where it is a part of the state's type and within the limits.
-fn text<'a>(state: PlainType, number: u32, bytes: &'a [u8]) -> Result<Kept<'a>, ImageFault>
-    requires { is_utf8 bytes.now ≡ true }
-    ensures { (p : code.Program) → type_of state ≡ (meaning p).state → (size : ℕ) → StandsForEntry (λ go. checked_entry (meaning p) size number (Some (entry TextTy (TextV bytes.now))) go) result }
-{
-    let of_type = PlainType {
-        leaf: LeafType::TextLeaf,
-        layers: 0,
-    };
-    if !of_type.is_part_of(state) {
-        return Err(ImageFault::BadRecord(number));
-    }
-    if bytes.len() > MOST_TEXT {
-        return Err(ImageFault::TooBig(number));
-    }
-    let leaf = Leaf::TextValue(LentText::new(bytes));
-    Ok(Kept { leaf, layers: 0 })
-}
-
-/// An authenticated value, by the number of the record of what is authenticated, which is an earlier one.
-fn authenticated<'a>(
-    state: PlainType,
-    kept: &[Kept<'a>],
-    number: u32,
-    inner: u32,
-) -> Result<Kept<'a>, ImageFault>
-    ensures { (p : code.Program) → type_of state ≡ (meaning p).state → (size : ℕ) → StandsForEntry (λ go. checked_entry (meaning p) size number (meant.stands_for [] (entries_of kept.now) (defined.AuthRecord inner)) go) result }
-{
-    let Some(inner) = kept.get(inner as usize) else {
-        return Err(ImageFault::BadRecord(number));
-    };
-    if !inner.plain_type().is_inside(state) {
-        return Err(ImageFault::BadRecord(number));
-    }
-    Ok(Kept {
-        leaf: inner.leaf,
-        layers: inner.layers + 1,
+    let records = load_records(alloc, &part_types, marker, bytes.len(), header)?;
+    let root = root(types, &records.loaded, records.rest)?;
+    Ok(Loaded {
+        store: records.store,
+        root,
     })
 }
 
-/// The value of the last record, which must be of the state's type; nothing stands behind it.
-fn root(alloc: Global, state: PlainType, records: &Records) -> Result<Plain, ImageFault>
-    ensures value { LoadsAs (rooted (type_of state) (last (entries_of records.now.kept.items)) records.now.rest.now) result }
-    ensures ideal { IfOk result (λ plain. IsIdeal [] (type_of state) (plain_of plain)) }
+/// The records behind the header, one after another, in an image of `size` bytes.
+fn load_records<'a, M: Marker>(
+    alloc: Global,
+    types: &PartTypes<'a>,
+    marker: &mut M,
+    size: usize,
+    header: Header<'a>,
+) -> Result<Records<'a>, ImageFault>
+    requires marked { IsMarksOf types.now.types.now types.now.parts.now }
+    ensures { AreLoaded M.marking (types_meaning types.now.types.now) (types_by_number types.now.types.now) (meant.load_records (types_meaning types.now.types.now) size header.entry.count [] header.entry.records.now) result }
 {
-    let Some(root) = records.kept.last() else {
+    let mut store = Store::new(alloc);
+    let mut loaded = Vec::new(alloc);
+    let mut rest = header.records;
+    for number in 0..header.count {
+        let front = next_front(types, number, size, rest)?;
+        let stored = stored(
+            alloc,
+            types,
+            marker,
+            &mut store,
+            &loaded,
+            number,
+            front.record,
+        )?;
+        loaded.push(stored)?;
+        rest = front.rest;
+    }
+    Ok(Records {
+        store,
+        loaded,
+        rest,
+    })
+}
+
+/// The record with this number, at the front of some bytes of an image of `size`.
+fn next_front<'a>(
+    types: &PartTypes<'a>,
+    number: u32,
+    size: usize,
+    bytes: &'a [u8],
+) -> Result<Front<'a>, ImageFault>
+    requires marked { IsMarksOf types.now.types.now types.now.parts.now }
+    ensures front { IsRecordFront (types_meaning types.now.types.now) size number (defined.read_record (field_count (types_meaning types.now.types.now) size) bytes.now) result }
+    ensures constructor { IfOk result (λ front. HasConstructor types.now.types.now front.record) }
+{
+    match read_record(types.types, types.parts, bytes) {
+        Ok(front) => Ok(front),
+        Err(RecordFault::Cut) => Err(ImageFault::Cut(size)),
+        Err(RecordFault::Bad) => Err(ImageFault::BadRecord(number)),
+    }
+}
+
+/// What the record with this number stands for, behind those that are loaded, put into the store.
+fn stored<M: Marker>(
+    alloc: Global,
+    types: &PartTypes,
+    marker: &mut M,
+    store: &mut Store,
+    loaded: &[StoredRecord],
+    number: u32,
+    found: Record,
+) -> Result<StoredRecord, ImageFault>
+    requires marked { IsMarksOf types.now.types.now types.now.parts.now }
+    requires stored { (entries : List Entry) × AreStored M.marking (types_meaning types.now.types.now) (types_by_number types.now.types.now) (nodes_in store.old) loaded.now entries }
+    requires constructor { HasConstructor types.now.types.now found }
+    ensures loaded { (entries : List Entry) → AreStored M.marking (types_meaning types.now.types.now) (types_by_number types.now.types.now) (nodes_in store.old) loaded.now entries
+        → (size : ℕ) → IsLoaded M.marking (types_meaning types.now.types.now) (types_by_number types.now.types.now) (nodes_in store.new) (λ go. checked_entry (types_meaning types.now.types.now) size number (meant.stands_for (types_meaning types.now.types.now).types entries (record_told found.entry)) go) result }
+    ensures keeps { Keeps (nodes_in store.old) (nodes_in store.new) }
+{
+    match found {
+        Record::Unit => unit(types, store, number),
+        Record::Bool(value) => bool(types, store, number, value),
+        Record::Int(value) => int(types, store, number, value),
+        Record::Text(value) => text(types, store, number, value),
+        Record::Pair(first, second) => pair(types, store, loaded, number, first, second),
+        Record::Constructor(found) => constructor(alloc, types, store, loaded, number, found),
+        Record::Auth(inner) => authenticated(types, marker, store, loaded, number, inner),
+    }
+}
+
+/// The node of the last record, which must be of the state's type; nothing stands behind it.
+fn root(types: &Types, loaded: &[StoredRecord], rest: &[u8]) -> Result<Ref, ImageFault>
+    ensures { (marking : Marking) (nodes : List Node) (entries : List Entry) → AreStored marking (types_meaning types.now) (types_by_number types.now) nodes loaded.now entries
+        → IsRoot marking (types_meaning types.now) nodes (rooted (types_meaning types.now).state (last entries) rest.now) result }
+{
+    let Some(root) = loaded.last() else {
         return Err(ImageFault::RootType);
     };
-    if !root.plain_type().is_same(state) {
+    if !root.is_of(types.state_type()) {
         return Err(ImageFault::RootType);
     }
-    if !records.rest.is_empty() {
-        return Err(ImageFault::Leftover(records.rest.len()));
+    if !rest.is_empty() {
+        return Err(ImageFault::Leftover(rest.len()));
     }
-    Ok(root.leaf.to_plain(alloc)?)
+    Ok(root.value)
 }

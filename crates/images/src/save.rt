@@ -1,94 +1,89 @@
-// Saving a value: its one image.
-ghost use Rattle.std.specs.Prelude.{◌≡◌, ◌≤◌, ◌∷◌, ◌++◌, length, IfOk, OnOk};
-ghost use Rattle.std.specs.Int.{w32, w64, cast_unsigned, to_be_bytes};
-ghost use Rattle.core_terms.specs.Texts.{bytes_of};
-ghost use Rattle.core_terms.specs.Programs.{meaning};
-ghost use Rattle.core_terms.specs.Values.{IsIdeal};
+// Writing the image of a value that stands in a store.
+mod record;
+mod records;
+
+ghost use Rattle.std.specs.Prelude.{◌≡◌, true, ◌<◌, ◌≤◌, ◌∷◌, ◌++◌, [], length, IfOk, OnOk};
+ghost use Rattle.core_terms.specs.ProgramTypes.{types_meaning};
+ghost use Rattle.core_terms.specs.Types.{Table, Ty, has_numbers};
+ghost use Rattle.core_terms.specs.Values.{Value};
 ghost use Rattle.images.specs.Images.{image_of, Root};
-ghost use Rattle.plain_meaning.specs.PlainValues.{plain_of};
-ghost use Rattle.images.specs.SavedImages.{saved_image};
-ghost use Rattle.images.specs.Saves.{IsSaved, layers_bytes, leaf_bytes};
+ghost use Rattle.images.specs.Saves.{IsSaved};
+ghost use Rattle.images.specs.SavedImages.{distinct, saved_image, walk};
+ghost use Rattle.images.specs.LoadedRoots.{IsStateAt};
+ghost use Rattle.images.specs.SavedRecords.{AreSaved};
+ghost use Rattle.images.specs.Frames.{frame_of};
+ghost use Rattle.value_store.specs.Standing.{IdealNodes, StandsFor};
+ghost use Rattle.value_store.specs.Stores.{nodes_in};
 
-use crate::header::{HEADER_LENGTH, digest_bytes, write_header};
-use crate::plain_type::PlainType;
-use crate::{Plain, SaveFault};
-use core_terms::{Program, Text};
+use crate::SaveFault;
+use core_terms::Digest;
+use core_terms::language::Types;
+use crate::header::{digest_bytes, write_header};
+use record::part;
+use records::Records;
 use std::alloc::{AllocError, Global};
+use value_store::{Nodes, Ref, Store};
 
-/// The greatest number of bytes of an image that is written.
-const MOST_IMAGE: usize = 67_108_864;
-
-/// The first byte of the record of an authenticated value.
-const AUTH: u8 = 6;
-
-/// The number of bytes of such a record.
-const AUTH_LENGTH: usize = 5;
-
-/// The image of a value of the program's state: the one that holds each of its parts once, in the order in which a walk from left to right
-/// completes them.
+/// The image of the state that a node stands for: the distinct parts of the value, each once, in the order in which a walk that visits
+/// parts from left to right before the whole first completes them. The node is read over ideal nodes or the prover's. What is written
+/// loads to the state again.
 ///
 /// # Errors
 ///
-/// `TooLong` where the image has more than 67,108,864 bytes, and `NoMemory` where there is no memory for it.
-pub fn save_image(alloc: Global, program: &Program, value: &Plain) -> Result<Vec<u8>, SaveFault>
-    requires { IsIdeal (meaning program.now).types (meaning program.now).state (plain_of value.now) }
-    ensures saved { IsSaved (saved_image (meaning program.now) program.now.text_digest.0 (plain_of value.now)) result }
-    ensures loads { IfOk result (λ image. image_of (meaning program.now) program.now.text_digest.0 image.items ≡ Root (plain_of value.now)) }
+/// `TooLong` exactly where the image has more than 67,108,864 bytes, and `NoMemory` where there is no memory for it.
+pub fn save_image(
+    alloc: Global,
+    types: &Types,
+    text_digest: &Digest,
+    store: &Store,
+    root: Ref,
+) -> Result<Vec<u8>, SaveFault>
+    requires { (v : Value) × IsStateAt (types_meaning types.now) store.now root v }
+    ensures saved { (v : Value) → IsStateAt (types_meaning types.now) store.now root v → IsSaved (saved_image (types_meaning types.now) text_digest.now.0 v) result }
+    ensures loads { (v : Value) → IsStateAt (types_meaning types.now) store.now root v → IfOk result (λ image. image_of (types_meaning types.now) text_digest.now.0 image.items ≡ Root v) }
 {
-    let digest = digest_bytes(program.text_digest());
-    let leaf = leaf_record(alloc, value)?;
-    let layers = PlainType::of(program, program.state_type()).layers;
-    if layers > (MOST_IMAGE - HEADER_LENGTH - leaf.len()) / AUTH_LENGTH {
-        return Err(SaveFault::TooLong);
-    }
-    let layers = layers as u32;
-    let mut image = write_header(alloc, digest, layers + 1)?;
-    image.extend_from_slice(&leaf)?;
-    add_layers(&mut image, layers)?;
+    let digest = digest_bytes(text_digest);
+    let records = records_of(alloc, store, root)?;
+    let mut image = write_header(alloc, digest, records.count() as u32)?;
+    records.write(&mut image)?;
     Ok(image)
 }
 
-/// The record of a value, with no `auth` around its type.
-fn leaf_record(alloc: Global, value: &Plain) -> Result<Vec<u8>, AllocError>
-    ensures bytes { IfOk result (λ bytes. bytes.items ≡ leaf_bytes value.now) }
-    ensures short { IfOk result (λ bytes. length bytes.items ≤ 65537) }
+/// A node on the way to its record, with the number of its parts, from the first on, that have theirs.
+#[derive(Clone, Copy)]
+struct Frame {
+    node: Ref,
+    next: usize,
+}
+
+/// The records of what a node stands for, each once. Nodes on the way to their records wait in a list, so the depth of the value costs no
+/// stack; a node that has its record is not walked again.
+fn records_of(alloc: Global, store: &Store, root: Ref) -> Result<Records, SaveFault>
+    requires { root.0 < length (nodes_in store.now) }
+    ensures saved { (types : Table) (t : Ty) (v : Value) → has_numbers types ≡ true → StandsFor IdealNodes types (nodes_in store.now) root.0 t v → AreSaved types (distinct [] (walk types t v)) result }
 {
-    match value {
-        Plain::UnitValue => [0].to_vec(alloc),
-        Plain::BoolValue(value) => [1, u8::from(*value)].to_vec(alloc),
-        Plain::IntValue(value) => int_record(alloc, *value),
-        Plain::TextValue(text) => text_record(alloc, text),
+    let mut records = Records::new(alloc);
+    let mut frames = Vec::new(alloc);
+    add(&mut frames, root, 0)?;
+    while let Some(frame) = frames.pop() {
+        let view = store.view(frame.node);
+        match part(view, frame.next) {
+            Some(part) => {
+                add(&mut frames, frame.node, frame.next + 1)?;
+                if records.number_of(part).is_none() {
+                    add(&mut frames, part, 0)?;
+                }
+            }
+            None => records.add(frame.node, view)?,
+        }
     }
+    Ok(records)
 }
 
-/// The record of an int.
-fn int_record(alloc: Global, value: i64) -> Result<Vec<u8>, AllocError>
-    ensures { IfOk result (λ bytes. bytes.items ≡ 2 ∷ to_be_bytes w64 (cast_unsigned w64 value)) }
+/// Adds a node that waits for its record, and so many of whose parts have theirs.
+fn add(frames: &mut Vec<Frame>, node: Ref, next: usize) -> Result<(), AllocError>
+    ensures { OnOk result (frames.new.items ≡ frames.old.items ++ frame_of node next ∷ []) }
 {
-    let mut bytes = [2].to_vec(alloc)?;
-    bytes.extend_from_slice(&value.to_be_bytes())?;
-    Ok(bytes)
-}
-
-/// The record of a text.
-fn text_record(alloc: Global, text: &Text) -> Result<Vec<u8>, AllocError>
-    ensures bytes { IfOk result (λ bytes. bytes.items ≡ (3 ∷ to_be_bytes w32 (length (bytes_of text.now))) ++ bytes_of text.now) }
-    ensures short { IfOk result (λ bytes. length bytes.items ≤ 65537) }
-{
-    let text = text.as_bytes();
-    let mut bytes = [3].to_vec(alloc)?;
-    bytes.extend_from_slice(&(text.len() as u32).to_be_bytes())?;
-    bytes.extend_from_slice(text)?;
-    Ok(bytes)
-}
-
-/// Adds the records of so many authenticated values, each of the record before it.
-fn add_layers(image: &mut Vec<u8>, layers: u32) -> Result<(), AllocError>
-    ensures { OnOk result (image.new.items ≡ image.old.items ++ layers_bytes layers) }
-{
-    for inner in 0..layers {
-        image.push(AUTH)?;
-        image.extend_from_slice(&inner.to_be_bytes())?;
-    }
+    frames.push(Frame { node, next })?;
     Ok(())
 }

@@ -2,7 +2,7 @@
 use crate::stage::{add_record, fault_of, image, program_of};
 use std::alloc::{AllocError, Global};
 use std::test::Fail;
-use stored_images::ImageFault;
+use images::ImageFault;
 
 /// A program whose state has parts of every kind but `unit`. The state of the images below is `(Box(5, "ab"), true)`.
 const SHAPES: &[u8] = b"type shape = Dot | Box(int, text); state (shape, auth bool);";

@@ -6,8 +6,6 @@ mod codec;
 #[cfg(test)]
 mod faults;
 #[cfg(test)]
-mod fragment;
-#[cfg(test)]
 mod large;
 #[cfg(test)]
 mod nodes;

@@ -6,7 +6,7 @@ use auth_types::check::check;
 use core_terms::language::{Program, Types};
 use core_terms::{Digest, TyId};
 use std::alloc::{AllocError, Global};
-use stored_images::{ImageFault, load_image, save_image};
+use images::{ImageFault, load_image, save_image};
 use value_store::{Held, Marker, Nodes, Ref, Store};
 
 /// The longest text of a program, in bytes.

@@ -1,36 +1,71 @@
-use Rattle.std.proofs.Common.{◌≡◌, [], Err, ap, ◌∙◌, subst}
-use Rattle.std.proofs.lemmas.Result.{IfOk-weaker, err_from_is_err_and}
-use Rattle.core_terms.specs.Programs.{meaning}
-use Rattle.core_terms.specs.Values.{IsIdeal}
-use Rattle.plain_meaning.specs.PlainValues.{plain_of}
-use Rattle.images.specs.PlainTypes.{type_of}
-use Rattle.images.proofs.LoadedImages.{header_fault, with_header, records_fault, with_records}
+use Rattle.std.proofs.Common.{◌≡◌, Err, sym, subst}
+use Rattle.std.proofs.lemmas.Result.{err_from_is_err_and}
+use Rattle.core_terms.specs.ProgramTypes.{types_by_number, types_meaning}
+use Rattle.value_store.specs.Stores.{nodes_in}
+use Rattle.images.specs.StoredRecords.{AreStored}
+use Rattle.images.proofs.LoadedImages.{fault_told, header_fault, records_fault, root_fault, root_told, with_header}
 use Rattle.images.proofs.load.load_image.Goals as goal
 
-pub returns-in_err-header-clause-value : goal.returns-in_err-header-clause-value
-returns-in_err-header-clause-value c =
+pub returns-in_err-header : goal.returns-in_err-header
+returns-in_err-header g c =
+    let m = g.M.Marker.marking in
+    let types = c.args.types.now in
+    let digest = c.args.text_digest.now.0 in
+    let bytes = c.args.bytes.now in
+    let fault = c.in_err-header.field-0.0 in
     let err = err_from_is_err_and c.from_residual.result c.from_residual.ensures.1 in
-    let same : c.from_residual.result ≡ Err c.in_err-header.field-0.0 = cc in
-    header_fault c.args.program.now c.args.program.now.text_digest.0 c.args.bytes.now c.text_digest.result.now.0 (ap (λ d. d.0) c.text_digest.ensures)
-    c.in_err-header.field-0.0 c.from_residual.result same c.in_err-header.ensures
+    let same : c.from_residual.result ≡ Err fault = cc in
+    record { loads = fault_told m types digest bytes fault c.from_residual.result same (header_fault m types digest bytes fault c.in_err-header.ensures) }
 
-pub returns-in_err-records-clause-value : goal.returns-in_err-records-clause-value
-returns-in_err-records-clause-value c =
-    let p = c.args.program.now in
-    let is = with_header p p.text_digest.0 c.args.bytes.now c.text_digest.result.now.0 (ap (λ d. d.0) c.text_digest.ensures) c.in_ok-header.header c.in_ok-header.ensures in
+pub returns-in_err-records : goal.returns-in_err-records
+returns-in_err-records g c =
+    let m = g.M.Marker.marking in
+    let types = c.args.types.now in
+    let digest = c.args.text_digest.now.0 in
+    let bytes = c.args.bytes.now in
+    let header = c.in_ok-header.header in
+    let fault = c.in_err-records.field-0.0 in
     let err = err_from_is_err_and c.from_residual-in_err-records.result c.from_residual-in_err-records.ensures.1 in
-    let same : c.from_residual-in_err-records.result ≡ Err c.in_err-records.field-0.0 = cc in
-    records_fault p p.text_digest.0 c.args.bytes.now c.in_ok-header.header.count c.in_ok-header.header.records.now is
-    c.in_err-records.field-0.0 c.from_residual-in_err-records.result same (c.in_err-records.ensures p (c.of-state.ensures ∙ c.state_type.ensures))
+    let same : c.from_residual-in_err-records.result ≡ Err fault = cc in
+    record {
+      loads = fault_told m types digest bytes fault c.from_residual-in_err-records.result same
+          (records_fault m types digest bytes header.count header.records.now (with_header m types digest bytes header c.in_ok-header.ensures) fault c.in_err-records.ensures);
+    }
 
-pub returns-clause-value : goal.returns-clause-value
-returns-clause-value c =
-    let p = c.args.program.now in
-    let is = with_header p p.text_digest.0 c.args.bytes.now c.text_digest.result.now.0 (ap (λ d. d.0) c.text_digest.ensures) c.in_ok-header.header c.in_ok-header.ensures in
-    with_records p p.text_digest.0 c.args.bytes.now c.in_ok-header.header.count c.in_ok-header.header.records.now is
-    (type_of c.of-state.result) (c.of-state.ensures ∙ c.state_type.ensures) c.in_ok-records.records c.root.result (c.in_ok-records.ensures p (c.of-state.ensures ∙ c.state_type.ensures)) c.root.ensures.value
+pub returns-in_err-root : goal.returns-in_err-root
+returns-in_err-root g c =
+    let m = g.M.Marker.marking in
+    let types = c.args.types.now in
+    let digest = c.args.text_digest.now.0 in
+    let bytes = c.args.bytes.now in
+    let header = c.in_ok-header.header in
+    let found = c.in_ok-records.records in
+    let records = c.in_ok-records.ensures in
+    let stored = subst (λ loaded. AreStored m (types_meaning types) (types_by_number types) (nodes_in found.store) loaded records.0) (sym c.deref.ensures.value) records.2 in
+    let fault = c.in_err-root.field-0.0 in
+    let err = err_from_is_err_and c.from_residual-in_err-root.result c.from_residual-in_err-root.ensures.1 in
+    let same : c.from_residual-in_err-root.result ≡ Err fault = cc in
+    record {
+      loads = fault_told m types digest bytes fault c.from_residual-in_err-root.result same
+          (root_fault m types digest bytes header.count header.records.now (with_header m types digest bytes header c.in_ok-header.ensures) records.0 found.rest.now records.1
+          fault (c.in_err-root.ensures m (nodes_in found.store) records.0 stored));
+    }
 
-pub returns-clause-ideal : goal.returns-clause-ideal
-returns-clause-ideal c =
-    IfOk-weaker c.root.result (λ plain. IsIdeal [] (type_of c.of-state.result) (plain_of plain)) (λ plain. IsIdeal [] (meaning c.args.program.now).state (plain_of plain))
-    (λ plain ideal. subst (λ t. IsIdeal [] t (plain_of plain)) (c.of-state.ensures ∙ c.state_type.ensures) ideal) c.root.ensures.ideal
+pub returns : goal.returns
+returns g c =
+    let m = g.M.Marker.marking in
+    let types = c.args.types.now in
+    let digest = c.args.text_digest.now.0 in
+    let bytes = c.args.bytes.now in
+    let header = c.in_ok-header.header in
+    let found = c.in_ok-records.records in
+    let records = c.in_ok-records.ensures in
+    let stored = subst (λ loaded. AreStored m (types_meaning types) (types_by_number types) (nodes_in found.store) loaded records.0) (sym c.deref.ensures.value) records.2 in
+    let root = c.in_ok-root.ensures m (nodes_in found.store) records.0 stored in
+    record {
+      loads = (
+        root.0,
+        root_told m types digest bytes header.count header.records.now (with_header m types digest bytes header c.in_ok-header.ensures) records.0 found.rest.now records.1 root.0 root.1,
+        root.2,
+      );
+    }

@@ -1,36 +1,34 @@
-use Rattle.std.proofs.Common.{◌≡◌, ◌-◌, ◌+◌, ◌++◌, ◌∷◌, [], Err, Ok, sym, ap, ◌∙◌, subst, arith, length, length-append}
+use Rattle.std.proofs.Common.{◌≡◌, [], Err, sym, subst}
 use Rattle.std.proofs.lemmas.Result.{err_from_is_err_and}
-use Rattle.core_terms.specs.Programs.{meaning}
+use Rattle.core_terms.specs.ProgramTypes.{types_by_number, types_meaning}
 use Rattle.images.specs.Images.{load_records}
-use Rattle.images.specs.KeptValues.{entries_of}
-use Rattle.images.specs.Loads.{AreLoaded, IsNext}
-use Rattle.images.proofs.Loaded.{next_of, with_next, with_fault}
+use Rattle.value_store.specs.Stores.{nodes_in}
+use Rattle.images.specs.LoadedRecords.{AreLoaded}
+use Rattle.images.proofs.LoadedLists.{loaded_fault, loaded_more, next_fault}
 use Rattle.images.proofs.load.load_records.Goals as goal
 
-pub returns-in_err-next : goal.returns-in_err-next
-returns-in_err-next c = λ p is.
-    let fault =
-    subst (λ kept. IsNext (next_of p c.args.size c.loop-number.number (entries_of kept) c.loop-number.rest.now) (Err c.in_err-next.field-0.0)) c.deref.ensures.value (c.in_err-next.ensures p is) in
-    let told =
-    with_fault p c.args.size c.args.count c.loop-number.number c.loop-number.kept.items c.loop-number.rest.now c.loop-number.invariant.counted c.loop-number-test.true c.in_err-next.field-0.0 fault in
+pub returns-in_err-front : goal.returns-in_err-front
+returns-in_err-front g c =
+    let p = c.args.types.now.types.now in
     let err = err_from_is_err_and c.from_residual.result c.from_residual.ensures.1 in
-    let same : c.from_residual.result ≡ Err c.in_err-next.field-0.0 = cc in
-    subst (λ r. AreLoaded (load_records (meaning p) c.args.size c.args.count [] c.args.bytes.now) r) (sym same)
-    (subst (λ l. AreLoaded l (Err c.in_err-next.field-0.0)) (c.loop-number.invariant.behind p is) told)
+    let same : c.from_residual.result ≡ Err c.in_err-front.field-0.0 = cc in
+    subst (AreLoaded g.M.Marker.marking (types_meaning p) (types_by_number p) (load_records (types_meaning p) c.args.size c.args.header.count [] c.args.header.records.now)) (sym same)
+    (next_fault g.M.Marker.marking c.args.types.now.types.now c.args.size c.args.header.count c.args.header.records.now c.loop-number.number (nodes_in c.loop-number.store) c.loop-number.loaded.items c.loop-number.rest.now c.loop-number.invariant c.loop-number-test.true
+    c.in_err-front.field-0.0 c.in_err-front.ensures.front)
+
+pub returns-in_err-stored : goal.returns-in_err-stored
+returns-in_err-stored g c =
+    let p = c.args.types.now.types.now in
+    let err = err_from_is_err_and c.from_residual-in_err-stored.result c.from_residual-in_err-stored.ensures.1 in
+    let same : c.from_residual-in_err-stored.result ≡ Err c.in_err-stored.field-0.0 = cc in
+    subst (AreLoaded g.M.Marker.marking (types_meaning p) (types_by_number p) (load_records (types_meaning p) c.args.size c.args.header.count [] c.args.header.records.now)) (sym same)
+    (loaded_fault g.M.Marker.marking c.args.types.now.types.now c.args.size c.args.header.count c.args.header.records.now c.loop-number.number (nodes_in c.loop-number.store) c.loop-number.loaded.items c.loop-number.rest.now c.loop-number.invariant c.loop-number-test.true
+    c.in_ok-front.front c.in_ok-front.ensures.front c.deref.result.now c.deref.ensures.value (nodes_in c.stored.new.store) c.stored.result c.stored.ensures.loaded
+    c.in_err-stored.field-0.0 c.in_err-stored.was)
 
 pub loop-number-preserved : goal.loop-number-preserved
-loop-number-preserved c =
-    let pushed : c.push.new.self.items ≡ c.loop-number.kept.items ++ c.in_ok-next.next.kept ∷ [] = c.in_ok-push.ensures.items in
-    record {
-      counted = ap length pushed ∙ length-append c.loop-number.kept.items (c.in_ok-next.next.kept ∷ []) ∙ ap (λ n. n + 1) c.loop-number.invariant.counted;
-      behind = λ p is.
-          ap (λ items. load_records (meaning p) c.args.size (c.args.count - (c.loop-number.number + 1)) (entries_of items) c.in_ok-next.next.rest.now) pushed
-          ∙ with_next p c.args.size c.args.count c.loop-number.number c.loop-number.kept.items c.loop-number.rest.now c.loop-number.invariant.counted c.loop-number-test.true c.in_ok-next.next
-          (subst (λ kept. IsNext (next_of p c.args.size c.loop-number.number (entries_of kept) c.loop-number.rest.now) (Ok c.in_ok-next.next)) c.deref.ensures.value (c.in_ok-next.ensures p is))
-          ∙ c.loop-number.invariant.behind p is;
-    }
-
-pub returns : goal.returns
-returns c = λ p is.
-    let none : c.args.count - c.loop-number.number ≡ 0 = omega (arith, c.loop-number-test.false) in
-    sym (c.loop-number.invariant.behind p is) ∙ ap (λ left. load_records (meaning p) c.args.size left (entries_of c.loop-number.kept.items) c.loop-number.rest.now) none
+loop-number-preserved g c =
+    loaded_more g.M.Marker.marking c.args.types.now.types.now c.args.size c.args.header.count c.args.header.records.now c.loop-number.number
+    (nodes_in c.loop-number.store) c.loop-number.loaded.items c.loop-number.rest.now c.loop-number.invariant c.loop-number-test.true
+    c.in_ok-front.front c.in_ok-front.ensures.front c.deref.result.now c.deref.ensures.value (nodes_in c.stored.new.store) c.stored.result c.stored.ensures.loaded
+    c.in_ok-stored.stored c.in_ok-stored.was c.stored.ensures.keeps c.push.new.self.items c.in_ok-push.ensures.items

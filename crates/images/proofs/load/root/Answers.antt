@@ -1,13 +1,24 @@
-use Rattle.std.proofs.Common.{◌≡◌, true}
-use Rattle.core_terms.specs.Typing.{same_type}
-use Rattle.images.specs.KeptValues.{leaf_type}
-use Rattle.images.specs.PlainTypes.{type_of}
-use Rattle.plain_meaning.specs.PlainValues.{plain_of}
-use Rattle.images.proofs.IdealRoots.{root_ideal}
+use Rattle.std.proofs.Common.{sym}
+use Rattle.images.proofs.Roots.{is_none, is_some, left_over, other_root, root_found}
+use Rattle.images.proofs.TypeNumbers.{state_number}
 use Rattle.images.proofs.load.root.Goals as goal
 
-pub returns-clause-ideal : goal.returns-clause-ideal
-returns-clause-ideal c =
-    let root = c.in-Some.root.now in
-    let same : same_type (type_of c.plain_type.result) (type_of c.args.state) ≡ true = cc in
-    root_ideal root.layers (leaf_type root.leaf) (type_of c.plain_type.result) (type_of c.args.state) (plain_of c.in_ok-to_plain.field-0) c.plain_type.ensures.of_type same c.in_ok-to_plain.ensures.ideal
+pub returns-then-not-is_of : goal.returns-then-not-is_of
+returns-then-not-is_of c marking nodes entries stored =
+    other_root marking c.args.types.now nodes c.args.loaded.now entries stored c.args.rest.now c.in-Some.root.now (sym c.in-Some.ensures.value)
+    c.state_type.result (state_number c.args.types.now c.state_type.result c.state_type.ensures.state c.state_type.ensures.within) c.is_of.result
+    c.is_of.ensures c.if-not-is_of.true
+
+pub returns-then-not-is_empty : goal.returns-then-not-is_empty
+returns-then-not-is_empty c marking nodes entries stored =
+    left_over marking c.args.types.now nodes c.args.loaded.now entries stored c.args.rest.now c.in-Some.root.now (sym c.in-Some.ensures.value)
+    c.state_type.result (state_number c.args.types.now c.state_type.result c.state_type.ensures.state c.state_type.ensures.within) c.is_of.result
+    c.is_of.ensures c.if-not-is_of.false
+    (is_some c.args.rest.now c.is_empty.result c.is_empty.ensures c.if-not-is_empty.true)
+
+pub returns : goal.returns
+returns c marking nodes entries stored =
+    root_found marking c.args.types.now nodes c.args.loaded.now entries stored c.args.rest.now c.in-Some.root.now (sym c.in-Some.ensures.value)
+    c.state_type.result (state_number c.args.types.now c.state_type.result c.state_type.ensures.state c.state_type.ensures.within) c.is_of.result
+    c.is_of.ensures c.if-not-is_of.false
+    (is_none c.args.rest.now c.is_empty.result c.is_empty.ensures c.if-not-is_empty.false)

@@ -1,50 +1,52 @@
-use Rattle.std.proofs.Common.{◌≡◌, ◌++◌, ◌<◌, ◌≤◌, ◌+◌, ◌^◌, [], length, sym, ap, ◌∙◌, subst, arith}
-use Rattle.core_terms.specs.Types.{Ty}
-use Rattle.core_terms.specs.Values.{IsIdeal}
-use Rattle.images.specs.PlainTypes.{type_of_leaf}
-use Rattle.plain_meaning.specs.PlainValues.{plain_of}
-use Rattle.images.specs.Saves.{leaf_of, layers_bytes, most_saved}
-use Rattle.images.proofs.Restored.{restored}
-use Rattle.images.proofs.Saved.{ideal_inside, length_written, saved_is, state_is, together, written}
+use Rattle.std.proofs.Common.{◌≡◌, ℕ, [], length, Result, Vec, Global, IfOk, sym, ap, ◌∙◌, subst}
+use Rattle.core_terms.specs.ProgramTypes.{types_meaning}
+use Rattle.core_terms.specs.Values.{Value}
+use Rattle.images.specs.Images.{image_of, Root}
+use Rattle.images.specs.declared.fault.SaveFault.{SaveFault}
+use Rattle.images.specs.SavedImages.{distinct, saved_image, walk}
+use Rattle.images.specs.Saves.{IsSaved}
+use Rattle.value_store.specs.Standing.{IdealNodes}
+use Rattle.value_store.specs.Stores.{nodes_in}
+use Rattle.value_store.proofs.StandingNodes.{there_stands}
+use Rattle.images.specs.LoadedRoots.{IsStateAt}
+use Rattle.images.specs.SavedRecords.{AreSaved}
+use Rattle.images.proofs.LoopFacts.{same_error}
+use Rattle.images.proofs.SavedLoads.{state_loads}
+use Rattle.images.proofs.WholeImages.{image_made, image_refused}
 use Rattle.images.proofs.save.save_image.Goals as goal
 
-pub returns-then-layers-len-clause-saved : goal.returns-then-layers-len-clause-saved
-returns-then-layers-len-clause-saved c =
-    let p = c.args.program.now in
-    let k = c.of-layers.result.layers in
-    let x = c.args.value.now in
-    let is = saved_is x p p.text_digest.0 k (state_is p c.of-layers.result x (c.of-layers.ensures ∙ c.state_type.ensures) c.requires) in
-    let long : length p.text_digest.0 ≡ 32 = sym (ap length (c.digest_bytes-digest.ensures.bytes ∙ ap (λ d. d.0) c.text_digest.ensures)) ∙ c.digest_bytes-digest.ensures.length in
-    let n = length_written x p.text_digest.0 k long in
-    let leaf = ap length c.in_ok-leaf.ensures.bytes in
-    let over : most_saved < length (written x p.text_digest.0 k) = omega (arith, n, leaf, c.in_ok-leaf.ensures.short, c.len.ensures, c.if-layers-len.true) in
-    subst (λ bytes. most_saved < length bytes) (sym is) over
+pub records_of-requires : goal.records_of-requires
+records_of-requires c =
+    let P = types_meaning c.args.types.now in
+    there_stands IdealNodes P.types (nodes_in c.args.store.now) P.state c.requires.0 c.args.root.0 c.requires.1
 
-pub returns-clause-saved : goal.returns-clause-saved
-returns-clause-saved c =
-    let p = c.args.program.now in
-    let k = c.of-layers.result.layers in
-    let x = c.args.value.now in
-    let is = saved_is x p p.text_digest.0 k (state_is p c.of-layers.result x (c.of-layers.ensures ∙ c.state_type.ensures) c.requires) in
-    let long : length p.text_digest.0 ≡ 32 = sym (ap length (c.digest_bytes-digest.ensures.bytes ∙ ap (λ d. d.0) c.text_digest.ensures)) ∙ c.digest_bytes-digest.ensures.length in
-    let n = length_written x p.text_digest.0 k long in
-    let leaf = ap length c.in_ok-leaf.ensures.bytes in
-    let under : length (written x p.text_digest.0 k) ≤ most_saved = omega (arith, n, leaf, c.in_ok-leaf.ensures.short, c.len.ensures, c.if-layers-len.false) in
-    let all = together x p.text_digest.0 c.digest_bytes-digest.result.now c.in_ok-image.image.items c.in_ok-leaf.leaf.items c.add_layers.new.image.items k
-    c.in_ok-image.ensures (c.digest_bytes-digest.ensures.bytes ∙ ap (λ d. d.0) c.text_digest.ensures) c.in_ok-leaf.ensures.bytes
-    (c.in_ok-add_layers.ensures ∙ ap (λ front. front ++ layers_bytes k) (c.in_ok-extend_from_slice.ensures.items ∙ ap (λ leaf. c.in_ok-image.image.items ++ leaf) c.deref.ensures.value)) in
-    (all ∙ sym is, subst (λ bytes. length bytes ≤ most_saved) (sym is) under)
+pub returns-in_err-records : goal.returns-in_err-records
+returns-in_err-records c =
+    let P = types_meaning c.args.types.now in
+    let digest = c.args.text_digest.now.0 in
+    let is_digest : c.digest_bytes-digest.result.now ≡ digest = c.digest_bytes-digest.ensures.bytes in
+    let digest_length : length digest ≡ 32 = ap length (sym is_digest) ∙ c.digest_bytes-digest.ensures.length in
+    record {
+      saved = λ (v : Value) h.
+          let entries = distinct [] (walk P.types P.state v) in
+          let refused = subst (AreSaved P.types entries) c.in_err-records.was (c.records_of.ensures.saved P.types P.state v c.args.types.now.numbers h) in
+          subst (IsSaved (saved_image P digest v)) (sym (same_error c.from_residual.result c.in_err-records.field-0.0 c.from_residual.ensures))
+          (image_refused P digest digest_length v c.in_err-records.field-0.0 refused);
+      loads = λ (v : Value) h.
+          subst (λ (r : Result (Vec ℕ Global) SaveFault). IfOk r (λ image. image_of P digest image.items ≡ Root v))
+          (sym (same_error c.from_residual.result c.in_err-records.field-0.0 c.from_residual.ensures)) tt;
+    }
 
-pub returns-clause-loads : goal.returns-clause-loads
-returns-clause-loads c =
-    let p = c.args.program.now in
-    let k = c.of-layers.result.layers in
-    let x = c.args.value.now in
-    let is = state_is p c.of-layers.result x (c.of-layers.ensures ∙ c.state_type.ensures) c.requires in
-    let long : length p.text_digest.0 ≡ 32 = sym (ap length (c.digest_bytes-digest.ensures.bytes ∙ ap (λ d. d.0) c.text_digest.ensures)) ∙ c.digest_bytes-digest.ensures.length in
-    let ideal = subst (λ (t : Ty). IsIdeal [] t (plain_of x)) is c.requires in
-    let small : k + 1 < 2 ^ 32 = omega (arith, c.in_ok-leaf.ensures.short, c.len.ensures, c.if-layers-len.false) in
-    let all = together x p.text_digest.0 c.digest_bytes-digest.result.now c.in_ok-image.image.items c.in_ok-leaf.leaf.items c.add_layers.new.image.items k
-    c.in_ok-image.ensures (c.digest_bytes-digest.ensures.bytes ∙ ap (λ d. d.0) c.text_digest.ensures) c.in_ok-leaf.ensures.bytes
-    (c.in_ok-add_layers.ensures ∙ ap (λ front. front ++ layers_bytes k) (c.in_ok-extend_from_slice.ensures.items ∙ ap (λ leaf. c.in_ok-image.image.items ++ leaf) c.deref.ensures.value)) in
-    restored p x k p.text_digest.0 c.add_layers.new.image.items (sym is) (ideal_inside k (type_of_leaf (leaf_of x)) (plain_of x) ideal) small long all
+pub returns : goal.returns
+returns c =
+    let P = types_meaning c.args.types.now in
+    let digest = c.args.text_digest.now.0 in
+    let is_digest : c.digest_bytes-digest.result.now ≡ digest = c.digest_bytes-digest.ensures.bytes in
+    let digest_length : length digest ≡ 32 = ap length (sym is_digest) ∙ c.digest_bytes-digest.ensures.length in
+    let saved = λ (v : Value) (h : IsStateAt P c.args.store.now c.args.root v).
+    image_made P digest digest_length v c.in_ok-records.records c.digest_bytes-digest.result.now c.in_ok-image.image.items c.count.result c.write.new.image
+    (c.in_ok-records.ensures.saved P.types P.state v c.args.types.now.numbers h) is_digest c.count.ensures.count c.in_ok-image.ensures c.in_ok-write.ensures in
+    record {
+      saved = saved;
+      loads = λ (v : Value) h. state_loads c.args.types.now digest c.args.store.now c.args.root v c.write.new.image digest_length h (saved v h);
+    }

@@ -1,0 +1,85 @@
+-- Marks of a program's types: whether the type is the state's, or a part of it.
+use Rattle.std.specs.Prelude.{◌≡◌, ◌⊎◌, ℕ, ◌<◌, Bool, true, false, List, [], length, Option, Some, None, option_map, slice_get, slice_index_or, unwrap_or}
+use Rattle.core_terms.specs.Types.{Ty, UnitTy, NamedTy}
+use Rattle.core_terms.specs.ProgramTypes.{types_by_number, types_meaning}
+use Rattle.core_terms.specs.LanguageTypes.{type_of_form}
+use Rattle.core_terms.specs.declared.types.TyId.{TyId}
+use Rattle.core_terms.specs.declared.language.term.Constructor.{Constructor}
+use Rattle.core_terms.specs.declared.language.term.NamedType.{NamedType}
+use Rattle.core_terms.specs.declared.language.types.TyForm.{TyForm}
+use Rattle.core_terms.specs.declared.language.types.TyForm.TheVariants.{AuthForm, PairForm}
+use Rattle.core_terms.specs.declared.language.program_types.Types.{Types}
+use Rattle.images.specs.Parts.{is_part, is_part_within}
+use Rattle.images.specs.declared.parts.PartMarks.{PartMarks}
+
+-- the type with a number
+abbrev pub type_of : Types → ℕ → Ty
+type_of p i = slice_index_or (types_by_number p) i UnitTy
+
+-- the number is marked
+abbrev pub IsMarked : List Bool → ℕ → Type 0
+IsMarked marks i = slice_index_or marks i false ≡ true
+
+-- The marks are as many as the program's types. The mark with a number says whether the type with that number is the state's or a part of it, and
+-- there is no part of the state's type that has no number.
+abbrev pub ArePartMarks : Types → List Bool → Type 0
+ArePartMarks p marks = (length marks ≡ length (types_by_number p))
+    × ((i : ℕ) → i < length (types_by_number p) → slice_index_or marks i false ≡ is_part (types_meaning p).types (type_of p i) (types_meaning p).state)
+    × ((t : Ty) → is_part (types_meaning p).types t (types_meaning p).state ≡ true → (i : ℕ) × (i < length (types_by_number p)) × (type_of p i ≡ t))
+
+-- those are the marks of the program
+abbrev pub IsMarksOf : Types → PartMarks → Type 0
+IsMarksOf p parts = ArePartMarks p parts.marks.items
+
+-- the number of the form's type, which is the state's or a part of it; or the form's type is neither
+abbrev pub IsPartOfState : Types → TyForm → Option TyId → Type 0
+IsPartOfState p form None = is_part (types_meaning p).types (type_of_form (types_by_number p) form) (types_meaning p).state ≡ false
+IsPartOfState p form (Some ty) = (is_part (types_meaning p).types (type_of_form (types_by_number p) form) (types_meaning p).state ≡ true)
+    × (type_of p ty.0 ≡ type_of_form (types_by_number p) form)
+    × (ty.0 < length (types_by_number p))
+
+-- the parts that are found by opening so many named types at most are marked, and nothing else is
+abbrev pub AreLevelMarks : Types → ℕ → List Bool → Type 0
+AreLevelMarks p opened marks = (length marks ≡ length (types_by_number p))
+    × ((i : ℕ) → IsMarked marks i → is_part_within (types_meaning p).types opened (type_of p i) (types_meaning p).state ≡ true)
+    × ((t : Ty) → is_part_within (types_meaning p).types opened t (types_meaning p).state ≡ true → (i : ℕ) × IsMarked marks i × (type_of p i ≡ t))
+
+-- these are marked beside those that were, and nothing else is
+abbrev pub AddsMarks : (ℕ → Type 0) → (old new : List Bool) → Type 0
+AddsMarks IsAdded old new = (length new ≡ length old)
+    × ((i : ℕ) → IsMarked old i → IsMarked new i)
+    × ((i : ℕ) → IsMarked new i → IsMarked old i ⊎ IsAdded i)
+    × ((i : ℕ) → IsAdded i → IsMarked new i)
+
+-- the type with this number is a direct part of one of this form
+abbrev pub IsPartOfForm : TyForm → ℕ → Type 0
+IsPartOfForm (AuthForm part) i = part.0 ≡ i
+IsPartOfForm (PairForm first second) i = (first.0 ≡ i) ⊎ (second.0 ≡ i)
+IsPartOfForm form i = ⊥
+
+-- the number is one of the first so many of these
+abbrev pub IsAmong : List TyId → ℕ → ℕ → Type 0
+IsAmong ids count i = (k : ℕ) × (id : TyId) × (k < count) × (slice_get ids k ≡ Some id) × (id.0 ≡ i)
+
+-- the type with this number is one of a field of the first so many constructors
+abbrev pub IsOfField : List Constructor → ℕ → ℕ → Type 0
+IsOfField constructors count i =
+    (tag : ℕ) × (c : Constructor) × (tag < count) × (slice_get constructors tag ≡ Some c) × IsAmong c.fields.items (length c.fields.items) i
+
+-- the constructors of a named type; other types have none
+abbrev pub constructors_in : Types → Ty → List Constructor
+constructors_in p (NamedTy number) = unwrap_or (option_map (λ (declared : NamedType). declared.constructors.items) (slice_get p.named.items number)) []
+constructors_in p t = []
+
+-- the type with this number is one of a field of a type that is marked, among the first so many
+abbrev pub IsOpened : Types → List Bool → ℕ → ℕ → Type 0
+IsOpened p marks count i =
+    (number : ℕ) × (number < count) × IsMarked marks number × IsOfField (constructors_in p (type_of p number)) (length (constructors_in p (type_of p number))) i
+
+-- Beside what was marked, those types are marked that are parts of it with no named type opened, and nothing else is. They are types of the
+-- program.
+abbrev pub IsSpread : Types → (old new : List Bool) → Type 0
+IsSpread p old new = (length new ≡ length old)
+    × ((i : ℕ) → IsMarked old i → IsMarked new i)
+    × ((i : ℕ) → IsMarked new i → (j : ℕ) × IsMarked old j × (is_part_within (types_meaning p).types 0 (type_of p i) (type_of p j) ≡ true))
+    × ((j : ℕ) (t : Ty) → IsMarked new j → is_part_within (types_meaning p).types 0 t (type_of p j) ≡ true → (i : ℕ) × IsMarked new i × (type_of p i ≡ t))

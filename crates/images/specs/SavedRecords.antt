@@ -1,0 +1,67 @@
+-- The records that are saved so far.
+use Rattle.std.specs.Prelude.{◌≡◌, ◌≢◌, ◌⊎◌, ℕ, ◌+◌, ◌<◌, ◌≤◌, List, [], ◌∷◌, ◌++◌, length, map, Option, Some, IsSome, Result, Ok, Err, nat_eq, slice_get, unwrap_or, if◌then◌else◌, ⊤}
+use Rattle.std.specs.HashMap.{get}
+use Rattle.core_terms.specs.Types.{Table}
+use Rattle.images.specs.Images.{Entry}
+use Rattle.images.specs.SavedImages.{records_bytes}
+use Rattle.images.specs.declared.fault.SaveFault.{SaveFault}
+use Rattle.images.specs.declared.fault.SaveFault.TheVariants.{TooLong, NoMemory}
+use Rattle.value_store.specs.Nodes.{Form}
+use Rattle.images.specs.FormRecords.{bytes_of, joined, most_bytes, record_at}
+use Rattle.images.specs.declared.save.records.Records.{Records}
+
+-- the records as bytes, in the order of the image
+abbrev pub records_in : Records → List (List ℕ)
+records_in records = map bytes_of records.records.keys
+
+-- and one behind the other
+abbrev pub bytes_in : Records → List ℕ
+bytes_in records = joined (records_in records)
+
+-- the number of the record of a node that has one
+abbrev pub number_at : Records → ℕ → Option ℕ
+number_at records r = get nat_eq records.numbers r
+
+abbrev pub number_or_first : Records → ℕ → ℕ
+number_or_first records r = unwrap_or (number_at records r) 0
+
+-- each of these nodes has a record
+abbrev pub HaveRecords : Records → List ℕ → Type 0
+HaveRecords records [] = Unit {0}
+HaveRecords records (r ∷ rs) = IsSome (number_at records r) × HaveRecords records rs
+
+-- the record of a node of this form
+abbrev pub record_for : Records → Form → List ℕ
+record_for records form = record_at (number_or_first records) form
+
+-- the record is none of these
+abbrev pub IsNew : List ℕ → Records → Type 0
+IsNew found records = (i : ℕ) → slice_get (records_in records) i ≢ Some found
+
+-- the record was there, or is added behind the others
+abbrev pub IsAmongOld : (old new : Records) → Type 0
+IsAmongOld old new = records_in new ≡ records_in old
+
+abbrev pub IsBehindOld : List ℕ → (old new : Records) → Type 0
+IsBehindOld found old new = IsNew found old × (records_in new ≡ records_in old ++ found ∷ [])
+
+-- the record is there once, with this number
+abbrev pub HasNumber : List ℕ → (old new : Records) → ℕ → Type 0
+HasNumber found old new number = (slice_get (records_in new) number ≡ Some found) × (IsAmongOld old new ⊎ IsBehindOld found old new)
+
+-- the record of the node of this form is there once, and the node has its number
+abbrev pub IsAdded : ℕ → Form → (old new : Records) → Type 0
+IsAdded node form old new =
+    (number : ℕ) × HasNumber (record_for old form) old new number × ((r : ℕ) → number_at new r ≡ (if nat_eq node r then Some number else number_at old r))
+
+-- why a record isn't added: it is new, and too long to stand behind the others
+abbrev pub IsTooMuch : List ℕ → Records → SaveFault → Type 0
+IsTooMuch found records TooLong = IsNew found records × (most_bytes < length (bytes_in records) + length found)
+IsTooMuch found records NoMemory = ⊤
+
+-- the records are those of these entries, where they aren't too long
+abbrev pub AreSaved : Table → List Entry → Result Records SaveFault → Type 0
+AreSaved types entries (Ok records) =
+    (length (records_in records) ≡ length entries) × (bytes_in records ≡ records_bytes types entries entries) × (length (bytes_in records) ≤ most_bytes)
+AreSaved types entries (Err TooLong) = most_bytes < length (records_bytes types entries entries)
+AreSaved types entries (Err NoMemory) = ⊤

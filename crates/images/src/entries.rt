@@ -1,0 +1,200 @@
+// What a record stands for, put into the store: its type is a part of the state's, and its value is within the limits.
+ghost use Rattle.std.specs.Prelude.{ℕ, List, Some};
+ghost use Rattle.core_terms.specs.ProgramTypes.{types_by_number, types_meaning};
+ghost use Rattle.core_terms.specs.Types.{UnitTy, BoolTy, IntTy, TextTy};
+ghost use Rattle.core_terms.specs.Values.{UnitV, BoolV, IntV, TextV};
+ghost use Rattle.images.specs.Images.{Entry, checked_entry, entry};
+ghost use Rattle.images.specs.Images as meant;
+ghost use Rattle.images.specs.Records as defined;
+ghost use Rattle.value_store.specs.Markings.{Marking};
+ghost use Rattle.value_store.specs.Standing.{Keeps};
+ghost use Rattle.value_store.specs.Stores.{nodes_in};
+ghost use Rattle.images.specs.PartMarks.{IsMarksOf};
+ghost use Rattle.images.specs.ReadRecords.{HasConstructor, record_told};
+ghost use Rattle.images.specs.declared.record.Record.{Record};
+ghost use Rattle.images.specs.StoredRecords.{AreStored, IsLoaded};
+
+use crate::ImageFault;
+use crate::fields::{earlier, field_refs};
+use crate::part_types::PartTypes;
+use crate::record::ConstructorRecord;
+use crate::stored::StoredRecord;
+use core_terms::language::TyForm;
+use std::alloc::Global;
+use value_store::{Marker, Nodes, Store};
+
+/// The number of bytes in which the spelling of a text has its length.
+const LENGTH_BYTES: usize = 4;
+
+/// The greatest depth of a value.
+const MOST_DEPTH: u32 = 512;
+
+/// The value of `unit`.
+pub(crate) fn unit(
+    types: &PartTypes,
+    store: &mut Store,
+    number: u32,
+) -> Result<StoredRecord, ImageFault>
+    requires marked { IsMarksOf types.now.types.now types.now.parts.now }
+    ensures loaded { (marking : Marking) (size : ℕ) → IsLoaded marking (types_meaning types.now.types.now) (types_by_number types.now.types.now) (nodes_in store.new) (λ go. checked_entry (types_meaning types.now.types.now) size number (Some (entry UnitTy UnitV)) go) result }
+    ensures keeps { Keeps (nodes_in store.old) (nodes_in store.new) }
+{
+    let Some(ty) = types.part(TyForm::UnitForm) else {
+        return Err(ImageFault::BadRecord(number));
+    };
+    let value = store.put_unit()?;
+    Ok(StoredRecord { ty, value })
+}
+
+/// A bool.
+pub(crate) fn bool(
+    types: &PartTypes,
+    store: &mut Store,
+    number: u32,
+    value: bool,
+) -> Result<StoredRecord, ImageFault>
+    requires marked { IsMarksOf types.now.types.now types.now.parts.now }
+    ensures loaded { (marking : Marking) (size : ℕ) → IsLoaded marking (types_meaning types.now.types.now) (types_by_number types.now.types.now) (nodes_in store.new) (λ go. checked_entry (types_meaning types.now.types.now) size number (Some (entry BoolTy (BoolV value))) go) result }
+    ensures keeps { Keeps (nodes_in store.old) (nodes_in store.new) }
+{
+    let Some(ty) = types.part(TyForm::BoolForm) else {
+        return Err(ImageFault::BadRecord(number));
+    };
+    let value = store.put_bool(value)?;
+    Ok(StoredRecord { ty, value })
+}
+
+/// An int.
+pub(crate) fn int(
+    types: &PartTypes,
+    store: &mut Store,
+    number: u32,
+    value: i64,
+) -> Result<StoredRecord, ImageFault>
+    requires marked { IsMarksOf types.now.types.now types.now.parts.now }
+    ensures loaded { (marking : Marking) (size : ℕ) → IsLoaded marking (types_meaning types.now.types.now) (types_by_number types.now.types.now) (nodes_in store.new) (λ go. checked_entry (types_meaning types.now.types.now) size number (Some (entry IntTy (IntV value))) go) result }
+    ensures keeps { Keeps (nodes_in store.old) (nodes_in store.new) }
+{
+    let Some(ty) = types.part(TyForm::IntForm) else {
+        return Err(ImageFault::BadRecord(number));
+    };
+    let value = store.put_int(value)?;
+    Ok(StoredRecord { ty, value })
+}
+
+/// A text, which may have too many bytes.
+pub(crate) fn text(
+    types: &PartTypes,
+    store: &mut Store,
+    number: u32,
+    text: &str,
+) -> Result<StoredRecord, ImageFault>
+    requires marked { IsMarksOf types.now.types.now types.now.parts.now }
+    ensures loaded { (marking : Marking) (size : ℕ) → IsLoaded marking (types_meaning types.now.types.now) (types_by_number types.now.types.now) (nodes_in store.new) (λ go. checked_entry (types_meaning types.now.types.now) size number (Some (entry TextTy (TextV text.now))) go) result }
+    ensures keeps { Keeps (nodes_in store.old) (nodes_in store.new) }
+{
+    let Some(ty) = types.part(TyForm::TextForm) else {
+        return Err(ImageFault::BadRecord(number));
+    };
+    if text.len() > types.size_limit() as usize - LENGTH_BYTES {
+        return Err(ImageFault::TooBig(number));
+    }
+    let value = store.put_text(text)?;
+    Ok(StoredRecord { ty, value })
+}
+
+/// A pair, by the numbers of the records of its parts, which must be earlier ones.
+pub(crate) fn pair(
+    types: &PartTypes,
+    store: &mut Store,
+    loaded: &[StoredRecord],
+    number: u32,
+    first: u32,
+    second: u32,
+) -> Result<StoredRecord, ImageFault>
+    requires marked { IsMarksOf types.now.types.now types.now.parts.now }
+    requires stored { (marking : Marking) × (entries : List Entry) × AreStored marking (types_meaning types.now.types.now) (types_by_number types.now.types.now) (nodes_in store.old) loaded.now entries }
+    ensures loaded { (marking : Marking) (entries : List Entry) → AreStored marking (types_meaning types.now.types.now) (types_by_number types.now.types.now) (nodes_in store.old) loaded.now entries
+        → (size : ℕ) → IsLoaded marking (types_meaning types.now.types.now) (types_by_number types.now.types.now) (nodes_in store.new) (λ go. checked_entry (types_meaning types.now.types.now) size number (meant.stands_for (types_meaning types.now.types.now).types entries (defined.PairRecord first second)) go) result }
+    ensures keeps { Keeps (nodes_in store.old) (nodes_in store.new) }
+{
+    let Some(first) = earlier(loaded, first) else {
+        return Err(ImageFault::BadRecord(number));
+    };
+    let Some(second) = earlier(loaded, second) else {
+        return Err(ImageFault::BadRecord(number));
+    };
+    let Some(ty) = types.part(TyForm::PairForm(first.ty, second.ty)) else {
+        return Err(ImageFault::BadRecord(number));
+    };
+    if store.shallow_size(first.value) + store.shallow_size(second.value) > types.size_limit() {
+        return Err(ImageFault::TooBig(number));
+    }
+    if store
+        .shallow_depth(first.value)
+        .max(store.shallow_depth(second.value))
+        >= MOST_DEPTH
+    {
+        return Err(ImageFault::TooDeep(number));
+    }
+    let value = store.put_pair(first.value, second.value)?;
+    Ok(StoredRecord { ty, value })
+}
+
+/// An authenticated value, by the number of the record of what is authenticated, which must be an earlier one.
+pub(crate) fn authenticated<M: Marker>(
+    types: &PartTypes,
+    marker: &mut M,
+    store: &mut Store,
+    loaded: &[StoredRecord],
+    number: u32,
+    inner: u32,
+) -> Result<StoredRecord, ImageFault>
+    requires marked { IsMarksOf types.now.types.now types.now.parts.now }
+    requires stored { (entries : List Entry) × AreStored M.marking (types_meaning types.now.types.now) (types_by_number types.now.types.now) (nodes_in store.old) loaded.now entries }
+    ensures loaded { (entries : List Entry) → AreStored M.marking (types_meaning types.now.types.now) (types_by_number types.now.types.now) (nodes_in store.old) loaded.now entries
+        → (size : ℕ) → IsLoaded M.marking (types_meaning types.now.types.now) (types_by_number types.now.types.now) (nodes_in store.new) (λ go. checked_entry (types_meaning types.now.types.now) size number (meant.stands_for (types_meaning types.now.types.now).types entries (defined.AuthRecord inner)) go) result }
+    ensures keeps { Keeps (nodes_in store.old) (nodes_in store.new) }
+{
+    let Some(inner) = earlier(loaded, inner) else {
+        return Err(ImageFault::BadRecord(number));
+    };
+    let Some(ty) = types.part(TyForm::AuthForm(inner.ty)) else {
+        return Err(ImageFault::BadRecord(number));
+    };
+    let value = marker.mark_auth(types.types, store, inner.ty, inner.value)?;
+    Ok(StoredRecord { ty, value })
+}
+
+/// A constructor value, by the numbers of the records of its fields, which must be earlier ones of the fields' types.
+pub(crate) fn constructor(
+    alloc: Global,
+    types: &PartTypes,
+    store: &mut Store,
+    loaded: &[StoredRecord],
+    number: u32,
+    found: ConstructorRecord,
+) -> Result<StoredRecord, ImageFault>
+    requires marked { IsMarksOf types.now.types.now types.now.parts.now }
+    requires stored { (marking : Marking) × (entries : List Entry) × AreStored marking (types_meaning types.now.types.now) (types_by_number types.now.types.now) (nodes_in store.old) loaded.now entries }
+    requires of_program { HasConstructor types.now.types.now (Record.Constructor found) }
+    ensures loaded { (marking : Marking) (entries : List Entry) → AreStored marking (types_meaning types.now.types.now) (types_by_number types.now.types.now) (nodes_in store.old) loaded.now entries
+        → (size : ℕ) → IsLoaded marking (types_meaning types.now.types.now) (types_by_number types.now.types.now) (nodes_in store.new) (λ go. checked_entry (types_meaning types.now.types.now) size number (meant.stands_for (types_meaning types.now.types.now).types entries (record_told (Record.Constructor found.entry))) go) result }
+    ensures keeps { Keeps (nodes_in store.old) (nodes_in store.new) }
+{
+    let Some(ty) = types.part(TyForm::NamedForm(found.named)) else {
+        return Err(ImageFault::BadRecord(number));
+    };
+    let Some(refs) = field_refs(alloc, loaded, found.fields, found.numbers)? else {
+        return Err(ImageFault::BadRecord(number));
+    };
+    let fields = refs.as_slice();
+    if !store.sizes_fit(fields, types.size_limit() - 1) {
+        return Err(ImageFault::TooBig(number));
+    }
+    if !store.depths_fit(fields, MOST_DEPTH - 1) {
+        return Err(ImageFault::TooDeep(number));
+    }
+    let value = store.put_constructor(found.named, found.tag, fields)?;
+    Ok(StoredRecord { ty, value })
+}

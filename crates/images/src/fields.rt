@@ -1,0 +1,44 @@
+// The fields of a constructor value, as nodes of the store.
+ghost use Rattle.std.specs.Prelude.{◌≡◌, ◌*◌, length, slice_get, option_map, IfOk};
+ghost use Rattle.images.specs.Records.{numbers_of};
+ghost use Rattle.images.specs.StoredRecords.{refs_from};
+
+use crate::stored::StoredRecord;
+use core_terms::TyId;
+use std::alloc::{AllocError, Global};
+use value_store::Ref;
+
+/// The record with this number, among those that are loaded.
+pub(crate) fn earlier(loaded: &[StoredRecord], number: u32) -> Option<StoredRecord>
+    ensures { result ≡ slice_get loaded.now number }
+{
+    loaded.get(number as usize).copied()
+}
+
+/// The nodes of the records with these numbers, of 4 bytes each; none where one is no earlier record, or not of the type beside it.
+pub(crate) fn field_refs(
+    alloc: Global,
+    loaded: &[StoredRecord],
+    types: &[TyId],
+    numbers: &[u8],
+) -> Result<Option<Vec<Ref>>, AllocError>
+    requires { length numbers.now ≡ 4 * length types.now }
+    ensures { IfOk result (λ found. option_map (λ refs. refs.items) found ≡ refs_from loaded.now (numbers_of (length types.now) numbers.now) types.now) }
+{
+    let mut refs = Vec::new(alloc);
+    let mut rest = numbers;
+    for ty in types {
+        let Some((number, behind)) = rest.split_first_chunk::<4>() else {
+            unreachable!();
+        };
+        let Some(found) = earlier(loaded, u32::from_be_bytes(*number)) else {
+            return Ok(None);
+        };
+        if !found.is_of(*ty) {
+            return Ok(None);
+        }
+        refs.push(found.value)?;
+        rest = behind;
+    }
+    Ok(Some(refs))
+}

@@ -1,0 +1,12 @@
+// The laws of images in `specs/`: each is a function without parameters, whose contract is the law.
+ghost use Rattle.images.specs.ImageLaws.{PartsAreFound, SavedPartsAreOnce};
+
+/// No two records of a value that is saved are equal, and the last one is that of the value itself.
+pub fn saved_parts_are_once()
+    ensures { SavedPartsAreOnce }
+{}
+
+/// The search for the parts of a type, by which the types of records are judged, finds each part and nothing else.
+pub fn parts_are_found()
+    ensures { PartsAreFound }
+{}

@@ -1,3 +1,0 @@
-pub mod PlainValues
-pub mod Telling
-pub mod Limits

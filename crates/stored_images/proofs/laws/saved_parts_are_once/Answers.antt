@@ -1,5 +1,0 @@
-use Rattle.stored_images.proofs.SavedOnce.{saved_parts_are_once}
-use Rattle.stored_images.proofs.laws.saved_parts_are_once.Goals as goal
-
-pub returns : goal.returns
-returns c = saved_parts_are_once

@@ -1,7 +1,0 @@
-use Rattle.value_store.specs.Stores.{nodes_in}
-use Rattle.stored_images.proofs.LoadedLists.{SoFar}
-use Rattle.stored_images.proofs.load.load_records.Given as goal
-
-abbrev pub invariant-loop-number : goal.invariant-loop-number
-invariant-loop-number g l =
-    SoFar g.M.Marker.marking l.types.types.now l.size l.header.count l.header.records.now l.number (nodes_in l.store) l.loaded.items l.rest
