@@ -6,10 +6,9 @@ use Rattle.lexemes.specs.declared.token.Keyword.{Keyword}
 use Rattle.lexemes.specs.declared.token.Keyword.TheVariants.{«Type» as TypeWord}
 use Rattle.lexemes.specs.Tokens.{Token, KeywordToken, Tokens, Next, End, Faulty, tokens, count}
 use Rattle.auth_syntax.specs.Syntax.{ConstructorDeclaration, DeclarationSyntax, TypeDeclaration, StateDeclaration, FunctionDeclaration, Program}
-use Rattle.auth_syntax.specs.Vocabulary.{Vocabulary, NamedTypes}
 use Rattle.auth_syntax.specs.Grammar.{Written, declaration_tokens, declarations_tokens, nesting_limit, AreDeclarations, AreWritten, IsProgramText}
 use Rattle.lexemes.specs.Readings.{Reading, Found, FaultAt, then_read, refused, read_mark}
-use Rattle.auth_syntax.specs.Parsing.{allowed, read_bar, read_others, read_lower, read_constructor_declaration, read_constructors, read_type_declaration, read_declaration, read_declarations, Tree, end_of, as_program, parsed}
+use Rattle.auth_syntax.specs.Parsing.{read_bar, read_others, read_lower, read_constructor_declaration, read_constructors, read_type_declaration, read_declaration, read_declarations, Tree, end_of, as_program, parsed}
 use Rattle.lexemes.specs.declared.token.Mark.TheVariants.{EqualsSign}
 use Rattle.auth_syntax.specs.Laws.{ParsingIsExact, OneIsWritten}
 use Rattle.auth_syntax.proofs.Beginnings.{written-append, written-parted}
@@ -18,65 +17,64 @@ use Rattle.auth_syntax.proofs.Lists.{read_separated}
 use Rattle.auth_syntax.proofs.Declarations.{constructor_row, type_row, read_declaration_at, declarations_are}
 
 -- declarations, each within a limit
-abbrev pub read_declarations_at : Vocabulary → ℕ → ℕ → Tokens → Reading (List DeclarationSyntax)
-read_declarations_at words limit most (End at) = Found [] (End at)
-read_declarations_at words limit zero tokens = refused tokens
-read_declarations_at words limit (suc most) tokens =
-    then_read (read_declaration_at words limit limit tokens) (λ declaration tokens.
-    then_read (read_declarations_at words limit most tokens) (λ rest tokens. Found (declaration ∷ rest) tokens))
+abbrev pub read_declarations_at : ℕ → ℕ → Tokens → Reading (List DeclarationSyntax)
+read_declarations_at limit most (End at) = Found [] (End at)
+read_declarations_at limit zero tokens = refused tokens
+read_declarations_at limit (suc most) tokens =
+    then_read (read_declaration_at limit limit tokens) (λ declaration tokens.
+    then_read (read_declarations_at limit most tokens) (λ rest tokens. Found (declaration ∷ rest) tokens))
 
-module _ (words : Vocabulary) where
-  -- at the limit of the language they are read so
-  pub read_constructors-is : (most : ℕ) → read_constructors words most ≡ read_separated read_bar (read_row (constructor_row words nesting_limit) nesting_limit) most
-  read_constructors-is zero = refl
-  read_constructors-is (suc most) =
-      ap (λ (more : Tokens → Reading (List ConstructorDeclaration)). λ (tokens : Tokens).
-      then_read (read_constructor_declaration words tokens) (λ first tokens.
-      then_read (read_others (read_bar tokens) more) (λ others tokens. Found (first ∷ others) tokens)))
-      (read_constructors-is most)
+-- at the limit of the language they are read so
+pub read_constructors-is : (most : ℕ) → read_constructors most ≡ read_separated read_bar (read_row (constructor_row nesting_limit) nesting_limit) most
+read_constructors-is zero = refl
+read_constructors-is (suc most) =
+    ap (λ (more : Tokens → Reading (List ConstructorDeclaration)). λ (tokens : Tokens).
+    then_read (read_constructor_declaration tokens) (λ first tokens.
+    then_read (read_others (read_bar tokens) more) (λ others tokens. Found (first ∷ others) tokens)))
+    (read_constructors-is most)
 
-  read_type_declaration-is : (at : Place) (tokens : Tokens)
-      → read_type_declaration words at tokens ≡ read_row (type_row words nesting_limit at) nesting_limit tokens
-  read_type_declaration-is at tokens =
-      ap (λ (read : ℕ → Tokens → Reading (List ConstructorDeclaration)).
-      then_read (read_lower tokens) (λ name tokens.
-      then_read (read_mark EqualsSign tokens) (λ _ tokens.
-      then_read (read (count tokens) tokens) (λ constructors tokens. Found (TypeDeclaration at name constructors) tokens))))
-      (fun_ext read_constructors-is)
+read_type_declaration-is : (at : Place) (tokens : Tokens)
+    → read_type_declaration at tokens ≡ read_row (type_row nesting_limit at) nesting_limit tokens
+read_type_declaration-is at tokens =
+    ap (λ (read : ℕ → Tokens → Reading (List ConstructorDeclaration)).
+    then_read (read_lower tokens) (λ name tokens.
+    then_read (read_mark EqualsSign tokens) (λ _ tokens.
+    then_read (read (count tokens) tokens) (λ constructors tokens. Found (TypeDeclaration at name constructors) tokens))))
+    (fun_ext read_constructors-is)
 
-  pub read_declaration-is : (tokens : Tokens) → read_declaration words tokens ≡ read_declaration_at words nesting_limit nesting_limit tokens
-  read_declaration-is (Next at (KeywordToken TypeWord) rest) = ap (allowed (words NamedTypes) at) (read_type_declaration-is at rest)
-  read_declaration-is tokens = refl
+pub read_declaration-is : (tokens : Tokens) → read_declaration tokens ≡ read_declaration_at nesting_limit nesting_limit tokens
+read_declaration-is (Next at (KeywordToken TypeWord) rest) = read_type_declaration-is at rest
+read_declaration-is tokens = refl
 
-  pub read_declarations-is : (most : ℕ) (tokens : Tokens) → read_declarations words most tokens ≡ read_declarations_at words nesting_limit most tokens
-  read_declarations-is most (End at) = refl
-  read_declarations-is zero (Next at token rest) = refl
-  read_declarations-is zero (Faulty at kind) = refl
-  read_declarations-is (suc most) (Faulty at kind) = refl
-  read_declarations-is (suc most) (Next at token rest) =
-      ap₂ (λ (reading : Reading DeclarationSyntax) (others : Tokens → Reading (List DeclarationSyntax)).
-      then_read reading (λ declaration tokens.
-      then_read (others tokens) (λ rest tokens. Found (declaration ∷ rest) tokens)))
-      (read_declaration-is (Next at token rest)) (fun_ext (read_declarations-is most))
+pub read_declarations-is : (most : ℕ) (tokens : Tokens) → read_declarations most tokens ≡ read_declarations_at nesting_limit most tokens
+read_declarations-is most (End at) = refl
+read_declarations-is zero (Next at token rest) = refl
+read_declarations-is zero (Faulty at kind) = refl
+read_declarations-is (suc most) (Faulty at kind) = refl
+read_declarations-is (suc most) (Next at token rest) =
+    ap₂ (λ (reading : Reading DeclarationSyntax) (others : Tokens → Reading (List DeclarationSyntax)).
+    then_read reading (λ declaration tokens.
+    then_read (others tokens) (λ rest tokens. Found (declaration ∷ rest) tokens)))
+    (read_declaration-is (Next at token rest)) (fun_ext (read_declarations-is most))
 
-module _ (words : Vocabulary) (limit : ℕ) where
+module _ (limit : ℕ) where
   -- where the tokens are those of these declarations, to the end
   pub record AreTheWhole (tokens : Tokens) (found : List DeclarationSyntax) (left : Tokens) : Type 0 where
     pub end : Place
     pub ends : left ≡ End end
     pub written : AreWritten tokens (declarations_tokens found) end
-    pub fit : AreDeclarations words limit found
+    pub fit : AreDeclarations limit found
 
   one_more : (most : ℕ) (before : Tokens) (found : List DeclarationSyntax) (left : Tokens)
-      → ((before : Tokens) (found : List DeclarationSyntax) (left : Tokens) → read_declarations_at words limit most before ≡ Found found left
+      → ((before : Tokens) (found : List DeclarationSyntax) (left : Tokens) → read_declarations_at limit most before ≡ Found found left
       → AreTheWhole before found left)
-      → then_read (read_declaration_at words limit limit before) (λ declaration tokens.
-      then_read (read_declarations_at words limit most tokens) (λ rest tokens. Found (declaration ∷ rest) tokens)) ≡ Found found left
+      → then_read (read_declaration_at limit limit before) (λ declaration tokens.
+      then_read (read_declarations_at limit most tokens) (λ rest tokens. Found (declaration ∷ rest) tokens)) ≡ Found found left
       → AreTheWhole before found left
   one_more most before found left others e =
-      let g = gone_on (read_declaration_at words limit limit before) _ found left e in
-      let g' = gone_on (read_declarations_at words limit most g.middle) _ found left g.others in
-      let one = (declarations_are words limit).sound before g.thing g.middle g.first in
+      let g = gone_on (read_declaration_at limit limit before) _ found left e in
+      let g' = gone_on (read_declarations_at limit most g.middle) _ found left g.others in
+      let one = (declarations_are limit).sound before g.thing g.middle g.first in
       let o = others g.middle g'.thing g'.middle g'.first in
       subst (λ (d : List DeclarationSyntax). AreTheWhole before d left) (found_thing g'.others)
       (record {
@@ -87,7 +85,7 @@ module _ (words : Vocabulary) (limit : ℕ) where
       })
 
   pub declarations_found : (most : ℕ) (before : Tokens) (found : List DeclarationSyntax) (left : Tokens)
-      → read_declarations_at words limit most before ≡ Found found left → AreTheWhole before found left
+      → read_declarations_at limit most before ≡ Found found left → AreTheWhole before found left
   declarations_found most (End at) found left e =
       let e' : End at ≡ left = found_left e in
       subst (λ (d : List DeclarationSyntax). AreTheWhole (End at) d left) (found_thing e)
@@ -111,18 +109,18 @@ module _ (words : Vocabulary) (limit : ℕ) where
   declarations_clear (FunctionDeclaration place function ∷ others) (Next at token rest) end h = keyword_clear at token rest _ h.0
 
   -- one more declaration is read
-  step : (most : ℕ) (before middle : Tokens) (declaration : DeclarationSyntax) → read_declaration_at words limit limit before ≡ Found declaration middle
-      → read_declarations_at words limit (suc most) before
-      ≡ then_read (read_declarations_at words limit most middle) (λ rest tokens. Found (declaration ∷ rest) tokens)
+  step : (most : ℕ) (before middle : Tokens) (declaration : DeclarationSyntax) → read_declaration_at limit limit before ≡ Found declaration middle
+      → read_declarations_at limit (suc most) before
+      ≡ then_read (read_declarations_at limit most middle) (λ rest tokens. Found (declaration ∷ rest) tokens)
   step most (End at) middle declaration e = absurd (cc)
   step most (Faulty at kind) middle declaration e = absurd (cc)
   step most (Next at token rest) middle declaration e =
       ap (λ reading. then_read reading (λ declaration tokens.
-      then_read (read_declarations_at words limit most tokens) (λ rest tokens. Found (declaration ∷ rest) tokens))) e
+      then_read (read_declarations_at limit most tokens) (λ rest tokens. Found (declaration ∷ rest) tokens))) e
 
   pub declarations_read : (most : ℕ) (declarations : List DeclarationSyntax) (before : Tokens) (end : Place)
-      → AreWritten before (declarations_tokens declarations) end → AreDeclarations words limit declarations → length declarations ≤ most
-      → read_declarations_at words limit most before ≡ Found declarations (End end)
+      → AreWritten before (declarations_tokens declarations) end → AreDeclarations limit declarations → length declarations ≤ most
+      → read_declarations_at limit most before ≡ Found declarations (End end)
   declarations_read most [] (End at) end h fit enough = ap (λ (at : Place). Found [] (End at)) h
   declarations_read most [] (Next at token rest) end h fit enough = absurd h
   declarations_read most [] (Faulty at kind) end h fit enough = absurd h
@@ -130,8 +128,8 @@ module _ (words : Vocabulary) (limit : ℕ) where
   declarations_read (suc most) (declaration ∷ others) before end h fit enough =
       let p = written-parted (declaration_tokens declaration) (declarations_tokens others) before end h in
       step most before p.middle declaration
-      ((declarations_are words limit).complete declaration before p.middle p.begin fit.0 (declarations_clear others p.middle end p.go_on))
-      ∙ then_found (read_declarations_at words limit most p.middle) others (End end) _ _
+      ((declarations_are limit).complete declaration before p.middle p.begin fit.0 (declarations_clear others p.middle end p.go_on))
+      ∙ then_found (read_declarations_at limit most p.middle) others (End end) _ _
       (declarations_read most others p.middle end p.go_on fit.1 (omega arith)) refl
 
 -- declarations are no more than their tokens
@@ -170,28 +168,28 @@ tree_found (Found declarations left) program e =
       tree_is h = cc
 tree_found (FaultAt kind at) program e = absurd (cc)
 
-pub parsed_is_written : (words : Vocabulary) (text : List ℕ) (program : Program) → parsed words text ≡ Tree program → IsProgramText words text program
-parsed_is_written words text program e =
+pub parsed_is_written : (text : List ℕ) (program : Program) → parsed text ≡ Tree program → IsProgramText text program
+parsed_is_written text program e =
     let ts = tokens text in
-    let t = tree_found (read_declarations words (count ts) ts) program e in
-    let whole = declarations_found words nesting_limit (count ts) ts program.declarations t.left (sym (read_declarations-is words (count ts) ts) ∙ t.found) in
+    let t = tree_found (read_declarations (count ts) ts) program e in
+    let whole = declarations_found nesting_limit (count ts) ts program.declarations t.left (sym (read_declarations-is (count ts) ts) ∙ t.found) in
     record {
       written = subst (AreWritten ts (declarations_tokens program.declarations)) (sym (ap end_of whole.ends) ∙ t.ends) whole.written;
       well_formed = whole.fit;
     }
 
-pub written_is_parsed : (words : Vocabulary) (text : List ℕ) (program : Program) → IsProgramText words text program → parsed words text ≡ Tree program
-written_is_parsed words text program h =
+pub written_is_parsed : (text : List ℕ) (program : Program) → IsProgramText text program → parsed text ≡ Tree program
+written_is_parsed text program h =
     let ts = tokens text in
     let enough : length program.declarations ≤ count ts =
     omega (arith, declarations_fit program.declarations, written_fit ts (declarations_tokens program.declarations) program.end h.written) in
-    ap as_program (read_declarations-is words (count ts) ts
-    ∙ declarations_read words nesting_limit (count ts) program.declarations ts program.end h.written h.well_formed enough)
+    ap as_program (read_declarations-is (count ts) ts
+    ∙ declarations_read nesting_limit (count ts) program.declarations ts program.end h.written h.well_formed enough)
 
 pub parsing_is_exact : ParsingIsExact
-parsing_is_exact words text program = (parsed_is_written words text program, written_is_parsed words text program)
+parsing_is_exact text program = (parsed_is_written text program, written_is_parsed text program)
 
 -- so one at most is written
 pub one_is_written : OneIsWritten
-one_is_written words text program other h h' =
-    let first = written_is_parsed words text program h in let second = written_is_parsed words text other h' in cc
+one_is_written text program other h h' =
+    let first = written_is_parsed text program h in let second = written_is_parsed text other h' in cc

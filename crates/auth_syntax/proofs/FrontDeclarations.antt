@@ -6,17 +6,16 @@ use Rattle.lexemes.specs.declared.token.Keyword.TheVariants.{«Type» as TypeWor
 use Rattle.lexemes.specs.declared.token.Mark.TheVariants.{Semicolon, Bar}
 use Rattle.lexemes.specs.Tokens.{Token, KeywordToken, Tokens, Next, End, Faulty}
 use Rattle.auth_syntax.specs.Syntax.{TypeSyntax, UnitTypeSyntax, LocalSyntax, ParameterSyntax, KindSyntax, InnerSyntax, InitSyntax, QuerySyntax, UpdateSyntax, FunctionSyntax, ConstructorDeclaration, DeclarationSyntax, TypeDeclaration, StateDeclaration, FunctionDeclaration}
-use Rattle.auth_syntax.specs.Vocabulary.{Vocabulary, NamedTypes, InnerFunctions, Updates}
-use Rattle.auth_syntax.specs.Grammar.{standing, mark, types_tokens, parameter_tokens, parameters_tokens, constructor_tokens, constructors_tokens, kind_keyword, declaration_tokens, AreTypes, AreParameters, AreConstructors, HasKind, IsDeclaration}
+use Rattle.auth_syntax.specs.Grammar.{standing, mark, types_tokens, parameter_tokens, parameters_tokens, constructor_tokens, constructors_tokens, kind_keyword, declaration_tokens, AreTypes, AreParameters, AreConstructors, IsDeclaration}
 use Rattle.lexemes.specs.Readings.{Reading, Found, FaultAt}
-use Rattle.auth_syntax.specs.Parsing.{allowed, read_bar}
+use Rattle.auth_syntax.specs.Parsing.{read_bar}
 use Rattle.auth_syntax.proofs.Readers.{Row, read_row}
 use Rattle.auth_syntax.proofs.Lists.{bars}
 use Rattle.auth_syntax.proofs.Types.{types}
 use Rattle.auth_syntax.proofs.Declarations.{parameter_row, is_parameter, parameter_reader, parameters_listed, parameter_list, types_listed, function_row, function_written, function_grouped, is_of_kind, function_declaration_row, field_types, constructor_row, is_constructor, constructor_reader, constructors_listed, constructor_list, type_row, state_row, read_declaration_at}
 use Rattle.auth_syntax.proofs.Fronts.{CanBegin, Taken, Stuck, IsLocal}
 use Rattle.auth_syntax.proofs.FrontRows.{some_name}
-use Rattle.auth_syntax.proofs.Productions.{HasSome, IsAllowed, token_taken, token_stuck, token_refused, rest_refused, row_local}
+use Rattle.auth_syntax.proofs.Productions.{HasSome, IsHeaded, token_taken, token_stuck, token_refused, rest_refused, row_local}
 use Rattle.auth_syntax.proofs.FrontLists.{counted_local}
 use Rattle.auth_syntax.proofs.FrontCommas.{bar_one, list_local, optional_local}
 use Rattle.auth_syntax.proofs.FrontTypes.{types_local}
@@ -31,157 +30,155 @@ some_parameter = record { name = some_name; of_type = UnitTypeSyntax some_place 
 abbrev some_constructor : ConstructorDeclaration
 some_constructor = record { name = some_name; fields = [] }
 
-module _ (words : Vocabulary) where
-  -- what is within a limit is within a wider one
-  types_widen : (n wider : ℕ) (ts : List TypeSyntax) → n ≤ wider → AreTypes words n ts → AreTypes words wider ts
-  types_widen n wider [] h fits = tt
-  types_widen n wider (t ∷ rest) h fits = ((fits.0.0, omega (arith, fits.0.1)), types_widen n wider rest h fits.1)
+-- what is within a limit is within a wider one
+types_widen : (n wider : ℕ) (ts : List TypeSyntax) → n ≤ wider → AreTypes n ts → AreTypes wider ts
+types_widen n wider [] h fits = tt
+types_widen n wider (t ∷ rest) h fits = (omega (arith, fits.0), types_widen n wider rest h fits.1)
 
-  parameters_widen : (n wider : ℕ) (ps : List ParameterSyntax) → n ≤ wider → AreParameters words n ps → AreParameters words wider ps
-  parameters_widen n wider [] h fits = tt
-  parameters_widen n wider (p ∷ rest) h fits = ((fits.0.0, omega (arith, fits.0.1)), parameters_widen n wider rest h fits.1)
+parameters_widen : (n wider : ℕ) (ps : List ParameterSyntax) → n ≤ wider → AreParameters n ps → AreParameters wider ps
+parameters_widen n wider [] h fits = tt
+parameters_widen n wider (p ∷ rest) h fits = (omega (arith, fits.0), parameters_widen n wider rest h fits.1)
 
-  constructors_widen : (n wider : ℕ) (cs : List ConstructorDeclaration) → n ≤ wider → AreConstructors words n cs → AreConstructors words wider cs
-  constructors_widen n wider [] h fits = tt
-  constructors_widen n wider (c ∷ rest) h fits = (types_widen n wider c.fields h fits.0, constructors_widen n wider rest h fits.1)
+constructors_widen : (n wider : ℕ) (cs : List ConstructorDeclaration) → n ≤ wider → AreConstructors n cs → AreConstructors wider cs
+constructors_widen n wider [] h fits = tt
+constructors_widen n wider (c ∷ rest) h fits = (types_widen n wider c.fields h fits.0, constructors_widen n wider rest h fits.1)
 
-  pub declaration_widen : (n wider : ℕ) (d : DeclarationSyntax) → n ≤ wider → IsDeclaration words n d → IsDeclaration words wider d
-  declaration_widen n wider (TypeDeclaration at name constructors) h fits = (fits.0, fits.1, constructors_widen n wider constructors h fits.2)
-  declaration_widen n wider (StateDeclaration at of_type) h fits = (fits.0, omega (arith, fits.1))
-  declaration_widen n wider (FunctionDeclaration at function) h fits = record {
-    kind = fits.kind;
-    has_parameter = fits.has_parameter;
-    parameters = parameters_widen n wider function.parameters h fits.parameters;
-    result_type = (fits.result_type.0, omega (arith, fits.result_type.1));
-    body = (fits.body.0, omega (arith, fits.body.1));
+pub declaration_widen : (n wider : ℕ) (d : DeclarationSyntax) → n ≤ wider → IsDeclaration n d → IsDeclaration wider d
+declaration_widen n wider (TypeDeclaration at name constructors) h fits = (fits.0, constructors_widen n wider constructors h fits.1)
+declaration_widen n wider (StateDeclaration at of_type) h fits = omega (arith, fits)
+declaration_widen n wider (FunctionDeclaration at function) h fits = record {
+  has_parameter = fits.has_parameter;
+  parameters = parameters_widen n wider function.parameters h fits.parameters;
+  result_type = omega (arith, fits.result_type);
+  body = (fits.body.0, omega (arith, fits.body.1));
+}
+
+module _ (limit : ℕ) where
+  parameter_local : IsLocal limit (read_row (parameter_row limit)) parameter_tokens (is_parameter limit)
+  parameter_local =
+      row_local limit (parameter_row limit) parameter_tokens (is_parameter limit) (λ name. types_local limit) (λ n things fits. (refl, fits))
+      some_parameter (λ n. omega arith) (λ n wider p h fits. omega (arith, fits))
+
+  parameter_list_local : IsLocal limit (parameter_list limit).read (parameter_list limit).written (parameter_list limit).within
+  parameter_list_local =
+      list_local limit (parameter_reader limit) parameters_tokens AreParameters parameters_listed parameter_local parameters_widen
+
+  abbrev some_function : KindSyntax → FunctionSyntax
+  some_function kind = record {
+    kind = kind;
+    name = some_name;
+    parameters = some_parameter ∷ [];
+    result_type = UnitTypeSyntax some_place;
+    body = LocalSyntax some_place [];
   }
 
-  module _ (limit : ℕ) where
-    parameter_local : IsLocal limit (read_row (parameter_row words limit)) parameter_tokens (is_parameter words limit)
-    parameter_local =
-        row_local limit (parameter_row words limit) parameter_tokens (is_parameter words limit) (λ name. types_local words limit) (λ n things fits. (refl, fits))
-        some_parameter (λ n. (tt, omega arith)) (λ n wider p h fits. (fits.0, omega (arith, fits.1)))
+  function_local : (kind : KindSyntax)
+      → IsLocal limit (read_row (function_row limit kind)) (function_written limit) (is_of_kind limit kind)
+  function_local kind =
+      row_local limit (function_row limit kind) (function_written limit) (is_of_kind limit kind)
+      (λ name. (parameter_list_local, λ parameters. (types_local limit, λ result_type. (expressions_local limit, λ body. tt))))
+      (λ n t w. (refl, (refl, w.0.0, w.0.1, w.1.0, w.1.1.0)))
+      (some_function kind) (λ n. (refl, tt, (omega arith, tt), omega arith, (tt, omega arith)))
+      (λ n wider f h fits. (fits.0, fits.1, parameters_widen n wider f.parameters h fits.2, omega (arith, fits.3), (fits.4.0, omega (arith, fits.4.1))))
 
-    parameter_list_local : IsLocal limit (parameter_list words limit).read (parameter_list words limit).written (parameter_list words limit).within
-    parameter_list_local =
-        list_local limit (parameter_reader words limit) parameters_tokens (AreParameters words) (parameters_listed words) parameter_local parameters_widen
+  field_types_local : IsLocal limit (field_types limit).read (field_types limit).written (field_types limit).within
+  field_types_local =
+      optional_local limit (types limit) types_tokens AreTypes types_listed (types_local limit) types_widen
 
-    abbrev some_function : KindSyntax → FunctionSyntax
-    some_function kind = record {
-      kind = kind;
-      name = some_name;
-      parameters = some_parameter ∷ [];
-      result_type = UnitTypeSyntax some_place;
-      body = LocalSyntax some_place [];
-    }
+  constructor_local : IsLocal limit (read_row (constructor_row limit)) constructor_tokens (is_constructor limit)
+  constructor_local =
+      row_local limit (constructor_row limit) constructor_tokens (is_constructor limit) (λ name. field_types_local) (λ n things fits. (refl, fits))
+      some_constructor (λ n. tt) (λ n wider c h fits. types_widen n wider c.fields h fits)
 
-    function_local : (kind : KindSyntax)
-        → IsLocal limit (read_row (function_row words limit kind)) (function_written words limit) (is_of_kind words limit kind)
-    function_local kind =
-        row_local limit (function_row words limit kind) (function_written words limit) (is_of_kind words limit kind)
-        (λ name. (parameter_list_local, λ parameters. (types_local words limit, λ result_type. (expressions_local words limit, λ body. tt))))
-        (λ n t w. (refl, (refl, w.0.0, w.0.1, w.1.0, w.1.1.0)))
-        (some_function kind) (λ n. (refl, tt, ((tt, omega arith), tt), (tt, omega arith), (tt, omega arith)))
-        (λ n wider f h fits. (fits.0, fits.1, parameters_widen n wider f.parameters h fits.2, (fits.3.0, omega (arith, fits.3.1)), (fits.4.0, omega (arith, fits.4.1))))
+  constructor_list_local : IsLocal limit (constructor_list limit).read (constructor_list limit).written (constructor_list limit).within
+  constructor_list_local =
+      counted_local limit (constructor_reader limit) (mark Bar) (mark Semicolon) constructors_tokens AreConstructors constructors_listed
+      read_bar bars constructor_local bar_one constructors_widen
 
-    field_types_local : IsLocal limit (field_types words limit).read (field_types words limit).written (field_types words limit).within
-    field_types_local =
-        optional_local limit (types words limit) types_tokens (AreTypes words) (types_listed words) (types_local words limit) types_widen
+  -- the declarations
+  abbrev read : ℕ → Tokens → Reading DeclarationSyntax
+  read = read_declaration_at limit
 
-    constructor_local : IsLocal limit (read_row (constructor_row words limit)) constructor_tokens (is_constructor words limit)
-    constructor_local =
-        row_local limit (constructor_row words limit) constructor_tokens (is_constructor words limit) (λ name. field_types_local) (λ n things fits. (refl, fits))
-        some_constructor (λ n. tt) (λ n wider c h fits. types_widen n wider c.fields h fits)
+  abbrev is_declared : ℕ → DeclarationSyntax → Type 0
+  is_declared = IsDeclaration
 
-    constructor_list_local : IsLocal limit (constructor_list words limit).read (constructor_list words limit).written (constructor_list words limit).within
-    constructor_list_local =
-        counted_local limit (constructor_reader words limit) (mark Bar) (mark Semicolon) constructors_tokens (AreConstructors words) (constructors_listed words)
-        read_bar bars constructor_local bar_one constructors_widen
+  some_is : HasSome limit read declaration_tokens is_declared
+  some_is = record { some = StateDeclaration some_place (UnitTypeSyntax some_place); some_fits = λ n. omega arith }
 
-    -- the declarations
-    abbrev read : ℕ → Tokens → Reading DeclarationSyntax
-    read = read_declaration_at words limit
+  abbrev Headed : Place → Token → Row limit DeclarationSyntax → Type 0
+  Headed = IsHeaded limit read declaration_tokens is_declared
 
-    abbrev is_declared : ℕ → DeclarationSyntax → Type 0
-    is_declared = IsDeclaration words
+  type_is : (at : Place) → Headed at (KeywordToken TypeWord) (type_row limit at)
+  type_is at = record {
+    local = λ name. constructor_list_local;
+    makes = λ n t w. (refl, (w.0, w.1));
+    reads = λ wider rest. refl;
+  }
 
-    some_is : HasSome limit read declaration_tokens is_declared
-    some_is = record { some = StateDeclaration some_place (UnitTypeSyntax some_place); some_fits = λ n. (tt, omega arith) }
+  state_is : (at : Place) → Headed at (KeywordToken StateWord) (state_row limit at)
+  state_is at = record {
+    local = (types_local limit, λ of_type. tt);
+    makes = λ n t w. (refl, w.0);
+    reads = λ wider rest. refl;
+  }
 
-    abbrev Allowed : Place → Token → Bool → Row limit DeclarationSyntax → Type 0
-    Allowed = IsAllowed limit read declaration_tokens is_declared
+  function_is : (at : Place) (kind : KindSyntax)
+      → ((wider : ℕ) (rest : Tokens) → read wider (Next at (KeywordToken (kind_keyword kind)) rest)
+      ≡ read_row (function_declaration_row limit at kind) wider rest)
+      → Headed at (KeywordToken (kind_keyword kind)) (function_declaration_row limit at kind)
+  function_is at kind reads = record {
+    local = function_local kind;
+    makes = λ n f w. (
+      ap (λ (k : KindSyntax). standing at (KeywordToken (kind_keyword k)) ∷ function_written limit f) w.0 ∙ function_grouped limit at f,
+      record { has_parameter = w.1; parameters = w.2; result_type = w.3; body = w.4 },
+    );
+    reads = reads;
+  }
 
-    type_is : (at : Place) → Allowed at (KeywordToken TypeWord) (words NamedTypes) (type_row words limit at)
-    type_is at = record {
-      local = λ name. constructor_list_local;
-      makes = λ a n t w. (refl, (a, w.0, w.1));
-      reads = λ wider rest. refl;
-    }
+  inner_is : (at : Place) → Headed at (KeywordToken FunWord) (function_declaration_row limit at InnerSyntax)
+  inner_is at = function_is at InnerSyntax (λ wider rest. refl)
 
-    state_is : (at : Place) → Allowed at (KeywordToken StateWord) true (state_row words limit at)
-    state_is at = record {
-      local = (types_local words limit, λ of_type. tt);
-      makes = λ a n t w. (refl, w.0);
-      reads = λ wider rest. refl;
-    }
+  init_is : (at : Place) → Headed at (KeywordToken InitWord) (function_declaration_row limit at InitSyntax)
+  init_is at = function_is at InitSyntax (λ wider rest. refl)
 
-    function_is : (at : Place) (kind : KindSyntax) (test : Bool) → (test ≡ true → HasKind words kind)
-        → ((wider : ℕ) (rest : Tokens) → read wider (Next at (KeywordToken (kind_keyword kind)) rest)
-        ≡ allowed test at (read_row (function_declaration_row words limit at kind) wider rest))
-        → Allowed at (KeywordToken (kind_keyword kind)) test (function_declaration_row words limit at kind)
-    function_is at kind test has reads = record {
-      local = function_local kind;
-      makes = λ a n f w. (
-        ap (λ (k : KindSyntax). standing at (KeywordToken (kind_keyword k)) ∷ function_written words limit f) w.0 ∙ function_grouped words limit at f,
-        record { kind = subst (HasKind words) w.0 (has a); has_parameter = w.1; parameters = w.2; result_type = w.3; body = w.4 },
-      );
-      reads = reads;
-    }
+  query_is : (at : Place) → Headed at (KeywordToken QueryWord) (function_declaration_row limit at QuerySyntax)
+  query_is at = function_is at QuerySyntax (λ wider rest. refl)
 
-    inner_is : (at : Place) → Allowed at (KeywordToken FunWord) (words InnerFunctions) (function_declaration_row words limit at InnerSyntax)
-    inner_is at = function_is at InnerSyntax (words InnerFunctions) (λ a. a) (λ wider rest. refl)
+  update_is : (at : Place) → Headed at (KeywordToken UpdateWord) (function_declaration_row limit at UpdateSyntax)
+  update_is at = function_is at UpdateSyntax (λ wider rest. refl)
 
-    init_is : (at : Place) → Allowed at (KeywordToken InitWord) true (function_declaration_row words limit at InitSyntax)
-    init_is at = function_is at InitSyntax true (λ a. tt) (λ wider rest. refl)
+  declaration_taken : (before : Tokens) (found : DeclarationSyntax) (left : Tokens) → read limit before ≡ Found found left
+      → Taken limit read (λ d. d) declaration_tokens is_declared before found left
+  declaration_taken (Next at (KeywordToken TypeWord) rest) found left e = token_taken limit read declaration_tokens is_declared at _ _ (type_is at) rest found left e
+  declaration_taken (Next at (KeywordToken StateWord) rest) found left e = token_taken limit read declaration_tokens is_declared at _ _ (state_is at) rest found left e
+  declaration_taken (Next at (KeywordToken FunWord) rest) found left e = token_taken limit read declaration_tokens is_declared at _ _ (inner_is at) rest found left e
+  declaration_taken (Next at (KeywordToken InitWord) rest) found left e = token_taken limit read declaration_tokens is_declared at _ _ (init_is at) rest found left e
+  declaration_taken (Next at (KeywordToken QueryWord) rest) found left e = token_taken limit read declaration_tokens is_declared at _ _ (query_is at) rest found left e
+  declaration_taken (Next at (KeywordToken UpdateWord) rest) found left e = token_taken limit read declaration_tokens is_declared at _ _ (update_is at) rest found left e
+  declaration_taken before found left e = absurd (cc)
 
-    query_is : (at : Place) → Allowed at (KeywordToken QueryWord) true (function_declaration_row words limit at QuerySyntax)
-    query_is at = function_is at QuerySyntax true (λ a. tt) (λ wider rest. refl)
+  token_not_declared : (at : Place) (token : Token) (rest : Tokens) (kind : SyntaxKind) (place : Place) → read limit (Next at token rest) ≡ FaultAt kind place
+      → Stuck limit read (CanBegin declaration_tokens is_declared) (Next at token rest) kind place
+  token_not_declared at (KeywordToken TypeWord) rest kind place e = token_stuck limit read declaration_tokens is_declared at _ _ (type_is at) rest kind place e
+  token_not_declared at (KeywordToken StateWord) rest kind place e = token_stuck limit read declaration_tokens is_declared at _ _ (state_is at) rest kind place e
+  token_not_declared at (KeywordToken FunWord) rest kind place e = token_stuck limit read declaration_tokens is_declared at _ _ (inner_is at) rest kind place e
+  token_not_declared at (KeywordToken InitWord) rest kind place e = token_stuck limit read declaration_tokens is_declared at _ _ (init_is at) rest kind place e
+  token_not_declared at (KeywordToken QueryWord) rest kind place e = token_stuck limit read declaration_tokens is_declared at _ _ (query_is at) rest kind place e
+  token_not_declared at (KeywordToken UpdateWord) rest kind place e = token_stuck limit read declaration_tokens is_declared at _ _ (update_is at) rest kind place e
+  token_not_declared at token rest kind place e = token_refused limit read declaration_tokens is_declared some_is at token rest kind place (λ wider rest. refl) e
 
-    update_is : (at : Place) → Allowed at (KeywordToken UpdateWord) (words Updates) (function_declaration_row words limit at UpdateSyntax)
-    update_is at = function_is at UpdateSyntax (words Updates) (λ a. a) (λ wider rest. refl)
+  declaration_stuck : (before : Tokens) (kind : SyntaxKind) (place : Place) → read limit before ≡ FaultAt kind place
+      → Stuck limit read (CanBegin declaration_tokens is_declared) before kind place
+  declaration_stuck (Next at token rest) kind place e = token_not_declared at token rest kind place e
+  declaration_stuck (End at) kind place e = rest_refused limit read declaration_tokens is_declared some_is (End at) kind place e (λ at token rest e. cc)
+  declaration_stuck (Faulty at fault) kind place e =
+      rest_refused limit read declaration_tokens is_declared some_is (Faulty at fault) kind place e (λ at token rest e. cc)
 
-    declaration_taken : (before : Tokens) (found : DeclarationSyntax) (left : Tokens) → read limit before ≡ Found found left
-        → Taken limit read (λ d. d) declaration_tokens is_declared before found left
-    declaration_taken (Next at (KeywordToken TypeWord) rest) found left e = token_taken limit read declaration_tokens is_declared at _ _ _ (type_is at) rest found left e
-    declaration_taken (Next at (KeywordToken StateWord) rest) found left e = token_taken limit read declaration_tokens is_declared at _ _ _ (state_is at) rest found left e
-    declaration_taken (Next at (KeywordToken FunWord) rest) found left e = token_taken limit read declaration_tokens is_declared at _ _ _ (inner_is at) rest found left e
-    declaration_taken (Next at (KeywordToken InitWord) rest) found left e = token_taken limit read declaration_tokens is_declared at _ _ _ (init_is at) rest found left e
-    declaration_taken (Next at (KeywordToken QueryWord) rest) found left e = token_taken limit read declaration_tokens is_declared at _ _ _ (query_is at) rest found left e
-    declaration_taken (Next at (KeywordToken UpdateWord) rest) found left e = token_taken limit read declaration_tokens is_declared at _ _ _ (update_is at) rest found left e
-    declaration_taken before found left e = absurd (cc)
-
-    token_not_declared : (at : Place) (token : Token) (rest : Tokens) (kind : SyntaxKind) (place : Place) → read limit (Next at token rest) ≡ FaultAt kind place
-        → Stuck limit read (CanBegin declaration_tokens is_declared) (Next at token rest) kind place
-    token_not_declared at (KeywordToken TypeWord) rest kind place e = token_stuck limit read declaration_tokens is_declared some_is at _ _ _ (type_is at) rest kind place e
-    token_not_declared at (KeywordToken StateWord) rest kind place e = token_stuck limit read declaration_tokens is_declared some_is at _ _ _ (state_is at) rest kind place e
-    token_not_declared at (KeywordToken FunWord) rest kind place e = token_stuck limit read declaration_tokens is_declared some_is at _ _ _ (inner_is at) rest kind place e
-    token_not_declared at (KeywordToken InitWord) rest kind place e = token_stuck limit read declaration_tokens is_declared some_is at _ _ _ (init_is at) rest kind place e
-    token_not_declared at (KeywordToken QueryWord) rest kind place e = token_stuck limit read declaration_tokens is_declared some_is at _ _ _ (query_is at) rest kind place e
-    token_not_declared at (KeywordToken UpdateWord) rest kind place e = token_stuck limit read declaration_tokens is_declared some_is at _ _ _ (update_is at) rest kind place e
-    token_not_declared at token rest kind place e = token_refused limit read declaration_tokens is_declared some_is at token rest kind place (λ wider rest. refl) e
-
-    declaration_stuck : (before : Tokens) (kind : SyntaxKind) (place : Place) → read limit before ≡ FaultAt kind place
-        → Stuck limit read (CanBegin declaration_tokens is_declared) before kind place
-    declaration_stuck (Next at token rest) kind place e = token_not_declared at token rest kind place e
-    declaration_stuck (End at) kind place e = rest_refused limit read declaration_tokens is_declared some_is (End at) kind place e (λ at token rest e. cc)
-    declaration_stuck (Faulty at fault) kind place e =
-        rest_refused limit read declaration_tokens is_declared some_is (Faulty at fault) kind place e (λ at token rest e. cc)
-
-    pub declarations_local : IsLocal limit (read_declaration_at words limit) declaration_tokens (IsDeclaration words)
-    declarations_local = record {
-      taken = declaration_taken;
-      stuck = declaration_stuck;
-      some = StateDeclaration some_place (UnitTypeSyntax some_place);
-      some_fits = λ n. (tt, omega arith);
-      widen = declaration_widen;
-    }
+  pub declarations_local : IsLocal limit (read_declaration_at limit) declaration_tokens IsDeclaration
+  declarations_local = record {
+    taken = declaration_taken;
+    stuck = declaration_stuck;
+    some = StateDeclaration some_place (UnitTypeSyntax some_place);
+    some_fits = λ n. omega arith;
+    widen = declaration_widen;
+  }

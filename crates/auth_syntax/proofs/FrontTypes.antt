@@ -7,181 +7,149 @@ use Rattle.lexemes.specs.declared.token.Keyword.TheVariants.{Auth as AuthWord, U
 use Rattle.lexemes.specs.declared.token.Mark.TheVariants.{LeftParenthesis, RightParenthesis, Comma}
 use Rattle.lexemes.specs.Tokens.{Token, KeywordToken, MarkToken, LowerToken, Tokens, Next, End, Faulty}
 use Rattle.auth_syntax.specs.Syntax.{TypeSyntax, UnitTypeSyntax, BoolTypeSyntax, IntTypeSyntax, TextTypeSyntax, NamedTypeSyntax, AuthTypeSyntax, PairTypeSyntax}
-use Rattle.auth_syntax.specs.Vocabulary.{Vocabulary, NamedTypes, Bools, Ints, Texts, AuthTypes, Pairs}
 use Rattle.auth_syntax.specs.Grammar.{standing, mark, type_tokens, IsType}
 use Rattle.lexemes.specs.Readings.{Reading, Found, FaultAt}
-use Rattle.auth_syntax.specs.Parsing.{allowed, read_type, begins_type}
+use Rattle.auth_syntax.specs.Parsing.{read_type, begins_type}
 use Rattle.auth_syntax.specs.FirstFaults.{placed}
 use Rattle.auth_syntax.proofs.Readers.{Row, Done}
 use Rattle.auth_syntax.proofs.Types.{types_are, auth_row, pair_row, pair_written}
 use Rattle.auth_syntax.proofs.Fronts.{CanBegin, Taken, Stuck, IsLocal}
+use Rattle.auth_syntax.proofs.LevelSteps.{read_type-none}
 use Rattle.auth_syntax.proofs.Levels.{outer_taken, outer_stuck, zero_stuck}
-use Rattle.auth_syntax.proofs.Productions.{HasSome, IsAllowed, token_taken, token_stuck, token_refused, rest_refused}
+use Rattle.auth_syntax.proofs.Productions.{HasSome, IsHeaded, token_taken, token_stuck, token_refused, rest_refused}
 
 abbrev some_type : TypeSyntax
 some_type = UnitTypeSyntax (record { offset = 0; line = 1; column = 1 })
 
-module _ (words : Vocabulary) where
-  abbrev pub AreTypesLocal : ℕ → Type 0
-  AreTypesLocal levels = IsLocal levels (read_type words) type_tokens (IsType words)
+abbrev pub AreTypesLocal : ℕ → Type 0
+AreTypesLocal levels = IsLocal levels read_type type_tokens IsType
 
-  -- one level further out
-  abbrev outer : ℕ → Tokens → Reading TypeSyntax
-  outer levels = read_type words (suc levels)
+-- one level further out
+abbrev outer : ℕ → Tokens → Reading TypeSyntax
+outer levels = read_type (suc levels)
 
-  abbrev is_outer : ℕ → TypeSyntax → Type 0
-  is_outer levels = IsType words (suc levels)
+abbrev is_outer : ℕ → TypeSyntax → Type 0
+is_outer levels = IsType (suc levels)
 
-  some_is : (levels : ℕ) → HasSome levels outer type_tokens is_outer
-  some_is levels = record { some = some_type; some_fits = λ n. (tt, omega arith) }
+some_is : (levels : ℕ) → HasSome levels outer type_tokens is_outer
+some_is levels = record { some = some_type; some_fits = λ n. omega arith }
 
-  module _ (levels : ℕ) (local : AreTypesLocal levels) where
-    abbrev Allowed : Place → Token → Bool → Row levels TypeSyntax → Type 0
-    Allowed = IsAllowed levels outer type_tokens is_outer
+module _ (levels : ℕ) (local : AreTypesLocal levels) where
+  abbrev Headed : Place → Token → Row levels TypeSyntax → Type 0
+  Headed = IsHeaded levels outer type_tokens is_outer
 
-    leaf : (at : Place) (token : Token) (test : Bool) (t : TypeSyntax) → standing at token ∷ [] ≡ type_tokens t
-        → (test ≡ true → (n : ℕ) → is_outer n t)
-        → ((wider : ℕ) (rest : Tokens) → outer wider (Next at token rest) ≡ allowed test at (Found t rest))
-        → Allowed at token test (Done t)
-    leaf at token test t w h reads = record { local = tt; makes = λ a n things fits. (w, h a n); reads = reads }
+  leaf : (at : Place) (token : Token) (t : TypeSyntax) → standing at token ∷ [] ≡ type_tokens t → ((n : ℕ) → is_outer n t)
+      → ((wider : ℕ) (rest : Tokens) → outer wider (Next at token rest) ≡ Found t rest) → Headed at token (Done t)
+  leaf at token t w h reads = record { local = tt; makes = λ n things fits. (w, h n); reads = reads }
 
-    auth_is : (at : Place) → Allowed at (KeywordToken AuthWord) (words AuthTypes) (auth_row words levels (types_are words levels) at)
-    auth_is at = record {
-      local = local;
-      makes = λ a n inner fits. (refl, ((a, fits.0), omega (arith, fits.1)));
-      reads = λ wider rest. refl;
-    }
-
-    pair_is : (at : Place) → Allowed at (MarkToken LeftParenthesis) (words Pairs) (pair_row words levels (types_are words levels) at)
-    pair_is at = record {
-      local = (local, λ first. (local, λ second. tt));
-      makes = λ a n t w. (pair_written words at t.0 t.1.0, ((a, w.0.0, w.1.0.0), omega (arith, w.0.1, w.1.0.1)));
-      reads = λ wider rest. refl;
-    }
-
-    type_taken : (at : Place) (token : Token) (rest : Tokens) (found : TypeSyntax) (left : Tokens) → outer levels (Next at token rest) ≡ Found found left
-        → Taken levels outer (λ t. t) type_tokens is_outer (Next at token rest) found left
-    type_taken at (KeywordToken UnitWord) rest found left e =
-        token_taken levels outer type_tokens is_outer at (KeywordToken UnitWord) true (Done (UnitTypeSyntax at))
-        (leaf at _ true _ refl (λ a n. (tt, omega arith)) (λ wider rest. refl)) rest found left e
-    type_taken at (KeywordToken BoolWord) rest found left e =
-        token_taken levels outer type_tokens is_outer at (KeywordToken BoolWord) (words Bools) (Done (BoolTypeSyntax at))
-        (leaf at _ _ _ refl (λ a n. (a, omega arith)) (λ wider rest. refl)) rest found left e
-    type_taken at (KeywordToken IntWord) rest found left e =
-        token_taken levels outer type_tokens is_outer at (KeywordToken IntWord) (words Ints) (Done (IntTypeSyntax at))
-        (leaf at _ _ _ refl (λ a n. (a, omega arith)) (λ wider rest. refl)) rest found left e
-    type_taken at (KeywordToken TextWord) rest found left e =
-        token_taken levels outer type_tokens is_outer at (KeywordToken TextWord) (words Texts) (Done (TextTypeSyntax at))
-        (leaf at _ _ _ refl (λ a n. (a, omega arith)) (λ wider rest. refl)) rest found left e
-    type_taken at (LowerToken name) rest found left e =
-        token_taken levels outer type_tokens is_outer at (LowerToken name) (words NamedTypes) (Done (NamedTypeSyntax at name))
-        (leaf at _ _ _ refl (λ a n. (a, omega arith)) (λ wider rest. refl)) rest found left e
-    type_taken at (KeywordToken AuthWord) rest found left e =
-        token_taken levels outer type_tokens is_outer at (KeywordToken AuthWord) (words AuthTypes) _ (auth_is at) rest found left e
-    type_taken at (MarkToken LeftParenthesis) rest found left e =
-        token_taken levels outer type_tokens is_outer at (MarkToken LeftParenthesis) (words Pairs) _ (pair_is at) rest found left e
-    type_taken at token rest found left e = absurd (cc)
-
-    type_stuck : (at : Place) (token : Token) (rest : Tokens) (kind : SyntaxKind) (place : Place) → outer levels (Next at token rest) ≡ FaultAt kind place
-        → Stuck levels outer (CanBegin type_tokens is_outer) (Next at token rest) kind place
-    type_stuck at (KeywordToken UnitWord) rest kind place e = absurd (cc)
-    type_stuck at (KeywordToken BoolWord) rest kind place e =
-        token_stuck levels outer type_tokens is_outer (some_is levels) at (KeywordToken BoolWord) (words Bools) (Done (BoolTypeSyntax at))
-        (leaf at _ _ _ refl (λ a n. (a, omega arith)) (λ wider rest. refl)) rest kind place e
-    type_stuck at (KeywordToken IntWord) rest kind place e =
-        token_stuck levels outer type_tokens is_outer (some_is levels) at (KeywordToken IntWord) (words Ints) (Done (IntTypeSyntax at))
-        (leaf at _ _ _ refl (λ a n. (a, omega arith)) (λ wider rest. refl)) rest kind place e
-    type_stuck at (KeywordToken TextWord) rest kind place e =
-        token_stuck levels outer type_tokens is_outer (some_is levels) at (KeywordToken TextWord) (words Texts) (Done (TextTypeSyntax at))
-        (leaf at _ _ _ refl (λ a n. (a, omega arith)) (λ wider rest. refl)) rest kind place e
-    type_stuck at (LowerToken name) rest kind place e =
-        token_stuck levels outer type_tokens is_outer (some_is levels) at (LowerToken name) (words NamedTypes) (Done (NamedTypeSyntax at name))
-        (leaf at _ _ _ refl (λ a n. (a, omega arith)) (λ wider rest. refl)) rest kind place e
-    type_stuck at (KeywordToken AuthWord) rest kind place e =
-        token_stuck levels outer type_tokens is_outer (some_is levels) at (KeywordToken AuthWord) (words AuthTypes) _ (auth_is at) rest kind place e
-    type_stuck at (MarkToken LeftParenthesis) rest kind place e =
-        token_stuck levels outer type_tokens is_outer (some_is levels) at (MarkToken LeftParenthesis) (words Pairs) _ (pair_is at) rest kind place e
-    type_stuck at token rest kind place e = token_refused levels outer type_tokens is_outer (some_is levels) at token rest kind place (λ wider rest. refl) e
-
-    all_taken : (before : Tokens) (found : TypeSyntax) (left : Tokens) → outer levels before ≡ Found found left
-        → Taken levels outer (λ t. t) type_tokens is_outer before found left
-    all_taken (Next at token rest) found left e = type_taken at token rest found left e
-    all_taken (End at) found left e = absurd (cc)
-    all_taken (Faulty at fault) found left e = absurd (cc)
-
-    all_stuck : (before : Tokens) (kind : SyntaxKind) (place : Place) → outer levels before ≡ FaultAt kind place
-        → Stuck levels outer (CanBegin type_tokens is_outer) before kind place
-    all_stuck (Next at token rest) kind place e = type_stuck at token rest kind place e
-    all_stuck (End at) kind place e =
-        rest_refused levels outer type_tokens is_outer (some_is levels) (End at) kind place e (λ at token rest e. cc)
-    all_stuck (Faulty at fault) kind place e =
-        rest_refused levels outer type_tokens is_outer (some_is levels) (Faulty at fault) kind place e (λ at token rest e. cc)
-
-  -- a token that begins a type, and one that doesn't
-  started : (at : Place) (token : Token) → begins_type words token ≡ true → CanBegin type_tokens (IsType words) 2 (placed at token ∷ [])
-  started at (KeywordToken UnitWord) h = record { thing = UnitTypeSyntax at; others = []; are_first = (refl, refl, refl); fits = (tt, omega arith) }
-  started at (KeywordToken BoolWord) h = record { thing = BoolTypeSyntax at; others = []; are_first = (refl, refl, refl); fits = (h, omega arith) }
-  started at (KeywordToken IntWord) h = record { thing = IntTypeSyntax at; others = []; are_first = (refl, refl, refl); fits = (h, omega arith) }
-  started at (KeywordToken TextWord) h = record { thing = TextTypeSyntax at; others = []; are_first = (refl, refl, refl); fits = (h, omega arith) }
-  started at (LowerToken name) h = record { thing = NamedTypeSyntax at name; others = []; are_first = (refl, refl, refl); fits = (h, omega arith) }
-  started at (KeywordToken AuthWord) h = record {
-    thing = AuthTypeSyntax at some_type;
-    others = type_tokens some_type;
-    are_first = (refl, refl, refl);
-    fits = ((h, tt), omega arith);
+  auth_is : (at : Place) → Headed at (KeywordToken AuthWord) (auth_row levels (types_are levels) at)
+  auth_is at = record {
+    local = local;
+    makes = λ n inner fits. (refl, omega (arith, fits));
+    reads = λ wider rest. refl;
   }
-  started at (MarkToken LeftParenthesis) h = record {
-    thing = PairTypeSyntax at some_type some_type;
-    others = type_tokens some_type ++ mark Comma ∷ type_tokens some_type ++ mark RightParenthesis ∷ [];
-    are_first = (refl, refl, refl);
-    fits = ((h, tt, tt), omega arith);
+
+  pair_is : (at : Place) → Headed at (MarkToken LeftParenthesis) (pair_row levels (types_are levels) at)
+  pair_is at = record {
+    local = (local, λ first. (local, λ second. tt));
+    makes = λ n t w. (pair_written at t.0 t.1.0, omega (arith, w.0, w.1.0));
+    reads = λ wider rest. refl;
   }
-  started at token h = absurd (cc)
 
-  never_allowed : (test : Bool) (at : Place) (reading : Reading TypeSyntax) → test ≡ false
-      → allowed test at reading ≡ FaultAt Expected at
-  never_allowed true at reading h = absurd (cc)
-  never_allowed false at reading h = refl
+  type_taken : (at : Place) (token : Token) (rest : Tokens) (found : TypeSyntax) (left : Tokens) → outer levels (Next at token rest) ≡ Found found left
+      → Taken levels outer (λ t. t) type_tokens is_outer (Next at token rest) found left
+  type_taken at (KeywordToken UnitWord) rest found left e =
+      token_taken levels outer type_tokens is_outer at _ (Done (UnitTypeSyntax at)) (leaf at _ _ refl (λ n. omega arith) (λ wider rest. refl)) rest found left e
+  type_taken at (KeywordToken BoolWord) rest found left e =
+      token_taken levels outer type_tokens is_outer at _ (Done (BoolTypeSyntax at)) (leaf at _ _ refl (λ n. omega arith) (λ wider rest. refl)) rest found left e
+  type_taken at (KeywordToken IntWord) rest found left e =
+      token_taken levels outer type_tokens is_outer at _ (Done (IntTypeSyntax at)) (leaf at _ _ refl (λ n. omega arith) (λ wider rest. refl)) rest found left e
+  type_taken at (KeywordToken TextWord) rest found left e =
+      token_taken levels outer type_tokens is_outer at _ (Done (TextTypeSyntax at)) (leaf at _ _ refl (λ n. omega arith) (λ wider rest. refl)) rest found left e
+  type_taken at (LowerToken name) rest found left e =
+      token_taken levels outer type_tokens is_outer at _ (Done (NamedTypeSyntax at name)) (leaf at _ _ refl (λ n. omega arith) (λ wider rest. refl)) rest found left e
+  type_taken at (KeywordToken AuthWord) rest found left e = token_taken levels outer type_tokens is_outer at _ _ (auth_is at) rest found left e
+  type_taken at (MarkToken LeftParenthesis) rest found left e = token_taken levels outer type_tokens is_outer at _ _ (pair_is at) rest found left e
+  type_taken at token rest found left e = absurd (cc)
 
-  never : (at : Place) (token : Token) → begins_type words token ≡ false → (wider : ℕ) (rest : Tokens)
-      → read_type words (suc wider) (Next at token rest) ≡ FaultAt Expected at
-  never at (KeywordToken UnitWord) h wider rest = absurd (cc)
-  never at (KeywordToken BoolWord) h wider rest = never_allowed (words Bools) at _ h
-  never at (KeywordToken IntWord) h wider rest = never_allowed (words Ints) at _ h
-  never at (KeywordToken TextWord) h wider rest = never_allowed (words Texts) at _ h
-  never at (LowerToken name) h wider rest = never_allowed (words NamedTypes) at _ h
-  never at (KeywordToken AuthWord) h wider rest = never_allowed (words AuthTypes) at _ h
-  never at (MarkToken LeftParenthesis) h wider rest = never_allowed (words Pairs) at _ h
-  never at token h wider rest = refl
+  type_stuck : (at : Place) (token : Token) (rest : Tokens) (kind : SyntaxKind) (place : Place) → outer levels (Next at token rest) ≡ FaultAt kind place
+      → Stuck levels outer (CanBegin type_tokens is_outer) (Next at token rest) kind place
+  type_stuck at (KeywordToken UnitWord) rest kind place e = absurd (cc)
+  type_stuck at (KeywordToken BoolWord) rest kind place e = absurd (cc)
+  type_stuck at (KeywordToken IntWord) rest kind place e = absurd (cc)
+  type_stuck at (KeywordToken TextWord) rest kind place e = absurd (cc)
+  type_stuck at (LowerToken name) rest kind place e = absurd (cc)
+  type_stuck at (KeywordToken AuthWord) rest kind place e = token_stuck levels outer type_tokens is_outer at _ _ (auth_is at) rest kind place e
+  type_stuck at (MarkToken LeftParenthesis) rest kind place e = token_stuck levels outer type_tokens is_outer at _ _ (pair_is at) rest kind place e
+  type_stuck at token rest kind place e = token_refused levels outer type_tokens is_outer (some_is levels) at token rest kind place (λ wider rest. refl) e
 
-  none_taken : (before : Tokens) (found : TypeSyntax) (left : Tokens) → read_type words zero before ≡ Found found left
-      → Taken zero (read_type words) (λ t. t) type_tokens (IsType words) before found left
-  none_taken (Next at token rest) found left e = absurd (cc)
-  none_taken (End at) found left e = absurd (cc)
-  none_taken (Faulty at fault) found left e = absurd (cc)
+  all_taken : (before : Tokens) (found : TypeSyntax) (left : Tokens) → outer levels before ≡ Found found left
+      → Taken levels outer (λ t. t) type_tokens is_outer before found left
+  all_taken (Next at token rest) found left e = type_taken at token rest found left e
+  all_taken (End at) found left e = absurd (cc)
+  all_taken (Faulty at fault) found left e = absurd (cc)
 
-  widen : (n wider : ℕ) (t : TypeSyntax) → n ≤ wider → IsType words n t → IsType words wider t
-  widen n wider t h fits = (fits.0, omega (arith, fits.1))
+  all_stuck : (before : Tokens) (kind : SyntaxKind) (place : Place) → outer levels before ≡ FaultAt kind place
+      → Stuck levels outer (CanBegin type_tokens is_outer) before kind place
+  all_stuck (Next at token rest) kind place e = type_stuck at token rest kind place e
+  all_stuck (End at) kind place e =
+      rest_refused levels outer type_tokens is_outer (some_is levels) (End at) kind place e (λ at token rest e. cc)
+  all_stuck (Faulty at fault) kind place e =
+      rest_refused levels outer type_tokens is_outer (some_is levels) (Faulty at fault) kind place e (λ at token rest e. cc)
 
-  pub types_local : (levels : ℕ) → AreTypesLocal levels
-  types_local zero = record {
-    taken = none_taken;
-    stuck = zero_stuck (read_type words) type_tokens (IsType words) (begins_type words) (record {
-      some = record { some = some_type; some_fits = λ n. (tt, omega arith) };
-      stops = λ tokens. refl;
-      started = started;
-      never = never;
-    });
-    some = some_type;
-    some_fits = λ n. (tt, omega arith);
-    widen = widen;
-  }
-  types_local (suc levels) = record {
-    taken = λ before found left e.
-        outer_taken (read_type words) type_tokens (IsType words) levels before found left (all_taken levels (types_local levels) before found left e);
-    stuck = λ before kind place e.
-        outer_stuck (read_type words) type_tokens (IsType words) levels before kind place (all_stuck levels (types_local levels) before kind place e);
-    some = some_type;
-    some_fits = λ n. (tt, omega arith);
-    widen = widen;
-  }
+-- a token that begins a type, and one that doesn't
+started : (at : Place) (token : Token) → begins_type token ≡ true → CanBegin type_tokens IsType 2 (placed at token ∷ [])
+started at (KeywordToken UnitWord) h = record { thing = UnitTypeSyntax at; others = []; are_first = (refl, refl, refl); fits = omega arith }
+started at (KeywordToken BoolWord) h = record { thing = BoolTypeSyntax at; others = []; are_first = (refl, refl, refl); fits = omega arith }
+started at (KeywordToken IntWord) h = record { thing = IntTypeSyntax at; others = []; are_first = (refl, refl, refl); fits = omega arith }
+started at (KeywordToken TextWord) h = record { thing = TextTypeSyntax at; others = []; are_first = (refl, refl, refl); fits = omega arith }
+started at (LowerToken name) h = record { thing = NamedTypeSyntax at name; others = []; are_first = (refl, refl, refl); fits = omega arith }
+started at (KeywordToken AuthWord) h = record {
+  thing = AuthTypeSyntax at some_type;
+  others = type_tokens some_type;
+  are_first = (refl, refl, refl);
+  fits = omega arith;
+}
+started at (MarkToken LeftParenthesis) h = record {
+  thing = PairTypeSyntax at some_type some_type;
+  others = type_tokens some_type ++ mark Comma ∷ type_tokens some_type ++ mark RightParenthesis ∷ [];
+  are_first = (refl, refl, refl);
+  fits = omega arith;
+}
+started at token h = absurd (cc)
+
+never : (at : Place) (token : Token) → begins_type token ≡ false → (wider : ℕ) (rest : Tokens)
+    → read_type (suc wider) (Next at token rest) ≡ FaultAt Expected at
+never at token h wider rest = read_type-none (suc wider) at token rest h
+
+none_taken : (before : Tokens) (found : TypeSyntax) (left : Tokens) → read_type zero before ≡ Found found left
+    → Taken zero read_type (λ t. t) type_tokens IsType before found left
+none_taken (Next at token rest) found left e = absurd (cc)
+none_taken (End at) found left e = absurd (cc)
+none_taken (Faulty at fault) found left e = absurd (cc)
+
+widen : (n wider : ℕ) (t : TypeSyntax) → n ≤ wider → IsType n t → IsType wider t
+widen n wider t h fits = omega (arith, fits)
+
+pub types_local : (levels : ℕ) → AreTypesLocal levels
+types_local zero = record {
+  taken = none_taken;
+  stuck = zero_stuck read_type type_tokens IsType begins_type (record {
+    some = record { some = some_type; some_fits = λ n. omega arith };
+    stops = λ tokens. refl;
+    started = started;
+    never = never;
+  });
+  some = some_type;
+  some_fits = λ n. omega arith;
+  widen = widen;
+}
+types_local (suc levels) = record {
+  taken = λ before found left e.
+      outer_taken read_type type_tokens IsType levels before found left (all_taken levels (types_local levels) before found left e);
+  stuck = λ before kind place e.
+      outer_stuck read_type type_tokens IsType levels before kind place (all_stuck levels (types_local levels) before kind place e);
+  some = some_type;
+  some_fits = λ n. omega arith;
+  widen = widen;
+}

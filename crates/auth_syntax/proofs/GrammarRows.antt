@@ -4,7 +4,6 @@ use Rattle.std.specs.Prelude.{ℕ, zero, suc, Bool, true, false, List, [], ◌�
 use Rattle.std.specs.Str.{is_utf8, chars}
 use lib.Utf8.{encode}
 use Rattle.auth_syntax.specs.Parsing.{Parsed, Tree, FirstFault, parsed}
-use Rattle.auth_syntax.specs.Vocabulary.{fragment, whole_language}
 use Rattle.lexemes.specs.declared.fault.SyntaxKind.{SyntaxKind}
 use Rattle.lexemes.specs.declared.fault.SyntaxKind.TheVariants.{Lexical, Expected, TooNested}
 use Rattle.lexemes.specs.declared.fault.LexicalFault.TheVariants as lexical
@@ -38,204 +37,195 @@ abbrev lines : List (List ℕ) → List ℕ
 lines [] = []
 lines (line ∷ rest) = line ++ codes "\n" ++ lines rest
 
-nothing_is_a_program : is_tree (parsed whole_language (codes "")) ≡ true
+nothing_is_a_program : is_tree (parsed (codes "")) ≡ true
 nothing_is_a_program = refl
 
-comment_without_an_end_of_line : is_tree (parsed whole_language (codes "state unit; # x")) ≡ true
+comment_without_an_end_of_line : is_tree (parsed (codes "state unit; # x")) ≡ true
 comment_without_an_end_of_line = refl
 
-each_simple_type : is_tree (parsed whole_language (codes "query f(a: unit, b: bool, c: int, d: text, e: t, f: auth int, g: (int, auth t)): unit = ();")) ≡ true
+each_simple_type : is_tree (parsed (codes "query f(a: unit, b: bool, c: int, d: text, e: t, f: auth int, g: (int, auth t)): unit = ();")) ≡ true
 each_simple_type = refl
 
-named_types : is_tree (parsed whole_language (codes "type t = A | B(int) | C(t, auth t, text);")) ≡ true
+named_types : is_tree (parsed (codes "type t = A | B(int) | C(t, auth t, text);")) ≡ true
 named_types = refl
 
-each_kind_of_function : is_tree (parsed whole_language (codes "fun f(x: int): int = x; init g(x: int): int = x; query h(x: int): int = x; update i(x: int): int = x;")) ≡ true
+each_kind_of_function : is_tree (parsed (codes "fun f(x: int): int = x; init g(x: int): int = x; query h(x: int): int = x; update i(x: int): int = x;")) ≡ true
 each_kind_of_function = refl
 
-literals : is_tree (parsed whole_language (codes "query f(x: int): t = g((), true, false, 0, -7, 007);")) ≡ true
+literals : is_tree (parsed (codes "query f(x: int): t = g((), true, false, 0, -7, 007);")) ≡ true
 literals = refl
 
-texts : is_tree (parsed whole_language (codes "query f(x: int): text = \"a\\\"\\x41\";")) ≡ true
+texts : is_tree (parsed (codes "query f(x: int): text = \"a\\\"\\x41\";")) ≡ true
 unfolding is_utf8 chars encode
 texts = refl
 
-calls_and_constructors : is_tree (parsed whole_language (codes "query f(x: int): t = A(B, C(x, f(x)), g(x, h(x)));")) ≡ true
+calls_and_constructors : is_tree (parsed (codes "query f(x: int): t = A(B, C(x, f(x)), g(x, h(x)));")) ≡ true
 calls_and_constructors = refl
 
-unary_operations : is_tree (parsed whole_language (codes "query f(x: int): t = A(fst(x), snd(x), auth(x), unauth(x), len(x), not(x));")) ≡ true
+unary_operations : is_tree (parsed (codes "query f(x: int): t = A(fst(x), snd(x), auth(x), unauth(x), len(x), not(x));")) ≡ true
 unary_operations = refl
 
-binary_operations : is_tree (parsed whole_language (codes "query f(x: int): t = A(add(x, x), sub(x, x), mul(x, x), div(x, x), rem(x, x), eq(x, x), lt(x, x), le(x, x), teq(x, x), tlt(x, x), cat(x, x));")) ≡ true
+binary_operations : is_tree (parsed (codes "query f(x: int): t = A(add(x, x), sub(x, x), mul(x, x), div(x, x), rem(x, x), eq(x, x), lt(x, x), le(x, x), teq(x, x), tlt(x, x), cat(x, x));")) ≡ true
 binary_operations = refl
 
-let_if_and_match : is_tree (parsed whole_language (codes "query f(x: int): t = let y = (x, x) in if y then match y with | A -> x | B(a) -> a | C(a, b) -> b end else ((), y);")) ≡ true
+let_if_and_match : is_tree (parsed (codes "query f(x: int): t = let y = (x, x) in if y then match y with | A -> x | B(a) -> a | C(a, b) -> b end else ((), y);")) ≡ true
 let_if_and_match = refl
 
-auths_100 : is_tree (parsed whole_language (codes "query f(x: t): t = " ++ repeated 99 (codes "auth(") ++ codes "x" ++ repeated 99 (codes ")") ++ codes ";")) ≡ true
+auths_100 : is_tree (parsed (codes "query f(x: t): t = " ++ repeated 99 (codes "auth(") ++ codes "x" ++ repeated 99 (codes ")") ++ codes ";")) ≡ true
 auths_100 = refl
 
-auths_101 : fault_of (parsed whole_language (codes "query f(x: t): t = " ++ repeated 100 (codes "auth(") ++ codes "x" ++ repeated 100 (codes ")") ++ codes ";")) ≡ Some (TooNested, 1, 520)
+auths_101 : fault_of (parsed (codes "query f(x: t): t = " ++ repeated 100 (codes "auth(") ++ codes "x" ++ repeated 100 (codes ")") ++ codes ";")) ≡ Some (TooNested, 1, 520)
 auths_101 = refl
 
-auth_types_100 : is_tree (parsed whole_language (codes "state " ++ repeated 99 (codes "auth ") ++ codes "unit" ++ repeated 99 (codes "") ++ codes ";")) ≡ true
+auth_types_100 : is_tree (parsed (codes "state " ++ repeated 99 (codes "auth ") ++ codes "unit" ++ repeated 99 (codes "") ++ codes ";")) ≡ true
 auth_types_100 = refl
 
-auth_types_101 : fault_of (parsed whole_language (codes "state " ++ repeated 100 (codes "auth ") ++ codes "unit" ++ repeated 100 (codes "") ++ codes ";")) ≡ Some (TooNested, 1, 507)
+auth_types_101 : fault_of (parsed (codes "state " ++ repeated 100 (codes "auth ") ++ codes "unit" ++ repeated 100 (codes "") ++ codes ";")) ≡ Some (TooNested, 1, 507)
 auth_types_101 = refl
 
-pair_types_100 : is_tree (parsed whole_language (codes "state " ++ repeated 99 (codes "(int, ") ++ codes "unit" ++ repeated 99 (codes ")") ++ codes ";")) ≡ true
+pair_types_100 : is_tree (parsed (codes "state " ++ repeated 99 (codes "(int, ") ++ codes "unit" ++ repeated 99 (codes ")") ++ codes ";")) ≡ true
 pair_types_100 = refl
 
-pair_types_101 : fault_of (parsed whole_language (codes "state " ++ repeated 100 (codes "(int, ") ++ codes "unit" ++ repeated 100 (codes ")") ++ codes ";")) ≡ Some (TooNested, 1, 602)
+pair_types_101 : fault_of (parsed (codes "state " ++ repeated 100 (codes "(int, ") ++ codes "unit" ++ repeated 100 (codes ")") ++ codes ";")) ≡ Some (TooNested, 1, 602)
 pair_types_101 = refl
 
-pairs_100 : is_tree (parsed whole_language (codes "query f(x: t): t = " ++ repeated 99 (codes "((), ") ++ codes "x" ++ repeated 99 (codes ")") ++ codes ";")) ≡ true
+pairs_100 : is_tree (parsed (codes "query f(x: t): t = " ++ repeated 99 (codes "((), ") ++ codes "x" ++ repeated 99 (codes ")") ++ codes ";")) ≡ true
 pairs_100 = refl
 
-pairs_101 : fault_of (parsed whole_language (codes "query f(x: t): t = " ++ repeated 100 (codes "((), ") ++ codes "x" ++ repeated 100 (codes ")") ++ codes ";")) ≡ Some (TooNested, 1, 516)
+pairs_101 : fault_of (parsed (codes "query f(x: t): t = " ++ repeated 100 (codes "((), ") ++ codes "x" ++ repeated 100 (codes ")") ++ codes ";")) ≡ Some (TooNested, 1, 516)
 pairs_101 = refl
 
-lets_100 : is_tree (parsed whole_language (codes "query f(x: t): t = " ++ repeated 99 (codes "let y = x in ") ++ codes "x" ++ repeated 99 (codes "") ++ codes ";")) ≡ true
+lets_100 : is_tree (parsed (codes "query f(x: t): t = " ++ repeated 99 (codes "let y = x in ") ++ codes "x" ++ repeated 99 (codes "") ++ codes ";")) ≡ true
 lets_100 = refl
 
-lets_101 : fault_of (parsed whole_language (codes "query f(x: t): t = " ++ repeated 100 (codes "let y = x in ") ++ codes "x" ++ repeated 100 (codes "") ++ codes ";")) ≡ Some (TooNested, 1, 1315)
+lets_101 : fault_of (parsed (codes "query f(x: t): t = " ++ repeated 100 (codes "let y = x in ") ++ codes "x" ++ repeated 100 (codes "") ++ codes ";")) ≡ Some (TooNested, 1, 1315)
 lets_101 = refl
 
-matches_100 : is_tree (parsed whole_language (codes "query f(x: t): t = " ++ repeated 99 (codes "match x with | A -> ") ++ codes "x" ++ repeated 99 (codes " end") ++ codes ";")) ≡ true
+matches_100 : is_tree (parsed (codes "query f(x: t): t = " ++ repeated 99 (codes "match x with | A -> ") ++ codes "x" ++ repeated 99 (codes " end") ++ codes ";")) ≡ true
 matches_100 = refl
 
-matches_101 : fault_of (parsed whole_language (codes "query f(x: t): t = " ++ repeated 100 (codes "match x with | A -> ") ++ codes "x" ++ repeated 100 (codes " end") ++ codes ";")) ≡ Some (TooNested, 1, 2006)
+matches_101 : fault_of (parsed (codes "query f(x: t): t = " ++ repeated 100 (codes "match x with | A -> ") ++ codes "x" ++ repeated 100 (codes " end") ++ codes ";")) ≡ Some (TooNested, 1, 2006)
 matches_101 = refl
 
-nothing_begins_at_level_101 : fault_of (parsed whole_language (codes "state " ++ repeated 100 (codes "auth ") ++ codes ";")) ≡ Some (Expected, 1, 507)
+nothing_begins_at_level_101 : fault_of (parsed (codes "state " ++ repeated 100 (codes "auth ") ++ codes ";")) ≡ Some (Expected, 1, 507)
 nothing_begins_at_level_101 = refl
 
-no_expression_begins_at_level_101 : fault_of (parsed whole_language (codes "query f(x: t): t = " ++ repeated 100 (codes "auth(") ++ codes ")")) ≡ Some (Expected, 1, 520)
+no_expression_begins_at_level_101 : fault_of (parsed (codes "query f(x: t): t = " ++ repeated 100 (codes "auth(") ++ codes ")")) ≡ Some (Expected, 1, 520)
 no_expression_begins_at_level_101 = refl
 
-char_at_the_first_line : fault_of (parsed whole_language (on_first (codes "$"))) ≡ Some ((Lexical lexical.Char), 1, 1)
+char_at_the_first_line : fault_of (parsed (on_first (codes "$"))) ≡ Some ((Lexical lexical.Char), 1, 1)
 char_at_the_first_line = refl
 
-char_at_a_middle_line : fault_of (parsed whole_language (on_middle (codes "$"))) ≡ Some ((Lexical lexical.Char), 2, 3)
+char_at_a_middle_line : fault_of (parsed (on_middle (codes "$"))) ≡ Some ((Lexical lexical.Char), 2, 3)
 char_at_a_middle_line = refl
 
-char_at_the_last_line : fault_of (parsed whole_language (on_last (codes "$"))) ≡ Some ((Lexical lexical.Char), 3, 2)
+char_at_the_last_line : fault_of (parsed (on_last (codes "$"))) ≡ Some ((Lexical lexical.Char), 3, 2)
 char_at_the_last_line = refl
 
-bad_escape_at_the_first_line : fault_of (parsed whole_language (on_first (codes "\"a\\q\""))) ≡ Some ((Lexical lexical.BadEscape), 1, 3)
+bad_escape_at_the_first_line : fault_of (parsed (on_first (codes "\"a\\q\""))) ≡ Some ((Lexical lexical.BadEscape), 1, 3)
 bad_escape_at_the_first_line = refl
 
-bad_escape_at_a_middle_line : fault_of (parsed whole_language (on_middle (codes "\"a\\q\""))) ≡ Some ((Lexical lexical.BadEscape), 2, 5)
+bad_escape_at_a_middle_line : fault_of (parsed (on_middle (codes "\"a\\q\""))) ≡ Some ((Lexical lexical.BadEscape), 2, 5)
 bad_escape_at_a_middle_line = refl
 
-bad_escape_at_the_last_line : fault_of (parsed whole_language (on_last (codes "\"a\\q\""))) ≡ Some ((Lexical lexical.BadEscape), 3, 4)
+bad_escape_at_the_last_line : fault_of (parsed (on_last (codes "\"a\\q\""))) ≡ Some ((Lexical lexical.BadEscape), 3, 4)
 bad_escape_at_the_last_line = refl
 
-utf8_at_the_first_line : fault_of (parsed whole_language (on_first (codes "\"" ++ 255 ∷ codes "\""))) ≡ Some ((Lexical lexical.Utf8), 1, 1)
+utf8_at_the_first_line : fault_of (parsed (on_first (codes "\"" ++ 255 ∷ codes "\""))) ≡ Some ((Lexical lexical.Utf8), 1, 1)
 unfolding is_utf8 chars encode
 utf8_at_the_first_line = refl
 
-utf8_at_a_middle_line : fault_of (parsed whole_language (on_middle (codes "\"" ++ 255 ∷ codes "\""))) ≡ Some ((Lexical lexical.Utf8), 2, 3)
+utf8_at_a_middle_line : fault_of (parsed (on_middle (codes "\"" ++ 255 ∷ codes "\""))) ≡ Some ((Lexical lexical.Utf8), 2, 3)
 unfolding is_utf8 chars encode
 utf8_at_a_middle_line = refl
 
-utf8_at_the_last_line : fault_of (parsed whole_language (on_last (codes "\"" ++ 255 ∷ codes "\""))) ≡ Some ((Lexical lexical.Utf8), 3, 2)
+utf8_at_the_last_line : fault_of (parsed (on_last (codes "\"" ++ 255 ∷ codes "\""))) ≡ Some ((Lexical lexical.Utf8), 3, 2)
 unfolding is_utf8 chars encode
 utf8_at_the_last_line = refl
 
-number_range_at_the_first_line : fault_of (parsed whole_language (on_first (codes "9223372036854775808"))) ≡ Some ((Lexical lexical.NumberRange), 1, 1)
+number_range_at_the_first_line : fault_of (parsed (on_first (codes "9223372036854775808"))) ≡ Some ((Lexical lexical.NumberRange), 1, 1)
 number_range_at_the_first_line = refl
 
-number_range_at_a_middle_line : fault_of (parsed whole_language (on_middle (codes "9223372036854775808"))) ≡ Some ((Lexical lexical.NumberRange), 2, 3)
+number_range_at_a_middle_line : fault_of (parsed (on_middle (codes "9223372036854775808"))) ≡ Some ((Lexical lexical.NumberRange), 2, 3)
 number_range_at_a_middle_line = refl
 
-number_range_at_the_last_line : fault_of (parsed whole_language (on_last (codes "9223372036854775808"))) ≡ Some ((Lexical lexical.NumberRange), 3, 2)
+number_range_at_the_last_line : fault_of (parsed (on_last (codes "9223372036854775808"))) ≡ Some ((Lexical lexical.NumberRange), 3, 2)
 number_range_at_the_last_line = refl
 
-name_long_at_the_first_line : fault_of (parsed whole_language (on_first (repeated 65 (codes "a")))) ≡ Some ((Lexical lexical.NameLong), 1, 1)
+name_long_at_the_first_line : fault_of (parsed (on_first (repeated 65 (codes "a")))) ≡ Some ((Lexical lexical.NameLong), 1, 1)
 name_long_at_the_first_line = refl
 
-name_long_at_a_middle_line : fault_of (parsed whole_language (on_middle (repeated 65 (codes "a")))) ≡ Some ((Lexical lexical.NameLong), 2, 3)
+name_long_at_a_middle_line : fault_of (parsed (on_middle (repeated 65 (codes "a")))) ≡ Some ((Lexical lexical.NameLong), 2, 3)
 name_long_at_a_middle_line = refl
 
-name_long_at_the_last_line : fault_of (parsed whole_language (on_last (repeated 65 (codes "a")))) ≡ Some ((Lexical lexical.NameLong), 3, 2)
+name_long_at_the_last_line : fault_of (parsed (on_last (repeated 65 (codes "a")))) ≡ Some ((Lexical lexical.NameLong), 3, 2)
 name_long_at_the_last_line = refl
 
-expected_at_the_first_line : fault_of (parsed whole_language (on_first (codes ";"))) ≡ Some (Expected, 1, 1)
+expected_at_the_first_line : fault_of (parsed (on_first (codes ";"))) ≡ Some (Expected, 1, 1)
 expected_at_the_first_line = refl
 
-expected_at_a_middle_line : fault_of (parsed whole_language (on_middle (codes ";"))) ≡ Some (Expected, 2, 3)
+expected_at_a_middle_line : fault_of (parsed (on_middle (codes ";"))) ≡ Some (Expected, 2, 3)
 expected_at_a_middle_line = refl
 
-expected_at_the_last_line : fault_of (parsed whole_language (on_last (codes ";"))) ≡ Some (Expected, 3, 2)
+expected_at_the_last_line : fault_of (parsed (on_last (codes ";"))) ≡ Some (Expected, 3, 2)
 expected_at_the_last_line = refl
 
-too_nested_at_the_first_line : fault_of (parsed whole_language (on_first (codes "state " ++ repeated 100 (codes "auth ") ++ codes "unit;"))) ≡ Some (TooNested, 1, 507)
+too_nested_at_the_first_line : fault_of (parsed (on_first (codes "state " ++ repeated 100 (codes "auth ") ++ codes "unit;"))) ≡ Some (TooNested, 1, 507)
 too_nested_at_the_first_line = refl
 
-too_nested_at_a_middle_line : fault_of (parsed whole_language (on_middle (codes "state " ++ repeated 100 (codes "auth ") ++ codes "unit;"))) ≡ Some (TooNested, 2, 509)
+too_nested_at_a_middle_line : fault_of (parsed (on_middle (codes "state " ++ repeated 100 (codes "auth ") ++ codes "unit;"))) ≡ Some (TooNested, 2, 509)
 too_nested_at_a_middle_line = refl
 
-too_nested_at_the_last_line : fault_of (parsed whole_language (on_last (codes "state " ++ repeated 100 (codes "auth ") ++ codes "unit;"))) ≡ Some (TooNested, 3, 508)
+too_nested_at_the_last_line : fault_of (parsed (on_last (codes "state " ++ repeated 100 (codes "auth ") ++ codes "unit;"))) ≡ Some (TooNested, 3, 508)
 too_nested_at_the_last_line = refl
 
-text_long_at_the_first_line : fault_of (parsed whole_language (on_first (codes "\"" ++ repeated 65533 (codes "a") ++ codes "\""))) ≡ Some ((Lexical lexical.TextLong), 1, 1)
+text_long_at_the_first_line : fault_of (parsed (on_first (codes "\"" ++ repeated 65533 (codes "a") ++ codes "\""))) ≡ Some ((Lexical lexical.TextLong), 1, 1)
 unfolding is_utf8 chars encode
 text_long_at_the_first_line = refl
 
-text_long_at_a_middle_line : fault_of (parsed whole_language (on_middle (codes "\"" ++ repeated 65533 (codes "a") ++ codes "\""))) ≡ Some ((Lexical lexical.TextLong), 2, 3)
+text_long_at_a_middle_line : fault_of (parsed (on_middle (codes "\"" ++ repeated 65533 (codes "a") ++ codes "\""))) ≡ Some ((Lexical lexical.TextLong), 2, 3)
 unfolding is_utf8 chars encode
 text_long_at_a_middle_line = refl
 
-text_long_at_the_last_line : fault_of (parsed whole_language (on_last (codes "\"" ++ repeated 65533 (codes "a") ++ codes "\""))) ≡ Some ((Lexical lexical.TextLong), 3, 2)
+text_long_at_the_last_line : fault_of (parsed (on_last (codes "\"" ++ repeated 65533 (codes "a") ++ codes "\""))) ≡ Some ((Lexical lexical.TextLong), 3, 2)
 unfolding is_utf8 chars encode
 text_long_at_the_last_line = refl
 
-longest_text : is_tree (parsed whole_language (codes "query f(x: int): text = \"" ++ repeated 65532 (codes "a") ++ codes "\";")) ≡ true
+longest_text : is_tree (parsed (codes "query f(x: int): text = \"" ++ repeated 65532 (codes "a") ++ codes "\";")) ≡ true
 unfolding is_utf8 chars encode
 longest_text = refl
 
-unclosed_at_the_only_line : fault_of (parsed whole_language (codes "\"abc")) ≡ Some ((Lexical lexical.Unclosed), 1, 1)
+unclosed_at_the_only_line : fault_of (parsed (codes "\"abc")) ≡ Some ((Lexical lexical.Unclosed), 1, 1)
 unclosed_at_the_only_line = refl
 
-unclosed_at_the_last_line : fault_of (parsed whole_language (on_last (codes "\"abc"))) ≡ Some ((Lexical lexical.Unclosed), 3, 2)
+unclosed_at_the_last_line : fault_of (parsed (on_last (codes "\"abc"))) ≡ Some ((Lexical lexical.Unclosed), 3, 2)
 unclosed_at_the_last_line = refl
 
-a_text_ends_on_its_line : fault_of (parsed whole_language (on_middle (codes "\"abc"))) ≡ Some ((Lexical lexical.Char), 2, 7)
+a_text_ends_on_its_line : fault_of (parsed (on_middle (codes "\"abc"))) ≡ Some ((Lexical lexical.Char), 2, 7)
 a_text_ends_on_its_line = refl
 
-escape_is_cut_by_the_end : fault_of (parsed whole_language (on_last (codes "\"a\\"))) ≡ Some ((Lexical lexical.BadEscape), 3, 4)
+escape_is_cut_by_the_end : fault_of (parsed (on_last (codes "\"a\\"))) ≡ Some ((Lexical lexical.BadEscape), 3, 4)
 escape_is_cut_by_the_end = refl
 
-end_is_expected : fault_of (parsed whole_language (codes "state unit")) ≡ Some (Expected, 1, 11)
+end_is_expected : fault_of (parsed (codes "state unit")) ≡ Some (Expected, 1, 11)
 end_is_expected = refl
 
-a_name_is_no_declaration : fault_of (parsed whole_language (codes "abc")) ≡ Some (Expected, 1, 1)
+a_name_is_no_declaration : fault_of (parsed (codes "abc")) ≡ Some (Expected, 1, 1)
 a_name_is_no_declaration = refl
 
-let_is_no_declaration : fault_of (parsed whole_language (codes "let")) ≡ Some (Expected, 1, 1)
+let_is_no_declaration : fault_of (parsed (codes "let")) ≡ Some (Expected, 1, 1)
 let_is_no_declaration = refl
 
-fun_is_beyond_the_fragment : fault_of (parsed fragment (codes "state unit; fun f(x: int): int = unauth(5);")) ≡ Some (Expected, 1, 13)
-fun_is_beyond_the_fragment = refl
-
-pairs_are_beyond_the_fragment : fault_of (parsed fragment (codes "state (int, int);")) ≡ Some (Expected, 1, 7)
-pairs_are_beyond_the_fragment = refl
-
-calls_are_beyond_the_fragment : fault_of (parsed fragment (codes "query f(x: int): int = f(x);")) ≡ Some (Expected, 1, 25)
-calls_are_beyond_the_fragment = refl
-
-a_call_has_an_argument : fault_of (parsed whole_language (codes "query f(x: int): int = f();")) ≡ Some (Expected, 1, 26)
+a_call_has_an_argument : fault_of (parsed (codes "query f(x: int): int = f();")) ≡ Some (Expected, 1, 26)
 a_call_has_an_argument = refl
 
-a_match_has_an_arm : fault_of (parsed whole_language (codes "query f(x: int): int = match x with end;")) ≡ Some (Expected, 1, 37)
+a_match_has_an_arm : fault_of (parsed (codes "query f(x: int): int = match x with end;")) ≡ Some (Expected, 1, 37)
 a_match_has_an_arm = refl
 
-a_function_has_a_parameter : fault_of (parsed whole_language (codes "query f(): int = 1;")) ≡ Some (Expected, 1, 9)
+a_function_has_a_parameter : fault_of (parsed (codes "query f(): int = 1;")) ≡ Some (Expected, 1, 9)
 a_function_has_a_parameter = refl
 
-no_grouping : fault_of (parsed whole_language (codes "query f(x: int): int = (x);")) ≡ Some (Expected, 1, 26)
+no_grouping : fault_of (parsed (codes "query f(x: int): int = (x);")) ≡ Some (Expected, 1, 26)
 no_grouping = refl
 
 -- an authenticated search tree
@@ -255,7 +245,7 @@ search_tree =
     ∷ codes "update put(s: auth tree, e: (int, int)): (auth tree, unit) = (ins(s, fst(e), snd(e)), ());"
     ∷ []
 
-search_tree_is_a_program : is_tree (parsed whole_language (lines search_tree)) ≡ true
+search_tree_is_a_program : is_tree (parsed (lines search_tree)) ≡ true
 search_tree_is_a_program = refl
 
 -- an authenticated list of 2^d ints
@@ -281,5 +271,5 @@ tree_of_ints =
     ∷ codes "  else if le(fst(s), fst(e)) then (s, ()) else ((fst(s), change(snd(s), fst(s), fst(e), snd(e))), ());"
     ∷ []
 
-tree_of_ints_is_a_program : is_tree (parsed whole_language (lines tree_of_ints)) ≡ true
+tree_of_ints_is_a_program : is_tree (parsed (lines tree_of_ints)) ≡ true
 tree_of_ints_is_a_program = refl

@@ -4,20 +4,8 @@ use Rattle.lexemes.specs.declared.place.Place.{Place}
 use Rattle.lexemes.specs.Tokens.{Token, Tokens, Next}
 use Rattle.auth_syntax.specs.Grammar.{Written, standing}
 use Rattle.lexemes.specs.Readings.{Reading, Found}
-use Rattle.auth_syntax.specs.Parsing.{allowed}
 use Rattle.auth_syntax.proofs.Beginnings.{Begin, First, begin-none, begin-next}
 use Rattle.auth_syntax.proofs.Readers.{found_thing, found_left}
-
--- what is found is allowed, and what is allowed is found
-pub allowed_found : {A : Type 0} (test : Bool) (at : Place) (reading : Reading A) (found : A) (left : Tokens) → allowed test at reading ≡ Found found left
-    → (test ≡ true) × (reading ≡ Found found left)
-allowed_found true at reading found left e = (refl, e)
-allowed_found false at reading found left e = absurd (cc)
-
-pub allowed_read : {A : Type 0} (test : Bool) (at : Place) (reading result : Reading A) → test ≡ true → reading ≡ result
-    → allowed test at reading ≡ result
-allowed_read true at reading result h e = e
-allowed_read false at reading result h e = absurd (cc)
 
 -- what is known of a thing is known of what is found
 pub found_is : {A : Type 0} (written : A → List Written) (within : A → Type 0) (tokens : Tokens) (thing found : A) (rest left : Tokens)

@@ -29,7 +29,7 @@ pub mod FrontDeclarations
 pub mod FrontPrograms
 -- the law first_fault_is_told
 pub mod Told
--- parser::parse_in: the tree of a text is within the limits
+-- parser::parse: the tree of a text is within the limits
 pub mod LimitsOfTokens
 pub mod LimitsOfTrees
 pub mod WithinLimits

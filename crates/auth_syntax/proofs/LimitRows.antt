@@ -7,7 +7,6 @@ use Rattle.auth_syntax.specs.Syntax.{DeclarationSyntax}
 use Rattle.auth_syntax.specs.Grammar.{type_levels, expression_levels}
 use Rattle.auth_syntax.specs.Parsing.{Parsed, Tree, FirstFault, parsed}
 use Rattle.auth_syntax.specs.TreeLimits.{names_in_program, texts_in_program, types_in_program, bodies_in_program, expressions_in_program}
-use Rattle.auth_syntax.specs.Vocabulary.{whole_language}
 use Rattle.auth_syntax.proofs.GrammarRows.{repeated}
 
 -- the declarations of a text, where it is a program
@@ -16,7 +15,7 @@ declarations_of (Tree program) = program.declarations
 declarations_of (FirstFault kind at) = []
 
 abbrev read : List ℕ → List DeclarationSyntax
-read text = declarations_of (parsed whole_language text)
+read text = declarations_of (parsed text)
 
 -- a type and a function with some of each
 abbrev sample : List ℕ

@@ -6,7 +6,6 @@ use Rattle.lexemes.specs.declared.fault.SyntaxKind.{SyntaxKind}
 use Rattle.lexemes.specs.Tokens.{Token, Tokens, Next, End, Faulty, count}
 use Rattle.lexemes.specs.Readings.{SyntaxFault}
 use Rattle.auth_syntax.specs.Syntax.{ConstructorDeclaration, DeclarationSyntax}
-use Rattle.auth_syntax.specs.Vocabulary.{Vocabulary}
 use Rattle.lexemes.specs.Readings.{Reading, Found, FaultAt, then_read, read_separator}
 use Rattle.auth_syntax.specs.Parsing.{read_bar, read_arm_separator, read_others, read_list, read_expression, read_arms, read_constructor_declaration, read_constructors, read_declaration, read_declarations}
 use Rattle.auth_syntax.specs.Trees.{arms_in_a_row}
@@ -135,56 +134,55 @@ listed_by_one {A} one is_tokens = record {
       ∙ seen-id (read_separated read_separator one (count whole) whole);
 }
 
-module _ (words : Vocabulary) where
-  pub constructors_by_one : IsReadByOne read_bar (read_constructor_declaration words) (λ things. things) (λ tokens. read_constructors words (count tokens) tokens)
-  constructors_by_one = record {
-    sign_is_token = bar_is_token;
-    one_is_tokens = constructor_is_tokens words;
-    all_is = λ whole.
-        ap (λ (read : Tokens → Reading (List ConstructorDeclaration)). read whole) (read_constructors-is words (count whole))
-        ∙ seen-id (read_separated read_bar (read_constructor_declaration words) (count whole) whole);
-  }
+pub constructors_by_one : IsReadByOne read_bar read_constructor_declaration (λ things. things) (λ tokens. read_constructors (count tokens) tokens)
+constructors_by_one = record {
+  sign_is_token = bar_is_token;
+  one_is_tokens = constructor_is_tokens;
+  all_is = λ whole.
+      ap (λ (read : Tokens → Reading (List ConstructorDeclaration)). read whole) (read_constructors-is (count whole))
+      ∙ seen-id (read_separated read_bar read_constructor_declaration (count whole) whole);
+}
 
-  pub arms_by_one : (levels : ℕ)
-      → IsReadByOne read_arm_separator (read_arm (read_expression words levels)) arms_in_a_row (λ tokens. read_arms (read_expression words levels) (count tokens) tokens)
-  arms_by_one levels = record {
-    sign_is_token = arm_separator_is_token;
-    one_is_tokens = arm_is_tokens words levels;
-    all_is = λ whole. arms_are_read (read_expression words levels) (count whole) whole;
-  }
+pub arms_by_one : (levels : ℕ)
+    → IsReadByOne read_arm_separator (read_arm (read_expression levels)) arms_in_a_row (λ tokens. read_arms (read_expression levels) (count tokens) tokens)
+arms_by_one levels = record {
+  sign_is_token = arm_separator_is_token;
+  one_is_tokens = arm_is_tokens levels;
+  all_is = λ whole. arms_are_read (read_expression levels) (count whole) whole;
+}
 
 -- what is pushed stands behind the others
 pub pushed : {A B : Type 0} (view : A → B) (before after : List A) (thing : A) → after ≡ before ++ thing ∷ [] → map view after ≡ map view before ++ view thing ∷ []
 pushed view before after thing e = ap (map view) e ∙ map-append view before (thing ∷ [])
 
 -- The declarations that these tokens are are those read so far, and the declarations of what is left.
-pub record AreDeclaredSoFar (words : Vocabulary) (whole : Tokens) (so_far : List DeclarationSyntax) (rest : Tokens) : Type 0 where
+pub record AreDeclaredSoFar (whole : Tokens) (so_far : List DeclarationSyntax) (rest : Tokens) : Type 0 where
   pub most : ℕ
-  pub reading : read_declarations words (count whole) whole ≡ followed so_far (read_declarations words most rest)
+  pub reading : read_declarations (count whole) whole ≡ followed so_far (read_declarations most rest)
   pub enough : count rest ≤ most
 
-module _ (words : Vocabulary) (whole : Tokens) where
-  pub declared_so_far-start : AreDeclaredSoFar words whole [] whole
+module _ (whole : Tokens) where
+  pub declared_so_far-start : AreDeclaredSoFar whole [] whole
   declared_so_far-start =
-      record { most = count whole; reading = followed-nil (read_declarations words (count whole) whole); enough = omega arith }
+      record { most = count whole; reading = followed-nil (read_declarations (count whole) whole); enough = omega arith }
 
   -- what is read at the declarations left, where this is read as the first of them
   abbrev from_declaration : ℕ → Reading DeclarationSyntax → Reading (List DeclarationSyntax)
   from_declaration most reading =
-      then_read reading (λ declaration ts. then_read (read_declarations words most ts) (λ others ts. Found (declaration ∷ others) ts))
+      then_read reading (λ declaration ts. then_read (read_declarations most ts) (λ others ts. Found (declaration ∷ others) ts))
 
   -- one more declaration
   pub declared_so_far-more : (so_far : List DeclarationSyntax) (at : Place) (token : Token) (rest after : Tokens) (declaration : DeclarationSyntax)
-      → AreDeclaredSoFar words whole so_far (Next at token rest) → read_declaration words (Next at token rest) ≡ Found declaration after
-      → AreDeclaredSoFar words whole (so_far ++ declaration ∷ []) after
+      → AreDeclaredSoFar whole so_far (Next at token rest) → read_declaration (Next at token rest) ≡ Found declaration after
+      → AreDeclaredSoFar whole (so_far ++ declaration ∷ []) after
   declared_so_far-more so_far at token rest after declaration h found = more h.most h.reading h.enough where
-    more : (most : ℕ) → read_declarations words (count whole) whole ≡ followed so_far (read_declarations words most (Next at token rest))
-        → count (Next at token rest) ≤ most → AreDeclaredSoFar words whole (so_far ++ declaration ∷ []) after
+    more : (most : ℕ) → read_declarations (count whole) whole ≡ followed so_far (read_declarations most (Next at token rest))
+        → count (Next at token rest) ≤ most → AreDeclaredSoFar whole (so_far ++ declaration ∷ []) after
     more zero reading enough = absurd (omega arith)
     more (suc most) reading enough =
-        let fewer = declaration_is_tokens words (Next at token rest) after declaration found in
+        let fewer = declaration_is_tokens (Next at token rest) after declaration found in
         record {
           most = most;
-          reading = reading ∙ (ap (followed so_far) (ap (from_declaration most) found) ∙ joined so_far declaration (read_declarations words most after));
+          reading = reading ∙ (ap (followed so_far) (ap (from_declaration most) found) ∙ joined so_far declaration (read_declarations most after));
           enough = omega arith;
         }

@@ -7,7 +7,6 @@ use Rattle.lexemes.specs.declared.token.Mark.TheVariants.{Bar, Arrow}
 use Rattle.lexemes.specs.declared.token.Keyword.TheVariants.{End as EndWord}
 use Rattle.lexemes.specs.Tokens.{KeywordToken, MarkToken, Tokens, Next, End, Faulty, count}
 use Rattle.auth_syntax.specs.Syntax.{DeclarationSyntax}
-use Rattle.auth_syntax.specs.Vocabulary.{Vocabulary}
 use Rattle.auth_syntax.specs.Grammar.{Written, nesting_limit, names_tokens, parameter_tokens, constructor_tokens, declaration_tokens}
 use Rattle.lexemes.specs.Readings.{Reading, Found, FaultAt, read_separator}
 use Rattle.auth_syntax.specs.Parsing.{read_lower, read_bar, read_arm_separator, read_type, read_expression, read_parameter, read_constructor_declaration, read_declaration}
@@ -64,67 +63,66 @@ arm_separator_is_token = record { fewer = fewer; at_end = λ at. refl; at_fault 
   fewer (Next at (KeywordToken EndWord) rest) left follows e = let same : count rest ≡ count left = ap count (found_left e) in omega arith
   fewer tokens left follows e = absurd (cc)
 
-module _ (words : Vocabulary) where
-  type_at_end : (levels : ℕ) (at : Place) → read_type words levels (End at) ≡ FaultAt Expected at
-  type_at_end zero at = refl
-  type_at_end (suc levels) at = refl
+type_at_end : (levels : ℕ) (at : Place) → read_type levels (End at) ≡ FaultAt Expected at
+type_at_end zero at = refl
+type_at_end (suc levels) at = refl
 
-  type_at_fault : (levels : ℕ) (at : Place) (kind : LexicalFault) → read_type words levels (Faulty at kind) ≡ FaultAt (Lexical kind) at
-  type_at_fault zero at kind = refl
-  type_at_fault (suc levels) at kind = refl
+type_at_fault : (levels : ℕ) (at : Place) (kind : LexicalFault) → read_type levels (Faulty at kind) ≡ FaultAt (Lexical kind) at
+type_at_fault zero at kind = refl
+type_at_fault (suc levels) at kind = refl
 
-  pub type_is_tokens : (levels : ℕ) → IsMadeOfTokens (read_type words levels)
-  type_is_tokens levels = record {
-    fewer = λ tokens left t e. leaves_fewer _ tokens left ((types_are words levels).sound tokens t left e).0 (type_tokens-some t);
-    at_end = type_at_end levels;
-    at_fault = type_at_fault levels;
-  }
+pub type_is_tokens : (levels : ℕ) → IsMadeOfTokens (read_type levels)
+type_is_tokens levels = record {
+  fewer = λ tokens left t e. leaves_fewer _ tokens left ((types_are levels).sound tokens t left e).0 (type_tokens-some t);
+  at_end = type_at_end levels;
+  at_fault = type_at_fault levels;
+}
 
-  expression_at_end : (levels : ℕ) (at : Place) → read_expression words levels (End at) ≡ FaultAt Expected at
-  expression_at_end zero at = refl
-  expression_at_end (suc levels) at = refl
+expression_at_end : (levels : ℕ) (at : Place) → read_expression levels (End at) ≡ FaultAt Expected at
+expression_at_end zero at = refl
+expression_at_end (suc levels) at = refl
 
-  expression_at_fault : (levels : ℕ) (at : Place) (kind : LexicalFault) → read_expression words levels (Faulty at kind) ≡ FaultAt (Lexical kind) at
-  expression_at_fault zero at kind = refl
-  expression_at_fault (suc levels) at kind = refl
+expression_at_fault : (levels : ℕ) (at : Place) (kind : LexicalFault) → read_expression levels (Faulty at kind) ≡ FaultAt (Lexical kind) at
+expression_at_fault zero at kind = refl
+expression_at_fault (suc levels) at kind = refl
 
-  pub expression_is_tokens : (levels : ℕ) → IsMadeOfTokens (read_expression words levels)
-  expression_is_tokens levels = record {
-    fewer = λ tokens left exp e. leaves_fewer _ tokens left ((expressions_are words levels).sound tokens exp left e).0 (expression_tokens-some exp);
-    at_end = expression_at_end levels;
-    at_fault = expression_at_fault levels;
-  }
+pub expression_is_tokens : (levels : ℕ) → IsMadeOfTokens (read_expression levels)
+expression_is_tokens levels = record {
+  fewer = λ tokens left exp e. leaves_fewer _ tokens left ((expressions_are levels).sound tokens exp left e).0 (expression_tokens-some exp);
+  at_end = expression_at_end levels;
+  at_fault = expression_at_fault levels;
+}
 
-  abbrev arm_row : (levels : ℕ) → Row levels ArmSyntax
-  arm_row levels =
-      ThenUpper (λ constructor. Then (optional levels (names levels) names_tokens (λ at_most names. Unit {0}) (names_listed levels)) (λ fields.
-      ThenMark Arrow (Last (expressions words levels) (λ body. record { constructor = constructor; fields = fields; body = body }))))
+abbrev arm_row : (levels : ℕ) → Row levels ArmSyntax
+arm_row levels =
+    ThenUpper (λ constructor. Then (optional levels (names levels) names_tokens (λ at_most names. Unit {0}) (names_listed levels)) (λ fields.
+    ThenMark Arrow (Last (expressions levels) (λ body. record { constructor = constructor; fields = fields; body = body }))))
 
-  pub arm_is_tokens : (levels : ℕ) → IsMadeOfTokens (read_arm (read_expression words levels))
-  arm_is_tokens levels = record {
-    fewer = λ tokens left arm e. leaves_fewer _ tokens left (row_sound (arm_row levels) tokens arm left e).begin (omega arith);
-    at_end = λ at. refl;
-    at_fault = λ at kind. refl;
-  }
+pub arm_is_tokens : (levels : ℕ) → IsMadeOfTokens (read_arm (read_expression levels))
+arm_is_tokens levels = record {
+  fewer = λ tokens left arm e. leaves_fewer _ tokens left (row_sound (arm_row levels) tokens arm left e).begin (omega arith);
+  at_end = λ at. refl;
+  at_fault = λ at kind. refl;
+}
 
-  pub parameter_is_tokens : IsMadeOfTokens (read_parameter words)
-  parameter_is_tokens = record {
-    fewer = λ tokens left parameter e.
-        leaves_fewer (parameter_tokens parameter) tokens left ((parameters_are words nesting_limit).sound tokens parameter left e).0 (omega arith);
-    at_end = λ at. refl;
-    at_fault = λ at kind. refl;
-  }
+pub parameter_is_tokens : IsMadeOfTokens read_parameter
+parameter_is_tokens = record {
+  fewer = λ tokens left parameter e.
+      leaves_fewer (parameter_tokens parameter) tokens left ((parameters_are nesting_limit).sound tokens parameter left e).0 (omega arith);
+  at_end = λ at. refl;
+  at_fault = λ at kind. refl;
+}
 
-  pub constructor_is_tokens : IsMadeOfTokens (read_constructor_declaration words)
-  constructor_is_tokens = record {
-    fewer = λ tokens left constructor e.
-        leaves_fewer (constructor_tokens constructor) tokens left ((constructors_are words nesting_limit).sound tokens constructor left e).0 (omega arith);
-    at_end = λ at. refl;
-    at_fault = λ at kind. refl;
-  }
+pub constructor_is_tokens : IsMadeOfTokens read_constructor_declaration
+constructor_is_tokens = record {
+  fewer = λ tokens left constructor e.
+      leaves_fewer (constructor_tokens constructor) tokens left ((constructors_are nesting_limit).sound tokens constructor left e).0 (omega arith);
+  at_end = λ at. refl;
+  at_fault = λ at kind. refl;
+}
 
-  pub declaration_is_tokens : (tokens left : Tokens) (declaration : DeclarationSyntax) → read_declaration words tokens ≡ Found declaration left
-      → count left < count tokens
-  declaration_is_tokens tokens left declaration e =
-      leaves_fewer (declaration_tokens declaration) tokens left
-      ((declarations_are words nesting_limit).sound tokens declaration left (sym (read_declaration-is words tokens) ∙ e)).0 (declaration_some declaration)
+pub declaration_is_tokens : (tokens left : Tokens) (declaration : DeclarationSyntax) → read_declaration tokens ≡ Found declaration left
+    → count left < count tokens
+declaration_is_tokens tokens left declaration e =
+    leaves_fewer (declaration_tokens declaration) tokens left
+    ((declarations_are nesting_limit).sound tokens declaration left (sym (read_declaration-is tokens) ∙ e)).0 (declaration_some declaration)

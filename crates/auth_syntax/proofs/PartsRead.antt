@@ -8,11 +8,9 @@ use Rattle.core_terms.specs.declared.fault.Fault.TheVariants.{At, NoMemory}
 use Rattle.lexemes.specs.declared.fault.SyntaxKind.TheVariants.{Expected, Lexical, TooNested}
 use Rattle.lexemes.specs.Tokens.{MarkToken, Tokens, Next, End, Faulty, count}
 use Rattle.lexemes.specs.Readings.{SyntaxFault, Reading, Found, FaultAt, then_read, refused, read_mark, read_keyword}
-use Rattle.lexemes.specs.Remaining.{Reads, Takes}
+use Rattle.lexemes.specs.Remaining.{Reads, Takes, read_if_mark}
 use Rattle.auth_syntax.specs.Syntax.{NameSyntax, UnaryOperation, ExpSyntax, UnitSyntax, PairSyntax, UnarySyntax, BinarySyntax, LetSyntax, IfSyntax, MatchSyntax}
-use Rattle.auth_syntax.specs.Vocabulary.{Vocabulary, Pairs}
-use Rattle.auth_syntax.specs.LanguageViews.{once_begun}
-use Rattle.auth_syntax.specs.Parsing.{read_lower, read_upper, read_optional_list, read_expression, operation_from, pair_or_refused, read_unit_or_pair, read_let, read_if, read_match, read_arms}
+use Rattle.auth_syntax.specs.Parsing.{read_lower, read_upper, read_optional_list, read_expression, operation_from, read_unit_or_pair, read_let, read_if, read_match, read_arms}
 use Rattle.auth_syntax.specs.Arms.{read_arm}
 use Rattle.auth_syntax.specs.Trees.{ArmSyntax, arms_of, boxed_of, expression_of, name_of, unary_of}
 use Rattle.std.specs.declared.alloc.Global.{Global}
@@ -24,8 +22,8 @@ use Rattle.auth_syntax.specs.declared.tree.UnaryOperator.{UnaryOperator}
 use Rattle.auth_syntax.specs.declared.tree.ExpTree as tree
 use Rattle.auth_syntax.specs.declared.tree.ExpTree.TheVariants.{rolls-Unary, rolls-Binary, rolls-Let, rolls-If, rolls-Match}
 use Rattle.auth_syntax.specs.declared.tree.ExpTree.TheFolds.{fold-roll-ExpTree}
-use Rattle.auth_syntax.specs.Parts.{Begins, BothSyntax, OperationSyntax, OnOne, OnTwo, PatternSyntax, pair_sign, then_closed}
-use Rattle.auth_syntax.specs.Parts.{read_before, read_behind, read_binding, read_both, read_operation, read_pattern, read_unit_sign}
+use Rattle.auth_syntax.specs.Parts.{Begins, BothSyntax, OperationSyntax, OnOne, OnTwo, PatternSyntax, then_closed}
+use Rattle.auth_syntax.specs.Parts.{read_before, read_behind, read_binding, read_both, read_operation, read_pattern}
 use Rattle.auth_syntax.specs.declared.parser.expressions.Behind.{Behind}
 use Rattle.auth_syntax.specs.declared.parser.expressions.Behind.TheVariants as behind
 use Rattle.auth_syntax.proofs.MadeOfTokens.{expression_is_tokens}
@@ -40,11 +38,6 @@ alike : {A B : Type 0} (first : Reading A) (next next' : A → Tokens → Readin
     → then_read first next ≡ then_read first next'
 alike (Found value rest) next next' h = h value rest
 alike (FaultAt kind at) next next' h = refl
-
-then_refused : {A B : Type 0} (tokens : Tokens) (go : A → Tokens → Reading B) → refused tokens ≡ then_read (refused tokens) go
-then_refused (Next at token rest) go = refl
-then_refused (End at) go = refl
-then_refused (Faulty at kind) go = refl
 
 -- what is read, where it is read as this
 pub seen_as : {A B : Type 0} (view : A → B) (result : Result A SyntaxFault) (left : Tokens) {reading reading' : Reading B}
@@ -73,18 +66,18 @@ pub match_tree : (at : Place) (subject : Box ExpTree Global) (arms : Vec Arm Glo
 match_tree at subject arms = ap expression_of (sym (rolls-Match at subject arms)) ∙ fold-roll-ExpTree _ _ _ _ _
 
 -- where no expression begins, none is read
-pub none_begun : {A : Type 0} (view : A → ExpSyntax) (words : Vocabulary) (levels : ℕ) (before after left : Tokens) (fault : SyntaxFault)
-    → Begins words levels before (Err fault) after → Reads view (read_expression words levels before) (Err fault) left
-none_begun view words levels before after left (At kind at) h = h
-none_begun view words levels before after left NoMemory h = tt
+pub none_begun : {A : Type 0} (view : A → ExpSyntax) (levels : ℕ) (before after left : Tokens) (fault : SyntaxFault)
+    → Begins levels before (Err fault) after → Reads view (read_expression levels before) (Err fault) left
+none_begun view levels before after left (At kind at) h = h
+none_begun view levels before after left NoMemory h = tt
 
 -- where no token stands, no expression begins
-pub none_taken : (words : Vocabulary) (levels : ℕ) (before after : Tokens) (fault : SyntaxFault)
-    → Takes before (Err fault) after → Begins words levels before (Err fault) after
-none_taken words levels before after (At Expected at) h = ap (read_expression words levels) h ∙ (expression_is_tokens words levels).at_end at
-none_taken words levels before after (At (Lexical kind) at) h = ap (read_expression words levels) h ∙ (expression_is_tokens words levels).at_fault at kind
-none_taken words levels before after (At TooNested at) h = absurd h
-none_taken words levels before after NoMemory h = tt
+pub none_taken : (levels : ℕ) (before after : Tokens) (fault : SyntaxFault)
+    → Takes before (Err fault) after → Begins levels before (Err fault) after
+none_taken levels before after (At Expected at) h = ap (read_expression levels) h ∙ (expression_is_tokens levels).at_end at
+none_taken levels before after (At (Lexical kind) at) h = ap (read_expression levels) h ∙ (expression_is_tokens levels).at_fault at kind
+none_taken levels before after (At TooNested at) h = absurd h
+none_taken levels before after NoMemory h = tt
 
 module _ (part : Tokens → Reading ExpSyntax) where
   before_is : {A : Type 0} (behind : Behind) (tokens : Tokens) (go : ExpSyntax → Tokens → Reading A)
@@ -116,15 +109,10 @@ module _ (part : Tokens → Reading ExpSyntax) where
   unit_or_both at true rest = Found (UnitSyntax at) rest
   unit_or_both at false rest = then_read (read_both part rest) (as_pair at)
 
-  sign_is : (pairs : Bool) (at : Place) (tokens : Tokens)
-      → pair_or_refused pairs part at tokens ≡ then_read (pair_sign pairs tokens) (unit_or_both at)
-  sign_is true at tokens = sym (both_is tokens (as_pair at))
-  sign_is false at tokens = then_refused tokens (unit_or_both at)
-
-  pub unit_or_pair_is : (words : Vocabulary) (at : Place) (tokens : Tokens)
-      → read_unit_or_pair words part at tokens ≡ then_read (read_unit_sign (words Pairs) tokens) (unit_or_both at)
-  unit_or_pair_is words at (Next next (MarkToken RightParenthesis) rest) = refl
-  unit_or_pair_is words at tokens = sign_is (words Pairs) at tokens
+  pub unit_or_pair_is : (at : Place) (tokens : Tokens)
+      → read_unit_or_pair part at tokens ≡ then_read (read_if_mark RightParenthesis tokens) (unit_or_both at)
+  unit_or_pair_is at (Next next (MarkToken RightParenthesis) rest) = refl
+  unit_or_pair_is at tokens = sym (both_is tokens (as_pair at))
 
   -- operations
   abbrev pub operated : Place → OperationSyntax → Tokens → Reading ExpSyntax
@@ -133,17 +121,17 @@ module _ (part : Tokens → Reading ExpSyntax) where
   operated at (OnTwo operation) tokens =
       then_read (read_both part tokens) (λ both rest. Found (BinarySyntax at operation both.first both.second) rest)
 
-  pub operation_is : (words : Vocabulary) (at : Place) (unary : Option UnaryOperation) (binary : Option BinaryOperator) (tokens : Tokens)
-      → operation_from (once_begun words) part at unary binary tokens ≡ then_read (read_operation at unary binary tokens) (operated at)
-  operation_is words at (Some operation) binary tokens =
+  pub operation_is : (at : Place) (unary : Option UnaryOperation) (binary : Option BinaryOperator) (tokens : Tokens)
+      → operation_from part at unary binary tokens ≡ then_read (read_operation at unary binary tokens) (operated at)
+  operation_is at (Some operation) binary tokens =
       sym (in_turn (read_mark LeftParenthesis tokens) (λ _ rest. Found (OnOne operation) rest) (operated at)
       ∙ alike (read_mark LeftParenthesis tokens) _ _
       (λ _ rest. before_is (behind.Mark RightParenthesis) rest (λ operand rest. Found (UnarySyntax at operation operand) rest)))
-  operation_is words at None (Some operation) tokens =
+  operation_is at None (Some operation) tokens =
       sym (in_turn (read_mark LeftParenthesis tokens) (λ _ rest. Found (OnTwo operation) rest) (operated at)
       ∙ alike (read_mark LeftParenthesis tokens) _ _
       (λ _ rest. both_is rest (λ both rest. Found (BinarySyntax at operation both.first both.second) rest)))
-  operation_is words at None None tokens = refl
+  operation_is at None None tokens = refl
 
   -- `let`
   abbrev pub let_body : Place → NameSyntax → ExpSyntax → Tokens → Reading ExpSyntax

@@ -7,10 +7,9 @@ use Rattle.lexemes.specs.Tokens.{Token, Tokens, Next, End, Faulty}
 use Rattle.auth_syntax.specs.Syntax.{NameSyntax}
 use Rattle.auth_syntax.specs.Grammar.{Written, standing, lower}
 use Rattle.lexemes.specs.Readings.{Reading, Found, FaultAt, refused}
-use Rattle.auth_syntax.specs.Parsing.{allowed, read_lower}
+use Rattle.auth_syntax.specs.Parsing.{read_lower}
 use Rattle.auth_syntax.specs.FirstFaults.{Placed, placed, joined, AreFirst}
 use Rattle.auth_syntax.proofs.Readers.{Row, Things, made, row_written, row_within, read_row, lower_found}
-use Rattle.auth_syntax.proofs.Heads.{allowed_found, allowed_read}
 use Rattle.auth_syntax.proofs.Fronts.{joined-append, first-append, SameHead, CanBegin, Taken, Blocked, Stuck, IsLocal, stuck_behind, one_taken, one_stuck, front_heads, kind_is, place_is}
 use Rattle.auth_syntax.proofs.FrontRows.{lower_one, one_before, some_name, IsLocalRow, row_taken, row_stuck}
 
@@ -99,34 +98,32 @@ module _ {B : Type 0} (limit : ℕ) (read : ℕ → Tokens → Reading B) (writt
     blocked = (sym (kind_is e), place_is e);
   }
 
-  -- A row behind a token that the vocabulary may lack.
-  pub record IsAllowed (at : Place) (token : Token) (test : Bool) (row : Row limit B) : Type 0 where
+  -- a row behind a token
+  pub record IsHeaded (at : Place) (token : Token) (row : Row limit B) : Type 0 where
     pub local : IsLocalRow row
-    pub makes : test ≡ true → (n : ℕ) (things : Things row) → row_within row n things
+    pub makes : (n : ℕ) (things : Things row) → row_within row n things
         → (standing at token ∷ row_written row things ≡ written (made row things)) × within n (made row things)
-    pub reads : (wider : ℕ) (rest : Tokens) → read wider (Next at token rest) ≡ allowed test at (read_row row wider rest)
+    pub reads : (wider : ℕ) (rest : Tokens) → read wider (Next at token rest) ≡ read_row row wider rest
 
-  as_read : (at : Place) (token : Token) (test : Bool) (row : Row limit B) (rest : Tokens) → IsAllowed at token test row → test ≡ true
+  as_read : (at : Place) (token : Token) (row : Row limit B) (rest : Tokens) → IsHeaded at token row
       → IsRead (placed at token ∷ []) (standing at token ∷ []) row rest
-  as_read at token test row rest p h = record {
+  as_read at token row rest p = record {
     local = p.local;
     heads = (refl, refl, refl);
-    makes = p.makes h;
-    reads = λ wider rest heads. p.reads wider rest ∙ allowed_read test at (read_row row wider rest) (read_row row wider rest) h refl;
+    makes = p.makes;
+    reads = λ wider rest heads. p.reads wider rest;
   }
 
-  pub token_taken : (at : Place) (token : Token) (test : Bool) (row : Row limit B) → IsAllowed at token test row → (rest : Tokens) (found : B) (left : Tokens)
+  pub token_taken : (at : Place) (token : Token) (row : Row limit B) → IsHeaded at token row → (rest : Tokens) (found : B) (left : Tokens)
       → read limit (Next at token rest) ≡ Found found left → Taken limit read (λ thing. thing) written within (Next at token rest) found left
-  token_taken at token test row p rest found left e =
-      let a = allowed_found test at (read_row row limit rest) found left (sym (p.reads limit rest) ∙ e) in
-      read_taken (placed at token ∷ []) (standing at token ∷ []) row rest (as_read at token test row rest p a.0) found left a.1
+  token_taken at token row p rest found left e =
+      read_taken (placed at token ∷ []) (standing at token ∷ []) row rest (as_read at token row rest p) found left (sym (p.reads limit rest) ∙ e)
 
-  pub token_stuck : HasSome → (at : Place) (token : Token) (test : Bool) (row : Row limit B) → IsAllowed at token test row
+  pub token_stuck : (at : Place) (token : Token) (row : Row limit B) → IsHeaded at token row
       → (rest : Tokens) (kind : SyntaxKind) (place : Place) → read limit (Next at token rest) ≡ FaultAt kind place
       → Stuck limit read (CanBegin written within) (Next at token rest) kind place
-  token_stuck some at token true row p rest kind place e =
-      read_stuck (placed at token ∷ []) (standing at token ∷ []) row rest (as_read at token true row rest p refl) kind place (sym (p.reads limit rest) ∙ e)
-  token_stuck some at token false row p rest kind place e = token_refused some at token rest kind place (λ wider rest. p.reads wider rest) e
+  token_stuck at token row p rest kind place e =
+      read_stuck (placed at token ∷ []) (standing at token ∷ []) row rest (as_read at token row rest p) kind place (sym (p.reads limit rest) ∙ e)
 
 -- a reader that is a row
 pub row_local : {B : Type 0} (limit : ℕ) (row : Row limit B) (written : B → List Written) (within : ℕ → B → Type 0) → IsLocalRow row

@@ -6,7 +6,6 @@ use Rattle.lexemes.specs.declared.place.Place.{Place}
 use Rattle.lexemes.specs.Readings.{Found}
 use Rattle.lexemes.specs.Tokens.{Tokens, End, tokens, count}
 use Rattle.auth_syntax.specs.Syntax.{TypeSyntax, ExpSyntax, ParameterSyntax, ConstructorDeclaration, DeclarationSyntax, TypeDeclaration, StateDeclaration, FunctionDeclaration, Program}
-use Rattle.auth_syntax.specs.Vocabulary.{Vocabulary}
 use Rattle.auth_syntax.specs.Grammar.{type_levels, expression_levels, nesting_limit, declarations_tokens, AreTypes, AreParameters, AreConstructors, IsDeclaration, AreDeclarations, IsProgramText}
 use Rattle.auth_syntax.specs.Parsing.{read_declarations, parsed, as_program, end_of, Tree}
 use Rattle.auth_syntax.specs.TreeLimits.{types_in_declaration, types_in_program, bodies_in_declaration, bodies_in_program, expression_limit, IsWithinLimits}
@@ -21,74 +20,73 @@ IsShallowType t = type_levels t ≤ nesting_limit
 abbrev IsShallowBody : ExpSyntax → Type 0
 IsShallowBody body = expression_levels body ≤ nesting_limit
 
-module _ (words : Vocabulary) where
-  types_shallow : (ts : List TypeSyntax) → AreTypes words nesting_limit ts → All IsShallowType ts
-  types_shallow [] h = All-nil IsShallowType
-  types_shallow (t ∷ rest) h = All-cons IsShallowType t rest h.0.1 (types_shallow rest h.1)
+types_shallow : (ts : List TypeSyntax) → AreTypes nesting_limit ts → All IsShallowType ts
+types_shallow [] h = All-nil IsShallowType
+types_shallow (t ∷ rest) h = All-cons IsShallowType t rest h.0 (types_shallow rest h.1)
 
-  fields_shallow : (constructors : List ConstructorDeclaration) → AreConstructors words nesting_limit constructors
-      → All IsShallowType (flat_map (λ (constructor : ConstructorDeclaration). constructor.fields) constructors)
-  fields_shallow [] h = All-nil IsShallowType
-  fields_shallow (constructor ∷ rest) h =
-      All-append IsShallowType constructor.fields _ (types_shallow constructor.fields h.0) (fields_shallow rest h.1)
+fields_shallow : (constructors : List ConstructorDeclaration) → AreConstructors nesting_limit constructors
+    → All IsShallowType (flat_map (λ (constructor : ConstructorDeclaration). constructor.fields) constructors)
+fields_shallow [] h = All-nil IsShallowType
+fields_shallow (constructor ∷ rest) h =
+    All-append IsShallowType constructor.fields _ (types_shallow constructor.fields h.0) (fields_shallow rest h.1)
 
-  parameters_shallow : (parameters : List ParameterSyntax) → AreParameters words nesting_limit parameters
-      → All IsShallowType (map (λ (parameter : ParameterSyntax). parameter.of_type) parameters)
-  parameters_shallow [] h = All-nil IsShallowType
-  parameters_shallow (parameter ∷ rest) h = All-cons IsShallowType parameter.of_type _ h.0.1 (parameters_shallow rest h.1)
+parameters_shallow : (parameters : List ParameterSyntax) → AreParameters nesting_limit parameters
+    → All IsShallowType (map (λ (parameter : ParameterSyntax). parameter.of_type) parameters)
+parameters_shallow [] h = All-nil IsShallowType
+parameters_shallow (parameter ∷ rest) h = All-cons IsShallowType parameter.of_type _ h.0 (parameters_shallow rest h.1)
 
-  declaration_shallow : (declaration : DeclarationSyntax) → IsDeclaration words nesting_limit declaration
-      → All IsShallowType (types_in_declaration declaration) × All IsShallowBody (bodies_in_declaration declaration)
-  declaration_shallow (TypeDeclaration at name constructors) h = (fields_shallow constructors h.2, All-nil IsShallowBody)
-  declaration_shallow (StateDeclaration at of_type) h =
-      (All-cons IsShallowType of_type [] h.1 (All-nil IsShallowType), All-nil IsShallowBody)
-  declaration_shallow (FunctionDeclaration at function) h = (
-    All-append IsShallowType (map (λ (parameter : ParameterSyntax). parameter.of_type) function.parameters) (function.result_type ∷ [])
-        (parameters_shallow function.parameters h.parameters)
-        (All-cons IsShallowType function.result_type [] h.result_type.1 (All-nil IsShallowType)),
-    All-cons IsShallowBody function.body [] h.body.1 (All-nil IsShallowBody),
-  )
+declaration_shallow : (declaration : DeclarationSyntax) → IsDeclaration nesting_limit declaration
+    → All IsShallowType (types_in_declaration declaration) × All IsShallowBody (bodies_in_declaration declaration)
+declaration_shallow (TypeDeclaration at name constructors) h = (fields_shallow constructors h.1, All-nil IsShallowBody)
+declaration_shallow (StateDeclaration at of_type) h =
+    (All-cons IsShallowType of_type [] h (All-nil IsShallowType), All-nil IsShallowBody)
+declaration_shallow (FunctionDeclaration at function) h = (
+  All-append IsShallowType (map (λ (parameter : ParameterSyntax). parameter.of_type) function.parameters) (function.result_type ∷ [])
+      (parameters_shallow function.parameters h.parameters)
+      (All-cons IsShallowType function.result_type [] h.result_type (All-nil IsShallowType)),
+  All-cons IsShallowBody function.body [] h.body.1 (All-nil IsShallowBody),
+)
 
-  program_shallow : (declarations : List DeclarationSyntax) → AreDeclarations words nesting_limit declarations
-      → All IsShallowType (types_in_program declarations) × All IsShallowBody (bodies_in_program declarations)
-  program_shallow [] h = (All-nil IsShallowType, All-nil IsShallowBody)
-  program_shallow (declaration ∷ rest) h =
-      let first = declaration_shallow declaration h.0 in
-      let others = program_shallow rest h.1 in (
-        All-append IsShallowType (types_in_declaration declaration) (types_in_program rest) first.0 others.0,
-        All-append IsShallowBody (bodies_in_declaration declaration) (bodies_in_program rest) first.1 others.1,
-      )
+program_shallow : (declarations : List DeclarationSyntax) → AreDeclarations nesting_limit declarations
+    → All IsShallowType (types_in_program declarations) × All IsShallowBody (bodies_in_program declarations)
+program_shallow [] h = (All-nil IsShallowType, All-nil IsShallowBody)
+program_shallow (declaration ∷ rest) h =
+    let first = declaration_shallow declaration h.0 in
+    let others = program_shallow rest h.1 in (
+      All-append IsShallowType (types_in_declaration declaration) (types_in_program rest) first.0 others.0,
+      All-append IsShallowBody (bodies_in_declaration declaration) (bodies_in_program rest) first.1 others.1,
+    )
 
-  within_limits : (text : List ℕ) (program : Program) → length text ≤ expression_limit → IsProgramText words text program
-      → IsWithinLimits program.declarations
-  within_limits text program short h =
-      let shallow = program_shallow program.declarations h.well_formed in
-      record {
-        names = subst (All HasNameSize) (program_names program.declarations)
-            (names_limited text (declarations_tokens program.declarations) program.end h.written);
-        texts = subst (All HasTextSize) (program_texts program.declarations)
-            (texts_limited text (declarations_tokens program.declarations) program.end h.written);
-        types = shallow.0;
-        bodies = shallow.1;
-        expressions = omega (
-          arith,
-          short,
-          program_counted program.declarations,
-          written_short text (declarations_tokens program.declarations) program.end h.written,
-        );
-      }
+within_limits : (text : List ℕ) (program : Program) → length text ≤ expression_limit → IsProgramText text program
+    → IsWithinLimits program.declarations
+within_limits text program short h =
+    let shallow = program_shallow program.declarations h.well_formed in
+    record {
+      names = subst (All HasNameSize) (program_names program.declarations)
+          (names_limited text (declarations_tokens program.declarations) program.end h.written);
+      texts = subst (All HasTextSize) (program_texts program.declarations)
+          (texts_limited text (declarations_tokens program.declarations) program.end h.written);
+      types = shallow.0;
+      bodies = shallow.1;
+      expressions = omega (
+        arith,
+        short,
+        program_counted program.declarations,
+        written_short text (declarations_tokens program.declarations) program.end h.written,
+      );
+    }
 
-  -- the declarations that are read up to the end of a text are those of its program
-  pub read_is_tree : (text : List ℕ) (before : Tokens) (declarations : List DeclarationSyntax) (rest : Tokens) (end : Place) → before ≡ tokens text
-      → read_declarations words (count before) before ≡ Found declarations rest → rest ≡ End end
-      → parsed words text ≡ Tree (record { declarations = declarations; end = end })
-  read_is_tree text before declarations rest end whole h h' =
-      ap (λ (before : Tokens). as_program (read_declarations words (count before) before)) (sym whole)
-      ∙ ap as_program h ∙ ap (λ (rest : Tokens). Tree (record { declarations = declarations; end = end_of rest })) h'
+-- the declarations that are read up to the end of a text are those of its program
+pub read_is_tree : (text : List ℕ) (before : Tokens) (declarations : List DeclarationSyntax) (rest : Tokens) (end : Place) → before ≡ tokens text
+    → read_declarations (count before) before ≡ Found declarations rest → rest ≡ End end
+    → parsed text ≡ Tree (record { declarations = declarations; end = end })
+read_is_tree text before declarations rest end whole h h' =
+    ap (λ (before : Tokens). as_program (read_declarations (count before) before)) (sym whole)
+    ∙ ap as_program h ∙ ap (λ (rest : Tokens). Tree (record { declarations = declarations; end = end_of rest })) h'
 
-  pub read_is_within_limits : (text : List ℕ) (before : Tokens) (declarations : List DeclarationSyntax) (rest : Tokens) (end : Place)
-      → length text ≤ expression_limit → before ≡ tokens text → read_declarations words (count before) before ≡ Found declarations rest → rest ≡ End end
-      → IsWithinLimits declarations
-  read_is_within_limits text before declarations rest end short whole h h' =
-      let program : Program = record { declarations = declarations; end = end } in
-      within_limits text program short (parsed_is_written words text program (read_is_tree text before declarations rest end whole h h'))
+pub read_is_within_limits : (text : List ℕ) (before : Tokens) (declarations : List DeclarationSyntax) (rest : Tokens) (end : Place)
+    → length text ≤ expression_limit → before ≡ tokens text → read_declarations (count before) before ≡ Found declarations rest → rest ≡ End end
+    → IsWithinLimits declarations
+read_is_within_limits text before declarations rest end short whole h h' =
+    let program : Program = record { declarations = declarations; end = end } in
+    within_limits text program short (parsed_is_written text program (read_is_tree text before declarations rest end whole h h'))

@@ -6,7 +6,6 @@ use Rattle.lexemes.specs.declared.fault.SyntaxKind.{SyntaxKind}
 use Rattle.lexemes.specs.declared.fault.SyntaxKind.TheVariants.{Lexical, Expected, TooNested}
 use Rattle.lexemes.specs.Tokens.{Token, Tokens, Next, End, Faulty}
 use Rattle.auth_syntax.specs.Syntax.{DeclarationSyntax}
-use Rattle.auth_syntax.specs.Vocabulary.{Vocabulary}
 use Rattle.auth_syntax.specs.Grammar.{Written, IsKept, declarations_tokens, nesting_limit, AreDeclarations}
 
 -- a token at its place
@@ -28,33 +27,33 @@ AreFirst [] written others = written ≡ others
 AreFirst (first ∷ front) (written ∷ rest) others = (first.token ≡ written.token) × IsKept written.at first.at × AreFirst front rest others
 AreFirst (first ∷ front) [] others = ⊥
 
--- these tokens can be gone on with to the tokens of a program of the vocabulary, within a limit of nesting
-pub record CanGoOn (words : Vocabulary) (limit : ℕ) (front : List Placed) : Type 0 where
+-- these tokens can be gone on with to the tokens of a program, within a limit of nesting
+pub record CanGoOn (limit : ℕ) (front : List Placed) : Type 0 where
   pub declarations : List DeclarationSyntax
   pub others : List Written
   pub are_first : AreFirst front (declarations_tokens declarations) others
-  pub well_formed : AreDeclarations words limit declarations
+  pub well_formed : AreDeclarations limit declarations
 
 -- What stands behind the tokens that can be gone on with is refused. Where the text ends there, these tokens are no whole program. A token is
 -- not expected where no program, however nested, begins so. It is nested too deep where a program begins so within two levels more than
 -- the limit, but none within the limit: what begins with it may have to have a part.
-abbrev pub IsRefused : Vocabulary → List Placed → Tokens → SyntaxKind → Place → Type 0
-IsRefused words front (Faulty place fault) kind at = (kind ≡ Lexical fault) × (place ≡ at)
-IsRefused words front (End place) kind at =
+abbrev pub IsRefused : List Placed → Tokens → SyntaxKind → Place → Type 0
+IsRefused front (Faulty place fault) kind at = (kind ≡ Lexical fault) × (place ≡ at)
+IsRefused front (End place) kind at =
     (kind ≡ Expected) × (place ≡ at)
-    × ((declarations : List DeclarationSyntax) → AreFirst front (declarations_tokens declarations) [] → AreDeclarations words nesting_limit declarations → ⊥)
-IsRefused words front (Next place token rest) Expected at =
-    (place ≡ at) × ((limit : ℕ) → CanGoOn words limit (front ++ placed place token ∷ []) → ⊥)
-IsRefused words front (Next place token rest) TooNested at =
-    (place ≡ at) × CanGoOn words (suc (suc nesting_limit)) (front ++ placed place token ∷ [])
-    × (CanGoOn words nesting_limit (front ++ placed place token ∷ []) → ⊥)
-IsRefused words front (Next place token rest) (Lexical fault) at = ⊥
+    × ((declarations : List DeclarationSyntax) → AreFirst front (declarations_tokens declarations) [] → AreDeclarations nesting_limit declarations → ⊥)
+IsRefused front (Next place token rest) Expected at =
+    (place ≡ at) × ((limit : ℕ) → CanGoOn limit (front ++ placed place token ∷ []) → ⊥)
+IsRefused front (Next place token rest) TooNested at =
+    (place ≡ at) × CanGoOn (suc (suc nesting_limit)) (front ++ placed place token ∷ [])
+    × (CanGoOn nesting_limit (front ++ placed place token ∷ []) → ⊥)
+IsRefused front (Next place token rest) (Lexical fault) at = ⊥
 
 -- The first fault of some tokens. The tokens before it can be gone on with within one level more than the limit: it may be that what has
 -- to come next would begin on that level.
-pub record IsFirstFault (words : Vocabulary) (tokens : Tokens) (kind : SyntaxKind) (at : Place) : Type 0 where
+pub record IsFirstFault (tokens : Tokens) (kind : SyntaxKind) (at : Place) : Type 0 where
   pub front : List Placed
   pub rest : Tokens
   pub begin : tokens ≡ joined front rest
-  pub can_go_on : CanGoOn words (suc nesting_limit) front
-  pub refused : IsRefused words front rest kind at
+  pub can_go_on : CanGoOn (suc nesting_limit) front
+  pub refused : IsRefused front rest kind at

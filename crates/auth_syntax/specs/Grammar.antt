@@ -7,7 +7,6 @@ use Rattle.lexemes.specs.declared.token.Keyword.TheVariants.{«Type» as TypeWor
 use Rattle.lexemes.specs.declared.token.Mark.{Mark}
 use Rattle.lexemes.specs.declared.token.Mark.TheVariants.{LeftParenthesis, RightParenthesis, Comma, Semicolon, Colon, EqualsSign, Bar, Arrow}
 use Rattle.auth_syntax.specs.Syntax.{NameSyntax, TypeSyntax, UnitTypeSyntax, BoolTypeSyntax, IntTypeSyntax, TextTypeSyntax, NamedTypeSyntax, AuthTypeSyntax, PairTypeSyntax, UnaryOperation, FstOperation, SndOperation, AuthOperation, UnauthOperation, LenOperation, NotOperation, ExpSyntax, UnitSyntax, BoolSyntax, IntSyntax, TextSyntax, LocalSyntax, PairSyntax, UnarySyntax, BinarySyntax, CallSyntax, ConstructorSyntax, LetSyntax, IfSyntax, MatchSyntax, ExpsSyntax, NoExp, AndExp, ArmsSyntax, NoArmSyntax, AndArmSyntax, ParameterSyntax, KindSyntax, InnerSyntax, InitSyntax, QuerySyntax, UpdateSyntax, FunctionSyntax, ConstructorDeclaration, DeclarationSyntax, TypeDeclaration, StateDeclaration, FunctionDeclaration, Program}
-use Rattle.auth_syntax.specs.Vocabulary.{Vocabulary, NamedTypes, InnerFunctions, Updates, Bools, Ints, Texts, AuthTypes, Pairs, Unary, Binary, Calls, Constructors, Lets, Conditions, Matches}
 
 -- a token of a tree, with its place where the tree keeps it
 pub record Written : Type 0 where
@@ -198,63 +197,46 @@ abbrev mutual
 abbrev pub nesting_limit : ℕ
 nesting_limit = 100
 
-module _ (words : Vocabulary) where
-  -- each form of a type is one of the vocabulary
-  abbrev pub HasTypeForms : TypeSyntax → Type 0
-  HasTypeForms (UnitTypeSyntax at) = Unit {0}
-  HasTypeForms (BoolTypeSyntax at) = words Bools ≡ true
-  HasTypeForms (IntTypeSyntax at) = words Ints ≡ true
-  HasTypeForms (TextTypeSyntax at) = words Texts ≡ true
-  HasTypeForms (NamedTypeSyntax at name) = words NamedTypes ≡ true
-  HasTypeForms (AuthTypeSyntax at inner) = (words AuthTypes ≡ true) × HasTypeForms inner
-  HasTypeForms (PairTypeSyntax at first second) = (words Pairs ≡ true) × HasTypeForms first × HasTypeForms second
+abbrev mutual
+  -- each call has an argument, and each match an arm
+  pub HasParts : ExpSyntax → Type 0
+  HasParts (UnitSyntax at) = Unit {0}
+  HasParts (BoolSyntax at b) = Unit {0}
+  HasParts (IntSyntax at z) = Unit {0}
+  HasParts (TextSyntax at bytes) = Unit {0}
+  HasParts (LocalSyntax at name) = Unit {0}
+  HasParts (PairSyntax at first second) = HasParts first × HasParts second
+  HasParts (UnarySyntax at operation operand) = HasParts operand
+  HasParts (BinarySyntax at operation first second) = HasParts first × HasParts second
+  HasParts (CallSyntax at name NoExp) = ⊥
+  HasParts (CallSyntax at name (AndExp e rest)) = HaveParts (AndExp e rest)
+  HasParts (ConstructorSyntax at name operands) = HaveParts operands
+  HasParts (LetSyntax at name bound body) = HasParts bound × HasParts body
+  HasParts (IfSyntax at test first other) = HasParts test × HasParts first × HasParts other
+  HasParts (MatchSyntax at subject NoArmSyntax) = ⊥
+  HasParts (MatchSyntax at subject (AndArmSyntax constructor fields body rest)) =
+      HasParts subject × ArmsHaveParts (AndArmSyntax constructor fields body rest)
 
-  abbrev mutual
-    -- each form of an expression is one of the vocabulary; a call has an argument, and a match an arm
-    pub HasForms : ExpSyntax → Type 0
-    HasForms (UnitSyntax at) = Unit {0}
-    HasForms (BoolSyntax at b) = words Bools ≡ true
-    HasForms (IntSyntax at z) = words Ints ≡ true
-    HasForms (TextSyntax at bytes) = words Texts ≡ true
-    HasForms (LocalSyntax at name) = Unit {0}
-    HasForms (PairSyntax at first second) = (words Pairs ≡ true) × HasForms first × HasForms second
-    HasForms (UnarySyntax at operation operand) = (words (Unary operation) ≡ true) × HasForms operand
-    HasForms (BinarySyntax at operation first second) = (words (Binary operation) ≡ true) × HasForms first × HasForms second
-    HasForms (CallSyntax at name NoExp) = ⊥
-    HasForms (CallSyntax at name (AndExp e rest)) = (words Calls ≡ true) × HaveForms (AndExp e rest)
-    HasForms (ConstructorSyntax at name operands) = (words Constructors ≡ true) × HaveForms operands
-    HasForms (LetSyntax at name bound body) = (words Lets ≡ true) × HasForms bound × HasForms body
-    HasForms (IfSyntax at test first other) = (words Conditions ≡ true) × HasForms test × HasForms first × HasForms other
-    HasForms (MatchSyntax at subject NoArmSyntax) = ⊥
-    HasForms (MatchSyntax at subject (AndArmSyntax constructor fields body rest)) =
-        (words Matches ≡ true) × HasForms subject × ArmsHaveForms (AndArmSyntax constructor fields body rest)
+  pub HaveParts : ExpsSyntax → Type 0
+  HaveParts NoExp = Unit {0}
+  HaveParts (AndExp e rest) = HasParts e × HaveParts rest
 
-    pub HaveForms : ExpsSyntax → Type 0
-    HaveForms NoExp = Unit {0}
-    HaveForms (AndExp e rest) = HasForms e × HaveForms rest
-
-    pub ArmsHaveForms : ArmsSyntax → Type 0
-    ArmsHaveForms NoArmSyntax = Unit {0}
-    ArmsHaveForms (AndArmSyntax constructor fields body rest) = HasForms body × ArmsHaveForms rest
-
-  -- functions of this kind are declared
-  abbrev pub HasKind : KindSyntax → Type 0
-  HasKind InnerSyntax = words InnerFunctions ≡ true
-  HasKind UpdateSyntax = words Updates ≡ true
-  HasKind kind = Unit {0}
+  pub ArmsHaveParts : ArmsSyntax → Type 0
+  ArmsHaveParts NoArmSyntax = Unit {0}
+  ArmsHaveParts (AndArmSyntax constructor fields body rest) = HasParts body × ArmsHaveParts rest
 
 -- there is a first one
 abbrev pub IsSome : {A : Type 0} → List A → Type 0
 IsSome [] = ⊥
 IsSome (first ∷ rest) = Unit {0}
 
-module _ (words : Vocabulary) (limit : ℕ) where
-  -- a type, and an expression, of the vocabulary, within a limit of nesting
+module _ (limit : ℕ) where
+  -- a type, and an expression, within a limit of nesting
   abbrev pub IsType : TypeSyntax → Type 0
-  IsType t = HasTypeForms words t × (type_levels t ≤ limit)
+  IsType t = type_levels t ≤ limit
 
   abbrev pub IsExpression : ExpSyntax → Type 0
-  IsExpression e = HasForms words e × (expression_levels e ≤ limit)
+  IsExpression e = HasParts e × (expression_levels e ≤ limit)
 
   abbrev pub AreTypes : List TypeSyntax → Type 0
   AreTypes [] = Unit {0}
@@ -270,7 +252,6 @@ module _ (words : Vocabulary) (limit : ℕ) where
 
   -- a function has a parameter
   pub record IsFunction (function : FunctionSyntax) : Type 0 where
-    pub kind : HasKind words function.kind
     pub has_parameter : IsSome function.parameters
     pub parameters : AreParameters function.parameters
     pub result_type : IsType function.result_type
@@ -278,7 +259,7 @@ module _ (words : Vocabulary) (limit : ℕ) where
 
   -- a named type has a constructor
   abbrev pub IsDeclaration : DeclarationSyntax → Type 0
-  IsDeclaration (TypeDeclaration at name constructors) = (words NamedTypes ≡ true) × IsSome constructors × AreConstructors constructors
+  IsDeclaration (TypeDeclaration at name constructors) = IsSome constructors × AreConstructors constructors
   IsDeclaration (StateDeclaration at of_type) = IsType of_type
   IsDeclaration (FunctionDeclaration at function) = IsFunction function
 
@@ -297,8 +278,8 @@ AreWritten (End at) [] end = at ≡ end
 AreWritten (Next at token rest) (written ∷ others) end = (token ≡ written.token) × IsKept written.at at × AreWritten rest others end
 AreWritten found written end = ⊥
 
--- The text is one of the program, in a vocabulary: its tokens are those with which the program is written, each form of the program is
--- one of the vocabulary, and the program is within the limit of nesting.
-pub record IsProgramText (words : Vocabulary) (text : List ℕ) (program : Program) : Type 0 where
+-- The text is one of the program: its tokens are those with which the program is written, and the program is within the limit of nesting,
+-- with a parameter, a constructor, an argument and an arm wherever there has to be one.
+pub record IsProgramText (text : List ℕ) (program : Program) : Type 0 where
   pub written : AreWritten (tokens text) (declarations_tokens program.declarations) program.end
-  pub well_formed : AreDeclarations words nesting_limit program.declarations
+  pub well_formed : AreDeclarations nesting_limit program.declarations

@@ -1,5 +1,4 @@
 pub mod Syntax
-pub mod Vocabulary
 pub mod Grammar
 pub mod Parsing
 pub mod TreeParts
@@ -7,7 +6,6 @@ pub mod TreeLimits
 pub mod Trees
 pub mod Arms
 pub mod Parts
-pub mod LanguageViews
 pub mod Outcomes
 pub mod Laws
 pub mod FirstFaults

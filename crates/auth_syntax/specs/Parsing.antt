@@ -11,13 +11,7 @@ use Rattle.lexemes.specs.declared.fault.SyntaxKind.{SyntaxKind}
 use Rattle.lexemes.specs.declared.fault.SyntaxKind.TheVariants.{Expected, TooNested}
 use Rattle.lexemes.specs.Readings.{Reading, Found, FaultAt, then_read, refused, read_mark, read_keyword, read_separator}
 use Rattle.auth_syntax.specs.Syntax.{NameSyntax, TypeSyntax, UnitTypeSyntax, BoolTypeSyntax, IntTypeSyntax, TextTypeSyntax, NamedTypeSyntax, AuthTypeSyntax, PairTypeSyntax, UnaryOperation, FstOperation, SndOperation, AuthOperation, UnauthOperation, LenOperation, NotOperation, ExpSyntax, UnitSyntax, BoolSyntax, IntSyntax, TextSyntax, LocalSyntax, PairSyntax, UnarySyntax, BinarySyntax, CallSyntax, ConstructorSyntax, LetSyntax, IfSyntax, MatchSyntax, ExpsSyntax, NoExp, AndExp, ArmsSyntax, NoArmSyntax, AndArmSyntax, ParameterSyntax, KindSyntax, InnerSyntax, InitSyntax, QuerySyntax, UpdateSyntax, FunctionSyntax, ConstructorDeclaration, DeclarationSyntax, TypeDeclaration, StateDeclaration, FunctionDeclaration, Program}
-use Rattle.auth_syntax.specs.Vocabulary.{Vocabulary, NamedTypes, InnerFunctions, Updates, Bools, Ints, Texts, AuthTypes, Pairs, Unary, Binary, Calls, Constructors, Lets, Conditions, Matches}
 use Rattle.auth_syntax.specs.Grammar.{nesting_limit}
-
--- the token at this place is allowed, where the vocabulary has its form
-abbrev pub allowed : {A : Type 0} → Bool → Place → Reading A → Reading A
-allowed true at reading = reading
-allowed false at reading = FaultAt Expected at
 
 -- nothing more may be nested: a token that would begin something nested is told apart from one that begins nothing
 abbrev pub too_nested : {A : Type 0} → (Token → Bool) → Tokens → Reading A
@@ -88,16 +82,11 @@ read_pair part at tokens =
     then_read (part tokens) (λ second tokens.
     then_read (read_mark RightParenthesis tokens) (λ _ tokens. Found (PairSyntax at first second) tokens))))
 
--- a pair, where the vocabulary has pairs; else nothing may stand there
-abbrev pub pair_or_refused : Bool → (Tokens → Reading ExpSyntax) → Place → Tokens → Reading ExpSyntax
-pair_or_refused true part at tokens = read_pair part at tokens
-pair_or_refused false part at tokens = refused tokens
-
--- behind a lower name: the arguments of a call, where the vocabulary has calls; else the name is a local
-abbrev pub read_call : Bool → (Tokens → Reading ExpSyntax) → Place → List ℕ → Tokens → Reading ExpSyntax
-read_call true part at name (Next next (MarkToken LeftParenthesis) rest) =
+-- behind a lower name: the arguments of a call; where no parenthesis stands, the name is a local
+abbrev pub read_call : (Tokens → Reading ExpSyntax) → Place → List ℕ → Tokens → Reading ExpSyntax
+read_call part at name (Next next (MarkToken LeftParenthesis) rest) =
     then_read (read_list part (count rest) rest) (λ operands rest. Found (CallSyntax at name (in_a_row operands)) rest)
-read_call calls part at name tokens = Found (LocalSyntax at name) tokens
+read_call part at name tokens = Found (LocalSyntax at name) tokens
 
 -- behind an upper name: the fields of a constructor
 abbrev pub read_constructor : (Tokens → Reading ExpSyntax) → Place → List ℕ → Tokens → Reading ExpSyntax
@@ -169,172 +158,171 @@ read_bar (Next at (MarkToken Bar) rest) = Found true rest
 read_bar (Next at (MarkToken Semicolon) rest) = Found false rest
 read_bar tokens = refused tokens
 
-module _ (words : Vocabulary) where
-  -- whether a token begins a type
-  abbrev pub begins_type : Token → Bool
-  begins_type (KeywordToken UnitWord) = true
-  begins_type (KeywordToken BoolWord) = words Bools
-  begins_type (KeywordToken IntWord) = words Ints
-  begins_type (KeywordToken TextWord) = words Texts
-  begins_type (KeywordToken AuthWord) = words AuthTypes
-  begins_type (LowerToken name) = words NamedTypes
-  begins_type (MarkToken LeftParenthesis) = words Pairs
-  begins_type token = false
+-- whether a token begins a type
+abbrev pub begins_type : Token → Bool
+begins_type (KeywordToken UnitWord) = true
+begins_type (KeywordToken BoolWord) = true
+begins_type (KeywordToken IntWord) = true
+begins_type (KeywordToken TextWord) = true
+begins_type (KeywordToken AuthWord) = true
+begins_type (LowerToken name) = true
+begins_type (MarkToken LeftParenthesis) = true
+begins_type token = false
 
-  -- the type that a token begins
-  abbrev pub type_from : (Tokens → Reading TypeSyntax) → Place → Token → Tokens → Reading TypeSyntax
-  type_from part at (KeywordToken UnitWord) rest = Found (UnitTypeSyntax at) rest
-  type_from part at (KeywordToken BoolWord) rest = allowed (words Bools) at (Found (BoolTypeSyntax at) rest)
-  type_from part at (KeywordToken IntWord) rest = allowed (words Ints) at (Found (IntTypeSyntax at) rest)
-  type_from part at (KeywordToken TextWord) rest = allowed (words Texts) at (Found (TextTypeSyntax at) rest)
-  type_from part at (LowerToken name) rest = allowed (words NamedTypes) at (Found (NamedTypeSyntax at name) rest)
-  type_from part at (KeywordToken AuthWord) rest = allowed (words AuthTypes) at (read_auth_type part at rest)
-  type_from part at (MarkToken LeftParenthesis) rest = allowed (words Pairs) at (read_pair_type part at rest)
-  type_from part at token rest = FaultAt Expected at
+-- the type that a token begins
+abbrev pub type_from : (Tokens → Reading TypeSyntax) → Place → Token → Tokens → Reading TypeSyntax
+type_from part at (KeywordToken UnitWord) rest = Found (UnitTypeSyntax at) rest
+type_from part at (KeywordToken BoolWord) rest = Found (BoolTypeSyntax at) rest
+type_from part at (KeywordToken IntWord) rest = Found (IntTypeSyntax at) rest
+type_from part at (KeywordToken TextWord) rest = Found (TextTypeSyntax at) rest
+type_from part at (LowerToken name) rest = Found (NamedTypeSyntax at name) rest
+type_from part at (KeywordToken AuthWord) rest = read_auth_type part at rest
+type_from part at (MarkToken LeftParenthesis) rest = read_pair_type part at rest
+type_from part at token rest = FaultAt Expected at
 
-  -- a type, of at most so many levels
-  abbrev pub read_type : ℕ → Tokens → Reading TypeSyntax
-  read_type zero tokens = too_nested begins_type tokens
-  read_type (suc levels) (Next at token rest) = type_from (read_type levels) at token rest
-  read_type (suc levels) tokens = refused tokens
+-- a type, of at most so many levels
+abbrev pub read_type : ℕ → Tokens → Reading TypeSyntax
+read_type zero tokens = too_nested begins_type tokens
+read_type (suc levels) (Next at token rest) = type_from (read_type levels) at token rest
+read_type (suc levels) tokens = refused tokens
 
-  -- a type that stands in no other
-  abbrev pub read_whole_type : Tokens → Reading TypeSyntax
-  read_whole_type tokens = read_type nesting_limit tokens
+-- a type that stands in no other
+abbrev pub read_whole_type : Tokens → Reading TypeSyntax
+read_whole_type tokens = read_type nesting_limit tokens
 
-  -- whether a keyword begins an expression
-  abbrev pub operation_begins : Option UnaryOperation → Option BinaryOperator → Bool
-  operation_begins (Some operation) binary = words (Unary operation)
-  operation_begins None (Some operation) = words (Binary operation)
-  operation_begins None None = false
+-- whether a keyword begins an expression
+abbrev pub operation_begins : Option UnaryOperation → Option BinaryOperator → Bool
+operation_begins (Some operation) binary = true
+operation_begins None (Some operation) = true
+operation_begins None None = false
 
-  abbrev pub word_begins : Keyword → Bool
-  word_begins TrueWord = words Bools
-  word_begins FalseWord = words Bools
-  word_begins LetWord = words Lets
-  word_begins IfWord = words Conditions
-  word_begins MatchWord = words Matches
-  word_begins keyword = operation_begins (unary_of keyword) (binary_of keyword)
+abbrev pub word_begins : Keyword → Bool
+word_begins TrueWord = true
+word_begins FalseWord = true
+word_begins LetWord = true
+word_begins IfWord = true
+word_begins MatchWord = true
+word_begins keyword = operation_begins (unary_of keyword) (binary_of keyword)
 
-  -- whether a token begins an expression
-  abbrev pub begins_expression : Token → Bool
-  begins_expression (MarkToken LeftParenthesis) = true
-  begins_expression (LowerToken name) = true
-  begins_expression (UpperToken name) = words Constructors
-  begins_expression (IntToken z) = words Ints
-  begins_expression (TextToken bytes) = words Texts
-  begins_expression (KeywordToken keyword) = word_begins keyword
-  begins_expression token = false
+-- whether a token begins an expression
+abbrev pub begins_expression : Token → Bool
+begins_expression (MarkToken LeftParenthesis) = true
+begins_expression (LowerToken name) = true
+begins_expression (UpperToken name) = true
+begins_expression (IntToken z) = true
+begins_expression (TextToken bytes) = true
+begins_expression (KeywordToken keyword) = word_begins keyword
+begins_expression token = false
 
-  abbrev pub read_unit_or_pair : (Tokens → Reading ExpSyntax) → Place → Tokens → Reading ExpSyntax
-  read_unit_or_pair part at (Next next (MarkToken RightParenthesis) rest) = Found (UnitSyntax at) rest
-  read_unit_or_pair part at tokens = pair_or_refused (words Pairs) part at tokens
+abbrev pub read_unit_or_pair : (Tokens → Reading ExpSyntax) → Place → Tokens → Reading ExpSyntax
+read_unit_or_pair part at (Next next (MarkToken RightParenthesis) rest) = Found (UnitSyntax at) rest
+read_unit_or_pair part at tokens = read_pair part at tokens
 
-  abbrev pub operation_from : (Tokens → Reading ExpSyntax) → Place → Option UnaryOperation → Option BinaryOperator → Tokens → Reading ExpSyntax
-  operation_from part at (Some operation) binary rest = allowed (words (Unary operation)) at (read_unary part at operation rest)
-  operation_from part at None (Some operation) rest = allowed (words (Binary operation)) at (read_binary part at operation rest)
-  operation_from part at None None rest = FaultAt Expected at
+abbrev pub operation_from : (Tokens → Reading ExpSyntax) → Place → Option UnaryOperation → Option BinaryOperator → Tokens → Reading ExpSyntax
+operation_from part at (Some operation) binary rest = read_unary part at operation rest
+operation_from part at None (Some operation) rest = read_binary part at operation rest
+operation_from part at None None rest = FaultAt Expected at
 
-  -- the expression that a keyword begins
-  abbrev pub word_from : (Tokens → Reading ExpSyntax) → Place → Keyword → Tokens → Reading ExpSyntax
-  word_from part at TrueWord rest = allowed (words Bools) at (Found (BoolSyntax at true) rest)
-  word_from part at FalseWord rest = allowed (words Bools) at (Found (BoolSyntax at false) rest)
-  word_from part at LetWord rest = allowed (words Lets) at (read_let part at rest)
-  word_from part at IfWord rest = allowed (words Conditions) at (read_if part at rest)
-  word_from part at MatchWord rest = allowed (words Matches) at (read_match part at rest)
-  word_from part at keyword rest = operation_from part at (unary_of keyword) (binary_of keyword) rest
+-- the expression that a keyword begins
+abbrev pub word_from : (Tokens → Reading ExpSyntax) → Place → Keyword → Tokens → Reading ExpSyntax
+word_from part at TrueWord rest = Found (BoolSyntax at true) rest
+word_from part at FalseWord rest = Found (BoolSyntax at false) rest
+word_from part at LetWord rest = read_let part at rest
+word_from part at IfWord rest = read_if part at rest
+word_from part at MatchWord rest = read_match part at rest
+word_from part at keyword rest = operation_from part at (unary_of keyword) (binary_of keyword) rest
 
-  -- the expression that a token begins
-  abbrev pub expression_from : (Tokens → Reading ExpSyntax) → Place → Token → Tokens → Reading ExpSyntax
-  expression_from part at (MarkToken LeftParenthesis) rest = read_unit_or_pair part at rest
-  expression_from part at (LowerToken name) rest = read_call (words Calls) part at name rest
-  expression_from part at (UpperToken name) rest = allowed (words Constructors) at (read_constructor part at name rest)
-  expression_from part at (IntToken z) rest = allowed (words Ints) at (Found (IntSyntax at z) rest)
-  expression_from part at (TextToken bytes) rest = allowed (words Texts) at (Found (TextSyntax at bytes) rest)
-  expression_from part at (KeywordToken keyword) rest = word_from part at keyword rest
-  expression_from part at token rest = FaultAt Expected at
+-- the expression that a token begins
+abbrev pub expression_from : (Tokens → Reading ExpSyntax) → Place → Token → Tokens → Reading ExpSyntax
+expression_from part at (MarkToken LeftParenthesis) rest = read_unit_or_pair part at rest
+expression_from part at (LowerToken name) rest = read_call part at name rest
+expression_from part at (UpperToken name) rest = read_constructor part at name rest
+expression_from part at (IntToken z) rest = Found (IntSyntax at z) rest
+expression_from part at (TextToken bytes) rest = Found (TextSyntax at bytes) rest
+expression_from part at (KeywordToken keyword) rest = word_from part at keyword rest
+expression_from part at token rest = FaultAt Expected at
 
-  -- an expression, of at most so many levels
-  abbrev pub read_expression : ℕ → Tokens → Reading ExpSyntax
-  read_expression zero tokens = too_nested begins_expression tokens
-  read_expression (suc levels) (Next at token rest) = expression_from (read_expression levels) at token rest
-  read_expression (suc levels) tokens = refused tokens
+-- an expression, of at most so many levels
+abbrev pub read_expression : ℕ → Tokens → Reading ExpSyntax
+read_expression zero tokens = too_nested begins_expression tokens
+read_expression (suc levels) (Next at token rest) = expression_from (read_expression levels) at token rest
+read_expression (suc levels) tokens = refused tokens
 
-  -- an expression that stands in no other
-  abbrev pub read_whole_expression : Tokens → Reading ExpSyntax
-  read_whole_expression tokens = read_expression nesting_limit tokens
+-- an expression that stands in no other
+abbrev pub read_whole_expression : Tokens → Reading ExpSyntax
+read_whole_expression tokens = read_expression nesting_limit tokens
 
-  -- a parameter
-  abbrev pub read_parameter : Tokens → Reading ParameterSyntax
-  read_parameter tokens =
-      then_read (read_lower tokens) (λ name tokens.
-      then_read (read_mark Colon tokens) (λ _ tokens.
-      then_read (read_whole_type tokens) (λ of_type tokens. Found (record { name = name; of_type = of_type }) tokens)))
+-- a parameter
+abbrev pub read_parameter : Tokens → Reading ParameterSyntax
+read_parameter tokens =
+    then_read (read_lower tokens) (λ name tokens.
+    then_read (read_mark Colon tokens) (λ _ tokens.
+    then_read (read_whole_type tokens) (λ of_type tokens. Found (record { name = name; of_type = of_type }) tokens)))
 
-  -- a function, from the colon behind its parameters on
-  abbrev pub read_behind_parameters : KindSyntax → NameSyntax → List ParameterSyntax → Tokens → Reading FunctionSyntax
-  read_behind_parameters kind name parameters tokens =
-      then_read (read_mark Colon tokens) (λ _ tokens.
-      then_read (read_whole_type tokens) (λ result_type tokens.
-      then_read (read_mark EqualsSign tokens) (λ _ tokens.
-      then_read (read_whole_expression tokens) (λ body tokens.
-      then_read (read_mark Semicolon tokens) (λ _ tokens.
-      Found (record { kind = kind; name = name; parameters = parameters; result_type = result_type; body = body }) tokens)))))
+-- a function, from the colon behind its parameters on
+abbrev pub read_behind_parameters : KindSyntax → NameSyntax → List ParameterSyntax → Tokens → Reading FunctionSyntax
+read_behind_parameters kind name parameters tokens =
+    then_read (read_mark Colon tokens) (λ _ tokens.
+    then_read (read_whole_type tokens) (λ result_type tokens.
+    then_read (read_mark EqualsSign tokens) (λ _ tokens.
+    then_read (read_whole_expression tokens) (λ body tokens.
+    then_read (read_mark Semicolon tokens) (λ _ tokens.
+    Found (record { kind = kind; name = name; parameters = parameters; result_type = result_type; body = body }) tokens)))))
 
-  -- a function, behind the keyword of its kind
-  abbrev pub read_function : KindSyntax → Tokens → Reading FunctionSyntax
-  read_function kind tokens =
-      then_read (read_lower tokens) (λ name tokens.
-      then_read (read_mark LeftParenthesis tokens) (λ _ tokens.
-      then_read (read_list read_parameter (count tokens) tokens) (λ parameters tokens. read_behind_parameters kind name parameters tokens)))
+-- a function, behind the keyword of its kind
+abbrev pub read_function : KindSyntax → Tokens → Reading FunctionSyntax
+read_function kind tokens =
+    then_read (read_lower tokens) (λ name tokens.
+    then_read (read_mark LeftParenthesis tokens) (λ _ tokens.
+    then_read (read_list read_parameter (count tokens) tokens) (λ parameters tokens. read_behind_parameters kind name parameters tokens)))
 
-  abbrev pub read_function_declaration : Place → KindSyntax → Tokens → Reading DeclarationSyntax
-  read_function_declaration at kind tokens =
-      then_read (read_function kind tokens) (λ function tokens. Found (FunctionDeclaration at function) tokens)
+abbrev pub read_function_declaration : Place → KindSyntax → Tokens → Reading DeclarationSyntax
+read_function_declaration at kind tokens =
+    then_read (read_function kind tokens) (λ function tokens. Found (FunctionDeclaration at function) tokens)
 
-  -- the type of the state, behind its keyword
-  abbrev pub read_state : Place → Tokens → Reading DeclarationSyntax
-  read_state at tokens =
-      then_read (read_whole_type tokens) (λ of_type tokens.
-      then_read (read_mark Semicolon tokens) (λ _ tokens. Found (StateDeclaration at of_type) tokens))
+-- the type of the state, behind its keyword
+abbrev pub read_state : Place → Tokens → Reading DeclarationSyntax
+read_state at tokens =
+    then_read (read_whole_type tokens) (λ of_type tokens.
+    then_read (read_mark Semicolon tokens) (λ _ tokens. Found (StateDeclaration at of_type) tokens))
 
-  -- a constructor of a named type
-  abbrev pub read_constructor_declaration : Tokens → Reading ConstructorDeclaration
-  read_constructor_declaration tokens =
-      then_read (read_upper tokens) (λ name tokens.
-      then_read (read_optional_list read_whole_type tokens) (λ fields tokens. Found (record { name = name; fields = fields }) tokens))
+-- a constructor of a named type
+abbrev pub read_constructor_declaration : Tokens → Reading ConstructorDeclaration
+read_constructor_declaration tokens =
+    then_read (read_upper tokens) (λ name tokens.
+    then_read (read_optional_list read_whole_type tokens) (λ fields tokens. Found (record { name = name; fields = fields }) tokens))
 
-  -- at least one and at most so many constructors, and the semicolon that ends them
-  abbrev pub read_constructors : ℕ → Tokens → Reading (List ConstructorDeclaration)
-  read_constructors zero tokens = refused tokens
-  read_constructors (suc most) tokens =
-      then_read (read_constructor_declaration tokens) (λ first tokens.
-      then_read (read_others (read_bar tokens) (read_constructors most)) (λ others tokens. Found (first ∷ others) tokens))
+-- at least one and at most so many constructors, and the semicolon that ends them
+abbrev pub read_constructors : ℕ → Tokens → Reading (List ConstructorDeclaration)
+read_constructors zero tokens = refused tokens
+read_constructors (suc most) tokens =
+    then_read (read_constructor_declaration tokens) (λ first tokens.
+    then_read (read_others (read_bar tokens) (read_constructors most)) (λ others tokens. Found (first ∷ others) tokens))
 
-  -- a named type, behind its keyword
-  abbrev pub read_type_declaration : Place → Tokens → Reading DeclarationSyntax
-  read_type_declaration at tokens =
-      then_read (read_lower tokens) (λ name tokens.
-      then_read (read_mark EqualsSign tokens) (λ _ tokens.
-      then_read (read_constructors (count tokens) tokens) (λ constructors tokens. Found (TypeDeclaration at name constructors) tokens)))
+-- a named type, behind its keyword
+abbrev pub read_type_declaration : Place → Tokens → Reading DeclarationSyntax
+read_type_declaration at tokens =
+    then_read (read_lower tokens) (λ name tokens.
+    then_read (read_mark EqualsSign tokens) (λ _ tokens.
+    then_read (read_constructors (count tokens) tokens) (λ constructors tokens. Found (TypeDeclaration at name constructors) tokens)))
 
-  -- a declaration
-  abbrev pub read_declaration : Tokens → Reading DeclarationSyntax
-  read_declaration (Next at (KeywordToken TypeWord) rest) = allowed (words NamedTypes) at (read_type_declaration at rest)
-  read_declaration (Next at (KeywordToken StateWord) rest) = read_state at rest
-  read_declaration (Next at (KeywordToken FunWord) rest) = allowed (words InnerFunctions) at (read_function_declaration at InnerSyntax rest)
-  read_declaration (Next at (KeywordToken InitWord) rest) = read_function_declaration at InitSyntax rest
-  read_declaration (Next at (KeywordToken QueryWord) rest) = read_function_declaration at QuerySyntax rest
-  read_declaration (Next at (KeywordToken UpdateWord) rest) = allowed (words Updates) at (read_function_declaration at UpdateSyntax rest)
-  read_declaration tokens = refused tokens
+-- a declaration
+abbrev pub read_declaration : Tokens → Reading DeclarationSyntax
+read_declaration (Next at (KeywordToken TypeWord) rest) = read_type_declaration at rest
+read_declaration (Next at (KeywordToken StateWord) rest) = read_state at rest
+read_declaration (Next at (KeywordToken FunWord) rest) = read_function_declaration at InnerSyntax rest
+read_declaration (Next at (KeywordToken InitWord) rest) = read_function_declaration at InitSyntax rest
+read_declaration (Next at (KeywordToken QueryWord) rest) = read_function_declaration at QuerySyntax rest
+read_declaration (Next at (KeywordToken UpdateWord) rest) = read_function_declaration at UpdateSyntax rest
+read_declaration tokens = refused tokens
 
-  -- at most so many declarations, which end with the text
-  abbrev pub read_declarations : ℕ → Tokens → Reading (List DeclarationSyntax)
-  read_declarations most (End at) = Found [] (End at)
-  read_declarations zero tokens = refused tokens
-  read_declarations (suc most) tokens =
-      then_read (read_declaration tokens) (λ declaration tokens.
-      then_read (read_declarations most tokens) (λ rest tokens. Found (declaration ∷ rest) tokens))
+-- at most so many declarations, which end with the text
+abbrev pub read_declarations : ℕ → Tokens → Reading (List DeclarationSyntax)
+read_declarations most (End at) = Found [] (End at)
+read_declarations zero tokens = refused tokens
+read_declarations (suc most) tokens =
+    then_read (read_declaration tokens) (λ declaration tokens.
+    then_read (read_declarations most tokens) (λ rest tokens. Found (declaration ∷ rest) tokens))
 
 -- what parsing a text gives: its tree, or its first fault with its place
 pub data Parsed : Type 0 where
@@ -351,6 +339,6 @@ abbrev pub as_program : Reading (List DeclarationSyntax) → Parsed
 as_program (Found declarations rest) = Tree (record { declarations = declarations; end = end_of rest })
 as_program (FaultAt kind at) = FirstFault kind at
 
--- the program that a text is one of, in a vocabulary, or the text's first fault
-abbrev pub parsed : Vocabulary → List ℕ → Parsed
-parsed words text = let found = tokens text in as_program (read_declarations words (count found) found)
+-- the program that a text is one of, or the text's first fault
+abbrev pub parsed : List ℕ → Parsed
+parsed text = let found = tokens text in as_program (read_declarations (count found) found)

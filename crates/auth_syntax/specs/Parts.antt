@@ -11,7 +11,6 @@ use Rattle.lexemes.specs.Tokens.{Token, KeywordToken, MarkToken, LowerToken, Upp
 use Rattle.lexemes.specs.Readings.{SyntaxFault, Reading, Found, FaultAt, then_read, refused, read_mark, read_keyword}
 use Rattle.auth_syntax.specs.Syntax.{NameSyntax, UnaryOperation, ExpSyntax}
 use Rattle.auth_syntax.specs.Parsing.{begins_expression, read_expression, read_lower, read_upper, read_optional_list}
-use Rattle.auth_syntax.specs.Vocabulary.{Vocabulary}
 use Rattle.auth_syntax.specs.Trees.{name_of, names_of, unary_of, boxed_of}
 use Rattle.auth_syntax.specs.declared.tree.ExpTree.{ExpTree}
 use Rattle.auth_syntax.specs.declared.parser.expressions.Behind.{Behind}
@@ -33,15 +32,15 @@ head_token (head.Int z) = IntToken z
 head_token (head.Text text) = TextToken (bytes_of text)
 
 -- a token that begins an expression is taken, where a level is left; or there is none, and this is the fault
-pub record IsBegun (words : Vocabulary) (levels : ℕ) (before : Tokens) (placed : PlacedHead) (after : Tokens) : Type 0 where
+pub record IsBegun (levels : ℕ) (before : Tokens) (placed : PlacedHead) (after : Tokens) : Type 0 where
   pub taken : before ≡ Next placed.at (head_token placed.head) after
-  pub begins : begins_expression words (head_token placed.head) ≡ true
+  pub begins : begins_expression (head_token placed.head) ≡ true
   pub nested : levels ≢ 0
 
-abbrev pub Begins : Vocabulary → ℕ → Tokens → Result PlacedHead SyntaxFault → Tokens → Type 0
-Begins words levels before (Ok placed) after = IsBegun words levels before placed after
-Begins words levels before (Err (At kind at)) after = read_expression words levels before ≡ FaultAt kind at
-Begins words levels before (Err NoMemory) after = ⊤
+abbrev pub Begins : ℕ → Tokens → Result PlacedHead SyntaxFault → Tokens → Type 0
+Begins levels before (Ok placed) after = IsBegun levels before placed after
+Begins levels before (Err (At kind at)) after = read_expression levels before ≡ FaultAt kind at
+Begins levels before (Err NoMemory) after = ⊤
 
 -- what has to stand behind a part
 abbrev pub read_behind : Behind → Tokens → Reading (Unit {0})
@@ -69,15 +68,6 @@ read_both part tokens =
     then_read (read_before (behind.Mark Comma) part tokens) (λ first tokens.
     then_read (read_before (behind.Mark RightParenthesis) part tokens) (λ second tokens.
     Found (record { first = first; second = second }) tokens))
-
--- behind a parenthesis: whether it is ended at once; where it is not, there have to be pairs
-abbrev pub pair_sign : Bool → Tokens → Reading Bool
-pair_sign true tokens = Found false tokens
-pair_sign false tokens = refused tokens
-
-abbrev pub read_unit_sign : Bool → Tokens → Reading Bool
-read_unit_sign pairs (Next at (MarkToken RightParenthesis) rest) = Found true rest
-read_unit_sign pairs tokens = pair_sign pairs tokens
 
 -- an operation, with the parenthesis before its operands
 pub data OperationSyntax : Type 0 where

@@ -6,14 +6,11 @@ mod types;
 
 ghost use Rattle.std.specs.Prelude.{◌≡◌, ◌≤◌, length, IfOk};
 ghost use Rattle.auth_syntax.specs.Grammar.{IsProgramText};
-ghost use Rattle.auth_syntax.specs.Vocabulary.{fragment, whole_language};
 ghost use Rattle.auth_syntax.specs.Parsing.{read_lower, read_upper, parsed};
-ghost use Rattle.auth_syntax.specs.LanguageViews.{words_of};
 ghost use Rattle.auth_syntax.specs.Trees.{name_of, program_of};
 ghost use Rattle.auth_syntax.specs.Outcomes.{Parses};
 ghost use Rattle.lexemes.specs.Remaining.{Reads, remaining};
 
-use crate::language::Language;
 use crate::tree::{Ast, PlacedName};
 use core_terms::Name;
 use lexemes::fault::{SyntaxFault, SyntaxKind};
@@ -33,35 +30,13 @@ const NESTING_LIMIT: usize = 100;
 /// tokens or the tree.
 pub fn parse(alloc: Global, text: &[u8]) -> Result<Ast, SyntaxFault>
     requires { length text.now ≤ 262144 }
-    ensures answer { Parses (parsed whole_language text.now) result }
+    ensures answer { Parses (parsed text.now) result }
 
     // In the words of the grammar: the tree is that of the text.
-    ensures written { IfOk result (λ ast. IsProgramText whole_language text.now (program_of ast)) }
-{
-    parse_in(alloc, Language::Whole, text)
-}
-
-/// Parses the text of a program of the fragment that runs so far, of at most 262,144 bytes.
-///
-/// # Errors
-///
-/// As `parse`; a token that goes beyond the fragment is not allowed where it stands.
-pub fn parse_fragment(alloc: Global, text: &[u8]) -> Result<Ast, SyntaxFault>
-    requires { length text.now ≤ 262144 }
-    ensures answer { Parses (parsed fragment text.now) result }
-    ensures written { IfOk result (λ ast. IsProgramText fragment text.now (program_of ast)) }
-{
-    parse_in(alloc, Language::Fragment, text)
-}
-
-/// Parses the text of a program of a language.
-fn parse_in(alloc: Global, language: Language, text: &[u8]) -> Result<Ast, SyntaxFault>
-    requires { length text.now ≤ 262144 }
-    ensures answer { Parses (parsed (words_of language) text.now) result }
-    ensures written { IfOk result (λ ast. IsProgramText (words_of language) text.now (program_of ast)) }
+    ensures written { IfOk result (λ ast. IsProgramText text.now (program_of ast)) }
 {
     let mut parser = Parser::new(alloc, text);
-    let (declarations, end) = declarations::program(&mut parser, language)?;
+    let (declarations, end) = declarations::program(&mut parser)?;
     Ok(Ast { declarations, end })
 }
 

@@ -5,7 +5,6 @@ use Rattle.std.specs.Str.{is_utf8, chars}
 use lib.Utf8.{encode}
 use Rattle.core_terms.specs.Typing.{is_typed, is_shaped}
 use Rattle.auth_syntax.specs.Parsing.{Parsed, Tree, parsed}
-use Rattle.auth_syntax.specs.Vocabulary.{whole_language}
 use Rattle.auth_types.specs.CheckedPrograms.{Checked, IsProgram, FirstFault, checked}
 use Rattle.declared_types.specs.declared.fault.TypeKind.TheVariants.{Twice, Limit, NoState, UnknownName, RoleShape, AuthInArgument, WrongType, NotPair, NotAuth, NotSum, ArmsWrong, WrongCount}
 use Rattle.declared_types.specs.declared.fault.Limited.TheVariants.{Fields, Parameters}
@@ -16,7 +15,7 @@ of_tree (Tree program) = Some (checked program)
 of_tree parsed = None
 
 abbrev answer : List ℕ → Option Checked
-answer text = of_tree (parsed whole_language text)
+answer text = of_tree (parsed text)
 
 -- a text is that of a program, and what is found of it is well-typed, with roles of their shapes
 abbrev accepts : Option Checked → Bool

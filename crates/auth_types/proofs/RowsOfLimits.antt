@@ -4,7 +4,6 @@ use Rattle.std.specs.Prelude.{codes}
 use Rattle.core_terms.specs.Types.{IntTy}
 use Rattle.auth_syntax.specs.Syntax.{FunctionSyntax, ConstructorDeclaration, DeclarationSyntax, TypeDeclaration}
 use Rattle.auth_syntax.specs.Parsing.{Parsed, Tree, parsed}
-use Rattle.auth_syntax.specs.Vocabulary.{whole_language}
 use Rattle.declared_types.specs.Checking.{Checking, Sound, FaultAt}
 use Rattle.declared_types.specs.Declarations.{checked_constructors, checked_declarations}
 use Rattle.declared_types.specs.WrittenTypes.{functions_in}
@@ -33,7 +32,7 @@ behind_names types constructors functions text =
           replicate functions (codes "a");
       state = true;
     })
-    (declarations (parsed whole_language text)))
+    (declarations (parsed text)))
 
 a_257th_type : behind_names 256 0 0 (codes "type b = B;") ≡ Some (FirstFault (Limit Types) 1 6)
 a_257th_type = refl
@@ -63,7 +62,7 @@ first_constructors (TypeDeclaration at name constructors ∷ rest) = constructor
 first_constructors declarations = []
 
 abbrev behind_constructors : ℕ → List ℕ → Option Checked
-behind_constructors n text = fault (checked_constructors n (replicate n (codes "A")) (first_constructors (declarations (parsed whole_language text))))
+behind_constructors n text = fault (checked_constructors n (replicate n (codes "A")) (first_constructors (declarations (parsed text))))
 
 a_256th_constructor : behind_constructors 255 (codes "type a = B;") ≡ Some (FirstFault (Limit Constructors) 1 10)
 a_256th_constructor = refl
@@ -82,7 +81,7 @@ of_body n (function ∷ rest) =
 of_body n [] = None
 
 abbrev behind_locals : ℕ → List ℕ → Option Checked
-behind_locals n text = of_body n (functions_in (declarations (parsed whole_language text)))
+behind_locals n text = of_body n (functions_in (declarations (parsed text)))
 
 a_256th_local : behind_locals 255 (codes "fun f(x: int): int = let y = x in z;") ≡ Some (FirstFault (Limit Locals) 1 26)
 a_256th_local = refl

@@ -14,7 +14,6 @@ use Rattle.lexemes.specs.Tokens.{Token, LowerToken, UpperToken, IntToken, TextTo
 use Rattle.auth_syntax.specs.Syntax.{ExpSyntax, UnitSyntax, BoolSyntax, IntSyntax, TextSyntax, LocalSyntax, PairSyntax, UnarySyntax, BinarySyntax, CallSyntax, ConstructorSyntax, LetSyntax, IfSyntax, MatchSyntax, ExpsSyntax, NoExp, AndExp, ArmsSyntax, NoArmSyntax, AndArmSyntax, DeclarationSyntax, TypeDeclaration, StateDeclaration, FunctionDeclaration, FunctionSyntax, Program}
 use Rattle.auth_syntax.specs.Grammar.{Written, AreWritten, arms_tokens, declaration_tokens, declarations_tokens, expression_tokens, expressions_tokens, in_parentheses, mark, names_tokens, parameters_tokens, type_tokens}
 use Rattle.auth_syntax.specs.Parsing.{parsed, Tree}
-use Rattle.auth_syntax.specs.Vocabulary.{Vocabulary}
 use Rattle.auth_syntax.proofs.Exact.{parsed_is_written}
 use Rattle.declared_types.specs.WrittenTypes.{functions_in}
 use Rattle.auth_types.specs.CheckedLaws.{ArmsHaveGoodLiterals, HasGoodLiterals, HaveGoodLiterals, ProgramHasGoodLiterals}
@@ -170,8 +169,8 @@ declarations_good (FunctionDeclaration at f ∷ ds) h =
     All-cons (λ (f : FunctionSyntax). HasGoodLiterals f.body) f (functions_in ds) (function_good at f first) (declarations_good ds others)
 
 -- the program that a text is parsed to
-pub parsed_has_good_literals : (words : Vocabulary) (text : List ℕ) (program : Program) → parsed words text ≡ Tree program
+pub parsed_has_good_literals : (text : List ℕ) (program : Program) → parsed text ≡ Tree program
     → ProgramHasGoodLiterals program
-parsed_has_good_literals words text program is =
+parsed_has_good_literals text program is =
     declarations_good program.declarations (written_good (tokens text) (declarations_tokens program.declarations) program.end
-    (parsed_is_written words text program is).written (tokens_good 0 _ text))
+    (parsed_is_written text program is).written (tokens_good 0 _ text))

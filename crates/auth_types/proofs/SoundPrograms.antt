@@ -113,8 +113,8 @@ passes_from_checked (FaultAt kind at) P is = absurd (cc)
 
 pub parsed_is_typed : ParsedIsTyped
 unfolding checked
-parsed_is_typed words text program P is given_it =
-    checked_is_typed program P (parsed_has_good_literals words text program is) (passes_from_checked (all_passes program) P given_it)
+parsed_is_typed text program P is given_it =
+    checked_is_typed program P (parsed_has_good_literals text program is) (passes_from_checked (all_passes program) P given_it)
 
 pub checked_names_its_types : CheckedNamesItsTypes
 checked_names_its_types program P sound =

@@ -7,7 +7,6 @@ use Rattle.core_terms.specs.Terms as tree
 use Rattle.core_terms.specs.Typing.{is_typed, is_shaped}
 use Rattle.auth_syntax.specs.Syntax.{Program}
 use Rattle.auth_syntax.specs.Parsing.{Parsed, Tree, FirstFault, parsed}
-use Rattle.auth_syntax.specs.Vocabulary.{whole_language}
 use Rattle.auth_types.specs.CheckedPrograms.{Checked, IsProgram, FirstFault as CheckFault, checked}
 use Rattle.auth_types.proofs.SoundPrograms.{parsed_is_typed}
 
@@ -24,22 +23,22 @@ passes (FirstFault kind at) = false
 record HasTypedProgram (text : List ℕ) : Type 0 where
   program : Program
   P : tree.Program
-  has_tree : parsed whole_language text ≡ Tree program
+  has_tree : parsed text ≡ Tree program
   has_program : checked program ≡ IsProgram P
   typed : is_typed P ≡ true
   shaped : is_shaped P ≡ true
 
-by_law : (text : List ℕ) → passes (parsed whole_language text) ≡ true → HasTypedProgram text
-by_law text passed = of_tree (parsed whole_language text) refl passed
+by_law : (text : List ℕ) → passes (parsed text) ≡ true → HasTypedProgram text
+by_law text passed = of_tree (parsed text) refl passed
   where
-    of_program : (program : Program) (found : Checked) → parsed whole_language text ≡ Tree program → checked program ≡ found
+    of_program : (program : Program) (found : Checked) → parsed text ≡ Tree program → checked program ≡ found
         → gives_program found ≡ true → HasTypedProgram text
     of_program program (IsProgram P) tree given is =
-        let (typed, shaped) = parsed_is_typed whole_language text program P tree given in
+        let (typed, shaped) = parsed_is_typed text program P tree given in
         record { program = program; P = P; has_tree = tree; has_program = given; typed = typed; shaped = shaped }
     of_program program (CheckFault kind line column) tree given is = absurd (cc)
 
-    of_tree : (found : Parsed) → parsed whole_language text ≡ found → passes found ≡ true → HasTypedProgram text
+    of_tree : (found : Parsed) → parsed text ≡ found → passes found ≡ true → HasTypedProgram text
     of_tree (Tree program) tree is = of_program program (checked program) tree refl is
     of_tree (FirstFault kind at) tree is = absurd (cc)
 

@@ -9,7 +9,6 @@ use Rattle.core_terms.specs.Values.{int_fits}
 use Rattle.auth_syntax.specs.Syntax.{ExpSyntax, IntSyntax, TextSyntax, PairSyntax, UnarySyntax, BinarySyntax, CallSyntax, ConstructorSyntax, LetSyntax, IfSyntax, MatchSyntax, ExpsSyntax, NoExp, AndExp, ArmsSyntax, NoArmSyntax, AndArmSyntax, Program}
 use Rattle.auth_syntax.specs.TreeLimits as trees
 use Rattle.auth_syntax.specs.Parsing.{parsed, Tree}
-use Rattle.auth_syntax.specs.Vocabulary.{Vocabulary}
 use Rattle.declared_types.specs.Checking.{Sound}
 use Rattle.declared_types.specs.Declarations.{most_types, most_constructors, most_fields, most_functions, most_parameters}
 use Rattle.declared_types.specs.WrittenTypes.{functions_in, type_names}
@@ -80,7 +79,7 @@ CheckedIsTyped =
 -- What the checker gives of a text that has a tree is well-typed, and its roles have their shapes.
 abbrev pub ParsedIsTyped : Type 0
 ParsedIsTyped =
-    (words : Vocabulary) (text : List ℕ) (program : Program) (P : tree.Program) → parsed words text ≡ Tree program → checked program ≡ IsProgram P
+    (text : List ℕ) (program : Program) (P : tree.Program) → parsed text ≡ Tree program → checked program ≡ IsProgram P
     → (is_typed P ≡ true) × (is_shaped P ≡ true)
 
 -- each named type in a type is one of so many

@@ -1,7 +1,7 @@
 // Values as they are printed, from their spellings.
 use crate::literals::of_type;
 use core_terms::language::Program;
-use printed_syntax::printing::language::print_value;
+use printed_syntax::printing::print_value;
 use std::alloc::Global;
 use std::test::Fail;
 

@@ -7,7 +7,7 @@ use Rattle.ideal_meaning.specs.Checked.{Cause, Short, Cut, BadKind, PieceLong, B
 use Rattle.ideal_meaning.specs.Run.{Trap, Overflow, DivZero, TooBig, TooDeep}
 use Rattle.ideal_meaning.specs.Told.{cause_told}
 use Rattle.printed_syntax.specs.Literals.{ConstructorNames}
-use Rattle.printed_syntax.specs.PrintedValues.{printed, value_text}
+use Rattle.printed_syntax.specs.PrintedValues.{printed}
 use Rattle.lexemes.specs.declared.fault.LexicalFault.{LexicalFault}
 use Rattle.lexemes.specs.declared.fault.LexicalFault.TheVariants as lexical
 use Rattle.lexemes.specs.declared.fault.SyntaxKind.{SyntaxKind}
@@ -155,10 +155,7 @@ refusal_line (refusal.Program kind line column) = program_line kind line column
 refusal_line (refusal.Input fault) = line_of (codes "input refused: ") (input_text fault)
 refusal_line (refusal.Proof cause) = rejected_line (cause_told cause)
 
--- the lines of outcomes
-abbrev pub done_line : Ty → Value → List ℕ
-done_line t v = line_of (codes "done ") (value_text t v)
-
+-- the lines of outcomes without a value
 abbrev pub trap_name : Trap → List ℕ
 trap_name Overflow = codes "overflow"
 trap_name DivZero = codes "divzero"

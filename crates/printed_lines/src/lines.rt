@@ -2,8 +2,7 @@
 
 ghost use Rattle.std.specs.Prelude.{◌≡◌, ◌<◌, ◌^◌, ◌++◌, length, IfOk, string_bytes};
 ghost use Rattle.hex.specs.Hex.{encode_lower};
-ghost use Rattle.core_terms.specs.LanguagePrograms as language;
-ghost use Rattle.core_terms.specs.Programs.{meaning, types_of};
+ghost use Rattle.core_terms.specs.LanguagePrograms.{constructor_names, meaning, types_of};
 ghost use Rattle.core_terms.specs.Spelling.{spelling};
 ghost use Rattle.core_terms.specs.TypeTables.{type_at};
 ghost use Rattle.core_terms.specs.Values.{IsShallow, Value};
@@ -12,8 +11,8 @@ ghost use Rattle.printed_lines.specs.Lines as def;
 
 use crate::names::{argument_name, literal_name, program_name};
 use crate::refusal::{ImageKind, InputFault, ProgramKind, Refusal};
-use core_terms::{Cause, Digest, Program, Trap, TyId, language};
-use printed_syntax::printing::language::print_value as language_text;
+use core_terms::language::Program;
+use core_terms::{Cause, Digest, Trap, TyId};
 use printed_syntax::printing::print_value;
 use std::alloc::{AllocError, Global};
 
@@ -138,46 +137,32 @@ fn wrong_digests_text(
     format!(in alloc; "wrong-piece {place} {want} {found}")
 }
 
-/// The line of an outcome with a value of a type of the program, which these bytes spell.
-pub fn done_line(
+/// The line of an outcome with a value of a type of the program, which these bytes spell, fewer than 2^32. Constructors are
+/// written with the names of the program.
+pub fn named_done_line(
     alloc: Global,
     program: &Program,
     ty: TyId,
     bytes: &[u8],
 ) -> Result<Vec<u8>, AllocError>
-    ensures { IfOk result (λ line. (v : Value) → IsShallow (meaning program.now).types (type_at (types_of program.now) ty) v → bytes.now ≡ spelling v
-        → line.items ≡ def.done_line (type_at (types_of program.now) ty) v) }
-{
-    let value = print_value(alloc, program, ty, bytes)?;
-    between(alloc, b"done ", &value)
-}
-
-/// The line of an outcome with a value of a type of the program, which these bytes spell, fewer than 2^32. The program is one of the
-/// whole language, and constructors are written with its names.
-pub fn named_done_line(
-    alloc: Global,
-    program: &language::Program,
-    ty: TyId,
-    bytes: &[u8],
-) -> Result<Vec<u8>, AllocError>
-    ensures { let P = language.meaning program.now in let t = type_at (language.types_of program.now) ty in
+    ensures { let P = meaning program.now in let t = type_at (types_of program.now) ty in
         IfOk result (λ line. (v : Value) → IsShallow P.types t v → length bytes.now < 2 ^ 32 → bytes.now ≡ spelling v
-        → line.items ≡ def.named_done_line P.types (language.constructor_names program.now.types.named.items) t v) }
+        → line.items ≡ def.named_done_line P.types (constructor_names program.now.types.named.items) t v) }
 {
     value_line(alloc, b"done ", program, ty, bytes)
 }
 
-/// The line of a state with a value of a type of the program, which these bytes spell, fewer than 2^32. The program is one of the whole
-/// language, and constructors are written with its names.
+/// The line of a state with a value of a type of the program, which these bytes spell, fewer than 2^32. Constructors are
+/// written with the names of the program.
 pub fn state_line(
     alloc: Global,
-    program: &language::Program,
+    program: &Program,
     ty: TyId,
     bytes: &[u8],
 ) -> Result<Vec<u8>, AllocError>
-    ensures { let P = language.meaning program.now in let t = type_at (language.types_of program.now) ty in
+    ensures { let P = meaning program.now in let t = type_at (types_of program.now) ty in
         IfOk result (λ line. (v : Value) → IsShallow P.types t v → length bytes.now < 2 ^ 32 → bytes.now ≡ spelling v
-        → line.items ≡ def.state_line P.types (language.constructor_names program.now.types.named.items) t v) }
+        → line.items ≡ def.state_line P.types (constructor_names program.now.types.named.items) t v) }
 {
     value_line(alloc, b"state ", program, ty, bytes)
 }
@@ -186,15 +171,15 @@ pub fn state_line(
 fn value_line(
     alloc: Global,
     front: &[u8],
-    program: &language::Program,
+    program: &Program,
     ty: TyId,
     bytes: &[u8],
 ) -> Result<Vec<u8>, AllocError>
-    ensures { let P = language.meaning program.now in let t = type_at (language.types_of program.now) ty in
+    ensures { let P = meaning program.now in let t = type_at (types_of program.now) ty in
         IfOk result (λ line. (v : Value) → IsShallow P.types t v → length bytes.now < 2 ^ 32 → bytes.now ≡ spelling v
-        → line.items ≡ def.value_line front.now P.types (language.constructor_names program.now.types.named.items) t v) }
+        → line.items ≡ def.value_line front.now P.types (constructor_names program.now.types.named.items) t v) }
 {
-    let value = language_text(alloc, program, ty, bytes)?;
+    let value = print_value(alloc, program, ty, bytes)?;
     between(alloc, front, &value)
 }
 

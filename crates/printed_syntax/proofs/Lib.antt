@@ -2,9 +2,9 @@
 pub mod LineLemmas
 pub mod TreeTokens
 pub mod PrintedForms
--- printing::push_quoted
+-- printing::leaves::push_quoted
 pub mod PrintedTexts
--- printing::leaves and printing::language; PairDepths has the measure of its cycle
+-- printing::leaves and printing; PairDepths has the measure of its cycle
 pub mod PrintedFronts
 pub mod PairDepths
 -- the laws printed_is_read_back and parsed_is_read_back of programs
@@ -13,14 +13,13 @@ mod BeginAnywhere
 mod TokensOfTexts
 mod PrintedLines
 mod MovedTrees
-mod FormsWithoutPlaces
+mod PartsWithoutPlaces
 mod PrintedProgramsRead
--- the laws reading_back of printed values
-mod PrintedReadBack
+-- the law printing::reading_back of printed values
 mod PrintedValuesRead
--- literal::value and literal::fragment::value
+-- literal::value
 pub mod LiteralSpellings
--- literal::whole, parse_literal and their twins of the fragment
+-- literal::whole and parse_literal
 pub mod LiteralReadings
 -- the law literals_are_read_back
 pub mod TokenValues

@@ -1,4 +1,4 @@
--- Literals of the whole language, computed, within 3 levels and 9 bytes.
+-- Literals, computed, within 3 levels and 9 bytes.
 use Rattle.std.proofs.Common.{◌≡◌, ℕ, List, [], ◌∷◌, refl}
 use Rattle.std.specs.Prelude.{true, false, codes, negsuc}
 use Rattle.std.specs.Str.{is_utf8, chars}

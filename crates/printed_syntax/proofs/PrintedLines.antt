@@ -23,8 +23,7 @@ use Rattle.auth_syntax.specs.Syntax.{DeclarationSyntax}
 use Rattle.auth_syntax.specs.Grammar.{Written, declaration_tokens, declarations_tokens}
 use Rattle.printed_syntax.specs.PrintedPrograms.{mark_text, token_text, is_opening, is_applied, are_apart, blank_before, in_line, declarations_text}
 use Rattle.printed_syntax.specs.PrintedProgramLaws.{IsName, IsToken, AreTokens}
-use Rattle.printed_syntax.proofs.PrintedTokens.{IsParted, IsHeadToken, token_read, run_taken, text_at_head}
-use Rattle.printed_syntax.proofs.PrintedReadBack.{int_token}
+use Rattle.printed_syntax.proofs.PrintedTokens.{IsParted, IsHeadToken, token_read, run_taken, text_at_head, int_token}
 use Rattle.printed_syntax.proofs.BeginAnywhere.{TellAnywhere, tell-none, tell-next, tell-append}
 
 -- a small letter, and a capital, are nothing that is asked for before them

@@ -12,7 +12,6 @@ use Rattle.lexemes.specs.declared.token.Keyword.TheVariants as keyword
 use Rattle.lexemes.specs.declared.token.Mark.TheVariants as mark
 use Rattle.lexemes.specs.Tokens.{KeywordToken, MarkToken, LowerToken, UpperToken, IntToken}
 use Rattle.auth_syntax.specs.Syntax.{NameSyntax, TypeSyntax, UnitTypeSyntax, AuthTypeSyntax, IntTypeSyntax, PairTypeSyntax, UnauthOperation, AuthOperation, IntSyntax, TextSyntax, LocalSyntax, UnarySyntax, InitSyntax, QuerySyntax, StateDeclaration, FunctionDeclaration}
-use Rattle.auth_syntax.specs.Vocabulary.{whole_language}
 use Rattle.auth_syntax.specs.Grammar.{expression_tokens, type_tokens}
 use Rattle.auth_syntax.specs.Parsing.{Parsed, Tree, FirstFault, parsed}
 use Rattle.printed_syntax.specs.PrintedPrograms.{are_apart, in_line, program_text}
@@ -23,7 +22,7 @@ printed_tree (Tree program) = program_text program
 printed_tree (FirstFault kind at) = codes "fault"
 
 abbrev printed_again : List ℕ → List ℕ
-printed_again text = printed_tree (parsed whole_language text)
+printed_again text = printed_tree (parsed text)
 
 abbrev lines : List (List ℕ) → List ℕ
 lines [] = []

@@ -1,49 +1,53 @@
 -- Printed values, computed.
 use Rattle.std.proofs.Common.{◌≡◌, refl}
-use Rattle.std.specs.Prelude.{true, false, [], ◌∷◌, ◌++◌, codes, pos, negsuc}
+use Rattle.std.specs.Prelude.{ℕ, true, false, List, [], ◌∷◌, ◌++◌, codes, pos, negsuc}
 use Rattle.std.specs.Fmt.{digits}
 use Rattle.std.specs.List.{repeat}
 use Rattle.hex.specs.Hex.{encode_with}
-use Rattle.core_terms.specs.Types.{UnitTy, BoolTy, IntTy, TextTy, PairTy, NamedTy, AuthTy, Table}
-use Rattle.core_terms.specs.Values.{UnitV, BoolV, IntV, TextV, PairV, ConV, DigestV, NoV, AndV}
+use Rattle.core_terms.specs.Types.{Ty, UnitTy, BoolTy, IntTy, TextTy, PairTy, NamedTy, AuthTy, Table}
+use Rattle.core_terms.specs.Values.{Value, UnitV, BoolV, IntV, TextV, PairV, ConV, DigestV, NoV, AndV}
 use Rattle.printed_syntax.specs.Literals.{ConstructorNames}
-use Rattle.printed_syntax.specs.PrintedValues.{printed, value_text}
+use Rattle.printed_syntax.specs.PrintedValues.{printed}
 
-unit : value_text UnitTy UnitV ≡ codes "()"
+-- the text of a value of a type without named types
+abbrev text_of : Ty → Value → List ℕ
+text_of = printed [] (λ number. [])
+
+unit : text_of UnitTy UnitV ≡ codes "()"
 unit = refl
 
-yes : value_text BoolTy (BoolV true) ≡ codes "true"
+yes : text_of BoolTy (BoolV true) ≡ codes "true"
 yes = refl
 
-no : value_text BoolTy (BoolV false) ≡ codes "false"
+no : text_of BoolTy (BoolV false) ≡ codes "false"
 no = refl
 
-nought : value_text IntTy (IntV (pos 0)) ≡ codes "0"
+nought : text_of IntTy (IntV (pos 0)) ≡ codes "0"
 unfolding digits
 nought = refl
 
-one_less : value_text IntTy (IntV (negsuc 0)) ≡ codes "-1"
+one_less : text_of IntTy (IntV (negsuc 0)) ≡ codes "-1"
 unfolding digits
 one_less = refl
 
-least : value_text IntTy (IntV (negsuc 9223372036854775807)) ≡ codes "-9223372036854775808"
+least : text_of IntTy (IntV (negsuc 9223372036854775807)) ≡ codes "-9223372036854775808"
 unfolding digits
 least = refl
 
-greatest : value_text IntTy (IntV (pos 9223372036854775807)) ≡ codes "9223372036854775807"
+greatest : text_of IntTy (IntV (pos 9223372036854775807)) ≡ codes "9223372036854775807"
 unfolding digits
 greatest = refl
 
-empty_text : value_text TextTy (TextV []) ≡ codes "\"\""
+empty_text : text_of TextTy (TextV []) ≡ codes "\"\""
 empty_text = refl
 
 -- a quote, a backslash, 0a, 09, 00, 1f, a blank, `~`, 7f, and the bytes of a letter beyond ASCII
-escapes : value_text TextTy (TextV (0x22 ∷ 0x5C ∷ 0x0A ∷ 0x09 ∷ 0x00 ∷ 0x1F ∷ 0x20 ∷ 0x7E ∷ 0x7F ∷ 0xC3 ∷ 0xA9 ∷ [])) ≡ codes "\"\\\"\\\\\\n\\t\\x00\\x1f ~\\x7f" ++ 0xC3 ∷ 0xA9 ∷ codes "\""
+escapes : text_of TextTy (TextV (0x22 ∷ 0x5C ∷ 0x0A ∷ 0x09 ∷ 0x00 ∷ 0x1F ∷ 0x20 ∷ 0x7E ∷ 0x7F ∷ 0xC3 ∷ 0xA9 ∷ [])) ≡ codes "\"\\\"\\\\\\n\\t\\x00\\x1f ~\\x7f" ++ 0xC3 ∷ 0xA9 ∷ codes "\""
 unfolding encode_with
 escapes = refl
 
 -- a digest is printed whatever it is of
-digest : value_text (AuthTy (AuthTy TextTy)) (DigestV (0x0A ∷ 0xB0 ∷ repeat 30 (0xFF ∷ []))) ≡ codes "#0ab0ffffffffffffffffffffffffffffffffffffffffffffffffffffffffffff"
+digest : text_of (AuthTy (AuthTy TextTy)) (DigestV (0x0A ∷ 0xB0 ∷ repeat 30 (0xFF ∷ []))) ≡ codes "#0ab0ffffffffffffffffffffffffffffffffffffffffffffffffffffffffffff"
 unfolding encode_with
 digest = refl
 

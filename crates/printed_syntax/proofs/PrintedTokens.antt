@@ -1,13 +1,16 @@
 -- Tokens as they are printed, at the head of a text.
-use Rattle.std.proofs.Common.{◌++◌, ◌/◌, ◌%◌, ◌*◌, Bool, Option, Some, None, unwrap_or, slice_index, nat_le, codes, IsUtf8, sym, subst, append_assoc, length-append, ◌&&◌, le-leb, lt-ltb, ltb-true, eqb-true, ◌≡◌, ℕ, zero, suc, ◌+◌, ◌<◌, ◌≤◌, ◌^◌, ◌==◌, true, false, List, [], ◌∷◌, length, take, pos, negsuc, nat_lt, if◌then◌else◌, refl, ap, ap₂, ◌∙◌, arith}
+use Rattle.std.proofs.Common.{◌++◌, ◌/◌, ◌%◌, ◌*◌, Bool, Option, Some, None, unwrap_or, slice_index, nat_le, codes, IsUtf8, sym, subst, append_assoc, length-append, ◌&&◌, le-leb, lt-ltb, ltb-true, eqb-true, ◌≡◌, ℕ, zero, suc, ◌+◌, ◌<◌, ◌≤◌, ◌^◌, ◌==◌, true, false, List, [], ◌∷◌, length, take, ℤ, pos, negsuc, nat_lt, if◌then◌else◌, refl, ap, ap₂, ◌∙◌, arith}
 use Rattle.std.specs.Char.{is_ascii_digit, is_ascii_lowercase, is_ascii_uppercase, digit_value}
+use Rattle.std.specs.Fmt.{decimal, signed_decimal}
 use Rattle.std.specs.List.{prefix_len, list_all}
 use Rattle.std.specs.Str.Parse.{AllDigits, IsNumeral, digits_value}
+use Rattle.std.proofs.lemmas.Fmt.{decimal_is_IsNumeral}
 use Rattle.std.proofs.lemmas.Bool.{agree_below_at}
 use Rattle.std.proofs.lemmas.Str.{is_utf8-from_IsUtf8}
 use Rattle.std.proofs.lemmas.List.{append-nil}
 use Rattle.std.proofs.Math.Seq.{take-append_seam, drop-append_seam}
 use Rattle.std.proofs.lemmas.Str.Parse.{digit_from_value}
+use Rattle.core_terms.specs.Values.{int_fits}
 use Rattle.lexemes.specs.declared.place.Place.{Place}
 use Rattle.lexemes.specs.declared.fault.LexicalFault.TheVariants.{NumberRange, TextLong, Utf8}
 use Rattle.lexemes.specs.Places.{start, behind}
@@ -175,3 +178,11 @@ text_at_head bytes rest utf8 short =
     ∙ ap (λ test. if test then (if nat_le (length bytes) text_limit then Taken (TextToken bytes) (1 + length (all_escaped bytes) + 1) else Wrong TextLong 0) else Wrong Utf8 0) (is_utf8-from_IsUtf8 bytes utf8)
     ∙ ap (λ test. if test then Taken (TextToken bytes) (1 + length (all_escaped bytes) + 1) else Wrong TextLong 0) (le-leb (length bytes) text_limit short)
     ∙ ap (Taken (TextToken bytes)) size)
+
+pub int_token : (z : ℤ) (rest : List ℕ) → int_fits z ≡ true → IsParted rest → IsHeadToken (signed_decimal z) (IntToken z) rest
+int_token (pos n) rest h parted =
+    let numeral = decimal_is_IsNumeral n (omega (arith, ltb-true n (2 ^ 63) h)) in
+    int_at_head (decimal n) n rest numeral.0 numeral.1 h parted
+int_token (negsuc n) rest h parted =
+    let numeral = decimal_is_IsNumeral (suc n) (omega (arith, ltb-true n (2 ^ 63) h)) in
+    negative_at_head (decimal (suc n)) n rest numeral.0 numeral.1 h parted

@@ -1,5 +1,5 @@
--- Printed values of the whole language are read back.
-use Rattle.std.proofs.Common.{◌≡◌, ℕ, zero, suc, ◌+◌, ◌≤◌, Bool, true, false, List, [], ◌∷◌, ◌++◌, Option, Some, None, slice_get, unwrap_or, option_map, if◌then◌else◌, codes, refl, sym, ap, subst, ◌∙◌, append_assoc, append-nil, arith}
+-- Printed values are read back.
+use Rattle.std.proofs.Common.{◌≡◌, ℕ, zero, suc, ◌+◌, ◌≤◌, Bool, true, false, List, [], ◌∷◌, ◌++◌, Option, Some, None, slice_get, unwrap_or, option_map, if◌then◌else◌, codes, refl, sym, ap, subst, ◌∙◌, append_assoc, append-nil, arith, le-leb}
 use Rattle.std.proofs.lemmas.Slice.Eq.{bytes_eq-Decides}
 use Rattle.std.specs.Prelude.{bytes_eq}
 use Rattle.std.specs.Fmt.{signed_decimal}
@@ -11,12 +11,16 @@ use Rattle.lexemes.specs.declared.token.Keyword.TheVariants.{True as TrueWord, F
 use Rattle.lexemes.specs.declared.token.Mark.TheVariants.{LeftParenthesis, RightParenthesis, Comma}
 use Rattle.lexemes.specs.Places.{start, behind, behind_byte}
 use Rattle.lexemes.specs.Tokens.{KeywordToken, MarkToken, UpperToken, IntToken, TextToken, Tokens, Next, tokens_from}
-use Rattle.printed_syntax.specs.Literals.{ConstructorNames, LiteralReading, Means, then_means, behind_mark, bool_literal, int_literal, text_literal, pair_literal, more_fields, fields_literal, number_of_name, constructor_with, constructor_named, constructor_literal, literal_of, whole_literal}
+use Rattle.printed_syntax.specs.Literals.{ConstructorNames, LiteralReading, Means, then_means, behind_mark, bool_literal, int_literal, text_literal, pair_literal, more_fields, fields_literal, number_of_name, constructor_with, constructor_named, constructor_literal, literal_of, whole_literal, value_within, IsValue, FirstFault}
+use Rattle.printed_syntax.specs.declared.fault.LiteralKind.TheVariants.{TooBig}
 use Rattle.printed_syntax.specs.PrintedValues.{printed, printed_fields, quoted_text}
 use Rattle.printed_syntax.specs.PrintedValueLaws.{HasNoDigest, HaveNoDigests, AreNamed, PrintedValuesAreReadBack}
-use Rattle.printed_syntax.proofs.PrintedTokens.{IsParted, token_read, text_at_head}
+use Rattle.printed_syntax.proofs.PrintedTokens.{IsParted, token_read, text_at_head, int_token}
 use Rattle.printed_syntax.proofs.PrintedLines.{mark_at_head, upper_at_head, token_at_head}
-use Rattle.printed_syntax.proofs.PrintedReadBack.{int_token, is_within}
+
+-- a value within the limit is one that is read
+is_within : (limit : ℕ) (types : Table) (t : Ty) (v : Value) → size types t v ≤ limit → value_within limit types t v ≡ IsValue v
+is_within limit types t v h = ap (λ test. if test then IsValue v else FirstFault TooBig 0) (le-leb (size types t v) limit h)
 
 -- what is read is this, and these bytes stand behind it
 abbrev IsReadTo : {A : Type 0} → LiteralReading A → A → List ℕ → Type 0

@@ -7,7 +7,6 @@ pub mod PrintedValues
 pub mod PrintedPrograms
 pub mod LineViews
 pub mod WithoutPlaces
-pub mod PrintedLaws
 pub mod PrintedProgramLaws
 pub mod PrintedParts
 pub mod PrintedValueLaws

@@ -19,7 +19,7 @@ pub record IsLiteralValue (P : Program) (t : Ty) (v : Value) : Type 0 where
   -- it is read back from its spelling, and nothing is left over
   pub read_back : (place : ℕ) × (read_at P t (spelling v) ≡ Good v [] place)
 
--- The value of each literal of the whole language is such a value of its type, in a format whose limit fits the length field of a text.
+-- The value of each literal is such a value of its type, in a format whose limit fits the length field of a text.
 -- So no literal has a type at which something in its value would be authenticated.
 abbrev pub LiteralsAreReadBack : Type 0
 LiteralsAreReadBack =

@@ -140,11 +140,3 @@ module _ (limit : ℕ) (types : Table) where
 -- a text as a literal of a type of a program, whose constructors have these names
 abbrev pub literal_in : Program → ConstructorNames → Ty → List ℕ → Literal
 literal_in P names t text = whole_literal P.format.limit P.types t (literal_of P.types names depth_limit t (tokens text))
-
--- a program of the fragment that runs so far has no named types, and so no constructors
-abbrev pub no_constructors : ConstructorNames
-no_constructors number = []
-
--- a text as a literal of a type of a program of the fragment
-abbrev pub literal : Program → Ty → List ℕ → Literal
-literal P t text = literal_in P no_constructors t text

@@ -7,7 +7,7 @@ use Rattle.core_terms.specs.LanguagePrograms.{meaning, constructor_names}
 use Rattle.core_terms.specs.declared.language.program.Program.{Program}
 use Rattle.printed_syntax.specs.PrintedValues.{printed, printed_fields}
 
--- the text of a shallow value of a program of the whole language
+-- the text of a shallow value of a program
 abbrev pub text_in : Program → Ty → Value → List ℕ
 text_in p = printed (meaning p).types (constructor_names p.types.named.items)
 

@@ -6,7 +6,6 @@ use Rattle.std.specs.Str.{IsUtf8}
 use Rattle.core_terms.specs.Values.{int_fits}
 use Rattle.lexemes.specs.Tokens.{Token, KeywordToken, MarkToken, LowerToken, UpperToken, IntToken, TextToken, is_name_byte, keyword_of, name_limit, text_limit}
 use Rattle.auth_syntax.specs.Syntax.{Program}
-use Rattle.auth_syntax.specs.Vocabulary.{Vocabulary}
 use Rattle.auth_syntax.specs.Grammar.{Written, declarations_tokens, nesting_limit, AreDeclarations, IsProgramText}
 use Rattle.auth_syntax.specs.Parsing.{parsed, Tree}
 use Rattle.printed_syntax.specs.PrintedPrograms.{program_text}
@@ -31,24 +30,24 @@ AreTokens [] = Unit {0}
 AreTokens (written ∷ rest) = IsToken written.token × AreTokens rest
 
 -- A program that a text can have: its names, ints and texts are those of tokens, and it is well-formed.
-pub record CanBeWritten (words : Vocabulary) (program : Program) : Type 0 where
+pub record CanBeWritten (program : Program) : Type 0 where
   pub tokens : AreTokens (declarations_tokens program.declarations)
-  pub well_formed : AreDeclarations words nesting_limit program.declarations
+  pub well_formed : AreDeclarations nesting_limit program.declarations
 
 -- A text of a program that is equal to this one but for places, and that is printed alike.
-pub record IsReadBack (words : Vocabulary) (text : List ℕ) (program : Program) : Type 0 where
+pub record IsReadBack (text : List ℕ) (program : Program) : Type 0 where
   pub again : Program
-  pub is_written : IsProgramText words text again
-  pub is_parsed : parsed words text ≡ Tree again
+  pub is_written : IsProgramText text again
+  pub is_parsed : parsed text ≡ Tree again
   pub is_same : without_places again ≡ without_places program
   pub is_printed : program_text again ≡ program_text program
 
 -- The printed text of such a program is read back.
 abbrev pub PrintedProgramIsReadBack : Type 0
-PrintedProgramIsReadBack = (words : Vocabulary) (program : Program) → CanBeWritten words program → IsReadBack words (program_text program) program
+PrintedProgramIsReadBack = (program : Program) → CanBeWritten program → IsReadBack (program_text program) program
 
 -- What a text is parsed to is such a program, so that it can be printed and is read back.
 abbrev pub ParsedIsReadBack : Type 0
 ParsedIsReadBack =
-    (words : Vocabulary) (text : List ℕ) (program : Program) → parsed words text ≡ Tree program
-    → CanBeWritten words program × IsReadBack words (program_text program) program
+    (text : List ℕ) (program : Program) → parsed text ≡ Tree program
+    → CanBeWritten program × IsReadBack (program_text program) program

@@ -1,4 +1,4 @@
--- The law of printed values of the whole language: what a reader may hold their definition to.
+-- The law of printed values: what a reader may hold their definition to.
 use Rattle.std.specs.Prelude.{◌≡◌, ℕ, List, Some, slice_get}
 use Rattle.std.specs.Char.{is_ascii_uppercase}
 use Rattle.core_terms.specs.Types.{Ty, Table, fields_at}

@@ -5,7 +5,7 @@ use Rattle.hex.specs.Hex.{encode_lower}
 use Rattle.core_terms.specs.Types.{Ty, UnitTy, BoolTy, IntTy, TextTy, PairTy, NamedTy, AuthTy, Table, fields_at}
 use Rattle.core_terms.specs.Values.{Value, UnitV, BoolV, IntV, TextV, PairV, ConV, DigestV, Values, NoV, AndV}
 use Rattle.lexemes.specs.Tokens.{is_control}
-use Rattle.printed_syntax.specs.Literals.{ConstructorNames, no_constructors}
+use Rattle.printed_syntax.specs.Literals.{ConstructorNames}
 
 -- a byte of a text between quotes: escaped where it is a quote, a backslash or a control, else as it is
 abbrev pub escaped : ℕ → List ℕ
@@ -53,7 +53,3 @@ module _ (types : Table) (names : ConstructorNames) where
     printed_fields (t ∷ []) (AndV v vs) = printed t v
     printed_fields (t ∷ next ∷ ts) (AndV v vs) = printed t v ++ codes ", " ++ printed_fields (next ∷ ts) vs
     printed_fields ts vs = []
-
--- the text of a shallow value of a program, which has no named types yet
-abbrev pub value_text : Ty → Value → List ℕ
-value_text t v = printed [] no_constructors t v

@@ -15,7 +15,7 @@ pub fn parsed_is_read_back()
 {}
 
 /// The value of a literal has its type, within the limits, is an ideal and a shallow one, and is read back from its spelling, with
-/// nothing left over. It holds of the whole language, in a format whose limit fits the length field of a text.
+/// nothing left over. It holds in a format whose limit fits the length field of a text.
 pub fn literals_are_read_back()
     ensures { LiteralsAreReadBack }
 {}

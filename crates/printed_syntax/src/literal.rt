@@ -1,6 +1,5 @@
 // Literals: values of a type, as they are written.
 
-mod fragment;
 mod parts;
 
 ghost use Rattle.std.specs.Prelude.{◌≡◌, map};
@@ -16,7 +15,6 @@ ghost use Rattle.lexemes.specs.Remaining.{remaining};
 use crate::fault::LiteralFault;
 use core_terms::language::{NamedId, Program, TyForm};
 use core_terms::{Spelling, TyId};
-pub use fragment::parse_fragment_literal;
 use lexemes::fault::{SyntaxFault, SyntaxKind};
 use lexemes::parser::{Parser, PlacedToken};
 use lexemes::token::{Mark, Token};

@@ -5,7 +5,7 @@ ghost use Rattle.lexemes.specs.Tokens.{IntToken, KeywordToken, LowerToken, MarkT
 ghost use Rattle.printed_syntax.specs.PrintedPrograms.{mark_text};
 ghost use Rattle.printed_syntax.specs.LineViews.{at_line, beside, kind_of_token, kinds_apart, line_of, with_bytes, with_end, with_token};
 
-use crate::printing::{push_int, push_quoted};
+use crate::printing::leaves::{push_int, push_quoted};
 use lexemes::lexer::words::keyword_text;
 use lexemes::token::{Keyword, Mark};
 use std::alloc::{AllocError, Global};

@@ -1,24 +1,29 @@
 // Values as they are printed.
 
-pub mod language;
-mod leaves;
+pub(crate) mod leaves;
 
-ghost use Rattle.std.specs.Prelude.{◌≡◌, ◌++◌, ◌∷◌, [], true, ℤ, ℕ, Bool, List, codes, length, IfOk, OnOk};
-ghost use Rattle.std.specs.Fmt.{signed_decimal};
-ghost use Rattle.hex.specs.Hex.{encode_lower};
-ghost use Rattle.core_terms.specs.Programs.{meaning, types_of};
+ghost use Rattle.std.specs.Prelude.{◌≡◌, ◌<◌, ◌≤◌, ◌^◌, [], length, option_map, slice_get, ◌++◌, IfOk, OnOk};
+ghost use Rattle.core_terms.specs.LanguagePrograms.{constructor_names, meaning, types_of};
+ghost use Rattle.core_terms.specs.LanguageTrees.{types_at};
 ghost use Rattle.core_terms.specs.Spelling.{spelling};
 ghost use Rattle.core_terms.specs.TypeTables.{type_at};
-ghost use Rattle.core_terms.specs.Values.{BoolV, IntV, IsShallow, TextV, Value, int_fits};
-ghost use Rattle.printed_syntax.specs.PrintedLaws.{PrintedIsReadBack};
-ghost use Rattle.printed_syntax.specs.PrintedValues.{bool_text, escaped, quoted_text, value_text};
+ghost use Rattle.core_terms.specs.Types.{NamedTy, PairTy, fields_at};
+ghost use Rattle.core_terms.specs.Values.{IsShallow, Value};
+ghost use Rattle.printed_syntax.specs.PrintedParts.{ArePrinted, IsPrinted, comma_before, text_in};
+ghost use Rattle.printed_syntax.specs.PrintedValueLaws.{PrintedValuesAreReadBack};
 
-use crate::printing::leaves::{push_spelled_bool, push_spelled_digest, push_spelled_int};
-use core_terms::{Program, TyForm, TyId};
+use crate::printing::leaves::{
+    push_spelled_bool, push_spelled_digest, push_spelled_int, push_spelled_text,
+};
+use core_terms::TyId;
+use core_terms::language::{Constructor, NamedId, Program, TyForm};
 use std::alloc::{AllocError, Global};
 
-/// The text of the value of a type of the program that these bytes spell: as a literal, an authenticated value as `#` and 64 hexadecimal
-/// digits. Of bytes that spell no value of the type nothing is said.
+/// What stands between two values: a comma and a blank.
+const BETWEEN: &[u8] = b", ";
+
+/// The text of the value of a type of the program that these bytes, fewer than 2^32, spell: as a literal, an authenticated value as `#`
+/// and 64 hexadecimal digits. Of bytes that spell no value of the type nothing is said. The calls nest as deep as the value.
 ///
 /// # Errors
 ///
@@ -29,105 +34,125 @@ pub fn print_value(
     ty: TyId,
     bytes: &[u8],
 ) -> Result<Vec<u8>, AllocError>
-    ensures { IfOk result (λ text. (v : Value) → IsShallow (meaning program.now).types (type_at (types_of program.now) ty) v → bytes.now ≡ spelling v
-        → text.items ≡ value_text (type_at (types_of program.now) ty) v) }
+    ensures { IfOk result (λ text. (v : Value) → IsShallow (meaning program.now).types (type_at (types_of program.now) ty) v → length bytes.now < 2 ^ 32 → bytes.now ≡ spelling v
+        → text.items ≡ text_in program.now (type_at (types_of program.now) ty) v) }
+{
+    let mut text = Vec::new(alloc);
+    push_value(&mut text, program, ty, bytes)?;
+    Ok(text)
+}
+
+/// Adds the text of the value of a type that stands spelled at the front of bytes, and gives the bytes behind it.
+#[cycle(values)]
+fn push_value<'a>(
+    text: &mut Vec<u8>,
+    program: &Program,
+    ty: TyId,
+    bytes: &'a [u8],
+) -> Result<&'a [u8], AllocError>
+    ensures printed { IfOk result (λ left. IsPrinted program.now (type_at (types_of program.now) ty) bytes.now text.old.items text.new.items left.now) }
+    ensures left { IfOk result (λ left. length left.now ≤ length bytes.now) }
 {
     match program.form(ty) {
-        TyForm::UnitForm => Vec::from_slice(alloc, b"()"),
-        TyForm::BoolForm => print_bool(alloc, bytes),
-        TyForm::IntForm => print_int(alloc, bytes),
-        TyForm::TextForm => print_text(alloc, bytes),
-        TyForm::AuthForm(_) => print_digest(alloc, bytes),
+        TyForm::UnitForm => {
+            text.extend_from_slice(b"()")?;
+            Ok(bytes)
+        }
+        TyForm::BoolForm => push_spelled_bool(text, bytes),
+        TyForm::IntForm => push_spelled_int(text, bytes),
+        TyForm::TextForm => push_spelled_text(text, bytes),
+        TyForm::AuthForm(_) => push_spelled_digest(text, bytes),
+        TyForm::PairForm(first, second) => push_pair(text, program, first, second, bytes),
+        TyForm::NamedForm(named) => push_named(text, program, named, bytes),
     }
 }
 
-/// The text of the bool that a byte spells; nothing where it spells none.
-fn print_bool(alloc: Global, bytes: &[u8]) -> Result<Vec<u8>, AllocError>
-    ensures { IfOk result (λ text. (b : Bool) → bytes.now ≡ spelling (BoolV b) → text.items ≡ bool_text b) }
+/// Adds the text of a pair of values of these types: in parentheses, with a comma between them.
+#[cycle(values)]
+fn push_pair<'a>(
+    text: &mut Vec<u8>,
+    program: &Program,
+    first: TyId,
+    second: TyId,
+    bytes: &'a [u8],
+) -> Result<&'a [u8], AllocError>
+    ensures printed { IfOk result (λ left. IsPrinted program.now (PairTy (type_at (types_of program.now) first) (type_at (types_of program.now) second)) bytes.now text.old.items text.new.items left.now) }
+    ensures left { IfOk result (λ left. length left.now ≤ length bytes.now) }
 {
-    let mut text = Vec::new(alloc);
-    push_spelled_bool(&mut text, bytes)?;
-    Ok(text)
+    text.push(b'(')?;
+    let behind = push_value(text, program, first, bytes)?;
+    text.extend_from_slice(BETWEEN)?;
+    let left = push_value(text, program, second, behind)?;
+    text.push(b')')?;
+    Ok(left)
 }
 
-/// The text of the int that 8 bytes spell; nothing where there are fewer.
-fn print_int(alloc: Global, bytes: &[u8]) -> Result<Vec<u8>, AllocError>
-    ensures { IfOk result (λ text. (z : ℤ) → int_fits z ≡ true → bytes.now ≡ spelling (IntV z) → text.items ≡ signed_decimal z) }
+/// Adds the text of a value of a named type: its constructor, and the fields in parentheses, where it has any.
+#[cycle(values)]
+fn push_named<'a>(
+    text: &mut Vec<u8>,
+    program: &Program,
+    named: NamedId,
+    bytes: &'a [u8],
+) -> Result<&'a [u8], AllocError>
+    ensures printed { IfOk result (λ left. IsPrinted program.now (NamedTy named.0) bytes.now text.old.items text.new.items left.now) }
+    ensures left { IfOk result (λ left. length left.now ≤ length bytes.now) }
 {
-    let mut text = Vec::new(alloc);
-    push_spelled_int(&mut text, bytes)?;
-    Ok(text)
-}
-
-/// Adds an int.
-pub(crate) fn push_int(text: &mut Vec<u8>, number: i64) -> Result<(), AllocError>
-    ensures { OnOk result (text.new.items ≡ text.old.items ++ signed_decimal number) }
-{
-    let mut buffer = itoa::Buffer::new();
-    text.extend_from_slice(buffer.format(number).as_bytes())
-}
-
-/// The text, in quotes, that stands behind the 4 bytes of its length; nothing where there are fewer.
-fn print_text(alloc: Global, bytes: &[u8]) -> Result<Vec<u8>, AllocError>
-    ensures { IfOk result (λ text. (content : List ℕ) → bytes.now ≡ spelling (TextV content) → text.items ≡ quoted_text content) }
-{
-    let mut text = Vec::new(alloc);
-    if let Some((_, content)) = bytes.split_first_chunk::<4>() {
-        push_quoted(&mut text, content)?;
+    let Some((tag, behind)) = bytes.split_first() else {
+        return Ok(bytes);
+    };
+    let Some(constructor) = constructor_at(program, named, *tag) else {
+        return Ok(behind);
+    };
+    text.extend_from_slice(constructor.name.as_bytes())?;
+    if constructor.fields.is_empty() {
+        return Ok(behind);
     }
-    Ok(text)
+    text.push(b'(')?;
+    let left = push_fields(text, program, &constructor.fields, behind)?;
+    text.push(b')')?;
+    Ok(left)
 }
 
-/// Adds a text in quotes.
-#[tactic(auto, using(crate::proofs::PrintedTexts::all_escaped_more))]
-pub(crate) fn push_quoted(text: &mut Vec<u8>, content: &[u8]) -> Result<(), AllocError>
-    ensures { OnOk result (text.new.items ≡ text.old.items ++ quoted_text content.now) }
+/// The constructor of a named type with a tag.
+fn constructor_at(program: &Program, named: NamedId, tag: u8) -> Option<&Constructor>
+    ensures name { option_map (λ constructor. constructor.now.name) result ≡ slice_get (constructor_names program.now.types.named.items named.0) tag }
+    ensures fields { option_map (λ constructor. types_at (types_of program.now) constructor.now.fields.items) result ≡ fields_at (meaning program.now).types named.0 tag }
 {
-    text.push(b'"')?;
-    for byte in content {
-        push_escaped(text, *byte)?;
+    let declared = program.named_types().get(named.0)?;
+    declared.constructors.get(usize::from(tag))
+}
+
+/// Adds the texts of values of these types in a row, with commas between them.
+#[cycle(values)]
+fn push_fields<'a>(
+    text: &mut Vec<u8>,
+    program: &Program,
+    fields: &[TyId],
+    bytes: &'a [u8],
+) -> Result<&'a [u8], AllocError>
+    ensures printed { IfOk result (λ left. ArePrinted program.now (types_at (types_of program.now) fields.now) bytes.now text.old.items text.new.items left.now) }
+    ensures left { IfOk result (λ left. length left.now ≤ length bytes.now) }
+{
+    let mut left = bytes;
+    for (index, field) in fields.iter().enumerate() {
+        push_comma(text, index)?;
+        left = push_value(text, program, *field, left)?;
     }
-    text.push(b'"')?;
+    Ok(left)
+}
+
+/// Adds what stands before a field with a number: a comma and a blank, where it isn't the first.
+fn push_comma(text: &mut Vec<u8>, index: usize) -> Result<(), AllocError>
+    ensures { OnOk result (text.new.items ≡ text.old.items ++ comma_before index) }
+{
+    if index > 0 {
+        text.extend_from_slice(BETWEEN)?;
+    }
     Ok(())
 }
 
-/// Adds a byte of a text as it stands between quotes.
-fn push_escaped(text: &mut Vec<u8>, byte: u8) -> Result<(), AllocError>
-    ensures { OnOk result (text.new.items ≡ text.old.items ++ escaped byte) }
-{
-    match byte {
-        b'"' => text.extend_from_slice(b"\\\""),
-        b'\\' => text.extend_from_slice(b"\\\\"),
-        b'\n' => text.extend_from_slice(b"\\n"),
-        b'\t' => text.extend_from_slice(b"\\t"),
-        0..=0x1f | 0x7f => push_hexadecimal(text, byte),
-        _ => {
-            text.push(byte)?;
-            Ok(())
-        }
-    }
-}
-
-/// Adds a byte as an escape with its two hexadecimal digits.
-fn push_hexadecimal(text: &mut Vec<u8>, byte: u8) -> Result<(), AllocError>
-    ensures { OnOk result (text.new.items ≡ text.old.items ++ codes "\\x" ++ encode_lower (byte ∷ [])) }
-{
-    let mut escape = *b"\\x00";
-    // Two digits have room behind the `x`, so this can't fail.
-    let _ = hex::encode_to_slice(&[byte], &mut escape[2..]);
-    text.extend_from_slice(&escape)
-}
-
-/// The text of a digest: `#` and two hexadecimal digits for each of its 32 bytes; nothing where there are fewer.
-fn print_digest(alloc: Global, digest: &[u8]) -> Result<Vec<u8>, AllocError>
-    ensures { length digest.now ≡ 32 → IfOk result (λ text. text.items ≡ codes "#" ++ encode_lower digest.now) }
-{
-    let mut text = Vec::new(alloc);
-    push_spelled_digest(&mut text, digest)?;
-    Ok(text)
-}
-
-/// The law of printed values: a value of a type without parts is read back from its text.
+/// The law of printed values: one in which nothing is authenticated is read back from its text.
 pub fn reading_back()
-    ensures { PrintedIsReadBack }
+    ensures { PrintedValuesAreReadBack }
 {}

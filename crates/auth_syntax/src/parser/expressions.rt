@@ -1,20 +1,17 @@
 // Expressions, as they are written.
 
 ghost use Rattle.std.specs.Prelude.{◌≡◌, ◌++◌, ◌∷◌, [], IfOk, OnOk, option_map};
-ghost use Rattle.auth_syntax.specs.Vocabulary.{Calls, Pairs};
 ghost use Rattle.lexemes.specs.Tokens.{count};
-ghost use Rattle.auth_syntax.specs.Parsing.{begins_expression, expression_from, operation_begins, operation_from, read_arm_separator, read_arms, read_call, read_constructor, read_expression, read_if, read_let, read_list, read_lower, read_match, read_optional_list, read_unit_or_pair, read_whole_expression, word_begins, word_from};
+ghost use Rattle.auth_syntax.specs.Parsing.{begins_expression, expression_from, operation_from, read_arm_separator, read_arms, read_call, read_constructor, read_expression, read_if, read_let, read_list, read_lower, read_match, read_optional_list, read_unit_or_pair, read_whole_expression, word_begins, word_from};
 ghost use Rattle.auth_syntax.specs.Parsing as parsing;
 ghost use Rattle.auth_syntax.specs.Arms.{read_arm};
-ghost use Rattle.auth_syntax.specs.Parts.{Begins, both_of, head_token, operation_of, pattern_of, read_before, read_behind, read_binding, read_both, read_operation, read_pattern, read_unit_sign, then_closed};
-ghost use Rattle.auth_syntax.specs.LanguageViews.{once_begun, words_of};
+ghost use Rattle.auth_syntax.specs.Parts.{Begins, both_of, head_token, operation_of, pattern_of, read_before, read_behind, read_binding, read_both, read_operation, read_pattern, then_closed};
 ghost use Rattle.lexemes.specs.Remaining.{remaining};
 ghost use Rattle.lexemes.specs.TokenViews.{token_view};
 ghost use Rattle.auth_syntax.specs.Trees.{arm_of, arms_of, boxed_of, expression_of, expressions_of, name_of, names_of, unary_of};
 ghost use Rattle.lexemes.specs.Remaining.{Reads};
 ghost use Rattle.lexemes.specs.Readings.{read_separator};
 
-use crate::language::{Form, Language};
 use crate::parser::{NESTING_LIMIT, lower, name, upper};
 use crate::tree::{Arm, ExpTree, PlacedName, UnaryOperator};
 use core_terms::language::BinaryOperator;
@@ -66,58 +63,41 @@ struct Pattern {
 }
 
 /// An expression that stands in no other.
-pub(crate) fn whole_expression(
-    parser: &mut Parser<'_>,
-    language: Language,
-) -> Result<ExpTree, SyntaxFault>
-    ensures { Reads expression_of (read_whole_expression (words_of language) (remaining parser.old)) result (remaining parser.new) }
+pub(crate) fn whole_expression(parser: &mut Parser<'_>) -> Result<ExpTree, SyntaxFault>
+    ensures { Reads expression_of (read_whole_expression (remaining parser.old)) result (remaining parser.new) }
 {
-    expression(parser, language, NESTING_LIMIT)
+    expression(parser, NESTING_LIMIT)
 }
 
 /// An expression, of at most so many levels.
 #[cycle(expressions)]
-fn expression(
-    parser: &mut Parser<'_>,
-    language: Language,
-    levels: usize,
-) -> Result<ExpTree, SyntaxFault>
-    ensures { Reads expression_of (read_expression (words_of language) levels (remaining parser.old)) result (remaining parser.new) }
+fn expression(parser: &mut Parser<'_>, levels: usize) -> Result<ExpTree, SyntaxFault>
+    ensures { Reads expression_of (read_expression levels (remaining parser.old)) result (remaining parser.new) }
 {
-    let PlacedHead { at, head } = expression_head(parser, language, levels)?;
-    expression_from(parser, language, at, head, levels - 1)
+    let PlacedHead { at, head } = expression_head(parser, levels)?;
+    expression_from(parser, at, head, levels - 1)
 }
 
 /// An expression on the heap, of at most so many levels, with what has to stand behind it.
 #[cycle(expressions)]
 fn boxed(
     parser: &mut Parser<'_>,
-    language: Language,
     levels: usize,
     behind: Behind,
 ) -> Result<Box<ExpTree>, SyntaxFault>
-    ensures { Reads boxed_of (read_before behind (read_expression (words_of language) levels) (remaining parser.old)) result (remaining parser.new) }
+    ensures { Reads boxed_of (read_before behind (read_expression levels) (remaining parser.old)) result (remaining parser.new) }
 {
-    let part = expression(parser, language, levels)?;
+    let part = expression(parser, levels)?;
     closed(parser, part, behind)
 }
 
 /// Two expressions with a comma between them, and the parenthesis that ends them.
 #[cycle(expressions)]
-fn both(
-    parser: &mut Parser<'_>,
-    language: Language,
-    levels: usize,
-) -> Result<(Box<ExpTree>, Box<ExpTree>), SyntaxFault>
-    ensures { Reads both_of (read_both (read_expression (words_of language) levels) (remaining parser.old)) result (remaining parser.new) }
+fn both(parser: &mut Parser<'_>, levels: usize) -> Result<(Box<ExpTree>, Box<ExpTree>), SyntaxFault>
+    ensures { Reads both_of (read_both (read_expression levels) (remaining parser.old)) result (remaining parser.new) }
 {
-    let first = boxed(parser, language, levels, Behind::Mark(Mark::Comma))?;
-    let second = boxed(
-        parser,
-        language,
-        levels,
-        Behind::Mark(Mark::RightParenthesis),
-    )?;
+    let first = boxed(parser, levels, Behind::Mark(Mark::Comma))?;
+    let second = boxed(parser, levels, Behind::Mark(Mark::RightParenthesis))?;
     Ok((first, second))
 }
 
@@ -125,39 +105,32 @@ fn both(
 #[cycle(expressions)]
 fn expression_from(
     parser: &mut Parser<'_>,
-    language: Language,
     at: Place,
     head: Head,
     levels: usize,
 ) -> Result<ExpTree, SyntaxFault>
-    // that the language has what the token begins was found before
-    ensures { Reads expression_of (expression_from (once_begun (words_of language)) (read_expression (words_of language) levels) at (head_token head) (remaining parser.old)) result (remaining parser.new) }
+    ensures { Reads expression_of (expression_from (read_expression levels) at (head_token head) (remaining parser.old)) result (remaining parser.new) }
 {
     match head {
-        Head::Mark(Mark::LeftParenthesis) => unit_or_pair(parser, language, at, levels),
-        Head::Lower(name) => local_or_call(parser, language, at, name, levels),
-        Head::Upper(name) => constructor(parser, language, at, name, levels),
+        Head::Mark(Mark::LeftParenthesis) => unit_or_pair(parser, at, levels),
+        Head::Lower(name) => local_or_call(parser, at, name, levels),
+        Head::Upper(name) => constructor(parser, at, name, levels),
         Head::Int(value) => Ok(ExpTree::IntLiteral(at, value)),
         Head::Text(text) => Ok(ExpTree::TextLiteral(at, text)),
-        Head::Keyword(keyword) => word(parser, language, at, keyword, levels),
+        Head::Keyword(keyword) => word(parser, at, keyword, levels),
         Head::Mark(_) => Err(SyntaxFault::At(SyntaxKind::Expected, at)),
     }
 }
 
 /// Behind a parenthesis: its end, or a pair.
 #[cycle(expressions)]
-fn unit_or_pair(
-    parser: &mut Parser<'_>,
-    language: Language,
-    at: Place,
-    levels: usize,
-) -> Result<ExpTree, SyntaxFault>
-    ensures { Reads expression_of (read_unit_or_pair (words_of language) (read_expression (words_of language) levels) at (remaining parser.old)) result (remaining parser.new) }
+fn unit_or_pair(parser: &mut Parser<'_>, at: Place, levels: usize) -> Result<ExpTree, SyntaxFault>
+    ensures { Reads expression_of (read_unit_or_pair (read_expression levels) at (remaining parser.old)) result (remaining parser.new) }
 {
-    if unit_sign(parser, language)? {
+    if parser.if_mark(Mark::RightParenthesis)? {
         return Ok(ExpTree::UnitLiteral(at));
     }
-    let (first, second) = both(parser, language, levels)?;
+    let (first, second) = both(parser, levels)?;
     Ok(ExpTree::Pair(at, first, second))
 }
 
@@ -165,20 +138,16 @@ fn unit_or_pair(
 #[cycle(expressions)]
 fn local_or_call(
     parser: &mut Parser<'_>,
-    language: Language,
     at: Place,
     name: Name,
     levels: usize,
 ) -> Result<ExpTree, SyntaxFault>
-    ensures { Reads expression_of (read_call (words_of language Calls) (read_expression (words_of language) levels) at name (remaining parser.old)) result (remaining parser.new) }
+    ensures { Reads expression_of (read_call (read_expression levels) at name (remaining parser.old)) result (remaining parser.new) }
 {
-    if !language.has(Form::Calls) {
-        return Ok(ExpTree::Local(at, name));
-    }
     if !parser.if_mark(Mark::LeftParenthesis)? {
         return Ok(ExpTree::Local(at, name));
     }
-    let arguments = expression_list(parser, language, levels)?;
+    let arguments = expression_list(parser, levels)?;
     Ok(ExpTree::Call(at, name, arguments))
 }
 
@@ -186,32 +155,27 @@ fn local_or_call(
 #[cycle(expressions)]
 fn constructor(
     parser: &mut Parser<'_>,
-    language: Language,
     at: Place,
     name: Name,
     levels: usize,
 ) -> Result<ExpTree, SyntaxFault>
-    ensures { Reads expression_of (read_constructor (read_expression (words_of language) levels) at name (remaining parser.old)) result (remaining parser.new) }
+    ensures { Reads expression_of (read_constructor (read_expression levels) at name (remaining parser.old)) result (remaining parser.new) }
 {
     if !parser.if_mark(Mark::LeftParenthesis)? {
         return Ok(ExpTree::Constructor(at, name, Vec::new(parser.alloc)));
     }
-    let fields = expression_list(parser, language, levels)?;
+    let fields = expression_list(parser, levels)?;
     Ok(ExpTree::Constructor(at, name, fields))
 }
 
 /// At least one expression, and the parenthesis that ends them.
 #[cycle(expressions)]
-fn expression_list(
-    parser: &mut Parser<'_>,
-    language: Language,
-    levels: usize,
-) -> Result<Vec<ExpTree>, SyntaxFault>
-    ensures { Reads expressions_of (read_list (read_expression (words_of language) levels) (count (remaining parser.old)) (remaining parser.old)) result (remaining parser.new) }
+fn expression_list(parser: &mut Parser<'_>, levels: usize) -> Result<Vec<ExpTree>, SyntaxFault>
+    ensures { Reads expressions_of (read_list (read_expression levels) (count (remaining parser.old)) (remaining parser.old)) result (remaining parser.new) }
 {
     let mut expressions = Vec::new(parser.alloc);
     'each: loop {
-        let next = expression(parser, language, levels)?;
+        let next = expression(parser, levels)?;
         if !listed(parser, &mut expressions, next)? {
             return Ok(expressions);
         }
@@ -222,20 +186,19 @@ fn expression_list(
 #[cycle(expressions)]
 fn word(
     parser: &mut Parser<'_>,
-    language: Language,
     at: Place,
     keyword: Keyword,
     levels: usize,
 ) -> Result<ExpTree, SyntaxFault>
-    ensures { Reads expression_of (word_from (once_begun (words_of language)) (read_expression (words_of language) levels) at keyword (remaining parser.old)) result (remaining parser.new) }
+    ensures { Reads expression_of (word_from (read_expression levels) at keyword (remaining parser.old)) result (remaining parser.new) }
 {
     match keyword {
         Keyword::True => Ok(ExpTree::BoolLiteral(at, true)),
         Keyword::False => Ok(ExpTree::BoolLiteral(at, false)),
-        Keyword::Let => let_in(parser, language, at, levels),
-        Keyword::If => conditional(parser, language, at, levels),
-        Keyword::Match => matching(parser, language, at, levels),
-        _ => operation(parser, language, at, keyword, levels),
+        Keyword::Let => let_in(parser, at, levels),
+        Keyword::If => conditional(parser, at, levels),
+        Keyword::Match => matching(parser, at, levels),
+        _ => operation(parser, at, keyword, levels),
     }
 }
 
@@ -243,21 +206,20 @@ fn word(
 #[cycle(expressions)]
 fn operation(
     parser: &mut Parser<'_>,
-    language: Language,
     at: Place,
     keyword: Keyword,
     levels: usize,
 ) -> Result<ExpTree, SyntaxFault>
-    ensures { Reads expression_of (operation_from (once_begun (words_of language)) (read_expression (words_of language) levels) at (parsing.unary_of keyword) (parsing.binary_of keyword) (remaining parser.old)) result (remaining parser.new) }
+    ensures { Reads expression_of (operation_from (read_expression levels) at (parsing.unary_of keyword) (parsing.binary_of keyword) (remaining parser.old)) result (remaining parser.new) }
 {
     match operation_word(parser, at, keyword)? {
         Operator::Unary(operator) => {
             let closing = Behind::Mark(Mark::RightParenthesis);
-            let operand = boxed(parser, language, levels, closing)?;
+            let operand = boxed(parser, levels, closing)?;
             Ok(ExpTree::Unary(at, operator, operand))
         }
         Operator::Binary(operator) => {
-            let (first, second) = both(parser, language, levels)?;
+            let (first, second) = both(parser, levels)?;
             Ok(ExpTree::Binary(at, operator, first, second))
         }
     }
@@ -265,17 +227,12 @@ fn operation(
 
 /// Behind `let`: a name, what is bound to it, and the body.
 #[cycle(expressions)]
-fn let_in(
-    parser: &mut Parser<'_>,
-    language: Language,
-    at: Place,
-    levels: usize,
-) -> Result<ExpTree, SyntaxFault>
-    ensures { Reads expression_of (read_let (read_expression (words_of language) levels) at (remaining parser.old)) result (remaining parser.new) }
+fn let_in(parser: &mut Parser<'_>, at: Place, levels: usize) -> Result<ExpTree, SyntaxFault>
+    ensures { Reads expression_of (read_let (read_expression levels) at (remaining parser.old)) result (remaining parser.new) }
 {
     let name = binding(parser)?;
-    let bound = boxed(parser, language, levels, Behind::Word(Keyword::In))?;
-    let body = boxed(parser, language, levels, Behind::Nothing)?;
+    let bound = boxed(parser, levels, Behind::Word(Keyword::In))?;
+    let body = boxed(parser, levels, Behind::Nothing)?;
     Ok(ExpTree::Let {
         at,
         name,
@@ -286,17 +243,12 @@ fn let_in(
 
 /// Behind `if`: the test, and what is taken where it holds, or else.
 #[cycle(expressions)]
-fn conditional(
-    parser: &mut Parser<'_>,
-    language: Language,
-    at: Place,
-    levels: usize,
-) -> Result<ExpTree, SyntaxFault>
-    ensures { Reads expression_of (read_if (read_expression (words_of language) levels) at (remaining parser.old)) result (remaining parser.new) }
+fn conditional(parser: &mut Parser<'_>, at: Place, levels: usize) -> Result<ExpTree, SyntaxFault>
+    ensures { Reads expression_of (read_if (read_expression levels) at (remaining parser.old)) result (remaining parser.new) }
 {
-    let test = boxed(parser, language, levels, Behind::Word(Keyword::Then))?;
-    let first = boxed(parser, language, levels, Behind::Word(Keyword::Else))?;
-    let other = boxed(parser, language, levels, Behind::Nothing)?;
+    let test = boxed(parser, levels, Behind::Word(Keyword::Then))?;
+    let first = boxed(parser, levels, Behind::Word(Keyword::Else))?;
+    let other = boxed(parser, levels, Behind::Nothing)?;
     Ok(ExpTree::If {
         at,
         test,
@@ -307,32 +259,23 @@ fn conditional(
 
 /// Behind `match`: its subject, and the arms.
 #[cycle(expressions)]
-fn matching(
-    parser: &mut Parser<'_>,
-    language: Language,
-    at: Place,
-    levels: usize,
-) -> Result<ExpTree, SyntaxFault>
-    ensures { Reads expression_of (read_match (read_expression (words_of language) levels) at (remaining parser.old)) result (remaining parser.new) }
+fn matching(parser: &mut Parser<'_>, at: Place, levels: usize) -> Result<ExpTree, SyntaxFault>
+    ensures { Reads expression_of (read_match (read_expression levels) at (remaining parser.old)) result (remaining parser.new) }
 {
-    let subject = boxed(parser, language, levels, Behind::Word(Keyword::With))?;
+    let subject = boxed(parser, levels, Behind::Word(Keyword::With))?;
     parser.mark(Mark::Bar)?;
-    let arms = arm_list(parser, language, levels)?;
+    let arms = arm_list(parser, levels)?;
     Ok(ExpTree::Match { at, subject, arms })
 }
 
 /// Behind a bar: at least one arm, and the `end` behind them.
 #[cycle(expressions)]
-fn arm_list(
-    parser: &mut Parser<'_>,
-    language: Language,
-    levels: usize,
-) -> Result<Vec<Arm>, SyntaxFault>
-    ensures { Reads arms_of (read_arms (read_expression (words_of language) levels) (count (remaining parser.old)) (remaining parser.old)) result (remaining parser.new) }
+fn arm_list(parser: &mut Parser<'_>, levels: usize) -> Result<Vec<Arm>, SyntaxFault>
+    ensures { Reads arms_of (read_arms (read_expression levels) (count (remaining parser.old)) (remaining parser.old)) result (remaining parser.new) }
 {
     let mut arms = Vec::new(parser.alloc);
     'each: loop {
-        let next = arm(parser, language, levels)?;
+        let next = arm(parser, levels)?;
         if !arm_listed(parser, &mut arms, next)? {
             return Ok(arms);
         }
@@ -341,11 +284,11 @@ fn arm_list(
 
 /// An arm, behind its bar.
 #[cycle(expressions)]
-fn arm(parser: &mut Parser<'_>, language: Language, levels: usize) -> Result<Arm, SyntaxFault>
-    ensures { Reads arm_of (read_arm (read_expression (words_of language) levels) (remaining parser.old)) result (remaining parser.new) }
+fn arm(parser: &mut Parser<'_>, levels: usize) -> Result<Arm, SyntaxFault>
+    ensures { Reads arm_of (read_arm (read_expression levels) (remaining parser.old)) result (remaining parser.new) }
 {
     let pattern = arm_pattern(parser)?;
-    let body = expression(parser, language, levels)?;
+    let body = expression(parser, levels)?;
     Ok(Arm {
         constructor: pattern.constructor,
         fields: pattern.fields,
@@ -354,15 +297,11 @@ fn arm(parser: &mut Parser<'_>, language: Language, levels: usize) -> Result<Arm
 }
 
 /// Takes the token that begins an expression of at most so many levels.
-fn expression_head(
-    parser: &mut Parser<'_>,
-    language: Language,
-    levels: usize,
-) -> Result<PlacedHead, SyntaxFault>
-    ensures { Begins (words_of language) levels (remaining parser.old) result (remaining parser.new) }
+fn expression_head(parser: &mut Parser<'_>, levels: usize) -> Result<PlacedHead, SyntaxFault>
+    ensures { Begins levels (remaining parser.old) result (remaining parser.new) }
 {
     let PlacedToken { at, token } = parser.token()?;
-    if !begins_expression(language, &token) {
+    if !begins_expression(&token) {
         return Err(SyntaxFault::At(SyntaxKind::Expected, at));
     }
     if levels == 0 {
@@ -430,20 +369,6 @@ fn closed(
     let part = Box::new(parser.alloc, part)?;
     take(parser, behind)?;
     Ok(part)
-}
-
-/// Whether a parenthesis is ended at once; where it is not, the language needs pairs.
-fn unit_sign(parser: &mut Parser<'_>, language: Language) -> Result<bool, SyntaxFault>
-    ensures { Reads (λ ends. ends) (read_unit_sign (words_of language Pairs) (remaining parser.old)) result (remaining parser.new) }
-{
-    if parser.if_mark(Mark::RightParenthesis)? {
-        return Ok(true);
-    }
-    if language.has(Form::Pairs) {
-        return Ok(false);
-    }
-    let PlacedToken { at, .. } = parser.token()?;
-    Err(SyntaxFault::At(SyntaxKind::Expected, at))
 }
 
 /// The operation whose word a keyword is, with the parenthesis before its operands.
@@ -550,41 +475,37 @@ fn binary_operator(keyword: Keyword) -> Option<BinaryOperator>
 }
 
 /// Whether a token begins an expression.
-fn begins_expression(language: Language, token: &Token<'_>) -> bool
-    ensures { result ≡ begins_expression (words_of language) (token_view token.now) }
+fn begins_expression(token: &Token<'_>) -> bool
+    ensures { result ≡ begins_expression (token_view token.now) }
 {
     match token {
-        Token::Mark(Mark::LeftParenthesis) | Token::Lower(_) => true,
-        Token::Upper(_) => language.has(Form::Constructors),
-        Token::Int(_) => language.has(Form::Ints),
-        Token::Text(_) => language.has(Form::Texts),
-        Token::Keyword(keyword) => word_begins(language, *keyword),
+        Token::Mark(Mark::LeftParenthesis)
+        | Token::Lower(_)
+        | Token::Upper(_)
+        | Token::Int(_)
+        | Token::Text(_) => true,
+        Token::Keyword(keyword) => word_begins(*keyword),
         Token::Mark(_) => false,
     }
 }
 
 /// Whether a keyword begins an expression.
-fn word_begins(language: Language, keyword: Keyword) -> bool
-    ensures { result ≡ word_begins (words_of language) keyword }
+fn word_begins(keyword: Keyword) -> bool
+    ensures { result ≡ word_begins keyword }
 {
-    match keyword {
-        Keyword::True | Keyword::False => language.has(Form::Bools),
-        Keyword::Let => language.has(Form::Lets),
-        Keyword::If => language.has(Form::Conditions),
-        Keyword::Match => language.has(Form::Matches),
-        _ => operation_begins(language, keyword),
-    }
-}
-
-/// Whether a keyword is the word of an operation.
-fn operation_begins(language: Language, keyword: Keyword) -> bool
-    ensures { result ≡ operation_begins (words_of language) (parsing.unary_of keyword) (parsing.binary_of keyword) }
-{
-    if let Some(operator) = unary_operator(keyword) {
-        return language.has(Form::Unary(operator));
-    }
-    match binary_operator(keyword) {
-        Some(operator) => language.has(Form::Binary(operator)),
-        None => false,
-    }
+    matches!(
+        keyword,
+        Keyword::True
+            | Keyword::False
+            | Keyword::Let
+            | Keyword::If
+            | Keyword::Match
+            | Keyword::Fst
+            | Keyword::Snd
+            | Keyword::Auth
+            | Keyword::Unauth
+            | Keyword::Len
+            | Keyword::Not
+            | Keyword::Binary(_)
+    )
 }

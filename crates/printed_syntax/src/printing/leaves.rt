@@ -1,14 +1,13 @@
 // Values without parts, taken from the front of bytes as they are printed.
 
-ghost use Rattle.std.specs.Prelude.{ℤ, ℕ, Bool, List, true, ◌≡◌, ◌<◌, ◌≤◌, ◌^◌, ◌++◌, codes, length, IfOk, OnOk};
+ghost use Rattle.std.specs.Prelude.{ℤ, ℕ, Bool, List, true, ◌≡◌, ◌<◌, ◌≤◌, ◌^◌, ◌++◌, ◌∷◌, [], codes, length, IfOk, OnOk};
 ghost use Rattle.std.specs.Fmt.{signed_decimal};
 ghost use Rattle.hex.specs.Hex.{encode_lower};
 ghost use Rattle.core_terms.specs.Spelling.{spelling};
 ghost use Rattle.core_terms.specs.Values.{BoolV, DigestV, IntV, TextV, int_fits};
 ghost use Rattle.printed_syntax.specs.PrintedParts.{IsTaken};
-ghost use Rattle.printed_syntax.specs.PrintedValues.{bool_text, quoted_text};
+ghost use Rattle.printed_syntax.specs.PrintedValues.{bool_text, escaped, quoted_text};
 
-use crate::printing::{push_int, push_quoted};
 use std::alloc::AllocError;
 
 /// Adds the text of the bool that the first byte spells, and gives the bytes behind it; all, where it spells none.
@@ -90,4 +89,52 @@ fn push_digest(text: &mut Vec<u8>, digest: &[u8; 32]) -> Result<(), AllocError>
     let _ = hex::encode_to_slice(digest, &mut digits);
     text.push(b'#')?;
     text.extend_from_slice(&digits)
+}
+
+/// Adds an int.
+pub(crate) fn push_int(text: &mut Vec<u8>, number: i64) -> Result<(), AllocError>
+    ensures { OnOk result (text.new.items ≡ text.old.items ++ signed_decimal number) }
+{
+    let mut buffer = itoa::Buffer::new();
+    text.extend_from_slice(buffer.format(number).as_bytes())
+}
+
+/// Adds a text in quotes.
+#[tactic(auto, using(crate::proofs::PrintedTexts::all_escaped_more))]
+pub(crate) fn push_quoted(text: &mut Vec<u8>, content: &[u8]) -> Result<(), AllocError>
+    ensures { OnOk result (text.new.items ≡ text.old.items ++ quoted_text content.now) }
+{
+    text.push(b'"')?;
+    for byte in content {
+        push_escaped(text, *byte)?;
+    }
+    text.push(b'"')?;
+    Ok(())
+}
+
+/// Adds a byte of a text as it stands between quotes.
+fn push_escaped(text: &mut Vec<u8>, byte: u8) -> Result<(), AllocError>
+    ensures { OnOk result (text.new.items ≡ text.old.items ++ escaped byte) }
+{
+    match byte {
+        b'"' => text.extend_from_slice(b"\\\""),
+        b'\\' => text.extend_from_slice(b"\\\\"),
+        b'\n' => text.extend_from_slice(b"\\n"),
+        b'\t' => text.extend_from_slice(b"\\t"),
+        0..=0x1f | 0x7f => push_hexadecimal(text, byte),
+        _ => {
+            text.push(byte)?;
+            Ok(())
+        }
+    }
+}
+
+/// Adds a byte as an escape with its two hexadecimal digits.
+fn push_hexadecimal(text: &mut Vec<u8>, byte: u8) -> Result<(), AllocError>
+    ensures { OnOk result (text.new.items ≡ text.old.items ++ codes "\\x" ++ encode_lower (byte ∷ [])) }
+{
+    let mut escape = *b"\\x00";
+    // Two digits have room behind the `x`, so this can't fail.
+    let _ = hex::encode_to_slice(&[byte], &mut escape[2..]);
+    text.extend_from_slice(&escape)
 }

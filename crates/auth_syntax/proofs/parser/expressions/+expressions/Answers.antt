@@ -5,7 +5,6 @@ use Rattle.lexemes.specs.Readings.{Reading, Found, read_separator}
 use Rattle.auth_syntax.specs.Parsing.{read_expression, read_arm_separator, read_list, read_arms}
 use Rattle.auth_syntax.specs.Parsing as parsing
 use Rattle.auth_syntax.specs.Arms.{read_arm}
-use Rattle.auth_syntax.specs.LanguageViews.{words_of}
 use Rattle.auth_syntax.specs.Trees.{boxed_of, expression_of, expressions_of, ArmSyntax, arm_of, arms_of, arms_in_a_row, name_of}
 use Rattle.lexemes.specs.Remaining.{Reads, remaining}
 use Rattle.auth_syntax.specs.Syntax.{ExpSyntax}
@@ -20,106 +19,105 @@ use Rattle.auth_syntax.proofs.parser.expressions.+expressions.Goals as goal
 pub expression-returns-in_err-at : goal.expression-returns-in_err-at
 expression-returns-in_err-at t c =
     let p = err_from_is_err_and c.from_residual.result c.from_residual.ensures.1 in
-    rw (p.1, p.2) (none_begun expression_of (words_of c.args.language) c.args.levels (remaining c.args.parser.now) (remaining c.expression_head.new.parser) (remaining c.expression_head.new.parser)
+    rw (p.1, p.2) (none_begun expression_of c.args.levels (remaining c.args.parser.now) (remaining c.expression_head.new.parser) (remaining c.expression_head.new.parser)
     c.in_err-at.field-0.0 c.in_err-at.ensures)
 
 pub expression-returns : goal.expression-returns
 expression-returns t c =
-    let words = words_of c.args.language in
     let begun = c.in_ok-at.ensures in
     subst (λ (reading : Reading ExpSyntax). Reads expression_of reading c.expression_from.result (remaining c.expression_from.new.parser))
-    (sym (ap (read_expression words c.args.levels) begun.taken ∙ read_expression-step words c.args.levels _ _ _ begun.begins begun.nested))
+    (sym (ap (read_expression c.args.levels) begun.taken ∙ read_expression-step c.args.levels _ _ _ begun.nested))
     c.expression_from.ensures
 
 pub expression_list-returns-in_err-next : goal.expression_list-returns-in_err-next
 expression_list-returns-in_err-next t c =
-    let reads = read_expression (words_of c.args.language) c.args.levels in
+    let reads = read_expression c.args.levels in
     let p = err_from_is_err_and c.from_residual.result c.from_residual.ensures.1 in
     rw (p.1, p.2) (read_so_far-none read_separator reads (λ expressions. expressions) (λ tokens. read_list reads (count tokens) tokens)
-    (listed_by_one reads (expression_is_tokens (words_of c.args.language) c.args.levels)) (remaining c.args.parser.now)
+    (listed_by_one reads (expression_is_tokens c.args.levels)) (remaining c.args.parser.now)
     (map expression_of c.each.expressions.items) (remaining c.each.parser) c.each.invariant
     expression_of expressions_of (remaining c.expression.new.parser) (remaining c.expression.new.parser) c.in_err-next.field-0.0 c.in_err-next.ensures)
 
 pub expression_list-returns-in_err-listed : goal.expression_list-returns-in_err-listed
 expression_list-returns-in_err-listed t c =
-    let reads = read_expression (words_of c.args.language) c.args.levels in
+    let reads = read_expression c.args.levels in
     let p = err_from_is_err_and c.from_residual-in_err-listed.result c.from_residual-in_err-listed.ensures.1 in
     rw (p.1, p.2) (read_so_far-other read_separator reads (λ expressions. expressions) (λ tokens. read_list reads (count tokens) tokens)
-    (listed_by_one reads (expression_is_tokens (words_of c.args.language) c.args.levels)) (remaining c.args.parser.now)
+    (listed_by_one reads (expression_is_tokens c.args.levels)) (remaining c.args.parser.now)
     (map expression_of c.each.expressions.items) (remaining c.each.parser) c.each.invariant
     expressions_of (remaining c.expression.new.parser) (expression_of c.in_ok-next.next) c.in_ok-next.ensures
     (remaining c.listed.new.parser) (remaining c.listed.new.parser) c.in_err-listed.field-0.0 c.in_err-listed.ensures.follows)
 
 pub expression_list-returns-then-not-branch : goal.expression_list-returns-then-not-branch
 expression_list-returns-then-not-branch t c =
-    let reads = read_expression (words_of c.args.language) c.args.levels in
+    let reads = read_expression c.args.levels in
     let kept = pushed expression_of c.each.expressions.items c.listed.new.expressions.items c.in_ok-next.next c.in_ok-listed.ensures.added in
     let closed : read_separator (remaining c.expression.new.parser) ≡ Found false (remaining c.listed.new.parser) = rw c.if-not-branch.true at c.in_ok-listed.ensures.follows in
     rw kept (read_so_far-end read_separator reads (λ expressions. expressions) (λ tokens. read_list reads (count tokens) tokens)
-    (listed_by_one reads (expression_is_tokens (words_of c.args.language) c.args.levels)) (remaining c.args.parser.now)
+    (listed_by_one reads (expression_is_tokens c.args.levels)) (remaining c.args.parser.now)
     (map expression_of c.each.expressions.items) (remaining c.each.parser) c.each.invariant
     (remaining c.expression.new.parser) (remaining c.listed.new.parser) (expression_of c.in_ok-next.next) c.in_ok-next.ensures closed)
 
 pub expression_list-each-smaller : goal.expression_list-each-smaller
 expression_list-each-smaller t c =
-    let reads = read_expression (words_of c.args.language) c.args.levels in
+    let reads = read_expression c.args.levels in
     one_is_shorter read_separator reads (λ expressions. expressions) (λ tokens. read_list reads (count tokens) tokens)
-    (listed_by_one reads (expression_is_tokens (words_of c.args.language) c.args.levels)) (remaining c.args.parser.now)
+    (listed_by_one reads (expression_is_tokens c.args.levels)) (remaining c.args.parser.now)
     (map expression_of c.each.expressions.items) (remaining c.each.parser) c.each.invariant
     (remaining c.expression.new.parser) (remaining c.listed.new.parser) (expression_of c.in_ok-next.next) c.in_ok-listed.field-0 c.in_ok-next.ensures c.in_ok-listed.ensures.follows
 
 pub expression_list-each-preserved : goal.expression_list-each-preserved
 expression_list-each-preserved t c =
-    let reads = read_expression (words_of c.args.language) c.args.levels in
+    let reads = read_expression c.args.levels in
     let kept = pushed expression_of c.each.expressions.items c.listed.new.expressions.items c.in_ok-next.next c.in_ok-listed.ensures.added in
     let sign : read_separator (remaining c.expression.new.parser) ≡ Found true (remaining c.listed.new.parser) = rw c.if-not-branch.false at c.in_ok-listed.ensures.follows in
     subst (λ (so_far : List ExpSyntax). IsReadSoFar read_separator reads (remaining c.args.parser.now) so_far (remaining c.listed.new.parser)) (sym kept)
     (read_so_far-more read_separator reads (λ expressions. expressions) (λ tokens. read_list reads (count tokens) tokens)
-    (listed_by_one reads (expression_is_tokens (words_of c.args.language) c.args.levels)) (remaining c.args.parser.now)
+    (listed_by_one reads (expression_is_tokens c.args.levels)) (remaining c.args.parser.now)
     (map expression_of c.each.expressions.items) (remaining c.each.parser) c.each.invariant
     (remaining c.expression.new.parser) (remaining c.listed.new.parser) (expression_of c.in_ok-next.next) c.in_ok-next.ensures sign)
 
 pub arm_list-returns-in_err-next : goal.arm_list-returns-in_err-next
 arm_list-returns-in_err-next t c =
-    let reads = read_expression (words_of c.args.language) c.args.levels in
+    let reads = read_expression c.args.levels in
     let p = err_from_is_err_and c.from_residual.result c.from_residual.ensures.1 in
     rw (p.1, p.2) (read_so_far-none read_arm_separator (read_arm reads) arms_in_a_row (λ tokens. read_arms reads (count tokens) tokens)
-    (arms_by_one (words_of c.args.language) c.args.levels) (remaining c.args.parser.now) (map arm_of c.each.arms.items) (remaining c.each.parser) c.each.invariant
+    (arms_by_one c.args.levels) (remaining c.args.parser.now) (map arm_of c.each.arms.items) (remaining c.each.parser) c.each.invariant
     arm_of arms_of (remaining c.arm.new.parser) (remaining c.arm.new.parser) c.in_err-next.field-0.0 c.in_err-next.ensures)
 
 pub arm_list-returns-in_err-arm_listed : goal.arm_list-returns-in_err-arm_listed
 arm_list-returns-in_err-arm_listed t c =
-    let reads = read_expression (words_of c.args.language) c.args.levels in
+    let reads = read_expression c.args.levels in
     let p = err_from_is_err_and c.from_residual-in_err-arm_listed.result c.from_residual-in_err-arm_listed.ensures.1 in
     rw (p.1, p.2) (read_so_far-other read_arm_separator (read_arm reads) arms_in_a_row (λ tokens. read_arms reads (count tokens) tokens)
-    (arms_by_one (words_of c.args.language) c.args.levels) (remaining c.args.parser.now) (map arm_of c.each.arms.items) (remaining c.each.parser) c.each.invariant
+    (arms_by_one c.args.levels) (remaining c.args.parser.now) (map arm_of c.each.arms.items) (remaining c.each.parser) c.each.invariant
     arms_of (remaining c.arm.new.parser) (arm_of c.in_ok-next.next) c.in_ok-next.ensures
     (remaining c.arm_listed.new.parser) (remaining c.arm_listed.new.parser) c.in_err-arm_listed.field-0.0 c.in_err-arm_listed.ensures.follows)
 
 pub arm_list-returns-then-not-branch : goal.arm_list-returns-then-not-branch
 arm_list-returns-then-not-branch t c =
-    let reads = read_expression (words_of c.args.language) c.args.levels in
+    let reads = read_expression c.args.levels in
     let kept = pushed arm_of c.each.arms.items c.arm_listed.new.arms.items c.in_ok-next.next c.in_ok-arm_listed.ensures.added in
     let closed : read_arm_separator (remaining c.arm.new.parser) ≡ Found false (remaining c.arm_listed.new.parser) = rw c.if-not-branch.true at c.in_ok-arm_listed.ensures.follows in
     rw kept (read_so_far-end read_arm_separator (read_arm reads) arms_in_a_row (λ tokens. read_arms reads (count tokens) tokens)
-    (arms_by_one (words_of c.args.language) c.args.levels) (remaining c.args.parser.now) (map arm_of c.each.arms.items) (remaining c.each.parser) c.each.invariant
+    (arms_by_one c.args.levels) (remaining c.args.parser.now) (map arm_of c.each.arms.items) (remaining c.each.parser) c.each.invariant
     (remaining c.arm.new.parser) (remaining c.arm_listed.new.parser) (arm_of c.in_ok-next.next) c.in_ok-next.ensures closed)
 
 pub arm_list-each-smaller : goal.arm_list-each-smaller
 arm_list-each-smaller t c =
-    let reads = read_expression (words_of c.args.language) c.args.levels in
+    let reads = read_expression c.args.levels in
     one_is_shorter read_arm_separator (read_arm reads) arms_in_a_row (λ tokens. read_arms reads (count tokens) tokens)
-    (arms_by_one (words_of c.args.language) c.args.levels) (remaining c.args.parser.now) (map arm_of c.each.arms.items) (remaining c.each.parser) c.each.invariant
+    (arms_by_one c.args.levels) (remaining c.args.parser.now) (map arm_of c.each.arms.items) (remaining c.each.parser) c.each.invariant
     (remaining c.arm.new.parser) (remaining c.arm_listed.new.parser) (arm_of c.in_ok-next.next) c.in_ok-arm_listed.field-0 c.in_ok-next.ensures c.in_ok-arm_listed.ensures.follows
 
 pub arm_list-each-preserved : goal.arm_list-each-preserved
 arm_list-each-preserved t c =
-    let reads = read_expression (words_of c.args.language) c.args.levels in
+    let reads = read_expression c.args.levels in
     let kept = pushed arm_of c.each.arms.items c.arm_listed.new.arms.items c.in_ok-next.next c.in_ok-arm_listed.ensures.added in
     let sign : read_arm_separator (remaining c.arm.new.parser) ≡ Found true (remaining c.arm_listed.new.parser) = rw c.if-not-branch.false at c.in_ok-arm_listed.ensures.follows in
     subst (λ (so_far : List ArmSyntax). IsReadSoFar read_arm_separator (read_arm reads) (remaining c.args.parser.now) so_far (remaining c.arm_listed.new.parser)) (sym kept)
     (read_so_far-more read_arm_separator (read_arm reads) arms_in_a_row (λ tokens. read_arms reads (count tokens) tokens)
-    (arms_by_one (words_of c.args.language) c.args.levels) (remaining c.args.parser.now) (map arm_of c.each.arms.items) (remaining c.each.parser) c.each.invariant
+    (arms_by_one c.args.levels) (remaining c.args.parser.now) (map arm_of c.each.arms.items) (remaining c.each.parser) c.each.invariant
     (remaining c.arm.new.parser) (remaining c.arm_listed.new.parser) (arm_of c.in_ok-next.next) c.in_ok-next.ensures sign)
 
 -- where a part is refused
@@ -139,47 +137,47 @@ both-returns-in_err-second t c =
     rw (c.in_ok-first.ensures)
     (refused_part boxed_of both_of _ _ _ (remaining c.boxed-2.new.parser) r.result r.ensures.1 c.in_err-second.ensures)
 
-pub unit_or_pair-returns-in_err-unit_sign : goal.unit_or_pair-returns-in_err-unit_sign
-unit_or_pair-returns-in_err-unit_sign t c =
-    let reads = read_expression (words_of c.args.language) c.args.levels in
+pub unit_or_pair-returns-in_err-if_mark : goal.unit_or_pair-returns-in_err-if_mark
+unit_or_pair-returns-in_err-if_mark t c =
+    let reads = read_expression c.args.levels in
     let r = c.from_residual in
-    seen_as expression_of r.result (remaining c.unit_sign.new.parser) (unit_or_pair_is reads (words_of c.args.language) c.args.at (remaining c.args.parser.now))
-    (refused_part (λ ends. ends) expression_of _ _ _ (remaining c.unit_sign.new.parser) r.result r.ensures.1 c.in_err-unit_sign.ensures)
+    seen_as expression_of r.result (remaining c.if_mark.new.self) (unit_or_pair_is reads c.args.at (remaining c.args.parser.now))
+    (refused_part (λ stands. stands) expression_of _ _ _ (remaining c.if_mark.new.self) r.result r.ensures.1 c.in_err-if_mark.ensures)
 
 pub operation-returns-in_err-operand-in-Unary : goal.operation-returns-in_err-operand-in-Unary
 operation-returns-in_err-operand-in-Unary t c =
-    let reads = read_expression (words_of c.args.language) c.args.levels in
+    let reads = read_expression c.args.levels in
     let r = c.from_residual-in_err-operand-in-Unary in
     seen_as expression_of r.result (remaining c.boxed.new.parser)
-    (operation_is reads (words_of c.args.language) c.args.at (parsing.unary_of c.args.keyword) (parsing.binary_of c.args.keyword) (remaining c.args.parser.now))
+    (operation_is reads c.args.at (parsing.unary_of c.args.keyword) (parsing.binary_of c.args.keyword) (remaining c.args.parser.now))
     (rw (c.in_ok-operator.ensures, c.in-Unary.is)
     (refused_part boxed_of expression_of _ _ _ (remaining c.boxed.new.parser) r.result r.ensures.1 c.in_err-operand-in-Unary.ensures))
 
 pub operation-returns-in_err-first-in-Binary : goal.operation-returns-in_err-first-in-Binary
 operation-returns-in_err-first-in-Binary t c =
-    let reads = read_expression (words_of c.args.language) c.args.levels in
+    let reads = read_expression c.args.levels in
     let r = c.from_residual-in_err-first-in-Binary in
     seen_as expression_of r.result (remaining c.both.new.parser)
-    (operation_is reads (words_of c.args.language) c.args.at (parsing.unary_of c.args.keyword) (parsing.binary_of c.args.keyword) (remaining c.args.parser.now))
+    (operation_is reads c.args.at (parsing.unary_of c.args.keyword) (parsing.binary_of c.args.keyword) (remaining c.args.parser.now))
     (rw (c.in_ok-operator.ensures, c.in-Binary.is)
     (refused_part both_of expression_of _ _ _ (remaining c.both.new.parser) r.result r.ensures.1 c.in_err-first-in-Binary.ensures))
 
 pub operation-returns-in_ok-first-in-Binary : goal.operation-returns-in_ok-first-in-Binary
 operation-returns-in_ok-first-in-Binary t c =
-    let reads = read_expression (words_of c.args.language) c.args.levels in
-    operation_is reads (words_of c.args.language) c.args.at (parsing.unary_of c.args.keyword) (parsing.binary_of c.args.keyword) (remaining c.args.parser.now)
+    let reads = read_expression c.args.levels in
+    operation_is reads c.args.at (parsing.unary_of c.args.keyword) (parsing.binary_of c.args.keyword) (remaining c.args.parser.now)
     ∙ rw (c.in_ok-operator.ensures, c.in-Binary.is, c.in_ok-first-in-Binary.ensures, binary_tree) refl
 
 pub let_in-returns-in_err-name : goal.let_in-returns-in_err-name
 let_in-returns-in_err-name t c =
-    let reads = read_expression (words_of c.args.language) c.args.levels in
+    let reads = read_expression c.args.levels in
     let r = c.from_residual in
     seen_as expression_of r.result (remaining c.binding.new.parser) (let_is reads c.args.at (remaining c.args.parser.now))
     (refused_part name_of expression_of _ _ _ (remaining c.binding.new.parser) r.result r.ensures.1 c.in_err-name.ensures)
 
 pub let_in-returns-in_err-bound : goal.let_in-returns-in_err-bound
 let_in-returns-in_err-bound t c =
-    let reads = read_expression (words_of c.args.language) c.args.levels in
+    let reads = read_expression c.args.levels in
     let r = c.from_residual-in_err-bound in
     seen_as expression_of r.result (remaining c.boxed.new.parser) (let_is reads c.args.at (remaining c.args.parser.now))
     (rw (c.in_ok-name.ensures)
@@ -187,7 +185,7 @@ let_in-returns-in_err-bound t c =
 
 pub let_in-returns-in_err-body : goal.let_in-returns-in_err-body
 let_in-returns-in_err-body t c =
-    let reads = read_expression (words_of c.args.language) c.args.levels in
+    let reads = read_expression c.args.levels in
     let r = c.from_residual-in_err-body in
     seen_as expression_of r.result (remaining c.boxed-2.new.parser) (let_is reads c.args.at (remaining c.args.parser.now))
     (rw (c.in_ok-name.ensures, c.in_ok-bound.ensures)
@@ -195,14 +193,14 @@ let_in-returns-in_err-body t c =
 
 pub conditional-returns-in_err-test : goal.conditional-returns-in_err-test
 conditional-returns-in_err-test t c =
-    let reads = read_expression (words_of c.args.language) c.args.levels in
+    let reads = read_expression c.args.levels in
     let r = c.from_residual in
     seen_as expression_of r.result (remaining c.boxed.new.parser) (if_is reads c.args.at (remaining c.args.parser.now))
     (refused_part boxed_of expression_of _ _ _ (remaining c.boxed.new.parser) r.result r.ensures.1 c.in_err-test.ensures)
 
 pub conditional-returns-in_err-first : goal.conditional-returns-in_err-first
 conditional-returns-in_err-first t c =
-    let reads = read_expression (words_of c.args.language) c.args.levels in
+    let reads = read_expression c.args.levels in
     let r = c.from_residual-in_err-first in
     seen_as expression_of r.result (remaining c.boxed-2.new.parser) (if_is reads c.args.at (remaining c.args.parser.now))
     (rw (c.in_ok-test.ensures)
@@ -210,7 +208,7 @@ conditional-returns-in_err-first t c =
 
 pub conditional-returns-in_err-other : goal.conditional-returns-in_err-other
 conditional-returns-in_err-other t c =
-    let reads = read_expression (words_of c.args.language) c.args.levels in
+    let reads = read_expression c.args.levels in
     let r = c.from_residual-in_err-other in
     seen_as expression_of r.result (remaining c.boxed-3.new.parser) (if_is reads c.args.at (remaining c.args.parser.now))
     (rw (c.in_ok-test.ensures, c.in_ok-first.ensures)
@@ -218,14 +216,14 @@ conditional-returns-in_err-other t c =
 
 pub matching-returns-in_err-subject : goal.matching-returns-in_err-subject
 matching-returns-in_err-subject t c =
-    let reads = read_expression (words_of c.args.language) c.args.levels in
+    let reads = read_expression c.args.levels in
     let r = c.from_residual in
     seen_as expression_of r.result (remaining c.boxed.new.parser) (match_is reads c.args.at (remaining c.args.parser.now))
     (refused_part boxed_of expression_of _ _ _ (remaining c.boxed.new.parser) r.result r.ensures.1 c.in_err-subject.ensures)
 
 pub matching-returns-in_err-mark : goal.matching-returns-in_err-mark
 matching-returns-in_err-mark t c =
-    let reads = read_expression (words_of c.args.language) c.args.levels in
+    let reads = read_expression c.args.levels in
     let r = c.from_residual-in_err-mark in
     seen_as expression_of r.result (remaining c.mark.new.self) (match_is reads c.args.at (remaining c.args.parser.now))
     (rw (c.in_ok-subject.ensures)
@@ -233,7 +231,7 @@ matching-returns-in_err-mark t c =
 
 pub matching-returns-in_err-arms : goal.matching-returns-in_err-arms
 matching-returns-in_err-arms t c =
-    let reads = read_expression (words_of c.args.language) c.args.levels in
+    let reads = read_expression c.args.levels in
     let r = c.from_residual-in_err-arms in
     seen_as expression_of r.result (remaining c.arm_list.new.parser) (match_is reads c.args.at (remaining c.args.parser.now))
     (rw (c.in_ok-subject.ensures, c.in_ok-mark.ensures)
@@ -241,14 +239,14 @@ matching-returns-in_err-arms t c =
 
 pub arm-returns-in_err-pattern : goal.arm-returns-in_err-pattern
 arm-returns-in_err-pattern t c =
-    let reads = read_expression (words_of c.args.language) c.args.levels in
+    let reads = read_expression c.args.levels in
     let r = c.from_residual in
     seen_as arm_of r.result (remaining c.arm_pattern.new.parser) (arm_is reads (remaining c.args.parser.now))
     (refused_part pattern_of arm_of _ _ _ (remaining c.arm_pattern.new.parser) r.result r.ensures.1 c.in_err-pattern.ensures)
 
 pub arm-returns-in_err-body : goal.arm-returns-in_err-body
 arm-returns-in_err-body t c =
-    let reads = read_expression (words_of c.args.language) c.args.levels in
+    let reads = read_expression c.args.levels in
     let r = c.from_residual-in_err-body in
     seen_as arm_of r.result (remaining c.expression.new.parser) (arm_is reads (remaining c.args.parser.now))
     (rw (c.in_ok-pattern.ensures)
@@ -263,24 +261,24 @@ both-returns t c = rw (c.in_ok-first.ensures, c.in_ok-second.ensures) refl
 
 pub operation-returns-in_ok-operand-in-Unary : goal.operation-returns-in_ok-operand-in-Unary
 operation-returns-in_ok-operand-in-Unary t c =
-    let reads = read_expression (words_of c.args.language) c.args.levels in
-    operation_is reads (words_of c.args.language) c.args.at (parsing.unary_of c.args.keyword) (parsing.binary_of c.args.keyword) (remaining c.args.parser.now)
+    let reads = read_expression c.args.levels in
+    operation_is reads c.args.at (parsing.unary_of c.args.keyword) (parsing.binary_of c.args.keyword) (remaining c.args.parser.now)
     ∙ rw (c.in_ok-operator.ensures, c.in-Unary.is, c.in_ok-operand-in-Unary.ensures, unary_tree) refl
 
 pub let_in-returns : goal.let_in-returns
 let_in-returns t c =
-    let reads = read_expression (words_of c.args.language) c.args.levels in
+    let reads = read_expression c.args.levels in
     let_is reads c.args.at (remaining c.args.parser.now)
     ∙ rw (c.in_ok-name.ensures, c.in_ok-bound.ensures, c.in_ok-body.ensures, let_tree) refl
 
 pub conditional-returns : goal.conditional-returns
 conditional-returns t c =
-    let reads = read_expression (words_of c.args.language) c.args.levels in
+    let reads = read_expression c.args.levels in
     if_is reads c.args.at (remaining c.args.parser.now)
     ∙ rw (c.in_ok-test.ensures, c.in_ok-first.ensures, c.in_ok-other.ensures, if_tree) refl
 
 pub matching-returns : goal.matching-returns
 matching-returns t c =
-    let reads = read_expression (words_of c.args.language) c.args.levels in
+    let reads = read_expression c.args.levels in
     match_is reads c.args.at (remaining c.args.parser.now)
     ∙ rw (c.in_ok-subject.ensures, c.in_ok-mark.ensures, c.in_ok-arms.ensures, match_tree) refl

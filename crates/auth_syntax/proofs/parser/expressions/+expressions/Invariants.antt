@@ -3,7 +3,6 @@ use Rattle.lexemes.specs.Tokens.{count}
 use Rattle.lexemes.specs.Readings.{read_separator}
 use Rattle.auth_syntax.specs.Parsing.{read_arm_separator, read_expression}
 use Rattle.auth_syntax.specs.Arms.{read_arm}
-use Rattle.auth_syntax.specs.LanguageViews.{words_of}
 use Rattle.auth_syntax.specs.Trees.{expression_of, arm_of}
 use Rattle.lexemes.specs.Remaining.{remaining}
 use Rattle.auth_syntax.proofs.Loops.{IsReadSoFar}
@@ -55,13 +54,13 @@ abbrev pub decreases-arm : goal.decreases-arm
 decreases-arm l = 6 * l.levels + 1
 
 abbrev pub invariant-expression_list-each : goal.invariant-expression_list-each
-invariant-expression_list-each l = IsReadSoFar read_separator (read_expression (words_of l.language) l.levels) (remaining l.fn.parser) (map expression_of l.expressions.items) (remaining l.parser)
+invariant-expression_list-each l = IsReadSoFar read_separator (read_expression l.levels) (remaining l.fn.parser) (map expression_of l.expressions.items) (remaining l.parser)
 
 abbrev pub decreases-expression_list-each : goal.decreases-expression_list-each
 decreases-expression_list-each l = count (remaining l.parser)
 
 abbrev pub invariant-arm_list-each : goal.invariant-arm_list-each
-invariant-arm_list-each l = IsReadSoFar read_arm_separator (read_arm (read_expression (words_of l.language) l.levels)) (remaining l.fn.parser) (map arm_of l.arms.items) (remaining l.parser)
+invariant-arm_list-each l = IsReadSoFar read_arm_separator (read_arm (read_expression l.levels)) (remaining l.fn.parser) (map arm_of l.arms.items) (remaining l.parser)
 
 abbrev pub decreases-arm_list-each : goal.decreases-arm_list-each
 decreases-arm_list-each l = count (remaining l.parser)

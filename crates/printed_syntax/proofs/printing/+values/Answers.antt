@@ -4,8 +4,8 @@ use Rattle.core_terms.specs.LanguagePrograms.{types_of}
 use Rattle.printed_syntax.specs.PrintedParts.{IsPrinted}
 use Rattle.printed_syntax.proofs.PairDepths.{all_pairs, some_pairs, fields_fall}
 use Rattle.printed_syntax.proofs.PrintedFronts.{bool_printed, int_printed, field_more}
-use Rattle.printed_syntax.proofs.printing.language.+values.Invariants.{rate}
-use Rattle.printed_syntax.proofs.printing.language.+values.Goals as goal
+use Rattle.printed_syntax.proofs.printing.+values.Invariants.{rate}
+use Rattle.printed_syntax.proofs.printing.+values.Goals as goal
 
 pub push_value-returns-in-BoolForm-clause-printed : goal.push_value-returns-in-BoolForm-clause-printed
 push_value-returns-in-BoolForm-clause-printed t c =

@@ -3,7 +3,7 @@ use Rattle.core_terms.specs.Spelling.{spelling}
 use Rattle.core_terms.specs.TypeTables.{type_at}
 use Rattle.printed_syntax.specs.PrintedParts.{text_in}
 use Rattle.printed_syntax.proofs.PrintedFronts.{whole_printed}
-use Rattle.printed_syntax.proofs.printing.language.print_value.Goals as goal
+use Rattle.printed_syntax.proofs.printing.print_value.Goals as goal
 
 pub returns : goal.returns
 returns c = λ v shape small.

@@ -5,7 +5,7 @@ use Rattle.core_terms.specs.TypeTables.{type_at}
 use Rattle.core_terms.specs.declared.language.program.Program.{Program}
 use Rattle.printed_syntax.specs.PrintedParts.{ArePrinted}
 use Rattle.printed_syntax.proofs.PairDepths.{pairs, all_pairs}
-use Rattle.printed_syntax.proofs.printing.language.+values.Given as goal
+use Rattle.printed_syntax.proofs.printing.+values.Given as goal
 
 -- what a byte counts: more than all pairs of one type, each with its two calls
 abbrev pub rate : Program → ℕ

@@ -1,2 +1,0 @@
-pub mod FragmentBodies
-pub mod FragmentOutcomes
