@@ -3,14 +3,14 @@ use Rattle.std.proofs.Common.{◌≡◌, ℕ, List, Result, Ok, Err, IfOk, Vec, 
 use Rattle.sha2.specs.Sha256.{sha256}
 use Rattle.sha2.proofs.Facts256.{length-sha256}
 use Rattle.core_terms.specs.Formats.{IsFormat}
-use Rattle.core_terms.specs.LanguagePrograms.{meaning}
+use Rattle.core_terms.specs.Programs.{meaning}
 use Rattle.core_terms.specs.ProgramTypes.{types_meaning}
 use Rattle.core_terms.specs.Projection.{digest_at, projection}
 use Rattle.core_terms.specs.Types.{Ty}
 use Rattle.core_terms.specs.Values.{Value}
 use Rattle.core_terms.specs.declared.digest.Digest.{Digest}
-use Rattle.core_terms.specs.declared.language.program.Program.{Program}
-use Rattle.core_terms.specs.declared.language.program_types.Types.{Types}
+use Rattle.core_terms.specs.declared.program.Program.{Program}
+use Rattle.core_terms.specs.declared.program_types.Types.{Types}
 use Rattle.core_terms.proofs.LawProofs.{first_format_is_format}
 use Rattle.images.specs.Images.{image_of}
 use Rattle.images.specs.SavedImages.{saved_image}

@@ -6,7 +6,7 @@ use Rattle.core_terms.specs.Reading.{BadAt}
 use Rattle.core_terms.specs.Spelling.{Spells}
 use Rattle.core_terms.specs.Types.{PairTy, Table, Ty}
 use Rattle.core_terms.specs.Values.{PairV, Value}
-use Rattle.core_terms.specs.declared.language.program_types.Types.{Types}
+use Rattle.core_terms.specs.declared.program_types.Types.{Types}
 use Rattle.core_terms.specs.declared.types.TyId.{TyId}
 use Rattle.core_terms.proofs.LawProofs.{one_is_spelled}
 use Rattle.core_terms.proofs.Spelled.{spells_read}

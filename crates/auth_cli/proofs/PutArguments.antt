@@ -1,6 +1,6 @@
 -- The value of a literal, put into a store: it stands there over the prover's nodes, since nothing in it is authenticated.
 use Rattle.std.proofs.Common.{◌≡◌, ℕ, List, [], Option, Result, Ok, Err, IsErrAnd, sym, ap, ◌∙◌, subst, lit<}
-use Rattle.core_terms.specs.LanguagePrograms.{constructor_names, meaning}
+use Rattle.core_terms.specs.Programs.{constructor_names, meaning}
 use Rattle.core_terms.specs.ProgramTypes.{types_meaning}
 use Rattle.core_terms.specs.Projection.{read_at}
 use Rattle.core_terms.specs.Reading.{BadAt, Good}
@@ -9,8 +9,8 @@ use Rattle.core_terms.specs.Types.{Ty}
 use Rattle.core_terms.specs.Values.{Value}
 use Rattle.core_terms.specs.declared.fault.Fault.TheVariants as literal_fault
 use Rattle.core_terms.specs.declared.types.TyId.{TyId}
-use Rattle.core_terms.specs.declared.language.program.Program.{Program}
-use Rattle.core_terms.specs.declared.language.program_types.Types.{Types}
+use Rattle.core_terms.specs.declared.program.Program.{Program}
+use Rattle.core_terms.specs.declared.program_types.Types.{Types}
 use Rattle.printed_syntax.specs.LiteralAnswers.{LiteralFault, ReadsLiteral, SpellsLiteral}
 use Rattle.printed_syntax.specs.LiteralLaws.{IsLiteralValue}
 use Rattle.printed_syntax.specs.Literals.{ConstructorNames, literal_in}

@@ -2,7 +2,7 @@
 use Rattle.std.proofs.Common.{◌≡◌, ℕ, ◌<◌, ◌^◌, List, length, refl, sym, ap, ◌∙◌, subst, arith}
 use Rattle.sha2.specs.Sha256.{sha256}
 use Rattle.sha2.proofs.Facts256.{length-sha256}
-use Rattle.core_terms.specs.LanguagePrograms.{constructor_names, meaning, types_of}
+use Rattle.core_terms.specs.Programs.{constructor_names, meaning, types_of}
 use Rattle.core_terms.specs.Projection.{digest_at, projection}
 use Rattle.core_terms.specs.RoleViews.{role_kind_of}
 use Rattle.core_terms.specs.Spelling.{spelling}
@@ -10,7 +10,7 @@ use Rattle.core_terms.specs.Terms as tree
 use Rattle.core_terms.specs.TypeTables.{type_at}
 use Rattle.core_terms.specs.Types.{PairTy, Ty}
 use Rattle.core_terms.specs.Values.{IsIdeal, IsShallow, PairV, Value}
-use Rattle.core_terms.specs.declared.language.program.Program.{Program}
+use Rattle.core_terms.specs.declared.program.Program.{Program}
 use Rattle.ideal_meaning.proofs.Projections.{length_piece}
 use Rattle.ideal_meaning.specs.Ideal.{Done}
 use Rattle.printed_lines.specs.Lines.{named_done_line}

@@ -2,7 +2,7 @@
 use Rattle.std.proofs.Common.{◌≡◌, ℕ, ◌<◌, Bool, true, false, List, [], ◌∷◌, length, map, Option, Some, None, option_map, slice_get, slice_index_or, unwrap_or, if◌then◌else◌, refl, sym, ap, ◌∙◌, subst}
 use Rattle.std.specs.List.{All}
 use Rattle.std.proofs.lemmas.Option.{get_or_from_slice_get, slice_get-map, slice_get_within}
-use Rattle.core_terms.specs.LanguagePrograms.{meaning, types_of}
+use Rattle.core_terms.specs.Programs.{meaning, types_of}
 use Rattle.core_terms.specs.RoleViews as views
 use Rattle.core_terms.specs.RoleViews.{role_kind_of}
 use Rattle.core_terms.specs.Roles as definition
@@ -11,8 +11,8 @@ use Rattle.core_terms.specs.Terms as tree
 use Rattle.core_terms.specs.Terms.{function_at, no_function}
 use Rattle.core_terms.specs.Types.{Ty, UnitTy}
 use Rattle.core_terms.specs.TypeTables.{type_at}
-use Rattle.core_terms.specs.declared.language.program.Program.{Program}
-use Rattle.core_terms.specs.declared.language.roles.Role.{Role}
+use Rattle.core_terms.specs.declared.program.Program.{Program}
+use Rattle.core_terms.specs.declared.roles.Role.{Role}
 use Rattle.printed_lines.specs.declared.refusal.InputFault.TheVariants.{RoleKind, RoleUnknown}
 use Rattle.auth_cli.specs.Answer.{Answer, input_refused, with_role, with_role_at}
 use Rattle.auth_cli.specs.RoleCalls.{is_called, type_passed}

@@ -9,7 +9,7 @@ use Rattle.core_terms.specs.Types.{Ty}
 use Rattle.core_terms.specs.Values.{Value, NoV, AndV}
 use Rattle.core_terms.specs.Reading.{Read, Good, BadAt}
 use Rattle.core_terms.specs.Terms.{Program, function_at}
-use Rattle.core_terms.specs.Roles.{role_named}
+use Rattle.core_terms.specs.Roles.{role_named, argument_type}
 use Rattle.core_terms.specs.Spelling.{spelling}
 use Rattle.core_terms.specs.Projection.{projection, read_at}
 use Rattle.printed_syntax.specs.Literals.{Literal, IsValue, FirstFault, literal}
@@ -27,7 +27,6 @@ use Rattle.printed_lines.specs.declared.refusal.InputFault.{InputFault}
 use Rattle.printed_lines.specs.declared.refusal.InputFault.TheVariants.{TooLong, RoleUnknown, RoleKind, Number, State, Literal as BadLiteral, Image as BadImage}
 use Rattle.printed_lines.specs.declared.refusal.Refusal.{Refusal}
 use Rattle.printed_lines.specs.declared.refusal.Refusal.TheVariants as refusal
-use Rattle.core_terms.specs.Roles.{argument_type}
 use Rattle.stream_verifier.specs.Verdicts.{verdict_keeping}
 use Rattle.collision_audit.specs.Audits.{Collides, Judges}
 use Rattle.collision_audit.specs.Audits as audits

@@ -1,10 +1,9 @@
 -- What reading a program says of the program of its text. Where memory ran out nothing is said.
 use Rattle.std.specs.Prelude.{◌≡◌, Result, Ok, Err, ⊤}
-use Rattle.core_terms.specs.LanguagePrograms as language
+use Rattle.core_terms.specs.Programs as language
 use Rattle.core_terms.specs.Programs.{meaning}
 use Rattle.core_terms.specs.Terms as tree
-use Rattle.core_terms.specs.declared.language.program.Program.{Program as LanguageProgram}
-use Rattle.core_terms.specs.declared.program.Program.{Program}
+use Rattle.core_terms.specs.declared.program.Program.{Program as LanguageProgram, Program}
 use Rattle.lexemes.specs.Readings.{SyntaxFault}
 use Rattle.core_terms.specs.declared.fault.Fault.TheVariants as fault
 use Rattle.auth_types.specs.Outcomes.{TypeFault}

@@ -1,15 +1,15 @@
 -- The roles that a command calls and how they ended, as the code tells it.
 use Rattle.std.specs.Prelude.{◌≡◌, ◌≤◌, ◌^◌, ℕ, true, List, Option, Some, None}
 use Rattle.sha2.specs.Sha256.{sha256}
-use Rattle.core_terms.specs.LanguagePrograms.{constructor_names, meaning, types_of}
+use Rattle.core_terms.specs.Programs.{constructor_names, meaning, types_of}
 use Rattle.core_terms.specs.Projection.{digest_at, projection}
 use Rattle.core_terms.specs.RoleViews.{role_kind_of}
 use Rattle.core_terms.specs.Roles.{IsRole, role_result}
 use Rattle.core_terms.specs.TypeTables.{type_at}
 use Rattle.core_terms.specs.Types.{Ty}
 use Rattle.core_terms.specs.Values.{Value}
-use Rattle.core_terms.specs.declared.language.program.Program.{Program}
-use Rattle.core_terms.specs.declared.language.roles.Role.{Role}
+use Rattle.core_terms.specs.declared.program.Program.{Program}
+use Rattle.core_terms.specs.declared.roles.Role.{Role}
 use Rattle.ideal_meaning.specs.Ideal.{Outcome, Done}
 use Rattle.printed_lines.specs.Lines.{named_done_line}
 use Rattle.mode_vm.specs.IdealRuns.{IsOutcome}

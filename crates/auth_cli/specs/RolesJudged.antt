@@ -2,7 +2,7 @@
 use Rattle.std.specs.Prelude.{ℕ, List, [], Option, Some, option_map, unwrap_or}
 use Rattle.lam_outside.specs.Told.{Contents}
 use Rattle.core_terms.specs.Spelling.{spelling}
-use Rattle.core_terms.specs.declared.language.program.Program.{Program}
+use Rattle.core_terms.specs.declared.program.Program.{Program}
 use Rattle.auth_cli.specs.Answer as def
 use Rattle.auth_cli.specs.Answer.{Answer, judged_answer, verified_answer, with_bytes, with_fueled_role, with_passed, with_role_call}
 use Rattle.auth_cli.specs.FueledQueries.{FueledRole, NamedProgram}

@@ -1,7 +1,7 @@
 // Calls of roles on the spelling of a state, as the words of a command line name them.
 ghost use Rattle.std.specs.Prelude.{◌≡◌, IfOk, Option};
 ghost use Rattle.std.specs.Option.{ForSome};
-ghost use Rattle.core_terms.specs.LanguagePrograms.{meaning};
+ghost use Rattle.core_terms.specs.Programs.{meaning};
 ghost use Rattle.lam_outside.specs.Told.{Contents};
 ghost use Rattle.auth_cli.specs.Reaching.{FaultsAt, FaultsAtReached};
 ghost use Rattle.auth_cli.specs.Answer.{Answer, with_fueled_role, with_state, with_state_file};
@@ -17,8 +17,7 @@ use crate::Halt;
 use crate::queries::CallWords;
 use crate::report::load;
 use crate::roles::{CalledRole, Callee, called_role};
-use core_terms::Spelling;
-use core_terms::language::Program;
+use core_terms::{Program, Spelling};
 use lam_outside::Files;
 use printed_lines::refusal::{Argument, InputFault};
 use printed_syntax::literal::parse_literal;

@@ -1,7 +1,7 @@
 // Calls of roles by the machine, as the words of a command line name them.
 ghost use Rattle.std.specs.Prelude.{◌≡◌, IfOk, Option};
 ghost use Rattle.std.specs.Option.{ForSome};
-ghost use Rattle.core_terms.specs.LanguagePrograms.{meaning, types_of};
+ghost use Rattle.core_terms.specs.Programs.{meaning, types_of};
 ghost use Rattle.core_terms.specs.RoleViews.{role_kind_of};
 ghost use Rattle.core_terms.specs.Roles.{IsPlain, ReadsState};
 ghost use Rattle.core_terms.specs.TypeTables.{type_at};
@@ -24,8 +24,7 @@ use crate::queries::CallWords;
 use crate::roles::{CalledRole, Callee, called_role};
 use crate::stored_states::load_image_file;
 use code_gen::Code;
-use core_terms::language::Program;
-use core_terms::{Outcome, TyId};
+use core_terms::{Outcome, Program, TyId};
 use digest_layer::Sha;
 use lam_outside::Files;
 use mode_vm::digesting_run;

@@ -2,7 +2,7 @@
 ghost use Rattle.std.specs.Prelude.{◌≡◌, ◌≤◌, length, IfOk};
 ghost use Rattle.std.specs.Option.{ForSome};
 ghost use Rattle.sha2.specs.Sha256.{sha256};
-ghost use Rattle.core_terms.specs.LanguagePrograms as language;
+ghost use Rattle.core_terms.specs.Programs as language;
 ghost use Rattle.core_terms.specs.Programs.{meaning};
 ghost use Rattle.auth_cli.specs.Reaching.{FaultsAt};
 ghost use Rattle.auth_cli.specs.Answer.{with_language_file, with_program_file};

@@ -2,8 +2,7 @@
 ghost use Rattle.std.specs.Prelude.{◌≡◌};
 ghost use Rattle.sha2.specs.Sha256.{sha256};
 
-use core_terms::TyId;
-use core_terms::language::Types;
+use core_terms::{TyId, Types};
 use digest_layer::Sha;
 use shallow_codec::put_digested;
 use std::alloc::{AllocError, Global};

@@ -1,10 +1,10 @@
 // What is told of a role that was called, and the state that it made.
 ghost use Rattle.std.specs.Prelude.{◌≡◌, ℕ, List, IfOk, Some};
-ghost use Rattle.core_terms.specs.LanguagePrograms.{meaning, types_of};
+ghost use Rattle.core_terms.specs.Programs.{meaning, types_of};
 ghost use Rattle.core_terms.specs.TypeTables.{type_at};
 ghost use Rattle.core_terms.specs.Types.{PairTy, Table, Ty};
 ghost use Rattle.core_terms.specs.Values.{PairV, Value};
-ghost use Rattle.core_terms.specs.declared.language.program.Program.{Program as LanguageProgram};
+ghost use Rattle.core_terms.specs.declared.program.Program.{Program as LanguageProgram};
 ghost use Rattle.ideal_meaning.specs.Ideal as meant;
 ghost use Rattle.value_store.specs.Standing.{Kind, StandsFor};
 ghost use Rattle.value_store.specs.Stores.{nodes_in};
@@ -17,8 +17,7 @@ ghost use Rattle.auth_cli.specs.declared.roles.Callee.{Callee};
 
 use crate::machine_calls::Ended;
 use crate::{Ending, Halt, Output, Report};
-use core_terms::language::{Program, RoleKind};
-use core_terms::{Outcome, TyId};
+use core_terms::{Outcome, Program, RoleKind, TyId};
 use printed_lines::lines::{named_done_line, out_line, trap_line};
 use shallow_codec::spell;
 use std::alloc::{AllocError, Global};

@@ -1,6 +1,6 @@
 // Roles of programs of the whole language, as the words of a command line name them.
 ghost use Rattle.std.specs.Prelude.{◌≡◌, IfOk};
-ghost use Rattle.core_terms.specs.LanguagePrograms.{meaning};
+ghost use Rattle.core_terms.specs.Programs.{meaning};
 ghost use Rattle.core_terms.specs.RoleViews.{role_kind_of};
 ghost use Rattle.auth_cli.specs.Answer.{with_fueled_role, with_role};
 ghost use Rattle.auth_cli.specs.Halting.{GoesOnInHand};
@@ -10,8 +10,7 @@ ghost use Rattle.auth_cli.specs.RolesCalled.{IsCalled, IsRoleOf, role_of};
 
 use crate::Halt;
 use crate::arguments::fuel_named;
-use core_terms::language::{Program, Role, RoleKind};
-use core_terms::{FunctionId, TyId};
+use core_terms::{FunctionId, Program, Role, RoleKind, TyId};
 use printed_lines::refusal::InputFault;
 
 /// The roles that a command calls.

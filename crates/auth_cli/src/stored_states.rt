@@ -1,7 +1,7 @@
 // Ideal states of programs of the whole language, from images.
 ghost use Rattle.std.specs.Prelude.{◌≡◌, IfOk};
 ghost use Rattle.std.specs.Option.{ForSome};
-ghost use Rattle.core_terms.specs.LanguagePrograms.{meaning};
+ghost use Rattle.core_terms.specs.Programs.{meaning};
 ghost use Rattle.core_terms.specs.Values.{Value};
 ghost use Rattle.auth_cli.specs.Reaching.{FaultsAt};
 ghost use Rattle.auth_cli.specs.Answer.{with_image, with_image_file};
@@ -13,7 +13,7 @@ use crate::Halt;
 use crate::calls::MAX_FILE;
 use crate::prover_marking::ProverMarker;
 use crate::report::load;
-use core_terms::language::Program;
+use core_terms::Program;
 use lam_outside::Files;
 use printed_lines::refusal::Argument;
 use std::alloc::Global;

@@ -3,7 +3,7 @@ ghost use Rattle.std.specs.Prelude.{◌≡◌, ◌≤◌, ℕ, List, Option, Som
 ghost use Rattle.std.specs.Option.{ForSome};
 ghost use Rattle.command_words.specs.Commands.{texts};
 ghost use Rattle.command_words.specs.declared.command.Command.TheVariants.{Verify};
-ghost use Rattle.core_terms.specs.LanguagePrograms.{meaning};
+ghost use Rattle.core_terms.specs.Programs.{meaning};
 ghost use Rattle.core_terms.specs.ProgramTypes.{types_meaning};
 ghost use Rattle.core_terms.specs.Spelling.{Spells, spelling};
 ghost use Rattle.core_terms.specs.Types.{PairTy, Ty};
@@ -34,8 +34,7 @@ use crate::roles::{CalledRole, Callee};
 use crate::storing::store_and_tell;
 use crate::{Ending, Halt, Output, Report, Status};
 use code_gen::Code;
-use core_terms::language::{Program, Types};
-use core_terms::{Outcome, Spelling, TyId};
+use core_terms::{Outcome, Program, Spelling, TyId, Types};
 use digest_layer::Sha;
 use lam_outside::{Files, Sink};
 use printed_lines::lines::{named_done_line, out_line, trap_line};

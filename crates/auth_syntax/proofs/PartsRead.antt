@@ -1,6 +1,6 @@
 -- Expressions by the parts that the code reads: each reading, where a part is read with what has to stand behind it.
 use Rattle.std.proofs.Common.{◌≡◌, ◌∙◌, ℕ, ap, Bool, true, false, Option, Some, None, Result, Err, Vec, refl, sym, subst}
-use Rattle.core_terms.specs.declared.language.term.BinaryOperator.{BinaryOperator}
+use Rattle.core_terms.specs.declared.term.BinaryOperator.{BinaryOperator}
 use Rattle.lexemes.specs.declared.place.Place.{Place}
 use Rattle.lexemes.specs.declared.token.Mark.TheVariants.{LeftParenthesis, RightParenthesis, Comma, EqualsSign, Bar, Arrow}
 use Rattle.lexemes.specs.declared.token.Keyword.TheVariants.{In as InWord, With as WithWord, Then as ThenWord, Else as ElseWord}

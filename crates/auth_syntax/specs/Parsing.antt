@@ -1,7 +1,7 @@
 -- Parsing as a function: the tree of a text, found from left to right with one token of lookahead, or the first fault: that of the first
 -- token that is faulty or is not allowed where it stands.
 use Rattle.std.specs.Prelude.{ℕ, zero, suc, Bool, true, false, List, [], ◌∷◌, Option, Some, None, if◌then◌else◌}
-use Rattle.core_terms.specs.declared.language.term.BinaryOperator.{BinaryOperator}
+use Rattle.core_terms.specs.declared.term.BinaryOperator.{BinaryOperator}
 use Rattle.lexemes.specs.declared.place.Place.{Place}
 use Rattle.lexemes.specs.Tokens.{Token, KeywordToken, MarkToken, LowerToken, UpperToken, IntToken, TextToken, Tokens, Next, End, Faulty, tokens, count}
 use Rattle.lexemes.specs.declared.token.Keyword.{Keyword}

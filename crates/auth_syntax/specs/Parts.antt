@@ -1,7 +1,7 @@
 -- Parts of expressions as the code reads them: each with what has to stand behind it.
 use Rattle.std.specs.Prelude.{◌≡◌, ◌≢◌, ℕ, ⊤, Result, Ok, Err, Bool, true, false, Option, Some, None, List, Box}
 use Rattle.std.specs.declared.alloc.Global.{Global}
-use Rattle.core_terms.specs.declared.language.term.BinaryOperator.{BinaryOperator}
+use Rattle.core_terms.specs.declared.term.BinaryOperator.{BinaryOperator}
 use Rattle.lexemes.specs.declared.place.Place.{Place}
 use Rattle.lexemes.specs.declared.token.Mark.TheVariants.{LeftParenthesis, RightParenthesis, Comma, EqualsSign, Arrow}
 use Rattle.lexemes.specs.declared.fault.SyntaxKind.TheVariants.{Expected}

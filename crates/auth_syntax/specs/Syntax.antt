@@ -1,6 +1,6 @@
 -- The syntax trees of programs: what a text says, without its blanks, comments and marks. Each node has the place of its first token.
 use Rattle.std.specs.Prelude.{ℕ, ℤ, Bool, List}
-use Rattle.core_terms.specs.declared.language.term.BinaryOperator.{BinaryOperator}
+use Rattle.core_terms.specs.declared.term.BinaryOperator.{BinaryOperator}
 use Rattle.lexemes.specs.declared.place.Place.{Place}
 
 -- a name where it stands: a list of bytes

@@ -4,8 +4,7 @@
 ghost use Rattle.auth_syntax.specs.TreeLimits.{IsWithinLimits};
 ghost use Rattle.auth_syntax.specs.TreeParts.{declarations_of};
 
-use core_terms::language::BinaryOperator;
-use core_terms::{Name, Text};
+use core_terms::{BinaryOperator, Name, Text};
 use lexemes::place::Place;
 
 /// A program: its declarations, in order, and the place behind the last byte of its text. Its names have 1 to 64 bytes, its text literals

@@ -4,9 +4,9 @@ use Rattle.std.specs.Global.{Global}
 use Rattle.core_terms.specs.Terms.{Expressions}
 use Rattle.core_terms.specs.Types.{Ty}
 use Rattle.core_terms.specs.TypeTables.{type_at}
-use Rattle.core_terms.specs.LanguageTrees.{expression_of, types_at}
+use Rattle.core_terms.specs.ProgramTrees.{expression_of, types_at}
 use Rattle.core_terms.specs.declared.fault.Fault.TheVariants.{At, NoMemory}
-use Rattle.core_terms.specs.declared.language.term.Term.{Term}
+use Rattle.core_terms.specs.declared.term.Term.{Term}
 use Rattle.core_terms.specs.declared.program.FunctionId.{FunctionId}
 use Rattle.lexemes.specs.declared.place.Place.{Place}
 use Rattle.auth_syntax.specs.Syntax.{ExpsSyntax}

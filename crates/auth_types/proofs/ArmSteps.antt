@@ -4,10 +4,10 @@ use Rattle.std.proofs.lemmas.Bool.{eq-eqb, ne_eqb}
 use Rattle.std.proofs.lemmas.List.{length-map}
 use Rattle.core_terms.specs.Types.{Ty}
 use Rattle.core_terms.specs.TypeTables.{type_at}
-use Rattle.core_terms.specs.LanguageTrees.{types_at}
+use Rattle.core_terms.specs.ProgramTrees.{types_at}
 use Rattle.core_terms.specs.declared.types.TyId.{TyId}
 use Rattle.auth_syntax.specs.Syntax.{place_of}
-use Rattle.core_terms.specs.declared.language.term.Constructor.{Constructor}
+use Rattle.core_terms.specs.declared.term.Constructor.{Constructor}
 use Rattle.auth_syntax.specs.Trees.{ArmSyntax, arm_of, expression_of, name_of}
 use Rattle.auth_syntax.specs.declared.tree.Arm.{Arm, out-Arm}
 use Rattle.lexemes.specs.declared.place.Place.{Place}

@@ -4,15 +4,14 @@ use Rattle.std.proofs.lemmas.Bool.{eq-eqb, ne_eqb}
 use Rattle.std.proofs.lemmas.List.{length-map}
 use Rattle.core_terms.specs.Types.{Ty, NamedTy, Table, fields_at}
 use Rattle.core_terms.specs.Terms.{Expression, Expressions, CallE, ConE, MatchE}
-use Rattle.core_terms.specs.LanguageTypes.{type_of_form}
+use Rattle.core_terms.specs.TypeTables.{type_of_form, type_at}
 use Rattle.core_terms.specs.declared.program.FunctionId.{FunctionId}
-use Rattle.core_terms.specs.declared.language.types.NamedId.{NamedId}
-use Rattle.core_terms.specs.declared.language.types.TyForm.{TyForm}
-use Rattle.core_terms.specs.declared.language.types.TyForm.TheVariants.{UnitForm, BoolForm, IntForm, TextForm, AuthForm, PairForm, NamedForm}
-use Rattle.core_terms.specs.TypeTables.{type_at}
-use Rattle.core_terms.specs.LanguageTrees.{types_at}
+use Rattle.core_terms.specs.declared.types.NamedId.{NamedId}
+use Rattle.core_terms.specs.declared.types.TyForm.{TyForm}
+use Rattle.core_terms.specs.declared.types.TyForm.TheVariants.{UnitForm, BoolForm, IntForm, TextForm, AuthForm, PairForm, NamedForm}
+use Rattle.core_terms.specs.ProgramTrees.{types_at}
 use Rattle.core_terms.specs.declared.types.TyId.{TyId}
-use Rattle.core_terms.specs.declared.language.term.Constructor.{Constructor}
+use Rattle.core_terms.specs.declared.term.Constructor.{Constructor}
 use Rattle.auth_syntax.specs.Trees.{ArmSyntax, arm_of, arms_in_a_row}
 use Rattle.auth_syntax.specs.declared.tree.Arm.{Arm}
 use Rattle.lexemes.specs.declared.place.Place.{Place}

@@ -4,8 +4,8 @@ use Rattle.std.specs.List.{list_any}
 use Rattle.std.proofs.lemmas.List.{drop-map, length-map, map-append, take-map}
 use Rattle.std.proofs.lemmas.List.Elements.{All-weaker}
 use Rattle.core_terms.specs.Types.{Ty}
-use Rattle.core_terms.specs.LanguagePrograms.{types_in}
-use Rattle.core_terms.specs.declared.language.types.TyTable.{TyTable}
+use Rattle.core_terms.specs.Programs.{types_in}
+use Rattle.core_terms.specs.declared.types.TyTable.{TyTable}
 use Rattle.auth_syntax.specs.Syntax.{ExpSyntax}
 use Rattle.lexemes.specs.declared.place.Place.{Place}
 use Rattle.std.proofs.Math.Seq.{take-append_seam}

@@ -5,8 +5,8 @@ use Rattle.std.specs.declared.boxed.Box.{Box}
 use Rattle.core_terms.specs.Types.{Ty, BoolTy}
 use Rattle.core_terms.specs.Terms.{Expression, IfE}
 use Rattle.core_terms.specs.TypeTables.{type_at}
-use Rattle.core_terms.specs.declared.language.term.Term.{Term}
-use Rattle.core_terms.specs.declared.language.term.Term as term
+use Rattle.core_terms.specs.declared.term.Term.{Term}
+use Rattle.core_terms.specs.declared.term.Term as term
 use Rattle.auth_syntax.specs.Syntax.{ExpSyntax, IfSyntax, place_of}
 use Rattle.auth_syntax.specs.Parsing.{in_a_row}
 use Rattle.lexemes.specs.declared.place.Place.{Place}

@@ -4,9 +4,9 @@ use Rattle.std.proofs.lemmas.List.{append-nil, map-append}
 use Rattle.core_terms.specs.Types.{Ty}
 use Rattle.core_terms.specs.Terms as tree
 use Rattle.core_terms.specs.TypeTables.{type_at}
-use Rattle.core_terms.specs.LanguageTrees.{expression_of, function_of, kind_of, types_at}
-use Rattle.core_terms.specs.declared.language.term.Term.{Term}
-use Rattle.core_terms.specs.declared.language.term.Function.{Function}
+use Rattle.core_terms.specs.ProgramTrees.{expression_of, function_of, kind_of, types_at}
+use Rattle.core_terms.specs.declared.term.Term.{Term}
+use Rattle.core_terms.specs.declared.term.Function.{Function}
 use Rattle.auth_syntax.specs.Syntax.{ExpSyntax, FunctionSyntax, ParameterSyntax, place_of}
 use Rattle.auth_syntax.specs.Trees as written
 use Rattle.lexemes.specs.declared.place.Place.{Place}

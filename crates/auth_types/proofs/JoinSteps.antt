@@ -2,8 +2,8 @@
 use Rattle.std.proofs.Common.{◌≡◌, ◌≢◌, ◌<◌, Bool, true, false, List, [], ◌∷◌, ◌++◌, length, take, nat_lt, Result, Ok, Err, Some, slice_get, refl, sym, ap, ◌∙◌, subst}
 use Rattle.std.specs.Prelude.{OnOk}
 use Rattle.std.proofs.lemmas.Option.{get_or_from_slice_get}
-use Rattle.core_terms.specs.declared.language.term.BinaryOperator.{BinaryOperator}
-use Rattle.core_terms.specs.declared.language.term.Term as term
+use Rattle.core_terms.specs.declared.term.BinaryOperator.{BinaryOperator}
+use Rattle.core_terms.specs.declared.term.Term as term
 use Rattle.core_terms.specs.declared.types.TyId.{TyId}
 use Rattle.core_terms.specs.ProgramLimits.{most_locals}
 use Rattle.core_terms.specs.Terms.{Expression, LetE}

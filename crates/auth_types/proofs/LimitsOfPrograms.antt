@@ -5,9 +5,9 @@ use Rattle.std.proofs.lemmas.List.{length-map}
 use Rattle.std.proofs.lemmas.List.Elements.{All-cons, All-head, All-nil, All-tail}
 use Rattle.core_terms.specs.Types.{Ty}
 use Rattle.core_terms.specs.Terms.{Expression, Function}
-use Rattle.core_terms.specs.LanguageNames as code
-use Rattle.core_terms.specs.LanguageNames.{AreNamed, all_constructor_names}
-use Rattle.core_terms.specs.declared.language.term.NamedType.{NamedType}
+use Rattle.core_terms.specs.TypeNames as code
+use Rattle.core_terms.specs.TypeNames.{AreNamed, all_constructor_names}
+use Rattle.core_terms.specs.declared.term.NamedType.{NamedType}
 use Rattle.core_terms.specs.ProgramLimits.{IsFlatType, IsFunctionWithin, expressions_in_all, levels_of_type, locals_in, most_parameters}
 use Rattle.auth_syntax.specs.Grammar.{expression_levels, nesting_limit, type_levels}
 use Rattle.auth_syntax.specs.Syntax.{AuthTypeSyntax, BoolTypeSyntax, ConstructorDeclaration, DeclarationSyntax, ExpSyntax, FunctionDeclaration, FunctionSyntax, IntTypeSyntax, NamedTypeSyntax, PairTypeSyntax, ParameterSyntax, StateDeclaration, TextTypeSyntax, TypeDeclaration, TypeSyntax, UnitTypeSyntax, place_of}

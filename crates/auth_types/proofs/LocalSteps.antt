@@ -2,11 +2,11 @@
 use Rattle.std.proofs.Common.{◌≡◌, ℕ, ℤ, zero, suc, ◌<◌, List, [], ◌∷◌, ◌++◌, length, map, Some, None, slice_index_or, refl, sym, ap, ◌∙◌, arith}
 use Rattle.core_terms.specs.Types.{Ty, UnitTy, IntTy}
 use Rattle.core_terms.specs.Terms.{Expression, IntE}
-use Rattle.core_terms.specs.LanguageTrees.{expression_of}
-use Rattle.core_terms.specs.declared.language.term.Term.{Term}
+use Rattle.core_terms.specs.ProgramTrees.{expression_of}
+use Rattle.core_terms.specs.declared.term.Term.{Term}
 use Rattle.core_terms.specs.TypeTables.{type_at}
 use Rattle.core_terms.specs.declared.term.LocalId.{LocalId}
-use Rattle.core_terms.specs.declared.language.term.Term as term
+use Rattle.core_terms.specs.declared.term.Term as term
 use Rattle.lexemes.specs.declared.place.Place.{Place}
 use Rattle.auth_syntax.specs.Syntax.{LocalSyntax}
 use Rattle.declared_types.specs.Checking.{Checking, FaultAt}

@@ -3,8 +3,8 @@ use Rattle.std.proofs.Common.{◌≡◌, ◌<◌, List, [], ◌++◌, length, No
 use Rattle.core_terms.specs.Types.{Ty}
 use Rattle.core_terms.specs.Terms.{Expression, MatchE}
 use Rattle.core_terms.specs.TypeTables.{type_at}
-use Rattle.core_terms.specs.declared.language.types.NamedId.{NamedId}
-use Rattle.core_terms.specs.declared.language.term.Term as term
+use Rattle.core_terms.specs.declared.types.NamedId.{NamedId}
+use Rattle.core_terms.specs.declared.term.Term as term
 use Rattle.auth_syntax.specs.Syntax.{ArmsSyntax, ExpSyntax, MatchSyntax, place_of}
 use Rattle.lexemes.specs.declared.place.Place.{Place}
 use Rattle.declared_types.specs.Checking.{Checking, then_checked}

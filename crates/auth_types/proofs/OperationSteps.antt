@@ -4,18 +4,17 @@ use borrow.Author.Tests.{ltb-true}
 use Rattle.std.specs.declared.alloc.Global.{Global}
 use Rattle.std.specs.declared.boxed.Box.{Box}
 use Rattle.std.proofs.lemmas.Option.{get_or_from_slice_get}
-use Rattle.core_terms.specs.declared.language.term.BinaryOperator.{BinaryOperator}
+use Rattle.core_terms.specs.declared.term.BinaryOperator.{BinaryOperator}
 use Rattle.core_terms.specs.Types.{Ty, UnitTy, BoolTy, IntTy, TextTy, PairTy, AuthTy}
 use Rattle.core_terms.specs.Terms.{Expression, LenE, NotE}
 use Rattle.core_terms.specs.Typing.{same_type}
-use Rattle.core_terms.specs.TypeTables.{type_at}
-use Rattle.core_terms.specs.LanguageTypes.{stands_behind, type_of_form}
-use Rattle.core_terms.specs.LanguageTrees.{expression_of}
+use Rattle.core_terms.specs.TypeTables.{type_at, stands_behind, type_of_form}
+use Rattle.core_terms.specs.ProgramTrees.{expression_of}
 use Rattle.core_terms.specs.declared.types.TyId.{TyId}
-use Rattle.core_terms.specs.declared.language.types.TyForm.{TyForm}
-use Rattle.core_terms.specs.declared.language.types.TyForm.TheVariants.{UnitForm, BoolForm, IntForm, TextForm, AuthForm, PairForm, NamedForm}
-use Rattle.core_terms.specs.declared.language.term.Term.{Term}
-use Rattle.core_terms.specs.declared.language.term.Term as term
+use Rattle.core_terms.specs.declared.types.TyForm.{TyForm}
+use Rattle.core_terms.specs.declared.types.TyForm.TheVariants.{UnitForm, BoolForm, IntForm, TextForm, AuthForm, PairForm, NamedForm}
+use Rattle.core_terms.specs.declared.term.Term.{Term}
+use Rattle.core_terms.specs.declared.term.Term as term
 use Rattle.core_terms.proofs.TypingSound.{same_sound}
 use Rattle.core_terms.proofs.TypingComplete.{same_self}
 use Rattle.auth_syntax.specs.Syntax.{FstOperation, SndOperation, AuthOperation, UnauthOperation, LenOperation, NotOperation}

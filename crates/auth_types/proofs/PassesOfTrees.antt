@@ -3,9 +3,9 @@ use Rattle.std.proofs.Common.{◌≡◌, ℕ, List, Result, Ok, Err, refl, sym, 
 use Rattle.core_terms.specs.Types.{Ty}
 use Rattle.core_terms.specs.Terms as tree
 use Rattle.core_terms.specs.ProgramTrees.{program_format}
-use Rattle.core_terms.specs.declared.language.program.Program.{Program as CodeProgram}
-use Rattle.core_terms.specs.LanguagePrograms.{meaning, types_in}
-use Rattle.core_terms.specs.declared.language.types.TyTable.{TyTable}
+use Rattle.core_terms.specs.declared.program.Program.{Program as CodeProgram}
+use Rattle.core_terms.specs.Programs.{meaning, types_in}
+use Rattle.core_terms.specs.declared.types.TyTable.{TyTable}
 use Rattle.core_terms.specs.declared.types.TyId.{TyId}
 use Rattle.auth_syntax.specs.Syntax.{Program}
 use Rattle.auth_types.specs.Bodies.{checked_functions}

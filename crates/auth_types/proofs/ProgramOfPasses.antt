@@ -4,20 +4,19 @@ use Rattle.std.specs.Prelude.{All}
 use Rattle.std.specs.List.{list_all}
 use Rattle.std.proofs.lemmas.List.{length-map}
 use Rattle.std.proofs.lemmas.List.Elements.{All-cons, All-head, All-nil, All-tail}
-use Rattle.core_terms.specs.LanguageNames.{AreNamed}
+use Rattle.core_terms.specs.TypeNames.{AreNamed}
 use Rattle.core_terms.specs.ProgramLimits as programs
 use Rattle.core_terms.specs.Types.{Ty}
-use Rattle.core_terms.specs.TypeTables.{type_at}
+use Rattle.core_terms.specs.TypeTables.{type_at, types_of_forms}
 use Rattle.core_terms.specs.Typing.{is_shaped, is_typed}
-use Rattle.core_terms.specs.LanguageTrees.{are_below, function_of, has_fields_below, has_types_below, is_within, program_of, table_of}
-use Rattle.core_terms.specs.LanguageTypes.{types_of_forms}
-use Rattle.core_terms.specs.LanguagePrograms.{types_in}
-use Rattle.core_terms.specs.declared.language.types.TyTable.{TyTable}
+use Rattle.core_terms.specs.ProgramTrees.{are_below, function_of, has_fields_below, has_types_below, is_within, program_of, table_of}
+use Rattle.core_terms.specs.Programs.{types_in}
+use Rattle.core_terms.specs.declared.types.TyTable.{TyTable}
 use Rattle.core_terms.specs.declared.types.TyId.{TyId}
-use Rattle.core_terms.specs.declared.language.types.TyForm.{TyForm}
-use Rattle.core_terms.specs.declared.language.term.Constructor.{Constructor}
-use Rattle.core_terms.specs.declared.language.term.Function.{Function}
-use Rattle.core_terms.specs.declared.language.term.NamedType.{NamedType}
+use Rattle.core_terms.specs.declared.types.TyForm.{TyForm}
+use Rattle.core_terms.specs.declared.term.Constructor.{Constructor}
+use Rattle.core_terms.specs.declared.term.Function.{Function}
+use Rattle.core_terms.specs.declared.term.NamedType.{NamedType}
 use Rattle.core_terms.proofs.Limited.{all_pass}
 use Rattle.auth_syntax.specs.Syntax.{FunctionSyntax, ParameterSyntax, Program}
 use Rattle.auth_syntax.specs.TreeLimits as trees

@@ -5,7 +5,7 @@ use Rattle.std.specs.declared.boxed.Box.{Box}
 use Rattle.core_terms.specs.Types.{Ty, BoolTy}
 use Rattle.core_terms.specs.Terms.{IfE}
 use Rattle.core_terms.specs.TypeTables.{type_at}
-use Rattle.core_terms.specs.declared.language.term.Term.{Term}
+use Rattle.core_terms.specs.declared.term.Term.{Term}
 use Rattle.auth_syntax.specs.Syntax.{UnaryOperation, FstOperation, SndOperation, AuthOperation, UnauthOperation, LenOperation, NotOperation, ExpSyntax, IfSyntax, place_of}
 use Rattle.lexemes.specs.declared.place.Place.{Place}
 use Rattle.declared_types.specs.Checking.{Checking, FaultAt, then_checked}

@@ -7,10 +7,10 @@ use Rattle.std.proofs.lemmas.List.{map-append}
 use Rattle.core_terms.specs.Types.{Ty, UnitTy}
 use Rattle.core_terms.specs.Terms.{Expression, Expressions, NoE, AndE, Arms, NoArm, AndArm}
 use Rattle.core_terms.specs.TypeTables.{type_at}
-use Rattle.core_terms.specs.LanguageTrees.{arms_in_a_row, expression_of, in_a_row}
+use Rattle.core_terms.specs.ProgramTrees.{arms_in_a_row, expression_of, in_a_row}
 use Rattle.core_terms.specs.declared.types.TyId.{TyId}
-use Rattle.core_terms.specs.declared.language.term.Constructor.{Constructor}
-use Rattle.core_terms.specs.declared.language.term.Term.{Term}
+use Rattle.core_terms.specs.declared.term.Constructor.{Constructor}
+use Rattle.core_terms.specs.declared.term.Term.{Term}
 use Rattle.auth_syntax.specs.Parsing.{in_a_row as written_row}
 use Rattle.auth_syntax.specs.Syntax.{ExpSyntax, ExpsSyntax, AndExp, ArmsSyntax, AndArmSyntax, place_of}
 use Rattle.auth_syntax.specs.Trees.{ArmSyntax, arms_in_a_row as written_arms}

@@ -1,6 +1,6 @@
 -- What the typing rules give passes, and what is broken first is told.
 use Rattle.std.proofs.Common.{◌≡◌, ℕ, suc, ◌<◌, ◌≤◌, List, [], length, Option, Some, None, unwrap_or, nat_eq, nat_lt, refl, sym, ap, ◌∙◌, subst, arith}
-use Rattle.core_terms.specs.declared.language.term.BinaryOperator.{BinaryOperator}
+use Rattle.core_terms.specs.declared.term.BinaryOperator.{BinaryOperator}
 use Rattle.core_terms.specs.Types.{Ty, UnitTy, BoolTy, IntTy, TextTy, PairTy, NamedTy, AuthTy}
 use Rattle.core_terms.specs.Terms.{Expression, Expressions, Arms, NoArm, AndArm, AndE, CallE, ConE, LenE, NotE, MatchE, LocalE, LetE, IfE}
 use Rattle.lexemes.specs.declared.place.Place.{Place}

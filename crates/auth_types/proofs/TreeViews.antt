@@ -11,7 +11,7 @@ use Rattle.auth_syntax.specs.Trees.{ArmSyntax, expression_of, arm_of, arm_from_p
 use Rattle.lexemes.specs.declared.place.Place.{Place}
 use Rattle.auth_syntax.specs.declared.tree.PlacedName.{PlacedName}
 use Rattle.auth_syntax.specs.declared.tree.UnaryOperator.{UnaryOperator}
-use Rattle.core_terms.specs.declared.language.term.BinaryOperator.{BinaryOperator}
+use Rattle.core_terms.specs.declared.term.BinaryOperator.{BinaryOperator}
 use Rattle.auth_syntax.specs.declared.tree.Arm.{Arm, out-Arm}
 use Rattle.auth_syntax.specs.declared.tree.ExpTree.{ExpTree}
 use Rattle.auth_syntax.specs.declared.tree.ExpTree as tree

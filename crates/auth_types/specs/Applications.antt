@@ -3,7 +3,7 @@ use Rattle.std.specs.Prelude.{◌≡◌, ℕ, List, Result, Ok, Err, ⊤}
 use Rattle.core_terms.specs.Terms.{Expression, Expressions, CallE, ConE}
 use Rattle.core_terms.specs.Types.{Ty}
 use Rattle.core_terms.specs.TypeTables.{type_at}
-use Rattle.core_terms.specs.LanguageTrees.{types_at}
+use Rattle.core_terms.specs.ProgramTrees.{types_at}
 use Rattle.core_terms.specs.declared.fault.Fault.TheVariants.{At, NoMemory}
 use Rattle.lexemes.specs.declared.place.Place.{Place}
 use Rattle.declared_types.specs.Checking.{Checking, FaultAt, then_checked}

@@ -1,7 +1,7 @@
 -- Which rule an expression breaks first, and at which place: what is judged before has its type, and at that place the rule is broken.
 use Rattle.std.specs.Prelude.{◌≡◌, ℕ, ◌≤◌, ◌<◌, ◌+◌, List, [], ◌∷◌, length, map, Option, Some, None}
 use Rattle.std.specs.List.{Contains}
-use Rattle.core_terms.specs.declared.language.term.BinaryOperator.{BinaryOperator}
+use Rattle.core_terms.specs.declared.term.BinaryOperator.{BinaryOperator}
 use Rattle.core_terms.specs.Types.{Ty, BoolTy, TextTy, PairTy, NamedTy, AuthTy}
 use Rattle.core_terms.specs.Terms.{Expression}
 use Rattle.lexemes.specs.declared.place.Place.{Place}

@@ -4,15 +4,15 @@ use Rattle.std.specs.Global.{Global}
 use Rattle.core_terms.specs.Types.{Ty, NamedTy, Table, fields_at}
 use Rattle.core_terms.specs.Terms.{Expression, Expressions, CallE, ConE, MatchE}
 use Rattle.core_terms.specs.Terms as tree
-use Rattle.core_terms.specs.LanguagePrograms.{types_in}
-use Rattle.core_terms.specs.LanguageTrees.{expression_of, function_of, types_at, in_a_row, arms_in_a_row}
+use Rattle.core_terms.specs.Programs.{types_in}
+use Rattle.core_terms.specs.ProgramTrees.{expression_of, function_of, types_at, in_a_row, arms_in_a_row}
 use Rattle.core_terms.specs.TypeTables.{type_at}
 use Rattle.core_terms.specs.declared.program.FunctionId.{FunctionId}
 use Rattle.core_terms.specs.declared.types.TyId.{TyId}
-use Rattle.core_terms.specs.declared.language.types.NamedId.{NamedId}
-use Rattle.core_terms.specs.declared.language.term.Term.{Term}
-use Rattle.core_terms.specs.declared.language.term.Constructor.{Constructor}
-use Rattle.core_terms.specs.declared.language.term.Function.{Function}
+use Rattle.core_terms.specs.declared.types.NamedId.{NamedId}
+use Rattle.core_terms.specs.declared.term.Term.{Term}
+use Rattle.core_terms.specs.declared.term.Constructor.{Constructor}
+use Rattle.core_terms.specs.declared.term.Function.{Function}
 use Rattle.auth_syntax.specs.Syntax.{ExpSyntax, ExpsSyntax, ArmsSyntax, place_of}
 use Rattle.auth_syntax.specs.Trees as written
 use Rattle.lexemes.specs.declared.place.Place.{Place}

@@ -1,8 +1,8 @@
 -- What an answer of the checker says of the program that a tree has. Where memory ran out nothing is said.
 use Rattle.std.specs.Prelude.{◌≡◌, Result, Ok, Err, ⊤}
-use Rattle.core_terms.specs.LanguagePrograms.{meaning}
+use Rattle.core_terms.specs.Programs.{meaning}
 use Rattle.core_terms.specs.declared.fault.Fault.TheVariants.{At, NoMemory}
-use Rattle.core_terms.specs.declared.language.program.Program.{Program}
+use Rattle.core_terms.specs.declared.program.Program.{Program}
 use Rattle.auth_types.specs.CheckedPrograms.{Checked, IsProgram, FirstFault}
 pub use Rattle.declared_types.specs.Findings.{Finds, TypeFault}
 

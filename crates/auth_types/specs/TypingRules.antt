@@ -1,11 +1,11 @@
 -- The typing rules of the language, one for each form of an expression: what an expression of the tree stands for, and its type.
 use Rattle.std.specs.Prelude.{◌≡◌, ℕ, ◌+◌, ◌<◌, ℤ, Bool, List, [], ◌∷◌, ◌++◌, length, map, slice_get, unwrap_or}
 use Rattle.std.specs.List.{Contains}
-use Rattle.core_terms.specs.declared.language.term.Arith.{Arith as ArithOperator}
-use Rattle.core_terms.specs.declared.language.term.Compare.{Compare as CompareOperator}
-use Rattle.core_terms.specs.declared.language.term.TextCompare.{TextCompare as TextCompareOperator}
-use Rattle.core_terms.specs.declared.language.term.BinaryOperator.TheVariants.{Arith, Compare, TextCompare, Cat}
-use Rattle.core_terms.specs.declared.language.term.BinaryOperator.{BinaryOperator}
+use Rattle.core_terms.specs.declared.term.Arith.{Arith as ArithOperator}
+use Rattle.core_terms.specs.declared.term.Compare.{Compare as CompareOperator}
+use Rattle.core_terms.specs.declared.term.TextCompare.{TextCompare as TextCompareOperator}
+use Rattle.core_terms.specs.declared.term.BinaryOperator.TheVariants.{Arith, Compare, TextCompare, Cat}
+use Rattle.core_terms.specs.declared.term.BinaryOperator.{BinaryOperator}
 use Rattle.core_terms.specs.Types.{Ty, UnitTy, BoolTy, IntTy, TextTy, PairTy, NamedTy, AuthTy, fields_at}
 use Rattle.core_terms.specs.Terms.{Expression, UnitE, BoolE, IntE, TextE, LocalE, PairE, FstE, SndE, NotE, LenE, AuthE, UnauthE, ConE, ArithE, CompareE, TextCompareE, CatE, LetE, IfE, MatchE, CallE, Expressions, NoE, AndE, Arms, NoArm, AndArm}
 use Rattle.lexemes.specs.declared.place.Place.{Place}

@@ -12,7 +12,7 @@ mod operations;
 mod parts;
 
 ghost use Rattle.std.specs.Prelude.{◌≡◌, ◌<◌, length, map, All, IfOk, IfSome, OnOk};
-ghost use Rattle.core_terms.specs.LanguageTrees.{types_at};
+ghost use Rattle.core_terms.specs.ProgramTrees.{types_at};
 ghost use Rattle.core_terms.specs.TypeTables.{type_at};
 ghost use Rattle.auth_syntax.specs.Parsing.{in_a_row};
 ghost use Rattle.lexemes.specs.Places.{start};
@@ -31,8 +31,7 @@ use crate::bodies::elaborator::Elaborator;
 use crate::bodies::joins::Join;
 use crate::bodies::parts::{Parts, parts_of};
 use auth_syntax::tree::{Arm, ExpTree};
-use core_terms::language::{Constructor, Term, TyForm};
-use core_terms::{Name, TyId};
+use core_terms::{Constructor, Name, Term, TyForm, TyId};
 use declared_types::fault::{TypeFault, TypeKind};
 pub(crate) use functions::{Bodies, fourth_pass};
 use lexemes::place::Place;

@@ -1,6 +1,6 @@
 // The four passes over the tree of a program.
 ghost use Rattle.std.specs.Prelude.{◌≡◌, IfOk};
-ghost use Rattle.core_terms.specs.LanguagePrograms.{meaning, type_names};
+ghost use Rattle.core_terms.specs.Programs.{meaning, type_names};
 ghost use Rattle.auth_syntax.specs.Trees as written;
 ghost use Rattle.auth_types.specs.CheckedPrograms as specified;
 ghost use Rattle.auth_types.specs.CheckedPrograms.{checked};
@@ -11,8 +11,7 @@ ghost use Rattle.declared_types.specs.ScopeNames.{constructors_meant};
 
 use crate::bodies::fourth_pass;
 use auth_syntax::tree::Ast;
-use core_terms::Digest;
-use core_terms::language::Program;
+use core_terms::{Digest, Program};
 use declared_types::fault::TypeFault;
 use declared_types::passes::{Shaped, checked_scope, known_names};
 use declared_types::scope::Scope;

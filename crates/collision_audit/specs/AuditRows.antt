@@ -2,7 +2,7 @@
 use Rattle.std.specs.Prelude.{◌≡◌, ℕ, List, [], ◌∷◌, ◌++◌, true, false, replicate, pos, codes, refl}
 use Rattle.core_terms.specs.Types.{UnitTy, IntTy, AuthTy}
 use Rattle.core_terms.specs.Terms.{LocalE, AuthE, UnauthE, ArithE, Init, Query, Program}
-use Rattle.core_terms.specs.declared.language.term.Arith.TheVariants.{Add}
+use Rattle.core_terms.specs.declared.term.Arith.TheVariants.{Add}
 use Rattle.core_terms.specs.Values.{UnitV, BoolV, IntV, PairV}
 use Rattle.ideal_meaning.specs.Checked.{Short, WrongPiece, Header, Leftover, Accepted, Rejected}
 use Rattle.ideal_meaning.specs.Examples.{function, program, toy, pair_program}

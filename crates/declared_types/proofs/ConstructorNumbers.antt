@@ -1,8 +1,8 @@
 -- The constructors of named types are numbered one after another.
 use Rattle.std.proofs.Common.{◌≡◌, ℕ, suc, ◌+◌, ◌<◌, List, [], ◌∷◌, ◌++◌, length, map, drop, slice_index_or, sym, ap, ◌∙◌, add-one, append_assoc, drop-cons}
 use Rattle.std.proofs.lemmas.List.{map-append}
-use Rattle.core_terms.specs.declared.language.term.Constructor.{Constructor}
-use Rattle.core_terms.specs.declared.language.term.NamedType.{NamedType}
+use Rattle.core_terms.specs.declared.term.Constructor.{Constructor}
+use Rattle.core_terms.specs.declared.term.NamedType.{NamedType}
 use Rattle.declared_types.specs.Signatures.{Numbered}
 use Rattle.declared_types.specs.ScopeNames.{constructor_meant, constructors_meant, numbered, tagged}
 use Rattle.declared_types.specs.declared.scope.ConstructorId.{ConstructorId}

@@ -3,10 +3,10 @@
 use Rattle.std.proofs.Common.{◌≡◌, ◌≢◌, ℕ, ◌<◌, false, List, [], ◌∷◌, length, map, slice_get, Some, Result, Err, refl, sym, ap, ◌∙◌, subst, arith}
 use Rattle.std.proofs.lemmas.Option.{get_or_from_slice_get, slice_get_within}
 use Rattle.core_terms.specs.Types.{Ty, UnitTy, Table}
-use Rattle.core_terms.specs.LanguageTrees.{table_of}
+use Rattle.core_terms.specs.ProgramTrees.{table_of}
 use Rattle.core_terms.specs.TypeTables.{type_at}
-use Rattle.core_terms.specs.LanguagePrograms.{type_names, types_in}
-use Rattle.core_terms.specs.declared.language.types.TyTable.{TyTable}
+use Rattle.core_terms.specs.Programs.{type_names, types_in}
+use Rattle.core_terms.specs.declared.types.TyTable.{TyTable}
 use Rattle.core_terms.specs.declared.types.TyId.{TyId}
 use Rattle.auth_syntax.specs.Syntax.{DeclarationSyntax, FunctionDeclaration, Program, StateDeclaration, TypeDeclaration}
 use Rattle.declared_types.specs.Signatures.{Scope}

@@ -6,12 +6,12 @@ use Rattle.std.proofs.lemmas.List.{length-map}
 use Rattle.std.proofs.lemmas.List.Elements.{All-cons, All-head, All-nil, All-tail}
 use Rattle.std.proofs.lemmas.Option.{get_or_from_slice_get, slice_get_within}
 use Rattle.core_terms.specs.Types.{Ty, UnitTy}
-use Rattle.core_terms.specs.LanguagePrograms as language
-use Rattle.core_terms.specs.LanguageTrees.{table_of, types_at}
+use Rattle.core_terms.specs.Programs as language
+use Rattle.core_terms.specs.ProgramTrees.{table_of, types_at}
 use Rattle.core_terms.specs.TypeTables.{type_at}
 use Rattle.core_terms.specs.declared.types.TyId.{TyId}
-use Rattle.core_terms.specs.declared.language.term.Constructor.{Constructor}
-use Rattle.core_terms.specs.declared.language.term.NamedType.{NamedType}
+use Rattle.core_terms.specs.declared.term.Constructor.{Constructor}
+use Rattle.core_terms.specs.declared.term.NamedType.{NamedType}
 use Rattle.auth_syntax.specs.Syntax.{ConstructorDeclaration, DeclarationSyntax, FunctionDeclaration, FunctionSyntax, ParameterSyntax, StateDeclaration, TypeDeclaration}
 use Rattle.auth_syntax.specs.Trees.{function_of}
 use Rattle.declared_types.specs.Signatures.{Scope as MeantScope}

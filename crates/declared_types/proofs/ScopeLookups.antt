@@ -7,7 +7,7 @@ use Rattle.std.proofs.lemmas.List.{length-map}
 use Rattle.std.proofs.lemmas.Simd.{map-map}
 use Rattle.core_terms.specs.Types.{Ty}
 use Rattle.core_terms.specs.declared.program.FunctionId.{FunctionId}
-use Rattle.core_terms.proofs.Roles.{one_later}
+use Rattle.core_terms.proofs.Places.{one_later}
 use Rattle.declared_types.specs.Signatures.{Numbered, Signature, constructor_named, function_named, tag_in}
 use Rattle.declared_types.specs.ScopeNames.{constructor_meant, constructors_meant, joined, names_in, numbered, tagged}
 use Rattle.declared_types.specs.Scopes.{function_meant, no_signature, scope_meant, signature_meant}

@@ -2,8 +2,8 @@
 use Rattle.std.specs.Prelude.{◌≡◌, ℕ, List, [], ◌∷◌, map, slice_get, Some}
 use Rattle.std.specs.List.{AllZip}
 use Rattle.core_terms.specs.Types.{Ty}
-use Rattle.core_terms.specs.declared.language.term.Constructor.{Constructor}
-use Rattle.core_terms.specs.declared.language.term.NamedType.{NamedType}
+use Rattle.core_terms.specs.declared.term.Constructor.{Constructor}
+use Rattle.core_terms.specs.declared.term.NamedType.{NamedType}
 use Rattle.auth_syntax.specs.Syntax.{FunctionSyntax, ConstructorDeclaration, DeclarationSyntax, NameSyntax, TypeDeclaration}
 use Rattle.auth_syntax.specs.Trees as written
 use Rattle.declared_types.specs.OverTypes.{AreNumbers}

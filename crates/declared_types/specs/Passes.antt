@@ -1,6 +1,6 @@
 -- What the code holds behind the first passes, in the words of the definitions.
 use Rattle.std.specs.Prelude.{◌≡◌, ◌<◌, List, length}
-use Rattle.core_terms.specs.LanguagePrograms.{type_names}
+use Rattle.core_terms.specs.Programs.{type_names}
 use Rattle.core_terms.specs.TypeTables.{type_at}
 use Rattle.core_terms.specs.Types.{Ty}
 use Rattle.core_terms.specs.declared.types.TyId.{TyId}

@@ -1,8 +1,8 @@
 -- The names that a program declares for its bodies, and the numbers that go with them.
 use Rattle.std.specs.Prelude.{ℕ, ◌+◌, List, [], ◌∷◌, ◌++◌, map}
 use Rattle.std.specs.Borrow.{Bor}
-use Rattle.core_terms.specs.declared.language.term.Constructor.{Constructor}
-use Rattle.core_terms.specs.declared.language.term.NamedType.{NamedType}
+use Rattle.core_terms.specs.declared.term.Constructor.{Constructor}
+use Rattle.core_terms.specs.declared.term.NamedType.{NamedType}
 use Rattle.declared_types.specs.Signatures.{Numbered}
 use Rattle.declared_types.specs.declared.scope.ConstructorId.{ConstructorId}
 

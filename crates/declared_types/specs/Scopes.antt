@@ -2,11 +2,11 @@
 use Rattle.std.specs.Prelude.{◌≡◌, ℕ, ◌<◌, List, [], length, map, slice_index_or, All}
 use Rattle.core_terms.specs.Types.{Ty, UnitTy}
 use Rattle.core_terms.specs.TypeTables.{type_at}
-use Rattle.core_terms.specs.LanguageTrees.{table_of, types_at}
+use Rattle.core_terms.specs.ProgramTrees.{table_of, types_at}
 use Rattle.core_terms.specs.declared.program.FunctionId.{FunctionId}
 use Rattle.core_terms.specs.declared.types.TyId.{TyId}
-use Rattle.core_terms.specs.declared.language.term.Constructor.{Constructor}
-use Rattle.core_terms.specs.declared.language.term.NamedType.{NamedType}
+use Rattle.core_terms.specs.declared.term.Constructor.{Constructor}
+use Rattle.core_terms.specs.declared.term.NamedType.{NamedType}
 use Rattle.auth_syntax.specs.Syntax.{FunctionSyntax, DeclarationSyntax}
 use Rattle.auth_syntax.specs.Trees as written
 use Rattle.declared_types.specs.Signatures.{Numbered, Scope, Signature}

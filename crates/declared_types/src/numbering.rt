@@ -1,7 +1,7 @@
 // What a program declares for its bodies, with its types by number.
 ghost use Rattle.std.specs.Prelude.{◌≡◌, ◌≤◌, ◌++◌, [], length, map, slice_get, unwrap_or, Some, All, IfOk, OnOk};
 ghost use Rattle.std.specs.List.{AllZip};
-ghost use Rattle.core_terms.specs.LanguagePrograms.{type_names, types_in};
+ghost use Rattle.core_terms.specs.Programs.{type_names, types_in};
 ghost use Rattle.auth_syntax.specs.Trees as written;
 ghost use Rattle.declared_types.specs.Checking.{Sound};
 ghost use Rattle.declared_types.specs.Declarations.{checked_declarations, nothing_declared};
@@ -18,8 +18,7 @@ use crate::scope::{ConstructorId, Head, Scope};
 use auth_syntax::tree::{
     ConstructorDeclaration, Declaration, Function, Parameter, TypeDeclaration, TypeTree,
 };
-use core_terms::language::{Constructor, NamedId, NamedType, Tag, TyForm, TyTable};
-use core_terms::{Name, TyId};
+use core_terms::{Constructor, Name, NamedId, NamedType, Tag, TyForm, TyId, TyTable};
 use indexmap::IndexSet;
 use std::alloc::{AllocError, Global};
 

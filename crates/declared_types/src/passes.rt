@@ -1,6 +1,6 @@
 // The first three passes over the tree of a program.
 ghost use Rattle.std.specs.Prelude.{◌≡◌, ◌≢◌, ℕ, List, [], IfOk, map};
-ghost use Rattle.core_terms.specs.LanguagePrograms.{types_in};
+ghost use Rattle.core_terms.specs.Programs.{types_in};
 ghost use Rattle.auth_syntax.specs.Trees as written;
 ghost use Rattle.declared_types.specs.Checking.{Sound};
 ghost use Rattle.declared_types.specs.Declarations.{checked_declarations, nothing_declared};
@@ -18,8 +18,7 @@ use crate::roles::third_pass;
 use crate::scope::Scope;
 use crate::written_types::second_pass;
 use auth_syntax::tree::{Ast, Declaration, TypeTree};
-use core_terms::TyId;
-use core_terms::language::TyTable;
+use core_terms::{TyId, TyTable};
 use std::alloc::Global;
 
 /// What a program declares for its bodies: its types by number, its scope, and the number of its state's type.

@@ -1,8 +1,8 @@
 // The third pass: the shapes of roles, and their arguments.
 ghost use Rattle.std.specs.Prelude.{◌≡◌, ◌<◌, ◌&&◌, ℕ, List, [], false, length, slice_index_or};
 ghost use Rattle.core_terms.specs.AuthMarks.{AreAuthMarks};
-ghost use Rattle.core_terms.specs.LanguagePrograms.{types_in};
-ghost use Rattle.core_terms.specs.LanguageTrees.{table_of};
+ghost use Rattle.core_terms.specs.Programs.{types_in};
+ghost use Rattle.core_terms.specs.ProgramTrees.{table_of};
 ghost use Rattle.core_terms.specs.TypeTables.{type_at};
 ghost use Rattle.core_terms.specs.Typing.{same_type};
 ghost use Rattle.auth_syntax.specs.Syntax.{InitSyntax, QuerySyntax, UpdateSyntax};
@@ -16,8 +16,7 @@ use crate::fault::{TypeFault, TypeKind};
 use crate::scope::{Head, Scope};
 use crate::written_types::first_token;
 use auth_syntax::tree::{Function, FunctionKind};
-use core_terms::TyId;
-use core_terms::language::{TyForm, TyTable, auth_marks};
+use core_terms::{TyForm, TyId, TyTable, auth_marks};
 use lexemes::place::Place;
 use std::alloc::Global;
 

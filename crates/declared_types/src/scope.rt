@@ -3,8 +3,7 @@ ghost use Rattle.std.specs.Prelude.{◌≡◌, map};
 ghost use Rattle.declared_types.specs.ScopeNames.{constructor_meant, constructors_meant, joined, names_in, numbered};
 
 use auth_syntax::tree::Function;
-use core_terms::language::{Constructor, NamedId, NamedType, Tag};
-use core_terms::{FunctionId, Name, TyId};
+use core_terms::{Constructor, FunctionId, Name, NamedId, NamedType, Tag, TyId};
 use indexmap::IndexSet;
 
 /// The number of a constructor: that of its type, and its tag there.
@@ -40,7 +39,7 @@ pub struct Scope<'a> {
 impl<'a> Scope<'a> {
     ghost use Rattle.std.specs.Prelude.{◌<◌, ℕ, List, [], length, map, option_map, slice_get, Some, unwrap_or, All, IfSome};
     ghost use Rattle.core_terms.specs.Types.{Ty, fields_at};
-    ghost use Rattle.core_terms.specs.LanguageTrees.{types_at};
+    ghost use Rattle.core_terms.specs.ProgramTrees.{types_at};
     ghost use Rattle.declared_types.specs.Signatures.{constructor_named, function_named};
     ghost use Rattle.declared_types.specs.Scopes.{AreWithin, IsConstructorWithin, IsHeadWithin, IsWithin, function_meant, scope_meant, signature_meant};
 

@@ -1,7 +1,7 @@
 -- What is loaded of a record that is another one.
 use Rattle.std.proofs.Common.{◌≡◌, ℕ, List, Result, sym, subst}
 use Rattle.core_terms.specs.ProgramTypes.{types_by_number, types_meaning}
-use Rattle.core_terms.specs.declared.language.program_types.Types.{Types}
+use Rattle.core_terms.specs.declared.program_types.Types.{Types}
 use Rattle.images.specs.Images.{Entry, checked_entry, stands_for}
 use Rattle.images.specs.declared.fault.ImageFault.{ImageFault}
 use Rattle.value_store.specs.Markings.{Marking}

@@ -3,7 +3,7 @@ use Rattle.std.proofs.Common.{◌≡◌, ℕ, ◌<◌, ◌≤◌, List, true, fa
 use Rattle.core_terms.specs.Types.{Ty}
 use Rattle.core_terms.specs.Values.{Value, size, depth}
 use Rattle.core_terms.specs.ProgramTypes.{types_by_number, types_meaning}
-use Rattle.core_terms.specs.declared.language.program_types.Types.{Types}
+use Rattle.core_terms.specs.declared.program_types.Types.{Types}
 use Rattle.images.specs.Images.{Entry, entry, Loading, FaultyImage, BadRecord, TooBig, TooDeep, within_limits}
 use Rattle.images.specs.Parts.{is_part}
 use Rattle.value_store.specs.Markings.{Marking, kind_of, seen_as}

@@ -5,7 +5,7 @@ use Rattle.core_terms.specs.Types.{AuthTy, PairTy}
 use Rattle.core_terms.specs.TypeTables.{type_at}
 use Rattle.core_terms.specs.Values.{PairV, size, depth}
 use Rattle.core_terms.specs.ProgramTypes.{types_by_number, types_meaning}
-use Rattle.core_terms.specs.declared.language.program_types.Types.{Types}
+use Rattle.core_terms.specs.declared.program_types.Types.{Types}
 use Rattle.images.specs.Images.{Entry, entry, Loading, FaultyImage, BadRecord, TooBig, TooDeep, checked_entry, pair_from, stands_for, within_limits}
 use Rattle.images.specs.Parts.{is_part}
 use Rattle.images.specs.Records.{AuthRecord, PairRecord}

@@ -5,8 +5,8 @@ use Rattle.std.specs.Option.{option_map}
 use Rattle.core_terms.specs.Types.{Ty, NamedTy, fields_at}
 use Rattle.core_terms.specs.Values.{ConV, Values, depth, depths, size, sizes}
 use Rattle.core_terms.specs.ProgramTypes.{types_by_number, types_meaning}
-use Rattle.core_terms.specs.LanguageTrees.{types_at}
-use Rattle.core_terms.specs.declared.language.program_types.Types.{Types}
+use Rattle.core_terms.specs.ProgramTrees.{types_at}
+use Rattle.core_terms.specs.declared.program_types.Types.{Types}
 use Rattle.images.specs.Images.{Entry, entry, Loading, FaultyImage, BadRecord, TooBig, TooDeep, checked_entry, fields_from, stands_for, within_limits}
 use Rattle.images.specs.Records.{ConRecord}
 use Rattle.images.specs.Records as meant

@@ -6,11 +6,11 @@ use Rattle.std.specs.Option.{option_and_then, option_map}
 use Rattle.core_terms.specs.Types.{Ty, UnitTy}
 use Rattle.core_terms.specs.Typing.{same_type}
 use Rattle.core_terms.specs.ProgramTypes.{types_by_number, types_meaning}
-use Rattle.core_terms.specs.LanguageTrees.{are_below, types_at}
+use Rattle.core_terms.specs.ProgramTrees.{are_below, types_at}
 use Rattle.core_terms.specs.TypeTables.{type_at}
 use Rattle.core_terms.specs.Values.{Values, NoV, AndV, sizes, depths}
 use Rattle.core_terms.specs.declared.types.TyId.{TyId}
-use Rattle.core_terms.specs.declared.language.program_types.Types.{Types}
+use Rattle.core_terms.specs.declared.program_types.Types.{Types}
 use Rattle.core_terms.proofs.TypingComplete.{both}
 use Rattle.core_terms.proofs.TypingSound.{first_of, second_of, same_sound}
 use Rattle.images.specs.Images.{Entry, fields_from}

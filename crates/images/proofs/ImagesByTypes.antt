@@ -3,8 +3,8 @@ use Rattle.std.proofs.Common.{◌≡◌, ℕ, zero, suc, List, [], ◌∷◌, �
 use Rattle.std.specs.Int.{w32, from_be_bytes}
 use Rattle.core_terms.specs.ProgramTypes.{program_with, types_meaning}
 use Rattle.core_terms.specs.Terms.{Program}
-use Rattle.core_terms.specs.declared.language.program_types.Types.{Types}
-use Rattle.core_terms.specs.declared.language.term.Function.{Function}
+use Rattle.core_terms.specs.declared.program_types.Types.{Types}
+use Rattle.core_terms.specs.declared.term.Function.{Function}
 use Rattle.images.specs.Images.{Entry, Loading, as_image, checked_entry, field_count, headed, image_of, load_records, stands_for, with_record, within_limits}
 use Rattle.images.specs.Records.{RecordRead, ReadRecord, CutRecord, NoRecord, read_record}
 

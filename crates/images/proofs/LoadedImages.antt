@@ -2,7 +2,7 @@
 use Rattle.std.proofs.Common.{◌≡◌, ℕ, List, [], length, Result, Ok, Err, sym, ap, ◌∙◌, subst}
 use Rattle.core_terms.specs.ProgramTypes.{types_meaning}
 use Rattle.core_terms.specs.Values.{Value}
-use Rattle.core_terms.specs.declared.language.program_types.Types.{Types}
+use Rattle.core_terms.specs.declared.program_types.Types.{Types}
 use Rattle.images.specs.Images.{Entry, Image, Loaded, FaultyImage, Refused, Root, as_image, headed, image_of, last, load_records, rooted}
 use Rattle.images.specs.Images as meant
 use Rattle.images.specs.Loads.{IsHeaded, TellsFault}

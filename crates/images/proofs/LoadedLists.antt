@@ -1,7 +1,7 @@
 -- The records of an image, loaded one after another.
 use Rattle.std.proofs.Common.{◌≡◌, ℕ, suc, ◌+◌, ◌-◌, ◌<◌, List, [], ◌∷◌, ◌++◌, length, Result, Ok, Err, sym, ap, ◌∙◌, subst, arith, length-append}
 use Rattle.core_terms.specs.ProgramTypes.{types_by_number, types_meaning}
-use Rattle.core_terms.specs.declared.language.program_types.Types.{Types}
+use Rattle.core_terms.specs.declared.program_types.Types.{Types}
 use Rattle.images.specs.Images.{Entry, Loading, FaultyImage, checked_entry, field_count, load_records, stands_for, with_record}
 use Rattle.images.specs.Loads.{TellsFault}
 use Rattle.images.specs.Records.{ReadRecord, read_record}

@@ -3,11 +3,11 @@ use Rattle.std.proofs.Common.{◌≡◌, ℕ, List, [], length, map, unwrap_or, 
 use Rattle.std.proofs.lemmas.Option.{slice_get-map, slice_get_within}
 use Rattle.core_terms.specs.Types.{Ty, NamedTy}
 use Rattle.core_terms.specs.ProgramTypes.{types_by_number, types_meaning}
-use Rattle.core_terms.specs.LanguageTrees.{types_at}
+use Rattle.core_terms.specs.ProgramTrees.{types_at}
 use Rattle.core_terms.specs.TypeTables.{type_at}
-use Rattle.core_terms.specs.declared.language.term.Constructor.{Constructor}
-use Rattle.core_terms.specs.declared.language.term.NamedType.{NamedType}
-use Rattle.core_terms.specs.declared.language.program_types.Types.{Types}
+use Rattle.core_terms.specs.declared.term.Constructor.{Constructor}
+use Rattle.core_terms.specs.declared.term.NamedType.{NamedType}
+use Rattle.core_terms.specs.declared.program_types.Types.{Types}
 use Rattle.images.specs.PartMarks.{IsOfField, constructors_in, type_of}
 use Rattle.images.proofs.PartLevels.{IsField}
 

@@ -7,7 +7,7 @@ use Rattle.std.proofs.lemmas.Slice.Eq.{slice_eq-Decides}
 use Rattle.std.proofs.lemmas.List.{length-map}
 use Rattle.core_terms.specs.Types.{Ty, UnitTy, BoolTy, IntTy, TextTy, PairTy, NamedTy, AuthTy}
 use Rattle.core_terms.specs.ProgramTypes.{types_by_number, types_meaning}
-use Rattle.core_terms.specs.declared.language.program_types.Types.{Types}
+use Rattle.core_terms.specs.declared.program_types.Types.{Types}
 use Rattle.images.specs.Parts.{is_part}
 use Rattle.images.specs.PartMarks.{AddsMarks, AreLevelMarks, ArePartMarks, IsMarked, IsOfField, IsOpened, IsSpread, constructors_in, type_of}
 use Rattle.images.proofs.PartFields.{field_number, numbered_field}

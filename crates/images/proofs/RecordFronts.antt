@@ -3,9 +3,9 @@ use Rattle.std.proofs.Common.{◌≡◌, ℕ, zero, suc, ◌+◌, ◌<◌, ◌�
 use Rattle.std.proofs.lemmas.Option.{slice_get-get_or}
 use Rattle.std.specs.List.{list_all}
 use Rattle.std.specs.Int.{w16, from_be_bytes}
-use Rattle.core_terms.specs.LanguageTrees.{are_below, has_fields_below}
-use Rattle.core_terms.specs.declared.language.term.Constructor.{Constructor}
-use Rattle.core_terms.specs.declared.language.term.NamedType.{NamedType}
+use Rattle.core_terms.specs.ProgramTrees.{are_below, has_fields_below}
+use Rattle.core_terms.specs.declared.term.Constructor.{Constructor}
+use Rattle.core_terms.specs.declared.term.NamedType.{NamedType}
 use Rattle.core_terms.proofs.TypingSound.{first_of, second_of}
 use Rattle.images.specs.Records.{NoRecord, con_record}
 use Rattle.images.proofs.PartMarking.{fields_below_at}

@@ -7,7 +7,7 @@ use Rattle.core_terms.specs.Types.{Ty, UnitTy, BoolTy, IntTy, TextTy, PairTy, Na
 use Rattle.core_terms.specs.Values.{Value, UnitV, BoolV, IntV, TextV, PairV, ConV, IsIdeal}
 use Rattle.core_terms.specs.Terms.{Program}
 use Rattle.core_terms.specs.ProgramTypes.{types_meaning}
-use Rattle.core_terms.specs.declared.language.program_types.Types as code
+use Rattle.core_terms.specs.declared.program_types.Types as code
 use Rattle.core_terms.proofs.TypingComplete.{same_self}
 use Rattle.value_store.specs.Stores.{nodes_in}
 use Rattle.value_store.specs.declared.node.Ref.{Ref}

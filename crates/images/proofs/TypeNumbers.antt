@@ -5,12 +5,11 @@ use Rattle.std.proofs.lemmas.Bool.{eq-eqb}
 use Rattle.core_terms.specs.Types.{Ty, UnitTy}
 use Rattle.core_terms.specs.Typing.{same_type}
 use Rattle.core_terms.specs.ProgramTypes.{types_by_number, types_meaning}
-use Rattle.core_terms.specs.TypeTables.{type_at}
+use Rattle.core_terms.specs.TypeTables.{type_at, type_of_form}
 use Rattle.images.specs.PartMarks.{IsPartOfState}
 use Rattle.core_terms.specs.declared.types.TyId.{TyId}
-use Rattle.core_terms.specs.LanguageTypes.{type_of_form}
-use Rattle.core_terms.specs.declared.language.program_types.Types.{Types}
-use Rattle.core_terms.specs.declared.language.types.TyForm.{TyForm}
+use Rattle.core_terms.specs.declared.program_types.Types.{Types}
+use Rattle.core_terms.specs.declared.types.TyForm.{TyForm}
 use Rattle.core_terms.proofs.TypingComplete.{same_complete}
 use Rattle.core_terms.proofs.TypingSound.{same_sound}
 

@@ -2,13 +2,13 @@
 use Rattle.std.specs.Prelude.{◌≡◌, ◌⊎◌, ℕ, ◌<◌, Bool, true, false, List, [], length, Option, Some, None, option_map, slice_get, slice_index_or, unwrap_or}
 use Rattle.core_terms.specs.Types.{Ty, UnitTy, NamedTy}
 use Rattle.core_terms.specs.ProgramTypes.{types_by_number, types_meaning}
-use Rattle.core_terms.specs.LanguageTypes.{type_of_form}
+use Rattle.core_terms.specs.TypeTables.{type_of_form}
 use Rattle.core_terms.specs.declared.types.TyId.{TyId}
-use Rattle.core_terms.specs.declared.language.term.Constructor.{Constructor}
-use Rattle.core_terms.specs.declared.language.term.NamedType.{NamedType}
-use Rattle.core_terms.specs.declared.language.types.TyForm.{TyForm}
-use Rattle.core_terms.specs.declared.language.types.TyForm.TheVariants.{AuthForm, PairForm}
-use Rattle.core_terms.specs.declared.language.program_types.Types.{Types}
+use Rattle.core_terms.specs.declared.term.Constructor.{Constructor}
+use Rattle.core_terms.specs.declared.term.NamedType.{NamedType}
+use Rattle.core_terms.specs.declared.types.TyForm.{TyForm}
+use Rattle.core_terms.specs.declared.types.TyForm.TheVariants.{AuthForm, PairForm}
+use Rattle.core_terms.specs.declared.program_types.Types.{Types}
 use Rattle.images.specs.Parts.{is_part, is_part_within}
 use Rattle.images.specs.declared.parts.PartMarks.{PartMarks}
 

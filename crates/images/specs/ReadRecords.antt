@@ -2,9 +2,9 @@
 use Rattle.std.specs.Prelude.{◌≡◌, ◌*◌, ℕ, true, List, length, Option, Some, None, Result, Ok, Err}
 use Rattle.std.specs.Borrow.{Bor}
 use Rattle.core_terms.specs.ProgramTypes.{types_by_number, types_meaning}
-use Rattle.core_terms.specs.LanguageTrees.{are_below, types_at}
+use Rattle.core_terms.specs.ProgramTrees.{are_below, types_at}
 use Rattle.core_terms.specs.Types.{NamedTy, fields_at}
-use Rattle.core_terms.specs.declared.language.program_types.Types.{Types}
+use Rattle.core_terms.specs.declared.program_types.Types.{Types}
 use Rattle.core_terms.specs.declared.types.TyId.{TyId}
 use Rattle.images.specs.Images.{field_count}
 use Rattle.images.specs.Parts.{is_part}

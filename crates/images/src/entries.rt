@@ -19,7 +19,7 @@ use crate::fields::{earlier, field_refs};
 use crate::part_types::PartTypes;
 use crate::record::ConstructorRecord;
 use crate::stored::StoredRecord;
-use core_terms::language::TyForm;
+use core_terms::TyForm;
 use std::alloc::Global;
 use value_store::{Marker, Nodes, Store};
 

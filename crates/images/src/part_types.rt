@@ -1,12 +1,11 @@
 // The types that a record may have.
 ghost use Rattle.std.specs.Prelude.{◌≡◌, true, length};
-ghost use Rattle.core_terms.specs.LanguageTypes.{stands_behind};
+ghost use Rattle.core_terms.specs.TypeTables.{stands_behind};
 ghost use Rattle.core_terms.specs.ProgramTypes.{types_by_number, types_meaning};
 ghost use Rattle.images.specs.PartMarks.{IsMarksOf, IsPartOfState};
 
 use crate::parts::PartMarks;
-use core_terms::TyId;
-use core_terms::language::{TyForm, Types};
+use core_terms::{TyForm, TyId, Types};
 
 /// The types of a program, with which of them are the state's or parts of it.
 #[derive(Clone, Copy)]

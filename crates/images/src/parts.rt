@@ -5,15 +5,14 @@
 // once at most, so no more levels are needed than there are named types.
 ghost use Rattle.std.specs.Prelude.{◌≡◌, ◌<◌, ◌+◌, ℕ, true, length, IfOk};
 ghost use Rattle.std.specs.List.{list_all};
-ghost use Rattle.core_terms.specs.LanguageTrees.{are_below};
-ghost use Rattle.core_terms.specs.LanguageTypes.{stands_behind};
+ghost use Rattle.core_terms.specs.ProgramTrees.{are_below};
+ghost use Rattle.core_terms.specs.TypeTables.{stands_behind};
 ghost use Rattle.core_terms.specs.ProgramTypes.{types_by_number, types_meaning};
-ghost use Rattle.core_terms.specs.declared.language.program_types.Types as code;
+ghost use Rattle.core_terms.specs.declared.program_types.Types as code;
 ghost use Rattle.images.specs.Parts.{is_part};
 ghost use Rattle.images.specs.PartMarks.{AddsMarks, AreLevelMarks, ArePartMarks, IsAmong, IsMarked, IsMarksOf, IsOfField, IsOpened, IsPartOfForm, IsPartOfState, IsSpread, constructors_in, type_of};
 
-use core_terms::TyId;
-use core_terms::language::{Constructor, TyForm, Types};
+use core_terms::{Constructor, TyForm, TyId, Types};
 use std::alloc::{AllocError, Global};
 
 /// Which types of a program are the state's or parts of it.

@@ -1,15 +1,14 @@
 // The records of an image, read from their bytes.
 ghost use Rattle.std.specs.Prelude.{ℕ, IfOk};
 ghost use Rattle.core_terms.specs.ProgramTypes.{types_meaning};
-ghost use Rattle.core_terms.specs.declared.language.program_types.Types as code;
+ghost use Rattle.core_terms.specs.declared.program_types.Types as code;
 ghost use Rattle.images.specs.Images.{field_count};
 ghost use Rattle.images.specs.Records as meant;
 ghost use Rattle.images.specs.PartMarks.{IsMarksOf};
 ghost use Rattle.images.specs.ReadRecords.{AreFieldsOf, HasConstructor, IsRead};
 
 use crate::parts::PartMarks;
-use core_terms::TyId;
-use core_terms::language::{NamedId, Tag, TyForm, Types};
+use core_terms::{NamedId, Tag, TyForm, TyId, Types};
 use std::str::from_utf8;
 
 /// A record. A text is lent by the image.

@@ -16,8 +16,7 @@ ghost use Rattle.value_store.specs.Standing.{IdealNodes, StandsFor};
 ghost use Rattle.value_store.specs.Stores.{nodes_in};
 
 use crate::SaveFault;
-use core_terms::Digest;
-use core_terms::language::Types;
+use core_terms::{Digest, Types};
 use crate::header::{digest_bytes, write_header};
 use record::part;
 use records::Records;

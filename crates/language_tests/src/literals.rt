@@ -1,6 +1,6 @@
 // Literals: how they are spelled, the first fault of texts that are none of a type, and how deep and how long they may be.
 use crate::answers::program_of;
-use core_terms::language::Program;
+use core_terms::Program;
 use lexemes::fault::LexicalFault;
 use printed_syntax::fault::{LiteralFault, LiteralKind};
 use printed_syntax::literal::parse_literal;

@@ -1,7 +1,6 @@
 // Texts that are programs, and what a program tells of itself.
 use crate::answers::{Repeated, misfit_of, program_of, tree_of};
-use core_terms::TyId;
-use core_terms::language::{Program, RoleId, RoleKind};
+use core_terms::{Program, RoleId, RoleKind, TyId};
 use program_texts::{BST, LOG, MERKLE};
 use std::alloc::{AllocError, Global};
 use std::test::Fail;

@@ -3,7 +3,7 @@ use crate::answers::tree_of;
 use auth_syntax::tree::{
     Arm, Ast, Declaration, ExpTree, Function, FunctionKind, TypeTree, UnaryOperator,
 };
-use core_terms::language::{Arith, BinaryOperator, Compare, TextCompare};
+use core_terms::{Arith, BinaryOperator, Compare, TextCompare};
 use std::test::Fail;
 
 /// Texts of a function, and the word of its operation, or else of its kind.

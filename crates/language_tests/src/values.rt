@@ -1,6 +1,6 @@
 // Values as they are printed, from their spellings.
 use crate::literals::of_type;
-use core_terms::language::Program;
+use core_terms::Program;
 use printed_syntax::printing::print_value;
 use std::alloc::Global;
 use std::test::Fail;

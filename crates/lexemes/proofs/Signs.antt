@@ -1,13 +1,13 @@
 -- The tests that tell keywords and marks apart.
 use Rattle.std.proofs.Common.{◌≡◌, true, Some, refl, sym, ap, ◌∙◌}
 use Rattle.std.proofs.lemmas.Slice.Eq.{bytes_eq-Decides}
-use Rattle.core_terms.specs.declared.language.term.Arith.{Arith as ArithOperator}
-use Rattle.core_terms.specs.declared.language.term.Arith.TheVariants.{Add}
-use Rattle.core_terms.specs.declared.language.term.Compare.{Compare as CompareOperator}
-use Rattle.core_terms.specs.declared.language.term.Compare.TheVariants.{Eq}
-use Rattle.core_terms.specs.declared.language.term.TextCompare.{TextCompare as TextCompareOperator}
-use Rattle.core_terms.specs.declared.language.term.TextCompare.TheVariants.{Eq as TEq}
-use Rattle.core_terms.specs.declared.language.term.BinaryOperator.TheVariants.{Arith, Compare, TextCompare, Cat}
+use Rattle.core_terms.specs.declared.term.Arith.{Arith as ArithOperator}
+use Rattle.core_terms.specs.declared.term.Arith.TheVariants.{Add}
+use Rattle.core_terms.specs.declared.term.Compare.{Compare as CompareOperator}
+use Rattle.core_terms.specs.declared.term.Compare.TheVariants.{Eq}
+use Rattle.core_terms.specs.declared.term.TextCompare.{TextCompare as TextCompareOperator}
+use Rattle.core_terms.specs.declared.term.TextCompare.TheVariants.{Eq as TEq}
+use Rattle.core_terms.specs.declared.term.BinaryOperator.TheVariants.{Arith, Compare, TextCompare, Cat}
 use Rattle.lexemes.specs.Tokens.{operator_text, keyword_text, keyword_of}
 use Rattle.lexemes.specs.declared.token.Keyword.{Keyword}
 use Rattle.lexemes.specs.declared.token.Keyword.TheVariants.{«Type» as TypeWord, Binary as BinaryWord}

@@ -5,11 +5,11 @@ use Rattle.std.specs.List.{prefix_len}
 use Rattle.std.specs.Char.{is_ascii_lowercase, is_ascii_uppercase, is_ascii_alphanumeric, is_ascii_digit}
 use Rattle.std.specs.Str.{is_utf8}
 use Rattle.std.specs.Str.Parse.{digits_value}
-use Rattle.core_terms.specs.declared.language.term.BinaryOperator.{BinaryOperator}
-use Rattle.core_terms.specs.declared.language.term.BinaryOperator.TheVariants.{Arith, Compare, TextCompare, Cat}
-use Rattle.core_terms.specs.declared.language.term.Arith.TheVariants.{Add, Sub, Mul, Div, Rem}
-use Rattle.core_terms.specs.declared.language.term.Compare.TheVariants.{Eq, Lt, Le}
-use Rattle.core_terms.specs.declared.language.term.TextCompare.TheVariants.{Eq as TEq, Lt as TLt}
+use Rattle.core_terms.specs.declared.term.BinaryOperator.{BinaryOperator}
+use Rattle.core_terms.specs.declared.term.BinaryOperator.TheVariants.{Arith, Compare, TextCompare, Cat}
+use Rattle.core_terms.specs.declared.term.Arith.TheVariants.{Add, Sub, Mul, Div, Rem}
+use Rattle.core_terms.specs.declared.term.Compare.TheVariants.{Eq, Lt, Le}
+use Rattle.core_terms.specs.declared.term.TextCompare.TheVariants.{Eq as TEq, Lt as TLt}
 use Rattle.lexemes.specs.Places.{start, behind_byte, behind}
 use Rattle.lexemes.specs.declared.place.Place.{Place}
 use Rattle.lexemes.specs.declared.token.Keyword.{Keyword}

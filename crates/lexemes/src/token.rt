@@ -1,7 +1,6 @@
 // The tokens that a text consists of.
 
-use core_terms::Text;
-use core_terms::language::BinaryOperator;
+use core_terms::{BinaryOperator, Text};
 
 /// A word that the grammar gives a meaning.
 #[derive(Clone, Copy)]

@@ -1,8 +1,7 @@
 // The instructions that are generated for functions.
 use crate::stage::code_of;
 use code_gen::{Code, Instruction};
-use core_terms::FunctionId;
-use core_terms::language::{Arith, Compare, TextCompare};
+use core_terms::{Arith, Compare, FunctionId, TextCompare};
 use std::alloc::{AllocError, Global};
 use std::test::Fail;
 

@@ -1,14 +1,13 @@
 // Code for the tests, and how calls end that run on it.
 ghost use Rattle.std.specs.Prelude.{◌≡◌, ◌<◌, ◌∷◌, [], length, IsTrue};
-ghost use Rattle.core_terms.specs.LanguagePrograms.{meaning};
+ghost use Rattle.core_terms.specs.Programs.{meaning};
 ghost use Rattle.core_terms.specs.Terms.{function_at};
 ghost use Rattle.core_terms.specs.Types.{IntTy};
 
 use auth_syntax::parser::parse;
 use auth_types::check::check;
 use code_gen::Code;
-use core_terms::language::{Program, TyForm};
-use core_terms::{Digest, FunctionId, Outcome, Trap};
+use core_terms::{Digest, FunctionId, Outcome, Program, Trap, TyForm};
 use mode_vm::{IdealMode, Machine, Step, ideal_run};
 use std::alloc::{AllocError, Global};
 use value_store::{Nodes, Ref, Store, View};

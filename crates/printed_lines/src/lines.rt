@@ -2,7 +2,7 @@
 
 ghost use Rattle.std.specs.Prelude.{◌≡◌, ◌<◌, ◌^◌, ◌++◌, length, IfOk, string_bytes};
 ghost use Rattle.hex.specs.Hex.{encode_lower};
-ghost use Rattle.core_terms.specs.LanguagePrograms.{constructor_names, meaning, types_of};
+ghost use Rattle.core_terms.specs.Programs.{constructor_names, meaning, types_of};
 ghost use Rattle.core_terms.specs.Spelling.{spelling};
 ghost use Rattle.core_terms.specs.TypeTables.{type_at};
 ghost use Rattle.core_terms.specs.Values.{IsShallow, Value};
@@ -11,8 +11,7 @@ ghost use Rattle.printed_lines.specs.Lines as def;
 
 use crate::names::{argument_name, literal_name, program_name};
 use crate::refusal::{ImageKind, InputFault, ProgramKind, Refusal};
-use core_terms::language::Program;
-use core_terms::{Cause, Digest, Trap, TyId};
+use core_terms::{Cause, Digest, Program, Trap, TyId};
 use printed_syntax::printing::print_value;
 use std::alloc::{AllocError, Global};
 

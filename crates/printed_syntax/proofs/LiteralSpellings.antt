@@ -4,8 +4,8 @@ use Rattle.std.specs.List.{position}
 use Rattle.core_terms.specs.Types.{Ty, Table, fields_at}
 use Rattle.core_terms.specs.Values.{Value, UnitV, ConV, Values, AndV}
 use Rattle.core_terms.specs.Spelling.{spelling, spellings}
-use Rattle.core_terms.specs.declared.language.program.Program.{Program}
-use Rattle.core_terms.proofs.Roles.{first_place}
+use Rattle.core_terms.specs.declared.program.Program.{Program}
+use Rattle.core_terms.proofs.Places.{first_place}
 use Rattle.lexemes.specs.Readings.{SyntaxFault}
 use Rattle.core_terms.specs.declared.fault.Fault.TheVariants.{At, NoMemory}
 use Rattle.printed_syntax.specs.declared.fault.LiteralKind.{LiteralKind}

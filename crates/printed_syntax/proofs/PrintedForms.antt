@@ -1,6 +1,6 @@
 -- The tokens of each form of an expression, printed one behind the other.
 use Rattle.std.proofs.Common.{◌≡◌, [], ◌∷◌, ◌++◌, sym, ap, ◌∙◌}
-use Rattle.core_terms.specs.declared.language.term.BinaryOperator.{BinaryOperator}
+use Rattle.core_terms.specs.declared.term.BinaryOperator.{BinaryOperator}
 use Rattle.lexemes.specs.Places.{start}
 use Rattle.lexemes.specs.Tokens.{KeywordToken, MarkToken}
 use Rattle.lexemes.specs.declared.token.Keyword.TheVariants.{Let as LetWord, In as InWord, If as IfWord, Then as ThenWord, Else as ElseWord}

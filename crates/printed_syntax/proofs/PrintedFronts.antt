@@ -7,11 +7,11 @@ use Rattle.hex.specs.Hex.{encode_lower}
 use Rattle.core_terms.specs.Types.{Ty, BoolTy, IntTy}
 use Rattle.core_terms.specs.Values.{Value, BoolV, IntV, DigestV, Values, NoV, AndV, IsShallow, AreShallow, int_fits}
 use Rattle.core_terms.specs.Spelling.{spelling, spellings}
-use Rattle.core_terms.specs.LanguagePrograms.{meaning, types_of}
-use Rattle.core_terms.specs.LanguageTrees.{types_at}
+use Rattle.core_terms.specs.Programs.{meaning, types_of}
+use Rattle.core_terms.specs.ProgramTrees.{types_at}
 use Rattle.core_terms.specs.TypeTables.{type_at}
 use Rattle.core_terms.specs.declared.types.TyId.{TyId}
-use Rattle.core_terms.specs.declared.language.program.Program.{Program}
+use Rattle.core_terms.specs.declared.program.Program.{Program}
 use Rattle.printed_syntax.specs.PrintedValues.{bool_text}
 use Rattle.printed_syntax.specs.PrintedParts.{text_in, texts_in, IsTaken, IsPrinted, ArePrinted, comma_before}
 

@@ -3,13 +3,13 @@ use Rattle.std.proofs.Common.{◌≡◌, ℕ, Bool, true, false, not, ◌||◌, 
 use Rattle.std.specs.List.{list_all}
 use Rattle.std.specs.Char.{is_ascii_lowercase, is_ascii_uppercase}
 use Rattle.std.specs.Prelude.{nat_le, ◌==◌}
-use Rattle.core_terms.specs.declared.language.term.Arith.{Arith as ArithOperator}
-use Rattle.core_terms.specs.declared.language.term.Arith.TheVariants.{Add}
-use Rattle.core_terms.specs.declared.language.term.Compare.{Compare as CompareOperator}
-use Rattle.core_terms.specs.declared.language.term.Compare.TheVariants.{Eq}
-use Rattle.core_terms.specs.declared.language.term.TextCompare.{TextCompare as TextCompareOperator}
-use Rattle.core_terms.specs.declared.language.term.TextCompare.TheVariants.{Eq as TEq}
-use Rattle.core_terms.specs.declared.language.term.BinaryOperator.TheVariants.{Arith, Compare, TextCompare, Cat}
+use Rattle.core_terms.specs.declared.term.Arith.{Arith as ArithOperator}
+use Rattle.core_terms.specs.declared.term.Arith.TheVariants.{Add}
+use Rattle.core_terms.specs.declared.term.Compare.{Compare as CompareOperator}
+use Rattle.core_terms.specs.declared.term.Compare.TheVariants.{Eq}
+use Rattle.core_terms.specs.declared.term.TextCompare.{TextCompare as TextCompareOperator}
+use Rattle.core_terms.specs.declared.term.TextCompare.TheVariants.{Eq as TEq}
+use Rattle.core_terms.specs.declared.term.BinaryOperator.TheVariants.{Arith, Compare, TextCompare, Cat}
 use Rattle.lexemes.specs.declared.place.Place.{Place}
 use Rattle.lexemes.specs.declared.token.Keyword.{Keyword}
 use Rattle.lexemes.specs.declared.token.Keyword.TheVariants.{«Type» as TypeWord, Binary as BinaryWord}

@@ -6,8 +6,8 @@ use Rattle.std.specs.Str.{is_utf8, chars}
 use Rattle.hex.specs.Hex.{encode_with}
 use lib.Utf8.{encode}
 use Rattle.lexemes.specs.Places.{start}
-use Rattle.core_terms.specs.declared.language.term.BinaryOperator.TheVariants.{TextCompare}
-use Rattle.core_terms.specs.declared.language.term.TextCompare.TheVariants.{Lt as TLt}
+use Rattle.core_terms.specs.declared.term.BinaryOperator.TheVariants.{TextCompare}
+use Rattle.core_terms.specs.declared.term.TextCompare.TheVariants.{Lt as TLt}
 use Rattle.lexemes.specs.declared.token.Keyword.TheVariants as keyword
 use Rattle.lexemes.specs.declared.token.Mark.TheVariants as mark
 use Rattle.lexemes.specs.Tokens.{KeywordToken, MarkToken, LowerToken, UpperToken, IntToken}

@@ -5,8 +5,8 @@ use Rattle.core_terms.specs.Types.{Ty}
 use Rattle.core_terms.specs.Values.{Value, size}
 use Rattle.core_terms.specs.Spelling.{spelling}
 use Rattle.core_terms.specs.Terms as tree
-use Rattle.core_terms.specs.LanguagePrograms.{constructor_names, meaning}
-use Rattle.core_terms.specs.declared.language.program.Program.{Program}
+use Rattle.core_terms.specs.Programs.{constructor_names, meaning}
+use Rattle.core_terms.specs.declared.program.Program.{Program}
 use Rattle.core_terms.specs.declared.byte_string.ByteString.{ByteString as Spelling}
 use Rattle.lexemes.specs.Tokens.{Tokens}
 use Rattle.printed_syntax.specs.Literals.{ConstructorNames, LiteralReading, Means, FaultAt, FirstFault, literal_in, literal_of, value_within}

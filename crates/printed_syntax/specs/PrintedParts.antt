@@ -3,8 +3,8 @@ use Rattle.std.specs.Prelude.{◌≡◌, ◌<◌, ◌^◌, ℕ, zero, suc, List,
 use Rattle.core_terms.specs.Types.{Ty}
 use Rattle.core_terms.specs.Values.{Value, Values, IsShallow, AreShallow}
 use Rattle.core_terms.specs.Spelling.{spelling, spellings}
-use Rattle.core_terms.specs.LanguagePrograms.{meaning, constructor_names}
-use Rattle.core_terms.specs.declared.language.program.Program.{Program}
+use Rattle.core_terms.specs.Programs.{meaning, constructor_names}
+use Rattle.core_terms.specs.declared.program.Program.{Program}
 use Rattle.printed_syntax.specs.PrintedValues.{printed, printed_fields}
 
 -- the text of a shallow value of a program

@@ -3,8 +3,8 @@
 mod parts;
 
 ghost use Rattle.std.specs.Prelude.{◌≡◌, map};
-ghost use Rattle.core_terms.specs.LanguagePrograms.{constructor_names, meaning, types_of};
-ghost use Rattle.core_terms.specs.LanguageTrees.{types_at};
+ghost use Rattle.core_terms.specs.Programs.{constructor_names, meaning, types_of};
+ghost use Rattle.core_terms.specs.ProgramTrees.{types_at};
 ghost use Rattle.core_terms.specs.Spelling.{spelling, spellings};
 ghost use Rattle.core_terms.specs.TypeTables.{type_at};
 ghost use Rattle.printed_syntax.specs.Literals.{constructor_literal, fields_literal, literal_in, literal_of, more_fields, pair_literal};
@@ -13,8 +13,7 @@ ghost use Rattle.printed_syntax.specs.LiteralSteps.{ReadsPart, ReadsWhole, liter
 ghost use Rattle.lexemes.specs.Remaining.{remaining};
 
 use crate::fault::LiteralFault;
-use core_terms::language::{NamedId, Program, TyForm};
-use core_terms::{Spelling, TyId};
+use core_terms::{NamedId, Program, Spelling, TyForm, TyId};
 use lexemes::fault::{SyntaxFault, SyntaxKind};
 use lexemes::parser::{Parser, PlacedToken};
 use lexemes::token::{Mark, Token};

@@ -14,8 +14,7 @@ use auth_syntax::tree::{
     Arm, Ast, ConstructorDeclaration, Declaration, ExpTree, Function, FunctionKind, Parameter,
     PlacedName, TypeDeclaration, TypeTree, UnaryOperator,
 };
-use core_terms::Name;
-use core_terms::language::BinaryOperator;
+use core_terms::{BinaryOperator, Name};
 use lexemes::token::{Keyword, Mark};
 use std::alloc::{AllocError, Global};
 

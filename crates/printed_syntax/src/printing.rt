@@ -3,8 +3,8 @@
 pub(crate) mod leaves;
 
 ghost use Rattle.std.specs.Prelude.{◌≡◌, ◌<◌, ◌≤◌, ◌^◌, [], length, option_map, slice_get, ◌++◌, IfOk, OnOk};
-ghost use Rattle.core_terms.specs.LanguagePrograms.{constructor_names, meaning, types_of};
-ghost use Rattle.core_terms.specs.LanguageTrees.{types_at};
+ghost use Rattle.core_terms.specs.Programs.{constructor_names, meaning, types_of};
+ghost use Rattle.core_terms.specs.ProgramTrees.{types_at};
 ghost use Rattle.core_terms.specs.Spelling.{spelling};
 ghost use Rattle.core_terms.specs.TypeTables.{type_at};
 ghost use Rattle.core_terms.specs.Types.{NamedTy, PairTy, fields_at};
@@ -15,8 +15,7 @@ ghost use Rattle.printed_syntax.specs.PrintedValueLaws.{PrintedValuesAreReadBack
 use crate::printing::leaves::{
     push_spelled_bool, push_spelled_digest, push_spelled_int, push_spelled_text,
 };
-use core_terms::TyId;
-use core_terms::language::{Constructor, NamedId, Program, TyForm};
+use core_terms::{Constructor, NamedId, Program, TyForm, TyId};
 use std::alloc::{AllocError, Global};
 
 /// What stands between two values: a comma and a blank.

@@ -12,12 +12,11 @@ use Rattle.ideal_meaning.specs.Ideal.{bytes_of, honest_pieces}
 use Rattle.ideal_meaning.proofs.Companion.{companion}
 use Rattle.plain_meaning.specs.PlainValues.{plain_of}
 use Rattle.plain_meaning.specs.declared.values.Plain.{Plain}
-use Rattle.core_terms.proofs.CodePrograms.{is_typed}
+use Rattle.core_terms.proofs.CodePrograms.{is_typed, is_format, query_role}
 use Rattle.plain_meaning.proofs.Within.{plain_is_within}
 use Rattle.core_terms.specs.Roles.{argument_type}
 use Rattle.prover_mode.specs.Proofs.{IsAccepted}
 use Rattle.prover_mode.specs.declared.proving.Proved.{Proved}
-use Rattle.core_terms.proofs.CodePrograms.{is_format, query_role}
 
 -- the file of the honest frames is accepted
 on_honest : (hash : Hash) → IsHash hash → (p : Program) (f : ℕ) (state argument : Plain) (k : ℕ) → f < length (meaning p).functions → (function_at (meaning p) f).kind ≡ tree.Query

@@ -2,13 +2,13 @@
 use Rattle.std.proofs.Common.{◌≡◌, ◌⊎◌, inl, inr, ℕ, ◌<◌, List, length, map, Some, option_map, slice_get, sym, ap, ◌∙◌, subst}
 use Rattle.std.specs.List.{All}
 use Rattle.std.proofs.lemmas.Option.{get_or_from_slice_get, slice_get-map, slice_get_within}
-use Rattle.core_terms.specs.LanguagePrograms.{meaning, types_of}
+use Rattle.core_terms.specs.Programs.{meaning, types_of}
 use Rattle.core_terms.specs.RoleViews.{role_kind_of, role_of}
 use Rattle.core_terms.specs.Roles.{HasRoleShape, ReadsState, program_roles}
-use Rattle.core_terms.specs.declared.language.program.Program.{Program}
-use Rattle.core_terms.specs.declared.language.roles.Role.{Role}
-use Rattle.core_terms.specs.declared.language.roles.RoleKind.{RoleKind}
-use Rattle.core_terms.specs.declared.language.roles.RoleKind.TheVariants.{Query, Update}
+use Rattle.core_terms.specs.declared.program.Program.{Program}
+use Rattle.core_terms.specs.declared.roles.Role.{Role}
+use Rattle.core_terms.specs.declared.roles.RoleKind.{RoleKind}
+use Rattle.core_terms.specs.declared.roles.RoleKind.TheVariants.{Query, Update}
 use Rattle.stream_verifier.specs.Verdicts.{TakesState}
 
 pub reads_state : (kind : RoleKind) → (kind ≡ Query) ⊎ (kind ≡ Update) → ReadsState (role_kind_of kind)

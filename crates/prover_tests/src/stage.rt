@@ -1,7 +1,7 @@
 // The program of the tests, and its calls: proved, verified and audited.
 ghost use Rattle.std.specs.Prelude.{◌≡◌, ◌<◌, ◌∷◌, [], length, IfOk, IfSome, IsTrue};
 ghost use Rattle.core_terms.specs.Formats.{Hash};
-ghost use Rattle.core_terms.specs.LanguagePrograms.{meaning};
+ghost use Rattle.core_terms.specs.Programs.{meaning};
 ghost use Rattle.core_terms.specs.Terms.{function_at};
 ghost use Rattle.core_terms.specs.Types.{IntTy};
 ghost use Rattle.core_terms.specs.Values.{Value};
@@ -14,8 +14,7 @@ ghost use Rattle.stream_audit.specs.Calls.{IsAudited};
 use auth_syntax::parser::parse;
 use auth_types::check::check;
 use code_gen::Code;
-use core_terms::language::{Program, RoleId, RoleKind, TyForm};
-use core_terms::{Digest, FunctionId, Outcome, Spelling, Trap};
+use core_terms::{Digest, FunctionId, Outcome, Program, RoleId, RoleKind, Spelling, Trap, TyForm};
 use digest_layer::Sha;
 use lam_outside::{Bytes, MemLink, Plan};
 use proof_stream::put_header;

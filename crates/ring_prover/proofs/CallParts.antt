@@ -1,7 +1,7 @@
 -- The parts of a proof of a call.
 use Rattle.std.proofs.Common.{◌≡◌, ℕ, List, [], ◌∷◌, map, refl, sym, ap, ◌∙◌, subst, slice_index_or, unwrap_or}
 use Rattle.core_terms.specs.Formats.{Hash}
-use Rattle.core_terms.specs.LanguagePrograms.{meaning, types_of}
+use Rattle.core_terms.specs.Programs.{meaning, types_of}
 use Rattle.core_terms.specs.ProgramTypes.{named_table, types_by_number, types_meaning}
 use Rattle.core_terms.specs.Projection.{digest_at}
 use Rattle.core_terms.specs.Roles.{ReadsState, argument_type, role_parameters}
@@ -11,8 +11,8 @@ use Rattle.core_terms.specs.TypeTables.{type_at}
 use Rattle.core_terms.specs.Types.{Ty, UnitTy}
 use Rattle.core_terms.specs.Values.{Value, Values}
 use Rattle.core_terms.specs.declared.byte_string.ByteString.{ByteString as Spelling}
-use Rattle.core_terms.specs.declared.language.program.Program.{Program}
-use Rattle.core_terms.specs.declared.language.program_types.Types.{Types}
+use Rattle.core_terms.specs.declared.program.Program.{Program}
+use Rattle.core_terms.specs.declared.program_types.Types.{Types}
 use Rattle.core_terms.specs.declared.outcome.Outcome.{Outcome}
 use Rattle.core_terms.specs.declared.types.TyId.{TyId}
 use Rattle.ideal_meaning.specs.Headline.{call_of}

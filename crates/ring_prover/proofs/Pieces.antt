@@ -8,7 +8,7 @@ use Rattle.core_terms.specs.Spelling.{spelling}
 use Rattle.core_terms.specs.TypeTables.{type_at}
 use Rattle.core_terms.specs.Types.{Table, Ty}
 use Rattle.core_terms.specs.Values.{Value}
-use Rattle.core_terms.specs.declared.language.program_types.Types.{Types}
+use Rattle.core_terms.specs.declared.program_types.Types.{Types}
 use Rattle.core_terms.proofs.Spelled.{length_spelling}
 use Rattle.ideal_meaning.specs.Ideal as ideal
 use Rattle.value_store.specs.Nodes.{AreSound, Node}

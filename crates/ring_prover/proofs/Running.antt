@@ -3,7 +3,7 @@ use Rattle.std.proofs.Common.{ℕ, List, [], ◌∷◌, ◌++◌, Option, sym, s
 use Rattle.core_terms.specs.Formats.{Hash}
 use Rattle.core_terms.specs.Terms.{Program}
 use Rattle.core_terms.specs.Types.{Ty}
-use Rattle.core_terms.specs.declared.language.program_types.Types.{Types}
+use Rattle.core_terms.specs.declared.program_types.Types.{Types}
 use Rattle.core_terms.specs.declared.outcome.Outcome.{Outcome}
 use Rattle.core_terms.specs.declared.outcome.Outcome.TheVariants as told
 use Rattle.ideal_meaning.specs.Ideal as ideal

@@ -6,7 +6,7 @@ use Rattle.core_terms.specs.Projection.{digest_at, projection}
 use Rattle.core_terms.specs.Spelling.{spelling}
 use Rattle.core_terms.specs.Types.{Ty}
 use Rattle.core_terms.specs.Values.{Value}
-use Rattle.core_terms.specs.declared.language.program_types.Types.{Types}
+use Rattle.core_terms.specs.declared.program_types.Types.{Types}
 use Rattle.core_terms.specs.declared.outcome.Outcome.{Outcome}
 use Rattle.core_terms.specs.declared.outcome.Outcome.TheVariants.{Done, Trapped, Out}
 use Rattle.core_terms.specs.declared.outcome.Trap.{Trap}

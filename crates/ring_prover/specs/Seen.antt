@@ -4,7 +4,7 @@ use Rattle.core_terms.specs.Formats.{Hash}
 use Rattle.core_terms.specs.ProgramTypes.{types_by_number, types_meaning}
 use Rattle.core_terms.specs.Projection.{digest_at}
 use Rattle.core_terms.specs.TypeTables.{type_at}
-use Rattle.core_terms.specs.declared.language.program_types.Types.{Types}
+use Rattle.core_terms.specs.declared.program_types.Types.{Types}
 use Rattle.ideal_meaning.specs.Ideal as ideal
 use Rattle.value_store.specs.Nodes.{Node}
 use Rattle.value_store.specs.Standing.{Keeps, ProverNodes, StandsFor}

@@ -6,8 +6,7 @@ ghost use Rattle.ring_prover.specs.Seen.{AreSeen, pieces_of};
 ghost use Rattle.ring_prover.specs.Written.{HasWritten};
 
 use crate::opened::Opened;
-use core_terms::Hash32;
-use core_terms::language::Types;
+use core_terms::{Hash32, Types};
 use proof_stream::{put_new, put_use};
 use reuse_buffer::Ring;
 use shallow_codec::spell;

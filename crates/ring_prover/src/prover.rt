@@ -6,8 +6,7 @@ ghost use Rattle.value_store.specs.Markings.{ProverMarking};
 ghost use Rattle.value_store.specs.Standing.{ProverNodes, StandsFor};
 
 use crate::opened::Opened;
-use core_terms::language::Types;
-use core_terms::{Hash32, TyId};
+use core_terms::{Hash32, TyId, Types};
 use mode_vm::{Mode, Never, Stop};
 use shallow_codec::spell;
 use std::alloc::Global;

@@ -8,8 +8,7 @@ ghost use Rattle.value_store.specs.Standing.{ProverNodes};
 ghost use Rattle.mode_vm.specs.IdealRuns.{IsOutcome};
 ghost use Rattle.ring_prover.specs.Calls.{IsSpelled};
 
-use core_terms::language::Types;
-use core_terms::{Hash32, Outcome, Spelling, TyId};
+use core_terms::{Hash32, Outcome, Spelling, TyId, Types};
 use shallow_codec::spell;
 use std::alloc::{AllocError, Global};
 use value_store::{Nodes, Ref};

@@ -3,15 +3,14 @@ use Rattle.std.proofs.Common.{◌≡◌, ℕ, zero, suc, ◌≤◌, List, [], �
 use Rattle.std.specs.Prelude.{All}
 use Rattle.std.proofs.lemmas.List.Elements.{All-nil}
 use Rattle.core_terms.specs.Types.{Ty, UnitTy}
-use Rattle.core_terms.specs.TypeTables.{type_at}
-use Rattle.core_terms.specs.LanguageNames.{AreNamed}
-use Rattle.core_terms.specs.LanguageTrees.{program_of}
-use Rattle.core_terms.specs.LanguageTypes.{types_of_forms}
+use Rattle.core_terms.specs.TypeTables.{type_at, types_of_forms}
+use Rattle.core_terms.specs.TypeNames.{AreNamed}
+use Rattle.core_terms.specs.ProgramTrees.{program_of}
 use Rattle.core_terms.specs.ProgramLimits.{IsFlatType, IsFunctionWithin, IsName, IsWithinLimits, most_constructors, most_fields}
 use Rattle.core_terms.specs.declared.types.TyId.{TyId}
-use Rattle.core_terms.specs.declared.language.types.TyForm.{TyForm}
-use Rattle.core_terms.specs.declared.language.term.Function.{Function}
-use Rattle.core_terms.specs.declared.language.term.NamedType.{NamedType}
+use Rattle.core_terms.specs.declared.types.TyForm.{TyForm}
+use Rattle.core_terms.specs.declared.term.Function.{Function}
+use Rattle.core_terms.specs.declared.term.NamedType.{NamedType}
 
 -- the element with a number
 pub at_number : (ts : List Ty) (i : ℕ) (t : Ty) → slice_get ts i ≡ Some t → slice_index_or ts i UnitTy ≡ t

@@ -1,11 +1,10 @@
 // Bytes that are read into a store and spelled as they were, and the offset of the first fault of the others.
 ghost use Rattle.std.specs.Prelude.{◌<◌, length, IfOk};
-ghost use Rattle.core_terms.specs.LanguagePrograms.{types_in};
+ghost use Rattle.core_terms.specs.Programs.{types_in};
 
 use crate::spelled::of_types;
 use crate::stage::program_of;
-use core_terms::TyId;
-use core_terms::language::{Program, TyForm, TyTable};
+use core_terms::{Program, TyForm, TyId, TyTable};
 use shallow_codec::{UnspellFault, spell, unspell};
 use std::alloc::{AllocError, Global};
 use std::test::Fail;

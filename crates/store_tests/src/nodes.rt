@@ -1,6 +1,5 @@
 // Values that are put, viewed, shared and cut away.
-use core_terms::Digest;
-use core_terms::language::{NamedId, Tag};
+use core_terms::{Digest, NamedId, Tag};
 use std::alloc::AllocError;
 use std::process::Abort;
 use std::test::Fail;

@@ -1,13 +1,12 @@
 // A node of the prover's, spelled by its digest.
 ghost use Rattle.std.specs.Prelude.{◌≡◌, [], true, IfOk};
-ghost use Rattle.core_terms.specs.LanguagePrograms.{meaning, types_in};
-ghost use Rattle.core_terms.specs.LanguageTrees.{is_within};
+ghost use Rattle.core_terms.specs.Programs.{meaning, types_in};
+ghost use Rattle.core_terms.specs.ProgramTrees.{is_within};
 ghost use Rattle.core_terms.specs.ProgramLimits.{IsFlatType};
 ghost use Rattle.core_terms.specs.TypeTables.{type_at};
 ghost use Rattle.core_terms.specs.Types.{AuthTy, Ty};
 
-use core_terms::language::{Program, TyForm, TyTable};
-use core_terms::{Digest, TyId};
+use core_terms::{Digest, Program, TyForm, TyId, TyTable};
 use shallow_codec::spell;
 use std::alloc::{AllocError, Global};
 use std::test::Fail;

@@ -3,8 +3,7 @@ ghost use Rattle.value_store.specs.Markings.{IdealMarking};
 
 use auth_syntax::parser::parse;
 use auth_types::check::check;
-use core_terms::language::{Program, Types};
-use core_terms::{Digest, TyId};
+use core_terms::{Digest, Program, TyId, Types};
 use std::alloc::{AllocError, Global};
 use images::{ImageFault, load_image, save_image};
 use value_store::{Held, Marker, Nodes, Ref, Store};

@@ -1,7 +1,7 @@
 -- What an audit comes to, by a run of the call and what the proof offers.
 use Rattle.std.proofs.Common.{◌≡◌, ℕ, List, [], ◌∷◌, length, map, Option, Some, Result, Ok, Err, slice_index_or, sym, ap, ◌∙◌, subst, lit<}
 use Rattle.core_terms.specs.Formats.{Hash, IsHash, IsFormat}
-use Rattle.core_terms.specs.LanguagePrograms.{meaning}
+use Rattle.core_terms.specs.Programs.{meaning}
 use Rattle.core_terms.specs.Projection.{digest_at, projection}
 use Rattle.core_terms.specs.ProgramTypes.{types_meaning}
 use Rattle.core_terms.specs.Roles.{IsRole, ReadsState, argument_type}
@@ -9,8 +9,8 @@ use Rattle.core_terms.specs.Spelling.{Spells, spelling}
 use Rattle.core_terms.specs.Terms.{Kind, Program, IsTyped, function_at}
 use Rattle.core_terms.specs.Types.{Ty, UnitTy}
 use Rattle.core_terms.specs.Values.{Value, IsIdeal}
-use Rattle.core_terms.specs.declared.language.program.Program.{Program as Coded}
-use Rattle.core_terms.specs.declared.language.program_types.Types.{Types}
+use Rattle.core_terms.specs.declared.program.Program.{Program as Coded}
+use Rattle.core_terms.specs.declared.program_types.Types.{Types}
 use Rattle.core_terms.specs.declared.outcome.Outcome as code_outcome
 use Rattle.core_terms.specs.declared.outcome.Outcome.TheVariants as told
 use Rattle.core_terms.specs.declared.byte_string.ByteString.{ByteString as Spelling}

@@ -13,7 +13,7 @@ use Rattle.core_terms.specs.Spelling.{spelling}
 use Rattle.core_terms.specs.TypeTables.{type_at}
 use Rattle.core_terms.specs.declared.cause.Cause.{Cause}
 use Rattle.core_terms.specs.declared.cause.Cause.TheVariants as cause
-use Rattle.core_terms.specs.declared.language.program_types.Types.{Types}
+use Rattle.core_terms.specs.declared.program_types.Types.{Types}
 use Rattle.ideal_meaning.specs.Checked.{Rejected, cause_of, with_rest}
 use Rattle.ideal_meaning.specs.Frames.{End, NoByte, IsCut, KindIs, LongBy, UseIs, Offer, Offers, offered}
 use Rattle.ideal_meaning.specs.Ideal.{Outcome, Piece, honest_bytes, honest_piece}

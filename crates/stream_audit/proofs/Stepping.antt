@@ -3,8 +3,8 @@ use Rattle.std.proofs.Common.{ℕ, zero, suc, ◌++◌, Bool, true, false, ℤ, 
 use Rattle.core_terms.specs.Types.{Ty, PairTy, NamedTy, TextTy}
 use Rattle.core_terms.specs.Values.{Value, Values, PairV, TextV, ConV, size, depth, int_fits}
 use Rattle.core_terms.specs.Terms.{Expression, UnitE, BoolE, IntE, TextE, LocalE, PairE, FstE, SndE, NotE, LenE, AuthE, UnauthE, ConE, ArithE, CompareE, TextCompareE, CatE, LetE, IfE, MatchE, CallE, Expressions, NoE, AndE, Arms, NoArm, AndArm, Program, function_at}
-use Rattle.core_terms.specs.declared.language.term.Arith.{Arith}
-use Rattle.core_terms.specs.declared.language.term.Arith.TheVariants.{Add, Sub, Mul, Div, Rem}
+use Rattle.core_terms.specs.declared.term.Arith.{Arith}
+use Rattle.core_terms.specs.declared.term.Arith.TheVariants.{Add, Sub, Mul, Div, Rem}
 use Rattle.core_terms.specs.Formats.{depth_limit}
 use Rattle.ideal_meaning.specs.Run.{Mode, Run, Gives, Ends, then_run, exact, divided, arith_of, choose, limited, run, run_all, run_arm, call, bool_in, text_in, state_of, with_fuel}
 

@@ -20,8 +20,7 @@ ghost use Rattle.ring_prover.specs.Seen.{AreSeen};
 
 use crate::audited::{AuditFault, Audited, Collision};
 use crate::offers::{Offered, Offers};
-use core_terms::language::Types;
-use core_terms::{Cause, Hash32, Piece, Spelling, TyId};
+use core_terms::{Cause, Hash32, Piece, Spelling, TyId, Types};
 use lam_outside::Source;
 use ring_prover::Opened;
 use shallow_codec::spell;

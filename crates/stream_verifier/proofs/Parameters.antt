@@ -7,11 +7,11 @@ use Rattle.core_terms.specs.Terms as tree
 use Rattle.core_terms.specs.Values.{Values}
 use Rattle.core_terms.specs.Roles.{ReadsState, argument_type, role_parameters}
 use Rattle.core_terms.specs.Projection.{read_at}
-use Rattle.core_terms.specs.LanguagePrograms.{meaning, types_of}
-use Rattle.core_terms.specs.LanguageTrees.{function_of}
+use Rattle.core_terms.specs.Programs.{meaning, types_of}
+use Rattle.core_terms.specs.ProgramTrees.{function_of}
 use Rattle.core_terms.specs.TypeTables.{type_at}
-use Rattle.core_terms.specs.declared.language.program.Program.{Program}
-use Rattle.core_terms.specs.declared.language.term.Function.{Function}
+use Rattle.core_terms.specs.declared.program.Program.{Program}
+use Rattle.core_terms.specs.declared.term.Function.{Function}
 use Rattle.core_terms.specs.declared.types.TyId.{TyId}
 use Rattle.value_store.specs.Nodes.{Node}
 use Rattle.value_store.specs.Standing.{AllStandFor, VerifierNodes}

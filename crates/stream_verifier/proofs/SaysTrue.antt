@@ -7,8 +7,8 @@ use Rattle.core_terms.specs.Spelling.{spelling}
 use Rattle.core_terms.specs.Terms.{Program, function_at, IsTyped}
 use Rattle.core_terms.specs.Roles.{argument_type}
 use Rattle.core_terms.specs.Projection.{projection, projections, Fits, AllFit}
-use Rattle.core_terms.specs.LanguagePrograms.{meaning}
-use Rattle.core_terms.specs.declared.language.program.Program.{Program as Coded}
+use Rattle.core_terms.specs.Programs.{meaning}
+use Rattle.core_terms.specs.declared.program.Program.{Program as Coded}
 use Rattle.core_terms.specs.declared.outcome.Outcome.{Outcome}
 use Rattle.core_terms.specs.declared.byte_string.ByteString.{ByteString as Spelling}
 use Rattle.core_terms.proofs.LawProofs.{typing_test_is_exact, first_format_is_format}

@@ -1,6 +1,6 @@
 -- What is put and spelled by the types of a program alone is so by the program.
 use Rattle.std.proofs.Common.{◌≡◌, ℕ, List, Result, Ok, Err, subst}
-use Rattle.core_terms.specs.LanguagePrograms.{meaning, types_of}
+use Rattle.core_terms.specs.Programs.{meaning, types_of}
 use Rattle.core_terms.specs.ProgramTypes.{named_table, program_with, types_by_number, types_meaning}
 use Rattle.core_terms.specs.Roles.{argument_type}
 use Rattle.core_terms.specs.Types.{Ty}
@@ -8,9 +8,9 @@ use Rattle.core_terms.specs.TypeTables.{type_at}
 use Rattle.core_terms.specs.declared.types.TyId.{TyId}
 use Rattle.core_terms.specs.declared.byte_string.ByteString.{ByteString as Spelling}
 use Rattle.core_terms.specs.declared.outcome.Outcome.{Outcome}
-use Rattle.core_terms.specs.declared.language.term.Function.{Function}
-use Rattle.core_terms.specs.declared.language.program.Program.{Program}
-use Rattle.core_terms.specs.declared.language.program_types.Types.{Types}
+use Rattle.core_terms.specs.declared.term.Function.{Function}
+use Rattle.core_terms.specs.declared.program.Program.{Program}
+use Rattle.core_terms.specs.declared.program_types.Types.{Types}
 use Rattle.value_store.specs.Nodes.{Node}
 use Rattle.value_store.specs.declared.node.Ref.{Ref}
 use Rattle.stream_verifier.specs.CallParts.{ArePut}

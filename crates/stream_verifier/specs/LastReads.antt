@@ -6,7 +6,7 @@ use Rattle.core_terms.specs.Reading.{Good}
 use Rattle.core_terms.specs.TypeTables.{type_at}
 use Rattle.core_terms.specs.Values.{Value}
 use Rattle.core_terms.specs.declared.types.TyId.{TyId}
-use Rattle.core_terms.specs.declared.language.program_types.Types.{Types}
+use Rattle.core_terms.specs.declared.program_types.Types.{Types}
 use Rattle.value_store.specs.Nodes.{Node}
 use Rattle.value_store.specs.Standing.{Keeps, StandsFor, VerifierNodes}
 use Rattle.value_store.specs.declared.node.Ref.{Ref}

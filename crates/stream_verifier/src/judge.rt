@@ -1,7 +1,7 @@
 // The verdict on a call, from the spellings of its state and its argument and the bytes of a proof.
 ghost use Rattle.std.specs.Prelude.{◌≡◌, ◌<◌, ◌≤◌, ◌^◌, ℕ, List, [], Some, IfOk, length};
 ghost use Rattle.std.specs.Option.{ForSome};
-ghost use Rattle.core_terms.specs.LanguagePrograms.{meaning, types_of};
+ghost use Rattle.core_terms.specs.Programs.{meaning, types_of};
 ghost use Rattle.core_terms.specs.ProgramTypes.{named_table, types_by_number, types_meaning};
 ghost use Rattle.core_terms.specs.Roles.{argument_type};
 ghost use Rattle.core_terms.specs.Terms.{function_at};
@@ -22,8 +22,7 @@ ghost use Rattle.stream_verifier.specs.Verdicts.{Answers, AnswersWithRing, IsTol
 use crate::checked_runs::checked_run;
 use crate::verdict::Verdict;
 use code_gen::Code;
-use core_terms::language::{Program, Types};
-use core_terms::{Cause, FunctionId, Hash32, Outcome, Spelling, TyId};
+use core_terms::{Cause, FunctionId, Hash32, Outcome, Program, Spelling, TyId, Types};
 use lam_outside::Source;
 use proof_stream::FrameReader;
 use reuse_buffer::Ring;

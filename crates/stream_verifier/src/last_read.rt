@@ -1,6 +1,6 @@
 // The piece that was read last.
 ghost use Rattle.std.specs.Prelude.{List, IfSome};
-ghost use Rattle.core_terms.specs.declared.language.program_types.Types.{Types as Typed};
+ghost use Rattle.core_terms.specs.declared.program_types.Types.{Types as Typed};
 ghost use Rattle.value_store.specs.Nodes.{Node};
 ghost use Rattle.stream_verifier.specs.LastReads.{IsRead, KnowsLast};
 

@@ -21,8 +21,7 @@ ghost use Rattle.stream_verifier.specs.Takings.{PieceOpens, behind_piece};
 
 use crate::last_read::{LastRead, value_again};
 use crate::verifier::VerifierFault;
-use core_terms::language::Types;
-use core_terms::{Cause, Digest, TyId};
+use core_terms::{Cause, Digest, TyId, Types};
 use mode_vm::Stop;
 use proof_stream::FrameEnd;
 use shallow_codec::{UnspellFault, unspell};

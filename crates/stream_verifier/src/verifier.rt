@@ -9,8 +9,7 @@ ghost use Rattle.stream_verifier.specs.Takings.{FollowsFrames, MovesOn};
 
 use crate::last_read::{LastRead, note_read};
 use crate::opening::{Asked, held_digest, open_piece, stop_of};
-use core_terms::language::Types;
-use core_terms::{Cause, Hash32, TyId};
+use core_terms::{Cause, Hash32, TyId, Types};
 use lam_outside::Source;
 use mode_vm::{Mode, Stop};
 use proof_stream::{Frame, FrameReader};

@@ -1,14 +1,15 @@
 // Verdicts on calls, over sources that give a few bytes a read, and over sources without an end.
 ghost use Rattle.std.specs.Prelude.{◌<◌, ◌≤◌, ◌^◌, length, IfSome};
-ghost use Rattle.core_terms.specs.LanguagePrograms.{meaning};
+ghost use Rattle.core_terms.specs.Programs.{meaning};
 ghost use Rattle.stream_verifier.specs.Verdicts.{TakesState};
 
 use crate::sources::{Endless, bytes};
 use auth_syntax::parser::parse;
 use auth_types::check::check;
 use code_gen::Code;
-use core_terms::language::{Program, RoleId, RoleKind};
-use core_terms::{Cause, Digest, FunctionId, Hash32, Outcome, Spelling, Trap};
+use core_terms::{
+    Cause, Digest, FunctionId, Hash32, Outcome, Program, RoleId, RoleKind, Spelling, Trap,
+};
 use digest_layer::Sha;
 use lam_outside::{Bytes, MemLink};
 use proof_stream::{put_new, put_use};

@@ -2,7 +2,7 @@
 use Rattle.std.proofs.Common.{◌≡◌, ℕ, List, [], ◌∷◌, drop, Some, Result, Ok, refl, sym, ap, ◌∙◌, subst}
 use Rattle.core_terms.specs.Types.{Ty}
 use Rattle.core_terms.specs.Formats.{Hash}
-use Rattle.core_terms.specs.Values.{Values}
+use Rattle.core_terms.specs.Values.{Values, Value}
 use Rattle.core_terms.specs.Reading.{Good, BadAt}
 use Rattle.core_terms.specs.Projection.{read_at}
 use Rattle.core_terms.specs.Programs.{meaning, types_of}
@@ -21,7 +21,6 @@ use Rattle.verifier_mode.specs.Shallow.{IsReadAs, value_of, values_of}
 use Rattle.verifier_mode.specs.Standing.{CallEndsAs, HasShape, IsSpelledAs, standing}
 use Rattle.core_terms.specs.Roles.{argument_type}
 use Rattle.verifier_mode.specs.Verdicts.{SpellsOutcome}
-use Rattle.core_terms.specs.Values.{Value}
 use Rattle.verifier_mode.specs.declared.reading.Shallow.{Shallow}
 
 -- what is read at a type by its number is read at the type

@@ -5,7 +5,7 @@ use Rattle.std.proofs.lemmas.Int.{to_z-of_z}
 use lib.Signed.{mag}
 use Rattle.core_terms.specs.Values.{Value, Values, IntV}
 use Rattle.core_terms.specs.Terms.{Expression, ArithE}
-use Rattle.core_terms.specs.declared.language.term.Arith.TheVariants.{Add}
+use Rattle.core_terms.specs.declared.term.Arith.TheVariants.{Add}
 use Rattle.core_terms.specs.Terms as tree
 use Rattle.ideal_meaning.specs.Run.{Run, Gives, Mode, exact, run}
 use Rattle.ideal_meaning.specs.Checked.{Cause, Taking}

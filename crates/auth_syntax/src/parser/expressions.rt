@@ -14,8 +14,7 @@ ghost use Rattle.lexemes.specs.Readings.{read_separator};
 
 use crate::parser::{NESTING_LIMIT, lower, name, upper};
 use crate::tree::{Arm, ExpTree, PlacedName, UnaryOperator};
-use core_terms::language::BinaryOperator;
-use core_terms::{Name, Text};
+use core_terms::{BinaryOperator, Name, Text};
 use lexemes::fault::{SyntaxFault, SyntaxKind};
 use lexemes::parser::{Parser, PlacedToken};
 use lexemes::place::Place;

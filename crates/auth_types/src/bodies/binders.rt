@@ -1,6 +1,6 @@
 // The names that patterns bind, and the terms of what binds.
 ghost use Rattle.std.specs.Prelude.{◌≡◌, [], length, map, take, OnOk};
-ghost use Rattle.core_terms.specs.LanguageTrees.{types_at};
+ghost use Rattle.core_terms.specs.ProgramTrees.{types_at};
 ghost use Rattle.auth_syntax.specs.Trees as written;
 ghost use Rattle.auth_types.specs.Bodies.{bound_names};
 ghost use Rattle.declared_types.specs.Findings.{Finds};

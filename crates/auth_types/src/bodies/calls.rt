@@ -1,6 +1,6 @@
 // What calls, constructors and matches name, before their parts are elaborated.
 ghost use Rattle.std.specs.Prelude.{◌≡◌, ◌<◌, [], length, map, slice_get, unwrap_or, IfOk, List, OnOk};
-ghost use Rattle.core_terms.specs.LanguageTrees.{expression_of};
+ghost use Rattle.core_terms.specs.ProgramTrees.{expression_of};
 ghost use Rattle.core_terms.specs.Types.{Ty, fields_at};
 ghost use Rattle.core_terms.specs.TypeTables.{type_at};
 ghost use Rattle.auth_syntax.specs.Trees as written;
@@ -12,8 +12,7 @@ ghost use Rattle.auth_types.specs.Elaborators.{Calls, Constructs, Keeps, Matches
 
 use crate::bodies::elaborator::Elaborator;
 use auth_syntax::tree::Arm;
-use core_terms::language::{Constructor, NamedId, Term, TyForm};
-use core_terms::{FunctionId, Name, TyId};
+use core_terms::{Constructor, FunctionId, Name, NamedId, Term, TyForm, TyId};
 use declared_types::fault::{TypeFault, TypeKind};
 use declared_types::scope::ConstructorId;
 use lexemes::place::Place;

@@ -1,7 +1,7 @@
 // What elaborates bodies: the types so far, what the program declares, and the locals at the place where it stands.
 ghost use Rattle.std.specs.Prelude.{◌≡◌, ◌<◌, ◌≤◌, ◌∷◌, ◌++◌, [], List, true, bytes_eq, drop, length, take, Some, nat_lt, slice_get, unwrap_or, IfOk, IfSome, OnOk};
 ghost use Rattle.std.specs.List.{list_any};
-ghost use Rattle.core_terms.specs.LanguagePrograms.{types_in};
+ghost use Rattle.core_terms.specs.Programs.{types_in};
 ghost use Rattle.core_terms.specs.Types.{Ty};
 ghost use Rattle.auth_types.specs.Bodies.{last_named};
 ghost use Rattle.auth_types.specs.Locals.{AreLocalsWithin, locals_meant};
@@ -9,8 +9,7 @@ ghost use Rattle.declared_types.specs.Scopes.{IsWithin};
 
 use crate::bodies::Typed;
 use auth_syntax::tree::PlacedName;
-use core_terms::language::{Term, TyForm, TyTable};
-use core_terms::{LocalId, Name, Text, TyId};
+use core_terms::{LocalId, Name, Term, Text, TyForm, TyId, TyTable};
 use declared_types::fault::{Limited, TypeFault, TypeKind};
 use declared_types::scope::Scope;
 use lexemes::place::Place;
@@ -62,9 +61,8 @@ pub(super) struct Elaborator<'s, 'a> {
 }
 
 impl<'s, 'a> Elaborator<'s, 'a> {
-    ghost use Rattle.core_terms.specs.LanguageTrees.{expression_of};
-    ghost use Rattle.core_terms.specs.LanguageTypes.{stands_behind, type_of_form};
-    ghost use Rattle.core_terms.specs.TypeTables.{type_at};
+    ghost use Rattle.core_terms.specs.ProgramTrees.{expression_of};
+    ghost use Rattle.core_terms.specs.TypeTables.{stands_behind, type_of_form, type_at};
     ghost use Rattle.core_terms.specs.Texts.{bytes_of};
     ghost use Rattle.core_terms.specs.Terms.{Expression, TextE};
     ghost use Rattle.core_terms.specs.Types.{TextTy, UnitTy};

@@ -1,7 +1,7 @@
 // The functions of a program, with their bodies.
 ghost use Rattle.std.specs.Prelude.{◌≡◌, [], length, map, List, ℕ, All, IfOk, OnOk};
-ghost use Rattle.core_terms.specs.LanguagePrograms.{types_in};
-ghost use Rattle.core_terms.specs.LanguageTrees.{function_of, kind_of, types_at};
+ghost use Rattle.core_terms.specs.Programs.{types_in};
+ghost use Rattle.core_terms.specs.ProgramTrees.{function_of, kind_of, types_at};
 ghost use Rattle.auth_syntax.specs.Trees as written;
 ghost use Rattle.auth_types.specs.Bodies.{checked_function, checked_functions, parameter_locals};
 ghost use Rattle.auth_types.specs.CheckedLaws.{HasGoodLiterals};
@@ -16,8 +16,7 @@ ghost use Rattle.declared_types.specs.Scopes.{AreWithin, IsCounted, IsHeadWithin
 
 use crate::bodies::elaborator::Elaborator;
 use auth_syntax::tree::{FunctionKind, Parameter};
-use core_terms::language::{Function, Kind, Term, TyTable};
-use core_terms::{Name, TyId};
+use core_terms::{Function, Kind, Name, Term, TyId, TyTable};
 use declared_types::fault::TypeFault;
 use declared_types::scope::{Head, Scope};
 use std::alloc::{AllocError, Global};

@@ -13,8 +13,7 @@ ghost use Rattle.declared_types.specs.OverTypes.{FindsOver, Grows, Shows};
 use crate::bodies::Typed;
 use crate::bodies::elaborator::Elaborator;
 use auth_syntax::tree::PlacedName;
-use core_terms::TyId;
-use core_terms::language::{BinaryOperator, Term};
+use core_terms::{BinaryOperator, Term, TyId};
 use declared_types::fault::TypeFault;
 use lexemes::place::Place;
 

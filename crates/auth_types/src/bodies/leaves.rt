@@ -9,7 +9,7 @@ ghost use Rattle.declared_types.specs.OverTypes.{FindsOver};
 use crate::bodies::Typed;
 use crate::bodies::elaborator::Elaborator;
 use auth_syntax::tree::ExpTree;
-use core_terms::language::{Term, TyForm};
+use core_terms::{Term, TyForm};
 use declared_types::fault::TypeFault;
 
 impl<'s, 'a> Elaborator<'s, 'a> {

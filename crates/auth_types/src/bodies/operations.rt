@@ -1,8 +1,7 @@
 // Pairs and operations, once their operands are elaborated.
 ghost use Rattle.std.specs.Prelude.{◌≡◌, ◌<◌, [], ℕ, true, length, List, Some, slice_get, IfOk, OnOk};
-ghost use Rattle.core_terms.specs.LanguageTrees.{expression_of};
-ghost use Rattle.core_terms.specs.LanguageTypes.{stands_behind, type_of_form};
-ghost use Rattle.core_terms.specs.TypeTables.{type_at};
+ghost use Rattle.core_terms.specs.ProgramTrees.{expression_of};
+ghost use Rattle.core_terms.specs.TypeTables.{stands_behind, type_of_form, type_at};
 ghost use Rattle.core_terms.specs.Terms.{Expression};
 ghost use Rattle.core_terms.specs.Types.{Ty};
 ghost use Rattle.auth_syntax.specs.Syntax as syntax;
@@ -16,8 +15,7 @@ ghost use Rattle.auth_types.specs.Elaborators.{Keeps, boxed_of, typed_of, types_
 use crate::bodies::Typed;
 use crate::bodies::elaborator::Elaborator;
 use auth_syntax::tree::UnaryOperator;
-use core_terms::TyId;
-use core_terms::language::{BinaryOperator, Term, TyForm};
+use core_terms::{BinaryOperator, Term, TyForm, TyId};
 use declared_types::fault::{TypeFault, TypeKind};
 use lexemes::place::Place;
 use std::alloc::AllocError;

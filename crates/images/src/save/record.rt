@@ -5,7 +5,7 @@ ghost use Rattle.value_store.specs.Nodes.{refs_in};
 ghost use Rattle.value_store.specs.Views.{form_shown};
 ghost use Rattle.images.specs.FormRecords.{HasShortText, head_of};
 
-use core_terms::language::{NamedId, Tag};
+use core_terms::{NamedId, Tag};
 use std::alloc::{AllocError, Global};
 use value_store::{Held, Ref, View};
 

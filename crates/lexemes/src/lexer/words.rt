@@ -9,7 +9,7 @@ ghost use Rattle.lexemes.specs.TokenViews.{token_view};
 use crate::fault::LexicalFault;
 use crate::lexer::pieces::Piece;
 use crate::token::{Keyword, Token};
-use core_terms::language::{Arith, BinaryOperator, Compare, TextCompare};
+use core_terms::{Arith, BinaryOperator, Compare, TextCompare};
 
 const NAME_LIMIT: usize = 64;
 

@@ -1,5 +1,5 @@
 use Rattle.std.proofs.Common.{Err, sym, subst}
-use Rattle.core_terms.specs.LanguagePrograms.{meaning}
+use Rattle.core_terms.specs.Programs.{meaning}
 use Rattle.core_terms.specs.ProgramTypes.{types_meaning}
 use Rattle.core_terms.specs.Projection.{read_at}
 use Rattle.shallow_codec.specs.ProgramTypes.{table, ty_of}

@@ -1,5 +1,5 @@
 use Rattle.std.proofs.lemmas.Result.{err_from_is_err_and}
-use Rattle.core_terms.specs.LanguagePrograms.{meaning}
+use Rattle.core_terms.specs.Programs.{meaning}
 use Rattle.printed_lines.specs.declared.refusal.Argument.TheVariants.{State}
 use Rattle.auth_cli.specs.Answer.{max_file, with_file, with_state}
 use Rattle.auth_cli.proofs.Steps.{halts_first}

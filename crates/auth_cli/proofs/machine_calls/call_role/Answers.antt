@@ -1,10 +1,10 @@
 use Rattle.std.proofs.Common.{◌≡◌, List, ℕ, Option, None, Result, Err, ap, ◌∙◌, subst}
 use Rattle.std.proofs.lemmas.Result.{err_from_is_err_and}
 use Rattle.lam_outside.specs.Told.{Contents}
-use Rattle.core_terms.specs.LanguagePrograms.{meaning}
+use Rattle.core_terms.specs.Programs.{meaning}
 use Rattle.core_terms.specs.RoleViews.{role_kind_of}
 use Rattle.core_terms.specs.Values.{Value}
-use Rattle.core_terms.specs.declared.language.program.Program.{Program}
+use Rattle.core_terms.specs.declared.program.Program.{Program}
 use Rattle.ideal_meaning.specs.Headline.{call_of}
 use Rattle.code_gen.specs.Programs.{program_in}
 use Rattle.auth_cli.specs.Answer.{Answer, with_ended_call, with_fueled_role, with_image_file, with_passed}

@@ -1,5 +1,5 @@
 use Rattle.std.proofs.Common.{Ok, Err, sym, ap, ◌∙◌}
-use Rattle.core_terms.specs.LanguagePrograms.{meaning, types_of}
+use Rattle.core_terms.specs.Programs.{meaning, types_of}
 use Rattle.core_terms.specs.Projection.{read_at}
 use Rattle.core_terms.specs.TypeTables.{type_at}
 use Rattle.value_store.specs.Stores.{nodes_in}

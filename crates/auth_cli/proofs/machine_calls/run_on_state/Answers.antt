@@ -1,5 +1,5 @@
 use Rattle.std.proofs.Common.{refl, subst}
-use Rattle.core_terms.specs.LanguagePrograms.{meaning}
+use Rattle.core_terms.specs.Programs.{meaning}
 use Rattle.ideal_meaning.specs.Headline.{call_of}
 use Rattle.code_gen.specs.Programs.{program_in}
 use Rattle.value_store.specs.Stores.{nodes_in}

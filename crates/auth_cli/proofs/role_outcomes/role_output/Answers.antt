@@ -1,10 +1,10 @@
 use Rattle.std.proofs.Common.{◌≡◌, Some, Ok, Err, sym, subst}
 use Rattle.sha2.specs.Sha256.{sha256}
-use Rattle.core_terms.specs.LanguagePrograms.{meaning}
+use Rattle.core_terms.specs.Programs.{meaning}
 use Rattle.core_terms.specs.ProgramTypes.{types_meaning}
 use Rattle.core_terms.specs.Projection.{digest_at}
 use Rattle.core_terms.specs.Values.{Value}
-use Rattle.core_terms.specs.declared.language.program_types.Types.{Types}
+use Rattle.core_terms.specs.declared.program_types.Types.{Types}
 use Rattle.ideal_meaning.specs.Ideal.{Done}
 use Rattle.value_store.specs.Stores.{nodes_in}
 use Rattle.value_store.proofs.ProverNodes.{shown_ideal}

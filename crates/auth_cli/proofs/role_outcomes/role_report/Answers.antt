@@ -1,5 +1,5 @@
 use Rattle.std.proofs.Common.{ap, ◌∙◌, subst}
-use Rattle.core_terms.specs.LanguagePrograms.{meaning}
+use Rattle.core_terms.specs.Programs.{meaning}
 use Rattle.mode_vm.specs.IdealRuns.{IsOutcome}
 use Rattle.value_store.specs.Stores.{nodes_in}
 use Rattle.auth_cli.specs.Answer.{outcome_told}

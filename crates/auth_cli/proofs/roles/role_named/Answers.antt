@@ -1,10 +1,10 @@
 use Rattle.std.proofs.Common.{Bor, Err, sym, ap, ◌∙◌, subst, option_map}
-use Rattle.core_terms.specs.LanguagePrograms.{meaning, types_of}
+use Rattle.core_terms.specs.Programs.{meaning, types_of}
 use Rattle.core_terms.specs.RoleViews.{role_kind_of}
 use Rattle.core_terms.specs.Roles.{role_function}
 use Rattle.core_terms.specs.TypeTables.{type_at}
-use Rattle.core_terms.specs.declared.language.roles.RoleId.{RoleId}
-use Rattle.core_terms.specs.declared.language.roles.Role.{Role}
+use Rattle.core_terms.specs.declared.roles.RoleId.{RoleId}
+use Rattle.core_terms.specs.declared.roles.Role.{Role}
 use Rattle.auth_cli.specs.Answer.{with_role}
 use Rattle.auth_cli.specs.Halting.{GoesOnInHand}
 use Rattle.auth_cli.proofs.RoleShapes.{kind_is, role_goes, role_has_shape, role_is_named, role_refused}

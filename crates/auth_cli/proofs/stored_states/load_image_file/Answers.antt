@@ -1,6 +1,6 @@
 use Rattle.std.proofs.Common.{sym, ap, ◌∙◌}
 use Rattle.std.proofs.lemmas.Result.{err_from_is_err_and}
-use Rattle.core_terms.specs.LanguagePrograms.{meaning}
+use Rattle.core_terms.specs.Programs.{meaning}
 use Rattle.printed_lines.specs.declared.refusal.Argument.TheVariants.{Image}
 use Rattle.auth_cli.specs.Answer.{max_file, with_file, with_image}
 use Rattle.auth_cli.specs.ReadPrograms.{language_digested}

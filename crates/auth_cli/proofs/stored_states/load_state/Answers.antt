@@ -1,5 +1,5 @@
 use Rattle.std.proofs.Common.{◌≡◌, sym, ◌∙◌, subst}
-use Rattle.core_terms.specs.LanguagePrograms.{meaning}
+use Rattle.core_terms.specs.Programs.{meaning}
 use Rattle.images.specs.Images.{Image, Refused}
 use Rattle.images.specs.Loads.{TellsFault}
 use Rattle.auth_cli.specs.ReadPrograms.{language_digested}

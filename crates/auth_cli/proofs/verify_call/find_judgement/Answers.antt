@@ -2,7 +2,7 @@ use Rattle.std.proofs.Common.{◌≡◌, ℕ, List, Option, Some, None, refl, ap
 use Rattle.std.proofs.lemmas.Result.{err_from_is_err_and}
 use Rattle.std.specs.Option.{ForSome}
 use Rattle.lam_outside.specs.Told.{Contents, StartsAt}
-use Rattle.core_terms.specs.declared.language.program.Program.{Program}
+use Rattle.core_terms.specs.declared.program.Program.{Program}
 use Rattle.code_gen.specs.Programs.{program_in}
 use Rattle.auth_cli.specs.Answer.{Answer, RoleCall, callee_of, verified_answer, with_bytes, with_fueled_role, with_role_call}
 use Rattle.auth_cli.specs.FueledQueries.{FueledRole}

@@ -1,5 +1,5 @@
 use Rattle.code_gen.specs.Programs.{program_in}
-use Rattle.core_terms.specs.LanguagePrograms.{meaning}
+use Rattle.core_terms.specs.Programs.{meaning}
 use Rattle.core_terms.specs.declared.outcome.Outcome.{Outcome}
 use Rattle.core_terms.specs.declared.byte_string.ByteString.{ByteString as Spelling}
 use Rattle.auth_cli.specs.Answer.{accepted_answer, role_verdict}

@@ -1,5 +1,5 @@
 use Rattle.std.proofs.Common.{subst}
-use Rattle.core_terms.specs.LanguagePrograms.{meaning}
+use Rattle.core_terms.specs.Programs.{meaning}
 use Rattle.stream_verifier.specs.Verdicts.{IsTold, SpellsOutcome}
 use Rattle.auth_cli.specs.RoleCalls.{result_called}
 use Rattle.auth_cli.specs.RolesCalled.{role_of}

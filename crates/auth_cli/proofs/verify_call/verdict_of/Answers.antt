@@ -1,7 +1,7 @@
 use Rattle.std.proofs.Common.{subst}
 use Rattle.sha2.specs.Sha256.{sha256}
 use Rattle.code_gen.specs.Programs.{program_in}
-use Rattle.core_terms.specs.LanguagePrograms.{meaning, types_of}
+use Rattle.core_terms.specs.Programs.{meaning, types_of}
 use Rattle.core_terms.specs.RoleViews.{role_kind_of}
 use Rattle.core_terms.specs.Roles.{argument_type}
 use Rattle.core_terms.specs.TypeTables.{type_at}

@@ -1,7 +1,7 @@
 use Rattle.std.proofs.Common.{◌∙◌, Err, ap, sym, subst}
 use Rattle.std.specs.Prelude.{All}
 use Rattle.std.proofs.lemmas.Result.{err_from_is_err_and}
-use Rattle.core_terms.specs.LanguagePrograms.{meaning, types_in}
+use Rattle.core_terms.specs.Programs.{meaning, types_in}
 use Rattle.auth_syntax.specs.Syntax.{Program}
 use Rattle.auth_syntax.specs.Trees.{program_of}
 use Rattle.declared_types.specs.DeclaredPrograms.{names_of}

@@ -1,5 +1,5 @@
 use Rattle.std.proofs.Common.{◌≡◌, ◌++◌, drop, map}
-use Rattle.core_terms.specs.declared.language.term.Constructor.{Constructor}
+use Rattle.core_terms.specs.declared.term.Constructor.{Constructor}
 use Rattle.declared_types.specs.ScopeNames.{constructor_meant, tagged}
 use Rattle.declared_types.proofs.numbering.add_ids.Given as goal
 

@@ -1,5 +1,5 @@
 use Rattle.std.proofs.Common.{map, take}
-use Rattle.core_terms.specs.LanguagePrograms.{types_in}
+use Rattle.core_terms.specs.Programs.{types_in}
 use Rattle.auth_syntax.specs.Trees.{constructor_of}
 use Rattle.declared_types.specs.Numbering.{AreConstructorsOf}
 use Rattle.declared_types.specs.OverTypes.{Grows}

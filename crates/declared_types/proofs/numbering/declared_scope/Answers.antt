@@ -1,5 +1,5 @@
 use Rattle.std.proofs.Common.{length, map, sym, ap, ◌∙◌, subst}
-use Rattle.core_terms.specs.LanguagePrograms.{type_names, types_in}
+use Rattle.core_terms.specs.Programs.{type_names, types_in}
 use Rattle.auth_syntax.specs.Trees.{declaration_of}
 use Rattle.declared_types.specs.OverTypes.{functions_written}
 use Rattle.declared_types.specs.ScopeNames.{joined, names_in}

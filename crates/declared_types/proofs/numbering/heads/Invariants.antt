@@ -1,6 +1,6 @@
 use Rattle.std.proofs.Common.{take}
 use Rattle.std.specs.List.{AllZip}
-use Rattle.core_terms.specs.LanguagePrograms.{types_in}
+use Rattle.core_terms.specs.Programs.{types_in}
 use Rattle.declared_types.specs.Numbering.{IsHeadOf}
 use Rattle.declared_types.specs.OverTypes.{Grows, functions_written}
 use Rattle.declared_types.specs.ScopeNames.{names_in}

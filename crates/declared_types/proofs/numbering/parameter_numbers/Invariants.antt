@@ -1,5 +1,5 @@
 use Rattle.std.proofs.Common.{map, take}
-use Rattle.core_terms.specs.LanguagePrograms.{types_in}
+use Rattle.core_terms.specs.Programs.{types_in}
 use Rattle.auth_syntax.specs.Syntax.{ParameterSyntax}
 use Rattle.auth_syntax.specs.Trees.{parameter_of}
 use Rattle.declared_types.specs.OverTypes.{AreNumbers, Grows}

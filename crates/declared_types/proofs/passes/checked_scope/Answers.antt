@@ -1,7 +1,7 @@
 use Rattle.std.proofs.Common.{◌≡◌, ◌≢◌, ◌∙◌, ◌<◌, [], List, Err, ap, length, map, sym, subst}
 use Rattle.std.proofs.lemmas.Result.{err_from_is_err_and}
-use Rattle.core_terms.specs.LanguagePrograms.{types_in}
-use Rattle.core_terms.specs.declared.language.types.TyTable.{TyTable}
+use Rattle.core_terms.specs.Programs.{types_in}
+use Rattle.core_terms.specs.declared.types.TyTable.{TyTable}
 use Rattle.auth_syntax.specs.Syntax.{Program}
 use Rattle.auth_syntax.specs.Trees.{declaration_of, program_of, type_of}
 use Rattle.auth_syntax.specs.declared.tree.Declaration.{Declaration}

@@ -1,5 +1,5 @@
-use Rattle.core_terms.specs.LanguagePrograms.{types_in}
-use Rattle.core_terms.specs.LanguageTrees.{table_of}
+use Rattle.core_terms.specs.Programs.{types_in}
+use Rattle.core_terms.specs.ProgramTrees.{table_of}
 use Rattle.core_terms.specs.TypeTables.{type_at}
 use Rattle.declared_types.proofs.RolesOfHeads.{StandsAt}
 use Rattle.declared_types.proofs.roles.third_pass.Given as goal

@@ -2,7 +2,7 @@ use Rattle.core_terms.specs.ProgramTypes.{types_by_number, types_meaning}
 use Rattle.value_store.specs.Stores.{nodes_in}
 use Rattle.images.proofs.Composites.{auth_loaded, auth_none, inner_stands, no_inner}
 use Rattle.images.proofs.StoredNodes.{type_at_number}
-use Rattle.core_terms.specs.declared.language.types.TyForm.TheVariants.{AuthForm}
+use Rattle.core_terms.specs.declared.types.TyForm.TheVariants.{AuthForm}
 use Rattle.images.proofs.TypeNumbers.{numbered}
 use Rattle.images.proofs.entries.authenticated.Goals as goal
 

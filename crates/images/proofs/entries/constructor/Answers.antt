@@ -6,7 +6,7 @@ use Rattle.value_store.specs.Markings.{kind_of}
 use Rattle.value_store.specs.Nodes.{greatest_depth, total_size}
 use Rattle.value_store.specs.Stores.{nodes_in}
 use Rattle.images.proofs.Constructors.{constructor_big, constructor_deep, constructor_loaded, fields_there, lent, no_field, none_found}
-use Rattle.core_terms.specs.declared.language.types.TyForm.TheVariants.{NamedForm}
+use Rattle.core_terms.specs.declared.types.TyForm.TheVariants.{NamedForm}
 use Rattle.images.proofs.TypeNumbers.{numbered}
 use Rattle.images.proofs.entries.constructor.Goals as goal
 

@@ -11,7 +11,7 @@ use Rattle.value_store.specs.Standing.{StandsFor}
 use Rattle.value_store.specs.Stores.{nodes_in}
 use Rattle.images.proofs.Checked.{loaded}
 use Rattle.images.proofs.Seen.{int_seen}
-use Rattle.core_terms.specs.declared.language.types.TyForm.TheVariants.{IntForm}
+use Rattle.core_terms.specs.declared.types.TyForm.TheVariants.{IntForm}
 use Rattle.images.proofs.TypeNumbers.{numbered}
 use Rattle.images.proofs.entries.int.Goals as goal
 

@@ -6,7 +6,7 @@ use Rattle.value_store.specs.Nodes.{depth_at, size_at}
 use Rattle.value_store.specs.Stores.{nodes_in}
 use Rattle.images.proofs.Composites.{no_first, no_second, pair_big, pair_deep, pair_loaded, pair_none}
 use Rattle.images.proofs.StoredNodes.{node_at, type_at_number}
-use Rattle.core_terms.specs.declared.language.types.TyForm.TheVariants.{PairForm}
+use Rattle.core_terms.specs.declared.types.TyForm.TheVariants.{PairForm}
 use Rattle.images.proofs.TypeNumbers.{numbered}
 use Rattle.images.proofs.entries.pair.Goals as goal
 

@@ -7,7 +7,7 @@ use Rattle.value_store.specs.Markings.{kind_of}
 use Rattle.value_store.specs.Stores.{nodes_in}
 use Rattle.images.proofs.Checked.{loaded}
 use Rattle.images.proofs.Seen.{text_seen}
-use Rattle.core_terms.specs.declared.language.types.TyForm.TheVariants.{TextForm}
+use Rattle.core_terms.specs.declared.types.TyForm.TheVariants.{TextForm}
 use Rattle.images.proofs.TypeNumbers.{numbered}
 use Rattle.images.proofs.entries.text.Goals as goal
 

@@ -1,6 +1,6 @@
 use Rattle.std.proofs.Common.{◌≡◌, Some, slice_get, length}
 use Rattle.core_terms.specs.ProgramTypes.{types_by_number}
-use Rattle.core_terms.proofs.LanguageConstructors.{constructor_fields}
+use Rattle.core_terms.proofs.Constructors.{constructor_fields}
 use Rattle.images.proofs.RecordFronts.{found, fields_below}
 use Rattle.images.proofs.record.fields_of.Goals as goal
 

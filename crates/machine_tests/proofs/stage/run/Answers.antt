@@ -1,5 +1,5 @@
 use Rattle.std.proofs.Common.{◌≡◌, ◌∷◌, [], w64, to_z, of_z, subst, rules}
-use Rattle.core_terms.specs.LanguagePrograms.{meaning}
+use Rattle.core_terms.specs.Programs.{meaning}
 use Rattle.core_terms.specs.Terms.{function_at}
 use Rattle.core_terms.specs.Types.{IntTy}
 use Rattle.value_store.specs.Standing.{IdealNodes}

@@ -1,6 +1,6 @@
 use Rattle.std.proofs.Common.{◌+◌, ◌*◌, ◌≡◌, drop}
-use Rattle.core_terms.specs.LanguagePrograms.{types_of}
-use Rattle.core_terms.specs.LanguageTrees.{types_at}
+use Rattle.core_terms.specs.Programs.{types_of}
+use Rattle.core_terms.specs.ProgramTrees.{types_at}
 use Rattle.core_terms.specs.Spelling.{spellings}
 use Rattle.printed_syntax.specs.Literals.{more_fields}
 use Rattle.printed_syntax.specs.LiteralSteps.{literal_on, spelled}

@@ -1,5 +1,5 @@
 use Rattle.std.proofs.Common.{ℕ, List, subst, Err}
-use Rattle.core_terms.specs.LanguagePrograms.{constructor_names, meaning, types_of}
+use Rattle.core_terms.specs.Programs.{constructor_names, meaning, types_of}
 use Rattle.core_terms.specs.TypeTables.{type_at}
 use Rattle.printed_syntax.specs.Literals.{literal_in}
 use Rattle.printed_syntax.specs.LiteralAnswers.{ReadsLiteral}

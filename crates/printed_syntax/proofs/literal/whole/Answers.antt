@@ -1,6 +1,6 @@
 use Rattle.std.proofs.Common.{◌∙◌, ℕ, ap, sym, subst, Err, Result, Vec, Global}
 use Rattle.std.proofs.lemmas.Result.{err_from_is_err_and}
-use Rattle.core_terms.specs.LanguagePrograms.{constructor_names, meaning, types_of}
+use Rattle.core_terms.specs.Programs.{constructor_names, meaning, types_of}
 use Rattle.core_terms.specs.TypeTables.{type_at}
 use Rattle.lexemes.specs.Readings.{SyntaxFault}
 use Rattle.printed_syntax.specs.LiteralSteps.{ReadsWhole}

@@ -1,6 +1,6 @@
 use Rattle.std.proofs.Common.{refl, subst, length, slice_index_or, arith}
 use Rattle.std.proofs.lemmas.Result.{IfOk-weaker}
-use Rattle.core_terms.specs.LanguagePrograms.{types_of}
+use Rattle.core_terms.specs.Programs.{types_of}
 use Rattle.printed_syntax.specs.PrintedParts.{IsPrinted}
 use Rattle.printed_syntax.proofs.PairDepths.{all_pairs, some_pairs, fields_fall}
 use Rattle.printed_syntax.proofs.PrintedFronts.{bool_printed, int_printed, field_more}

@@ -1,8 +1,8 @@
 use Rattle.std.proofs.Common.{◌+◌, ◌*◌, ◌≤◌, ℕ, length, take}
-use Rattle.core_terms.specs.LanguagePrograms.{types_of}
-use Rattle.core_terms.specs.LanguageTrees.{types_at}
+use Rattle.core_terms.specs.Programs.{types_of}
+use Rattle.core_terms.specs.ProgramTrees.{types_at}
 use Rattle.core_terms.specs.TypeTables.{type_at}
-use Rattle.core_terms.specs.declared.language.program.Program.{Program}
+use Rattle.core_terms.specs.declared.program.Program.{Program}
 use Rattle.printed_syntax.specs.PrintedParts.{ArePrinted}
 use Rattle.printed_syntax.proofs.PairDepths.{pairs, all_pairs}
 use Rattle.printed_syntax.proofs.printing.+values.Given as goal

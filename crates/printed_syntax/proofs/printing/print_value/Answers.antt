@@ -1,4 +1,4 @@
-use Rattle.core_terms.specs.LanguagePrograms.{types_of}
+use Rattle.core_terms.specs.Programs.{types_of}
 use Rattle.core_terms.specs.Spelling.{spelling}
 use Rattle.core_terms.specs.TypeTables.{type_at}
 use Rattle.printed_syntax.specs.PrintedParts.{text_in}

@@ -1,5 +1,5 @@
 use Rattle.std.proofs.Common.{◌<◌, length}
-use Rattle.core_terms.specs.LanguagePrograms.{types_in}
+use Rattle.core_terms.specs.Programs.{types_in}
 use Rattle.store_tests.proofs.codec.nested_pairs.Given as goal
 
 -- the type is in the table

@@ -2,7 +2,7 @@ use Rattle.std.proofs.Common.{◌≡◌, ◌∙◌, ap, refl, replicate, subst, 
 use Rattle.core_terms.specs.ProgramTypes.{types_by_number, types_meaning}
 use Rattle.core_terms.specs.TypeTables.{type_at}
 use Rattle.core_terms.specs.Types.{AuthTy, Ty}
-use Rattle.core_terms.specs.declared.language.program_types.Types.{Types}
+use Rattle.core_terms.specs.declared.program_types.Types.{Types}
 use Rattle.core_terms.specs.Values.{DigestV}
 use Rattle.value_store.specs.Standing.{StandsFor, VerifierNodes}
 use Rattle.value_store.specs.Stores.{nodes_in}

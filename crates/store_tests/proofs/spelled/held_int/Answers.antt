@@ -1,9 +1,9 @@
 use Rattle.std.proofs.Common.{◌≡◌, ◌∙◌, Result, Ok, Err, ap, arith, subst, sym}
 use Rattle.std.specs.Prelude.{IfOk}
-use Rattle.core_terms.specs.LanguagePrograms.{meaning, types_in}
+use Rattle.core_terms.specs.Programs.{meaning, types_in}
 use Rattle.core_terms.specs.TypeTables.{type_at}
 use Rattle.core_terms.specs.Types.{AuthTy, Ty}
-use Rattle.core_terms.specs.declared.language.program.Program.{Program}
+use Rattle.core_terms.specs.declared.program.Program.{Program}
 use Rattle.core_terms.specs.ProgramLimits.{IsFlatType}
 use Rattle.store_tests.proofs.EmptyPrograms.{at_number}
 use Rattle.store_tests.proofs.spelled.held_int.Goals as goal

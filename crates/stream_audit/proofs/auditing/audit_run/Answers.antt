@@ -1,7 +1,7 @@
 -- A difference is told, or the outcome with its spelling.
 use Rattle.std.proofs.Common.{◌≡◌, Ok, map, refl, ap, ◌∙◌, subst}
-use Rattle.core_terms.specs.LanguagePrograms.{meaning, types_of}
-use Rattle.core_terms.specs.LanguageTrees.{function_of}
+use Rattle.core_terms.specs.Programs.{meaning, types_of}
+use Rattle.core_terms.specs.ProgramTrees.{function_of}
 use Rattle.core_terms.specs.ProgramTypes.{types_by_number, types_meaning}
 use Rattle.core_terms.specs.Projection.{digest_at}
 use Rattle.core_terms.specs.Terms.{function_at}

@@ -1,7 +1,7 @@
 -- The verdict is that of the run and of what is left behind it.
 use Rattle.std.proofs.Common.{◌≡◌, ◌≢◌, ap, subst, arith}
-use Rattle.core_terms.specs.LanguagePrograms.{meaning, types_of}
-use Rattle.core_terms.specs.LanguageTrees.{function_of}
+use Rattle.core_terms.specs.Programs.{meaning, types_of}
+use Rattle.core_terms.specs.ProgramTrees.{function_of}
 use Rattle.core_terms.specs.Terms.{function_at}
 use Rattle.core_terms.specs.Terms as tree
 use Rattle.core_terms.specs.TypeTables.{type_at}

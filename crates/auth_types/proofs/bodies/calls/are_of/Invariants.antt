@@ -1,5 +1,5 @@
 use Rattle.std.proofs.Common.{◌≡◌, drop, map}
-use Rattle.core_terms.specs.declared.language.term.Constructor.{Constructor}
+use Rattle.core_terms.specs.declared.term.Constructor.{Constructor}
 use Rattle.auth_syntax.specs.Trees.{arm_of, arms_in_a_row}
 use Rattle.auth_types.specs.Bodies.{arm_names, same_names}
 use Rattle.auth_types.proofs.bodies.calls.are_of.Given as goal

@@ -1,9 +1,9 @@
 use Rattle.std.proofs.Common.{◌≡◌, ◌<◌, ◌≤◌, ◌∙◌, Err, List, length, map, slice_index_or, sym, ap, subst}
 use Rattle.std.proofs.lemmas.Result.{err_from_is_err_and}
-use Rattle.core_terms.specs.LanguagePrograms.{types_in}
-use Rattle.core_terms.specs.LanguageTrees.{function_of as term_function}
+use Rattle.core_terms.specs.Programs.{types_in}
+use Rattle.core_terms.specs.ProgramTrees.{function_of as term_function}
 use Rattle.core_terms.specs.Types.{Ty}
-use Rattle.core_terms.specs.declared.language.term.Function.{Function}
+use Rattle.core_terms.specs.declared.term.Function.{Function}
 use Rattle.auth_syntax.specs.Trees.{function_of}
 use Rattle.auth_types.specs.Bodies.{checked_function, checked_functions}
 use Rattle.declared_types.specs.Checking.{Sound}

@@ -1,8 +1,8 @@
 use Rattle.std.proofs.Common.{◌≡◌, ℕ, List, ◌++◌, drop, map, take}
 use Rattle.std.specs.Prelude.{All}
 use Rattle.core_terms.specs.Types.{Ty}
-use Rattle.core_terms.specs.LanguageTrees.{function_of}
-use Rattle.core_terms.specs.declared.language.term.Function.{Function}
+use Rattle.core_terms.specs.ProgramTrees.{function_of}
+use Rattle.core_terms.specs.declared.term.Function.{Function}
 use Rattle.auth_syntax.specs.Syntax.{FunctionSyntax}
 use Rattle.auth_types.specs.Bodies.{checked_functions}
 use Rattle.auth_types.specs.CheckedLaws.{HasGoodLiterals}

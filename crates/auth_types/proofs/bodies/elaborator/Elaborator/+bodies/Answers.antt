@@ -5,9 +5,9 @@ use Rattle.std.proofs.lemmas.Option.{get_or_from_slice_get}
 use Rattle.std.proofs.lemmas.Result.{err_from_is_err_and}
 use Rattle.core_terms.specs.Types.{Ty, UnitTy, BoolTy}
 use Rattle.core_terms.specs.TypeTables.{type_at}
-use Rattle.core_terms.specs.LanguageTrees.{types_at}
+use Rattle.core_terms.specs.ProgramTrees.{types_at}
 use Rattle.core_terms.specs.declared.types.TyId.{TyId}
-use Rattle.core_terms.specs.declared.language.term.Constructor.{Constructor}
+use Rattle.core_terms.specs.declared.term.Constructor.{Constructor}
 use Rattle.auth_syntax.specs.Parsing.{in_a_row}
 use Rattle.lexemes.specs.Places.{start}
 use Rattle.auth_syntax.specs.Syntax.{place_of}

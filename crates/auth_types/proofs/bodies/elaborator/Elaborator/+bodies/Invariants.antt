@@ -2,7 +2,7 @@ use denote.Param.Weighed.{most}
 use Rattle.std.proofs.Common.{◌≡◌, ◌<◌, ◌+◌, ◌*◌, ◌++◌, List, max, map, drop, length}
 use Rattle.std.specs.Prelude.{IfSome}
 use Rattle.core_terms.specs.Types.{Ty}
-use Rattle.core_terms.specs.LanguageTrees.{expression_of as term_of, types_at}
+use Rattle.core_terms.specs.ProgramTrees.{expression_of as term_of, types_at}
 use Rattle.auth_syntax.specs.Parsing.{in_a_row}
 use Rattle.auth_syntax.specs.Trees.{arm_of, arms_in_a_row, expression_of}
 use Rattle.auth_syntax.specs.declared.tree.ExpTree.TheViews.{size-ExpTree, size-Arm}

@@ -1,5 +1,5 @@
 use Rattle.std.proofs.Common.{◌≡◌, List, [], ◌++◌, drop, length, map}
-use Rattle.core_terms.specs.LanguageTrees.{types_at}
+use Rattle.core_terms.specs.ProgramTrees.{types_at}
 use Rattle.auth_syntax.specs.Trees.{name_of}
 use Rattle.auth_types.specs.Bodies.{Local, bound_names}
 use Rattle.auth_types.specs.Elaborators.{locals_of, scope_of, types_of}

@@ -1,5 +1,5 @@
 use Rattle.std.proofs.Common.{◌≡◌, ◌++◌, drop}
-use Rattle.core_terms.specs.LanguageTrees.{types_at}
+use Rattle.core_terms.specs.ProgramTrees.{types_at}
 use Rattle.auth_types.specs.Elaborators.{locals_of, scope_of, types_of}
 use Rattle.auth_types.proofs.FunctionSteps.{entered}
 use Rattle.auth_types.proofs.bodies.elaborator.Elaborator.enter.Given as goal

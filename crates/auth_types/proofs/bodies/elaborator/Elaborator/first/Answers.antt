@@ -1,5 +1,5 @@
 use Rattle.std.proofs.Common.{◌∙◌, ap, sym}
-use Rattle.core_terms.specs.LanguageTypes.{stands_behind, type_of_form}
+use Rattle.core_terms.specs.TypeTables.{stands_behind, type_of_form}
 use Rattle.auth_types.specs.Elaborators.{types_of}
 use Rattle.auth_types.proofs.OperationSteps.{first_refused, first_shows, pair_inside}
 use Rattle.auth_types.proofs.bodies.elaborator.Elaborator.first.Goals as goal

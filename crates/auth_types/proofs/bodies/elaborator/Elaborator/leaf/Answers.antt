@@ -2,7 +2,7 @@ use Rattle.std.proofs.Common.{◌∙◌, ap, rules}
 use Rattle.std.proofs.lemmas.Str.{IsUtf8-from_is_utf8}
 use Rattle.core_terms.specs.Types.{UnitTy, BoolTy}
 use Rattle.core_terms.specs.Terms.{UnitE, BoolE}
-use Rattle.core_terms.specs.declared.language.term.Term as term
+use Rattle.core_terms.specs.declared.term.Term as term
 use Rattle.core_terms.proofs.TermViews as terms
 use Rattle.auth_syntax.specs.Trees.{expression_of}
 use Rattle.auth_types.specs.Elaborators.{found_at, types_of}

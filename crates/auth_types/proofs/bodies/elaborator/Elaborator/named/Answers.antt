@@ -4,7 +4,7 @@ use Rattle.std.proofs.lemmas.Option.{get_or_from_slice_get}
 use Rattle.core_terms.specs.Terms.{CallE, ConE}
 use Rattle.core_terms.specs.Types.{NamedTy, UnitTy}
 use Rattle.core_terms.specs.TypeTables.{type_at}
-use Rattle.core_terms.specs.LanguageTrees.{types_at}
+use Rattle.core_terms.specs.ProgramTrees.{types_at}
 use Rattle.declared_types.specs.Checking.{then_checked}
 use Rattle.declared_types.specs.Scopes.{AreWithin, function_meant}
 use Rattle.declared_types.proofs.ScopeStays.{grows_length, types_stay_at}

@@ -1,5 +1,5 @@
 use Rattle.std.proofs.Common.{refl, ap}
-use Rattle.core_terms.specs.LanguagePrograms.{types_in}
+use Rattle.core_terms.specs.Programs.{types_in}
 use Rattle.auth_types.specs.Elaborators.{locals_of, scope_of}
 use Rattle.auth_types.specs.Locals.{locals_meant}
 use Rattle.auth_types.proofs.bodies.elaborator.Elaborator.new.Goals as goal

@@ -1,6 +1,6 @@
 use Rattle.std.proofs.Common.{◌∙◌, ◌++◌, sym, ap}
-use Rattle.core_terms.specs.LanguageTrees.{expression_of}
-use Rattle.core_terms.specs.LanguageTypes.{type_of_form}
+use Rattle.core_terms.specs.ProgramTrees.{expression_of}
+use Rattle.core_terms.specs.TypeTables.{type_of_form}
 use Rattle.auth_types.specs.Bodies.{typed}
 use Rattle.auth_types.specs.Elaborators.{types_of}
 use Rattle.auth_types.proofs.OperationSteps.{plain_form}
