@@ -1,28 +1,19 @@
 -- The headline with its pair: what is accepted is true, or the audit shows the split.
-use Rattle.std.specs.declared.alloc.AllocError.{AllocError}
-use Rattle.std.proofs.Common.{◌≡◌, ◌⊎◌, inl, inr, ℕ, ◌<◌, List, [], drop, length, Option, Some, None, Result, Ok, Err, refl, sym, ap, ◌∙◌, subst}
+use Rattle.std.proofs.Common.{◌≡◌, ◌⊎◌, inl, inr, ℕ, List, [], drop, Option, Some, None, refl, sym, ap, ◌∙◌, subst}
 use Rattle.core_terms.specs.Types.{Ty}
 use Rattle.core_terms.specs.Formats.{Hash, IsHash}
 use Rattle.core_terms.specs.Projection.{digest_at}
-use Rattle.core_terms.specs.Roles.{argument_type, role_result}
-use Rattle.core_terms.specs.Programs.{meaning}
-use Rattle.core_terms.specs.Terms.{Query, Program, function_at}
-use Rattle.core_terms.specs.declared.program.Program as code
-use Rattle.core_terms.specs.Values.{Value, IsIdeal}
-use Rattle.ideal_meaning.specs.Checked.{Verdict, Accepted, Rejected}
+use Rattle.core_terms.specs.Roles.{role_result}
+use Rattle.core_terms.specs.Terms.{Program}
+use Rattle.core_terms.specs.Values.{Value}
+use Rattle.ideal_meaning.specs.Checked.{Verdict, Accepted}
 use Rattle.ideal_meaning.specs.Frames.{header, offered, offered_pieces}
 use Rattle.ideal_meaning.specs.Headline.{TrueOrSplit, call_of}
 use Rattle.ideal_meaning.specs.Ideal.{Outcome, honest_pieces}
 use Rattle.ideal_meaning.proofs.Headline.{headline}
-use Rattle.ideal_meaning.specs.Told.{cause_told}
-use Rattle.verifier_mode.specs.Verdicts.{SpellsOutcome}
-use Rattle.core_terms.proofs.CodePrograms.{is_format, is_typed, query_role}
-use Rattle.collision_audit.specs.AuditAnswers.{AuditsTruly, TellsAudit, split_told}
 use Rattle.collision_audit.specs.AuditLaws.{AgreementIsTrue, AuditShowsCollision, IsTrueOutcome}
 use Rattle.collision_audit.specs.Audits.{Collides, Judges, audit_of, unless_split, verdict_on_projections}
 use Rattle.collision_audit.specs.Splits.{Split, IsSplit, offered_behind, offered_in, split_of}
-use Rattle.collision_audit.specs.declared.auditing.Audited.{Audited}
-use Rattle.collision_audit.specs.declared.auditing.Audited.TheVariants as audited
 use Rattle.collision_audit.proofs.FirstSplits.{split_is_found, no_split_is_found, splits_somewhere}
 
 -- what a good header offers
@@ -69,28 +60,3 @@ agreement_is_true hash is_hash P format typed f kind t answer role reads state a
 pub collides : (found : Option Split) (v : Verdict) (s : Split) → unless_split found v ≡ Collides s → found ≡ Some s
 collides None v s e = absurd (cc (e))
 collides (Some s') v s e = cc
-
--- the answer of an audit says what is true
-pub audits_truly : (hash : Hash) → IsHash hash → (p : code.Program) (f : ℕ) → f < length (meaning p).functions → (function_at (meaning p) f).kind ≡ Query
-    → (state argument : Value) → IsIdeal (meaning p).types (meaning p).state state → IsIdeal (meaning p).types (argument_type (meaning p) f) argument
-    → (k : ℕ) (proof : List ℕ) (result : Result Audited AllocError)
-    → TellsAudit (meaning p) f (audit_of hash (meaning p) (argument_type (meaning p) f) f state argument k proof) result
-    → AuditsTruly hash (meaning p) f state argument k proof result
-audits_truly hash is_hash p f there query state argument state_ideal argument_ideal k proof (Ok (audited.Agrees told)) (o, agreed, spelled) =
-    let P = meaning p in
-    let t = argument_type P f in
-    let true_outcome = agreement_is_true hash is_hash P (is_format p) (is_typed p) f Query t (function_at P f).result (query_role p f there query) tt state argument state_ideal argument_ideal k proof o agreed in
-    let none = judges (split_of hash P f state argument k proof) (verdict_on_projections hash P t f state argument k proof) (Accepted o) agreed in (
-      subst (λ (o : Outcome). SpellsOutcome P (function_at P f).result o told) true_outcome.1 spelled,
-      true_outcome.0,
-      (no_split_is_found (digest_at hash P) (offered_in P.format proof) (honest_pieces hash P f (call_of state argument) k)).0 none.0,
-    )
-audits_truly hash is_hash p f there query state argument state_ideal argument_ideal k proof (Ok (audited.Collision c)) told =
-    let P = meaning p in
-    let split = collides (split_of hash P f state argument k proof) (verdict_on_projections hash P (argument_type P f) f state argument k proof) (split_told c) told in
-    (split_is_found (digest_at hash P) (offered_in P.format proof) (honest_pieces hash P f (call_of state argument) k) (split_told c)).0 split
-audits_truly hash is_hash p f there query state argument state_ideal argument_ideal k proof (Ok (audited.Rejected cause)) told =
-    let P = meaning p in
-    let none = judges (split_of hash P f state argument k proof) (verdict_on_projections hash P (argument_type P f) f state argument k proof) (Rejected (cause_told cause)) told in
-    (no_split_is_found (digest_at hash P) (offered_in P.format proof) (honest_pieces hash P f (call_of state argument) k)).0 none.0
-audits_truly hash is_hash p f there query state argument state_ideal argument_ideal k proof (Err e) told = tt

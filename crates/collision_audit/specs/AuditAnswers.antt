@@ -1,56 +1,34 @@
--- How the answer of `audit` tells an audit, and what it says of the ideal run.
-use Rattle.std.specs.Prelude.{◌≡◌, ℕ, List, map, Result, Ok, Err, ⊤}
-use Rattle.std.specs.declared.alloc.AllocError.{AllocError}
+-- How the answers of an audit tell what it comes to.
+use Rattle.std.specs.Prelude.{◌≡◌, ℕ, List, [], length, Option, Some, Result, Ok, Err, ⊤}
+use Rattle.lam_outside.specs.Causes.{Rose}
 use Rattle.core_terms.specs.Formats.{Hash}
-use Rattle.core_terms.specs.Programs.{meaning}
 use Rattle.core_terms.specs.Projection.{digest_at}
 use Rattle.core_terms.specs.Terms.{Program, function_at}
 use Rattle.core_terms.specs.Values.{Value}
-use Rattle.core_terms.specs.declared.outcome.Outcome.{Outcome}
-use Rattle.core_terms.specs.declared.program.Program as code
-use Rattle.core_terms.specs.declared.byte_string.ByteString.{ByteString as Spelling}
+use Rattle.core_terms.specs.declared.cause.Cause.TheVariants as cause
 use Rattle.ideal_meaning.specs.Checked as checked
 use Rattle.ideal_meaning.specs.Headline.{call_of}
-use Rattle.ideal_meaning.specs.Ideal as ideal
-use Rattle.ideal_meaning.specs.Ideal.{Piece, bytes_of, honest_piece, honest_pieces}
-use Rattle.plain_meaning.specs.Telling.{opened_in}
-use Rattle.plain_meaning.specs.declared.running.Opened.{Opened}
+use Rattle.ideal_meaning.specs.Ideal.{Outcome, bytes_of, honest_pieces}
 use Rattle.ideal_meaning.specs.Told.{cause_told}
-use Rattle.verifier_mode.specs.Verdicts.{SpellsOutcome}
-use Rattle.verifier_mode.specs.declared.judge.Verdict.{Verdict}
-use Rattle.verifier_mode.specs.declared.judge.Verdict.TheVariants as verdicts
+use Rattle.mode_vm.specs.StateCalls.{SpellsOutcome}
 use Rattle.collision_audit.specs.Audits.{Audit, Collides, Judges}
-use Rattle.collision_audit.specs.Splits.{Split, IsSplit, offered_in}
-use Rattle.collision_audit.specs.declared.auditing.Audited.{Audited}
-use Rattle.collision_audit.specs.declared.auditing.Audited.TheVariants as audited
-use Rattle.collision_audit.specs.declared.collision.Collision.{Collision}
+use Rattle.collision_audit.specs.Splits.{Split, IsSplit, offered_in, rest_behind}
+use Rattle.collision_audit.specs.PieceAudits.{outcome_seen}
+use Rattle.collision_audit.specs.declared.audited.AuditFault.{AuditFault}
+use Rattle.collision_audit.specs.declared.audited.AuditFault.TheVariants.{ReadFault, NoMemory}
+use Rattle.collision_audit.specs.declared.audited.Audited.{Audited}
+use Rattle.collision_audit.specs.declared.audited.Audited.TheVariants.{Agrees, Collision, Rejected}
+use Rattle.collision_audit.specs.declared.audited.Collision.{Collision as Shown}
 
--- the split that a collision of the code tells
-abbrev pub split_told : Collision → Split
+-- the split that a collision of the code shows
+abbrev pub split_told : Shown → Split
 split_told c = record { place = c.place; offered = c.offered; honest = c.honest }
 
--- the honest pieces of what was opened
-abbrev pub honest_of : Hash → code.Program → List Opened → List Piece
-honest_of hash p opened = map (honest_piece hash (meaning p)) (opened_in p opened)
-
--- the verdict is one on the proof: an outcome or its rejection, or memory was wanting
-abbrev pub TellsProof : Result (Outcome Spelling) Verdict → Type 0
-TellsProof (Err (verdicts.BadState offset)) = ⊥
-TellsProof (Err (verdicts.BadArgument offset)) = ⊥
-TellsProof verdict = ⊤
-
--- The answer tells the verdict on a call of function f; where memory was wanting it tells nothing.
-abbrev pub TellsVerdict : Program → ℕ → checked.Verdict → Result Audited AllocError → Type 0
-TellsVerdict P f verdict (Ok (audited.Agrees told)) = (o : ideal.Outcome) × (verdict ≡ checked.Accepted o) × SpellsOutcome P (function_at P f).result o told
-TellsVerdict P f verdict (Ok (audited.Collision c)) = ⊥
-TellsVerdict P f verdict (Ok (audited.Rejected cause)) = verdict ≡ checked.Rejected (cause_told cause)
-TellsVerdict P f verdict (Err e) = ⊤
-
--- The answer tells the audit of a call of function f, with each field; where memory was wanting it tells nothing.
-abbrev pub TellsAudit : Program → ℕ → Audit → Result Audited AllocError → Type 0
-TellsAudit P f audit (Ok (audited.Agrees told)) = (o : ideal.Outcome) × (audit ≡ Judges (checked.Accepted o)) × SpellsOutcome P (function_at P f).result o told
-TellsAudit P f audit (Ok (audited.Collision c)) = audit ≡ Collides (split_told c)
-TellsAudit P f audit (Ok (audited.Rejected cause)) = audit ≡ Judges (checked.Rejected (cause_told cause))
+-- The answer tells the audit of a call of function f, with each field; where the source failed or memory was wanting it tells nothing.
+abbrev pub TellsAudit : Program → ℕ → Audit → Result Audited AuditFault → Type 0
+TellsAudit P f audit (Ok (Agrees told)) = (o : Outcome) × (audit ≡ Judges (checked.Accepted o)) × SpellsOutcome P (function_at P f).result o told
+TellsAudit P f audit (Ok (Collision c)) = audit ≡ Collides (split_told c)
+TellsAudit P f audit (Ok (Rejected cause)) = audit ≡ Judges (checked.Rejected (cause_told cause))
 TellsAudit P f audit (Err e) = ⊤
 
 -- nowhere do the pieces that the proof offers split from the honest ones
@@ -58,15 +36,38 @@ abbrev pub HasNoSplit : Hash → Program → ℕ → (state argument : Value) �
 HasNoSplit hash P f state argument k proof =
     (i : ℕ) → checked.IsSplitAt (digest_at hash P) (offered_in P.format proof) (honest_pieces hash P f (call_of state argument) k) i → ⊥
 
--- The headline of an audit, with the ideal state and argument at hand. An outcome on which it agrees is the projection of the
--- ideal one, and all offered pieces are the honest ones. A collision is where the offered pieces split from the honest ones, and
--- shows the two pieces there. What is rejected has no split.
-abbrev pub AuditsTruly : Hash → Program → ℕ → (state argument : Value) → ℕ → List ℕ → Result Audited AllocError → Type 0
-AuditsTruly hash P f state argument k proof (Ok (audited.Agrees told)) =
-    SpellsOutcome P (function_at P f).result (ideal.outcome_projection hash P (function_at P f).result (ideal.outcome (ideal.ideal P f (call_of state argument) k))) told
+-- The headline of an audit, with the ideal state and argument at hand. An outcome on which it agrees is the projection of the ideal one,
+-- and all offered pieces are the honest ones. A collision is where the offered pieces split from the honest ones, and shows the two
+-- pieces there. What is rejected has no split.
+abbrev pub AuditsTruly : Hash → Program → ℕ → (state argument : Value) → ℕ → List ℕ → Result Audited AuditFault → Type 0
+AuditsTruly hash P f state argument k proof (Ok (Agrees told)) =
+    SpellsOutcome P (function_at P f).result (outcome_seen hash P f state argument k) told
     × (offered_in P.format proof ≡ bytes_of (honest_pieces hash P f (call_of state argument) k))
     × HasNoSplit hash P f state argument k proof
-AuditsTruly hash P f state argument k proof (Ok (audited.Collision c)) =
+AuditsTruly hash P f state argument k proof (Ok (Collision c)) =
     IsSplit (digest_at hash P) (offered_in P.format proof) (honest_pieces hash P f (call_of state argument) k) (split_told c)
-AuditsTruly hash P f state argument k proof (Ok (audited.Rejected cause)) = HasNoSplit hash P f state argument k proof
+AuditsTruly hash P f state argument k proof (Ok (Rejected cause)) = HasNoSplit hash P f state argument k proof
 AuditsTruly hash P f state argument k proof (Err e) = ⊤
+
+-- As many bytes are left of the source as `left` says.
+abbrev pub AreLeft : Option ℕ → Option (List ℕ) → Type 0
+AreLeft left source = (rest : List ℕ) × (source ≡ Some rest) × (left ≡ Some (length rest))
+
+-- What an answer leaves of the source, where `left` tells how many bytes stand behind the frame with the piece of a number: behind the
+-- frame with the first piece that differs nothing was read.
+abbrev pub StopsBehind : (ℕ → Option ℕ) → Option (List ℕ) → Audited → Type 0
+StopsBehind left source (Agrees told) = source ≡ Some []
+StopsBehind left source (Collision c) = AreLeft (left c.place) source
+StopsBehind left source (Rejected (cause.WrongPiece place want found)) = AreLeft (left place) source
+StopsBehind left source (Rejected other) = ⊤
+
+-- the same of the bytes of a proof file
+abbrev pub StopsAtDifference : Program → List ℕ → Option (List ℕ) → Result Audited AuditFault → Type 0
+StopsAtDifference P proof source (Ok answer) = StopsBehind (rest_behind P.format proof) source answer
+StopsAtDifference P proof source (Err e) = ⊤
+
+-- the count of faults rose where the source failed, and there alone
+abbrev pub AuditCause : {T : Type 0} → (before now : ℕ) → Result T AuditFault → Type 0
+AuditCause before now (Ok told) = now ≡ before
+AuditCause before now (Err ReadFault) = Rose before now
+AuditCause before now (Err NoMemory) = now ≡ before

@@ -1,5 +1,8 @@
 pub mod Splits
 pub mod Audits
-pub mod AuditAnswers
 pub mod AuditLaws
 pub mod AuditRows
+pub mod PieceAudits
+pub mod PieceLaws
+pub mod AuditAnswers
+pub mod Comparing

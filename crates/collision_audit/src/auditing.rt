@@ -1,106 +1,95 @@
 // Audits of proofs.
-ghost use Rattle.std.specs.Prelude.{◌≡◌, ◌<◌, ◌≤◌, ◌^◌, ◌∷◌, [], ℕ, length};
-ghost use Rattle.core_terms.specs.Programs.{meaning};
-ghost use Rattle.core_terms.specs.Terms.{function_at};
-ghost use Rattle.core_terms.specs.Terms as tree;
-ghost use Rattle.core_terms.specs.Values.{IsIdeal};
-ghost use Rattle.ideal_meaning.specs.Checked as checked;
-ghost use Rattle.plain_meaning.specs.PlainValues.{AreInHand, plain_of, value_of};
+ghost use Rattle.std.specs.Prelude.{◌≡◌, ◌<◌, ◌≤◌, ◌^◌, List, length};
+ghost use Rattle.std.specs.Option.{ForSome};
+ghost use Rattle.core_terms.specs.Projection.{digest_at};
 ghost use Rattle.core_terms.specs.Roles.{argument_type};
-ghost use Rattle.verifier_mode.specs.Verdicts.{Answers};
-ghost use Rattle.collision_audit.specs.AuditAnswers.{AuditsTruly, TellsAudit, TellsProof, TellsVerdict};
-ghost use Rattle.collision_audit.specs.Audits.{audit_of, verdict_on_projections};
+ghost use Rattle.core_terms.specs.Terms.{function_at};
+ghost use Rattle.core_terms.specs.Values.{Value};
+ghost use Rattle.code_gen.specs.Programs.{program_in};
+ghost use Rattle.ideal_meaning.specs.Ideal as ideal;
+ghost use Rattle.value_store.specs.Standing.{Keeps, ProverNodes};
+ghost use Rattle.mode_vm.specs.IdealRuns.{IsOutcome};
+ghost use Rattle.mode_vm.specs.Meanings.{program_of};
+ghost use Rattle.mode_vm.specs.StateCalls.{IsCalledOn, TakesState};
+ghost use Rattle.prover_mode.specs.Seen.{AreSeen};
+ghost use Rattle.collision_audit.specs.Audits.{audit_of};
+ghost use Rattle.collision_audit.specs.AuditAnswers.{AuditCause, AuditsTruly, StopsAtDifference, TellsAudit};
+ghost use Rattle.collision_audit.specs.PieceAudits.{run_audit};
 
-use crate::collision::{Collision, first_collision};
-use core_terms::{Cause, FunctionId, Hash32, Outcome, Program, Spelling};
-use plain_meaning::{InHand, Plain, ideal_run};
-use prover_mode::project;
-use std::alloc::{AllocError, Global};
-use verifier_mode::{Verdict, verify};
+use crate::audited::{AuditFault, Audited};
+use crate::comparing::compare_file;
+use code_gen::Code;
+use core_terms::{FunctionId, Hash32};
+use lam_outside::Source;
+use prover_mode::{ProverRun, prover_run, spelled_outcome};
+use std::alloc::Global;
+use value_store::{Nodes, Ref};
 
-/// What an audit of a proof comes to.
-#[derive(Drop)]
-pub enum Audited {
-    /// The proof is accepted with this outcome, which is true.
-    Agrees(Outcome<Spelling>),
-    /// The proof offers another piece with the digest of the honest one: a collision of the hash.
-    Collision(Collision),
-    /// The proof is rejected, for this cause.
-    Rejected(Cause),
-}
-
-/// Audits a proof of a call of a query with this much fuel (at most 10^12), on the ideal state and argument.
+/// Audits a proof of a call of a query or an update with this much fuel (at most 10^12), on an ideal state and argument, which stand in
+/// the store over the prover's nodes and so are within the limits. The proof is a proof file, which may ask for as many pieces to be
+/// kept as the program's format allows; it is read as it is needed, and no more of it is held than a piece and the pieces kept.
 ///
-/// `Collision` comes exactly where, at the first place at which the offered pieces and the honest ones differ, both have a piece
-/// and the two have one digest: it has that place and both pieces. Else the answer is the verifier's, who is given the spellings
-/// of the projected state and argument alone. An error says that memory was wanting.
-pub fn audit<'a, H: Hash32>(
+/// `Collision` comes exactly where, at the first place at which the offered pieces and the honest ones differ, both have a piece and the
+/// two have one digest: it has that place and both pieces. Else the answer is that of a verifier who is given the spellings of the
+/// projected state and argument alone: an outcome, which is true, or the cause of a rejection with each of its fields. No frame behind
+/// the first piece that differs is read. `ReadFault` comes where the source failed, and its count of faults rose; `NoMemory` where
+/// memory was wanting. The store keeps what the run made.
+pub fn audit<H: Hash32, S: Source, N: Nodes>(
     alloc: Global,
-    program: &'a Program,
+    code: &Code,
+    store: &mut N,
     role: FunctionId,
-    state: &'a Plain,
-    argument: &'a Plain,
+    state: Ref,
+    argument: Ref,
     fuel: u64,
-    proof: &[u8],
-) -> Result<Audited, AllocError>
-    requires there { role.0 < length (meaning program.now).functions }
-    requires query { (function_at (meaning program.now) role.0).kind ≡ tree.Query }
-    requires state { IsIdeal (meaning program.now).types (meaning program.now).state (plain_of state.now) }
-    requires argument { IsIdeal (meaning program.now).types (argument_type (meaning program.now) role.0) (plain_of argument.now) }
+    proof: &mut S,
+) -> Result<Audited, AuditFault>
+    requires there { role.0 < length (program_of code.now).functions }
+    requires role { TakesState (program_of code.now) role.0 }
+    requires stand { (s : Value) × (a : Value) × IsCalledOn H.hash (program_of code.now) role.0 (N.nodes store.old) state argument s a }
     requires fuel_fits { fuel ≤ 10 ^ 12 }
-    ensures audit { let P = meaning program.now in
-        TellsAudit P role.0 (audit_of H.hash P (argument_type P role.0) role.0 (plain_of state.now) (plain_of argument.now) fuel proof.now) result }
-    ensures headline { AuditsTruly H.hash (meaning program.now) role.0 (plain_of state.now) (plain_of argument.now) fuel proof.now result }
+    ensures audit { (s a : Value) → IsCalledOn H.hash (program_of code.now) role.0 (N.nodes store.old) state argument s a → ForSome (S.left proof.old) (λ bytes.
+        let P = program_of code.now in
+        TellsAudit P role.0 (audit_of H.hash P (argument_type P role.0) role.0 s a fuel bytes) result) }
+    ensures headline { (s a : Value) → IsCalledOn H.hash (program_of code.now) role.0 (N.nodes store.old) state argument s a → ForSome (S.left proof.old) (λ bytes.
+        AuditsTruly H.hash (program_of code.now) role.0 s a fuel bytes result) }
+    ensures stops { ForSome (S.left proof.old) (λ bytes. StopsAtDifference (program_of code.now) bytes (S.left proof.new) result) }
+    ensures faults { AuditCause (S.faults proof.old) (S.faults proof.new) result }
+    ensures rest { S.rest proof.new ≡ S.rest proof.old }
+    ensures keeps { Keeps (N.nodes store.old) (N.nodes store.new) }
+    ensures lent { N.lent store.new ≡ N.lent store.old }
 {
-    let (state, argument) = (state.lent(), argument.lent());
-    let run = ideal_run(alloc, program, role, &[state, argument], fuel)?;
-    match first_collision::<H>(alloc, program, &run.opened, proof)? {
-        Some(collision) => Ok(Audited::Collision(collision)),
-        None => judge::<H>(alloc, program, role, state, argument, fuel, proof),
-    }
+    let run = prover_run::<H, N>(alloc, code, store, role, &[state, argument], fuel)?;
+    audit_run::<H, S, N>(alloc, code, store, role, &run, proof)
 }
 
-/// What the verifier answers, given the spellings of the projected state and argument alone.
-fn judge<H: Hash32>(
+/// Audits a proof by a prover's run of the call.
+fn audit_run<H: Hash32, S: Source, N: Nodes>(
     alloc: Global,
-    program: &Program,
+    code: &Code,
+    store: &N,
     role: FunctionId,
-    state: InHand,
-    argument: InHand,
-    fuel: u64,
-    proof: &[u8],
-) -> Result<Audited, AllocError>
-    requires there { role.0 < length (meaning program.now).functions }
-    requires query { (function_at (meaning program.now) role.0).kind ≡ tree.Query }
-    requires typed { AreInHand (meaning program.now) (function_at (meaning program.now) role.0).parameters (state ∷ argument ∷ []) }
-    requires fuel_fits { fuel ≤ 10 ^ 12 }
-    ensures { let P = meaning program.now in
-        TellsVerdict P role.0 (verdict_on_projections H.hash P (argument_type P role.0) role.0 (value_of state.entry) (value_of argument.entry) fuel proof.now) result }
+    run: &ProverRun,
+    proof: &mut S,
+) -> Result<Audited, AuditFault>
+    requires there { role.0 < length (program_of code.now).functions }
+    requires proved { let P = program_of code.now in
+        (o : ideal.Outcome) × IsOutcome (ProverNodes (digest_at H.hash P)) P.types (N.nodes store.now) (function_at P role.0).result run.now.value o }
+    requires seen { (seen : List ideal.Opened) × AreSeen H.hash (program_in code.now).types (N.nodes store.now) run.now.opened.items seen }
+    ensures tells { let P = program_of code.now in (o : ideal.Outcome) (seen : List ideal.Opened)
+        → IsOutcome (ProverNodes (digest_at H.hash P)) P.types (N.nodes store.now) (function_at P role.0).result run.now.value o
+        → AreSeen H.hash (program_in code.now).types (N.nodes store.now) run.now.opened.items seen
+        → ForSome (S.left proof.old) (λ bytes. TellsAudit P role.0 (run_audit H.hash P role.0 o seen bytes) result) }
+    ensures stops { ForSome (S.left proof.old) (λ bytes. StopsAtDifference (program_of code.now) bytes (S.left proof.new) result) }
+    ensures faults { AuditCause (S.faults proof.old) (S.faults proof.new) result }
+    ensures rest { S.rest proof.new ≡ S.rest proof.old }
 {
-    // of a query: the state and the argument
-    let parameters = &program.function(role).parameters;
-    let state = project::<H>(alloc, program, program.state_type(), state)?;
-    let argument = project::<H>(alloc, program, parameters[1], argument)?;
-    told(verify::<H>(
-        alloc,
-        program,
-        role,
-        state.as_bytes(),
-        argument.as_bytes(),
-        fuel,
-        proof,
-    ))
-}
-
-/// The answer that a verdict on a proof comes to.
-fn told(verdict: Result<Outcome<Spelling>, Verdict>) -> Result<Audited, AllocError>
-    requires { TellsProof verdict }
-    ensures { (P : tree.Program) (f : ℕ) (meant : checked.Verdict) → Answers P f meant verdict → TellsVerdict P f meant result }
-{
-    match verdict {
-        Ok(outcome) => Ok(Audited::Agrees(outcome)),
-        Err(Verdict::Rejected(cause)) => Ok(Audited::Rejected(cause)),
-        Err(Verdict::NoMemory) => Err(AllocError),
-        Err(Verdict::BadState(_) | Verdict::BadArgument(_)) => unreachable!(),
+    match compare_file::<H, S, N>(alloc, code.types(), store, &run.opened, proof)? {
+        Some(answer) => Ok(answer),
+        None => {
+            let ty = code.program().function(role).result;
+            let outcome = spelled_outcome::<H, N>(alloc, code.types(), store, run.value, ty)?;
+            Ok(Audited::Agrees(outcome))
+        }
     }
 }

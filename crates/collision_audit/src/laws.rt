@@ -1,5 +1,6 @@
 //! Laws over the definitions of an audit, each the contract of a function that does nothing.
 ghost use Rattle.collision_audit.specs.AuditLaws.{AgreementIsTrue, AuditShowsCollision, EndsWithItsFrame, EndsWithTheDifference, NoSplitIsFound, SplitIsFound, VerdictIsOnProof};
+ghost use Rattle.collision_audit.specs.PieceLaws.{AuditIsByPieces};
 
 /// The headline with its pair. What a verifier accepts is true, or the audit of the same call shows the first offered piece that
 /// differs from the honest one and has its digest. And what an audit agrees on is true.
@@ -24,4 +25,9 @@ pub fn front()
 /// Of a state and an argument within the limits an audit comes to no verdict: it is one on the proof.
 pub fn verdicts()
     ensures { VerdictIsOnProof }
+{}
+
+/// An audit, which is defined by the verdict of a verifier, is one piece by piece: no verifier needs to run.
+pub fn by_pieces()
+    ensures { AuditIsByPieces }
 {}

@@ -37,3 +37,6 @@ pub mod IdealOpenings
 pub mod IdealOutcomes
 -- the law `growing`
 pub mod Growing
+-- calls on a state and an argument, for the modes
+pub mod StateCalls
+pub mod StateRoles

@@ -1,38 +1,45 @@
--- The proof of a query is accepted, by the headline's companion.
-use Rattle.std.proofs.Common.{◌≡◌, ℕ, ◌<◌, [], length, lit≤, subst, sym}
+-- The proof file of a call is accepted, by the headline's companion.
+use Rattle.std.proofs.Common.{◌≡◌, ℕ, ◌≤◌, List, sym, subst}
 use Rattle.core_terms.specs.Formats.{Hash, IsHash}
-use Rattle.core_terms.specs.Terms as tree
-use Rattle.core_terms.specs.Terms.{function_at}
-use Rattle.core_terms.specs.Values.{IsIdeal}
 use Rattle.core_terms.specs.Programs.{meaning}
-use Rattle.core_terms.specs.declared.program.Program.{Program}
-use Rattle.ideal_meaning.specs.Frames.{frame_bytes, honest_frames}
+use Rattle.core_terms.specs.Projection.{projection}
+use Rattle.core_terms.specs.Roles.{role_result}
+use Rattle.core_terms.specs.Spelling.{spelling}
+use Rattle.core_terms.specs.Terms.{Program, function_at}
+use Rattle.core_terms.specs.Types.{Ty}
+use Rattle.core_terms.specs.Values.{Value}
+use Rattle.core_terms.specs.declared.program.Program.{Program as Coded}
+use Rattle.ideal_meaning.specs.Checked.{Accepted, verdict}
+use Rattle.ideal_meaning.specs.Frames.{proof_file}
 use Rattle.ideal_meaning.specs.Headline.{call_of}
-use Rattle.ideal_meaning.specs.Ideal.{bytes_of, honest_pieces}
+use Rattle.ideal_meaning.specs.Ideal.{bytes_of, honest_pieces, ideal, outcome, outcome_projection}
 use Rattle.ideal_meaning.proofs.Companion.{companion}
-use Rattle.plain_meaning.specs.PlainValues.{plain_of}
-use Rattle.plain_meaning.specs.declared.values.Plain.{Plain}
-use Rattle.core_terms.proofs.CodePrograms.{is_typed, is_format, query_role}
-use Rattle.plain_meaning.proofs.Within.{plain_is_within}
-use Rattle.core_terms.specs.Roles.{argument_type}
-use Rattle.prover_mode.specs.Proofs.{IsAccepted}
-use Rattle.prover_mode.specs.declared.proving.Proved.{Proved}
+use Rattle.ideal_meaning.proofs.RoleCalls.{result_is}
+use Rattle.value_store.specs.Nodes.{AreSound, Node}
+use Rattle.value_store.specs.declared.node.Ref.{Ref}
+use Rattle.mode_vm.specs.StateCalls.{IsCalledOn, TakesState}
+use Rattle.mode_vm.proofs.StateCalls.{argument_fits, argument_ideal, argument_is, is_format, is_typed, state_deep, state_fits, state_ideal}
+use Rattle.prover_mode.specs.Calls.{IsAccepted}
 
--- the file of the honest frames is accepted
-on_honest : (hash : Hash) → IsHash hash → (p : Program) (f : ℕ) (state argument : Plain) (k : ℕ) → f < length (meaning p).functions → (function_at (meaning p) f).kind ≡ tree.Query
-    → IsIdeal (meaning p).types (meaning p).state (plain_of state) → IsIdeal (meaning p).types (argument_type (meaning p) f) (plain_of argument)
-    → IsAccepted hash (meaning p) f (plain_of state) (plain_of argument) k (frame_bytes (honest_frames 0 [] (bytes_of (honest_pieces hash (meaning p) f (call_of (plain_of state) (plain_of argument)) k))))
-on_honest hash is_hash p f state argument k h q state_ideal argument_ideal =
-    let P = meaning p in
-    let t = argument_type P f in
-    let state_within = plain_is_within p P.state state state_ideal in
-    companion hash is_hash P (is_format p) (is_typed p) f tree.Query t (function_at P f).result (query_role p f h q) tt (plain_of state) (plain_of argument) state_ideal argument_ideal
-    state_within.0 (plain_is_within p t argument argument_ideal).0 state_within.1 k 0 (lit≤ tt)
+module _ (hash : Hash) (is_hash : IsHash hash) (p : Coded) (f : ℕ) (takes : TakesState (meaning p) f) (nodes : List Node) (sound : AreSound nodes) (state argument : Ref) (s a : Value)
+    (call : IsCalledOn hash (meaning p) f nodes state argument s a) (k n : ℕ) (fits : n ≤ (meaning p).format.most_kept) where
+  abbrev P : Program
+  P = meaning p
 
--- so is that of frames which are the honest ones
-pub accepted : (hash : Hash) → IsHash hash → (p : Program) (f : ℕ) (state argument : Plain) (k : ℕ) → f < length (meaning p).functions → (function_at (meaning p) f).kind ≡ tree.Query
-    → IsIdeal (meaning p).types (meaning p).state (plain_of state) → IsIdeal (meaning p).types (argument_type (meaning p) f) (plain_of argument)
-    → (proved : Proved) → proved.frames.items ≡ frame_bytes (honest_frames 0 [] (bytes_of (honest_pieces hash (meaning p) f (call_of (plain_of state) (plain_of argument)) k)))
-    → IsAccepted hash (meaning p) f (plain_of state) (plain_of argument) k proved.frames.items
-accepted hash is_hash p f state argument k h q state_ideal argument_ideal proved is =
-    subst (IsAccepted hash (meaning p) f (plain_of state) (plain_of argument) k) (sym is) (on_honest hash is_hash p f state argument k h q state_ideal argument_ideal)
+  abbrev file : List ℕ
+  file = proof_file P.format n (bytes_of (honest_pieces hash P f (call_of s a) k))
+
+  -- by the argument's type and by that of the result
+  abbrev Accepts : (t z : Ty) → Type 0
+  Accepts t z =
+      verdict hash P t f (spelling (projection hash P P.state s)) (spelling (projection hash P t a)) k file ≡ Accepted (outcome_projection hash P z (outcome (ideal P f (call_of s a) k)))
+
+  accepts : Accepts takes.1 (role_result takes.0 P.state takes.2)
+  accepts =
+      companion hash is_hash P (is_format p) (is_typed p) f takes.0 takes.1 takes.2 takes.3 takes.4 s a (state_ideal P f takes hash nodes state argument s a call)
+      (argument_ideal P f takes hash nodes state argument s a call) (state_fits hash p f takes nodes sound state argument s a call)
+      (argument_fits hash p f takes nodes sound state argument s a call) (state_deep hash p f takes nodes sound state argument s a call) k n fits
+
+  pub file_accepted : IsAccepted hash P f s a k file
+  file_accepted =
+      subst (λ t. Accepts t (function_at P f).result) (sym (argument_is P f takes)) (subst (λ z. Accepts takes.1 z) (sym (result_is P f takes.0 takes.1 takes.2 takes.3)) accepts)

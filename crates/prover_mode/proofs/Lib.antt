@@ -1,8 +1,12 @@
--- Which functions the files serve. project:
-pub mod Layers
--- frames_of
-pub mod NewFrames
--- prove: its call, its proof's acceptance, its outcome
-pub mod QueryCalls
+-- unauth, prover_run: what was opened, and what a run comes to
+pub mod Running
+-- FrameWriter's put: the frames of one piece more
+pub mod Writing
+-- write_frames: the honest piece of one opened value more
+pub mod Pieces
+-- spelled_outcome: the outcome with the spelling of its value
+pub mod SpelledOutcomes
+-- prove_file: that the file is accepted
 pub mod Accepted
-pub mod Outcomes
+-- prove, prove_file: the parts of a call by the types of the code's program, and a ring before its first piece
+pub mod CallParts

@@ -1,1 +1,5 @@
-pub mod Proofs
+pub mod Seen
+pub mod Counts
+pub mod Written
+pub mod Calls
+pub mod Told

@@ -1,12 +1,21 @@
-//! The prover: a query is run on the ideal state and argument, and the proof of its outcome is written.
+//! The prover: the machine runs a call on the prover's nodes, and each opening notes what is opened. What was opened is then written
+//! as the frames of a proof, over a ring of the pieces that came before.
 //!
-//! [`project`] spells the projection of a value, in which a digest stands for what is authenticated; [`prove`] runs a query
-//! and gives its outcome in projection and the frames of its honest pieces; [`proof_file`] makes a file of them, which the
-//! verdict of the crate `ideal_meaning` accepts with this outcome.
+//! [`prove`] gives the frames of one proof among others that follow one another, [`prove_file`] a proof file. [`prover_run`] is the run
+//! alone, and [`spelled_outcome`] spells what it comes to.
 #![tactic(auto)]
 
-mod projection;
+mod frames;
+mod opened;
+mod proof_files;
+mod prover;
+mod prover_runs;
 mod proving;
+mod spelling;
 
-pub use projection::project;
-pub use proving::{Proved, proof_file, prove};
+pub use opened::Opened;
+pub use proof_files::prove_file;
+pub use prover::Prover;
+pub use prover_runs::{ProverRun, prover_run};
+pub use proving::{Proved, prove};
+pub use spelling::spelled_outcome;

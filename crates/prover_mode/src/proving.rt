@@ -1,152 +1,89 @@
-// Proofs of queries.
-ghost use Rattle.std.specs.Prelude.{◌≡◌, ◌<◌, ◌++◌, ◌∷◌, ◌^◌, [], length, map, IfOk, OnOk};
-ghost use Rattle.std.specs.Int.{w32, to_be_bytes};
-ghost use Rattle.core_terms.specs.Programs.{meaning, types_of};
+// Proofs of calls.
+ghost use Rattle.std.specs.Prelude.{◌≡◌, ◌<◌, ◌≤◌, ◌^◌, ℕ, List, IfOk, length};
+ghost use Rattle.core_terms.specs.Projection.{digest_at};
 ghost use Rattle.core_terms.specs.Terms.{function_at};
-ghost use Rattle.core_terms.specs.Terms as tree;
-ghost use Rattle.core_terms.specs.TypeTables.{type_at};
-ghost use Rattle.core_terms.specs.Values.{IsIdeal};
-ghost use Rattle.ideal_meaning.specs.Frames.{frame_bytes, honest_frames};
+ghost use Rattle.core_terms.specs.Values.{Value};
 ghost use Rattle.ideal_meaning.specs.Headline.{call_of};
-ghost use Rattle.ideal_meaning.specs.Ideal.{bytes_of, honest_bytes, honest_pieces, ideal, outcome, outcome_projection};
-ghost use Rattle.plain_meaning.specs.PlainValues.{plain_of};
-ghost use Rattle.plain_meaning.specs.Telling.{AreOpened, HasShape, opened_in, outcome_of};
-ghost use Rattle.core_terms.specs.Roles.{argument_type};
-ghost use Rattle.prover_mode.specs.Proofs.{IsAccepted, IsOutcomeOf, HasSpelling, file_of};
+ghost use Rattle.ideal_meaning.specs.Ideal as ideal;
+ghost use Rattle.value_store.specs.Standing.{Keeps, ProverNodes};
+ghost use Rattle.mode_vm.specs.IdealRuns.{IsOutcome};
+ghost use Rattle.mode_vm.specs.Meanings.{program_of};
+ghost use Rattle.reuse_buffer.specs.Kept.{kept};
+ghost use Rattle.mode_vm.specs.StateCalls.{IsCalledOn, SpellsOutcome, TakesState};
+ghost use Rattle.prover_mode.specs.Calls.{run_frames};
+ghost use Rattle.prover_mode.specs.Told.{TellsFrames};
 
-use crate::projection::project;
-use core_terms::{FunctionId, Hash32, Outcome, Program, Spelling, TyId};
-use plain_meaning::{IdealRun, InHand, Opened, Plain, ideal_run};
+use crate::frames::{FrameWriter, write_frames};
+use crate::prover_runs::{ProverRun, prover_run};
+use crate::spelling::spelled_outcome;
+use code_gen::Code;
+use core_terms::{FunctionId, Hash32, Outcome, Spelling};
+use reuse_buffer::Ring;
 use std::alloc::{AllocError, Global};
-
-/// The first byte of a frame with a piece of its own.
-const NEW: u8 = 0;
+use value_store::{Nodes, Ref};
 
 /// The proof of a call.
 #[derive(Drop)]
 pub struct Proved {
-    /// How the call ends: its value in projection, spelled.
+    /// How the call ended, with the node of its value.
+    pub value: Outcome<Ref>,
+    /// The same, with the spelling of the value's projection: what a verifier of the proof comes to.
     pub outcome: Outcome<Spelling>,
-    /// The frames of the proof, one for each piece.
+    /// The frames of the proof.
     pub frames: Vec<u8>,
     /// The number of frames with a piece of their own.
     pub fresh: u64,
-    /// The number of frames that name a piece again: none, since no piece is kept.
+    /// The number of frames that name a kept piece.
     pub again: u64,
 }
 
-/// Proves a call of a query with this much fuel, on a state and an argument.
+/// Proves a call of a query or an update with this much fuel (at most 10^12), on a state and an argument that stand among the prover's
+/// nodes, with a ring that holds the last of the new pieces that came before. It gives the ring back, which holds the last of them and
+/// of the new pieces of this proof.
 ///
-/// The frames are those of the honest pieces, the projections of what the ideal run opens, where no piece is kept. The file of
-/// these frames is accepted with this outcome by whoever holds the spellings of the projected state and argument. An error
-/// says that memory was wanting.
-pub fn prove<'a, H: Hash32>(
+/// The frames have no header. A run that ends without a value is proved too. What a verifier makes of honest frames is said by the laws
+/// of `ideal_meaning`. Where memory is wanting the ring is dropped.
+pub fn prove<H: Hash32, N: Nodes>(
     alloc: Global,
-    program: &'a Program,
+    code: &Code,
+    store: &mut N,
     role: FunctionId,
-    state: &'a Plain,
-    argument: &'a Plain,
+    state: Ref,
+    argument: Ref,
     fuel: u64,
-) -> Result<Proved, AllocError>
-    requires there { role.0 < length (meaning program.now).functions }
-    requires query { (function_at (meaning program.now) role.0).kind ≡ tree.Query }
-    requires state { IsIdeal (meaning program.now).types (meaning program.now).state (plain_of state.now) }
-    requires argument { IsIdeal (meaning program.now).types (argument_type (meaning program.now) role.0) (plain_of argument.now) }
-    ensures outcome { let P = meaning program.now in let run = ideal P role.0 (call_of (plain_of state.now) (plain_of argument.now)) fuel in
-        IfOk result (λ proved. HasSpelling (outcome_projection H.hash P (function_at P role.0).result (outcome run)) proved.outcome) }
-    ensures ideal { let P = meaning program.now in let run = ideal P role.0 (call_of (plain_of state.now) (plain_of argument.now)) fuel in
-        IfOk result (λ _. IsOutcomeOf P (function_at P role.0).result (outcome run)) }
-    ensures frames { let pieces = bytes_of (honest_pieces H.hash (meaning program.now) role.0 (call_of (plain_of state.now) (plain_of argument.now)) fuel) in
-        IfOk result (λ proved. proved.frames.items ≡ frame_bytes (honest_frames 0 [] pieces)) }
-    ensures fresh { let pieces = honest_pieces H.hash (meaning program.now) role.0 (call_of (plain_of state.now) (plain_of argument.now)) fuel in
-        IfOk result (λ proved. proved.fresh ≡ length pieces) }
-    ensures again { IfOk result (λ proved. proved.again ≡ 0) }
-    ensures accepted { IfOk result (λ proved. IsAccepted H.hash (meaning program.now) role.0 (plain_of state.now) (plain_of argument.now) fuel proved.frames.items) }
+    ring: Ring,
+) -> Result<(Proved, Ring), AllocError>
+    requires there { role.0 < length (program_of code.now).functions }
+    requires role { TakesState (program_of code.now) role.0 }
+    requires called { (s : Value) × (a : Value) × IsCalledOn H.hash (program_of code.now) role.0 (N.nodes store.old) state argument s a }
+    requires fuel_fits { fuel ≤ 10 ^ 12 }
+    ensures value { let P = program_of code.now in IfOk result (λ told. (s a : Value) → IsCalledOn H.hash P role.0 (N.nodes store.old) state argument s a
+        → IsOutcome (ProverNodes (digest_at H.hash P)) P.types (N.nodes store.new) (function_at P role.0).result told.0.value (ideal.outcome (ideal.ideal P role.0 (call_of s a) fuel))) }
+    ensures outcome { let P = program_of code.now in IfOk result (λ told. (s a : Value) → IsCalledOn H.hash P role.0 (N.nodes store.old) state argument s a
+        → SpellsOutcome P (function_at P role.0).result (ideal.outcome_projection H.hash P (function_at P role.0).result (ideal.outcome (ideal.ideal P role.0 (call_of s a) fuel))) told.0.outcome) }
+    ensures frames { let P = program_of code.now in IfOk result (λ told. (s a : Value) (recent : List (List ℕ))
+        → IsCalledOn H.hash P role.0 (N.nodes store.old) state argument s a → ring ≡ kept ring.size recent
+        → TellsFrames (run_frames H.hash P role.0 (call_of s a) fuel ring.size recent) ring.size recent told.0 told.1) }
+    ensures keeps { Keeps (N.nodes store.old) (N.nodes store.new) }
+    ensures lent { N.lent store.new ≡ N.lent store.old }
 {
-    let arguments = [state.lent(), argument.lent()];
-    let run = ideal_run(alloc, program, role, &arguments, fuel)?;
-    written::<H>(alloc, program, program.function(role).result, &run)
-}
-
-/// The proof of a run whose result has this type.
-fn written<H: Hash32>(
-    alloc: Global,
-    program: &Program,
-    ty: TyId,
-    run: &IdealRun,
-) -> Result<Proved, AllocError>
-    requires outcome { HasShape (meaning program.now) (type_at (types_of program.now) ty) run.now.outcome }
-    requires opened { AreOpened program.now run.now.opened.items }
-    ensures outcome { IfOk result (λ proved. HasSpelling (outcome_projection H.hash (meaning program.now) (type_at (types_of program.now) ty) (outcome_of run.now.outcome)) proved.outcome) }
-    ensures frames { IfOk result (λ proved. proved.frames.items ≡ frame_bytes (honest_frames 0 [] (map (honest_bytes H.hash (meaning program.now)) (opened_in program.now run.now.opened.items)))) }
-    ensures fresh { IfOk result (λ proved. proved.fresh ≡ length (opened_in program.now run.now.opened.items)) }
-    ensures again { IfOk result (λ proved. proved.again ≡ 0) }
-{
-    Ok(Proved {
-        outcome: projected::<H>(alloc, program, ty, run.outcome)?,
-        frames: frames_of::<H>(alloc, program, &run.opened)?,
-        fresh: run.opened.len() as u64,
-        again: 0,
-    })
-}
-
-/// The projection of an outcome whose value has this type, spelled.
-fn projected<H: Hash32>(
-    alloc: Global,
-    program: &Program,
-    ty: TyId,
-    outcome: Outcome<InHand>,
-) -> Result<Outcome<Spelling>, AllocError>
-    requires { HasShape (meaning program.now) (type_at (types_of program.now) ty) outcome }
-    ensures { IfOk result (HasSpelling (outcome_projection H.hash (meaning program.now) (type_at (types_of program.now) ty) (outcome_of outcome.entry))) }
-{
-    Ok(match outcome {
-        Outcome::Done(value) => Outcome::Done(project::<H>(alloc, program, ty, value)?),
-        Outcome::Trapped(trap) => Outcome::Trapped(trap),
-        Outcome::Out => Outcome::Out,
-    })
-}
-
-/// The frames of the honest pieces of what was opened.
-fn frames_of<H: Hash32>(
-    alloc: Global,
-    program: &Program,
-    opened: &[Opened],
-) -> Result<Vec<u8>, AllocError>
-    requires { AreOpened program.now opened.now }
-    ensures { IfOk result (λ frames. frames.items ≡ frame_bytes (honest_frames 0 [] (map (honest_bytes H.hash (meaning program.now)) (opened_in program.now opened.now)))) }
-{
-    let mut frames = Vec::new(alloc);
-    for one in opened {
-        let piece = project::<H>(alloc, program, one.ty, one.value)?;
-        add_piece(&mut frames, piece.as_bytes())?;
-    }
-    Ok(frames)
-}
-
-/// Adds a frame with a piece of its own: a byte, the length in 4 bytes and the piece.
-fn add_piece(frames: &mut Vec<u8>, piece: &[u8]) -> Result<(), AllocError>
-    requires { length piece.now < 2 ^ 32 }
-    ensures { OnOk result (frames.new.items ≡ frames.old.items ++ (0 ∷ (to_be_bytes w32 (length piece.now) ++ piece.now))) }
-{
-    frames.push(NEW)?;
-    frames.extend_from_slice(&(piece.len() as u32).to_be_bytes())?;
-    frames.extend_from_slice(piece)?;
-    Ok(())
-}
-
-/// The proof file of these frames: the format's magic, the ring size in 2 bytes and the frames. An error says that memory
-/// was wanting.
-pub fn proof_file(
-    alloc: Global,
-    program: &Program,
-    ring_size: u16,
-    frames: &[u8],
-) -> Result<Vec<u8>, AllocError>
-    ensures { IfOk result (λ file. file.items ≡ file_of (meaning program.now).format ring_size frames.now) }
-{
-    let mut file = program.proof_magic().to_vec(alloc)?;
-    file.extend_from_slice(&ring_size.to_be_bytes())?;
-    file.extend_from_slice(frames)?;
-    Ok(file)
+    let run = prover_run::<H, N>(alloc, code, store, role, &[state, argument], fuel)?;
+    let ProverRun { value, opened } = run;
+    let ty = code.program().function(role).result;
+    let outcome = spelled_outcome::<H, N>(alloc, code.types(), store, value, ty)?;
+    let written = write_frames::<H, N>(alloc, code.types(), store, &opened, ring)?;
+    let FrameWriter {
+        ring,
+        bytes,
+        fresh,
+        again,
+    } = written;
+    let proved = Proved {
+        value,
+        outcome,
+        frames: bytes,
+        fresh,
+        again,
+    };
+    Ok((proved, ring))
 }

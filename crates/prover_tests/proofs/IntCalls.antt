@@ -9,7 +9,7 @@ use Rattle.core_terms.specs.Values.{IntV}
 use Rattle.value_store.specs.Nodes.{Node}
 use Rattle.value_store.specs.Standing.{ProverNodes, StandsFor}
 use Rattle.value_store.specs.declared.node.Ref.{Ref}
-use Rattle.ring_prover.specs.Calls.{IsCalledOn}
+use Rattle.mode_vm.specs.StateCalls.{IsCalledOn}
 
 module _ (hash : Hash) (P : Program) (f : ℕ) (nodes : List Node) (state argument : Ref) (z y : ℤ)
     (is_state : P.state ≡ IntTy) (parameters : (function_at P f).parameters ≡ IntTy ∷ IntTy ∷ [])

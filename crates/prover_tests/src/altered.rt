@@ -1,12 +1,13 @@
 // Proof files that are altered: the verdict and the audit tell the same, and read no more than they need.
 use crate::stage::{Call, audited, code, file, proved, source, verdict};
 use code_gen::Code;
+use collision_audit::Audited;
 use core_terms::Cause;
+use digest_layer::Sha;
 use std::alloc::{AllocError, Global};
 use std::test::Fail;
-use stream_audit::Audited;
-use stream_verifier::Verdict;
 use value_store::Store;
+use verifier_mode::Verdict;
 
 /// Four pieces, the first two of which are opened again.
 const FOUR: Call = Call {
@@ -66,12 +67,13 @@ fn rejected(
     most: usize,
 ) -> Result<Option<(Cause, usize)>, AllocError> {
     let mut judged = source(alloc, bytes, most)?;
-    let Err(Verdict::Rejected(cause)) = verdict(alloc, code, FOUR, &mut judged)? else {
+    let Err(Verdict::Rejected(cause)) = verdict::<Sha>(alloc, code, FOUR, &mut judged)? else {
         return Ok(None);
     };
     let mut store = Store::new(alloc);
     let mut compared = source(alloc, bytes, most)?;
-    let Ok(Audited::Rejected(other)) = audited(alloc, code, &mut store, FOUR, &mut compared)? else {
+    let Ok(Audited::Rejected(other)) = audited::<Sha>(alloc, code, &mut store, FOUR, &mut compared)?
+    else {
         return Ok(None);
     };
     if cause != other || judged.left() != compared.left() {
@@ -83,7 +85,7 @@ fn rejected(
 /// The proof file of [`FOUR`], which has 56 bytes: a header of 6, two frames of 22 with pieces of their own, and two of 3.
 fn four(alloc: Global, code: &Code) -> Result<Vec<u8>, AllocError> {
     let mut store = Store::new(alloc);
-    let told = proved(alloc, code, &mut store, FOUR, 2)?;
+    let told = proved::<Sha>(alloc, code, &mut store, FOUR, 2)?;
     file(alloc, 2, &told.frames)
 }
 

@@ -3,10 +3,11 @@ use crate::stage::{
     Call, End, audited, code, file, proved, proved_on, source, verdict, verdict_on,
 };
 use code_gen::Code;
+use collision_audit::Audited;
+use digest_layer::Sha;
 use reuse_buffer::Ring;
 use std::alloc::{AllocError, Global};
 use std::test::Fail;
-use stream_audit::Audited;
 use value_store::Store;
 
 /// Whether a proof file is accepted and agreed with, by so many bytes a read.
@@ -20,12 +21,12 @@ fn is_taken(
     most: usize,
 ) -> Result<bool, AllocError> {
     let mut judged = source(alloc, bytes, most)?;
-    let accepted = match &verdict(alloc, code, call, &mut judged)? {
+    let accepted = match &verdict::<Sha>(alloc, code, call, &mut judged)? {
         Ok(outcome) => end.is(outcome),
         Err(_) => false,
     };
     let mut compared = source(alloc, bytes, most)?;
-    let agreed = match &audited(alloc, code, store, call, &mut compared)? {
+    let agreed = match &audited::<Sha>(alloc, code, store, call, &mut compared)? {
         Ok(Audited::Agrees(outcome)) => end.is(outcome),
         _ => false,
     };
@@ -39,7 +40,7 @@ type Row = (Call, u16, End, [u64; 2]);
 fn is_proved(alloc: Global, code: &Code, row: Row) -> Result<bool, AllocError> {
     let (call, size, end, frames) = row;
     let mut store = Store::new(alloc);
-    let told = proved(alloc, code, &mut store, call, size)?;
+    let told = proved::<Sha>(alloc, code, &mut store, call, size)?;
     if [told.fresh, told.again] != frames || !end.is(&told.outcome) {
         return Ok(false);
     }
@@ -145,8 +146,8 @@ const SWAP: Call = Call {
 fn two_proofs(alloc: Global, code: &Code) -> Result<(Vec<u8>, Vec<u8>, u64), AllocError> {
     let mut store = Store::new(alloc);
     let ring = Ring::with_size(alloc, 2)?;
-    let (first, ring) = proved_on(alloc, code, &mut store, SWAP, ring)?;
-    let (second, _ring) = proved_on(alloc, code, &mut store, SWAP, ring)?;
+    let (first, ring) = proved_on::<Sha>(alloc, code, &mut store, SWAP, ring)?;
+    let (second, _ring) = proved_on::<Sha>(alloc, code, &mut store, SWAP, ring)?;
     Ok((first.frames, second.frames, second.fresh))
 }
 

@@ -1,9 +1,13 @@
-//! Tests that tie the prover, the verifier and the audit of programs together, at SHA-256: what is proved is accepted and agreed with,
-//! and what is altered is told alike.
+//! Tests that tie the prover, the verifier and the audit of programs together: at SHA-256 what is proved is accepted and agreed with,
+//! and what is altered is told alike; at a digest for tests collisions are shown. And tests of both digests.
 #![tactic(auto)]
 
 #[cfg(test)]
 mod altered;
+#[cfg(test)]
+mod collisions;
+#[cfg(test)]
+mod digests;
 #[cfg(test)]
 mod honest;
 #[cfg(test)]

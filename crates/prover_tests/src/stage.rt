@@ -7,27 +7,28 @@ ghost use Rattle.core_terms.specs.Types.{IntTy};
 ghost use Rattle.core_terms.specs.Values.{Value};
 ghost use Rattle.value_store.specs.Stores.{nodes_in};
 ghost use Rattle.mode_vm.specs.Meanings.{program_of};
-ghost use Rattle.ring_prover.specs.Calls.{IsCalledOn};
-ghost use Rattle.stream_verifier.specs.Verdicts.{TakesState};
-ghost use Rattle.stream_audit.specs.Calls.{IsAudited};
+ghost use Rattle.mode_vm.specs.StateCalls.{IsCalledOn, TakesState};
 
 use auth_syntax::parser::parse;
 use auth_types::check::check;
 use code_gen::Code;
-use core_terms::{Digest, FunctionId, Outcome, Program, RoleId, RoleKind, Spelling, Trap, TyForm};
+use collision_audit::{AuditFault, Audited, audit};
+use core_terms::{
+    Digest, FunctionId, Hash32, Outcome, Program, RoleId, RoleKind, Spelling, Trap, TyForm,
+};
 use digest_layer::Sha;
 use lam_outside::{Bytes, MemLink, Plan};
 use proof_stream::put_header;
+use prover_mode::{Proved, prove};
 use reuse_buffer::Ring;
-use ring_prover::{Proved, prove};
 use std::alloc::{AllocError, Global};
-use stream_audit::{AuditFault, Audited, audit};
-use stream_verifier::{Verdict, verify, verify_on};
 use value_store::{Nodes, Ref, Store};
+use verifier_mode::{Verdict, verify, verify_on};
 
-/// The program of the tests. `opened` opens a piece of 17 bytes, the n-th one; `again` opens m pieces, each with its number modulo k.
+/// The program of the tests. `opened` opens a piece of 17 bytes, the n-th one; `again` opens m pieces, each with its number modulo k;
+/// `twice` opens a piece of 8 bytes, the state's, two times.
 const TEXT: &[u8] =
-    b"state int; fun opened(n: int): int = fst(unauth(auth((n, \"piece\")))); fun sum(n: int, k: int, s: int): int = if le(n, 0) then s else sum(sub(n, 1), k, add(s, opened(rem(n, k)))); query again(k: int, m: int): int = sum(m, k, 0); query over(s: int, x: int): int = add(opened(s), opened(x)); update swap(s: int, x: int): (int, int) = (opened(x), opened(s));";
+    b"state int; fun opened(n: int): int = fst(unauth(auth((n, \"piece\")))); fun sum(n: int, k: int, s: int): int = if le(n, 0) then s else sum(sub(n, 1), k, add(s, opened(rem(n, k)))); query again(k: int, m: int): int = sum(m, k, 0); query over(s: int, x: int): int = add(opened(s), opened(x)); update swap(s: int, x: int): (int, int) = (opened(x), opened(s)); query twice(s: int, x: int): int = add(unauth(auth(s)), unauth(auth(s)));";
 
 /// A call on a state and an argument that are ints, with so much fuel.
 #[derive(Clone, Copy)]
@@ -111,7 +112,6 @@ fn put_call(code: &Code, store: &mut Store, call: Call) -> Result<PutCall, Alloc
     ensures there { IfOk result (λ put. put.role.0 < length (program_of code.now).functions) }
     ensures role { IfOk result (λ put. TakesState (program_of code.now) put.role.0) }
     ensures called { IfOk result (λ put. (hash : Hash) → (s : Value) × (a : Value) × IsCalledOn hash (program_of code.now) put.role.0 (nodes_in store.new) put.state put.argument s a) }
-    ensures audited { IfOk result (λ put. (hash : Hash) → (s : Value) × (a : Value) × IsAudited hash (program_of code.now) put.role.0 (nodes_in store.new) put.state put.argument s a) }
 {
     let Some(role) = reading(code.program(), call.role) else {
         return Err(AllocError);
@@ -129,7 +129,7 @@ fn put_call(code: &Code, store: &mut Store, call: Call) -> Result<PutCall, Alloc
 }
 
 /// The proof of a call with a ring, and the ring behind it.
-pub fn proved_on(
+pub fn proved_on<H: Hash32>(
     alloc: Global,
     code: &Code,
     store: &mut Store,
@@ -142,11 +142,11 @@ pub fn proved_on(
         argument,
     } = put_call(code, store, call)?;
     let fuel = call.fuel.min(5000);
-    prove::<Sha, Store>(alloc, code, store, role, state, argument, fuel, ring)
+    prove::<H, Store>(alloc, code, store, role, state, argument, fuel, ring)
 }
 
 /// The proof of a call with a new ring of so many pieces, of 1,024 at most.
-pub fn proved(
+pub fn proved<H: Hash32>(
     alloc: Global,
     code: &Code,
     store: &mut Store,
@@ -154,7 +154,7 @@ pub fn proved(
     size: u16,
 ) -> Result<Proved, AllocError> {
     let ring = Ring::with_size(alloc, size.min(1024))?;
-    let told = proved_on(alloc, code, store, call, ring)?;
+    let told = proved_on::<H>(alloc, code, store, call, ring)?;
     Ok(told.0)
 }
 
@@ -173,7 +173,7 @@ pub fn source(alloc: Global, bytes: &[u8], most: usize) -> Result<MemLink, Alloc
 }
 
 /// The verdict on a call.
-pub fn verdict(
+pub fn verdict<H: Hash32>(
     alloc: Global,
     code: &Code,
     call: Call,
@@ -182,7 +182,7 @@ pub fn verdict(
     let Some(role) = reading(code.program(), call.role) else {
         return Err(AllocError);
     };
-    Ok(verify::<Sha, MemLink>(
+    Ok(verify::<H, MemLink>(
         alloc,
         code,
         role,
@@ -215,7 +215,7 @@ pub fn verdict_on(
 }
 
 /// The audit of a call.
-pub fn audited(
+pub fn audited<H: Hash32>(
     alloc: Global,
     code: &Code,
     store: &mut Store,
@@ -228,5 +228,5 @@ pub fn audited(
         argument,
     } = put_call(code, store, call)?;
     let fuel = call.fuel.min(5000);
-    Ok(audit::<Sha, MemLink, Store>(alloc, code, store, role, state, argument, fuel, proof))
+    Ok(audit::<H, MemLink, Store>(alloc, code, store, role, state, argument, fuel, proof))
 }

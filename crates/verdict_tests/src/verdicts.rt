@@ -1,7 +1,7 @@
 // Verdicts on calls, over sources that give a few bytes a read, and over sources without an end.
 ghost use Rattle.std.specs.Prelude.{◌<◌, ◌≤◌, ◌^◌, length, IfSome};
 ghost use Rattle.core_terms.specs.Programs.{meaning};
-ghost use Rattle.stream_verifier.specs.Verdicts.{TakesState};
+ghost use Rattle.mode_vm.specs.StateCalls.{TakesState};
 
 use crate::sources::{Endless, bytes};
 use auth_syntax::parser::parse;
@@ -16,7 +16,7 @@ use proof_stream::{put_new, put_use};
 use reuse_buffer::Ring;
 use std::alloc::{AllocError, Global};
 use std::test::Fail;
-use stream_verifier::{Verdict, verify, verify_on};
+use verifier_mode::{Verdict, verify, verify_on};
 
 /// The digest of no bytes.
 const H0: [u8; 32] = [

@@ -1,4 +1,8 @@
-pub mod Pieces
-pub mod Shallow
-pub mod Standing
+pub mod Faults
+pub mod Takings
+pub mod Moving
+pub mod CheckedRuns
 pub mod Verdicts
+pub mod CallParts
+pub mod Spelled
+pub mod LastReads

@@ -1,151 +1,219 @@
-// The verifier: a call is judged from the spellings of its state and argument and the bytes of a proof.
-ghost use Rattle.std.specs.Prelude.{◌≡◌, ◌<◌, ◌≤◌, ◌^◌, ◌∷◌, [], length, IfOk};
-ghost use Rattle.core_terms.specs.Programs.{meaning};
-ghost use Rattle.core_terms.specs.Terms.{function_at};
-ghost use Rattle.core_terms.specs.Terms as tree;
-ghost use Rattle.core_terms.specs.Types.{Ty};
-ghost use Rattle.core_terms.specs.declared.program.Program as code;
-ghost use Rattle.ideal_meaning.specs.Checked.{checked, verdict, with_header};
-ghost use Rattle.ideal_meaning.specs.Frames.{header};
+// The verdict on a call, from the spellings of its state and its argument and the bytes of a proof.
+ghost use Rattle.std.specs.Prelude.{◌≡◌, ◌<◌, ◌≤◌, ◌^◌, ℕ, List, [], Some, IfOk, length};
+ghost use Rattle.std.specs.Option.{ForSome};
+ghost use Rattle.core_terms.specs.Programs.{meaning, types_of};
+ghost use Rattle.core_terms.specs.ProgramTypes.{named_table, types_by_number, types_meaning};
 ghost use Rattle.core_terms.specs.Roles.{argument_type};
-ghost use Rattle.verifier_mode.specs.Verdicts.{Answers, SaysTrue, verdict_of};
-ghost use Rattle.verifier_mode.specs.declared.judge.Verdict.TheVariants.{NoMemory, Rejected};
-ghost use Rattle.verifier_mode.specs.Shallow.{AreInHand, values_of};
-ghost use Rattle.verifier_mode.specs.Standing.{CallEndsAs, HasShape, IsSpelledAs, standing};
+ghost use Rattle.core_terms.specs.Terms.{function_at};
+ghost use Rattle.core_terms.specs.TypeTables.{type_at};
+ghost use Rattle.core_terms.specs.Values.{Values};
+ghost use Rattle.ideal_meaning.specs.Checked as checked;
+ghost use Rattle.ideal_meaning.specs.Following.{after_bytes};
+ghost use Rattle.ideal_meaning.specs.Frames.{header};
+ghost use Rattle.value_store.specs.CodeNodes.{numbers_of};
+ghost use Rattle.value_store.specs.Standing.{AllStandFor, VerifierNodes};
+ghost use Rattle.value_store.specs.Stores.{nodes_in};
+ghost use Rattle.mode_vm.specs.Meanings.{program_of};
+ghost use Rattle.mode_vm.specs.StateCalls.{TakesState};
+ghost use Rattle.reuse_buffer.specs.Kept.{kept};
+ghost use Rattle.verifier_mode.specs.CallParts.{ArePut};
+ghost use Rattle.verifier_mode.specs.Spelled.{IsSpelledAs, OutcomeStands};
+ghost use Rattle.verifier_mode.specs.Verdicts.{Answers, AnswersWithRing, IsTold, SaysTrue, SaysTrueOn, VerdictCause};
 
-use crate::checked::{Refusal, Stop, run};
-use crate::frames::Frames;
-use crate::reading::Shallow;
-use core_terms::{Cause, FunctionId, Hash32, Outcome, Program, Spelling};
+use crate::checked_runs::checked_run;
+use crate::verdict::Verdict;
+use code_gen::Code;
+use core_terms::{Cause, FunctionId, Hash32, Outcome, Program, Spelling, TyId, Types};
+use lam_outside::Source;
+use proof_stream::FrameReader;
+use reuse_buffer::Ring;
+use shallow_codec::{UnspellFault, spell, unspell};
 use std::alloc::{AllocError, Global};
+use value_store::{Ref, Store};
 
-/// Why a call isn't accepted.
-#[derive(Clone, Copy)]
-pub enum Verdict {
-    /// The proof is rejected, for this cause.
-    Rejected(Cause),
-    /// The state's bytes are no spelling at the state's type: the offset of the first fault.
-    BadState(u32),
-    /// The argument's bytes are no spelling at the argument's type: the offset of the first fault.
-    BadArgument(u32),
-    /// Memory was wanting.
-    NoMemory,
-}
+/// The bytes that a proof file begins with.
+const MAGIC: [u8; 4] = *b"LAP1";
+/// The greatest number of pieces that a proof file may ask to be kept.
+const MOST_KEPT: u16 = 1024;
 
-impl From<Cause> for Verdict {
-    ghost from_gives = { λ cause result. result ≡ Rejected cause };
-
-    fn from(cause: Cause) -> Self {
-        Verdict::Rejected(cause)
-    }
-}
-
-impl From<Refusal> for Verdict {
-    ghost from_gives = { λ refusal result. result ≡ verdict_of refusal };
-
-    fn from(refusal: Refusal) -> Self {
-        match refusal {
-            Refusal::Rejected(cause) => Verdict::Rejected(cause),
-            Refusal::NoMemory => Verdict::NoMemory,
-        }
-    }
-}
-
-impl From<AllocError> for Verdict {
-    ghost from_gives = { λ error result. result ≡ NoMemory };
-
-    fn from(_error: AllocError) -> Self {
-        Verdict::NoMemory
-    }
-}
-
-/// Judges a call of a query with this much fuel (at most 10^12), from the spellings of its state and its argument.
+/// Judges a call of a query or an update with this much fuel (at most 10^12), from the spellings of its state and its argument and the
+/// bytes of a proof file, which may ask for as many pieces to be kept as the program's format allows. The proof is read as it is needed,
+/// and no more of it is held than a piece and the pieces kept.
 ///
-/// The order is: the state, the argument, the header of the proof, the run, the bytes left behind it. `BadState` and
-/// `BadArgument` name the offset of the first fault, and `Rejected` the cause with each of its fields.
-pub fn verify<H: Hash32>(
+/// The order is: the state, the argument, the header of the proof, the run, the bytes left behind it. `BadState` and `BadArgument`
+/// name the offset of the first fault, and `Rejected` the cause with each of its fields. `ReadFault` comes where the source failed,
+/// and its count of faults rose.
+pub fn verify<H: Hash32, S: Source>(
     alloc: Global,
-    program: &Program,
+    code: &Code,
     role: FunctionId,
     state: &[u8],
     argument: &[u8],
     fuel: u64,
-    proof: &[u8],
+    proof: &mut S,
 ) -> Result<Outcome<Spelling>, Verdict>
-    requires there { role.0 < length (meaning program.now).functions }
-    requires query { (function_at (meaning program.now) role.0).kind ≡ tree.Query }
+    requires there { role.0 < length (program_of code.now).functions }
+    requires role { TakesState (program_of code.now) role.0 }
     requires fuel_fits { fuel ≤ 10 ^ 12 }
-    ensures verdict { let P = meaning program.now in
-        Answers P role.0 (verdict H.hash P (argument_type P role.0) role.0 state.now argument.now fuel proof.now) result }
-    ensures headline { SaysTrue H.hash (meaning program.now) role.0 state.now argument.now fuel proof.now result }
+    ensures verdict { ForSome (S.left proof.old) (λ bytes. let P = program_of code.now in
+        Answers P role.0 (checked.verdict H.hash P (argument_type P role.0) role.0 state.now argument.now fuel bytes) result) }
+    ensures headline { ForSome (S.left proof.old) (λ bytes. SaysTrue H.hash (program_of code.now) role.0 state.now argument.now fuel bytes result) }
+    ensures told { IfOk result (IsTold (program_of code.now) (function_at (program_of code.now) role.0).result) }
+    ensures end { ForSome (S.left proof.old) (λ bytes. IfOk result (λ _. S.left proof.new ≡ Some [])) }
+    ensures faults { VerdictCause (S.faults proof.old) (S.faults proof.new) result }
+    ensures rest { S.rest proof.new ≡ S.rest proof.old }
 {
-    // of a query: the state and the argument
-    let parameters = &program.function(role).parameters;
-    let state = match Shallow::read(program, program.state_type(), state) {
+    let mut store = Store::new(alloc);
+    let ty = argument_of(code.program(), role);
+    let refs = put_call(alloc, code.types(), &mut store, state, argument, ty)?;
+    judge_file::<H, S>(alloc, code, &mut store, role, &refs, fuel, proof)
+}
+
+/// Judges a call as [`verify`] does, from the frames of a proof without its header, with a ring that holds the last of the new pieces
+/// that came before. It gives the ring back, which holds the last of them and of the new pieces of this proof.
+///
+/// A verdict other than an outcome drops the ring.
+pub fn verify_on<H: Hash32, S: Source>(
+    alloc: Global,
+    code: &Code,
+    role: FunctionId,
+    state: &[u8],
+    argument: &[u8],
+    fuel: u64,
+    proof: &mut S,
+    ring: Ring,
+) -> Result<(Outcome<Spelling>, Ring), Verdict>
+    requires there { role.0 < length (program_of code.now).functions }
+    requires role { TakesState (program_of code.now) role.0 }
+    requires fuel_fits { fuel ≤ 10 ^ 12 }
+    ensures verdict { (recent : List (List ℕ)) → ring ≡ kept ring.size recent → ForSome (S.left proof.old) (λ bytes. let P = program_of code.now in
+        AnswersWithRing P role.0 (checked.verdict_on H.hash P (argument_type P role.0) role.0 state.now argument.now fuel bytes ring.size recent) result) }
+    ensures headline { (recent : List (List ℕ)) → ring ≡ kept ring.size recent → ForSome (S.left proof.old) (λ bytes.
+        SaysTrueOn H.hash (program_of code.now) role.0 state.now argument.now fuel bytes ring.size recent result) }
+    ensures ring { (recent : List (List ℕ)) → ring ≡ kept ring.size recent → ForSome (S.left proof.old) (λ bytes.
+        IfOk result (λ told. told.1 ≡ kept ring.size (after_bytes (program_of code.now).format.limit bytes ring.size recent))) }
+    ensures told { IfOk result (λ told. IsTold (program_of code.now) (function_at (program_of code.now) role.0).result told.0) }
+    ensures end { (recent : List (List ℕ)) → ring ≡ kept ring.size recent → ForSome (S.left proof.old) (λ bytes. IfOk result (λ _. S.left proof.new ≡ Some [])) }
+    ensures faults { VerdictCause (S.faults proof.old) (S.faults proof.new) result }
+    ensures rest { S.rest proof.new ≡ S.rest proof.old }
+{
+    let mut store = Store::new(alloc);
+    let ty = argument_of(code.program(), role);
+    let refs = put_call(alloc, code.types(), &mut store, state, argument, ty)?;
+    judge_call::<H, S>(alloc, code, &mut store, role, &refs, fuel, proof, ring)
+}
+
+/// The type of the argument of a query or an update, whose parameters are the state and the argument.
+fn argument_of(program: &Program, role: FunctionId) -> TyId
+    requires there { role.0 < length (meaning program.now).functions }
+    requires role { TakesState (meaning program.now) role.0 }
+    ensures { type_at (types_of program.now) result ≡ argument_type (meaning program.now) role.0 }
+{
+    program.function(role).parameters[1]
+}
+
+/// Puts the state of a call and its argument, which is of this type, into the store.
+fn put_call(
+    alloc: Global,
+    types: &Types,
+    store: &mut Store,
+    state: &[u8],
+    argument: &[u8],
+    ty: TyId,
+) -> Result<[Ref; 2], Verdict>
+    ensures { ArePut (types_meaning types.now) (nodes_in store.new) (type_at (types_by_number types.now) ty) state.now argument.now result }
+{
+    let state = match unspell(alloc, types, store, state, types.state_type()) {
         Ok(state) => state,
-        Err(offset) => return Err(Verdict::BadState(offset)),
+        Err(UnspellFault::Bad(offset)) => return Err(Verdict::BadState(offset)),
+        Err(UnspellFault::NoMemory) => return Err(Verdict::NoMemory),
     };
-    let argument = match Shallow::read(program, parameters[1], argument) {
-        Ok(argument) => argument,
-        Err(offset) => return Err(Verdict::BadArgument(offset)),
-    };
-    judge::<H>(alloc, program, role, state, argument, fuel, proof)
+    match unspell(alloc, types, store, argument, ty) {
+        Ok(argument) => Ok([state, argument]),
+        Err(UnspellFault::Bad(offset)) => Err(Verdict::BadArgument(offset)),
+        Err(UnspellFault::NoMemory) => Err(Verdict::NoMemory),
+    }
 }
 
-/// Judges a call of a query on its state and argument: the header of the proof, the run, the bytes left behind it.
-fn judge<'a, H: Hash32>(
+/// Judges a call on a state and an argument that stand in the store, by a proof file: its header, the run, and the bytes left behind it.
+fn judge_file<H: Hash32, S: Source>(
     alloc: Global,
-    program: &'a Program,
+    code: &Code,
+    store: &mut Store,
     role: FunctionId,
-    state: Shallow<'a>,
-    argument: Shallow<'a>,
+    args: &[Ref],
     fuel: u64,
-    proof: &'a [u8],
+    proof: &mut S,
 ) -> Result<Outcome<Spelling>, Verdict>
-    requires there { role.0 < length (meaning program.now).functions }
-    requires typed { AreInHand (meaning program.now) (function_at (meaning program.now) role.0).parameters (state ∷ argument ∷ []) }
-    ensures { let P = meaning program.now in
-        Answers P role.0 (with_header H.hash P (header P.format proof.now) role.0 (values_of (state.entry ∷ argument.entry ∷ [])) fuel proof.now) result }
+    requires there { role.0 < length (program_of code.now).functions }
+    requires stand { (vs : Values) × AllStandFor VerifierNodes (program_of code.now).types (nodes_in store.old) (numbers_of args.now) (function_at (program_of code.now) role.0).parameters vs }
+    requires fuel_fits { fuel ≤ 10 ^ 12 }
+    ensures verdict { (vs : Values) → AllStandFor VerifierNodes (program_of code.now).types (nodes_in store.old) (numbers_of args.now) (function_at (program_of code.now) role.0).parameters vs
+        → ForSome (S.left proof.old) (λ bytes. let P = program_of code.now in
+        Answers P role.0 (checked.with_header H.hash P (header P.format bytes) role.0 vs fuel bytes) result) }
+    ensures told { IfOk result (IsTold (program_of code.now) (function_at (program_of code.now) role.0).result) }
+    ensures end { ForSome (S.left proof.old) (λ bytes. IfOk result (λ _. S.left proof.new ≡ Some [])) }
+    ensures faults { VerdictCause (S.faults proof.old) (S.faults proof.new) result }
+    ensures rest { S.rest proof.new ≡ S.rest proof.old }
 {
-    let mut frames = Frames::open(program, proof)?;
-    let outcome = call::<H>(alloc, program, role, [state, argument], fuel, &mut frames)?;
-    frames.end()?;
-    Ok(spelled(alloc, outcome)?)
+    let size = FrameReader::new(alloc, 0).header(proof, MAGIC, MOST_KEPT)?;
+    let ring = Ring::with_size(alloc, size)?;
+    let judged = judge_call::<H, S>(alloc, code, store, role, args, fuel, proof, ring)?;
+    let (outcome, ring) = judged;
+    drop(ring);
+    Ok(outcome)
 }
 
-/// Calls a query on its state and argument: it is out of fuel where none is left for the call.
-fn call<'a, H: Hash32>(
+/// Judges a call on a state and an argument that stand in the store: the run, and the bytes left behind it.
+fn judge_call<H: Hash32, S: Source>(
     alloc: Global,
-    program: &'a Program,
+    code: &Code,
+    store: &mut Store,
     role: FunctionId,
-    arguments: [Shallow<'a>; 2],
+    args: &[Ref],
     fuel: u64,
-    frames: &mut Frames<'a>,
-) -> Result<Outcome<Shallow<'a>>, Refusal>
-    requires there { role.0 < length (meaning program.now).functions }
-    requires typed { AreInHand (meaning program.now) (function_at (meaning program.now) role.0).parameters arguments }
-    ensures value { CallEndsAs (standing program.now frames.new.rest.now frames.new.place) result
-        (checked H.hash (meaning program.now) role.0 (values_of arguments.entry) fuel (standing program.now frames.old.rest.now frames.old.place)) }
-    ensures in_hand { IfOk result (HasShape program.now (function_at (meaning program.now) role.0).result) }
+    proof: &mut S,
+    ring: Ring,
+) -> Result<(Outcome<Spelling>, Ring), Verdict>
+    requires there { role.0 < length (program_of code.now).functions }
+    requires stand { (vs : Values) × AllStandFor VerifierNodes (program_of code.now).types (nodes_in store.old) (numbers_of args.now) (function_at (program_of code.now) role.0).parameters vs }
+    requires fuel_fits { fuel ≤ 10 ^ 12 }
+    ensures verdict { (vs : Values) (bytes : List ℕ) (recent : List (List ℕ))
+        → AllStandFor VerifierNodes (program_of code.now).types (nodes_in store.old) (numbers_of args.now) (function_at (program_of code.now) role.0).parameters vs
+        → S.left proof.old ≡ Some bytes → ring ≡ kept ring.size recent
+        → AnswersWithRing (program_of code.now) role.0 (checked.judge H.hash (program_of code.now) role.0 vs fuel bytes ring.size recent) result }
+    ensures ring { (bytes : List ℕ) (recent : List (List ℕ)) → S.left proof.old ≡ Some bytes → ring ≡ kept ring.size recent
+        → IfOk result (λ told. told.1 ≡ kept ring.size (after_bytes (program_of code.now).format.limit bytes ring.size recent)) }
+    ensures told { IfOk result (λ told. IsTold (program_of code.now) (function_at (program_of code.now) role.0).result told.0) }
+    ensures end { (bytes : List ℕ) (recent : List (List ℕ)) → S.left proof.old ≡ Some bytes → ring ≡ kept ring.size recent
+        → IfOk result (λ _. S.left proof.new ≡ Some []) }
+    ensures faults { VerdictCause (S.faults proof.old) (S.faults proof.new) result }
+    ensures rest { S.rest proof.new ≡ S.rest proof.old }
 {
-    if fuel == 0 {
-        return Ok(Outcome::Out);
+    let run = checked_run::<H, S, Store>(alloc, code, store, role, args, fuel, proof, ring)?;
+    let left = FrameReader::new(alloc, 0).count_rest(proof)?;
+    if left > 0 {
+        return Err(Verdict::Rejected(Cause::Leftover(left)));
     }
-    let body = &program.function(role).body;
-    match run::<H>(alloc, program, body, &arguments, frames) {
-        Ok(value) => Ok(Outcome::Done(value)),
-        Err(Stop::Trapped(trap)) => Ok(Outcome::Trapped(trap)),
-        Err(Stop::Refused(refusal)) => Err(refusal),
-    }
+    let (outcome, ring) = run;
+    let ty = code.program().function(role).result;
+    let told = spelled(alloc, code.types(), store, outcome, ty)?;
+    Ok((told, ring))
 }
 
-/// The outcome with the spelling of its value.
-fn spelled(alloc: Global, outcome: Outcome<Shallow>) -> Result<Outcome<Spelling>, AllocError>
-    requires { (p : code.Program) × (t : Ty) × HasShape p t outcome }
-    ensures { IfOk result (λ told. IsSpelledAs outcome.entry told) }
+/// The outcome with the spelling of its value, which stands in the store at a type.
+fn spelled(
+    alloc: Global,
+    types: &Types,
+    store: &Store,
+    outcome: Outcome<Ref>,
+    ty: TyId,
+) -> Result<Outcome<Spelling>, AllocError>
+    requires { OutcomeStands (types_meaning types.now) (nodes_in store.now) (type_at (types_by_number types.now) ty) outcome }
+    ensures { IfOk result (IsSpelledAs (named_table types.now) (nodes_in store.now) (type_at (types_by_number types.now) ty) outcome) }
 {
     Ok(match outcome {
-        Outcome::Done(value) => Outcome::Done(value.spelling(alloc)?),
+        Outcome::Done(value) => Outcome::Done(spell(alloc, types, store, value, ty)?),
         Outcome::Trapped(trap) => Outcome::Trapped(trap),
         Outcome::Out => Outcome::Out,
     })

@@ -1,14 +1,18 @@
-//! The verifier: a call of a query is judged from the spellings of its state and its argument and the bytes of a proof.
+//! The verifier: the machine runs a call on the spellings of its state and its argument, and each opening takes the next piece of a
+//! proof, which is pulled from a source.
 //!
-//! [`reading`] reads a shallow value from its spelling and spells it, [`Frames`] takes the pieces of a proof file one after
-//! another, `checked` runs a term with them, and [`verify`] judges a whole call. A rejection names its cause
-//! with each field of it: the piece asked for, the digests that differ, the offset of a fault.
+//! Of the proof it holds the piece in hand and the ring of kept pieces alone, so a proof may have any length. [`verify`] judges a call
+//! by a proof file, [`verify_on`] by the frames of one proof among others that follow one another.
 #![tactic(auto)]
 
-mod checked;
-mod frames;
+mod checked_runs;
 mod judge;
-pub mod reading;
+mod last_read;
+mod opening;
+mod verdict;
+mod verifier;
 
-pub use frames::Frames;
-pub use judge::{Verdict, verify};
+pub use checked_runs::checked_run;
+pub use judge::{verify, verify_on};
+pub use verdict::Verdict;
+pub use verifier::{Verifier, VerifierFault};

@@ -1,44 +1,55 @@
-use Rattle.std.proofs.Common.{Ok, ap, ◌∙◌}
+-- The prover's run gives the outcome and what was opened, and what tells the audit by the run tells the audit.
 use Rattle.core_terms.specs.Formats.{IsHash}
-use Rattle.plain_meaning.specs.PlainValues.{plain_of, value_of}
-use Rattle.plain_meaning.specs.Telling.{opened_in}
-use Rattle.prover_mode.proofs.QueryCalls.{takes}
-use Rattle.collision_audit.specs.declared.auditing.Audited.TheVariants as audited
-use Rattle.collision_audit.proofs.AuditHeadline.{audits_truly}
-use Rattle.collision_audit.proofs.ToldAudits.{tells_collision, tells_judged}
+use Rattle.code_gen.specs.Programs.{program_in}
+use Rattle.ideal_meaning.specs.Headline.{call_of}
+use Rattle.ideal_meaning.specs.Ideal.{ideal, outcome}
+use Rattle.ideal_meaning.specs.Run.{state_of}
+use Rattle.mode_vm.specs.Meanings.{program_of}
+use Rattle.mode_vm.proofs.StateCalls.{both_stand}
+use Rattle.collision_audit.proofs.Audits.{tells, truly}
 use Rattle.collision_audit.proofs.auditing.audit.Goals as goal
 
-pub ideal_run-requires-clause-typed : goal.ideal_run-requires-clause-typed
-ideal_run-requires-clause-typed g c =
-    takes c.args.program.now c.args.role.0 c.args.state.now c.args.argument.now c.lent-state.result c.lent-argument.result c.requires.there c.requires.query c.requires.state c.requires.argument
-    c.lent-state.ensures.value c.lent-state.ensures.text c.lent-argument.ensures.value c.lent-argument.ensures.text
+pub prover_run-requires-clause-stand : goal.prover_run-requires-clause-stand
+prover_run-requires-clause-stand g c κs within =
+    let s = c.requires.stand.0 in
+    let a = c.requires.stand.1 in
+    (call_of s a, both_stand (program_of c.args.code.now) c.args.role.0 c.requires.role g.H.Hash32.hash (g.N.Nodes.nodes c.args.store.now) c.args.state c.args.argument s a c.requires.stand.2)
 
-pub judge-requires-clause-typed : goal.judge-requires-clause-typed
-judge-requires-clause-typed g c κs within =
-    takes c.args.program.now c.args.role.0 c.args.state.now c.args.argument.now c.lent-state.result c.lent-argument.result c.requires.there c.requires.query c.requires.state c.requires.argument
-    c.lent-state.ensures.value c.lent-state.ensures.text c.lent-argument.ensures.value c.lent-argument.ensures.text
+pub audit_run-requires-clause-proved : goal.audit_run-requires-clause-proved
+audit_run-requires-clause-proved g c κs within =
+    let s = c.requires.stand.0 in
+    let a = c.requires.stand.1 in (
+      outcome (ideal (program_of c.args.code.now) c.args.role.0 (call_of s a) c.args.fuel),
+      c.in_ok-run.ensures.value (call_of s a)
+          (both_stand (program_of c.args.code.now) c.args.role.0 c.requires.role g.H.Hash32.hash (g.N.Nodes.nodes c.args.store.now) c.args.state c.args.argument s a c.requires.stand.2),
+    )
 
-pub returns-in-Some-clause-audit : goal.returns-in-Some-clause-audit
-returns-in-Some-clause-audit g c =
-    tells_collision g.H.Hash32.hash c.args.program.now c.args.role.0 (value_of c.lent-state.result) (value_of c.lent-argument.result) (plain_of c.args.state.now) (plain_of c.args.argument.now) c.args.fuel c.args.proof.now
-    c.deref.result.now c.lent-state.ensures.value c.lent-argument.ensures.value (ap (opened_in c.args.program.now) c.deref.ensures.value ∙ c.in_ok-run.ensures.opened)
-    c.in_ok-collision.field-0 c.in-Some.collision c.in-Some.is c.in_ok-collision.ensures
-
-pub returns-in-Some-clause-headline : goal.returns-in-Some-clause-headline
-returns-in-Some-clause-headline g c =
-    -- the law of the bound holds in every world like this one, and this one is like itself
-    let is_hash : IsHash g.H.Hash32.hash = (g.met.H.Hash32 g.world.𝓛 g.world.𝓜 g.world.𝓡 ((λ s x. x), (λ x. x), (λ x. x), (λ x. x))).digest_length in
-    audits_truly g.H.Hash32.hash is_hash c.args.program.now c.args.role.0 c.requires.there c.requires.query (plain_of c.args.state.now) (plain_of c.args.argument.now) c.requires.state c.requires.argument c.args.fuel c.args.proof.now
-    (Ok (audited.Collision c.in-Some.collision)) (returns-in-Some-clause-audit g c)
+pub audit_run-requires-clause-seen : goal.audit_run-requires-clause-seen
+audit_run-requires-clause-seen g c κs within =
+    let s = c.requires.stand.0 in
+    let a = c.requires.stand.1 in (
+      state_of (ideal (program_of c.args.code.now) c.args.role.0 (call_of s a) c.args.fuel),
+      c.in_ok-run.ensures.opened (call_of s a)
+          (both_stand (program_of c.args.code.now) c.args.role.0 c.requires.role g.H.Hash32.hash (g.N.Nodes.nodes c.args.store.now) c.args.state c.args.argument s a c.requires.stand.2),
+    )
 
 pub returns-clause-audit : goal.returns-clause-audit
-returns-clause-audit g c =
-    tells_judged g.H.Hash32.hash c.args.program.now c.args.role.0 (value_of c.lent-state.result) (value_of c.lent-argument.result) (plain_of c.args.state.now) (plain_of c.args.argument.now) c.args.fuel c.args.proof.now
-    c.deref.result.now c.lent-state.ensures.value c.lent-argument.ensures.value (ap (opened_in c.args.program.now) c.deref.ensures.value ∙ c.in_ok-run.ensures.opened)
-    c.in_ok-collision.field-0 c.judge.result c.in-None.is c.in_ok-collision.ensures c.judge.ensures
+returns-clause-audit g c s a call bytes told =
+    -- the law of the bound holds in every world like this one, and this one is like itself
+    let is_hash : IsHash g.H.Hash32.hash = (g.met.H.Hash32 g.world.𝓛 g.world.𝓜 g.world.𝓡 ((λ s x. x), (λ x. x), (λ x. x), (λ x. x))).digest_length in
+    let p = program_in c.args.code.now in
+    let nodes = g.N.Nodes.nodes c.args.store.now in
+    let run = ideal (program_of c.args.code.now) c.args.role.0 (call_of s a) c.args.fuel in
+    let stand = both_stand (program_of c.args.code.now) c.args.role.0 c.requires.role g.H.Hash32.hash nodes c.args.state c.args.argument s a call in
+    tells g.H.Hash32.hash is_hash p c.args.role.0 c.requires.role nodes (g.met.N.Nodes.sound c.args.store.now) c.args.state c.args.argument s a call c.args.fuel bytes c.audit_run.result
+    (c.audit_run.ensures.tells (outcome run) (state_of run) (c.in_ok-run.ensures.value (call_of s a) stand) (c.in_ok-run.ensures.opened (call_of s a) stand) bytes told)
 
 pub returns-clause-headline : goal.returns-clause-headline
-returns-clause-headline g c =
+returns-clause-headline g c s a call bytes told =
     let is_hash : IsHash g.H.Hash32.hash = (g.met.H.Hash32 g.world.𝓛 g.world.𝓜 g.world.𝓡 ((λ s x. x), (λ x. x), (λ x. x), (λ x. x))).digest_length in
-    audits_truly g.H.Hash32.hash is_hash c.args.program.now c.args.role.0 c.requires.there c.requires.query (plain_of c.args.state.now) (plain_of c.args.argument.now) c.requires.state c.requires.argument c.args.fuel c.args.proof.now
-    c.judge.result (returns-clause-audit g c)
+    let p = program_in c.args.code.now in
+    let nodes = g.N.Nodes.nodes c.args.store.now in
+    let run = ideal (program_of c.args.code.now) c.args.role.0 (call_of s a) c.args.fuel in
+    let stand = both_stand (program_of c.args.code.now) c.args.role.0 c.requires.role g.H.Hash32.hash nodes c.args.state c.args.argument s a call in
+    truly g.H.Hash32.hash is_hash p c.args.role.0 c.requires.role nodes (g.met.N.Nodes.sound c.args.store.now) c.args.state c.args.argument s a call c.args.fuel bytes c.audit_run.result
+    (c.audit_run.ensures.tells (outcome run) (state_of run) (c.in_ok-run.ensures.value (call_of s a) stand) (c.in_ok-run.ensures.opened (call_of s a) stand) bytes told)

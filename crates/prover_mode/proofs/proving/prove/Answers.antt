@@ -1,52 +1,81 @@
-use Rattle.std.proofs.Common.{◌≡◌, [], map, IfOk, ap, sym, subst, ◌∙◌}
-use Rattle.std.proofs.lemmas.Result.{IfOk-weaker}
-use Rattle.core_terms.specs.Formats.{IsHash}
-use Rattle.core_terms.specs.Programs.{meaning}
+use Rattle.std.proofs.Common.{◌≡◌, ap, subst}
+use Rattle.core_terms.specs.Programs.{meaning, types_of}
+use Rattle.core_terms.specs.ProgramTrees.{function_of}
 use Rattle.core_terms.specs.Terms.{function_at}
-use Rattle.core_terms.specs.Values.{Value}
-use Rattle.ideal_meaning.specs.Frames.{frame_bytes, honest_frames}
+use Rattle.core_terms.specs.Terms as tree
+use Rattle.core_terms.specs.TypeTables.{type_at}
+use Rattle.code_gen.specs.Programs.{program_in}
 use Rattle.ideal_meaning.specs.Headline.{call_of}
-use Rattle.ideal_meaning.specs.Ideal.{bytes_of, honest_bytes, honest_pieces, ideal, outcome}
+use Rattle.ideal_meaning.specs.Ideal.{ideal, outcome}
 use Rattle.ideal_meaning.specs.Run.{state_of}
-use Rattle.ideal_meaning.proofs.Judged.{bytes_are}
-use Rattle.plain_meaning.specs.PlainValues.{plain_of, value_of}
-use Rattle.prover_mode.specs.Proofs.{IsAccepted, IsOutcomeOf}
-use Rattle.prover_mode.specs.declared.proving.Proved.{Proved}
-use Rattle.prover_mode.proofs.Accepted.{accepted}
-use Rattle.prover_mode.proofs.Outcomes.{has_value, if_ok}
-use Rattle.prover_mode.proofs.QueryCalls.{takes}
+use Rattle.mode_vm.specs.Meanings.{program_of}
+use Rattle.mode_vm.proofs.StateCalls.{both_stand}
+use Rattle.prover_mode.proofs.CallParts.{outcome_by, seen_by, spelled_by, written_by}
 use Rattle.prover_mode.proofs.proving.prove.Goals as goal
 
-pub ideal_run-requires-clause-typed : goal.ideal_run-requires-clause-typed
-ideal_run-requires-clause-typed g c =
-    takes c.args.program.now c.args.role.0 c.args.state.now c.args.argument.now c.lent.result c.lent-2.result c.requires.there c.requires.query c.requires.state c.requires.argument
-    c.lent.ensures.value c.lent.ensures.text c.lent-2.ensures.value c.lent-2.ensures.text
+pub prover_run-requires-clause-stand : goal.prover_run-requires-clause-stand
+prover_run-requires-clause-stand g c κs within =
+    let s = c.requires.called.0 in
+    let a = c.requires.called.1 in (
+      call_of s a,
+      both_stand (program_of c.args.code.now) c.args.role.0 c.requires.role g.H.Hash32.hash (g.N.Nodes.nodes c.args.store.now) c.args.state c.args.argument s a c.requires.called.2,
+    )
+
+pub spelled_outcome-requires-after_bounds : goal.spelled_outcome-requires-after_bounds
+spelled_outcome-requires-after_bounds g c κs within =
+    let hash = g.H.Hash32.hash in
+    let p = program_in c.args.code.now in
+    let P = program_of c.args.code.now in
+    let z = (function_at P c.args.role.0).result in
+    let s = c.requires.called.0 in
+    let a = c.requires.called.1 in
+    let stand = both_stand P c.args.role.0 c.requires.role hash (g.N.Nodes.nodes c.args.store.now) c.args.state c.args.argument s a c.requires.called.2 in
+    let at : type_at (types_of p) c.function.result.now.result ≡ z =
+    ap (λ (f : tree.Function). f.result) (subst (λ q. function_of (types_of q) c.function.result.now ≡ function_at (meaning q) c.args.role.0) c.program.ensures c.function.ensures.function) in (
+      outcome (ideal P c.args.role.0 (call_of s a) c.args.fuel),
+      outcome_by hash p c.types.result.now c.types.ensures c.function.result.now.result z at (g.N.Nodes.nodes c.prover_run.new.store) c.in_ok-run.run'.value _
+          (c.in_ok-run.ensures.value (call_of s a) stand),
+    )
+
+pub write_frames-requires-clause-seen : goal.write_frames-requires-clause-seen
+write_frames-requires-clause-seen g c κs within =
+    let hash = g.H.Hash32.hash in
+    let p = program_in c.args.code.now in
+    let P = program_of c.args.code.now in
+    let s = c.requires.called.0 in
+    let a = c.requires.called.1 in
+    let seen = state_of (ideal P c.args.role.0 (call_of s a) c.args.fuel) in
+    let stand = both_stand P c.args.role.0 c.requires.role hash (g.N.Nodes.nodes c.args.store.now) c.args.state c.args.argument s a c.requires.called.2 in (
+      seen,
+      seen_by hash p c.types-2.result.now c.types-2.ensures (g.N.Nodes.nodes c.prover_run.new.store) c.deref.result.now c.in_ok-run.run'.opened.items seen c.deref.ensures.value
+          (c.in_ok-run.ensures.opened (call_of s a) stand),
+    )
+
+pub returns-clause-outcome : goal.returns-clause-outcome
+returns-clause-outcome g c s a called =
+    let hash = g.H.Hash32.hash in
+    let p = program_in c.args.code.now in
+    let P = program_of c.args.code.now in
+    let z = (function_at P c.args.role.0).result in
+    let o = outcome (ideal P c.args.role.0 (call_of s a) c.args.fuel) in
+    let id = c.function.result.now.result in
+    let stand = both_stand P c.args.role.0 c.requires.role hash (g.N.Nodes.nodes c.args.store.now) c.args.state c.args.argument s a called in
+    let at : type_at (types_of p) id ≡ z =
+    ap (λ (f : tree.Function). f.result) (subst (λ q. function_of (types_of q) c.function.result.now ≡ function_at (meaning q) c.args.role.0) c.program.ensures c.function.ensures.function) in
+    let ends = outcome_by hash p c.types.result.now c.types.ensures id z at (g.N.Nodes.nodes c.prover_run.new.store) c.in_ok-run.run'.value o (c.in_ok-run.ensures.value (call_of s a) stand) in
+    spelled_by hash p c.types.result.now c.types.ensures id z at o c.in_ok-outcome.outcome (c.in_ok-outcome.ensures o ends)
 
 pub returns-clause-frames : goal.returns-clause-frames
-returns-clause-frames g c =
-    let P = meaning c.args.program.now in
+returns-clause-frames g c s a recent called holds =
     let hash = g.H.Hash32.hash in
-    let args = call_of (plain_of c.args.state.now) (plain_of c.args.argument.now) in
-    let lent = ap (λ (v : Value). call_of v (value_of c.lent-2.result)) c.lent.ensures.value ∙ ap (call_of (plain_of c.args.state.now)) c.lent-2.ensures.value in
-    let seen = c.in_ok-run.ensures.opened ∙ ap (λ vs. state_of (ideal P c.args.role.0 vs c.args.fuel)) lent in
-    let pieces = ap (map (honest_bytes hash P)) seen ∙ sym (bytes_are hash P (state_of (ideal P c.args.role.0 args c.args.fuel))) in
-    subst (λ ps. IfOk c.written.result (λ proved. proved.frames.items ≡ frame_bytes (honest_frames 0 [] ps))) pieces c.written.ensures.frames
-
-pub returns-clause-ideal : goal.returns-clause-ideal
-returns-clause-ideal g c =
-    let P = meaning c.args.program.now in
-    let t = (function_at P c.args.role.0).result in
-    let lent = ap (λ (v : Value). call_of v (value_of c.lent-2.result)) c.lent.ensures.value ∙ ap (call_of (plain_of c.args.state.now)) c.lent-2.ensures.value in
-    let run = c.in_ok-run.ensures.outcome ∙ ap (λ vs. outcome (ideal P c.args.role.0 vs c.args.fuel)) lent in
-    if_ok c.written.result (subst (IsOutcomeOf P t) run (has_value P t _ c.in_ok-run.ensures.in_hand))
-
-pub returns-clause-accepted : goal.returns-clause-accepted
-returns-clause-accepted g c =
-    let P = meaning c.args.program.now in
-    let hash = g.H.Hash32.hash in
-    -- the law of the bound holds in every world like this one, and this one is like itself
-    let is_hash : IsHash hash = (g.met.H.Hash32 g.world.𝓛 g.world.𝓜 g.world.𝓡 ((λ s x. x), (λ x. x), (λ x. x), (λ x. x))).digest_length in
-    IfOk-weaker c.written.result (λ (proved : Proved). proved.frames.items ≡ frame_bytes (honest_frames 0 [] (bytes_of (honest_pieces hash P c.args.role.0 (call_of (plain_of c.args.state.now) (plain_of c.args.argument.now)) c.args.fuel))))
-    (λ (proved : Proved). IsAccepted hash P c.args.role.0 (plain_of c.args.state.now) (plain_of c.args.argument.now) c.args.fuel proved.frames.items)
-    (accepted hash is_hash c.args.program.now c.args.role.0 c.args.state.now c.args.argument.now c.args.fuel c.requires.there c.requires.query c.requires.state c.requires.argument)
-    (returns-clause-frames g c)
+    let p = program_in c.args.code.now in
+    let P = program_of c.args.code.now in
+    let args = call_of s a in
+    let given = c.types-2.result.now in
+    let seen = state_of (ideal P c.args.role.0 args c.args.fuel) in
+    let stand = both_stand P c.args.role.0 c.requires.role hash (g.N.Nodes.nodes c.args.store.now) c.args.state c.args.argument s a called in
+    let lent = seen_by hash p given c.types-2.ensures (g.N.Nodes.nodes c.prover_run.new.store) c.deref.result.now c.in_ok-run.run'.opened.items seen c.deref.ensures.value
+    (c.in_ok-run.ensures.opened args stand) in
+    let w = c.in_ok-written.written in
+    let h = written_by hash p given c.types-2.ensures c.args.role.0 args c.args.fuel c.args.ring.size recent w (c.in_ok-written.ensures.written seen recent lent holds) in
+    record { frames = h.bytes; fresh = h.fresh; again = h.again; ring = h.ring }

@@ -1,4 +1,4 @@
 use Rattle.prover_tests.proofs.stage.proved_on.Goals as goal
 
 pub prove-requires-clause-called : goal.prove-requires-clause-called
-prove-requires-clause-called c κs = c.in_ok-role.ensures.called _
+prove-requires-clause-called g c κs within = c.in_ok-role.ensures.called _

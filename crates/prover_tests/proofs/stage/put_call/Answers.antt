@@ -24,6 +24,3 @@ returns-clause-called c hash =
     let first : StandsFor kind P.types nodes c.in_ok-state.state.0 IntTy (IntV z) =
     c.in_ok-argument.ensures.keeps kind P.types c.in_ok-state.state.0 IntTy (IntV z) (c.in_ok-state.ensures.stands kind P.types) in
     (IntV z, IntV y, called hash P f nodes c.in_ok-state.state c.in_ok-argument.argument z y int ints first (c.in_ok-argument.ensures.stands kind P.types))
-
-pub returns-clause-audited : goal.returns-clause-audited
-returns-clause-audited c hash = let is = returns-clause-called c hash in (is.0, is.1, record { state_stands = is.2.state_stands; argument_stands = is.2.argument_stands })

@@ -1,6 +1,6 @@
 use Rattle.std.proofs.Common.{length, refl}
 use Rattle.std.proofs.lemmas.Option.{slice_get_read}
-use Rattle.verdict_tests.proofs.StateRoles.{reads_state, takes_state}
+use Rattle.mode_vm.proofs.StateRoles.{reads_state, takes_state}
 use Rattle.verdict_tests.proofs.verdicts.reading.Goals as goal
 
 pub returns-in-Query : goal.returns-in-Query

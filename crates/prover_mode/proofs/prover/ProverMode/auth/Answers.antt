@@ -1,0 +1,34 @@
+use Rattle.std.proofs.Common.{ap, ◌∙◌}
+use Rattle.core_terms.specs.ProgramTypes.{types_by_number, types_meaning}
+use Rattle.core_terms.specs.Projection.{digest_at, projection}
+use Rattle.core_terms.specs.TypeTables.{type_at}
+use Rattle.value_store.specs.Standing.{ProverNodes}
+use Rattle.value_store.proofs.MarkedNodes.{refers_there}
+use Rattle.value_store.proofs.ProverNodes.{shown_shallow}
+use Rattle.prover_mode.proofs.prover.ProverMode.auth.Goals as goal
+
+pub spell-requires : goal.spell-requires
+spell-requires g c =
+    let hash = g.H.Hash32.hash in
+    let P = types_meaning c.args.types.now in
+    let t = type_at (types_by_number c.args.types.now) c.args.ty in
+    let x = c.requires.stands.0 in (
+      projection hash P t x,
+      shown_shallow (digest_at hash P) P.types (λ t bytes. g.met.H.Hash32.digest_length bytes) (g.N.Nodes.nodes c.args.store.now) t x c.args.v.0 c.requires.stands.1,
+    )
+
+pub put_auth-requires : goal.put_auth-requires
+put_auth-requires g c =
+    let P = types_meaning c.args.types.now in
+    let t = type_at (types_by_number c.args.types.now) c.args.ty in
+    record {
+      inner = refers_there (ProverNodes (digest_at g.H.Hash32.hash P)) P.types (g.N.Nodes.nodes c.args.store.now) c.args.v.0 t c.requires.stands.0 c.requires.stands.1;
+    }
+
+pub returns-in-Ok-put_auth-clause-stands : goal.returns-in-Ok-put_auth-clause-stands
+returns-in-Ok-put_auth-clause-stands g c x stands =
+    let hash = g.H.Hash32.hash in
+    let P = types_meaning c.args.types.now in
+    let t = type_at (types_by_number c.args.types.now) c.args.ty in
+    let spelled = c.as_bytes.ensures ∙ c.in-Ok.ensures.projected hash x g.met.H.Hash32.digest_length stands in
+    c.in-Ok-put_auth.ensures.stands (ProverNodes (digest_at hash P)) P.types t x (stands, c.of-digest.ensures ∙ ap (digest_at hash P t) spelled)

@@ -1,0 +1,23 @@
+-- The frames of the proof of a call, and that its file is accepted.
+use Rattle.std.specs.Prelude.{◌≡◌, ℕ, List}
+use Rattle.core_terms.specs.Formats.{Hash}
+use Rattle.core_terms.specs.Projection.{projection}
+use Rattle.core_terms.specs.Roles.{argument_type}
+use Rattle.core_terms.specs.Spelling.{spelling}
+use Rattle.core_terms.specs.Terms.{Program, function_at}
+use Rattle.core_terms.specs.Values.{Value, Values}
+use Rattle.ideal_meaning.specs.Checked.{Accepted, verdict}
+use Rattle.ideal_meaning.specs.Frames.{Frame, honest_frames}
+use Rattle.ideal_meaning.specs.Headline.{call_of}
+use Rattle.ideal_meaning.specs.Ideal as ideal
+
+-- the frames of an honest prover for a run of function f, with a ring of n; `recent` came before, the last one first
+abbrev pub run_frames : Hash → Program → (f : ℕ) → Values → (k : ℕ) → (n : ℕ) → (recent : List (List ℕ)) → List Frame
+run_frames hash P f args k n recent = honest_frames n recent (ideal.bytes_of (ideal.honest_pieces hash P f args k))
+
+-- The verdict on these bytes of a proof file, for a call of function f with fuel k, given the spellings of the projected state and
+-- argument alone: it is accepted with the projection of the ideal outcome.
+abbrev pub IsAccepted : Hash → Program → ℕ → (state argument : Value) → ℕ → List ℕ → Type 0
+IsAccepted hash P f state argument k proof =
+    verdict hash P (argument_type P f) f (spelling (projection hash P P.state state)) (spelling (projection hash P (argument_type P f) argument)) k proof
+    ≡ Accepted (ideal.outcome_projection hash P (function_at P f).result (ideal.outcome (ideal.ideal P f (call_of state argument) k)))

@@ -1,0 +1,83 @@
+// The frames of a proof, as an honest prover writes them.
+ghost use Rattle.std.specs.Prelude.{◌≡◌, ◌<◌, ◌+◌, ◌++◌, ◌∷◌, ◌^◌, [], ℕ, List, length, suc, IfOk, OnOk};
+ghost use Rattle.ideal_meaning.specs.Ideal as ideal;
+ghost use Rattle.reuse_buffer.specs.Kept.{kept};
+ghost use Rattle.prover_mode.specs.Seen.{AreSeen, pieces_of};
+ghost use Rattle.prover_mode.specs.Written.{HasWritten};
+
+use crate::opened::Opened;
+use core_terms::{Hash32, Types};
+use proof_stream::{put_new, put_use};
+use reuse_buffer::Ring;
+use shallow_codec::spell;
+use std::alloc::{AllocError, Global};
+use value_store::Nodes;
+
+/// The frames that were written so far, and the ring behind them.
+#[derive(Drop)]
+pub(crate) struct FrameWriter {
+    pub(crate) ring: Ring,
+    pub(crate) bytes: Vec<u8>,
+    /// The number of frames with a piece of their own.
+    pub(crate) fresh: u64,
+    /// The number of frames that name a kept piece.
+    pub(crate) again: u64,
+}
+
+impl FrameWriter {
+    /// A writer before its first frame.
+    pub(crate) fn new(alloc: Global, ring: Ring) -> Self
+        ensures written { (recent : List (List ℕ)) → ring ≡ kept ring.size recent → HasWritten ring.size recent [] result }
+        ensures count { result.fresh + result.again ≡ 0 }
+    {
+        FrameWriter {
+            ring,
+            bytes: Vec::new(alloc),
+            fresh: 0,
+            again: 0,
+        }
+    }
+
+    /// Writes a piece: where it is kept, it is named, and else it is written whole and kept from then on.
+    pub(crate) fn put(&mut self, piece: Vec<u8>) -> Result<(), AllocError>
+        requires short { length piece.items < 2 ^ 32 }
+        requires few { suc (self.old.fresh + self.old.again) < 2 ^ 64 }
+        ensures written { (n : ℕ) (recent pieces : List (List ℕ)) → HasWritten n recent pieces self.old
+            → OnOk result (HasWritten n recent (pieces ++ piece.items ∷ []) self.new) }
+        ensures count { OnOk result (self.new.fresh + self.new.again ≡ suc (self.old.fresh + self.old.again)) }
+    {
+        match self.ring.place_of(&piece) {
+            None => {
+                put_new(&mut self.bytes, &piece)?;
+                self.ring.push(piece);
+                self.fresh += 1;
+            }
+            Some(k) => {
+                put_use(&mut self.bytes, k)?;
+                self.again += 1;
+            }
+        }
+        Ok(())
+    }
+}
+
+/// Writes what was opened, in order: of each value the spelling of its projection.
+pub(crate) fn write_frames<H: Hash32, N: Nodes>(
+    alloc: Global,
+    types: &Types,
+    store: &N,
+    opened: &[Opened],
+    ring: Ring,
+) -> Result<FrameWriter, AllocError>
+    requires seen { (seen : List ideal.Opened) × AreSeen H.hash types.now (N.nodes store.now) opened.now seen }
+    ensures written { IfOk result (λ writer. (seen : List ideal.Opened) (recent : List (List ℕ))
+        → AreSeen H.hash types.now (N.nodes store.now) opened.now seen → ring ≡ kept ring.size recent
+        → HasWritten ring.size recent (pieces_of H.hash types.now seen) writer) }
+{
+    let mut writer = FrameWriter::new(alloc, ring);
+    for Opened { ty, value } in opened {
+        let piece = spell(alloc, types, store, *value, *ty)?;
+        writer.put(piece.into_bytes())?;
+    }
+    Ok(writer)
+}

@@ -1,0 +1,127 @@
+// The prover as a mode of the machine.
+ghost use Rattle.std.specs.Prelude.{◌≡◌, [], ℕ, List, length, None};
+ghost use Rattle.core_terms.specs.Types.{AuthTy, Table, Ty};
+ghost use Rattle.core_terms.specs.Values.{Value};
+ghost use Rattle.value_store.specs.Markings.{ProverMarking};
+ghost use Rattle.value_store.specs.Standing.{ProverNodes, StandsFor};
+
+use crate::opened::Opened;
+use core_terms::{Hash32, TyId, Types};
+use mode_vm::{Mode, Never, Stop};
+use shallow_codec::spell;
+use std::alloc::Global;
+use std::marker::PhantomData;
+use value_store::{Held, Nodes, Ref, View};
+
+/// The prover: `auth` holds a value with the digest of its projection, `unauth` gives the value and notes what is opened.
+#[derive(Drop)]
+pub struct Prover<H> {
+    alloc: Global,
+    opened: Vec<Opened>,
+    hash: PhantomData<H>,
+}
+
+impl<H: Hash32> Prover<H> {
+    /// A prover that has opened nothing. Takes no memory.
+    pub fn new(alloc: Global) -> Self
+        ensures { result.opened.items ≡ [] }
+    {
+        Prover {
+            alloc,
+            opened: Vec::new(alloc),
+            hash: PhantomData,
+        }
+    }
+
+    /// What was opened, in order.
+    pub fn into_opened(self) -> Vec<Opened>
+        ensures { result ≡ self.opened }
+    {
+        let Prover {
+            alloc: _,
+            opened,
+            hash: _,
+        } = self;
+        opened
+    }
+}
+
+impl<H: Hash32> Mode for Prover<H> {
+    ghost use Rattle.prover_mode.specs.Seen.{AreSeen, seen_keeps};
+
+    type Fault = Never;
+
+    type World = ();
+
+    ghost marking = { ProverMarking H.hash };
+
+    ghost Follows = { λ t mode world nodes w. AreSeen H.hash t nodes mode.opened.items w };
+
+    ghost cause = { λ f. None };
+
+    ghost faults = { λ world. 0 };
+
+    ghost Rose = { λ old new. ⊥ };
+
+    ghost opened = { λ mode. length mode.opened.items };
+
+    ghost Knows = { λ t mode nodes. Unit {0} };
+
+    ghost Rest = { Unit {0} };
+
+    ghost rest = { λ world. tt };
+
+    ghost Moves = { λ a v b w. Unit {0} };
+
+    ghost moves_not = { λ a v. tt };
+
+    ghost moves_on = { λ a b c v w x h k. tt };
+
+    ghost follows_on = { λ t mode world old new w k h. seen_keeps H.hash t old new k mode.opened.items w h };
+
+    ghost knows_on = { λ t mode old new k h. h };
+
+    fn auth<N: Nodes>(
+        &mut self,
+        types: &Types,
+        store: &mut N,
+        ty: TyId,
+        v: Ref,
+    ) -> Result<Ref, Stop<Never>> {
+        let Ok(spelling) = spell(self.alloc, types, store, v, ty) else {
+            return Err(Stop::NoMemory);
+        };
+        let digest = H::of(spelling.as_bytes());
+        match store.put_auth(Held::Both(digest, v)) {
+            Ok(r) => Ok(r),
+            Err(_) => Err(Stop::NoMemory),
+        }
+    }
+
+    fn unauth<N: Nodes>(
+        &mut self,
+        _world: &mut (),
+        _types: &Types,
+        store: &mut N,
+        ty: TyId,
+        v: Ref,
+    ) -> Result<Ref, Stop<Never>> {
+        let value = inner_of(store, v);
+        match self.opened.push(Opened { ty, value }) {
+            Ok(()) => Ok(value),
+            Err(_) => Err(Stop::NoMemory),
+        }
+    }
+}
+
+/// The node that a prover's node of an authenticated value refers to.
+fn inner_of<N: Nodes>(store: &N, r: Ref) -> Ref
+    requires { (digest : Ty → List ℕ → List ℕ) × (types : Table) × (t : Ty) × (x : Value) × StandsFor (ProverNodes digest) types (N.nodes store.now) r.0 (AuthTy t) x }
+    ensures { (digest : Ty → List ℕ → List ℕ) (types : Table) (t : Ty) (x : Value) → StandsFor (ProverNodes digest) types (N.nodes store.now) r.0 (AuthTy t) x
+        → StandsFor (ProverNodes digest) types (N.nodes store.now) result.0 t x }
+{
+    match store.view(r) {
+        View::Auth(Held::Both(_, inner)) => *inner,
+        _ => unreachable!(),
+    }
+}

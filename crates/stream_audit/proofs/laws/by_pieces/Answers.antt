@@ -1,5 +1,0 @@
-use Rattle.stream_audit.proofs.ByPieces.{audit_is_by_pieces}
-use Rattle.stream_audit.proofs.laws.by_pieces.Goals as goal
-
-pub returns : goal.returns
-returns c = audit_is_by_pieces

@@ -1,0 +1,174 @@
+// The verifier as a mode of the machine.
+ghost use Rattle.std.specs.Prelude.{◌≡◌, None};
+ghost use Rattle.core_terms.specs.ProgramTypes.{types_meaning};
+ghost use Rattle.lam_outside.specs.Causes.{Rose};
+ghost use Rattle.proof_stream.specs.Readers.{limit_of};
+ghost use Rattle.value_store.specs.Markings.{VerifierMarking};
+ghost use Rattle.verifier_mode.specs.Faults.{fault_cause};
+ghost use Rattle.verifier_mode.specs.Takings.{FollowsFrames, MovesOn};
+
+use crate::last_read::{LastRead, note_read};
+use crate::opening::{Asked, held_digest, open_piece, stop_of};
+use core_terms::{Cause, Hash32, TyId, Types};
+use lam_outside::Source;
+use mode_vm::{Mode, Stop};
+use proof_stream::{Frame, FrameReader};
+use reuse_buffer::Ring;
+use shallow_codec::spell;
+use std::alloc::Global;
+use std::marker::PhantomData;
+use value_store::{Held, Nodes, Ref};
+
+/// Why the verifier stops a run.
+#[derive(Clone, Copy)]
+pub enum VerifierFault {
+    /// The proof is rejected, for this cause.
+    Rejected(Cause),
+    /// The source failed, and its count of faults rose.
+    ReadFault,
+}
+
+/// The verifier over a source of frames: `auth` digests the spelling of the value in hand, `unauth` takes the next piece.
+///
+/// Of the proof it holds the piece in hand, the piece that was read last and the ring, and no more. A piece that comes again at once is
+/// digested, but its value isn't made a second time.
+#[derive(Drop)]
+pub struct Verifier<H, S> {
+    reader: FrameReader,
+    ring: Ring,
+    place: u64,
+    last: Option<LastRead>,
+    hash: PhantomData<H>,
+    source: PhantomData<S>,
+}
+
+impl<H: Hash32, S: Source> Verifier<H, S> {
+    /// A verifier before its first piece, which may have at most `limit` bytes, with the pieces that came before.
+    pub fn new(alloc: Global, limit: usize, ring: Ring) -> Self
+        ensures limit { limit_of result.reader ≡ limit }
+        ensures ring { result.ring ≡ ring }
+        ensures place { result.place ≡ 0 }
+        ensures last { result.last ≡ None }
+    {
+        Verifier {
+            reader: FrameReader::new(alloc, limit),
+            ring,
+            place: 0,
+            last: None,
+            hash: PhantomData,
+            source: PhantomData,
+        }
+    }
+
+    /// The ring, as the run left it.
+    pub fn into_ring(self) -> Ring
+        ensures { result ≡ self.ring }
+    {
+        let Verifier {
+            reader,
+            ring,
+            place: _,
+            last,
+            hash: _,
+            source: _,
+        } = self;
+        drop(reader);
+        drop(last);
+        ring
+    }
+}
+
+impl<H: Hash32, S: Source> Mode for Verifier<H, S> {
+    ghost use Rattle.verifier_mode.specs.LastReads.{KnowsLast, knows_last_on};
+    ghost use Rattle.verifier_mode.specs.Moving.{moves_not, moves_on};
+
+    type Fault = VerifierFault;
+
+    type World = S;
+
+    ghost marking = { VerifierMarking H.hash };
+
+    ghost Follows = { λ t mode world nodes w. FollowsFrames (types_meaning t) (limit_of mode.reader) mode.ring mode.place (S.left world) w };
+
+    ghost cause = { fault_cause };
+
+    ghost faults = { λ world. S.faults world };
+
+    ghost Rose = { Rose };
+
+    ghost Rest = { S.Rest };
+
+    ghost rest = { λ world. S.rest world };
+
+    ghost Moves = { λ a v b w. MovesOn (limit_of a.reader) a.ring (S.left v) (limit_of b.reader) b.ring (S.left w) };
+
+    ghost moves_not = { λ a v. moves_not (limit_of a.reader) a.ring (S.left v) };
+
+    ghost moves_on = { λ a b c v w x h k.
+        moves_on (limit_of a.reader) a.ring (S.left v) (limit_of b.reader) b.ring (S.left w) (limit_of c.reader) c.ring (S.left x) h k };
+
+    ghost opened = { λ mode. mode.place };
+
+    ghost Knows = { λ t mode nodes. KnowsLast t nodes mode.last };
+
+    ghost follows_on = { λ t mode world old new w k h. h };
+
+    ghost knows_on = { λ t mode old new k h. knows_last_on t mode.last old new k h };
+
+    fn auth<N: Nodes>(
+        &mut self,
+        types: &Types,
+        store: &mut N,
+        ty: TyId,
+        v: Ref,
+    ) -> Result<Ref, Stop<VerifierFault>> {
+        let Ok(spelling) = spell(store.alloc(), types, store, v, ty) else {
+            return Err(Stop::NoMemory);
+        };
+        let digest = H::of(spelling.as_bytes());
+        match store.put_auth(Held::Only(digest)) {
+            Ok(r) => Ok(r),
+            Err(_) => Err(Stop::NoMemory),
+        }
+    }
+
+    fn unauth<N: Nodes>(
+        &mut self,
+        world: &mut S,
+        types: &Types,
+        store: &mut N,
+        ty: TyId,
+        v: Ref,
+    ) -> Result<Ref, Stop<VerifierFault>> {
+        let asked = Asked {
+            place: self.place,
+            want: held_digest(store, v),
+        };
+        match self.reader.next(world) {
+            Ok(Frame::New) => {
+                let piece = self.reader.take_piece();
+                let found = H::of(&piece);
+                let fresh = open_piece(types, store, ty, asked, &piece, found, &self.last)?;
+                note_read(&mut self.last, store.alloc(), ty, &piece, fresh);
+                self.ring.push(piece);
+                self.place += 1;
+                Ok(fresh)
+            }
+            Ok(Frame::Back(k)) => {
+                let held = self.ring.held() as u16;
+                let Some(piece) = self.ring.get(k) else {
+                    return Err(Stop::Mode(VerifierFault::Rejected(Cause::BadUse(
+                        asked.place,
+                        k,
+                        held,
+                    ))));
+                };
+                let kept = H::of(piece);
+                let used = open_piece(types, store, ty, asked, piece, kept, &self.last)?;
+                self.place += 1;
+                Ok(used)
+            }
+            Err(end) => Err(stop_of(end, asked.place)),
+        }
+    }
+}
