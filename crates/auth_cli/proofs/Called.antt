@@ -5,10 +5,7 @@ use Rattle.lam_outside.specs.Told.{Contents, Names}
 use Rattle.auth_cli.specs.Answer.{answer, called_answer, command_answer}
 use Rattle.auth_cli.specs.Codes.{code}
 use Rattle.auth_cli.specs.Ending.{EndsAs, IsOfRefused, Outside}
-use Rattle.auth_cli.specs.AuditedCalls.{IsAuditedBy, IsOfAudit}
 use Rattle.auth_cli.specs.Reaching.{IsReached}
-use Rattle.auth_cli.specs.ProvedCalls.{IsProvedBy}
-use Rattle.auth_cli.specs.SoundPrograms.{IsOutcome}
 use Rattle.auth_cli.specs.Statuses.{MayAnswer}
 use Rattle.auth_cli.specs.Telling.{Tells}
 use Rattle.auth_cli.specs.declared.report.Halt.TheVariants.{Usage, NoMemory}
@@ -54,39 +51,6 @@ refused_code status.InputRefused is = absurd is
 refused_code status.ReadFault is = absurd is
 refused_code status.Collision is = absurd is
 
--- of refused words nothing was proved or audited
-no_outcome : (status : Status) → IsOfRefused status → IsOutcome status → ⊥
-no_outcome status.Usage is outcome = outcome
-no_outcome status.WriteFault is outcome = outcome
-no_outcome status.NoMemory is outcome = outcome
-no_outcome status.Done is outcome = is
-no_outcome status.Trap is outcome = is
-no_outcome status.OutOfFuel is outcome = is
-no_outcome status.Rejected is outcome = is
-no_outcome status.ProgramRefused is outcome = is
-no_outcome status.InputRefused is outcome = is
-no_outcome status.ReadFault is outcome = is
-no_outcome status.Collision is outcome = is
-
-no_audit : (status : Status) → IsOfRefused status → IsOfAudit status → ⊥
-no_audit status.Usage is audit = audit
-no_audit status.WriteFault is audit = audit
-no_audit status.NoMemory is audit = audit
-no_audit status.Done is audit = is
-no_audit status.Trap is audit = is
-no_audit status.OutOfFuel is audit = is
-no_audit status.Rejected is audit = is
-no_audit status.ProgramRefused is audit = is
-no_audit status.InputRefused is audit = is
-no_audit status.ReadFault is audit = is
-no_audit status.Collision is audit = is
-
-pub nothing_proved : (called : Invocation) (contents : Option Contents) (old new : Outside) (status : Status) → IsOfRefused status → IsProvedBy called contents old new status
-nothing_proved called contents old new status is = λ prove outcome. absurd (no_outcome status is outcome)
-
-pub nothing_audited : (called : Invocation) (contents : Option Contents) (old new : Outside) (status : Status) → IsOfRefused status → IsAuditedBy called contents old new status
-nothing_audited called contents old new status is = λ audit of_audit. absurd (no_audit status is of_audit)
-
 -- what words call is one thing alone
 same_called : (words : List (List ℕ)) (read called : Invocation) → invocation_of words ≡ Some read → invocation_of words ≡ Some called → read ≡ called
 same_called words read called is other = same read called (sym is ∙ other)
@@ -94,15 +58,9 @@ same_called words read called is other = same read called (sym is ∙ other)
     same : (a b : Invocation) → Some a ≡ Some b → a ≡ b
     same a b e = cc
 
-module _ (words : List (List ℕ)) (read called : Invocation) (is : invocation_of words ≡ Some read) (other : invocation_of words ≡ Some called) (status : Status) where
-  pub possible_called : MayAnswer read.command status → MayAnswer called.command status
-  possible_called may = subst (λ (i : Invocation). MayAnswer i.command status) (same_called words read called is other) may
-
-  pub proved_called : (contents : Option Contents) (old new : Outside) → IsProvedBy read contents old new status → IsProvedBy called contents old new status
-  proved_called contents old new proved = subst (λ i. IsProvedBy i contents old new status) (same_called words read called is other) proved
-
-  pub audited_called : (contents : Option Contents) (old new : Outside) → IsAuditedBy read contents old new status → IsAuditedBy called contents old new status
-  audited_called contents old new audited = subst (λ i. IsAuditedBy i contents old new status) (same_called words read called is other) audited
+pub possible_called : (words : List (List ℕ)) (read called : Invocation) → invocation_of words ≡ Some read → invocation_of words ≡ Some called → (status : Status)
+    → MayAnswer read.command status → MayAnswer called.command status
+possible_called words read called is other status may = subst (λ (i : Invocation). MayAnswer i.command status) (same_called words read called is other) may
 
 pub none_called : {A : Type 0} (words : List (List ℕ)) (called : Invocation) → invocation_of words ≡ None → invocation_of words ≡ Some called → A
 none_called words called none is = absurd (by (invocation_of words) none is)

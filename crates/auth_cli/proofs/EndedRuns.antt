@@ -2,45 +2,46 @@
 use Rattle.std.proofs.Common.{◌≡◌, ℕ, List, [], ◌∷◌, Option, sym, ap, ◌∙◌, subst}
 use Rattle.core_terms.specs.Programs.{meaning, types_of}
 use Rattle.core_terms.specs.RoleViews.{role_kind_of}
-use Rattle.core_terms.specs.Roles.{ReadsState}
 use Rattle.core_terms.specs.Terms.{function_at}
 use Rattle.core_terms.specs.TypeTables.{type_at}
-use Rattle.core_terms.specs.Types.{Ty}
 use Rattle.core_terms.specs.Values.{AndV, NoV, Value}
 use Rattle.core_terms.specs.declared.program.Program.{Program}
-use Rattle.ideal_meaning.specs.Headline.{call_of}
 use Rattle.value_store.specs.Nodes.{Node}
 use Rattle.value_store.specs.Standing.{AllStandFor, StandsFor}
+use Rattle.value_store.specs.Stores.{nodes_in}
 use Rattle.auth_cli.specs.Answer.{Answer, with_literal, with_passed}
-use Rattle.auth_cli.specs.ReadPrograms.{language_named}
+use Rattle.auth_cli.specs.CallsInStores.{HoldsCall}
+use Rattle.auth_cli.specs.IdealCalls as meant
+use Rattle.auth_cli.specs.IdealCalls.{values_called}
+use Rattle.auth_cli.specs.ReadPrograms.{named_of}
 use Rattle.auth_cli.specs.RoleCalls.{named_literal}
-use Rattle.auth_cli.specs.RolesCalled.{IsCalled, prover_nodes, role_of}
+use Rattle.auth_cli.specs.RolesCalled.{CallsOnStates, IsCalled, prover_nodes, role_of}
+use Rattle.auth_cli.specs.declared.ideal_calls.IdealCall.{IdealCall}
 use Rattle.auth_cli.specs.declared.roles.CalledRole.{CalledRole}
 use Rattle.auth_cli.specs.declared.roles.Callee.{Callee}
 use Rattle.auth_cli.specs.declared.roles.Callee.TheVariants.{Init}
-use Rattle.auth_cli.proofs.RoleShapes.{init_alone, init_takes, passed_is, reader_takes}
+use Rattle.auth_cli.proofs.RoleShapes.{calls_reads, init_alone, init_takes, passed_is, reader_takes}
 
 -- the value of a literal was put as the argument, by this program
 abbrev pub IsPut : CalledRole → (text : List ℕ) → List Node → ℕ → Program → Type 0
 IsPut called text nodes r p =
-    (v : Value) × ((go : Value → Option Answer) → with_literal (named_literal (language_named p) (type_at (types_of p) called.argument) text) go ≡ go v)
+    (v : Value) × ((go : Value → Option Answer) → with_literal (named_literal (named_of p) (type_at (types_of p) called.argument) text) go ≡ go v)
     × StandsFor (prover_nodes p) (meaning p).types nodes r (type_at (types_of p) called.argument) v
 
-module _ (callee : Callee) (p : Program) (called : CalledRole) (is : IsCalled callee p called) (text : List ℕ) (nodes : List Node) (r : ℕ) (put : IsPut called text nodes r p) where
-  abbrev parameters : List Ty
-  parameters = (function_at (meaning p) called.function.0).parameters
+-- it is what is gone on with
+pub passed_goes : (callee : Callee) (p : Program) (called : CalledRole) → IsCalled callee p called → (text : List ℕ) (nodes : List Node) (r : ℕ) (put : IsPut called text nodes r p)
+    → (go : Value → Option Answer) → with_passed (role_of p called) text go ≡ go put.0
+passed_goes callee p called is text nodes r put go = ap (λ t. with_literal (named_literal (named_of p) t text) go) (passed_is callee p called is) ∙ put.1 go
 
-  abbrev argument : Ty
-  argument = type_at (types_of p) called.argument
-
-  pub passed_goes : (go : Value → Option Answer) → with_passed (role_of p called) text go ≡ go put.0
-  passed_goes go = ap (λ t. with_literal (named_literal (language_named p) t text) go) (passed_is callee p called is) ∙ put.1 go
-
-  pub call_stands : ReadsState (role_kind_of called.kind) → (root : ℕ) (s : Value) → StandsFor (prover_nodes p) (meaning p).types nodes root (meaning p).state s
-      → AllStandFor (prover_nodes p) (meaning p).types nodes (root ∷ r ∷ []) parameters (call_of s put.0)
-  call_stands reads root s stored =
-      subst (λ ts. AllStandFor (prover_nodes p) (meaning p).types nodes (root ∷ r ∷ []) ts (call_of s put.0))
-      (sym (reader_takes (meaning p) called.function.0 (role_kind_of called.kind) argument is.answer is.shape reads)) (stored, (put.2, tt))
+-- the state and the argument of a call that is held
+pub call_stands : (callee : Callee) (p : Program) (held : IdealCall) (call : meant.IdealCall) → CallsOnStates callee → HoldsCall callee p held call
+    → AllStandFor (prover_nodes p) (meaning p).types (nodes_in held.store) (held.state.0 ∷ held.argument.0 ∷ []) (function_at (meaning p) held.called.function.0).parameters (values_called call)
+call_stands callee p held call calls h =
+    let called = held.called in
+    let is = h.called in
+    let reads = calls_reads callee (role_kind_of called.kind) calls is.called in
+    subst (λ ts. AllStandFor (prover_nodes p) (meaning p).types (nodes_in held.store) (held.state.0 ∷ held.argument.0 ∷ []) ts (values_called call))
+    (sym (reader_takes (meaning p) called.function.0 (role_kind_of called.kind) (type_at (types_of p) called.argument) is.answer is.shape reads)) (h.state, (h.argument, tt))
 
 pub init_stands : (p : Program) (called : CalledRole) (is : IsCalled Init p called) (text : List ℕ) (nodes : List Node) (r : ℕ) (put : IsPut called text nodes r p)
     → AllStandFor (prover_nodes p) (meaning p).types nodes (r ∷ []) (function_at (meaning p) called.function.0).parameters (AndV put.0 NoV)

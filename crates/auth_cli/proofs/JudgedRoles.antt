@@ -19,13 +19,14 @@ use Rattle.core_terms.proofs.LawProofs.{size_is_length}
 use Rattle.ideal_meaning.specs.Checked as checked
 use Rattle.ideal_meaning.specs.Ideal as ideal
 use Rattle.printed_lines.specs.Lines.{named_done_line}
-use Rattle.stream_verifier.specs.Verdicts.{Answers, IsTold, SpellsOutcome, VerdictCause}
-use Rattle.stream_verifier.specs.declared.verdict.Verdict.{Verdict}
-use Rattle.stream_verifier.specs.declared.verdict.Verdict.TheVariants as verdict
+use Rattle.verifier_mode.specs.Verdicts.{Answers, IsTold, VerdictCause}
+use Rattle.mode_vm.specs.StateCalls.{SpellsOutcome}
+use Rattle.verifier_mode.specs.declared.verdict.Verdict.{Verdict}
+use Rattle.verifier_mode.specs.declared.verdict.Verdict.TheVariants as verdict
 use Rattle.shallow_codec.specs.ProgramTypes.{table, ty_of}
 use Rattle.value_store.specs.Nodes.{size_limit}
 use Rattle.auth_cli.specs.Answer.{Answer, accepted_answer, callee_of, says, shallow_told, spelling_stored, verdict_answer}
-use Rattle.auth_cli.specs.FueledQueries.{FueledRole}
+use Rattle.auth_cli.specs.FueledRoles.{FueledRole}
 use Rattle.auth_cli.specs.Halting.{JudgementCause, ending_status, of_verdict}
 use Rattle.auth_cli.specs.RoleCalls.{is_called, result_called, state_made}
 use Rattle.auth_cli.specs.RolesCalled.{IsCalled, role_of}

@@ -19,7 +19,7 @@ use Rattle.images.specs.declared.fault.SaveFault.{SaveFault}
 use Rattle.value_store.specs.Nodes.{Node}
 use Rattle.value_store.specs.Standing.{ProverNodes, StandsFor, VerifierNodes}
 use Rattle.value_store.proofs.ProverNodes.{shown_shallow}
-use Rattle.stored_images.proofs.ImagesByTypes.{images_alike}
+use Rattle.images.proofs.ImagesByTypes.{images_alike}
 
 pub language_format : (p : Program) → IsFormat (meaning p).format
 language_format p = first_format_is_format 1024 (lit< tt)

@@ -14,12 +14,12 @@ use Rattle.printed_syntax.proofs.LiteralsReadBack.{literals_are_read_back}
 use Rattle.ideal_meaning.specs.Frames.{header}
 use Rattle.collision_audit.specs.Audits.{IsOnProof}
 use Rattle.collision_audit.proofs.OnProof.{header_is_on_proof}
-use Rattle.stream_verifier.specs.Verdicts.{keeping, verdict_keeping, with_argument, with_state}
-use Rattle.auth_cli.specs.Answer.{most_kept, role_verdict, state_read}
-use Rattle.auth_cli.specs.FueledQueries.{FueledRole}
+use Rattle.ideal_meaning.specs.Checked.{verdict, with_argument, with_state}
+use Rattle.auth_cli.specs.Answer.{role_verdict, state_read}
+use Rattle.auth_cli.specs.FueledRoles.{FueledRole}
 use Rattle.auth_cli.specs.RoleCalls.{kind_called, named_literal, program_called, type_passed}
 use Rattle.auth_cli.specs.VerdictLaws.{VerdictsAreOnProofs}
-use Rattle.auth_cli.proofs.SoundTexts.{language_text_sound}
+use Rattle.auth_cli.proofs.SoundTexts.{text_is_sound}
 
 -- what is passed to a role that reads a state is its second parameter
 behind_state : (kind : Kind) → ReadsState kind → argument_place kind ≡ 1
@@ -33,17 +33,17 @@ passed_behind r reads = ap (λ place. slice_index_or (function_at (program_calle
 
 -- where both are read, the verdict is on the proof
 both_read : (P : Program) (t : Ty) (state argument : List ℕ) (s a : Value) (rest end : List ℕ) (place other : ℕ) → read_at P P.state state ≡ Good s rest place
-    → read_at P t argument ≡ Good a end other → (f k : ℕ) (proof : List ℕ) → IsOnProof (verdict_keeping sha256 P most_kept t f state argument k proof)
+    → read_at P t argument ≡ Good a end other → (f k : ℕ) (proof : List ℕ) → IsOnProof (verdict sha256 P t f state argument k proof)
 both_read P t state argument s a rest end place other state_is argument_is f k proof =
-    subst IsOnProof (sym (ap (λ (r : Read Value). with_state sha256 P most_kept t r argument f k proof) state_is))
-    (subst IsOnProof (sym (ap (λ (r : Read Value). with_argument sha256 P most_kept s r f k proof) argument_is))
-    (header_is_on_proof sha256 P (header (keeping most_kept P.format) proof) f (AndV s (AndV a NoV)) k proof))
+    subst IsOnProof (sym (ap (λ (r : Read Value). with_state sha256 P t r argument f k proof) state_is))
+    (subst IsOnProof (sym (ap (λ (r : Read Value). with_argument sha256 P s r f k proof) argument_is))
+    (header_is_on_proof sha256 P (header P.format proof) f (AndV s (AndV a NoV)) k proof))
 
 pub verdicts_are_on_proofs : VerdictsAreOnProofs
 unfolding role_verdict named_literal state_read
 verdicts_are_on_proofs program r is reads state s rest place state_is argument a argument_is proof =
     let P = program_called r in
-    let fits : P.format.limit < 2 ^ 32 = subst (λ (format : Format). format.limit < 2 ^ 32) (sym (language_text_sound program P is).format) (lit< tt) in
+    let fits : P.format.limit < 2 ^ 32 = subst (λ (format : Format). format.limit < 2 ^ 32) (sym (text_is_sound program P is).format) (lit< tt) in
     let written : IsLiteralValue P (type_passed r) a = literals_are_read_back P fits r.program.names (type_passed r) argument a argument_is in
-    subst (λ t. IsOnProof (verdict_keeping sha256 P most_kept t r.role state (spelling a) r.fuel proof)) (passed_behind r reads)
+    subst (λ t. IsOnProof (verdict sha256 P t r.role state (spelling a) r.fuel proof)) (passed_behind r reads)
     (both_read P (type_passed r) state (spelling a) s a rest [] place written.read_back.0 state_is written.read_back.1 r.role r.fuel proof)

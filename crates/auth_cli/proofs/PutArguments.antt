@@ -24,9 +24,9 @@ use Rattle.shallow_codec.specs.declared.fault.UnspellFault.{UnspellFault}
 use Rattle.shallow_codec.specs.declared.fault.UnspellFault.TheVariants.{Bad}
 use Rattle.shallow_codec.proofs.LawProofs.{plain_stands}
 use Rattle.auth_cli.specs.Answer.{Answer, with_literal}
-use Rattle.auth_cli.specs.FueledQueries.{NamedProgram}
+use Rattle.auth_cli.specs.FueledRoles.{NamedProgram}
 use Rattle.auth_cli.specs.Halting.{GoesOnForInHand, of_literal_fault}
-use Rattle.auth_cli.specs.ReadPrograms.{language_named}
+use Rattle.auth_cli.specs.ReadPrograms.{named_of}
 use Rattle.auth_cli.specs.RoleCalls.{named_literal}
 use Rattle.auth_cli.specs.RolesCalled.{prover_nodes}
 use Rattle.auth_cli.specs.declared.report.Halt.{Halt}
@@ -76,6 +76,6 @@ module _ (p : Program) (t : Ty) (text bytes : List ℕ) (spelled : SpellsLiteral
       plain_stands VerifierNodes (prover_nodes p) (meaning p).types nodes t spelled.0 r plain (subst (λ v. StandsFor VerifierNodes (meaning p).types nodes r t v) same stands)
 
   -- it is what is gone on with
-  pub literal_goes_on : (go : Value → Option Answer) → with_literal (named_literal (language_named p) t text) go ≡ go spelled.0
+  pub literal_goes_on : (go : Value → Option Answer) → with_literal (named_literal (named_of p) t text) go ≡ go spelled.0
   unfolding named_literal
   literal_goes_on go = ap (λ found. with_literal found go) spelled.1

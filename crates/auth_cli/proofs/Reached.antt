@@ -4,15 +4,14 @@ use Rattle.std.specs.Option.{ForSome}
 use Rattle.std.proofs.lemmas.Slice.Eq.{bytes_eq-Decides}
 use Rattle.lam_outside.specs.Told.{AsksFor, Contents, Names, Stores}
 use Rattle.printed_lines.specs.declared.refusal.Refusal.TheVariants as refusal
-use Rattle.core_terms.specs.Roles.{argument_type}
 use Rattle.core_terms.specs.Spelling.{spelling}
-use Rattle.auth_cli.specs.Answer.{Answer, RoleCall, with_fuel, with_image_file, with_passed, with_program_file, with_query, with_state_file, with_value}
+use Rattle.auth_cli.specs.Answer.{Answer, RoleCall, with_image_file, with_passed, with_state_file}
 use Rattle.auth_cli.specs.Codes.{code}
-use Rattle.auth_cli.specs.FueledQueries.{FueledQuery, FueledRole}
+use Rattle.auth_cli.specs.FueledRoles.{FueledRole}
 use Rattle.auth_cli.specs.RoleCalls.{program_called}
 use Rattle.auth_cli.specs.IdealCalls.{IdealCall}
 use Rattle.auth_cli.specs.Halting.{FindsInHand, Found, GoesOnInHand, ending_status, halt_status, status_of}
-use Rattle.auth_cli.specs.Reaching.{FaultsAtReached, HaltsAt, HaltsAtReached, IsLast, IsReached, without}
+use Rattle.auth_cli.specs.Reaching.{FaultsAt, FaultsAtReached, HaltsAt, HaltsAtReached, IsLast, IsReached, without}
 use Rattle.auth_cli.specs.Storing.{FindsOutputInHand, StoresAndTells}
 use Rattle.auth_cli.specs.Telling.{Tells}
 use Rattle.auth_cli.specs.declared.report.Ending.{Ending}
@@ -49,15 +48,10 @@ behind step other name files a go none goes last = by (missing_or_same name othe
     by (inl missing) = ap (λ file. step file go) missing ∙ none
     by (inr same) = ap (λ file. step file go) same ∙ goes go ∙ last
 
--- the steps that read one file: of a query, of a call of it on the state in an image, and of a call of a role on the spelling of a state
-abbrev pub query_step : (role fuel : List ℕ) → Option (List ℕ) → (FueledQuery → Option Answer) → Option Answer
-query_step role fuel file go = with_program_file file (λ p. with_query p.program role (λ f. with_fuel fuel (λ k. go (record { program = p; role = f; fuel = k }))))
-
-abbrev pub inputs_step : FueledQuery → (argument : List ℕ) → Option (List ℕ) → (IdealCall → Option Answer) → Option Answer
-inputs_step q argument file go =
-    with_image_file q.program file (λ s.
-    with_value q.program.program (argument_type q.program.program q.role) argument (λ a.
-    go (record { query = q; state = s; argument = a })))
+-- the steps that read one file: of a call of a role on the state in an image, and on the spelling of a state
+abbrev pub inputs_step : FueledRole → (argument : List ℕ) → Option (List ℕ) → (IdealCall → Option Answer) → Option Answer
+inputs_step r argument file go =
+    with_image_file r.program.digested file (λ s. with_passed r argument (λ a. go (record { role = r; state = s; argument = a })))
 
 abbrev pub call_step : FueledRole → (argument : List ℕ) → Option (List ℕ) → (RoleCall → Option Answer) → Option Answer
 call_step r argument file go = with_state_file (program_called r) file (λ s. with_passed r argument (λ a. go (record { role = r; state = s; argument = spelling a })))
@@ -73,6 +67,11 @@ halt_at answer name contents asked NoMemory needs faults = tt
 pub faults_reached : {U : Type 0} (answer : Contents → Option Answer) (name : List ℕ) (contents : Option Contents) (asked : Option Names) (halt : Halt) (result : Result U Halt) → result ≡ Err halt
     → ForSome contents (λ files. answer (without name files) ≡ None) → HaltsAt name asked halt → FaultsAtReached answer contents asked result
 faults_reached answer name contents asked halt result is needs faults = subst (FaultsAtReached answer contents asked) (sym is) (halt_at answer name contents asked halt needs faults)
+
+pub at_reached : {U : Type 0} (answer : Contents → Option Answer) (name : List ℕ) (contents : Option Contents) (asked : Option Names) (result : Result U Halt)
+    → ForSome contents (λ files. answer (without name files) ≡ None) → FaultsAt name asked result → FaultsAtReached answer contents asked result
+at_reached answer name contents asked (Ok t) needs faults = tt
+at_reached answer name contents asked (Err halt) needs faults = halt_at answer name contents asked halt needs faults
 
 -- whatever is found behind the last file, where it may fail at each of its reads
 pub any_reached : {U : Type 0} (answer : Contents → Option Answer) (name : List ℕ) (contents : Option Contents) (asked : Option Names) (result : Result U Halt)

@@ -2,8 +2,8 @@
 use Rattle.std.proofs.Common.{◌≡◌, ℕ, List, Option, Some, Result, Ok, Err, refl, sym, ◌∙◌, subst}
 use Rattle.lam_outside.specs.Told.{Contents, Names}
 use Rattle.printed_lines.specs.declared.refusal.Refusal.TheVariants as refusal
-use Rattle.auth_cli.specs.Answer.{Answer, with_language_file}
-use Rattle.auth_cli.specs.FueledQueries.{NamedProgram}
+use Rattle.auth_cli.specs.Answer.{Answer, with_program_file}
+use Rattle.auth_cli.specs.FueledRoles.{NamedProgram}
 use Rattle.auth_cli.specs.Halting.{GoesOnFor, GoesOnForInHand, GoesOnInHand, HaltCause, HaltsAs}
 use Rattle.auth_cli.specs.Reaching.{FaultsAtReached, HaltsAtReached, IsReached, without}
 use Rattle.auth_cli.specs.Storing.{FindsOutputInHand}
@@ -115,15 +115,15 @@ same_reached answer contents asked halt result is faults = subst (FaultsAtReache
 
 -- behind the program that a file has
 module _ (program : List ℕ) (next : NamedProgram → Contents → Option Answer) (contents : Option Contents) (asked : Option Names) (p : NamedProgram)
-    (goes : (files : Contents) → contents ≡ Some files → (go : NamedProgram → Option Answer) → with_language_file (files program) go ≡ go p) where
+    (goes : (files : Contents) → contents ≡ Some files → (go : NamedProgram → Option Answer) → with_program_file (files program) go ≡ go p) where
   abbrev whole : Contents → Option Answer
-  whole files = with_language_file (files program) (λ p. next p files)
+  whole files = with_program_file (files program) (λ p. next p files)
 
   is_reached : IsReached (next p) contents asked → IsReached whole contents asked
   is_reached reached = λ files known names told. let last = reached files known names told in (
     last.0,
     last.1,
-    behind with_language_file program last.0 files p (λ p. next p (without last.0 files)) refl (goes files known) last.2,
+    behind with_program_file program last.0 files p (λ p. next p (without last.0 files)) refl (goes files known) last.2,
   )
 
   pub program_reached : {T : Type 0} (later : Option Contents) (result : Result T Halt) → later ≡ contents → FaultsAtReached (next p) later asked result → FaultsAtReached whole contents asked result

@@ -14,7 +14,7 @@ use Rattle.ideal_meaning.proofs.Projections.{length_piece}
 use Rattle.value_store.specs.Nodes.{size_limit}
 use Rattle.printed_lines.specs.Lines.{state_line}
 use Rattle.auth_cli.specs.Answer.{state_answer, state_projection}
-use Rattle.auth_cli.specs.FueledQueries.{NamedProgram}
+use Rattle.auth_cli.specs.FueledRoles.{NamedProgram}
 use Rattle.auth_cli.specs.Halting.{ending_status}
 use Rattle.auth_cli.specs.Storing.{IsOutput, stored_as}
 use Rattle.auth_cli.specs.declared.report.Ending.TheVariants.{Done}

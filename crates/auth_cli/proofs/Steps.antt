@@ -1,22 +1,15 @@
 -- The steps of a command's work, put together.
 use Rattle.std.proofs.Common.{◌≡◌, ℕ, List, [], Option, Some, Result, Ok, Err, IsErrAnd, sym, ap, ◌∙◌, subst}
-use Rattle.core_terms.specs.Types.{Ty}
 use Rattle.core_terms.specs.Values.{Value}
-use Rattle.core_terms.specs.Spelling.{spelling}
-use Rattle.core_terms.specs.Terms as tree
-use Rattle.printed_syntax.specs.Literals.{literal}
-use Rattle.printed_syntax.specs.LiteralAnswers.{ReadsLiteral, SpellsLiteral}
-use Rattle.printed_syntax.specs.LiteralAnswers.{LiteralFault}
-use Rattle.core_terms.specs.declared.fault.Fault.TheVariants as literal_fault
 use Rattle.images.specs.Images.{Root, image_of}
 use Rattle.images.specs.Images as images
 use Rattle.images.specs.Loads.{TellsFault}
 use Rattle.images.specs.declared.fault.ImageFault.{ImageFault}
 use Rattle.images.specs.declared.fault.ImageFault.TheVariants as image_fault
 use Rattle.printed_lines.specs.declared.refusal.Refusal.TheVariants as refusal
-use Rattle.auth_cli.specs.Answer.{Answer, image_read, literal_at, with_image, with_literal, with_root, with_value}
-use Rattle.auth_cli.specs.FueledQueries.{DigestedProgram}
-use Rattle.auth_cli.specs.Halting.{Finds, FindsInHand, Found, GoesOn, GoesOnFor, GoesOnForInHand, GoesOnInHand, HaltCause, HaltsAs, of_image_fault, of_literal_fault}
+use Rattle.auth_cli.specs.Answer.{Answer, image_read, with_image, with_root}
+use Rattle.auth_cli.specs.FueledRoles.{DigestedProgram}
+use Rattle.auth_cli.specs.Halting.{Finds, FindsInHand, Found, GoesOn, GoesOnFor, GoesOnForInHand, GoesOnInHand, HaltCause, HaltsAs, of_image_fault}
 use Rattle.auth_cli.specs.Storing.{FindsOutput, FindsOutputInHand}
 use Rattle.auth_cli.specs.declared.report.Halt.{Halt}
 use Rattle.auth_cli.specs.declared.report.Halt.TheVariants.{Usage, Refused, ReadFault, NoMemory}
@@ -55,6 +48,12 @@ goes_behind first a next Stands (Err (Refused (refusal.Proof cause))) is goes = 
 goes_behind first a next Stands (Err ReadFault) is goes = absurd goes
 goes_behind first a next Stands (Err NoMemory) is goes = λ go. tt
 
+-- the same of a step that may read files
+pub follows : {A B T : Type 0} (first : (A → Option Answer) → Option Answer) (a : A) (next : A → (B → Option Answer) → Option Answer) (Stands : T → B → Type 0) (result : Result T Halt)
+    → ((go : A → Option Answer) → first go ≡ go a) → GoesOnFor (next a) Stands result → GoesOnFor (λ go. first (λ a. next a go)) Stands result
+follows first a next Stands (Ok t) is goes = (goes.0, (λ go. is (λ a. next a go) ∙ goes.1 go), goes.2)
+follows first a next Stands (Err halt) is goes = λ go. halts_behind _ _ halt (is (λ a. next a go)) (goes go)
+
 -- what halts a step on what is in hand
 pub hand_halts : {A T : Type 0} (step : (A → Option Answer) → Option Answer) (value : T → A) (halt : Halt) → GoesOnInHand step value (Err halt) → (go : A → Option Answer) → HaltsAs (step go) halt
 hand_halts step value Usage goes = absurd goes
@@ -76,22 +75,6 @@ report_found answer (Err Usage) finds = absurd finds
 report_found answer (Err (Refused what)) finds = finds
 report_found answer (Err ReadFault) finds = absurd finds
 report_found answer (Err NoMemory) finds = finds
-
--- a text that is no literal of a type is refused, whatever of its value would be gone on with
-pub literal_refused : {A T : Type 0} (P : tree.Program) (t : Ty) (text : List ℕ) (part : Value → A) (value : T → A) (fault : LiteralFault) (result : Result T Halt)
-    → IsErrAnd result (λ halt. halt ≡ of_literal_fault fault) → ReadsLiteral (literal P t text) (Err fault) → GoesOnInHand (λ go. with_value P t text (λ v. go (part v))) value result
-unfolding literal_at
-literal_refused P t text part value fault (Ok spelling) halt is = absurd halt
-literal_refused P t text part value (literal_fault.At kind offset) (Err h) halt is =
-    subst (λ h. GoesOnInHand (λ go. with_value P t text (λ v. go (part v))) value (Err h)) (sym halt) (λ go. ap (λ found. with_literal found (λ v. go (part v))) is)
-literal_refused P t text part value literal_fault.NoMemory (Err h) halt is =
-    subst (λ h. GoesOnInHand (λ go. with_value P t text (λ v. go (part v))) value (Err h)) (sym halt) (λ go. tt)
-
--- the spelling of what is one is gone on with
-pub literal_goes : (P : tree.Program) (t : Ty) (text bytes : List ℕ) → SpellsLiteral (literal P t text) bytes
-    → (go : List ℕ → Option Answer) → with_value P t text (λ v. go (spelling v)) ≡ go bytes
-unfolding literal_at
-literal_goes P t text bytes is go = ap (λ found. with_literal found (λ v. go (spelling v))) is.1 ∙ ap go is.2
 
 -- what halted the work of a command that may store a file is found
 pub output_halt : (name : List ℕ) (answer : Option Answer) (result : Result Output Halt) (halt : Halt) → result ≡ Err halt → HaltsAs answer halt → FindsOutput name answer result

@@ -11,7 +11,7 @@ use Rattle.images.specs.Saves.{IsSaved}
 use Rattle.images.specs.declared.fault.SaveFault.{SaveFault}
 use Rattle.images.specs.declared.fault.SaveFault.TheVariants as save_fault
 use Rattle.auth_cli.specs.Answer.{Answer, max_file, outcome_stored, outcome_told, says, state_image, storing}
-use Rattle.auth_cli.specs.FueledQueries.{DigestedProgram, FueledRole}
+use Rattle.auth_cli.specs.FueledRoles.{DigestedProgram, FueledRole}
 use Rattle.auth_cli.specs.Halting.{ending_status, of_save_fault}
 use Rattle.auth_cli.specs.Storing.{FindsOutputInHand}
 use Rattle.auth_cli.specs.declared.report.Halt.{Halt}

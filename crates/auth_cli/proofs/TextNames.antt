@@ -7,12 +7,11 @@ use Rattle.core_terms.specs.declared.term.Constructor.{Constructor}
 use Rattle.core_terms.specs.declared.term.NamedType.{NamedType}
 use Rattle.auth_syntax.specs.Parsing.{Tree, parsed}
 use Rattle.auth_syntax.specs.Syntax as syntax
-use Rattle.auth_syntax.specs.Vocabulary.{whole_language}
 use Rattle.auth_types.specs.CheckedPrograms.{constructors_in}
 use Rattle.auth_types.specs.ScopeNames.{constructors_meant}
 use Rattle.auth_cli.specs.TextPrograms.{constructor_names_of_text, constructors_of_parsed}
 
-pub names_of_text : (named : List NamedType) (text : List ℕ) (tree : syntax.Program) → parsed whole_language text ≡ Tree tree
+pub names_of_text : (named : List NamedType) (text : List ℕ) (tree : syntax.Program) → parsed text ≡ Tree tree
     → constructors_meant named ≡ constructors_in tree.declarations → constructor_names named ≡ constructor_names_of_text text
 unfolding constructor_names_of_text
 names_of_text named text tree is meant = fun_ext (λ n.

@@ -1,74 +1,118 @@
--- The headline of a run, from the definitions.
-use Rattle.std.proofs.Common.{◌≡◌, ℕ, List, Option, Some, None, ap, sym, ◌∙◌, subst, inl, inr, arith}
+-- The headline of a run, from the one sentence of how it ended.
+use Rattle.std.proofs.Common.{◌≡◌, ℕ, List, ◌∷◌, Option, Some, None, refl, ap, sym, ◌∙◌, subst, inl, lit<}
 use Rattle.std.specs.List.{concat}
 use Rattle.std.specs.Option.{ForSome}
 use Rattle.std.specs.Io.KnownBytes.{append_known}
 use Rattle.sha2.specs.Sha256.{sha256}
+use Rattle.command_words.specs.declared.command.Command.TheVariants.{Verify}
 use Rattle.lam_outside.specs.Told.{AddsStores, Contents}
 use Rattle.core_terms.specs.Spelling.{spelling}
 use Rattle.core_terms.specs.Projection.{projection}
+use Rattle.core_terms.specs.Roles.{argument_type, role_named}
+use Rattle.core_terms.specs.Terms.{Program}
+use Rattle.core_terms.specs.Values.{Value}
 use Rattle.ideal_meaning.specs.Ideal.{Outcome}
-use Rattle.ideal_meaning.specs.Checked.{Accepted}
-use Rattle.ideal_meaning.specs.Checked as checked
-use Rattle.auth_cli.specs.Answer.{Answer, accepted_answer, answer, role_verdict, verdict_answer}
-use Rattle.auth_cli.specs.RoleCalls.{program_called}
+use Rattle.ideal_meaning.specs.Checked.{Verdict, BadState, BadArgument, Rejected, Accepted}
+use Rattle.printed_syntax.specs.Literals.{IsValue}
+use Rattle.auth_cli.specs.Answer.{Answer, RoleCall, accepted_answer, answer, answer_with, called_answer, callee_of, judged_answer, role_verdict, verdict_answer, verified_answer}
+use Rattle.auth_cli.specs.Arguments.{fuel_of}
 use Rattle.auth_cli.specs.Codes.{code}
 use Rattle.auth_cli.specs.Ending.{Outside, EndsAs, IsToldAs}
-use Rattle.auth_cli.specs.TrueLines.{IsTrueLine, TellsOutcome}
-use Rattle.core_terms.specs.Roles.{argument_type}
-use Rattle.auth_cli.specs.SoundPrograms.{IsOutcome}
+use Rattle.auth_cli.specs.FueledRoles.{FueledRole, NamedProgram}
+use Rattle.auth_cli.specs.NamedCalls.{NamesRole, named_program}
+use Rattle.auth_cli.specs.RoleCalls.{passed_literal, program_called}
+use Rattle.auth_cli.specs.TextPrograms.{TextProgram, IsProgram, program_of_text}
+use Rattle.auth_cli.specs.TrueLines.{CallsVerify, IsTrueLine, TellsOutcome, words_of}
+use Rattle.auth_cli.specs.declared.roles.Callee.{Callee}
 use Rattle.auth_cli.specs.declared.status.Status.{Status}
-use Rattle.auth_cli.specs.declared.status.Status.TheVariants.{Done, Usage, Trap, OutOfFuel, Rejected, ProgramRefused, InputRefused, ReadFault, WriteFault, NoMemory, Collision}
-use Rattle.auth_cli.proofs.Leading.{HasOutcome, line_leads, accepted}
-use Rattle.auth_cli.proofs.SoundRoles.{sound_headline}
-use Rattle.auth_cli.proofs.SoundTexts.{language_text_sound}
+use Rattle.auth_cli.proofs.AnsweredCalls.{no_outcome, verify_means}
+use Rattle.auth_cli.proofs.AnsweredRuns.{some_told, told}
+use Rattle.auth_cli.proofs.SoundRoles.{callee_reads, named_reader, reader_headline}
 
--- an answer that was told with the status of an outcome tells an outcome
-told_has : (answer : Option Answer) (old new : Outside) (status : Status) → IsOutcome status → IsToldAs answer old new status → HasOutcome answer
-told_has None old new status is told = absurd told
-told_has (Some a) old new status is told = subst IsOutcome (sym told.0) is
+-- words and files name one role
+module _ (callee : Callee) (program role fuel : List ℕ) (files : Contents) (named : FueledRole) (names : NamesRole callee program role fuel files named)
+    (r : FueledRole) (text : List ℕ) (held : files program ≡ Some text) (is_program : program_of_text text ≡ IsProgram (program_called r)) (is : r.program ≡ named_program text (program_called r))
+    (is_role : role_named (program_called r) role ≡ Some r.role) (is_fuel : fuel_of fuel ≡ Some r.fuel) where
+  same_text : names.program_file.text ≡ text
+  same_text = let there = sym names.program_file.there ∙ held in cc
 
--- the same, with the verdict that it tells
-verdict_told : (found : Option Answer) (tells : Outcome → Answer) (v : checked.Verdict) (old new : Outside) (status : Status) → found ≡ Some (verdict_answer tells v) → IsOutcome status
-    → IsToldAs found old new status
-    → (o : Outcome) × (v ≡ Accepted o) × (new.written ≡ append_known old.written (concat (tells o).lines)) × AddsStores old.stores new.stores (tells o).stored
-verdict_told found tells v old new status is outcome told =
-    let told' = subst (λ a. IsToldAs a old new status) is told in
-    let o = accepted tells v (told_has (Some (verdict_answer tells v)) old new status outcome told') in (
-      o.0,
-      o.1,
-      told'.1 ∙ ap (λ v. append_known old.written (concat (verdict_answer tells v).lines)) o.1,
-      subst (λ v. AddsStores old.stores new.stores (verdict_answer tells v).stored) o.1 told'.2,
-    )
+  same_tree : program_called named ≡ program_called r
+  same_tree = let both = sym names.program_file.program ∙ ap program_of_text same_text ∙ is_program in cc
 
-told_true : (line : List (List ℕ)) (files : Contents) (old new : Outside) (status : Status) → IsOutcome status → IsToldAs (answer line files) old new status
-    → IsTrueLine line files old new (code status)
-told_true line files old new status outcome told r state argument proof out calls number =
-    let P = program_called r in
-    let s = spelling (projection sha256 P P.state state) in
-    let a = projection sha256 P (argument_type P r.role) argument in
-    let sound = language_text_sound calls.text P calls.program in
-    let leads = line_leads calls.program_name calls.role_name calls.state_name calls.argument_text calls.fuel_text calls.proof_name out files calls.text s proof a r line calls.words
-    calls.program_file calls.program calls.named calls.role calls.called calls.fuel calls.state_file calls.argument_is calls.proof_file (told_has (answer line files) old new status outcome told) in
-    let o = verdict_told (answer line files) (accepted_answer r out) (role_verdict (record { role = r; state = s; argument = spelling a }) proof) old new status leads outcome told in
-    (o.0, o.2, o.3, sound_headline r out state argument proof o.0 sound calls.role_name calls.role calls.called calls.ideal_state calls.ideal_argument o.1)
+  same_program : named.program ≡ r.program
+  same_program =
+      names.program_file.named ∙ ap (λ text. named_program text (program_called named)) same_text ∙ ap (λ (P : Program). named_program text P) same_tree ∙ sym is
 
-none : {A : Type 0} (n : ℕ) → (n ≡ 0 → ⊥) → (n ≡ 3 → ⊥) → (n ≡ 4 → ⊥) → TellsOutcome n → A
-none n zero three four (inl is) = absurd (zero is)
-none n zero three four (inr (inl is)) = absurd (three is)
-none n zero three four (inr (inr is)) = absurd (four is)
+  same_number : named.role ≡ r.role
+  same_number = let both = sym names.role ∙ ap (λ (P : Program). role_named P role) same_tree ∙ is_role in cc
+
+  same_fuel : named.fuel ≡ r.fuel
+  same_fuel = let both = sym names.fuel ∙ is_fuel in cc
+
+  pub one_role : named ≡ r
+  one_role =
+      ap (λ (p : NamedProgram). record { program = p; role = named.role; fuel = named.fuel }) same_program
+      ∙ ap (λ (f : ℕ). record { program = r.program; role = f; fuel = named.fuel }) same_number
+      ∙ ap (λ (k : ℕ). record { program = r.program; role = r.role; fuel = k }) same_fuel
+
+-- a verdict that is answered with an outcome's number is an accepted one
+accepted : (tells : Outcome → Answer) (v : Verdict) → TellsOutcome (code (verdict_answer tells v).status) → (o : Outcome) × (v ≡ Accepted o)
+accepted tells (BadState offset) number = absurd (no_outcome 7 (lit< tt) number)
+accepted tells (BadArgument offset) number = absurd (no_outcome 7 (lit< tt) number)
+accepted tells (Rejected cause) number = absurd (no_outcome 5 (lit< tt) number)
+accepted tells (Accepted o) number = (o, refl)
+
+called_as : (program role state argument fuel proof : List ℕ) (out : Option (List ℕ)) (files : Contents)
+    → answer_with Verify (program ∷ role ∷ state ∷ argument ∷ fuel ∷ proof ∷ words_of out) files ≡ judged_answer program role state argument fuel proof out files
+called_as program role state argument fuel proof None files = refl
+called_as program role state argument fuel proof (Some name) files = refl
+
+module _ (line : List (List ℕ)) (files : Contents) (r : FueledRole) (state argument : Value) (proof : List ℕ) (out : Option (List ℕ)) (calls : CallsVerify line files r state argument proof out) where
+  abbrev P : Program
+  P = program_called r
+
+  abbrev s : List ℕ
+  s = spelling (projection sha256 P P.state state)
+
+  abbrev x : Value
+  x = projection sha256 P (argument_type P r.role) argument
+
+  judged : answer line files ≡ judged_answer calls.program_name calls.role_name calls.state_name calls.argument_text calls.fuel_text calls.proof_name out files
+  unfolding answer
+  judged =
+      ap (λ found. called_answer found files) calls.words ∙ called_as calls.program_name calls.role_name calls.state_name calls.argument_text calls.fuel_text calls.proof_name out files
+
+  -- the answer is the verdict on the proof
+  verified : (a : Answer) → TellsOutcome (code a.status) → answer line files ≡ Some a
+      → NamesRole (callee_of out) calls.program_name calls.role_name calls.fuel_text files r × (answer line files ≡ Some (verified_answer out (record { role = r; state = s; argument = spelling x }) proof))
+  verified a tells is =
+      let means = verify_means a (inl tells) calls.program_name calls.role_name calls.state_name calls.argument_text calls.fuel_text calls.proof_name out files (sym judged ∙ is) in
+      let same = one_role (callee_of out) calls.program_name calls.role_name calls.fuel_text files means.0 means.4 r calls.text calls.program_file calls.program calls.named calls.role calls.fuel in
+      let state_is : means.1 ≡ s = let both = sym means.5 ∙ calls.state_file in cc in
+      let literal = sym (ap (λ (r : FueledRole). passed_literal r calls.argument_text) same) ∙ means.6 in
+      let argument_is : means.2 ≡ x = let both = sym literal ∙ calls.argument_is in cc in
+      let proof_is : means.3 ≡ proof = let both = sym means.7 ∙ calls.proof_file in cc in (
+        subst (λ (r : FueledRole). NamesRole (callee_of out) calls.program_name calls.role_name calls.fuel_text files r) same means.4,
+        is ∙ sym means.8
+        ∙ ap (λ (r : FueledRole). Some (verified_answer out (record { role = r; state = means.1; argument = spelling means.2 }) means.3)) same
+        ∙ ap (λ (s : List ℕ). Some (verified_answer out (record { role = r; state = s; argument = spelling means.2 }) means.3)) state_is
+        ∙ ap (λ (x : Value). Some (verified_answer out (record { role = r; state = s; argument = spelling x }) means.3)) argument_is
+        ∙ ap (λ (bytes : List ℕ). Some (verified_answer out (record { role = r; state = s; argument = spelling x }) bytes)) proof_is,
+      )
 
 -- a run that ends in this status has the headline
 pub true_line : (line : List (List ℕ)) (old new : Outside) (status : Status) → EndsAs (answer line) old new status
     → ForSome old.contents (λ files. IsTrueLine line files old new (code status))
-true_line line old new Done ends files known = told_true line files old new Done tt (ends.told files known)
-true_line line old new Trap ends files known = told_true line files old new Trap tt (ends.told files known)
-true_line line old new OutOfFuel ends files known = told_true line files old new OutOfFuel tt (ends.told files known)
-true_line line old new Usage ends files known = λ r state argument proof out calls number. none 2 (λ e. omega arith) (λ e. omega arith) (λ e. omega arith) number
-true_line line old new Rejected ends files known = λ r state argument proof out calls number. none 5 (λ e. omega arith) (λ e. omega arith) (λ e. omega arith) number
-true_line line old new ProgramRefused ends files known = λ r state argument proof out calls number. none 6 (λ e. omega arith) (λ e. omega arith) (λ e. omega arith) number
-true_line line old new InputRefused ends files known = λ r state argument proof out calls number. none 7 (λ e. omega arith) (λ e. omega arith) (λ e. omega arith) number
-true_line line old new ReadFault ends files known = λ r state argument proof out calls number. none 8 (λ e. omega arith) (λ e. omega arith) (λ e. omega arith) number
-true_line line old new WriteFault ends files known = λ r state argument proof out calls number. none 9 (λ e. omega arith) (λ e. omega arith) (λ e. omega arith) number
-true_line line old new NoMemory ends files known = λ r state argument proof out calls number. none 10 (λ e. omega arith) (λ e. omega arith) (λ e. omega arith) number
-true_line line old new Collision ends files known = λ r state argument proof out calls number. none 11 (λ e. omega arith) (λ e. omega arith) (λ e. omega arith) number
+true_line line old new status ends files known r state argument proof out calls tells =
+    let heard = told (answer line) old new status ends files known (inl tells) in
+    let some = some_told (answer line files) old new status heard in
+    let is = verified line files r state argument proof out calls some.0 (subst TellsOutcome (sym some.2) tells) some.1 in
+    let call : RoleCall = record { role = r; state = s line files r state argument proof out calls; argument = spelling (x line files r state argument proof out calls) } in
+    let answered = subst (λ (o : Option Answer). IsToldAs o old new status) is.1 heard in
+    let o = accepted (accepted_answer r out) (role_verdict call proof) (subst TellsOutcome (ap code (sym answered.0)) tells) in
+    let reader = named_reader (callee_of out) (callee_reads out) calls.program_name calls.role_name calls.fuel_text files r is.0 in (
+      o.0,
+      answered.1 ∙ ap (λ (v : Verdict). append_known old.written (concat (verdict_answer (accepted_answer r out) v).lines)) o.1,
+      subst (λ (v : Verdict). AddsStores old.stores new.stores (verdict_answer (accepted_answer r out) v).stored) o.1 answered.2,
+      reader_headline r state argument proof o.0 reader calls.ideal_state calls.ideal_argument o.1,
+    )

@@ -12,13 +12,14 @@ use Rattle.core_terms.specs.Terms.{Program, function_at}
 use Rattle.core_terms.specs.Roles.{role_named, argument_type}
 use Rattle.core_terms.specs.Spelling.{spelling}
 use Rattle.core_terms.specs.Projection.{projection, read_at}
-use Rattle.printed_syntax.specs.Literals.{Literal, IsValue, FirstFault, literal}
+use Rattle.printed_syntax.specs.Literals.{Literal, IsValue, FirstFault}
 use Rattle.printed_syntax.specs.declared.fault.LiteralKind.TheVariants.{Mismatch}
 use Rattle.ideal_meaning.specs.Ideal as ideal
 use Rattle.ideal_meaning.specs.Checked as checked
+use Rattle.ideal_meaning.specs.Checked.{verdict}
 use Rattle.images.specs.Images as images
 use Rattle.images.specs.SavedImages.{saved_image}
-use Rattle.printed_lines.specs.Lines.{agrees_line, collision_line, done_line, named_done_line, ok_line, out_line, refusal_line, rejected_line, state_line, trap_line}
+use Rattle.printed_lines.specs.Lines.{agrees_line, collision_line, named_done_line, ok_line, out_line, refusal_line, rejected_line, state_line, trap_line}
 use Rattle.printed_lines.specs.declared.refusal.Argument.{Argument}
 use Rattle.printed_lines.specs.declared.refusal.Argument.TheVariants as named
 use Rattle.printed_lines.specs.declared.refusal.ImageKind.{ImageKind}
@@ -27,15 +28,13 @@ use Rattle.printed_lines.specs.declared.refusal.InputFault.{InputFault}
 use Rattle.printed_lines.specs.declared.refusal.InputFault.TheVariants.{TooLong, RoleUnknown, RoleKind, Number, State, Literal as BadLiteral, Image as BadImage}
 use Rattle.printed_lines.specs.declared.refusal.Refusal.{Refusal}
 use Rattle.printed_lines.specs.declared.refusal.Refusal.TheVariants as refusal
-use Rattle.stream_verifier.specs.Verdicts.{verdict_keeping}
 use Rattle.collision_audit.specs.Audits.{Collides, Judges}
 use Rattle.collision_audit.specs.Audits as audits
-use Rattle.ideal_meaning.specs.Headline.{call_of}
-use Rattle.auth_cli.specs.Arguments.{is_query, fuel_of, number_within}
-use Rattle.auth_cli.specs.FueledQueries.{DigestedProgram, FueledQuery, FueledRole, NamedProgram}
-use Rattle.auth_cli.specs.IdealCalls.{IdealCall, call_audit, call_proof, call_proof_line, projected_outcome, result_type}
+use Rattle.auth_cli.specs.Arguments.{fuel_of, number_within}
+use Rattle.auth_cli.specs.FueledRoles.{DigestedProgram, FueledRole, NamedProgram}
+use Rattle.auth_cli.specs.IdealCalls.{IdealCall, call_audit, call_proof, call_proof_line, ended_call, projected_outcome}
 use Rattle.auth_cli.specs.RoleCalls.{EndedRole, ended_with, is_called, kind_called, passed_literal, program_called, projection_called, result_called, state_made}
-use Rattle.auth_cli.specs.TextPrograms.{TextProgram, IsProgram, IsRefused, constructor_names_of_text, language_program_of_text, program_of_text}
+use Rattle.auth_cli.specs.TextPrograms.{TextProgram, IsProgram, IsRefused, constructor_names_of_text, program_of_text}
 use Rattle.auth_cli.specs.declared.roles.Callee.{Callee}
 use Rattle.auth_cli.specs.declared.roles.Callee.TheVariants as callee
 use Rattle.auth_cli.specs.declared.status.Status.{Status}
@@ -66,12 +65,6 @@ refused what = says (refusal_status what) (refusal_line what)
 
 abbrev pub input_refused : InputFault → Answer
 input_refused fault = refused (refusal.Input fault)
-
--- what is answered for an outcome, whose value has type t
-abbrev pub outcome_answer : Ty → ideal.Outcome → Answer
-outcome_answer t (ideal.Done v) = says Done (done_line t v)
-outcome_answer t (ideal.Trapped trap) = says Trap (trap_line trap)
-outcome_answer t ideal.Out = says OutOfFuel out_line
 
 -- What is answered for a verdict, where this is answered for the outcome that is accepted. Of a call whose state was read, and whose
 -- argument is the spelling of a literal's value, it is one on the proof: `VerdictLaws.antt` says that the other two don't come.
@@ -104,28 +97,13 @@ abbrev pub with_program : List ℕ → TextProgram → (DigestedProgram → Opti
 with_program digest (IsProgram P) go = go (record { program = P; digest = digest })
 with_program digest (IsRefused kind line column) go = Some (refused (refusal.Program kind line column))
 
--- goes on with the program of the whole language that a text is, and with that in a file
-abbrev pub with_language_text : List ℕ → (NamedProgram → Option Answer) → Option Answer
-with_language_text text go =
-    with_program (sha256 text) (language_program_of_text text) (λ p. go (record { digested = p; names = constructor_names_of_text text }))
+-- goes on with the program that a text is, and with that in a file
+abbrev pub with_text : List ℕ → (NamedProgram → Option Answer) → Option Answer
+with_text text go =
+    with_program (sha256 text) (program_of_text text) (λ p. go (record { digested = p; names = constructor_names_of_text text }))
 
-abbrev pub with_language_file : Option (List ℕ) → (NamedProgram → Option Answer) → Option Answer
-with_language_file file go = with_file max_program named.Program file (λ text. with_language_text text go)
-
--- the same of a program of the fragment
-abbrev pub with_text : List ℕ → (DigestedProgram → Option Answer) → Option Answer
-with_text text go = with_program (sha256 text) (program_of_text text) go
-
-abbrev pub with_program_file : Option (List ℕ) → (DigestedProgram → Option Answer) → Option Answer
+abbrev pub with_program_file : Option (List ℕ) → (NamedProgram → Option Answer) → Option Answer
 with_program_file file go = with_file max_program named.Program file (λ text. with_text text go)
-
--- goes on with the role of this number, where it is a query
-abbrev pub with_query_at : Program → Option ℕ → (ℕ → Option Answer) → Option Answer
-with_query_at P None go = Some (input_refused RoleUnknown)
-with_query_at P (Some f) go = if is_query (function_at P f).kind then go f else Some (input_refused RoleKind)
-
-abbrev pub with_query : Program → List ℕ → (ℕ → Option Answer) → Option Answer
-with_query P name go = with_query_at P (role_named P name) go
 
 -- goes on with the number that an argument tells
 abbrev pub with_number : Argument → Option ℕ → (ℕ → Option Answer) → Option Answer
@@ -156,15 +134,6 @@ abbrev pub with_literal : Literal → (Value → Option Answer) → Option Answe
 with_literal (IsValue v) go = go v
 with_literal (FirstFault kind offset) go = Some (input_refused (BadLiteral kind offset))
 
--- a text as a literal of a type
-unfoldable pub literal_at : Program → Ty → List ℕ → Literal
-literal_at P t text = literal P t text
-
--- Goes on with the value that a text is a literal of. It is an ideal value and a shallow one, since no literal has anything authenticated
--- in its value.
-abbrev pub with_value : Program → Ty → List ℕ → (Value → Option Answer) → Option Answer
-with_value P t text go = with_literal (literal_at P t text) go
-
 -- why the bytes of an image are refused
 abbrev pub image_kind : images.ImageFault → ImageKind
 image_kind images.Magic = kind.Magic
@@ -192,17 +161,9 @@ with_image p bytes go = with_root (image_read p bytes) go
 abbrev pub with_image_file : DigestedProgram → Option (List ℕ) → (Value → Option Answer) → Option Answer
 with_image_file p file go = with_file max_file named.Image file (λ bytes. with_image p bytes go)
 
--- goes on with the query that these words name: the program, the role and the fuel, in this order
-abbrev pub with_fueled_query : (program role fuel : List ℕ) → Contents → (FueledQuery → Option Answer) → Option Answer
-with_fueled_query program role fuel files go =
-    with_program_file (files program) (λ p.
-    with_query p.program role (λ f.
-    with_fuel fuel (λ k.
-    go (record { program = p; role = f; fuel = k }))))
-
--- `check P`: the digest of the program's text, which is one of the whole language
+-- `check P`: the digest of the program's text
 abbrev pub checked_answer : List ℕ → Contents → Option Answer
-checked_answer program files = with_language_file (files program) (λ p. Some (says Done (ok_line p.digested.digest)))
+checked_answer program files = with_program_file (files program) (λ p. Some (says Done (ok_line p.digested.digest)))
 
 -- the projection of an ideal state: a digest stands for what is authenticated
 unfoldable pub state_projection : Program → Value → Value
@@ -216,10 +177,10 @@ state_answer p v name =
     let projected = state_projection P v in
     record { status = Done; lines = state_line P.types p.names P.state projected ∷ []; stored = (name, spelling projected) ∷ [] }
 
--- `shallow P IMG OUT`: the projection of the state that an image keeps, of a program of the whole language
+-- `shallow P IMG OUT`: the projection of the state that an image keeps
 abbrev pub spelled_answer : (program image out : List ℕ) → Contents → Option Answer
 spelled_answer program image out files =
-    with_language_file (files program) (λ p. with_image_file p.digested (files image) (λ v. Some (state_answer p v out)))
+    with_program_file (files program) (λ p. with_image_file p.digested (files image) (λ v. Some (state_answer p v out)))
 
 -- goes on with the role of this number, where it is one that the command calls
 abbrev pub with_role_at : Callee → Program → Option ℕ → (ℕ → Option Answer) → Option Answer
@@ -253,16 +214,12 @@ with_role_call r state argument files go =
     with_passed r argument (λ a.
     go (record { role = r; state = s; argument = spelling a })))
 
--- the greatest number of pieces that a proof may ask to be kept
-abbrev pub most_kept : ℕ
-most_kept = 1024
-
 -- the verdict on a proof of a call
 unfoldable pub role_verdict : RoleCall → List ℕ → checked.Verdict
 role_verdict call proof =
     let r = call.role in
     let P = program_called r in
-    verdict_keeping sha256 P most_kept (argument_type P r.role) r.role call.state call.argument r.fuel proof
+    verdict sha256 P (argument_type P r.role) r.role call.state call.argument r.fuel proof
 
 -- goes on with an init that was called, and how it ended: the role, the fuel and the argument in this order
 abbrev pub with_ended_init : NamedProgram → (role argument fuel : List ℕ) → (EndedRole → Option Answer) → Option Answer
@@ -271,13 +228,19 @@ with_ended_init p role argument fuel go =
     with_passed r argument (λ a.
     go (ended_with r (AndV a NoV))))
 
--- the same of a role that was called on the state that an image keeps, which comes before the argument
+-- goes on with the call of a role on the ideal state that an image keeps, and then on what is passed to it
+abbrev pub with_ideal_call : FueledRole → (image argument : List ℕ) → Contents → (IdealCall → Option Answer) → Option Answer
+with_ideal_call r image argument files go =
+    with_image_file r.program.digested (files image) (λ s.
+    with_passed r argument (λ a.
+    go (record { role = r; state = s; argument = a })))
+
+-- the same of a role that a command calls, and how the call ended
 abbrev pub with_ended_call : Callee → NamedProgram → (role image argument fuel : List ℕ) → Contents → (EndedRole → Option Answer) → Option Answer
 with_ended_call callee p role image argument fuel files go =
     with_fueled_role callee p role fuel (λ r.
-    with_image_file p.digested (files image) (λ s.
-    with_passed r argument (λ a.
-    go (ended_with r (call_of s a)))))
+    with_ideal_call r image argument files (λ call.
+    go (ended_call call)))
 
 -- what is answered for an outcome in projection: its value, with the names of its constructors
 abbrev pub shallow_told : FueledRole → ideal.Outcome → Answer
@@ -315,19 +278,19 @@ storing_answer ended name = outcome_stored ended.role ended.outcome name
 -- `init P ROLE ARG FUEL OUT`: the state that an init makes
 abbrev pub initial_answer : (program role argument fuel out : List ℕ) → Contents → Option Answer
 initial_answer program role argument fuel out files =
-    with_language_file (files program) (λ p.
+    with_program_file (files program) (λ p.
     with_ended_init p role argument fuel (λ ended. Some (storing_answer ended out)))
 
 -- `ideal P ROLE IMG ARG FUEL`: how a query or an update ends on the state that an image keeps
 abbrev pub ideal_answer : (program role image argument fuel : List ℕ) → Contents → Option Answer
 ideal_answer program role image argument fuel files =
-    with_language_file (files program) (λ p.
+    with_program_file (files program) (λ p.
     with_ended_call callee.OfState p role image argument fuel files (λ ended. Some (role_answer ended)))
 
 -- `step P ROLE IMG ARG FUEL OUT`: the same of an update, whose new state is stored
 abbrev pub stepped_answer : (program role image argument fuel out : List ℕ) → Contents → Option Answer
 stepped_answer program role image argument fuel out files =
-    with_language_file (files program) (λ p.
+    with_program_file (files program) (λ p.
     with_ended_call callee.Update p role image argument fuel files (λ ended. Some (storing_answer ended out)))
 
 -- which roles `verify` calls: updates alone, where a name is given for the new state
@@ -351,7 +314,7 @@ verified_answer out call proof = verdict_answer (accepted_answer call.role out) 
 -- `verify P ROLE STATE ARG FUEL PROOF [OUT]`: the verdict on a proof file, which is opened when all else is well-formed
 abbrev pub judged_answer : (program role state argument fuel proof : List ℕ) → (out : Option (List ℕ)) → Contents → Option Answer
 judged_answer program role state argument fuel proof out files =
-    with_language_file (files program) (λ p.
+    with_program_file (files program) (λ p.
     with_fueled_role (callee_of out) p role fuel (λ r.
     with_role_call r state argument files (λ call.
     with_bytes (files proof) (λ bytes. Some (verified_answer out call bytes)))))
@@ -360,46 +323,41 @@ judged_answer program role state argument fuel proof out files =
 abbrev pub with_kept : Program → List ℕ → (ℕ → Option Answer) → Option Answer
 with_kept P text go = with_number named.Number (number_within P.format.most_kept text) go
 
--- goes on with the call of a query on the ideal state in an image, and then on the argument
-abbrev pub with_ideal_call : FueledQuery → (image argument : List ℕ) → Contents → (IdealCall → Option Answer) → Option Answer
-with_ideal_call q image argument files go =
-    with_image_file q.program (files image) (λ s.
-    with_value q.program.program (argument_type q.program.program q.role) argument (λ a.
-    go (record { query = q; state = s; argument = a })))
-
 -- What is answered for a call and the number of pieces that are kept: the line of its outcome and that of its proof, with the proof
 -- stored under a name, however the call ends.
 abbrev pub proof_answer : IdealCall → ℕ → List ℕ → Answer
 proof_answer call n name =
-    let told = outcome_answer (result_type call) (projected_outcome call) in
+    let told = shallow_told call.role (projected_outcome call) in
     record { status = told.status; lines = told.lines ++ call_proof_line call n ∷ []; stored = (name, call_proof call n) ∷ [] }
 
 -- `prove P ROLE IMG ARG FUEL N OUT`: the proof of a call. The numbers are judged before the image is read.
 abbrev pub proved_answer : (program role image argument fuel kept out : List ℕ) → Contents → Option Answer
 proved_answer program role image argument fuel kept out files =
-    with_fueled_query program role fuel files (λ q.
-    with_kept q.program.program kept (λ n.
-    with_ideal_call q image argument files (λ call. Some (proof_answer call n out))))
+    with_program_file (files program) (λ p.
+    with_fueled_role callee.OfState p role fuel (λ r.
+    with_kept (program_called r) kept (λ n.
+    with_ideal_call r image argument files (λ call. Some (proof_answer call n out)))))
 
 -- the same answer of an audit that agrees on it
 abbrev pub agreeing : Answer → Answer
 agreeing a = record a { lines = map agrees_line a.lines }
 
--- What is answered for what an audit comes to, of a call whose result has type t: a collision, or what is answered for its verdict, with
--- agreement on its outcome. The verdict is one on the proof, since the state and the argument are ideal values within the limits.
-abbrev pub audit_told : Ty → audits.Audit → Answer
-audit_told t (Collides split) = says Collision (collision_line split.place split.offered split.honest)
-audit_told t (Judges v) = verdict_answer (λ o. agreeing (outcome_answer t o)) v
+-- What is answered for what an audit of a call of a role comes to: a collision, or what is answered for its verdict, with agreement on
+-- its outcome. The verdict is one on the proof, since the state and the argument are ideal values within the limits.
+abbrev pub audit_told : FueledRole → audits.Audit → Answer
+audit_told r (Collides split) = says Collision (collision_line split.place split.offered split.honest)
+audit_told r (Judges v) = verdict_answer (λ o. agreeing (shallow_told r o)) v
 
 abbrev pub call_audit_answer : IdealCall → List ℕ → Answer
-call_audit_answer call proof = audit_told (result_type call) (call_audit call proof)
+call_audit_answer call proof = audit_told call.role (call_audit call proof)
 
--- `audit P ROLE IMG ARG FUEL PROOF`: the audit of a proof file, which is opened when all else is well-formed
+-- `audit P ROLE IMG ARG FUEL PROOF`: the audit of a proof file of any length, which is opened when all else is well-formed
 abbrev pub audited_answer : (program role image argument fuel proof : List ℕ) → Contents → Option Answer
 audited_answer program role image argument fuel proof files =
-    with_fueled_query program role fuel files (λ q.
-    with_ideal_call q image argument files (λ call.
-    with_file max_file named.Proof (files proof) (λ bytes. Some (call_audit_answer call bytes))))
+    with_program_file (files program) (λ p.
+    with_fueled_role callee.OfState p role fuel (λ r.
+    with_ideal_call r image argument files (λ call.
+    with_bytes (files proof) (λ bytes. Some (call_audit_answer call bytes)))))
 
 -- What is answered to a command with the texts of its arguments: `check P`, `init P ROLE ARG FUEL OUT`, `ideal P ROLE IMG ARG FUEL`,
 -- `step P ROLE IMG ARG FUEL OUT`, `shallow P IMG OUT`, `prove P ROLE IMG ARG FUEL N OUT`, `verify P ROLE STATE ARG FUEL PROOF`, or this with `OUT` behind it, and `audit P ROLE IMG ARG FUEL PROOF`. No command

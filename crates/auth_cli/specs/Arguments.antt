@@ -1,23 +1,7 @@
--- The arguments of a command that are no names of files: a role and numbers.
-use Rattle.std.specs.Prelude.{ℕ, List, length, nat_le, Bool, true, false, ◌&&◌, Option, Some, None, if◌then◌else◌}
-use Rattle.std.specs.Option.{option_and_then}
+-- The arguments of a command that are numbers.
+use Rattle.std.specs.Prelude.{ℕ, List, length, nat_le, Bool, ◌&&◌, Option, Some, None, if◌then◌else◌}
 use Rattle.std.specs.Str.{all_ascii_digits}
 use Rattle.std.specs.Str.Parse.{digits_value}
-use Rattle.core_terms.specs.Terms.{Kind, Query, Program, function_at}
-use Rattle.core_terms.specs.Roles.{role_named}
-
--- the kind is that of a query
-abbrev pub is_query : Kind → Bool
-is_query Query = true
-is_query kind = false
-
--- the number, where its function is a query
-abbrev pub query_at : Program → ℕ → Option ℕ
-query_at P f = if is_query (function_at P f).kind then Some f else None
-
--- the number of the role of this name, where it is a query
-abbrev pub query_named : Program → List ℕ → Option ℕ
-query_named P name = option_and_then (query_at P) (role_named P name)
 
 -- the greatest amount of fuel: 10^12
 abbrev pub most_fuel : ℕ

@@ -13,8 +13,10 @@ use Rattle.printed_lines.specs.declared.refusal.Argument.TheVariants as argument
 use Rattle.printed_lines.specs.declared.refusal.ImageKind.TheVariants as kind
 use Rattle.printed_lines.specs.declared.refusal.InputFault.TheVariants as input_fault
 use Rattle.printed_lines.specs.declared.refusal.Refusal.TheVariants as refusal
-use Rattle.stream_verifier.specs.declared.verdict.Verdict.{Verdict}
-use Rattle.stream_verifier.specs.declared.verdict.Verdict.TheVariants as verdict
+use Rattle.collision_audit.specs.declared.audited.AuditFault.{AuditFault}
+use Rattle.collision_audit.specs.declared.audited.AuditFault.TheVariants as audit_fault
+use Rattle.verifier_mode.specs.declared.verdict.Verdict.{Verdict}
+use Rattle.verifier_mode.specs.declared.verdict.Verdict.TheVariants as verdict
 use Rattle.auth_cli.specs.Answer.{Answer, says, refusal_status}
 use Rattle.auth_cli.specs.declared.programs.ProgramFault.{ProgramFault}
 use Rattle.auth_cli.specs.declared.programs.ProgramFault.TheVariants as program_fault
@@ -58,7 +60,7 @@ abbrev pub line_of : Found → List ℕ
 line_of (Ok report) = report.text.items
 line_of (Err halt) = halt_line halt
 
--- the halts that faults of a program, of a literal, of an image and of a call are
+-- the halts that faults of a program, of a literal, of an image, of a call and of an audit are
 abbrev pub of_program_fault : ProgramFault → Halt
 of_program_fault (program_fault.At kind line column) = Refused (refusal.Program kind line column)
 of_program_fault program_fault.NoMemory = NoMemory
@@ -88,6 +90,10 @@ of_verdict (verdict.BadState offset) = Refused (refusal.Input (input_fault.State
 of_verdict (verdict.BadArgument offset) = Refused (refusal.Input (input_fault.Literal Mismatch offset))
 of_verdict verdict.ReadFault = ReadFault
 of_verdict verdict.NoMemory = NoMemory
+
+abbrev pub of_audit_fault : AuditFault → Halt
+of_audit_fault audit_fault.ReadFault = ReadFault
+of_audit_fault audit_fault.NoMemory = NoMemory
 
 -- what halted the work is what the answer says, unless a file could not be read or memory was wanting
 abbrev pub HaltsAs : Option Answer → Halt → Type 0

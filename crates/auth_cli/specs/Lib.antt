@@ -1,14 +1,13 @@
 pub mod Answer
 pub mod Arguments
-pub mod Calls
+pub mod CallsInStores
 pub mod Codes
 pub mod Ending
-pub mod FueledQueries
+pub mod FueledRoles
 pub mod Halting
 pub mod IdealCalls
 pub mod NamedCalls
 pub mod NetFaults
-pub mod PlainArguments
 pub mod ProvedCalls
 pub mod AuditedCalls
 pub mod Reaching

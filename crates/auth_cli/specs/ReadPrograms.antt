@@ -1,14 +1,13 @@
 -- What reading a program says of the program of its text. Where memory ran out nothing is said.
 use Rattle.std.specs.Prelude.{◌≡◌, Result, Ok, Err, ⊤}
-use Rattle.core_terms.specs.Programs as language
-use Rattle.core_terms.specs.Programs.{meaning}
+use Rattle.core_terms.specs.Programs as held
 use Rattle.core_terms.specs.Terms as tree
-use Rattle.core_terms.specs.declared.program.Program.{Program as LanguageProgram, Program}
+use Rattle.core_terms.specs.declared.program.Program.{Program as HeldProgram}
 use Rattle.lexemes.specs.Readings.{SyntaxFault}
 use Rattle.core_terms.specs.declared.fault.Fault.TheVariants as fault
 use Rattle.auth_types.specs.Outcomes.{TypeFault}
 use Rattle.printed_lines.specs.declared.refusal.ProgramKind.TheVariants.{Syntax, Typing}
-use Rattle.auth_cli.specs.FueledQueries.{DigestedProgram, NamedProgram}
+use Rattle.auth_cli.specs.FueledRoles.{DigestedProgram, NamedProgram}
 use Rattle.auth_cli.specs.TextPrograms.{TextProgram, IsProgram, IsRefused}
 use Rattle.auth_cli.specs.declared.programs.ProgramFault.{ProgramFault}
 use Rattle.auth_cli.specs.declared.programs.ProgramFault.TheVariants.{At, NoMemory}
@@ -30,12 +29,9 @@ of_type_fault (fault.At kind at) = At (Typing kind) at.line at.column
 of_type_fault fault.NoMemory = NoMemory
 
 -- a program with the digest that it holds
-abbrev pub digested : Program → DigestedProgram
-digested p = record { program = meaning p; digest = p.text_digest.0 }
-
-abbrev pub language_digested : LanguageProgram → DigestedProgram
-language_digested p = record { program = language.meaning p; digest = p.text_digest.0 }
+abbrev pub digested_of : HeldProgram → DigestedProgram
+digested_of p = record { program = held.meaning p; digest = p.text_digest.0 }
 
 -- the same with the names of its constructors
-abbrev pub language_named : LanguageProgram → NamedProgram
-language_named p = record { digested = language_digested p; names = language.constructor_names p.types.named.items }
+abbrev pub named_of : HeldProgram → NamedProgram
+named_of p = record { digested = digested_of p; names = held.constructor_names p.types.named.items }

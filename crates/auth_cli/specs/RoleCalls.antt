@@ -1,4 +1,4 @@
--- Calls of the roles of a program of the whole language: which of them a command calls, how a call ends, and which state it makes.
+-- Calls of the roles of a program: which of them a command calls, how a call ends, and which state it makes.
 use Rattle.std.specs.Prelude.{ℕ, List, Bool, true, false}
 use Rattle.sha2.specs.Sha256.{sha256}
 use Rattle.core_terms.specs.Types.{Ty}
@@ -9,7 +9,7 @@ use Rattle.core_terms.specs.Roles.{role_with}
 use Rattle.core_terms.specs.Projection.{projection}
 use Rattle.printed_syntax.specs.Literals.{Literal, literal_in}
 use Rattle.ideal_meaning.specs.Ideal.{Outcome, ideal, outcome}
-use Rattle.auth_cli.specs.FueledQueries.{FueledRole, NamedProgram}
+use Rattle.auth_cli.specs.FueledRoles.{FueledRole, NamedProgram}
 use Rattle.auth_cli.specs.declared.roles.Callee.{Callee}
 use Rattle.auth_cli.specs.declared.roles.Callee.TheVariants.{Init, OfState, Update}
 

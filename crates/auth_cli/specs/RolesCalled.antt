@@ -17,8 +17,8 @@ use Rattle.value_store.specs.Nodes.{Node}
 use Rattle.value_store.specs.Standing.{Kind, ProverNodes, StandsFor}
 use Rattle.value_store.specs.Stores.{nodes_in}
 use Rattle.value_store.specs.declared.node.Ref.{Ref}
-use Rattle.auth_cli.specs.FueledQueries.{FueledRole}
-use Rattle.auth_cli.specs.ReadPrograms.{language_named}
+use Rattle.auth_cli.specs.FueledRoles.{FueledRole}
+use Rattle.auth_cli.specs.ReadPrograms.{named_of}
 use Rattle.auth_cli.specs.RoleCalls.{EndedRole, is_called, kind_called, result_called, state_made}
 use Rattle.auth_cli.specs.declared.machine_calls.Ended.{Ended}
 use Rattle.auth_cli.specs.declared.roles.CalledRole.{CalledRole}
@@ -27,7 +27,7 @@ use Rattle.auth_cli.specs.declared.roles.Callee.TheVariants.{Init, OfState}
 
 -- the role of the definitions
 abbrev pub role_of : Program → CalledRole → FueledRole
-role_of p called = record { program = language_named p; role = called.function.0; fuel = called.fuel }
+role_of p called = record { program = named_of p; role = called.function.0; fuel = called.fuel }
 
 -- It is a role of the program, in the shape of its kind, and one that the command calls.
 pub record IsRoleOf (callee : Callee) (p : Program) (role : Role) : Type 0 where

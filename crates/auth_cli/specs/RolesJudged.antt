@@ -5,7 +5,7 @@ use Rattle.core_terms.specs.Spelling.{spelling}
 use Rattle.core_terms.specs.declared.program.Program.{Program}
 use Rattle.auth_cli.specs.Answer as def
 use Rattle.auth_cli.specs.Answer.{Answer, judged_answer, verified_answer, with_bytes, with_fueled_role, with_passed, with_role_call}
-use Rattle.auth_cli.specs.FueledQueries.{FueledRole, NamedProgram}
+use Rattle.auth_cli.specs.FueledRoles.{FueledRole, NamedProgram}
 use Rattle.auth_cli.specs.RolesCalled.{role_of}
 use Rattle.auth_cli.specs.declared.calls.RoleCall.{RoleCall}
 use Rattle.auth_cli.specs.declared.roles.Callee.{Callee}

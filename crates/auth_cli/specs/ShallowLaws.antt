@@ -19,5 +19,5 @@ pub record StoresAlone (found : Option Answer) (name bytes : List ℕ) : Type 0 
 abbrev pub ShallowStoresTheClientsState : Type 0
 ShallowStoresTheClientsState =
     (invocation : Invocation) (files : Contents) (call : IdealCall) (n : ℕ) (proof : List ℕ) (calls : CallsProve invocation files call n proof)
-    → (program image out : List ℕ) (later : Contents) → later program ≡ Some calls.query.program_file.text → later image ≡ Some calls.inputs.image_file.image
+    → (program image out : List ℕ) (later : Contents) → later program ≡ Some calls.role.program_file.text → later image ≡ Some calls.inputs.image_file.image
     → StoresAlone (spelled_answer program image out later) out (client_call call).state

@@ -3,7 +3,7 @@ use Rattle.sha2.specs.Sha256.{sha256}
 use Rattle.core_terms.specs.Projection.{digest_at}
 use Rattle.core_terms.specs.Terms.{Program}
 use Rattle.core_terms.specs.Values.{Value}
-use Rattle.stored_images.specs.declared.load.Loaded.{Loaded}
+use Rattle.images.specs.declared.load.Loaded.{Loaded}
 use Rattle.value_store.specs.Standing.{ProverNodes, StandsFor}
 use Rattle.value_store.specs.Stores.{nodes_in}
 

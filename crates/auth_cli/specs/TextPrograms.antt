@@ -2,7 +2,6 @@
 use Rattle.std.specs.Prelude.{ℕ, List, [], slice_get, unwrap_or}
 use Rattle.core_terms.specs.Terms.{Program}
 use Rattle.printed_syntax.specs.Literals.{ConstructorNames}
-use Rattle.auth_syntax.specs.Vocabulary.{fragment, whole_language}
 use Rattle.auth_syntax.specs.Parsing.{Parsed, parsed}
 use Rattle.auth_syntax.specs.Parsing as parsing
 use Rattle.auth_types.specs.CheckedPrograms.{Checked, checked, constructors_in}
@@ -23,12 +22,9 @@ abbrev pub of_parsed : Parsed → TextProgram
 of_parsed (parsing.Tree program) = of_checked (checked program)
 of_parsed (parsing.FirstFault kind at) = IsRefused (Syntax kind) at.line at.column
 
--- A text as a program of the whole language, and of the fragment that runs so far. A fault of its syntax comes before all faults of its typing.
-unfoldable pub language_program_of_text : List ℕ → TextProgram
-language_program_of_text text = of_parsed (parsed whole_language text)
-
+-- A text as a program. A fault of its syntax comes before all faults of its typing.
 unfoldable pub program_of_text : List ℕ → TextProgram
-program_of_text text = of_parsed (parsed fragment text)
+program_of_text text = of_parsed (parsed text)
 
 -- the names of the constructors of each type that a tree declares, in the order of its declarations
 abbrev pub constructors_of_parsed : Parsed → List (List (List ℕ))
@@ -37,4 +33,4 @@ constructors_of_parsed (parsing.FirstFault kind at) = []
 
 -- The names of the constructors of the n-th type that a text declares, from 0, in the order in which it declares them: by tag.
 unfoldable pub constructor_names_of_text : List ℕ → ConstructorNames
-constructor_names_of_text text n = unwrap_or (slice_get (constructors_of_parsed (parsed whole_language text)) n) []
+constructor_names_of_text text n = unwrap_or (slice_get (constructors_of_parsed (parsed text)) n) []

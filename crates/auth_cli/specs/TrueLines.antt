@@ -8,32 +8,27 @@ use Rattle.sha2.specs.Sha256.{sha256}
 use Rattle.lam_outside.specs.Told.{Contents, AddsStores}
 use Rattle.core_terms.specs.Values.{Value, IsIdeal}
 use Rattle.core_terms.specs.Spelling.{spelling}
-use Rattle.core_terms.specs.Terms.{Program}
 use Rattle.core_terms.specs.Projection.{projection}
 use Rattle.core_terms.specs.Roles.{argument_type, role_named}
 use Rattle.printed_syntax.specs.Literals.{IsValue}
 use Rattle.ideal_meaning.specs.Ideal.{Outcome}
 use Rattle.ideal_meaning.specs.Frames.{offered, offered_pieces, header}
 use Rattle.ideal_meaning.specs.Headline.{TrueOrSplit, call_of}
-use Rattle.stream_verifier.specs.Verdicts.{keeping}
-use Rattle.auth_cli.specs.Answer.{accepted_answer, callee_of, most_kept}
+use Rattle.auth_cli.specs.Answer.{accepted_answer, callee_of}
 use Rattle.auth_cli.specs.Arguments.{fuel_of}
 use Rattle.auth_cli.specs.Ending.{Outside}
-use Rattle.auth_cli.specs.FueledQueries.{FueledRole, NamedProgram}
+use Rattle.auth_cli.specs.FueledRoles.{FueledRole}
+use Rattle.auth_cli.specs.NamedCalls.{named_program}
 use Rattle.auth_cli.specs.RoleCalls.{is_called, kind_called, passed_literal, program_called, result_called}
-use Rattle.auth_cli.specs.TextPrograms.{IsProgram, constructor_names_of_text, language_program_of_text}
+use Rattle.auth_cli.specs.TextPrograms.{IsProgram, program_of_text}
 
 -- the word of the name that the new state is stored under, where there is one
 abbrev pub words_of : Option (List ℕ) → List (List ℕ)
 words_of None = []
 words_of (Some out) = out ∷ []
 
--- a program of the whole language with the digest of its text and the names of its constructors
-abbrev pub named_program : List ℕ → Program → NamedProgram
-named_program text P = record { digested = record { program = P; digest = sha256 text }; names = constructor_names_of_text text }
-
--- The words call `verify` on files and arguments that mean these: a query or an update of a program of the whole language with so much
--- fuel, on an ideal state and an ideal argument, and a name for the new state, or none. Where there is a name, it is an update. The
+-- The words call `verify` on files and arguments that mean these: a query or an update of a program with so much fuel,
+-- on an ideal state and an ideal argument, and a name for the new state, or none. Where there is a name, it is an update. The
 -- state's file has the spelling of its projection, and the argument is a literal of its own; the proof's file has any bytes.
 pub record CallsVerify (line : List (List ℕ)) (files : Contents) (r : FueledRole) (state argument : Value) (proof : List ℕ) (out : Option (List ℕ)) : Type 0 where
   pub program_name : List ℕ
@@ -45,7 +40,7 @@ pub record CallsVerify (line : List (List ℕ)) (files : Contents) (r : FueledRo
   pub words : invocation_of line ≡ Some (calls Verify (program_name ∷ role_name ∷ state_name ∷ argument_text ∷ fuel_text ∷ proof_name ∷ words_of out))
   pub text : List ℕ
   pub program_file : files program_name ≡ Some text
-  pub program : language_program_of_text text ≡ IsProgram (program_called r)
+  pub program : program_of_text text ≡ IsProgram (program_called r)
   pub named : r.program ≡ named_program text (program_called r)
   pub role : role_named (program_called r) role_name ≡ Some r.role
   pub called : is_called (callee_of out) (kind_called r) ≡ true
@@ -68,5 +63,5 @@ IsTrueLine line files old new number =
     (r : FueledRole) (state argument : Value) (proof : List ℕ) (out : Option (List ℕ)) → CallsVerify line files r state argument proof out → TellsOutcome number
     → let P = program_called r in
     (o : Outcome) × (new.written ≡ append_known old.written (concat (accepted_answer r out o).lines)) × AddsStores old.stores new.stores (accepted_answer r out o).stored
-    × ((n : ℕ) × (header (keeping most_kept P.format) proof ≡ Some n)
+    × ((n : ℕ) × (header P.format proof ≡ Some n)
     × TrueOrSplit sha256 P r.role (result_called r) (call_of state argument) r.fuel (offered_pieces (offered P.format.limit (drop 6 proof) n [])) o)

@@ -1,41 +1,45 @@
 // The command `audit`.
-ghost use Rattle.std.specs.Prelude.{◌≡◌, [], ◌∷◌, Ok, IfOk, length};
+ghost use Rattle.std.specs.Prelude.{◌≡◌, IfOk, Ok, Some, length};
 ghost use Rattle.std.specs.Option.{ForSome};
 ghost use Rattle.command_words.specs.Commands.{texts};
-ghost use Rattle.command_words.specs.Invocations.{calls};
 ghost use Rattle.command_words.specs.declared.command.Command.TheVariants.{Audit};
-ghost use Rattle.core_terms.specs.Programs.{meaning, types_of};
-ghost use Rattle.core_terms.specs.TypeTables.{type_at};
-ghost use Rattle.collision_audit.specs.AuditAnswers.{TellsAudit};
+ghost use Rattle.core_terms.specs.Programs.{meaning};
+ghost use Rattle.code_gen.specs.Programs.{program_in};
 ghost use Rattle.collision_audit.specs.Audits as audits;
 ghost use Rattle.printed_lines.specs.Lines as lines;
-ghost use Rattle.auth_cli.specs.Reaching.{FaultsAtReached, ReachedAt};
+ghost use Rattle.collision_audit.specs.AuditAnswers.{AuditCause, TellsAudit};
 ghost use Rattle.auth_cli.specs.Answer.{answer_with, audit_told, audited_answer, call_audit_answer};
-ghost use Rattle.auth_cli.specs.AuditedCalls.{IfJudged, IsAudited, IsOfAudit, MeansAudit};
-ghost use Rattle.auth_cli.specs.Calls.{IsIdealCall, ideal_call_of};
+ghost use Rattle.auth_cli.specs.CallsInStores.{HoldsCall, HoldsSome, audited_behind};
 ghost use Rattle.auth_cli.specs.Ending.{EndsAs, outside};
 ghost use Rattle.auth_cli.specs.Halting.{Finds, FindsInHand, JudgementCause, ending_status};
-ghost use Rattle.auth_cli.specs.IdealCalls.{call_audit, result_type};
+ghost use Rattle.auth_cli.specs.IdealCalls as meant;
+ghost use Rattle.auth_cli.specs.IdealCalls.{call_audit};
+ghost use Rattle.auth_cli.specs.Reaching.{FaultsAtReached, ReachedAt};
+ghost use Rattle.auth_cli.specs.ReadPrograms.{named_of};
 ghost use Rattle.auth_cli.specs.Reporting.{ReportsAgreement};
+ghost use Rattle.auth_cli.specs.RolesCalled.{CallsOnStates, IsCalled, role_of};
 ghost use Rattle.auth_cli.specs.SoundPrograms.{IsOutcome};
 ghost use Rattle.auth_cli.specs.Statuses.{MayAnswer};
+ghost use Rattle.auth_cli.specs.declared.roles.Callee.{Callee};
 
-use crate::calls::MAX_FILE;
-use crate::ideal_calls::{IdealCall, read_ideal_call};
-use crate::outcomes::report_of;
-use crate::queries::{CallWords, read_query};
-use crate::report::{load, tell};
+use crate::ideal_calls::{IdealCall, read_named_call};
+use crate::machine_calls::read_code;
+use crate::outcomes::outcome_report;
+use crate::report::tell;
+use crate::roles::{CallWords, CalledRole, Callee};
 use crate::{Ending, Halt, Report, Status};
-use collision_audit::{Audited, Collision, audit};
-use core_terms::{Outcome, Program, Spelling, TyId};
+use code_gen::Code;
+use core_terms::{Outcome, Program, Spelling};
 use digest_layer::Sha;
 use lam_outside::{Files, Sink};
 use printed_lines::lines::{agrees_line, collision_line};
-use printed_lines::refusal::{Argument, Refusal};
+use printed_lines::refusal::Refusal;
 use std::alloc::{AllocError, Global};
+use collision_audit::{AuditFault, Audited, Collision, audit};
+use value_store::Store;
 
-/// Audits a proof of a query, and tells the outcome on which it agrees, the collision that the proof shows, or why the proof is
-/// rejected. The words behind the command are `P ROLE IMG ARG FUEL PROOF`.
+/// Audits a proof of a query or an update, and tells the outcome on which it agrees, the collision that the proof shows, or why the
+/// proof is rejected. The words behind the command are `P ROLE IMG ARG FUEL PROOF`.
 pub fn audit_command<F: Files, O: Sink>(
     alloc: Global,
     words: &[&str],
@@ -47,8 +51,6 @@ pub fn audit_command<F: Files, O: Sink>(
         EndsAs (answer_with Audit (texts words.now)) (seen files.old out.old) (seen files.new out.new) result }
     ensures reached { ReachedAt result (answer_with Audit (texts words.now)) (F.contents files.old) (F.asked files.new) }
     ensures possible { MayAnswer Audit result }
-    ensures audited { let seen = outside F.contents F.stores F.faults F.store_faults O.written O.faults in
-        ForSome (F.contents files.old) (λ told. IsOfAudit result → IsAudited (calls Audit (texts words.now)) told (seen files.old out.old) (seen files.new out.new) result) }
 {
     let [program, role, image, argument, fuel, proof] = words else {
         unreachable!()
@@ -63,7 +65,7 @@ pub fn audit_command<F: Files, O: Sink>(
     tell(alloc, out, found)
 }
 
-/// What is found of a call and a proof: the proof file is opened when all else is well-formed.
+/// What is found of a program, a call and a proof: the proof file is opened when all else is well-formed.
 fn find_audit<F: Files>(
     alloc: Global,
     words: &CallWords<'_>,
@@ -73,75 +75,121 @@ fn find_audit<F: Files>(
 ) -> Result<Report, Halt>
     ensures finds { let words = words.now in ForSome (F.contents files.old) (λ told.
         Finds (audited_answer words.program.now words.role.now image.now words.argument.now words.fuel.now proof.now told) result) }
-    ensures means { let words = words.now in ForSome (F.contents files.old) (λ told. IfJudged result
-        (MeansAudit (calls Audit (words.program.now ∷ words.role.now ∷ image.now ∷ words.argument.now ∷ words.fuel.now ∷ proof.now ∷ [])) told)) }
     ensures ending { IfOk result (λ report. MayAnswer Audit (ending_status report.ending)) }
     ensures reached { let words = words.now in FaultsAtReached (audited_answer words.program.now words.role.now image.now words.argument.now words.fuel.now proof.now) (F.contents files.old) (F.asked files.new) result }
     ensures cause { JudgementCause (F.faults files.old) (F.faults files.new) result }
     ensures stores { F.stores files.new ≡ F.stores files.old }
     ensures store_faults { F.store_faults files.new ≡ F.store_faults files.old }
 {
-    let query = read_query(alloc, files, words)?;
-    let call = read_ideal_call(alloc, files, query, image, words.argument)?;
-    let proof = load(alloc, files, Argument::Proof, proof, MAX_FILE)?;
-    judge(alloc, &call, &proof)
+    let code = read_code(alloc, files, words.program)?;
+    audit_named(alloc, files, &code, words, image, proof)
 }
 
-/// Audits a proof of a call.
-fn judge(alloc: Global, call: &IdealCall, proof: &[u8]) -> Result<Report, Halt>
-    requires { IsIdealCall (ideal_call_of call.now) }
-    ensures finds { FindsInHand (call_audit_answer (ideal_call_of call.now) proof.now) result }
+/// The same of the code of a program.
+fn audit_named<F: Files>(
+    alloc: Global,
+    files: &mut F,
+    code: &Code,
+    words: &CallWords<'_>,
+    image: &str,
+    proof: &str,
+) -> Result<Report, Halt>
+    ensures finds { let words = words.now in let p = named_of (program_in code.now) in ForSome (F.contents files.old) (λ told.
+        Finds (audited_behind words.role.now image.now words.argument.now words.fuel.now proof.now p told) result) }
     ensures ending { IfOk result (λ report. MayAnswer Audit (ending_status report.ending)) }
+    ensures reached { let words = words.now in let p = named_of (program_in code.now) in
+        FaultsAtReached (audited_behind words.role.now image.now words.argument.now words.fuel.now proof.now p) (F.contents files.old) (F.asked files.new) result }
+    ensures cause { JudgementCause (F.faults files.old) (F.faults files.new) result }
+    ensures stores { F.stores files.new ≡ F.stores files.old }
+    ensures store_faults { F.store_faults files.new ≡ F.store_faults files.old }
 {
-    let audited = audit_of_call(alloc, call, proof)?;
-    report_audit(alloc, call, audited)
+    let program = code.program();
+    let call = read_named_call(alloc, files, program, Callee::OfState, words, image)?;
+    files.start(proof)?;
+    audit_started(alloc, files, code, call)
+}
+
+/// Audits the proof that was started.
+fn audit_started<F: Files>(
+    alloc: Global,
+    files: &mut F,
+    code: &Code,
+    call: IdealCall,
+) -> Result<Report, Halt>
+    requires { (callee : Callee) × CallsOnStates callee × HoldsSome callee (program_in code.now) call }
+    ensures finds { (callee : Callee) (ideal : meant.IdealCall) → CallsOnStates callee → HoldsCall callee (program_in code.now) call ideal
+        → ForSome (F.left files.old) (λ bytes. Finds (Some (call_audit_answer ideal bytes)) result) }
+    ensures ending { IfOk result (λ report. MayAnswer Audit (ending_status report.ending)) }
+    ensures asked { F.asked files.new ≡ F.asked files.old }
+    ensures cause { JudgementCause (F.faults files.old) (F.faults files.new) result }
+    ensures stores { F.stores files.new ≡ F.stores files.old }
+    ensures store_faults { F.store_faults files.new ≡ F.store_faults files.old }
+{
+    let called = call.called;
+    let audited = audit_call::<F>(alloc, files, code, call)?;
+    report_audit(alloc, code.program(), &called, audited)
 }
 
 /// What the audit of a proof of a call comes to.
-#[tactic(auto, unfolding(crate::specs::IdealCalls::call_audit))]
-fn audit_of_call(alloc: Global, call: &IdealCall, proof: &[u8]) -> Result<Audited, AllocError>
-    requires { IsIdealCall (ideal_call_of call.now) }
-    ensures { TellsAudit (meaning call.now.query.program) call.now.query.role.0 (call_audit (ideal_call_of call.now) proof.now) result }
+fn audit_call<F: Files>(
+    alloc: Global,
+    files: &mut F,
+    code: &Code,
+    call: IdealCall,
+) -> Result<Audited, AuditFault>
+    requires { (callee : Callee) × CallsOnStates callee × HoldsSome callee (program_in code.now) call }
+    ensures audit { let p = program_in code.now in (callee : Callee) (ideal : meant.IdealCall) → CallsOnStates callee → HoldsCall callee p call ideal
+        → ForSome (F.left files.old) (λ bytes. TellsAudit (meaning p) call.called.function.0 (call_audit ideal bytes) result) }
+    ensures cause { AuditCause (F.faults files.old) (F.faults files.new) result }
+    ensures asked { F.asked files.new ≡ F.asked files.old }
+    ensures stores { F.stores files.new ≡ F.stores files.old }
+    ensures store_faults { F.store_faults files.new ≡ F.store_faults files.old }
 {
-    let query = &call.query;
-    audit::<Sha>(
+    let mut store = call.store;
+    let CalledRole { function, fuel, .. } = call.called;
+    audit::<Sha, F, Store>(
         alloc,
-        &query.program,
-        query.role,
-        &call.state,
-        &call.argument,
-        query.fuel,
-        proof,
+        code,
+        &mut store,
+        function,
+        call.state,
+        call.argument,
+        fuel,
+        files,
     )
 }
 
-/// The report of what an audit of a proof of this call came to.
-fn report_audit(alloc: Global, call: &IdealCall, audited: Audited) -> Result<Report, Halt>
-    requires { IsIdealCall (ideal_call_of call.now) }
+/// The report of what an audit of a proof of a call of this role came to.
+fn report_audit(
+    alloc: Global,
+    program: &Program,
+    called: &CalledRole,
+    audited: Audited,
+) -> Result<Report, Halt>
+    requires { (callee : Callee) × IsCalled callee program.now called.now }
+    ensures finds { (audit : audits.Audit) → TellsAudit (meaning program.now) called.now.function.0 audit (Ok audited)
+        → FindsInHand (audit_told (role_of program.now called.now) audit) result }
     ensures ending { IfOk result (λ report. MayAnswer Audit (ending_status report.ending)) }
-    ensures finds { (audit : audits.Audit) → TellsAudit (meaning call.now.query.program) call.now.query.role.0 audit (Ok audited)
-        → FindsInHand (audit_told (result_type (ideal_call_of call.now)) audit) result }
 {
-    let program = &call.query.program;
-    let ty = program.function(call.query.role).result;
     match audited {
-        Audited::Agrees(outcome) => Ok(agreement(alloc, program, ty, outcome)?),
+        Audited::Agrees(outcome) => Ok(agreement(alloc, program, called, &outcome)?),
         Audited::Collision(collision) => Ok(report_collision(alloc, &collision)?),
         Audited::Rejected(cause) => Err(Halt::Refused(Refusal::Proof(cause))),
     }
 }
 
-/// The report of an audit that agrees on an outcome whose value, where it has one, is of this type.
+/// The report of an audit that agrees on an outcome.
 fn agreement(
     alloc: Global,
     program: &Program,
-    ty: TyId,
-    outcome: Outcome<Spelling>,
+    called: &CalledRole,
+    outcome: &Outcome<Spelling>,
 ) -> Result<Report, AllocError>
+    requires { (callee : Callee) × IsCalled callee program.now called.now }
     ensures ending { IfOk result (λ report. IsOutcome (ending_status report.ending)) }
-    ensures reports { IfOk result (ReportsAgreement (meaning program.now) (type_at (types_of program.now) ty) outcome) }
+    ensures reports { IfOk result (ReportsAgreement (role_of program.now called.now) outcome.now) }
 {
-    let report = report_of(alloc, program, ty, outcome)?;
+    let report = outcome_report(alloc, program, called, outcome)?;
     let text = agrees_line(alloc, &report.text)?;
     let ending = report.ending;
     Ok(Report { ending, text })

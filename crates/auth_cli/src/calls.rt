@@ -6,17 +6,16 @@ ghost use Rattle.lam_outside.specs.Told.{Contents};
 ghost use Rattle.auth_cli.specs.Reaching.{FaultsAt, FaultsAtReached};
 ghost use Rattle.auth_cli.specs.Answer.{Answer, with_fueled_role, with_state, with_state_file};
 ghost use Rattle.auth_cli.specs.Answer as meant;
-ghost use Rattle.auth_cli.specs.FueledQueries.{FueledRole};
+ghost use Rattle.auth_cli.specs.FueledRoles.{FueledRole};
 ghost use Rattle.auth_cli.specs.Halting.{GoesOn, GoesOnInHand, HaltCause};
-ghost use Rattle.auth_cli.specs.ReadPrograms.{language_named};
+ghost use Rattle.auth_cli.specs.ReadPrograms.{named_of};
 ghost use Rattle.auth_cli.specs.RolesCalled.{IsCalled, role_of};
 ghost use Rattle.auth_cli.specs.RolesJudged.{call_of, with_named_call, with_spelled};
 ghost use Rattle.auth_cli.specs.declared.roles.Callee.{Callee};
 
 use crate::Halt;
-use crate::queries::CallWords;
 use crate::report::load;
-use crate::roles::{CalledRole, Callee, called_role};
+use crate::roles::{CallWords, CalledRole, Callee, called_role};
 use core_terms::{Program, Spelling};
 use lam_outside::Files;
 use printed_lines::refusal::{Argument, InputFault};
@@ -48,12 +47,12 @@ pub fn read_role_call<F: Files>(
     state: &str,
 ) -> Result<RoleCall, Halt>
     ensures goes { let words = words.now in let p = program.now in ForSome (F.contents files.old) (λ told.
-        GoesOn (with_named_call callee (language_named p) words.role.now words.fuel.now state.now words.argument.now told) (call_of p) result) }
+        GoesOn (with_named_call callee (named_of p) words.role.now words.fuel.now state.now words.argument.now told) (call_of p) result) }
     ensures role { let words = words.now in let p = program.now in IfOk result (λ call.
-        (go : FueledRole → Option Answer) → with_fueled_role callee (language_named p) words.role.now words.fuel.now go ≡ go (role_of p call.called)) }
+        (go : FueledRole → Option Answer) → with_fueled_role callee (named_of p) words.role.now words.fuel.now go ≡ go (role_of p call.called)) }
     ensures valid { IfOk result (λ call. IsCalled callee program.now call.called) }
     ensures reached { let words = words.now in let p = program.now in (next : Contents → meant.RoleCall → Option Answer) → FaultsAtReached
-        (λ told. with_named_call callee (language_named p) words.role.now words.fuel.now state.now words.argument.now told (next told)) (F.contents files.old) (F.asked files.new) result }
+        (λ told. with_named_call callee (named_of p) words.role.now words.fuel.now state.now words.argument.now told (next told)) (F.contents files.old) (F.asked files.new) result }
     ensures cause { HaltCause (F.faults files.old) (F.faults files.new) result }
     ensures contents { F.contents files.new ≡ F.contents files.old }
     ensures stores { F.stores files.new ≡ F.stores files.old }

@@ -9,7 +9,7 @@ ghost use Rattle.auth_cli.specs.Ending.{EndsAs, outside};
 ghost use Rattle.auth_cli.specs.Halting.{Finds, HaltCause, ending_status};
 ghost use Rattle.auth_cli.specs.Statuses.{MayAnswer};
 
-use crate::programs::read_language_file;
+use crate::programs::read_program_file;
 use crate::report::tell;
 use crate::{Ending, Halt, Report, Status};
 use lam_outside::{Files, Sink};
@@ -43,7 +43,7 @@ fn find_digest<F: Files>(alloc: Global, program: &str, files: &mut F) -> Result<
     ensures stores { F.stores files.new ≡ F.stores files.old }
     ensures store_faults { F.store_faults files.new ≡ F.store_faults files.old }
 {
-    let program = read_language_file(alloc, files, program)?;
+    let program = read_program_file(alloc, files, program)?;
     let text = ok_line(alloc, program.text_digest())?;
     Ok(Report {
         ending: Ending::Done,

@@ -8,16 +8,15 @@ ghost use Rattle.auth_cli.specs.Reaching.{FaultsAtReached, ReachedAt};
 ghost use Rattle.auth_cli.specs.Answer.{answer_with, ideal_answer, role_answer, with_ended_call};
 ghost use Rattle.auth_cli.specs.Ending.{EndsAs, outside};
 ghost use Rattle.auth_cli.specs.Halting.{Finds, HaltCause, ending_status};
-ghost use Rattle.auth_cli.specs.ReadPrograms.{language_named};
+ghost use Rattle.auth_cli.specs.ReadPrograms.{named_of};
 ghost use Rattle.auth_cli.specs.SoundPrograms.{IsOutcome};
 ghost use Rattle.auth_cli.specs.Statuses.{MayAnswer};
 ghost use Rattle.auth_cli.specs.declared.roles.Callee.TheVariants as callee;
 
 use crate::machine_calls::{call_role, read_code};
-use crate::queries::CallWords;
 use crate::report::tell;
 use crate::role_outcomes::role_report;
-use crate::roles::Callee;
+use crate::roles::{CallWords, Callee};
 use crate::{Halt, Report, Status};
 use code_gen::Code;
 use lam_outside::{Files, Sink};
@@ -78,10 +77,10 @@ fn tell_ideal<F: Files>(
     image: &str,
 ) -> Result<Report, Halt>
     ensures finds { let words = words.now in let p = program_in code.now in ForSome (F.contents files.old) (λ told. Finds
-        (with_ended_call callee.OfState (language_named p) words.role.now image.now words.argument.now words.fuel.now told (λ ended. Some (role_answer ended))) result) }
+        (with_ended_call callee.OfState (named_of p) words.role.now image.now words.argument.now words.fuel.now told (λ ended. Some (role_answer ended))) result) }
     ensures ending { IfOk result (λ report. IsOutcome (ending_status report.ending)) }
     ensures reached { let words = words.now in let p = program_in code.now in FaultsAtReached
-        (λ told. with_ended_call callee.OfState (language_named p) words.role.now image.now words.argument.now words.fuel.now told (λ ended. Some (role_answer ended))) (F.contents files.old) (F.asked files.new) result }
+        (λ told. with_ended_call callee.OfState (named_of p) words.role.now image.now words.argument.now words.fuel.now told (λ ended. Some (role_answer ended))) (F.contents files.old) (F.asked files.new) result }
     ensures cause { HaltCause (F.faults files.old) (F.faults files.new) result }
     ensures stores { F.stores files.new ≡ F.stores files.old }
     ensures store_faults { F.store_faults files.new ≡ F.store_faults files.old }

@@ -1,39 +1,44 @@
 // What is told of an outcome.
 ghost use Rattle.std.specs.Prelude.{◌≡◌, IfOk};
-ghost use Rattle.core_terms.specs.Programs.{meaning, types_of};
-ghost use Rattle.core_terms.specs.TypeTables.{type_at};
 ghost use Rattle.auth_cli.specs.Halting.{ending_status};
 ghost use Rattle.auth_cli.specs.Reporting.{Reports};
+ghost use Rattle.auth_cli.specs.RolesCalled.{IsCalled, role_of};
 ghost use Rattle.auth_cli.specs.SoundPrograms.{IsOutcome};
+ghost use Rattle.auth_cli.specs.declared.roles.Callee.{Callee};
 
+use crate::roles::CalledRole;
 use crate::{Ending, Report};
-use core_terms::{Outcome, Program, Spelling, TyId};
-use printed_lines::lines::{done_line, out_line, trap_line};
+use core_terms::{Outcome, Program, Spelling};
+use printed_lines::lines::{named_done_line, out_line, trap_line};
 use std::alloc::{AllocError, Global};
 
-/// The report of an outcome whose value, where it has one, is of this type.
-pub fn report_of(
+/// The report of an outcome of a role, with the spelling of its value's projection.
+pub fn outcome_report(
     alloc: Global,
     program: &Program,
-    ty: TyId,
-    outcome: Outcome<Spelling>,
+    called: &CalledRole,
+    outcome: &Outcome<Spelling>,
 ) -> Result<Report, AllocError>
+    requires { (callee : Callee) × IsCalled callee program.now called.now }
     ensures ending { IfOk result (λ report. IsOutcome (ending_status report.ending)) }
-    ensures reports { IfOk result (Reports (meaning program.now) (type_at (types_of program.now) ty) outcome) }
+    ensures tells { IfOk result (Reports (role_of program.now called.now) outcome.now) }
 {
-    let (ending, text) = match outcome {
-        Outcome::Done(value) => (
-            Ending::Done,
-            done_line(alloc, program, ty, value.as_bytes())?,
-        ),
-        Outcome::Trapped(trap) => (
-            Ending::Trap,
-            Vec::from_slice(alloc, trap_line(trap).as_bytes())?,
-        ),
-        Outcome::Out => (
-            Ending::OutOfFuel,
-            Vec::from_slice(alloc, out_line().as_bytes())?,
-        ),
-    };
+    match outcome {
+        Outcome::Done(value) => {
+            let text = named_done_line(alloc, program, called.result, value.as_bytes())?;
+            let ending = Ending::Done;
+            Ok(Report { ending, text })
+        }
+        Outcome::Trapped(trap) => line_report(alloc, Ending::Trap, trap_line(*trap)),
+        Outcome::Out => line_report(alloc, Ending::OutOfFuel, out_line()),
+    }
+}
+
+/// A report of a line that is there.
+pub fn line_report(alloc: Global, ending: Ending, line: &str) -> Result<Report, AllocError>
+    ensures ending { IfOk result (λ report. report.ending ≡ ending) }
+    ensures line { IfOk result (λ report. report.text.items ≡ line.now) }
+{
+    let text = Vec::from_slice(alloc, line.as_bytes())?;
     Ok(Report { ending, text })
 }

@@ -2,23 +2,20 @@
 ghost use Rattle.std.specs.Prelude.{◌≡◌, ◌≤◌, length, IfOk};
 ghost use Rattle.std.specs.Option.{ForSome};
 ghost use Rattle.sha2.specs.Sha256.{sha256};
-ghost use Rattle.core_terms.specs.Programs as language;
-ghost use Rattle.core_terms.specs.Programs.{meaning};
+ghost use Rattle.core_terms.specs.Programs as held;
 ghost use Rattle.auth_cli.specs.Reaching.{FaultsAt};
-ghost use Rattle.auth_cli.specs.Answer.{with_language_file, with_program_file};
+ghost use Rattle.auth_cli.specs.Answer.{with_program_file};
 ghost use Rattle.auth_cli.specs.Halting.{GoesOn, HaltCause};
-ghost use Rattle.auth_cli.specs.NamedCalls.{KeepsProgram};
-ghost use Rattle.auth_cli.specs.ReadPrograms.{ReadsProgram, digested, language_named};
-ghost use Rattle.auth_cli.specs.TextPrograms.{constructor_names_of_text, language_program_of_text, program_of_text};
+ghost use Rattle.auth_cli.specs.ReadPrograms.{ReadsProgram, named_of};
+ghost use Rattle.auth_cli.specs.TextPrograms.{constructor_names_of_text, program_of_text};
 
 use crate::Halt;
 use crate::report::load;
-use auth_syntax::parser::{parse, parse_fragment};
+use auth_syntax::parser::parse;
 use auth_types::check::check;
 use auth_types::fault::TypeFault;
-use core_terms::{Hash32, Program, language};
+use core_terms::{Hash32, Program};
 use digest_layer::Sha;
-use fragment_types::check_fragment;
 use lam_outside::Files;
 use lexemes::fault::SyntaxFault;
 use printed_lines::refusal::{Argument, ProgramKind};
@@ -68,59 +65,30 @@ impl From<TypeFault> for ProgramFault {
 /// The longest text of a program, in bytes.
 const MAX_PROGRAM: usize = 262_144;
 
-/// The program of a text of at most 262,144 bytes, with the SHA-256 digest of the text. It may have all forms of the language.
+/// The program of a text of at most 262,144 bytes, with the SHA-256 digest of the text.
 ///
 /// # Errors
 ///
 /// `At` with the first fault of the syntax, or of the typing where the syntax has none; `NoMemory` where there is no memory for
 /// the tokens, the tree or the program.
-#[tactic(auto, unfolding(crate::specs::TextPrograms::language_program_of_text))]
-pub fn read_language_program(alloc: Global, text: &[u8]) -> Result<language::Program, ProgramFault>
+#[tactic(auto, unfolding(crate::specs::TextPrograms::program_of_text))]
+pub fn read_program(alloc: Global, text: &[u8]) -> Result<Program, ProgramFault>
     requires { length text.now ≤ 262144 }
-    ensures answer { ReadsProgram language.meaning (language_program_of_text text.now) result }
+    ensures answer { ReadsProgram held.meaning (program_of_text text.now) result }
     ensures digest { IfOk result (λ p. p.text_digest.0 ≡ sha256 text.now) }
-    ensures names { IfOk result (λ p. language.constructor_names p.types.named.items ≡ constructor_names_of_text text.now) }
+    ensures names { IfOk result (λ p. held.constructor_names p.types.named.items ≡ constructor_names_of_text text.now) }
 {
     let ast = parse(alloc, text)?;
     Ok(check(alloc, ast, Sha::of(text))?)
 }
 
-/// The same of a text of the fragment that runs so far; a token that goes beyond it is a fault of the syntax.
-#[tactic(auto, unfolding(crate::specs::TextPrograms::program_of_text))]
-pub fn read_program(alloc: Global, text: &[u8]) -> Result<Program, ProgramFault>
-    requires { length text.now ≤ 262144 }
-    ensures answer { ReadsProgram meaning (program_of_text text.now) result }
-    ensures digest { IfOk result (λ p. p.text_digest.0 ≡ sha256 text.now) }
-{
-    let ast = parse_fragment(alloc, text)?;
-    Ok(check_fragment(alloc, ast, Sha::of(text))?)
-}
-
-/// The program of the whole language in a file.
-pub fn read_language_file<F: Files>(
-    alloc: Global,
-    files: &mut F,
-    name: &str,
-) -> Result<language::Program, Halt>
-    ensures goes { ForSome (F.contents files.old) (λ told. GoesOn (with_language_file (told name.now)) language_named result) }
-    ensures asked { FaultsAt name.now (F.asked files.new) result }
-    ensures cause { HaltCause (F.faults files.old) (F.faults files.new) result }
-    ensures contents { F.contents files.new ≡ F.contents files.old }
-    ensures stores { F.stores files.new ≡ F.stores files.old }
-    ensures store_faults { F.store_faults files.new ≡ F.store_faults files.old }
-{
-    let text = load(alloc, files, Argument::Program, name, MAX_PROGRAM)?;
-    Ok(read_language_program(alloc, &text)?)
-}
-
-/// The program of the fragment in a file.
+/// The program in a file.
 pub fn read_program_file<F: Files>(
     alloc: Global,
     files: &mut F,
     name: &str,
 ) -> Result<Program, Halt>
-    ensures goes { ForSome (F.contents files.old) (λ told. GoesOn (with_program_file (told name.now)) digested result) }
-    ensures kept { ForSome (F.contents files.old) (λ told. IfOk result (λ program. KeepsProgram (told name.now) (digested program))) }
+    ensures goes { ForSome (F.contents files.old) (λ told. GoesOn (with_program_file (told name.now)) named_of result) }
     ensures asked { FaultsAt name.now (F.asked files.new) result }
     ensures cause { HaltCause (F.faults files.old) (F.faults files.new) result }
     ensures contents { F.contents files.new ≡ F.contents files.old }

@@ -7,7 +7,7 @@ ghost use Rattle.printed_lines.specs.declared.refusal.Refusal.TheVariants.{Input
 ghost use Rattle.auth_cli.specs.declared.report.Halt.TheVariants.{NoMemory, ReadFault, Refused};
 ghost use Rattle.auth_cli.specs.Reaching.{FaultsAt};
 ghost use Rattle.auth_cli.specs.Answer.{refusal_status, with_file};
-ghost use Rattle.auth_cli.specs.Halting.{GoesOn, HaltCause, ending_status, of_image_fault, of_literal_fault, of_program_fault, of_save_fault, of_verdict};
+ghost use Rattle.auth_cli.specs.Halting.{GoesOn, HaltCause, ending_status, of_audit_fault, of_image_fault, of_literal_fault, of_program_fault, of_save_fault, of_verdict};
 ghost use Rattle.auth_cli.specs.Telling.{Tells, TellsText};
 
 use crate::Status;
@@ -18,7 +18,8 @@ use printed_lines::lines::refusal_line;
 use printed_lines::refusal::{Argument, ImageKind, InputFault, Refusal};
 use printed_syntax::fault::{LiteralFault, LiteralKind};
 use std::alloc::{AllocError, Global};
-use stream_verifier::Verdict;
+use collision_audit::AuditFault;
+use verifier_mode::Verdict;
 
 /// How a command ends whose work was done.
 #[derive(Clone, Copy)]
@@ -152,6 +153,17 @@ impl From<Verdict> for Halt {
             ))),
             Verdict::ReadFault => Halt::ReadFault,
             Verdict::NoMemory => Halt::NoMemory,
+        }
+    }
+}
+
+impl From<AuditFault> for Halt {
+    ghost from_gives = { λ fault halt. halt ≡ of_audit_fault fault };
+
+    fn from(fault: AuditFault) -> Self {
+        match fault {
+            AuditFault::ReadFault => Halt::ReadFault,
+            AuditFault::NoMemory => Halt::NoMemory,
         }
     }
 }

@@ -4,7 +4,7 @@ ghost use Rattle.core_terms.specs.Programs.{meaning, types_of};
 ghost use Rattle.core_terms.specs.TypeTables.{type_at};
 ghost use Rattle.core_terms.specs.Types.{PairTy, Table, Ty};
 ghost use Rattle.core_terms.specs.Values.{PairV, Value};
-ghost use Rattle.core_terms.specs.declared.program.Program.{Program as LanguageProgram};
+ghost use Rattle.core_terms.specs.declared.program.Program.{Program as HeldProgram};
 ghost use Rattle.ideal_meaning.specs.Ideal as meant;
 ghost use Rattle.value_store.specs.Standing.{Kind, StandsFor};
 ghost use Rattle.value_store.specs.Stores.{nodes_in};
@@ -16,12 +16,13 @@ ghost use Rattle.auth_cli.specs.Storing.{FindsOutputInHand};
 ghost use Rattle.auth_cli.specs.declared.roles.Callee.{Callee};
 
 use crate::machine_calls::Ended;
+use crate::outcomes::line_report;
 use crate::{Ending, Halt, Output, Report};
 use core_terms::{Outcome, Program, RoleKind, TyId};
 use printed_lines::lines::{named_done_line, out_line, trap_line};
 use shallow_codec::spell;
 use std::alloc::{AllocError, Global};
-use stored_images::save_image;
+use images::save_image;
 use value_store::{Nodes, Ref, Store, View};
 
 /// The report of the outcome.
@@ -40,15 +41,6 @@ pub fn role_report(alloc: Global, program: &Program, ended: &Ended) -> Result<Re
         Outcome::Trapped(trap) => line_report(alloc, Ending::Trap, trap_line(trap)),
         Outcome::Out => line_report(alloc, Ending::OutOfFuel, out_line()),
     }
-}
-
-/// A report of a line that is there.
-pub fn line_report(alloc: Global, ending: Ending, line: &str) -> Result<Report, AllocError>
-    ensures ending { IfOk result (λ report. report.ending ≡ ending) }
-    ensures line { IfOk result (λ report. report.text.items ≡ line.now) }
-{
-    let text = Vec::from_slice(alloc, line.as_bytes())?;
-    Ok(Report { ending, text })
 }
 
 /// The report of the outcome, and the image of the state that was made, where one was.
@@ -89,8 +81,8 @@ fn value_line(
 
 /// The state that was made: all that an init gives, and the first component of what an update gives.
 fn state_made(ended: &Ended) -> Option<Ref>
-    requires { (p : LanguageProgram) × (callee : Callee) × MakesStates callee × HasEnded callee p ended.now }
-    ensures { (p : LanguageProgram) (callee : Callee) (o : meant.Outcome) → MakesStates callee → EndsIn callee p ended.now o
+    requires { (p : HeldProgram) × (callee : Callee) × MakesStates callee × HasEnded callee p ended.now }
+    ensures { (p : HeldProgram) (callee : Callee) (o : meant.Outcome) → MakesStates callee → EndsIn callee p ended.now o
         → IsStateMade p (role_of p ended.now.called) (nodes_in ended.now.store) result o }
 {
     match ended.outcome {

@@ -1,10 +1,10 @@
-// Roles of programs of the whole language, as the words of a command line name them.
+// Roles of programs, as the words of a command line name them.
 ghost use Rattle.std.specs.Prelude.{◌≡◌, IfOk};
 ghost use Rattle.core_terms.specs.Programs.{meaning};
 ghost use Rattle.core_terms.specs.RoleViews.{role_kind_of};
 ghost use Rattle.auth_cli.specs.Answer.{with_fueled_role, with_role};
 ghost use Rattle.auth_cli.specs.Halting.{GoesOnInHand};
-ghost use Rattle.auth_cli.specs.ReadPrograms.{language_named};
+ghost use Rattle.auth_cli.specs.ReadPrograms.{named_of};
 ghost use Rattle.auth_cli.specs.RoleCalls.{is_called};
 ghost use Rattle.auth_cli.specs.RolesCalled.{IsCalled, IsRoleOf, role_of};
 
@@ -12,6 +12,15 @@ use crate::Halt;
 use crate::arguments::fuel_named;
 use core_terms::{FunctionId, Program, Role, RoleKind, TyId};
 use printed_lines::refusal::InputFault;
+
+/// The words that name a call: the program's file, a role, the literal of its argument, and the fuel.
+#[derive(Clone, Copy)]
+pub struct CallWords<'a> {
+    pub program: &'a str,
+    pub role: &'a str,
+    pub argument: &'a str,
+    pub fuel: &'a str,
+}
 
 /// The roles that a command calls.
 #[derive(Clone, Copy)]
@@ -55,7 +64,7 @@ pub fn called_role(
     name: &str,
     fuel: &str,
 ) -> Result<CalledRole, Halt>
-    ensures goes { GoesOnInHand (with_fueled_role callee (language_named program.now) name.now fuel.now) (role_of program.now) result }
+    ensures goes { GoesOnInHand (with_fueled_role callee (named_of program.now) name.now fuel.now) (role_of program.now) result }
     ensures valid { IfOk result (IsCalled callee program.now) }
 {
     let role = role_named(program, callee, name)?;

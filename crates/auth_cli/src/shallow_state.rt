@@ -9,12 +9,12 @@ ghost use Rattle.auth_cli.specs.Reaching.{FaultsAtReached, ReachedAt};
 ghost use Rattle.auth_cli.specs.Answer.{answer_with, spelled_answer, state_answer};
 ghost use Rattle.auth_cli.specs.Ending.{EndsAs, outside};
 ghost use Rattle.auth_cli.specs.Halting.{HaltCause, ending_status};
-ghost use Rattle.auth_cli.specs.ReadPrograms.{language_named};
+ghost use Rattle.auth_cli.specs.ReadPrograms.{named_of};
 ghost use Rattle.auth_cli.specs.Statuses.{MayAnswer};
 ghost use Rattle.auth_cli.specs.StoredStates.{IsStoredState};
 ghost use Rattle.auth_cli.specs.Storing.{FindsOutput, IsOutput};
 
-use crate::programs::read_language_file;
+use crate::programs::read_program_file;
 use crate::stored_states::load_image_file;
 use crate::storing::store_and_tell;
 use crate::{Ending, Halt, Output, Report, Status};
@@ -23,7 +23,7 @@ use lam_outside::{Files, Sink};
 use printed_lines::lines::state_line;
 use shallow_codec::spell;
 use std::alloc::{AllocError, Global};
-use stored_images::Loaded;
+use images::Loaded;
 
 /// Stores the spelling of the projection of a state, and tells its value. The words behind the command are `P IMG OUT`.
 pub fn shallow_command<F: Files, O: Sink>(
@@ -59,7 +59,7 @@ fn find_state<F: Files>(
     ensures stores { F.stores files.new ≡ F.stores files.old }
     ensures store_faults { F.store_faults files.new ≡ F.store_faults files.old }
 {
-    let program = read_language_file(alloc, files, program)?;
+    let program = read_program_file(alloc, files, program)?;
     let state = load_image_file(alloc, files, &program, image)?;
     Ok(spell_state(alloc, &program, &state)?)
 }
@@ -69,7 +69,7 @@ fn spell_state(alloc: Global, program: &Program, state: &Loaded) -> Result<Outpu
     requires { (v : Value) × IsStoredState (meaning program.now) state.now v }
     ensures ending { IfOk result (λ output. MayAnswer Shallow (ending_status output.report.ending)) }
     ensures output { IfOk result
-        (λ output. (name : List ℕ) (v : Value) → IsStoredState (meaning program.now) state.now v → IsOutput (state_answer (language_named program.now) v name) name output) }
+        (λ output. (name : List ℕ) (v : Value) → IsStoredState (meaning program.now) state.now v → IsOutput (state_answer (named_of program.now) v name) name output) }
 {
     let ty = program.state_type();
     let spelled = spell(alloc, program.types(), &state.store, state.root, ty)?;

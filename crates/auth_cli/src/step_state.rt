@@ -8,16 +8,15 @@ ghost use Rattle.auth_cli.specs.Reaching.{FaultsAtReached, ReachedAt};
 ghost use Rattle.auth_cli.specs.Answer.{answer_with, stepped_answer, storing_answer, with_ended_call};
 ghost use Rattle.auth_cli.specs.Ending.{EndsAs, outside};
 ghost use Rattle.auth_cli.specs.Halting.{HaltCause, ending_status};
-ghost use Rattle.auth_cli.specs.ReadPrograms.{language_named};
+ghost use Rattle.auth_cli.specs.ReadPrograms.{named_of};
 ghost use Rattle.auth_cli.specs.SoundPrograms.{IsOutcome};
 ghost use Rattle.auth_cli.specs.Statuses.{MayAnswer};
 ghost use Rattle.auth_cli.specs.Storing.{FindsOutput};
 ghost use Rattle.auth_cli.specs.declared.roles.Callee.TheVariants as callee;
 
 use crate::machine_calls::{call_role, read_code};
-use crate::queries::CallWords;
 use crate::role_outcomes::role_output;
-use crate::roles::Callee;
+use crate::roles::{CallWords, Callee};
 use crate::storing::store_and_tell;
 use crate::{Halt, Output, Status};
 use code_gen::Code;
@@ -80,10 +79,10 @@ fn step_state<F: Files>(
     image: &str,
 ) -> Result<Output, Halt>
     ensures finds { let words = words.now in let p = program_in code.now in (name : List ℕ) → ForSome (F.contents files.old) (λ told. FindsOutput name
-        (with_ended_call callee.Update (language_named p) words.role.now image.now words.argument.now words.fuel.now told (λ ended. Some (storing_answer ended name))) result) }
+        (with_ended_call callee.Update (named_of p) words.role.now image.now words.argument.now words.fuel.now told (λ ended. Some (storing_answer ended name))) result) }
     ensures ending { IfOk result (λ output. IsOutcome (ending_status output.report.ending)) }
     ensures reached { let words = words.now in let p = program_in code.now in (name : List ℕ) → FaultsAtReached
-        (λ told. with_ended_call callee.Update (language_named p) words.role.now image.now words.argument.now words.fuel.now told (λ ended. Some (storing_answer ended name))) (F.contents files.old) (F.asked files.new) result }
+        (λ told. with_ended_call callee.Update (named_of p) words.role.now image.now words.argument.now words.fuel.now told (λ ended. Some (storing_answer ended name))) (F.contents files.old) (F.asked files.new) result }
     ensures cause { HaltCause (F.faults files.old) (F.faults files.new) result }
     ensures stores { F.stores files.new ≡ F.stores files.old }
     ensures store_faults { F.store_faults files.new ≡ F.store_faults files.old }

@@ -1,4 +1,4 @@
-// Ideal states of programs of the whole language, from images.
+// Ideal states, from images.
 ghost use Rattle.std.specs.Prelude.{◌≡◌, IfOk};
 ghost use Rattle.std.specs.Option.{ForSome};
 ghost use Rattle.core_terms.specs.Programs.{meaning};
@@ -6,7 +6,7 @@ ghost use Rattle.core_terms.specs.Values.{Value};
 ghost use Rattle.auth_cli.specs.Reaching.{FaultsAt};
 ghost use Rattle.auth_cli.specs.Answer.{with_image, with_image_file};
 ghost use Rattle.auth_cli.specs.Halting.{GoesOnFor, GoesOnForInHand, HaltCause};
-ghost use Rattle.auth_cli.specs.ReadPrograms.{language_digested};
+ghost use Rattle.auth_cli.specs.ReadPrograms.{digested_of};
 ghost use Rattle.auth_cli.specs.StoredStates.{IsStoredState};
 
 use crate::Halt;
@@ -17,7 +17,7 @@ use core_terms::Program;
 use lam_outside::Files;
 use printed_lines::refusal::Argument;
 use std::alloc::Global;
-use stored_images::{Loaded, load_image};
+use images::{Loaded, load_image};
 
 /// The ideal state in a file with an image of the program, over the prover's nodes.
 pub fn load_image_file<F: Files>(
@@ -26,7 +26,7 @@ pub fn load_image_file<F: Files>(
     program: &Program,
     name: &str,
 ) -> Result<Loaded, Halt>
-    ensures goes { ForSome (F.contents files.old) (λ told. GoesOnFor (with_image_file (language_digested program.now) (told name.now)) (IsStoredState (meaning program.now)) result) }
+    ensures goes { ForSome (F.contents files.old) (λ told. GoesOnFor (with_image_file (digested_of program.now) (told name.now)) (IsStoredState (meaning program.now)) result) }
     ensures stands { IfOk result (λ loaded. (v : Value) × IsStoredState (meaning program.now) loaded v) }
     ensures asked { FaultsAt name.now (F.asked files.new) result }
     ensures cause { HaltCause (F.faults files.old) (F.faults files.new) result }
@@ -40,7 +40,7 @@ pub fn load_image_file<F: Files>(
 
 /// The ideal state in an image of the program, over the prover's nodes.
 fn load_state(alloc: Global, program: &Program, bytes: &[u8]) -> Result<Loaded, Halt>
-    ensures goes { GoesOnForInHand (with_image (language_digested program.now) bytes.now) (IsStoredState (meaning program.now)) result }
+    ensures goes { GoesOnForInHand (with_image (digested_of program.now) bytes.now) (IsStoredState (meaning program.now)) result }
     ensures stands { IfOk result (λ loaded. (v : Value) × IsStoredState (meaning program.now) loaded v) }
 {
     let mut marker = ProverMarker::new(alloc);

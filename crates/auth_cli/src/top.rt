@@ -4,17 +4,17 @@ ghost use Rattle.std.specs.Option.{ForSome};
 ghost use Rattle.std.specs.Io.KnownBytes.{append_known};
 ghost use Rattle.command_words.specs.CommandLine.{AreRefused};
 ghost use Rattle.command_words.specs.Commands.{IsOfCommand, texts};
-ghost use Rattle.command_words.specs.Invocations.{Invocation, calls, invocation_of};
+ghost use Rattle.command_words.specs.Invocations.{Invocation, invocation_of};
 ghost use Rattle.command_words.specs.declared.command.Command.TheVariants.{Audit, Prove};
 ghost use Rattle.collision_audit.specs.Splits.{Split};
 ghost use Rattle.lam_outside.specs.Causes.{Rose};
 ghost use Rattle.auth_cli.specs.Answer.{answer, answer_with};
-ghost use Rattle.auth_cli.specs.AuditedCalls.{CallsAudit, IsAudited, IsAuditedBy, SplitsAt, TellsAnAudit};
+ghost use Rattle.auth_cli.specs.AuditedCalls.{CallsAudit, IsAudited, SplitsAt, TellsAnAudit};
 ghost use Rattle.auth_cli.specs.Codes.{code};
 ghost use Rattle.auth_cli.specs.Ending.{outside, EndsAs, IsOfFault, IsOfRefused, IsToldByCode, MayWrite, NoneRose, StoresSome, WritesPart, no_memory_text};
 ghost use Rattle.auth_cli.specs.IdealCalls.{IdealCall};
 ghost use Rattle.auth_cli.specs.NetFaults.{NetRose, net_faults};
-ghost use Rattle.auth_cli.specs.ProvedCalls.{CallsProve, IsProved, IsProvedBy};
+ghost use Rattle.auth_cli.specs.ProvedCalls.{CallsProve, IsProved};
 ghost use Rattle.auth_cli.specs.Reaching.{IsReached, ReachedAt};
 ghost use Rattle.auth_cli.specs.Statuses.{MayAnswer};
 ghost use Rattle.auth_cli.specs.TrueLines.{IsTrueLine, TellsOutcome};
@@ -46,11 +46,11 @@ use std::alloc::Global;
 /// | 0, 3, 4 | `agrees ` and such a line | `audit`: the proof is accepted with this outcome, which is the projection of the ideal one |
 /// | 5 | `rejected CAUSE` | the proof is rejected, for the cause below; in `audit` it shows no collision |
 /// | 6 | `program refused: KIND LINE COLUMN` | the text is no program: its first fault |
-/// | 7 | `input refused: too long ARGUMENT` | the file that `P`, `STATE` or `IMG` names is too long, or `PROOF` in `audit`, or the image for `OUT` would be |
+/// | 7 | `input refused: too long ARGUMENT` | the file that `P`, `STATE` or `IMG` names is too long, or the image for `OUT` would be |
 /// | 7 | `input refused: role unknown` | the program has no role of this name |
-/// | 7 | `input refused: role kind` | the role is not of the kind that the command calls: an init for `init`, a query or an update for `ideal` and `verify`, an update for `step` and for `verify` with `OUT`, else a query |
+/// | 7 | `input refused: role kind` | the role is not of the kind that the command calls: an init for `init`, an update for `step` and for `verify` with `OUT`, else a query or an update |
 /// | 7 | `input refused: number FUEL` | the fuel isn't of 1 to 20 digits, or above 10^12 |
-/// | 7 | `input refused: number N` | the number of pieces that are kept isn't of 1 to 20 digits, or above 0 |
+/// | 7 | `input refused: number N` | the number of pieces that are kept isn't of 1 to 20 digits, or above 1,024 |
 /// | 7 | `input refused: state OFFSET` | the state's bytes are no spelling: the first fault |
 /// | 7 | `input refused: image magic` | the image doesn't begin as one |
 /// | 7 | `input refused: image program` | the image is one of another program |
@@ -80,7 +80,8 @@ use std::alloc::Global;
 /// | `bad-piece PLACE OFFSET` | the digests agree, and the piece is no spelling |
 /// | `leftover BYTES` | the run ended, and so many bytes are left, or 65536 where there are more |
 ///
-/// The program's text has at most 262,144 bytes, each other file at most 67,108,864, but that the proof of `verify` may have any length. What is refused first in this order
+/// The program's text has at most 262,144 bytes, each other file at most 67,108,864, but that a proof that is judged may
+/// have any length. What is refused first in this order
 /// ends the run: the words, the program, the role, the fuel, the number of pieces that are kept, the state or the image, the
 /// argument, the proof. A file is opened when all that stands before it is well-formed, so `read fault` comes only from a file
 /// that this order had reached. A file is stored before any line is written. No command of these uses the net.
@@ -183,10 +184,6 @@ fn ended<F: Files, O: Sink>(alloc: Global, words: &[&str], files: &mut F, out: &
         EndsAs (answer (texts words.now)) (seen files.old out.old) (seen files.new out.new) result }
     ensures reached { ReachedAt result (answer (texts words.now)) (F.contents files.old) (F.asked files.new) }
     ensures possible { (called : Invocation) → invocation_of (texts words.now) ≡ Some called → MayAnswer called.command result }
-    ensures proved { let seen = outside F.contents F.stores F.faults F.store_faults O.written O.faults in
-        (called : Invocation) → invocation_of (texts words.now) ≡ Some called → IsProvedBy called (F.contents files.old) (seen files.old out.old) (seen files.new out.new) result }
-    ensures audited { let seen = outside F.contents F.stores F.faults F.store_faults O.written O.faults in
-        (called : Invocation) → invocation_of (texts words.now) ≡ Some called → IsAuditedBy called (F.contents files.old) (seen files.old out.old) (seen files.new out.new) result }
     ensures refused { invocation_of (texts words.now) ≡ None → IsOfRefused result }
 {
     match read(alloc, words) {
@@ -209,10 +206,6 @@ fn carry_out<F: Files, O: Sink>(
         EndsAs (answer_with command (texts words.now)) (seen files.old out.old) (seen files.new out.new) result }
     ensures reached { ReachedAt result (answer_with command (texts words.now)) (F.contents files.old) (F.asked files.new) }
     ensures possible { MayAnswer command result }
-    ensures proved { let seen = outside F.contents F.stores F.faults F.store_faults O.written O.faults in
-        IsProvedBy (calls command (texts words.now)) (F.contents files.old) (seen files.old out.old) (seen files.new out.new) result }
-    ensures audited { let seen = outside F.contents F.stores F.faults F.store_faults O.written O.faults in
-        IsAuditedBy (calls command (texts words.now)) (F.contents files.old) (seen files.old out.old) (seen files.new out.new) result }
 {
     match command {
         Command::Check => check_command(alloc, words, files, out),

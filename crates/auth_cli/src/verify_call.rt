@@ -12,12 +12,13 @@ ghost use Rattle.code_gen.specs.Programs.{program_in};
 ghost use Rattle.ideal_meaning.specs.Ideal as meant;
 ghost use Rattle.shallow_codec.specs.ProgramTypes.{table, ty_of};
 ghost use Rattle.value_store.specs.Nodes.{size_limit};
-ghost use Rattle.stream_verifier.specs.Verdicts.{Answers, IsTold, SpellsOutcome, VerdictCause};
+ghost use Rattle.verifier_mode.specs.Verdicts.{Answers, IsTold, VerdictCause};
+ghost use Rattle.mode_vm.specs.StateCalls.{SpellsOutcome};
 ghost use Rattle.auth_cli.specs.Reaching.{FaultsAtReached, ReachedAt};
 ghost use Rattle.auth_cli.specs.Answer.{accepted_answer, answer_with, callee_of, role_verdict, says, shallow_told, spelling_stored, verified_answer};
 ghost use Rattle.auth_cli.specs.Ending.{EndsAs, outside};
 ghost use Rattle.auth_cli.specs.Halting.{JudgementCause, ending_status};
-ghost use Rattle.auth_cli.specs.ReadPrograms.{language_named};
+ghost use Rattle.auth_cli.specs.ReadPrograms.{named_of};
 ghost use Rattle.auth_cli.specs.RoleCalls.{result_called};
 ghost use Rattle.auth_cli.specs.RolesCalled.{CallsOnStates, IsCalled, role_of};
 ghost use Rattle.auth_cli.specs.RolesJudged.{answer_behind, answer_to, call_of, name_of, out_of};
@@ -28,19 +29,18 @@ ghost use Rattle.auth_cli.specs.declared.roles.Callee.{Callee};
 
 use crate::calls::{RoleCall, read_role_call};
 use crate::machine_calls::read_code;
-use crate::queries::CallWords;
-use crate::role_outcomes::{first_component, line_report};
-use crate::roles::{CalledRole, Callee};
+use crate::outcomes::outcome_report;
+use crate::role_outcomes::first_component;
+use crate::roles::{CallWords, CalledRole, Callee};
 use crate::storing::store_and_tell;
-use crate::{Ending, Halt, Output, Report, Status};
+use crate::{Halt, Output, Status};
 use code_gen::Code;
 use core_terms::{Outcome, Program, Spelling, TyId, Types};
 use digest_layer::Sha;
 use lam_outside::{Files, Sink};
-use printed_lines::lines::{named_done_line, out_line, trap_line};
 use shallow_codec::{UnspellFault, spell, unspell};
 use std::alloc::{AllocError, Global};
-use stream_verifier::{Verdict, verify};
+use verifier_mode::{Verdict, verify};
 use value_store::Store;
 
 /// The words behind the command: those of a call, the files of its state and of its proof, and the name that the new state is stored under,
@@ -123,10 +123,10 @@ fn find_judgement<F: Files>(
     code: &Code,
     words: &VerifyWords<'_>,
 ) -> Result<Output, Halt>
-    ensures finds { let p = language_named (program_in code.now) in
+    ensures finds { let p = named_of (program_in code.now) in
         ForSome (F.contents files.old) (λ told. FindsOutput (name_of (out_of words.now)) (answer_behind p words.now told) result) }
     ensures ending { IfOk result (λ output. IsOutcome (ending_status output.report.ending)) }
-    ensures reached { let p = language_named (program_in code.now) in FaultsAtReached (answer_behind p words.now) (F.contents files.old) (F.asked files.new) result }
+    ensures reached { let p = named_of (program_in code.now) in FaultsAtReached (answer_behind p words.now) (F.contents files.old) (F.asked files.new) result }
     ensures cause { JudgementCause (F.faults files.old) (F.faults files.new) result }
     ensures stores { F.stores files.new ≡ F.stores files.old }
     ensures store_faults { F.store_faults files.new ≡ F.store_faults files.old }
@@ -210,35 +210,12 @@ fn outcome_output(
         → SpellsOutcome (meaning program.now) (result_called (role_of program.now called.now)) o outcome.now
         → IsOutput (accepted_answer (role_of program.now called.now) out o) (name_of out) output) }
 {
-    let report = shallow_report(alloc, program, called, outcome)?;
+    let report = outcome_report(alloc, program, called, outcome)?;
     let file = match callee {
         Callee::Update => new_state(alloc, program, called, outcome)?,
         Callee::Init | Callee::OfState => None,
     };
     Ok(Output { report, file })
-}
-
-/// The report of an outcome that is accepted.
-fn shallow_report(
-    alloc: Global,
-    program: &Program,
-    called: &CalledRole,
-    outcome: &Outcome<Spelling>,
-) -> Result<Report, AllocError>
-    requires { (callee : Callee) × IsCalled callee program.now called.now }
-    ensures ending { IfOk result (λ report. IsOutcome (ending_status report.ending)) }
-    ensures tells { IfOk result (λ report. (o : meant.Outcome) → SpellsOutcome (meaning program.now) (result_called (role_of program.now called.now)) o outcome.now
-        → shallow_told (role_of program.now called.now) o ≡ says (ending_status report.ending) report.text.items) }
-{
-    match outcome {
-        Outcome::Done(value) => {
-            let text = named_done_line(alloc, program, called.result, value.as_bytes())?;
-            let ending = Ending::Done;
-            Ok(Report { ending, text })
-        }
-        Outcome::Trapped(trap) => line_report(alloc, Ending::Trap, trap_line(*trap)),
-        Outcome::Out => line_report(alloc, Ending::OutOfFuel, out_line()),
-    }
 }
 
 /// The spelling of the state that an update makes, where it makes one.

@@ -1,12 +1,8 @@
-use Rattle.std.proofs.Common.{sym, subst}
-use Rattle.command_words.specs.Invocations.{calls}
 use Rattle.command_words.specs.declared.command.Command.TheVariants.{Audit}
 use Rattle.auth_cli.specs.Answer.{audited_answer}
-use Rattle.auth_cli.specs.AuditedCalls.{MeansAudit}
-use Rattle.auth_cli.proofs.AuditedRuns.{audited_ends, told_judged}
 use Rattle.auth_cli.proofs.Ends.{ends_as}
 use Rattle.auth_cli.proofs.Possible.{judged_possible, told_possible}
-use Rattle.auth_cli.proofs.Words.{apart, ends_apart, text_at}
+use Rattle.auth_cli.proofs.Words.{ends_apart, text_at}
 use Rattle.std.proofs.Common.{refl}
 use Rattle.auth_cli.proofs.Reached.{told_reached}
 use Rattle.auth_cli.proofs.Words.{reached_apart}
@@ -24,12 +20,6 @@ pub returns-clause-possible : goal.returns-clause-possible
 returns-clause-possible g c =
     let found = c.find_audit-found in
     told_possible Audit found.result c.tell.result _ _ _ _ c.tell.ensures (judged_possible Audit tt _ _ found.result found.ensures.cause found.ensures.ending)
-
-pub returns-clause-audited : goal.returns-clause-audited
-returns-clause-audited g c = λ told known of_audit.
-    let words = c.args.words.now in
-    let means = told_judged c.find_audit-found.result c.tell.result _ _ _ _ c.tell.ensures (c.find_audit-found.ensures.means told known) of_audit in
-    audited_ends _ told _ _ c.tell.result of_audit (returns-clause-ends g c) known (subst (λ ts. MeansAudit (calls Audit ts) told) (sym (apart words 6 c.requires)) means)
 
 pub returns-clause-reached : goal.returns-clause-reached
 returns-clause-reached g c = λ is.

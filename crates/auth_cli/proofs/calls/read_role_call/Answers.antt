@@ -1,8 +1,8 @@
 use Rattle.std.proofs.Common.{ℕ, List, Option, ap, ◌∙◌}
 use Rattle.std.proofs.lemmas.Result.{err_from_is_err_and}
 use Rattle.auth_cli.specs.Answer.{Answer, RoleCall, with_fueled_role, with_role_call}
-use Rattle.auth_cli.specs.FueledQueries.{FueledRole}
-use Rattle.auth_cli.specs.ReadPrograms.{language_named}
+use Rattle.auth_cli.specs.FueledRoles.{FueledRole}
+use Rattle.auth_cli.specs.ReadPrograms.{named_of}
 use Rattle.auth_cli.specs.Reaching.{without}
 use Rattle.auth_cli.specs.RolesCalled.{role_of}
 use Rattle.auth_cli.specs.RolesJudged.{call_of, with_named_call, with_spelled}
@@ -19,7 +19,7 @@ returns-in_err-called-clause-goes g c = λ told known.
     let p = c.args.program.now in
     let words = c.args.words.now in
     let err = err_from_is_err_and c.from_residual.result c.from_residual.ensures.1 in
-    let first = with_fueled_role c.args.callee (language_named p) words.role.now words.fuel.now in
+    let first = with_fueled_role c.args.callee (named_of p) words.role.now words.fuel.now in
     halts_first first (λ r go. with_role_call r c.args.state.now words.argument.now told go) (call_of p) c.from_residual.result _ (cc) (hand_halts first (role_of p) _ c.in_err-called.ensures.goes)
 
 pub returns-in_err-called-clause-reached : goal.returns-in_err-called-clause-reached
@@ -27,8 +27,8 @@ returns-in_err-called-clause-reached g c = λ next.
     let p = c.args.program.now in
     let words = c.args.words.now in
     let err = err_from_is_err_and c.from_residual.result c.from_residual.ensures.1 in
-    hand_reached (with_fueled_role c.args.callee (language_named p) words.role.now words.fuel.now) (role_of p)
-    (λ told. with_named_call c.args.callee (language_named p) words.role.now words.fuel.now c.args.state.now words.argument.now told (next told)) _ _ _ c.from_residual.result (cc) c.in_err-called.ensures.goes
+    hand_reached (with_fueled_role c.args.callee (named_of p) words.role.now words.fuel.now) (role_of p)
+    (λ told. with_named_call c.args.callee (named_of p) words.role.now words.fuel.now c.args.state.now words.argument.now told (next told)) _ _ _ c.from_residual.result (cc) c.in_err-called.ensures.goes
 
 pub returns-in_err-state-clause-goes : goal.returns-in_err-state-clause-goes
 returns-in_err-state-clause-goes g c = λ told known.
@@ -36,7 +36,7 @@ returns-in_err-state-clause-goes g c = λ told known.
     let words = c.args.words.now in
     let r = role_of p c.in_ok-called.called in
     let err = err_from_is_err_and c.from_residual-in_err-state.result c.from_residual-in_err-state.ensures.1 in
-    halted (with_named_call c.args.callee (language_named p) words.role.now words.fuel.now c.args.state.now words.argument.now told) (call_of p) c.from_residual-in_err-state.result _ (cc)
+    halted (with_named_call c.args.callee (named_of p) words.role.now words.fuel.now c.args.state.now words.argument.now told) (call_of p) c.from_residual-in_err-state.result _ (cc)
     (λ go. halts_behind _ _ _ (c.in_ok-called.ensures.goes (λ r. with_role_call r c.args.state.now words.argument.now told go)) (c.in_err-state.ensures.goes told known (behind_state words.argument.now r go)))
 
 pub returns-in_err-state-clause-reached : goal.returns-in_err-state-clause-reached
@@ -46,7 +46,7 @@ returns-in_err-state-clause-reached g c = λ next.
     let state = c.args.state.now in
     let r = role_of p c.in_ok-called.called in
     let err = err_from_is_err_and c.from_residual-in_err-state.result c.from_residual-in_err-state.ensures.1 in
-    faults_reached (λ told. with_named_call c.args.callee (language_named p) words.role.now words.fuel.now state words.argument.now told (next told)) state _ _ _ c.from_residual-in_err-state.result (cc)
+    faults_reached (λ told. with_named_call c.args.callee (named_of p) words.role.now words.fuel.now state words.argument.now told (next told)) state _ _ _ c.from_residual-in_err-state.result (cc)
     (λ files known. c.in_ok-called.ensures.goes (λ r. with_role_call r state words.argument.now (without state files) (next (without state files)))
     ∙ ap (λ file. call_step r words.argument.now file (next (without state files))) (is_missing state files)) c.in_err-state.ensures.asked
 
@@ -57,7 +57,7 @@ returns-in_err-argument-clause-goes g c = λ told known.
     let r = role_of p c.in_ok-called.called in
     let state = c.in_ok-state.state.items in
     let err = err_from_is_err_and c.from_residual-in_err-argument.result c.from_residual-in_err-argument.ensures.1 in
-    halted (with_named_call c.args.callee (language_named p) words.role.now words.fuel.now c.args.state.now words.argument.now told) (call_of p) c.from_residual-in_err-argument.result _ (cc)
+    halted (with_named_call c.args.callee (named_of p) words.role.now words.fuel.now c.args.state.now words.argument.now told) (call_of p) c.from_residual-in_err-argument.result _ (cc)
     (λ go. halts_behind _ _ _ (c.in_ok-called.ensures.goes (λ r. with_role_call r c.args.state.now words.argument.now told go)
     ∙ c.in_ok-state.ensures.goes told known (behind_state words.argument.now r go))
     (hand_halts (with_spelled r words.argument.now) (λ (a : List ℕ). a) _ c.in_err-argument.ensures (λ a. go (record { role = r; state = state; argument = a }))))
@@ -69,7 +69,7 @@ returns-in_err-argument-clause-reached g c = λ next.
     let r = role_of p c.in_ok-called.called in
     let err = err_from_is_err_and c.from_residual-in_err-argument.result c.from_residual-in_err-argument.ensures.1 in
     hand_reached (with_spelled r words.argument.now) (λ (a : List ℕ). a)
-    (λ told. with_named_call c.args.callee (language_named p) words.role.now words.fuel.now c.args.state.now words.argument.now told (next told)) _ _ _ c.from_residual-in_err-argument.result (cc) c.in_err-argument.ensures
+    (λ told. with_named_call c.args.callee (named_of p) words.role.now words.fuel.now c.args.state.now words.argument.now told (next told)) _ _ _ c.from_residual-in_err-argument.result (cc) c.in_err-argument.ensures
 
 pub read_passed-requires : goal.read_passed-requires
 read_passed-requires g c = (c.args.callee, c.in_ok-called.ensures.valid)

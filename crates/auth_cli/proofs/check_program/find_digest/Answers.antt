@@ -4,7 +4,7 @@ use Rattle.printed_lines.specs.Lines.{ok_line}
 use Rattle.auth_cli.specs.Answer.{says}
 use Rattle.auth_cli.specs.declared.status.Status.TheVariants.{Done}
 use Rattle.auth_cli.proofs.Steps.{finds_halt}
-use Rattle.auth_cli.specs.Answer.{checked_answer, with_language_file}
+use Rattle.auth_cli.specs.Answer.{checked_answer, with_program_file}
 use Rattle.std.proofs.Common.{ap}
 use Rattle.auth_cli.proofs.Reached.{faults_reached, is_missing}
 use Rattle.auth_cli.proofs.check_program.find_digest.Goals as goal
@@ -19,4 +19,4 @@ returns-in_err-program-clause-reached g c =
     let name = c.args.program.now in
     let err = err_from_is_err_and c.from_residual.result c.from_residual.ensures.1 in
     faults_reached (checked_answer name) name _ _ _ c.from_residual.result (cc)
-    (λ files known. ap (λ file. with_language_file file (λ p. Some (says Done (ok_line p.digested.digest)))) (is_missing name files)) c.in_err-program.ensures.asked
+    (λ files known. ap (λ file. with_program_file file (λ p. Some (says Done (ok_line p.digested.digest)))) (is_missing name files)) c.in_err-program.ensures.asked

@@ -2,10 +2,10 @@ use Rattle.std.proofs.Common.{ℕ, List, Option, Some, ap, sym, ◌∙◌, subst
 use Rattle.std.proofs.lemmas.Result.{err_from_is_err_and}
 use Rattle.lam_outside.specs.Told.{Contents}
 use Rattle.code_gen.specs.Programs.{program_in}
-use Rattle.auth_cli.specs.Answer.{Answer, ideal_answer, role_answer, with_ended_call, with_language_file}
-use Rattle.auth_cli.specs.FueledQueries.{NamedProgram}
+use Rattle.auth_cli.specs.Answer.{Answer, ideal_answer, role_answer, with_ended_call, with_program_file}
+use Rattle.auth_cli.specs.FueledRoles.{NamedProgram}
 use Rattle.auth_cli.specs.Halting.{Finds}
-use Rattle.auth_cli.specs.ReadPrograms.{language_named}
+use Rattle.auth_cli.specs.ReadPrograms.{named_of}
 use Rattle.auth_cli.specs.Reaching.{without}
 use Rattle.auth_cli.specs.declared.roles.Callee.TheVariants.{OfState}
 use Rattle.auth_cli.proofs.Reached.{faults_reached, is_missing}
@@ -38,11 +38,11 @@ returns-in_err-code-clause-reached g c =
     let image = c.args.image.now in
     let err = err_from_is_err_and c.from_residual.result c.from_residual.ensures.1 in
     faults_reached (ideal_answer program words.role.now image words.argument.now words.fuel.now) program _ _ _ c.from_residual.result (cc)
-    (λ files known. ap (λ file. with_language_file file (λ p. behind_program words.role.now image words.argument.now words.fuel.now p (without program files))) (is_missing program files))
+    (λ files known. ap (λ file. with_program_file file (λ p. behind_program words.role.now image words.argument.now words.fuel.now p (without program files))) (is_missing program files))
     c.in_err-code.ensures.asked
 
 pub returns-clause-reached : goal.returns-clause-reached
 returns-clause-reached g c =
     let words = c.args.words.now in
-    program_reached words.program.now (behind_program words.role.now c.args.image.now words.argument.now words.fuel.now) _ _ (language_named (program_in c.in_ok-code.code)) c.in_ok-code.ensures.goes
+    program_reached words.program.now (behind_program words.role.now c.args.image.now words.argument.now words.fuel.now) _ _ (named_of (program_in c.in_ok-code.code)) c.in_ok-code.ensures.goes
     _ c.tell_ideal.result c.in_ok-code.ensures.contents (c.tell_ideal.ensures.reached)

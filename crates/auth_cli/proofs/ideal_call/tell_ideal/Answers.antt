@@ -2,7 +2,7 @@ use Rattle.std.proofs.Common.{Some, ap, sym, ◌∙◌, subst}
 use Rattle.std.proofs.lemmas.Result.{err_from_is_err_and}
 use Rattle.code_gen.specs.Programs.{program_in}
 use Rattle.auth_cli.specs.Answer.{outcome_told, role_answer, with_ended_call}
-use Rattle.auth_cli.specs.ReadPrograms.{language_named}
+use Rattle.auth_cli.specs.ReadPrograms.{named_of}
 use Rattle.auth_cli.specs.RolesCalled.{EndsIn, HasEnded, role_of}
 use Rattle.auth_cli.specs.declared.roles.Callee.TheVariants.{OfState}
 use Rattle.auth_cli.proofs.RoleSteps.{same_reached}
@@ -18,7 +18,7 @@ pub returns-in_err-ended-clause-reached : goal.returns-in_err-ended-clause-reach
 returns-in_err-ended-clause-reached g c =
     let err = err_from_is_err_and c.from_residual.result c.from_residual.ensures.1 in
     let words = c.args.words.now in
-    same_reached (λ told. with_ended_call OfState (language_named (program_in c.args.code.now)) words.role.now c.args.image.now words.argument.now words.fuel.now told (λ ended. Some (role_answer ended)))
+    same_reached (λ told. with_ended_call OfState (named_of (program_in c.args.code.now)) words.role.now c.args.image.now words.argument.now words.fuel.now told (λ ended. Some (role_answer ended)))
     _ _ _ c.from_residual.result (cc) (c.in_err-ended.ensures.reached (λ ended. Some (role_answer ended)))
 
 pub role_report-requires : goal.role_report-requires

@@ -1,23 +1,75 @@
+use Rattle.std.proofs.Common.{List, ℕ, Option, Result, Err, refl, sym, ap, ◌∙◌, subst}
 use Rattle.std.proofs.lemmas.Result.{err_from_is_err_and}
-use Rattle.std.specs.Prelude.{ℕ, List, Option}
+use Rattle.core_terms.specs.Programs.{meaning, types_of}
+use Rattle.core_terms.specs.TypeTables.{type_at}
 use Rattle.core_terms.specs.Values.{Value}
-use Rattle.core_terms.specs.Roles.{argument_type}
-use Rattle.auth_cli.specs.Answer.{Answer, with_image_file, with_value}
-use Rattle.auth_cli.specs.Calls.{ideal_call_of, query_of}
-use Rattle.auth_cli.specs.FueledQueries.{FueledQuery}
+use Rattle.value_store.specs.Stores.{nodes_in}
+use Rattle.auth_cli.specs.Answer.{Answer, with_image_file, with_literal, with_passed}
+use Rattle.auth_cli.specs.CallsInStores.{HoldsCall}
+use Rattle.auth_cli.specs.FueledRoles.{FueledRole}
+use Rattle.auth_cli.specs.Halting.{HaltsAs}
 use Rattle.auth_cli.specs.IdealCalls.{IdealCall}
-use Rattle.auth_cli.proofs.Steps.{halts_first}
+use Rattle.auth_cli.specs.ReadPrograms.{digested_of, named_of}
+use Rattle.auth_cli.specs.RoleCalls.{named_literal}
+use Rattle.auth_cli.specs.RolesCalled.{prover_nodes, role_of}
+use Rattle.auth_cli.proofs.EndedRuns.{passed_goes}
+use Rattle.auth_cli.proofs.RoleShapes.{passed_is}
+use Rattle.auth_cli.proofs.RoleSteps.{halts_for, halts_in_hand}
+use Rattle.auth_cli.proofs.Steps.{halts_behind, halts_first_for}
 use Rattle.auth_cli.proofs.ideal_calls.read_ideal_call.Goals as goal
 
 -- what stands behind the state
-abbrev behind_state : FueledQuery → (argument : List ℕ) → Value → (IdealCall → Option Answer) → Option Answer
-behind_state q argument s go = with_value q.program.program (argument_type q.program.program q.role) argument (λ a. go (record { query = q; state = s; argument = a }))
+abbrev behind_state : FueledRole → (argument : List ℕ) → Value → (IdealCall → Option Answer) → Option Answer
+behind_state r argument s go = with_passed r argument (λ a. go (record { role = r; state = s; argument = a }))
 
-pub returns-in_err-state-clause-goes : goal.returns-in_err-state-clause-goes
-returns-in_err-state-clause-goes g c = λ told known.
-    let q = query_of c.args.query in
+pub returns-in_err-loaded-clause-goes : goal.returns-in_err-loaded-clause-goes
+returns-in_err-loaded-clause-goes g c = λ callee is told known.
+    let p = c.args.program.now in
     let err = err_from_is_err_and c.from_residual.result c.from_residual.ensures.1 in
-    halts_first (with_image_file q.program (told c.args.image.now)) (behind_state q c.args.argument.now) ideal_call_of c.from_residual.result _ (cc) (c.in_err-state.ensures.goes told known)
+    halts_first_for (with_image_file (digested_of p) (told c.args.image.now)) (behind_state (role_of p c.args.called) c.args.argument.now) (HoldsCall callee p)
+    c.from_residual.result _ (cc) (c.in_err-loaded.ensures.goes told known)
 
-pub returns-clause-inputs : goal.returns-clause-inputs
-returns-clause-inputs g c = λ told known. record { image_file = c.in_ok-state.ensures.kept told known; argument = c.in_ok-argument.ensures.value }
+pub returns-in_err-argument-clause-goes : goal.returns-in_err-argument-clause-goes
+returns-in_err-argument-clause-goes g c = λ callee is told known.
+    let p = c.args.program.now in
+    let r = role_of p c.args.called in
+    let text = c.args.argument.now in
+    let state = c.in_ok-loaded.ensures.goes told known in
+    let err = err_from_is_err_and c.from_residual-in_err-argument.result c.from_residual-in_err-argument.ensures.1 in
+    let halts = (halts_in_hand (with_literal (named_literal (named_of p) (type_at (types_of p) c.args.called.argument) text)) _ _ c.in_err-argument.ensures.goes).1 in
+    halts_for (λ go. with_image_file (digested_of p) (told c.args.image.now) (λ s. behind_state r text s go)) (HoldsCall callee p) c.from_residual-in_err-argument.result _ (cc)
+    (λ go. halts_behind _ _ _ (state.1 (λ s. behind_state r text s go) ∙ ap (λ t. with_literal (named_literal (named_of p) t text) (λ a. go (record { role = r; state = state.0; argument = a }))) (passed_is callee p c.args.called is))
+    (halts (λ a. go (record { role = r; state = state.0; argument = a }))))
+
+pub returns-clause-goes : goal.returns-clause-goes
+returns-clause-goes g c = λ callee is told known.
+    let p = c.args.program.now in
+    let r = role_of p c.args.called in
+    let text = c.args.argument.now in
+    let nodes = nodes_in c.put_argument.new.store in
+    let state = c.in_ok-loaded.ensures.goes told known in
+    let put = c.in_ok-argument.ensures.goes in (
+      record { role = r; state = state.0; argument = put.0 },
+      (λ go. state.1 (λ s. behind_state r text s go)
+          ∙ passed_goes callee p c.args.called is text nodes c.in_ok-argument.argument.0 put (λ a. go (record { role = r; state = state.0; argument = a }))),
+      record {
+        called = is;
+        role = refl;
+        state = c.in_ok-argument.ensures.keeps (prover_nodes p) (meaning p).types c.in_ok-loaded.loaded.root.0 (meaning p).state state.0 state.2;
+        argument = put.2;
+      },
+    )
+
+pub returns-clause-holds : goal.returns-clause-holds
+returns-clause-holds g c = λ callee is.
+    let p = c.args.program.now in
+    let state = c.in_ok-loaded.ensures.stands in
+    let put = c.in_ok-argument.ensures.goes in (
+      record { role = role_of p c.args.called; state = state.0; argument = put.0 },
+      record {
+        called = is;
+        role = refl;
+        state = c.in_ok-argument.ensures.keeps (prover_nodes p) (meaning p).types c.in_ok-loaded.loaded.root.0 (meaning p).state state.0 state.1;
+        argument = put.2;
+      },
+    )

@@ -1,9 +1,9 @@
 use Rattle.std.proofs.Common.{List, ℕ, Option, Some, ap, sym, subst}
 use Rattle.std.proofs.lemmas.Result.{err_from_is_err_and}
 use Rattle.code_gen.specs.Programs.{program_in}
-use Rattle.auth_cli.specs.Answer.{Answer, initial_answer, storing_answer, with_ended_init, with_language_file}
-use Rattle.auth_cli.specs.FueledQueries.{NamedProgram}
-use Rattle.auth_cli.specs.ReadPrograms.{language_named}
+use Rattle.auth_cli.specs.Answer.{Answer, initial_answer, storing_answer, with_ended_init, with_program_file}
+use Rattle.auth_cli.specs.FueledRoles.{NamedProgram}
+use Rattle.auth_cli.specs.ReadPrograms.{named_of}
 use Rattle.auth_cli.specs.Storing.{FindsOutput}
 use Rattle.auth_cli.proofs.Reached.{faults_reached, is_missing, output_reached}
 use Rattle.auth_cli.proofs.Steps.{hand_cause, hand_found, output_halt}
@@ -24,12 +24,12 @@ returns-clause-finds g c = λ name told known.
     let words = c.args.words.now in
     let next = behind_program words.role.now words.argument.now words.fuel.now name in
     subst (λ answer. FindsOutput name answer c.make_state.result) (sym (c.in_ok-code.ensures.goes told known next))
-    (hand_found name (next (language_named (program_in c.in_ok-code.code))) c.make_state.result (c.make_state.ensures.finds name))
+    (hand_found name (next (named_of (program_in c.in_ok-code.code))) c.make_state.result (c.make_state.ensures.finds name))
 
 pub returns-clause-cause : goal.returns-clause-cause
 returns-clause-cause g c =
     let words = c.args.words.now in
-    hand_cause (λ name. behind_program words.role.now words.argument.now words.fuel.now name (language_named (program_in c.in_ok-code.code))) c.make_state.result _ _ c.make_state.ensures.finds
+    hand_cause (λ name. behind_program words.role.now words.argument.now words.fuel.now name (named_of (program_in c.in_ok-code.code))) c.make_state.result _ _ c.make_state.ensures.finds
     c.in_ok-code.ensures.cause
 
 pub returns-in_err-code-clause-reached : goal.returns-in_err-code-clause-reached
@@ -38,7 +38,7 @@ returns-in_err-code-clause-reached g c = λ name.
     let program = words.program.now in
     let err = err_from_is_err_and c.from_residual.result c.from_residual.ensures.1 in
     faults_reached (initial_answer program words.role.now words.argument.now words.fuel.now name) program _ _ _ c.from_residual.result (cc)
-    (λ files known. ap (λ file. with_language_file file (behind_program words.role.now words.argument.now words.fuel.now name)) (is_missing program files)) c.in_err-code.ensures.asked
+    (λ files known. ap (λ file. with_program_file file (behind_program words.role.now words.argument.now words.fuel.now name)) (is_missing program files)) c.in_err-code.ensures.asked
 
 pub returns-clause-reached : goal.returns-clause-reached
 returns-clause-reached g c = λ name.

@@ -2,7 +2,7 @@ use Rattle.std.proofs.Common.{Some, ap, sym, ◌∙◌, subst}
 use Rattle.std.proofs.lemmas.Result.{err_from_is_err_and}
 use Rattle.code_gen.specs.Programs.{program_in}
 use Rattle.auth_cli.specs.Answer.{outcome_stored, storing_answer, with_ended_init}
-use Rattle.auth_cli.specs.ReadPrograms.{language_named}
+use Rattle.auth_cli.specs.ReadPrograms.{named_of}
 use Rattle.auth_cli.specs.RolesCalled.{EndsIn, IsEnded, role_of}
 use Rattle.auth_cli.specs.Storing.{FindsOutputInHand}
 use Rattle.auth_cli.specs.declared.roles.Callee.TheVariants.{Init}
@@ -14,7 +14,7 @@ returns-in_err-ended-clause-finds c = λ name.
     let words = c.args.words.now in
     let p = program_in c.args.code.now in
     let err = err_from_is_err_and c.from_residual.result c.from_residual.ensures.1 in
-    hand_unfound name (with_ended_init (language_named p) words.role.now words.argument.now words.fuel.now) (IsEnded Init p) (λ ended. Some (storing_answer ended name)) c.from_residual.result _ (cc)
+    hand_unfound name (with_ended_init (named_of p) words.role.now words.argument.now words.fuel.now) (IsEnded Init p) (λ ended. Some (storing_answer ended name)) c.from_residual.result _ (cc)
     c.in_err-ended.ensures
 
 pub role_output-requires : goal.role_output-requires

@@ -11,7 +11,7 @@ use Rattle.value_store.specs.Stores.{nodes_in}
 use Rattle.value_store.proofs.StandingNodes.{within_stands}
 use Rattle.value_store.proofs.TypedNodes.{ideal_stands, prover_refers}
 use Rattle.shallow_codec.specs.ProgramTypes.{table, ty_of}
-use Rattle.auth_cli.specs.ReadPrograms.{language_named}
+use Rattle.auth_cli.specs.ReadPrograms.{named_of}
 use Rattle.auth_cli.proofs.MarkedStates.{language_format, projected}
 use Rattle.auth_cli.proofs.StateOutputs.{state_output}
 use Rattle.auth_cli.proofs.shallow_state.spell_state.Goals as goal
@@ -39,6 +39,6 @@ returns-clause-output c = λ name v h.
     let ideal = ideal_stands kind P.types (prover_refers (digest_at sha256 P) P.types) nodes P.state v root h in
     let within = within_stands kind P.types nodes P.state v root c.args.state.now.store.sound h in
     let by_program = rw c.types.ensures at c.in_ok-spelled.ensures.projected in
-    state_output (language_named p) (language_format p) t v c.in_ok-spelled.spelled _ c.into_bytes.result ideal within.size_fits c.state_type-ty.ensures.state
+    state_output (named_of p) (language_format p) t v c.in_ok-spelled.spelled _ c.into_bytes.result ideal within.size_fits c.state_type-ty.ensures.state
     (by_program sha256 v length-sha256 stands) refl
     (λ w shallow short is. c.in_ok-text.ensures w shallow (subst (λ bytes. length bytes < 2 ^ 32) (sym c.as_bytes.ensures) short) (c.as_bytes.ensures ∙ is)) refl c.into_bytes.ensures name

@@ -2,9 +2,9 @@ use Rattle.std.proofs.Common.{ℕ, List, Option, Some, ap, sym, ◌∙◌, subst
 use Rattle.std.proofs.lemmas.Result.{err_from_is_err_and}
 use Rattle.lam_outside.specs.Told.{Contents}
 use Rattle.code_gen.specs.Programs.{program_in}
-use Rattle.auth_cli.specs.Answer.{Answer, stepped_answer, storing_answer, with_ended_call, with_language_file}
-use Rattle.auth_cli.specs.FueledQueries.{NamedProgram}
-use Rattle.auth_cli.specs.ReadPrograms.{language_named}
+use Rattle.auth_cli.specs.Answer.{Answer, stepped_answer, storing_answer, with_ended_call, with_program_file}
+use Rattle.auth_cli.specs.FueledRoles.{NamedProgram}
+use Rattle.auth_cli.specs.ReadPrograms.{named_of}
 use Rattle.auth_cli.specs.Reaching.{without}
 use Rattle.auth_cli.specs.Storing.{FindsOutput}
 use Rattle.auth_cli.specs.declared.roles.Callee.TheVariants.{Update}
@@ -38,11 +38,11 @@ returns-in_err-code-clause-reached g c = λ name.
     let image = c.args.image.now in
     let err = err_from_is_err_and c.from_residual.result c.from_residual.ensures.1 in
     faults_reached (stepped_answer program words.role.now image words.argument.now words.fuel.now name) program _ _ _ c.from_residual.result (cc)
-    (λ files known. ap (λ file. with_language_file file (λ p. behind_program words.role.now image words.argument.now words.fuel.now name p (without program files))) (is_missing program files))
+    (λ files known. ap (λ file. with_program_file file (λ p. behind_program words.role.now image words.argument.now words.fuel.now name p (without program files))) (is_missing program files))
     c.in_err-code.ensures.asked
 
 pub returns-clause-reached : goal.returns-clause-reached
 returns-clause-reached g c = λ name.
     let words = c.args.words.now in
-    program_reached words.program.now (behind_program words.role.now c.args.image.now words.argument.now words.fuel.now name) _ _ (language_named (program_in c.in_ok-code.code)) c.in_ok-code.ensures.goes
+    program_reached words.program.now (behind_program words.role.now c.args.image.now words.argument.now words.fuel.now name) _ _ (named_of (program_in c.in_ok-code.code)) c.in_ok-code.ensures.goes
     _ c.step_state.result c.in_ok-code.ensures.contents (c.step_state.ensures.reached name)

@@ -2,7 +2,7 @@ use Rattle.std.proofs.Common.{Some, ap, sym, ◌∙◌, subst}
 use Rattle.std.proofs.lemmas.Result.{err_from_is_err_and}
 use Rattle.code_gen.specs.Programs.{program_in}
 use Rattle.auth_cli.specs.Answer.{outcome_stored, storing_answer, with_ended_call}
-use Rattle.auth_cli.specs.ReadPrograms.{language_named}
+use Rattle.auth_cli.specs.ReadPrograms.{named_of}
 use Rattle.auth_cli.specs.RolesCalled.{EndsIn, HasEnded, role_of}
 use Rattle.auth_cli.specs.Storing.{FindsOutput}
 use Rattle.auth_cli.specs.declared.roles.Callee.TheVariants.{Update}
@@ -20,7 +20,7 @@ pub returns-in_err-ended-clause-reached : goal.returns-in_err-ended-clause-reach
 returns-in_err-ended-clause-reached g c = λ name.
     let err = err_from_is_err_and c.from_residual.result c.from_residual.ensures.1 in
     let words = c.args.words.now in
-    same_reached (λ told. with_ended_call Update (language_named (program_in c.args.code.now)) words.role.now c.args.image.now words.argument.now words.fuel.now told (λ ended. Some (storing_answer ended name)))
+    same_reached (λ told. with_ended_call Update (named_of (program_in c.args.code.now)) words.role.now c.args.image.now words.argument.now words.fuel.now told (λ ended. Some (storing_answer ended name)))
     _ _ _ c.from_residual.result (cc) (c.in_err-ended.ensures.reached (λ ended. Some (storing_answer ended name)))
 
 pub role_output-requires : goal.role_output-requires
@@ -44,5 +44,5 @@ pub returns-clause-reached : goal.returns-clause-reached
 returns-clause-reached g c = λ name.
     let ended = subst (λ p. HasEnded Update p c.in_ok-ended.ended) (sym c.program.ensures) c.in_ok-ended.ensures.ended in
     let words = c.args.words.now in
-    output_reached name _ (λ told. with_ended_call Update (language_named (program_in c.args.code.now)) words.role.now c.args.image.now words.argument.now words.fuel.now told (λ ended. Some (storing_answer ended name)))
+    output_reached name _ (λ told. with_ended_call Update (named_of (program_in c.args.code.now)) words.role.now c.args.image.now words.argument.now words.fuel.now told (λ ended. Some (storing_answer ended name)))
     _ _ c.role_output.result (c.role_output.ensures.finds name Update ended.0 tt ended.1)

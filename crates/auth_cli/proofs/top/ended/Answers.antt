@@ -3,7 +3,7 @@ use Rattle.command_words.specs.Commands.{texts}
 use Rattle.command_words.specs.Invocations.{invoked}
 use Rattle.auth_cli.specs.Answer.{answer}
 use Rattle.auth_cli.specs.declared.report.Halt.TheVariants.{NoMemory}
-use Rattle.auth_cli.proofs.Called.{ends_called, memory_told, none_called, none_refused, audited_called, nothing_audited, nothing_proved, possible_called, proved_called, usage_told}
+use Rattle.auth_cli.proofs.Called.{ends_called, memory_told, none_called, none_refused, possible_called, usage_told}
 use Rattle.auth_cli.proofs.Ends.{ends_as}
 use Rattle.auth_cli.proofs.Possible.{memory_possible}
 use Rattle.auth_cli.proofs.Called.{reached_called}
@@ -17,23 +17,11 @@ returns-in-Ok-clause-ends g c = ends_called (texts c.args.words.now) _ _ _ c.car
 pub returns-in-Ok-clause-possible : goal.returns-in-Ok-clause-possible
 returns-in-Ok-clause-possible g c = λ called is. possible_called (texts c.args.words.now) (invoked c.in-Ok.called) called c.in-Ok.ensures.reads is c.carry_out.result c.carry_out.ensures.possible
 
-pub returns-in-Ok-clause-proved : goal.returns-in-Ok-clause-proved
-returns-in-Ok-clause-proved g c = λ called is. proved_called (texts c.args.words.now) (invoked c.in-Ok.called) called c.in-Ok.ensures.reads is c.carry_out.result _ _ _ c.carry_out.ensures.proved
-
-pub returns-in-Ok-clause-audited : goal.returns-in-Ok-clause-audited
-returns-in-Ok-clause-audited g c = λ called is. audited_called (texts c.args.words.now) (invoked c.in-Ok.called) called c.in-Ok.ensures.reads is c.carry_out.result _ _ _ c.carry_out.ensures.audited
-
 pub returns-in-Ok-clause-refused : goal.returns-in-Ok-clause-refused
 returns-in-Ok-clause-refused g c = none_refused (texts c.args.words.now) _ c.carry_out.result c.in-Ok.ensures.reads
 
 pub returns-in-Err-Refused-clause-possible : goal.returns-in-Err-Refused-clause-possible
 returns-in-Err-Refused-clause-possible g c = λ called is. none_called (texts c.args.words.now) called (rw c.in-Err-Refused.field-0-is at c.in-Err-Refused.ensures.reads) is
-
-pub returns-in-Err-Refused-clause-proved : goal.returns-in-Err-Refused-clause-proved
-returns-in-Err-Refused-clause-proved g c = λ called is. none_called (texts c.args.words.now) called (rw c.in-Err-Refused.field-0-is at c.in-Err-Refused.ensures.reads) is
-
-pub returns-in-Err-Refused-clause-audited : goal.returns-in-Err-Refused-clause-audited
-returns-in-Err-Refused-clause-audited g c = λ called is. none_called (texts c.args.words.now) called (rw c.in-Err-Refused.field-0-is at c.in-Err-Refused.ensures.reads) is
 
 pub returns-in-Err-Refused-clause-refused : goal.returns-in-Err-Refused-clause-refused
 returns-in-Err-Refused-clause-refused g c = λ none. usage_told c.tell.result _ _ _ _ c.tell.ensures
@@ -43,12 +31,6 @@ returns-in-Err-NoMemory-clause-ends g c = ends_as (answer (texts c.args.words.no
 
 pub returns-in-Err-NoMemory-clause-possible : goal.returns-in-Err-NoMemory-clause-possible
 returns-in-Err-NoMemory-clause-possible g c = λ called is. memory_possible called.command c.tell-in-Err-NoMemory.result _ _ _ _ c.tell-in-Err-NoMemory.ensures
-
-pub returns-in-Err-NoMemory-clause-proved : goal.returns-in-Err-NoMemory-clause-proved
-returns-in-Err-NoMemory-clause-proved g c = λ called is. nothing_proved called _ _ _ c.tell-in-Err-NoMemory.result (memory_told c.tell-in-Err-NoMemory.result _ _ _ _ c.tell-in-Err-NoMemory.ensures)
-
-pub returns-in-Err-NoMemory-clause-audited : goal.returns-in-Err-NoMemory-clause-audited
-returns-in-Err-NoMemory-clause-audited g c = λ called is. nothing_audited called _ _ _ c.tell-in-Err-NoMemory.result (memory_told c.tell-in-Err-NoMemory.result _ _ _ _ c.tell-in-Err-NoMemory.ensures)
 
 pub returns-in-Err-NoMemory-clause-refused : goal.returns-in-Err-NoMemory-clause-refused
 returns-in-Err-NoMemory-clause-refused g c = λ none. memory_told c.tell-in-Err-NoMemory.result _ _ _ _ c.tell-in-Err-NoMemory.ensures

@@ -2,14 +2,13 @@ use Rattle.std.proofs.Common.{◌≡◌, ◌⊎◌, ℕ, inl, inr, sym, subst, �
 use Rattle.command_words.specs.Commands.{texts}
 use Rattle.command_words.proofs.Judging.{refused_exactly}
 use Rattle.auth_cli.specs.Answer.{answer}
+use Rattle.auth_cli.specs.AuditedCalls.{TellsAnAudit}
 use Rattle.auth_cli.specs.Ending.{IsOfFault}
 use Rattle.auth_cli.specs.TrueLines.{TellsOutcome}
+use Rattle.auth_cli.proofs.AnsweredRuns.{audited_run, prove_tells, proved_run, split_tells}
 use Rattle.auth_cli.proofs.Answered.{answered, fault_rose, fault_told, none_rose, part_written, stored, stored_first}
-use Rattle.auth_cli.proofs.AuditedRuns.{audited_run}
 use Rattle.auth_cli.proofs.Called.{refused_code}
-use Rattle.auth_cli.proofs.MeantCalls.{proved_run_tells, split_run}
 use Rattle.auth_cli.proofs.Possible.{collision_alone, usage_alone}
-use Rattle.auth_cli.proofs.ProvedRuns.{proved_run}
 use Rattle.auth_cli.proofs.TrueLine.{true_line}
 use Rattle.auth_cli.proofs.Reached.{read_fault_of_code}
 use Rattle.auth_cli.proofs.top.run.Goals as goal
@@ -18,26 +17,26 @@ pub returns-clause-headline : goal.returns-clause-headline
 returns-clause-headline g c = rw c.code.ensures (true_line (texts c.args.words.now) _ _ c.ended.result c.ended.ensures.ends)
 
 pub returns-clause-companion : goal.returns-clause-companion
-returns-clause-companion g c = λ called is is_prove tells told known. (
+returns-clause-companion g c = λ called is command tells told known. (
   c.ended.result,
   c.code.ensures,
-  proved_run called _ _ _ c.ended.result _ is_prove c.code.ensures tells (c.ended.ensures.proved called is) told known,
+  proved_run (texts c.args.words.now) called is told _ _ known c.ended.result c.ended.ensures.ends command (subst TellsOutcome c.code.ensures tells),
 )
 
 pub returns-clause-proves : goal.returns-clause-proves
 returns-clause-proves g c = λ called is told known call n name calls.
-    subst (λ number. TellsOutcome number ⊎ IsOfFault number) (sym c.code.ensures) (proved_run_tells (texts c.args.words.now) called told _ _ c.ended.result is known c.ended.ensures.ends call n name calls)
+    subst (λ (number : ℕ). TellsOutcome number ⊎ IsOfFault number) (sym c.code.ensures) (prove_tells (texts c.args.words.now) called is told _ _ known c.ended.result c.ended.ensures.ends call n name calls)
 
 pub returns-clause-audited : goal.returns-clause-audited
-returns-clause-audited g c = λ called is is_audit tells told known. (
+returns-clause-audited g c = λ called is command tells told known. (
   c.ended.result,
   c.code.ensures,
-  audited_run called _ _ _ c.ended.result _ is_audit c.code.ensures tells (c.ended.ensures.audited called is) told known,
+  audited_run (texts c.args.words.now) called is told _ _ known c.ended.result c.ended.ensures.ends command (subst TellsAnAudit c.code.ensures tells),
 )
 
 pub returns-clause-split : goal.returns-clause-split
 returns-clause-split g c = λ called is told known call proof calls split at.
-    subst (λ (number : ℕ). (number ≡ 11) ⊎ IsOfFault number) (sym c.code.ensures) (split_run (texts c.args.words.now) called told _ _ c.ended.result is known c.ended.ensures.ends call proof calls split at)
+    subst (λ (number : ℕ). (number ≡ 11) ⊎ IsOfFault number) (sym c.code.ensures) (split_tells (texts c.args.words.now) called is told _ _ known c.ended.result c.ended.ensures.ends call proof calls split at)
 
 pub returns-clause-possible : goal.returns-clause-possible
 returns-clause-possible g c = λ called is. (c.ended.result, c.code.ensures, c.ended.ensures.possible called is)

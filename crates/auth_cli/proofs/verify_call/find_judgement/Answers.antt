@@ -5,9 +5,9 @@ use Rattle.lam_outside.specs.Told.{Contents, StartsAt}
 use Rattle.core_terms.specs.declared.program.Program.{Program}
 use Rattle.code_gen.specs.Programs.{program_in}
 use Rattle.auth_cli.specs.Answer.{Answer, RoleCall, callee_of, verified_answer, with_bytes, with_fueled_role, with_role_call}
-use Rattle.auth_cli.specs.FueledQueries.{FueledRole}
+use Rattle.auth_cli.specs.FueledRoles.{FueledRole}
 use Rattle.auth_cli.specs.Halting.{HaltsAs}
-use Rattle.auth_cli.specs.ReadPrograms.{language_named}
+use Rattle.auth_cli.specs.ReadPrograms.{named_of}
 use Rattle.auth_cli.specs.Reaching.{HaltsAtReached, IsLast, without}
 use Rattle.auth_cli.specs.RolesCalled.{CallsOnStates, IsCalled, role_of}
 use Rattle.auth_cli.specs.RolesJudged.{answer_behind, call_of, name_of, out_of, with_named_call}
@@ -29,7 +29,7 @@ behind_call words files call = with_bytes (files words.proof.now) (λ bytes. Som
 
 -- the call, by the roles that are called and the program
 abbrev step : VerifyWords → Callee → Program → Contents → (RoleCall → Option Answer) → Option Answer
-step words callee p files go = with_named_call callee (language_named p) words.call.role.now words.call.fuel.now words.state.now words.call.argument.now files go
+step words callee p files go = with_named_call callee (named_of p) words.call.role.now words.call.fuel.now words.state.now words.call.argument.now files go
 
 -- the same, as the code holds them
 held : (A : Callee → Program → Type 0) (callee callee' : Callee) (p p' : Program) → callee ≡ callee' → p ≡ p' → A callee p → A callee' p'
@@ -39,7 +39,7 @@ held A callee callee' p p' same_callee same a = subst (λ p. A callee' p) same (
 no_proof : (words : VerifyWords) (p : Program) (call : RoleCall) (files : Contents)
     → ((go : RoleCall → Option Answer) → step words (callee_of (out_of words)) p files go ≡ go call)
     → ((files : Contents) (go : RoleCall → Option Answer) → step words (callee_of (out_of words)) p files go ≡ with_role_call call.role words.state.now words.call.argument.now files go)
-    → answer_behind (language_named p) words (without words.proof.now files) ≡ None
+    → answer_behind (named_of p) words (without words.proof.now files) ≡ None
 no_proof words p call files goes at_role =
     let proof = words.proof.now in
     let lacking = without proof files in
@@ -64,7 +64,7 @@ returns-in_err-call-clause-reached g c =
     let contents = g.F.Files.contents c.args.files.now in
     let asked = g.F.Files.asked c.read_role_call.new.files in
     let err = err_from_is_err_and c.from_residual.result c.from_residual.ensures.1 in
-    same_reached (answer_behind (language_named p) words) contents asked halt c.from_residual.result (cc)
+    same_reached (answer_behind (named_of p) words) contents asked halt c.from_residual.result (cc)
     (held (λ callee p. HaltsAtReached (λ told. step words callee p told (behind_call words told)) contents asked halt) _ (callee_of (out_of words)) _ p c.callee-callee.ensures c.program.ensures (c.in_err-call.ensures.reached (behind_call words)))
 
 -- the file that was started
@@ -78,7 +78,7 @@ goes_held words callee p q call files same_callee same goes =
     held (λ callee p. (go : RoleCall → Option Answer) → step words callee p files go ≡ go (call_of p call)) callee (callee_of (out_of words)) q p same_callee same goes
 
 role_held : (words : VerifyWords) (callee : Callee) (p q : Program) (called : CalledRole) → callee ≡ callee_of (out_of words) → q ≡ p
-    → ((go : FueledRole → Option Answer) → with_fueled_role callee (language_named q) words.call.role.now words.call.fuel.now go ≡ go (role_of q called))
+    → ((go : FueledRole → Option Answer) → with_fueled_role callee (named_of q) words.call.role.now words.call.fuel.now go ≡ go (role_of q called))
     → (files : Contents) (go : RoleCall → Option Answer) → step words (callee_of (out_of words)) p files go ≡ with_role_call (role_of p called) words.state.now words.call.argument.now files go
 role_held words callee p q called same_callee same role =
     held (λ callee p. (files : Contents) (go : RoleCall → Option Answer) → step words callee p files go ≡ with_role_call (role_of p called) words.state.now words.call.argument.now files go)
@@ -94,7 +94,7 @@ returns-in_err-start-clause-reached g c =
     let words = c.args.words.now in
     let p = program_in c.args.code.now in
     let call = c.in_ok-call.call in
-    any_reached (answer_behind (language_named p) words) words.proof.now _ _ c.from_residual-in_err-start.result
+    any_reached (answer_behind (named_of p) words) words.proof.now _ _ c.from_residual-in_err-start.result
     (λ files known. no_proof words p (call_of p call) files
     (goes_held words _ p _ call files c.callee-callee.ensures c.program.ensures (c.in_ok-call.ensures.goes files known)) (role_held words _ p _ call.called c.callee-callee.ensures c.program.ensures c.in_ok-call.ensures.role))
     (last_asked _ _ words.proof.now c.in_err-start.ensures.asked)
@@ -121,7 +121,7 @@ returns-clause-reached g c =
     let words = c.args.words.now in
     let p = program_in c.args.code.now in
     let call = c.in_ok-call.call in
-    any_reached (answer_behind (language_named p) words) words.proof.now _ _ c.judge_proof.result
+    any_reached (answer_behind (named_of p) words) words.proof.now _ _ c.judge_proof.result
     (λ files known. no_proof words p (call_of p call) files
     (goes_held words _ p _ call files c.callee-callee.ensures c.program.ensures (c.in_ok-call.ensures.goes files known)) (role_held words _ p _ call.called c.callee-callee.ensures c.program.ensures c.in_ok-call.ensures.role))
     (subst (λ asked. ForSome asked (λ names. IsLast words.proof.now names)) (sym c.judge_proof.ensures.asked) (last_asked _ _ words.proof.now c.in_ok-start.ensures.asked))

@@ -1,8 +1,8 @@
 use Rattle.std.proofs.Common.{ap, sym, ◌∙◌, subst}
 use Rattle.std.proofs.lemmas.Result.{err_from_is_err_and}
 use Rattle.code_gen.specs.Programs.{program_in}
-use Rattle.auth_cli.specs.Answer.{with_language_file}
-use Rattle.auth_cli.specs.ReadPrograms.{language_named}
+use Rattle.auth_cli.specs.Answer.{with_program_file}
+use Rattle.auth_cli.specs.ReadPrograms.{named_of}
 use Rattle.auth_cli.specs.Reaching.{without}
 use Rattle.auth_cli.specs.RolesJudged.{answer_behind, answer_to, name_of, out_of}
 use Rattle.auth_cli.specs.Storing.{FindsOutput}
@@ -30,11 +30,11 @@ returns-in_err-code-clause-reached g c =
     let program = words.call.program.now in
     let err = err_from_is_err_and c.from_residual.result c.from_residual.ensures.1 in
     faults_reached (answer_to words) program _ _ _ c.from_residual.result (cc)
-    (λ files known. ap (λ file. with_language_file file (λ p. answer_behind p words (without program files))) (is_missing program files))
+    (λ files known. ap (λ file. with_program_file file (λ p. answer_behind p words (without program files))) (is_missing program files))
     c.in_err-code.ensures.asked
 
 pub returns-clause-reached : goal.returns-clause-reached
 returns-clause-reached g c =
     let words = c.args.words.now in
-    program_reached words.call.program.now (λ p files. answer_behind p words files) _ _ (language_named (program_in c.in_ok-code.code)) c.in_ok-code.ensures.goes
+    program_reached words.call.program.now (λ p files. answer_behind p words files) _ _ (named_of (program_in c.in_ok-code.code)) c.in_ok-code.ensures.goes
     _ c.find_judgement.result c.in_ok-code.ensures.contents c.find_judgement.ensures.reached

@@ -1,6 +1,7 @@
 use Rattle.std.proofs.Common.{subst}
 use Rattle.core_terms.specs.Programs.{meaning}
-use Rattle.stream_verifier.specs.Verdicts.{IsTold, SpellsOutcome}
+use Rattle.verifier_mode.specs.Verdicts.{IsTold}
+use Rattle.mode_vm.specs.StateCalls.{SpellsOutcome}
 use Rattle.auth_cli.specs.RoleCalls.{result_called}
 use Rattle.auth_cli.specs.RolesCalled.{role_of}
 use Rattle.auth_cli.proofs.JudgedRoles.{pair_lent, state_stored, value_lent}

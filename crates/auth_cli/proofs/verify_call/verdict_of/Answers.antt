@@ -5,8 +5,9 @@ use Rattle.core_terms.specs.Programs.{meaning, types_of}
 use Rattle.core_terms.specs.RoleViews.{role_kind_of}
 use Rattle.core_terms.specs.Roles.{argument_type}
 use Rattle.core_terms.specs.TypeTables.{type_at}
-use Rattle.stream_verifier.specs.Verdicts.{Answers, verdict_keeping}
-use Rattle.auth_cli.specs.Answer.{most_kept, role_verdict}
+use Rattle.ideal_meaning.specs.Checked.{verdict}
+use Rattle.verifier_mode.specs.Verdicts.{Answers}
+use Rattle.auth_cli.specs.Answer.{role_verdict}
 use Rattle.auth_cli.proofs.RoleShapes.{calls_reads, function_there}
 use Rattle.auth_cli.proofs.verify_call.verdict_of.Goals as goal
 
@@ -33,5 +34,5 @@ returns-clause-verdict g c = λ bytes told.
     let P = meaning (program_in c.args.code.now) in
     let call = c.args.call.now in
     let f = call.called.function.0 in
-    subst (λ s. Answers P f (verdict_keeping sha256 P most_kept (argument_type P f) f s call.argument call.called.fuel bytes) c.verify.result) c.deref.ensures.value
-    (subst (λ a. Answers P f (verdict_keeping sha256 P most_kept (argument_type P f) f c.deref.result.now a call.called.fuel bytes) c.verify.result) c.as_bytes.ensures (c.verify.ensures.verdict bytes told))
+    subst (λ s. Answers P f (verdict sha256 P (argument_type P f) f s call.argument call.called.fuel bytes) c.verify.result) c.deref.ensures.value
+    (subst (λ a. Answers P f (verdict sha256 P (argument_type P f) f c.deref.result.now a call.called.fuel bytes) c.verify.result) c.as_bytes.ensures (c.verify.ensures.verdict bytes told))

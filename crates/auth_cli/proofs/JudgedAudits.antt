@@ -1,0 +1,51 @@
+-- What is found of an audit of a call.
+use Rattle.std.proofs.Common.{◌≡◌, ℕ, List, Option, Some, None, Result, Ok, Err, IsErrAnd, refl, sym, ap, ◌∙◌, subst}
+use Rattle.lam_outside.specs.Told.{Contents}
+use Rattle.printed_lines.specs.declared.refusal.Refusal.TheVariants as refusal
+use Rattle.collision_audit.specs.AuditAnswers.{AuditCause}
+use Rattle.collision_audit.specs.declared.audited.AuditFault.{AuditFault}
+use Rattle.collision_audit.specs.declared.audited.AuditFault.TheVariants as fault
+use Rattle.auth_cli.specs.Answer.{Answer, call_audit_answer, with_bytes, with_fueled_role, with_ideal_call}
+use Rattle.auth_cli.specs.CallsInStores.{audited_behind, with_called}
+use Rattle.auth_cli.specs.FueledRoles.{FueledRole, NamedProgram}
+use Rattle.auth_cli.specs.Halting.{Finds, FindsInHand, Found, JudgementCause, of_audit_fault}
+use Rattle.auth_cli.specs.IdealCalls.{IdealCall}
+use Rattle.auth_cli.specs.Reaching.{without}
+use Rattle.auth_cli.specs.declared.report.Halt.{Halt}
+use Rattle.auth_cli.specs.declared.report.Halt.TheVariants.{Usage, Refused, ReadFault, NoMemory}
+use Rattle.auth_cli.specs.declared.roles.Callee.TheVariants.{OfState}
+use Rattle.auth_cli.proofs.Reached.{behind, inputs_step, is_missing}
+
+-- what is found where an audit comes to nothing
+pub audit_unfound : (answer : Option Answer) (f : AuditFault) (result : Found) → IsErrAnd result (λ halt. halt ≡ of_audit_fault f) → Finds answer result
+audit_unfound answer f (Ok report) halt = absurd halt
+audit_unfound answer fault.ReadFault (Err h) halt = subst (λ h. Finds answer (Err h)) (sym halt) tt
+audit_unfound answer fault.NoMemory (Err h) halt = subst (λ h. Finds answer (Err h)) (sym halt) tt
+
+pub audit_judges : {T : Type 0} (U : Type 0) (before now : ℕ) (f : AuditFault) (result : Result T Halt) → IsErrAnd result (λ halt. halt ≡ of_audit_fault f) → AuditCause {T = U} before now (Err f)
+    → JudgementCause before now result
+audit_judges U before now f (Ok t) halt cause = absurd halt
+audit_judges {T = T} U before now fault.ReadFault (Err h) halt rose = subst (λ h. JudgementCause {T = T} before now (Err h)) (sym halt) rose
+audit_judges {T = T} U before now fault.NoMemory (Err h) halt same = subst (λ h. JudgementCause {T = T} before now (Err h)) (sym halt) same
+
+-- what is found in hand halts for no fault of the outside
+pub found_judges : (answer : Answer) (before now : ℕ) (result : Found) → FindsInHand answer result → now ≡ before → JudgementCause before now result
+found_judges answer before now (Ok report) finds same = same
+found_judges answer before now (Err Usage) finds same = absurd finds
+found_judges answer before now (Err (Refused (refusal.Program kind line column))) finds same = same
+found_judges answer before now (Err (Refused (refusal.Input fault))) finds same = same
+found_judges answer before now (Err (Refused (refusal.Proof cause))) finds same = same
+found_judges answer before now (Err ReadFault) finds same = absurd finds
+found_judges answer before now (Err NoMemory) finds same = same
+
+-- without the file of the proof there is no answer behind a call that was read
+pub no_proof : (p : NamedProgram) (role image argument fuel proof : List ℕ) (r : FueledRole) (call : IdealCall) (files : Contents)
+    → ((go : FueledRole → Option Answer) → with_fueled_role OfState p role fuel go ≡ go r)
+    → ((go : IdealCall → Option Answer) → with_called OfState p role image argument fuel files go ≡ go call)
+    → audited_behind role image argument fuel proof p (without proof files) ≡ None
+no_proof p role image argument fuel proof r call files at_role goes =
+    let lacking = without proof files in
+    let next : IdealCall → Option Answer = λ call. with_bytes (lacking proof) (λ bytes. Some (call_audit_answer call bytes)) in
+    at_role (λ r. with_ideal_call r image argument lacking next)
+    ∙ behind (inputs_step r argument) image proof files call next refl (λ go. sym (at_role (λ r. with_ideal_call r image argument files go)) ∙ goes go)
+    (ap (λ file. with_bytes file (λ bytes. Some (call_audit_answer call bytes))) (is_missing proof files))
