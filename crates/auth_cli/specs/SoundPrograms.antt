@@ -7,7 +7,7 @@ use Rattle.auth_cli.specs.TextPrograms.{TextProgram, IsProgram}
 use Rattle.auth_cli.specs.declared.status.Status.{Status}
 use Rattle.auth_cli.specs.declared.status.Status.TheVariants.{Done, Trap, OutOfFuel}
 
--- the program is well-typed, its roles have their shapes, and its format is that of all programs so far
+-- the program is well-typed, its roles have their shapes, and its format is that of every program
 pub record IsSound (P : Program) : Type 0 where
   pub typed : is_typed P ≡ true
   pub shaped : is_shaped P ≡ true
