@@ -1,5 +1,5 @@
 // What the parser and the checker say of a text, and texts in which a part stands many times.
-use auth_syntax::parser::{parse, parse_fragment};
+use auth_syntax::parser::parse;
 use auth_syntax::tree::Ast;
 use auth_types::check::check;
 use auth_types::fault::{TypeFault, TypeKind};
@@ -24,23 +24,7 @@ pub fn fault_of(alloc: Global, text: &[u8]) -> Result<Option<Fault>, AllocError>
     if text.len() > MAX_PROGRAM {
         return Err(AllocError);
     }
-    fault(parse(alloc, text))
-}
-
-/// The same in the fragment.
-///
-/// # Errors
-///
-/// As `fault_of`.
-pub fn fault_in_fragment(alloc: Global, text: &[u8]) -> Result<Option<Fault>, AllocError> {
-    if text.len() > MAX_PROGRAM {
-        return Err(AllocError);
-    }
-    fault(parse_fragment(alloc, text))
-}
-
-fn fault(parsed: Result<Ast, SyntaxFault>) -> Result<Option<Fault>, AllocError> {
-    match parsed {
+    match parse(alloc, text) {
         Ok(_) => Ok(None),
         Err(SyntaxFault::At(kind, at)) => Ok(Some((kind, at.line, at.column))),
         Err(SyntaxFault::NoMemory) => Err(AllocError),

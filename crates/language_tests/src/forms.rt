@@ -1,6 +1,5 @@
-// Texts that are programs: each form of the grammar, and where the fragment ends.
-use crate::answers::{fault_in_fragment, fault_of};
-use lexemes::fault::SyntaxKind;
+// Texts that are programs: each form of the grammar.
+use crate::answers::fault_of;
 use std::alloc::{AllocError, Global};
 use std::test::Fail;
 
@@ -92,37 +91,6 @@ fn each_form_is_parsed(rt: HostRuntime) -> Result<(), Fail> {
     for (table, texts) in &TABLES {
         if let Some(number) = no_program(rt.alloc(), texts)? {
             return Err(Fail::new(format_args!("{table}: row {number}")));
-        }
-    }
-    Ok(())
-}
-
-/// Texts that go beyond the fragment, with the line and the column of the token that does.
-const BEYOND: [(&[u8], usize, usize); 15] = [
-    (b"type t = A;", 1, 1),
-    (b"state unit;\n type t = A;", 2, 2),
-    (b"fun f(x: unit): unit = ();", 1, 1),
-    (b"update f(x: unit): unit = ();", 1, 1),
-    (b"state t;", 1, 7),
-    (b"state (int, int);", 1, 7),
-    (b"init f(x: unit): unit = (x, x);", 1, 26),
-    (b"init f(x: unit): unit = f(x);", 1, 26),
-    (b"init f(x: unit): unit = A;", 1, 25),
-    (b"init f(x: unit): unit = let y = x in y;", 1, 25),
-    (b"init f(x: unit): unit = if x then x else x;", 1, 25),
-    (b"init f(x: unit): unit = match x with | A -> x end;", 1, 25),
-    (b"init f(x: unit): unit = sub(1, 2);", 1, 25),
-    (b"init f(x: unit): unit = fst(x);", 1, 25),
-    (b"init f(x: unit): unit = not(x);", 1, 25),
-];
-
-#[test]
-fn the_fragment_ends_at_its_forms(rt: HostRuntime) -> Result<(), Fail> {
-    for (number, (text, line, column)) in BEYOND.iter().enumerate() {
-        let whole = fault_of(rt.alloc(), text)?;
-        let beyond = fault_in_fragment(rt.alloc(), text)?;
-        if whole.is_some() || beyond != Some((SyntaxKind::Expected, *line, *column)) {
-            return Err(Fail::new(format_args!("row {number}")));
         }
     }
     Ok(())

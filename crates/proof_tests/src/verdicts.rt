@@ -1,15 +1,13 @@
-// What `verify` says of proofs, and what it does where the outside fails.
+// What `verify` and `audit` say of proofs, whoever made them.
 ghost use Rattle.std.specs.Prelude.{◌<◌};
 
-use crate::trips::{DEEP, DEEP_PROOF};
-use cli_stage::runs::{Call, opening, run_failing, run_words, verified};
-use cli_stage::stage::{PROOF, STATE, Stage, staged};
-use program_texts::FIRST;
+use crate::calls::{DEEP, DEEP_PROOF, TRAPS};
+use crate::sides::{Sides, made_sides};
+use cli_stage::runs::{Call, opening};
+use cli_stage::stage::PROOF;
+use program_texts::{FIRST, SWITCH, TWO};
 use std::alloc::{AllocError, Global};
 use std::test::Fail;
-
-/// The words of the call of `open` with fuel 1.
-const WORDS: [&str; 7] = ["verify", "p", "open", "s", "()", "1", "q"];
 
 /// A proof with this fuel: its bytes, the status and the line.
 const PROOFS: [(&[u8], &str, u8, &str); 25] = [
@@ -66,18 +64,11 @@ const PROOFS: [(&[u8], &str, u8, &str); 25] = [
 ];
 
 /// The number of the first proof, from 0, that is judged otherwise where one read gives so many bytes at most.
-fn misjudged(alloc: Global, most_read: usize) -> Result<Option<usize>, AllocError>
+fn misjudged(alloc: Global, made: &Sides, most_read: usize) -> Result<Option<usize>, AllocError>
     requires { 0 < most_read }
 {
     for (number, (proof, fuel, status, line)) in PROOFS.iter().enumerate() {
-        let stage = Stage {
-            program: FIRST,
-            state: &STATE,
-            proof,
-            most_read,
-        };
-        let words = ["verify", "p", "open", "s", "()", fuel, "q"];
-        if !run_words(alloc, &stage, &words)?.only_tells(*status, line) {
+        if !made.are_told(alloc, &opening(fuel), proof, most_read, (*status, line))? {
             return Ok(Some(number));
         }
     }
@@ -86,19 +77,205 @@ fn misjudged(alloc: Global, most_read: usize) -> Result<Option<usize>, AllocErro
 
 #[test]
 fn proofs_are_judged_by_reads_of_any_size(rt: HostRuntime) -> Result<(), Fail> {
+    let made = made_sides(rt.alloc(), FIRST, "make", "()")?;
     for most_read in [4096, 1, 2, 3, 7] {
-        if let Some(number) = misjudged(rt.alloc(), most_read)? {
+        if let Some(number) = misjudged(rt.alloc(), &made, most_read)? {
             return Err(Fail::new(format_args!("row {number}, by {most_read}")));
         }
     }
     Ok(())
 }
 
-/// The digest of the state's own digest.
-const NESTED: [u8; 32] = [
-    0x5d, 0xf6, 0xe0, 0xe2, 0x76, 0x13, 0x59, 0xd3, 0x0a, 0x82, 0x75, 0x05, 0x8e, 0x29, 0x9f, 0xcc,
-    0x03, 0x81, 0x53, 0x45, 0x45, 0xf5, 0x5c, 0xf4, 0x3e, 0x41, 0x98, 0x3f, 0x5d, 0x4c, 0x94, 0x56,
+/// A program that opens a pair.
+const SEE: &[u8] =
+    b"state auth (bool, bool); init make(x: (bool, bool)): auth (bool, bool) = auth(x); query see(s: auth (bool, bool), x: unit): (bool, bool) = unauth(s);";
+
+/// A program and the literal of its state, the role, the argument and the fuel of a call, a proof, and the status and the line.
+type Row = (
+    &'static [u8],
+    &'static str,
+    [&'static str; 3],
+    &'static [u8],
+    u8,
+    &'static str,
+);
+
+const ROWS: [Row; 19] = [
+    // two pieces that differ from the honest one: the digest tells, whether they spell a pair or not
+    (
+        SEE,
+        "(true, false)",
+        ["see", "()", "1"],
+        b"LAP1\0\0\0\0\0\0\x02\x01\0",
+        0,
+        "done (true, false)\n",
+    ),
+    (
+        SEE,
+        "(true, false)",
+        ["see", "()", "1"],
+        b"LAP1\0\0\0\0\0\0\x02\0\x01",
+        5,
+        "rejected wrong-piece 0 47dc540c94ceb704a23875c11273e16bb0b8a87aed84de911f2133568115f254 b413f47d13ee2fe6c845b2ee141af81de858df4ec549a58b7970bb96645bc8d2\n",
+    ),
+    (
+        SEE,
+        "(true, false)",
+        ["see", "()", "1"],
+        b"LAP1\0\0\0\0\0\0\x02\x03\x02",
+        5,
+        "rejected wrong-piece 0 47dc540c94ceb704a23875c11273e16bb0b8a87aed84de911f2133568115f254 d4ea3fc5537ce615543ea44f074bff451fb6c9749e9e8692c111f7070b4780c7\n",
+    ),
+    // a piece that is new where it might be named, and one that is named and isn't kept
+    (
+        TWO,
+        "(true, false)",
+        ["three", "()", "1"],
+        b"LAP1\0\x02\0\0\0\0\x01\x01\0\0\0\0\x01\0\0\0\0\0\x01\x01",
+        0,
+        "done (true, (false, true))\n",
+    ),
+    (
+        TWO,
+        "(true, false)",
+        ["three", "()", "1"],
+        b"LAP1\0\x01\0\0\0\0\x01\x01\0\0\0\0\x01\0\x01\0\x01",
+        5,
+        "rejected bad-use 2 1 1\n",
+    ),
+    (
+        TWO,
+        "(true, false)",
+        ["three", "()", "1"],
+        b"LAP1\0\x02\0\0\0\0\x01\x01\0\0\0\0\x01\0\x01\0\x02",
+        5,
+        "rejected bad-use 2 2 2\n",
+    ),
+    // the first piece that differs, new or named, at each place
+    (
+        TWO,
+        "(true, false)",
+        ["three", "()", "1"],
+        b"LAP1\0\x02\0\0\0\0\x01\0\0\0\0\0\x01\0\x01\0\x01",
+        5,
+        "rejected wrong-piece 0 4bf5122f344554c53bde2ebb8cd2b7e3d1600ad631c385a5d7cce23c7785459a 6e340b9cffb37a989ca544e6bb780a2c78901d3fb33738768511a30617afa01d\n",
+    ),
+    (
+        TWO,
+        "(true, false)",
+        ["three", "()", "1"],
+        b"LAP1\0\x02\0\0\0\0\x01\x01\x01\0\0\x01\0\x01",
+        5,
+        "rejected wrong-piece 1 6e340b9cffb37a989ca544e6bb780a2c78901d3fb33738768511a30617afa01d 4bf5122f344554c53bde2ebb8cd2b7e3d1600ad631c385a5d7cce23c7785459a\n",
+    ),
+    (
+        TWO,
+        "(true, false)",
+        ["three", "()", "1"],
+        b"LAP1\0\x02\0\0\0\0\x01\x01\0\0\0\0\x01\0\x01\0\0",
+        5,
+        "rejected wrong-piece 2 4bf5122f344554c53bde2ebb8cd2b7e3d1600ad631c385a5d7cce23c7785459a 6e340b9cffb37a989ca544e6bb780a2c78901d3fb33738768511a30617afa01d\n",
+    ),
+    (
+        TWO,
+        "(true, false)",
+        ["three", "()", "1"],
+        b"LAP1\0\0\0\0\0\0\x01\x01\0\0\0\0\x01\0\0\0\0\0\0",
+        5,
+        "rejected wrong-piece 2 4bf5122f344554c53bde2ebb8cd2b7e3d1600ad631c385a5d7cce23c7785459a e3b0c44298fc1c149afbf4c8996fb92427ae41e4649b934ca495991b7852b855\n",
+    ),
+    // of an update
+    (
+        SWITCH,
+        "true",
+        ["flip", "()", "1"],
+        b"LAP1\0\0\0\0\0\0\x01\x01",
+        0,
+        "done (#6e340b9cffb37a989ca544e6bb780a2c78901d3fb33738768511a30617afa01d, true)\n",
+    ),
+    (
+        SWITCH,
+        "true",
+        ["flip", "()", "1"],
+        b"LAP1\0\0\0\0\0\0\x01\0",
+        5,
+        "rejected wrong-piece 0 4bf5122f344554c53bde2ebb8cd2b7e3d1600ad631c385a5d7cce23c7785459a 6e340b9cffb37a989ca544e6bb780a2c78901d3fb33738768511a30617afa01d\n",
+    ),
+    (
+        SWITCH,
+        "true",
+        ["flip", "()", "1"],
+        b"LAP1\0\x01\0\0\0\0\x01\x01\x01\0\0",
+        5,
+        "rejected leftover 3\n",
+    ),
+    // a trap ends a run as a value does: the first trap or rejection from the left ends it, and bytes left behind it are refused
+    (
+        SWITCH,
+        "true",
+        ["over", "()", "1"],
+        b"LAP1\0\0",
+        5,
+        "rejected short 0\n",
+    ),
+    (
+        TRAPS,
+        "16",
+        ["early", "1", "1"],
+        b"LAP1\0\0",
+        3,
+        "trap overflow\n",
+    ),
+    (
+        TRAPS,
+        "16",
+        ["early", "1", "1"],
+        b"LAP1\0\0\0",
+        5,
+        "rejected leftover 1\n",
+    ),
+    (
+        TRAPS,
+        "16",
+        ["ratio", "0", "1"],
+        b"LAP1\0\0\x02",
+        5,
+        "rejected bad-kind 0 2\n",
+    ),
+    (
+        TRAPS,
+        "16",
+        ["ratio", "0", "1"],
+        b"LAP1\0\0\0\0\0\0\x08\0\0\0\0\0\0\0\x10",
+        3,
+        "trap divzero\n",
+    ),
+    (
+        TRAPS,
+        "16",
+        ["linked", "1", "9"],
+        b"LAP1\0\0\0\0\0\0\x08\0\0\0\0\0\0\0\x10",
+        4,
+        "out of fuel\n",
+    ),
 ];
+
+#[test]
+fn proofs_of_calls_are_judged(rt: HostRuntime) -> Result<(), Fail> {
+    for (number, row) in ROWS.iter().enumerate() {
+        let (program, literal, [role, argument, fuel], proof, status, line) = *row;
+        let made = made_sides(rt.alloc(), program, "make", literal)?;
+        let call = Call {
+            role,
+            argument,
+            fuel,
+        };
+        if !made.are_told(rt.alloc(), &call, proof, 4096, (status, line))? {
+            return Err(Fail::new(format_args!("row {number}: {line}")));
+        }
+    }
+    Ok(())
+}
 
 /// How much of the proof of a state of a state stands there, the role, and the status and the line: a piece of 32 bytes, then one of none.
 const LAYERS: [(usize, &str, u8, &str); 5] = [
@@ -116,6 +293,7 @@ const LAYERS: [(usize, &str, u8, &str); 5] = [
 
 #[test]
 fn nested_states_are_opened(rt: HostRuntime) -> Result<(), Fail> {
+    let made = made_sides(rt.alloc(), DEEP, "make", "()")?;
     for (length, role, status, line) in &LAYERS {
         let front = DEEP_PROOF.get(..*length).unwrap_or_default();
         let call = Call {
@@ -123,25 +301,10 @@ fn nested_states_are_opened(rt: HostRuntime) -> Result<(), Fail> {
             argument: " ( ) # the argument",
             fuel: "1",
         };
-        if !verified(rt.alloc(), DEEP, &NESTED, front, &call)?.only_tells(*status, line) {
+        if !made.are_told(rt.alloc(), &call, front, 4096, (*status, line))? {
             return Err(Fail::new(*line));
         }
     }
-    Ok(())
-}
-
-/// The digest of the byte 1, which is no spelling of a unit.
-const ONE: [u8; 32] = [
-    0x4b, 0xf5, 0x12, 0x2f, 0x34, 0x45, 0x54, 0xc5, 0x3b, 0xde, 0x2e, 0xbb, 0x8c, 0xd2, 0xb7, 0xe3,
-    0xd1, 0x60, 0x0a, 0xd6, 0x31, 0xc3, 0x85, 0xa5, 0xd7, 0xcc, 0xe2, 0x3c, 0x77, 0x85, 0x45, 0x9a,
-];
-
-// The digests agree, and the piece is refused.
-#[test]
-fn a_piece_that_is_no_spelling_is_rejected(rt: HostRuntime) -> Result<(), Fail> {
-    let proof = b"LAP1\0\0\0\0\0\0\x01\x01";
-    let run = verified(rt.alloc(), FIRST, &ONE, proof, &opening("1"))?;
-    assert!(rt; run.only_tells(5, "rejected bad-piece 0 0\n"));
     Ok(())
 }
 
@@ -163,38 +326,11 @@ fn with_bytes_left(alloc: Global, left: usize) -> Result<Vec<u8>, AllocError> {
 
 #[test]
 fn many_bytes_left_are_told_up_to_a_limit(rt: HostRuntime) -> Result<(), Fail> {
+    let made = made_sides(rt.alloc(), FIRST, "make", "()")?;
     for (left, line) in &LEFT {
         let proof = with_bytes_left(rt.alloc(), *left)?;
-        let run = verified(rt.alloc(), FIRST, &STATE, &proof, &opening("1"))?;
-        if !run.only_tells(5, line) {
+        if !made.are_told(rt.alloc(), &opening("1"), &proof, 4096, (5, line))? {
             return Err(Fail::new(format_args!("{left}")));
-        }
-    }
-    Ok(())
-}
-
-#[test]
-fn stops_at_a_failed_write(rt: HostRuntime) -> Result<(), Fail> {
-    let stage = staged(FIRST, &STATE, PROOF);
-    let run = run_failing(rt.alloc(), &stage, &WORDS, &[], (2, &[2]))?;
-    assert!(rt; run.tells(9, "done"));
-    Ok(())
-}
-
-// Of the program and the state: start, a read of all, a read at the end. Of the proof: start, and reads of the header, of the frame's kind
-// and length, and at the end.
-#[test]
-fn each_call_of_the_files_fails_once(rt: HostRuntime) -> Result<(), Fail> {
-    let stage = staged(FIRST, &STATE, PROOF);
-    for call in 0..12 {
-        let run = run_failing(rt.alloc(), &stage, &WORDS, &[call], (100, &[]))?;
-        let (status, line) = if call < 11 {
-            (8, "read fault\n")
-        } else {
-            (0, "done ()\n")
-        };
-        if !run.tells(status, line) {
-            return Err(Fail::new(format_args!("at call {call}")));
         }
     }
     Ok(())
