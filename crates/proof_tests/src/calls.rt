@@ -6,45 +6,31 @@ use program_texts::{BST, LOG, MERKLE, SWITCH, TWO};
 use std::alloc::{AllocError, Global};
 use std::test::Fail;
 
-/// A role, the argument, the fuel and how many pieces are kept; the status, the line of the outcome and that of the proof.
-type Row<'a> = ([&'a str; 4], u8, &'a str, &'a str);
+/// A role, the argument, the fuel and how many pieces are kept; the status, the outcome, and how many pieces of the proof are new, how many
+/// are used again, and its bytes.
+type Row<'a> = ([&'a str; 4], u8, &'a str, [u64; 3]);
 
 const SWITCH_ROWS: [Row; 6] = [
-    (
-        ["both", "()", "1", "1"],
-        0,
-        "done (true, true)\n",
-        "proof new 1 used 1 bytes 15\n",
-    ),
-    (
-        ["both", "()", "1", "0"],
-        0,
-        "done (true, true)\n",
-        "proof new 2 used 0 bytes 18\n",
-    ),
+    (["both", "()", "1", "1"], 0, "done (true, true)", [1, 1, 15]),
+    (["both", "()", "1", "0"], 0, "done (true, true)", [2, 0, 18]),
     (
         ["over", "()", "1000000000000", "0"],
         3,
-        "trap overflow\n",
-        "proof new 1 used 0 bytes 12\n",
+        "trap overflow",
+        [1, 0, 12],
     ),
-    (
-        ["flip", "()", "0", "16"],
-        4,
-        "out of fuel\n",
-        "proof new 0 used 0 bytes 6\n",
-    ),
+    (["flip", "()", "0", "16"], 4, "out of fuel", [0, 0, 6]),
     (
         ["flip", "()", "1", "2"],
         0,
-        "done (#6e340b9cffb37a989ca544e6bb780a2c78901d3fb33738768511a30617afa01d, true)\n",
-        "proof new 1 used 0 bytes 12\n",
+        "done (#6e340b9cffb37a989ca544e6bb780a2c78901d3fb33738768511a30617afa01d, true)",
+        [1, 0, 12],
     ),
     (
         ["both", "()", "00000000000000000001", "00000000000000001024"],
         0,
-        "done (false, false)\n",
-        "proof new 1 used 1 bytes 15\n",
+        "done (false, false)",
+        [1, 1, 15],
     ),
 ];
 
@@ -52,26 +38,26 @@ const TWO_ROWS: [Row; 4] = [
     (
         ["three", "()", "1", "0"],
         0,
-        "done (true, (false, true))\n",
-        "proof new 3 used 0 bytes 24\n",
+        "done (true, (false, true))",
+        [3, 0, 24],
     ),
     (
         ["three", "()", "1", "1"],
         0,
-        "done (true, (false, true))\n",
-        "proof new 3 used 0 bytes 24\n",
+        "done (true, (false, true))",
+        [3, 0, 24],
     ),
     (
         ["three", "()", "1", "2"],
         0,
-        "done (true, (false, true))\n",
-        "proof new 2 used 1 bytes 21\n",
+        "done (true, (false, true))",
+        [2, 1, 21],
     ),
     (
         ["three", "()", "1", "1024"],
         0,
-        "done (true, (false, true))\n",
-        "proof new 2 used 1 bytes 21\n",
+        "done (true, (false, true))",
+        [2, 1, 21],
     ),
 ];
 
@@ -79,8 +65,8 @@ const TWO_ROWS: [Row; 4] = [
 const EQUAL_ROWS: [Row; 1] = [(
     ["three", "()", "1", "1"],
     0,
-    "done (true, (true, true))\n",
-    "proof new 1 used 2 bytes 18\n",
+    "done (true, (true, true))",
+    [1, 2, 18],
 )];
 
 /// A program whose state is authenticated twice, and which opens one layer or both.
@@ -88,17 +74,12 @@ pub const DEEP: &[u8] =
     b"state auth auth unit; init make(x: unit): auth auth unit = auth(auth(x)); query deep(s: auth auth unit, x: unit): unit = unauth(unauth(s)); query half(s: auth auth unit, x: unit): auth unit = unauth(s);";
 
 const DEEP_ROWS: [Row; 2] = [
-    (
-        ["deep", "()", "1", "0"],
-        0,
-        "done ()\n",
-        "proof new 2 used 0 bytes 48\n",
-    ),
+    (["deep", "()", "1", "0"], 0, "done ()", [2, 0, 48]),
     (
         ["half", "()", "1", "16"],
         0,
-        "done #e3b0c44298fc1c149afbf4c8996fb92427ae41e4649b934ca495991b7852b855\n",
-        "proof new 1 used 0 bytes 43\n",
+        "done #e3b0c44298fc1c149afbf4c8996fb92427ae41e4649b934ca495991b7852b855",
+        [1, 0, 43],
     ),
 ];
 
@@ -111,66 +92,31 @@ init make(x: int): auth int = auth(x);
 query early(s: auth int, x: int): int = add(add(9223372036854775807, x), unauth(s));
 query sum(s: auth int, x: int): int = add(unauth(s), x);
 query ratio(s: auth int, x: int): int = div(unauth(s), x);
-query long(s: auth int, x: int): int = len(doubled(add(unauth(s), x), \"a\"));
+query long(s: auth int, x: int): int = len(doubled(sub(unauth(s), x), \"a\"));
 query linked(s: auth int, x: int): unit = let c = links(add(unauth(s), x), End) in ();
 ";
 
 const TRAP_ROWS: [Row; 9] = [
-    (
-        ["early", "1", "1", "0"],
-        3,
-        "trap overflow\n",
-        "proof new 0 used 0 bytes 6\n",
-    ),
-    (
-        ["sum", "3", "1", "0"],
-        0,
-        "done 19\n",
-        "proof new 1 used 0 bytes 19\n",
-    ),
+    (["early", "1", "1", "0"], 3, "trap overflow", [0, 0, 6]),
+    (["sum", "3", "1", "0"], 0, "done 19", [1, 0, 19]),
     (
         ["sum", "9223372036854775807", "1", "1"],
         3,
-        "trap overflow\n",
-        "proof new 1 used 0 bytes 19\n",
+        "trap overflow",
+        [1, 0, 19],
     ),
-    (
-        ["ratio", "0", "1", "2"],
-        3,
-        "trap divzero\n",
-        "proof new 1 used 0 bytes 19\n",
-    ),
+    (["ratio", "0", "1", "2"], 3, "trap divzero", [1, 0, 19]),
     // a text of 32,768 bytes is doubled: with its length it has four bytes more than the limit
-    (
-        ["long", " -1", "100", "16"],
-        0,
-        "done 32768\n",
-        "proof new 1 used 0 bytes 19\n",
-    ),
-    (
-        ["long", "0", "100", "16"],
-        3,
-        "trap toobig\n",
-        "proof new 1 used 0 bytes 19\n",
-    ),
-    (
-        ["linked", "495", "1000", "0"],
-        0,
-        "done ()\n",
-        "proof new 1 used 0 bytes 19\n",
-    ),
+    (["long", "1", "100", "16"], 0, "done 32768", [1, 0, 19]),
+    (["long", "0", "100", "16"], 3, "trap toobig", [1, 0, 19]),
+    (["linked", "495", "1000", "0"], 0, "done ()", [1, 0, 19]),
     (
         ["linked", "496", "1000", "0"],
         3,
-        "trap toodeep\n",
-        "proof new 1 used 0 bytes 19\n",
+        "trap toodeep",
+        [1, 0, 19],
     ),
-    (
-        ["linked", "496", "512", "0"],
-        4,
-        "out of fuel\n",
-        "proof new 1 used 0 bytes 19\n",
-    ),
+    (["linked", "496", "512", "0"], 4, "out of fuel", [1, 0, 19]),
 ];
 
 /// A leaf has a piece of 1 byte, a node one of 81.
@@ -178,45 +124,30 @@ const TREE_ROWS: [Row; 7] = [
     (
         ["put", "(1, 10)", "2", "0"],
         0,
-        "done (#a41b1e89dd402dbb1abde01e4a37e8b4ca525c1de5dfaedc0593f4d4b1a0c9da, ())\n",
-        "proof new 1 used 0 bytes 12\n",
+        "done (#a41b1e89dd402dbb1abde01e4a37e8b4ca525c1de5dfaedc0593f4d4b1a0c9da, ())",
+        [1, 0, 12],
     ),
     (
         ["put", "(2, 20)", "3", "1"],
         0,
-        "done (#46f8a72a5c729b5387fee7e4afb7ee021f78a9a9a60afda9d1cba86c2c82283c, ())\n",
-        "proof new 2 used 0 bytes 98\n",
+        "done (#46f8a72a5c729b5387fee7e4afb7ee021f78a9a9a60afda9d1cba86c2c82283c, ())",
+        [2, 0, 98],
     ),
-    (
-        ["put", "(3, 30)", "3", "2"],
-        4,
-        "out of fuel\n",
-        "proof new 2 used 0 bytes 178\n",
-    ),
+    (["put", "(3, 30)", "3", "2"], 4, "out of fuel", [2, 0, 178]),
     (
         ["put", "(3, 30)", "4", "16"],
         0,
-        "done (#10099e20bbb75168332b5e71236117ff3e6dfcd18eea3bd3c288acd5c1ebd62a, ())\n",
-        "proof new 3 used 0 bytes 184\n",
+        "done (#10099e20bbb75168332b5e71236117ff3e6dfcd18eea3bd3c288acd5c1ebd62a, ())",
+        [3, 0, 184],
     ),
-    (
-        ["get", "3", "4", "1024"],
-        0,
-        "done Found(30)\n",
-        "proof new 3 used 0 bytes 264\n",
-    ),
+    (["get", "3", "4", "1024"], 0, "done Found(30)", [3, 0, 264]),
     (
         ["put", "(1, 11)", "2", "0"],
         0,
-        "done (#42a822dbbd246a525f961cc2e36d85c781209341257cafc904ab7d06f4cc4a3a, ())\n",
-        "proof new 1 used 0 bytes 92\n",
+        "done (#42a822dbbd246a525f961cc2e36d85c781209341257cafc904ab7d06f4cc4a3a, ())",
+        [1, 0, 92],
     ),
-    (
-        ["get", "4", "5", "0"],
-        0,
-        "done Missing\n",
-        "proof new 4 used 0 bytes 270\n",
-    ),
+    (["get", "4", "5", "0"], 0, "done Missing", [4, 0, 270]),
 ];
 
 /// A list of 2^30 ints: a fork has a piece of 65 bytes, a tip one of 9.
@@ -224,27 +155,22 @@ const LIST_ROWS: [Row; 4] = [
     (
         ["get", "1073741823", "32", "1024"],
         0,
-        "done Found(7)\n",
-        "proof new 31 used 0 bytes 2120\n",
+        "done Found(7)",
+        [31, 0, 2120],
     ),
     (
         ["get", "1073741824", "32", "1024"],
         0,
-        "done Missing\n",
-        "proof new 0 used 0 bytes 6\n",
+        "done Missing",
+        [0, 0, 6],
     ),
     (
         ["put", "(5, 8)", "32", "16"],
         0,
-        "done ((1073741824, #1162c1763151907473d1dd579681f34b1d4ed3333651787fb4715e01e9bee1cd), ())\n",
-        "proof new 31 used 0 bytes 2120\n",
+        "done ((1073741824, #1162c1763151907473d1dd579681f34b1d4ed3333651787fb4715e01e9bee1cd), ())",
+        [31, 0, 2120],
     ),
-    (
-        ["get", "5", "32", "0"],
-        0,
-        "done Found(8)\n",
-        "proof new 31 used 0 bytes 2120\n",
-    ),
+    (["get", "5", "32", "0"], 0, "done Found(8)", [31, 0, 2120]),
 ];
 
 /// A peak has a piece of 73 bytes, two entries that are joined one of 65, and an entry of a letter one of 6.
@@ -252,20 +178,20 @@ const LOG_ROWS: [Row; 3] = [
     (
         ["append", "\"a\"", "2", "16"],
         0,
-        "done ((1, #0cb676acddd2b465db43059b61e9989a11179d58c1a1c9487109341d1fd07ab8), 0)\n",
-        "proof new 1 used 0 bytes 12\n",
+        "done ((1, #0cb676acddd2b465db43059b61e9989a11179d58c1a1c9487109341d1fd07ab8), 0)",
+        [1, 0, 12],
     ),
     (
         ["append", "\"b\"", "3", "0"],
         0,
-        "done ((2, #b457d3c55294775a6d170af93394b014f406726734adbc6901259945cdb26410), 1)\n",
-        "proof new 2 used 0 bytes 90\n",
+        "done ((2, #b457d3c55294775a6d170af93394b014f406726734adbc6901259945cdb26410), 1)",
+        [2, 0, 90],
     ),
     (
         ["entry", "1", "4", "2"],
         0,
-        "done Found(\"b\")\n",
-        "proof new 3 used 0 bytes 165\n",
+        "done Found(\"b\")",
+        [3, 0, 165],
     ),
 ];
 
@@ -273,31 +199,37 @@ const LOG_ROWS: [Row; 3] = [
 const AGAIN: &[u8] =
     b"state unit; fun others(n: int): unit = if le(n, 0) then () else let x = unauth(auth(n)) in others(sub(n, 1)); init make(x: unit): unit = x; query again(s: unit, n: int): int = let x = unauth(auth(0)) in let y = others(n) in unauth(auth(0));";
 
-/// How many others there are, how many pieces are kept, and the line of the proof: a new piece takes 13 bytes, and the last one is named by 3
-/// where fewer others are new than pieces are kept.
-const DISTANCES: [[&str; 3]; 16] = [
-    ["0", "0", "proof new 2 used 0 bytes 32\n"],
-    ["1", "0", "proof new 3 used 0 bytes 45\n"],
-    ["0", "1", "proof new 1 used 1 bytes 22\n"],
-    ["1", "1", "proof new 3 used 0 bytes 45\n"],
-    ["0", "2", "proof new 1 used 1 bytes 22\n"],
-    ["1", "2", "proof new 2 used 1 bytes 35\n"],
-    ["2", "2", "proof new 4 used 0 bytes 58\n"],
-    ["0", "16", "proof new 1 used 1 bytes 22\n"],
-    ["15", "16", "proof new 16 used 1 bytes 217\n"],
-    ["16", "16", "proof new 18 used 0 bytes 240\n"],
-    ["1024", "16", "proof new 1026 used 0 bytes 13344\n"],
-    ["0", "1024", "proof new 1 used 1 bytes 22\n"],
-    ["16", "1024", "proof new 17 used 1 bytes 230\n"],
-    ["1022", "1024", "proof new 1023 used 1 bytes 13308\n"],
-    ["1023", "1024", "proof new 1024 used 1 bytes 13321\n"],
-    ["1024", "1024", "proof new 1026 used 0 bytes 13344\n"],
+/// How many others there are, how many pieces are kept, and the numbers of the proof. A new piece takes 13 bytes; the last one is named
+/// by 3 where there are fewer others than pieces are kept.
+const DISTANCES: [(&str, &str, [u64; 3]); 16] = [
+    ("0", "0", [2, 0, 32]),
+    ("1", "0", [3, 0, 45]),
+    ("0", "1", [1, 1, 22]),
+    ("1", "1", [3, 0, 45]),
+    ("0", "2", [1, 1, 22]),
+    ("1", "2", [2, 1, 35]),
+    ("2", "2", [4, 0, 58]),
+    ("0", "16", [1, 1, 22]),
+    ("15", "16", [16, 1, 217]),
+    ("16", "16", [18, 0, 240]),
+    ("1024", "16", [1026, 0, 13344]),
+    ("0", "1024", [1, 1, 22]),
+    ("16", "1024", [17, 1, 230]),
+    ("1022", "1024", [1023, 1, 13308]),
+    ("1023", "1024", [1024, 1, 13321]),
+    ("1024", "1024", [1026, 0, 13344]),
 ];
 
-/// What `ideal` tells of a call.
-fn run_ideal(alloc: Global, sides: &Sides, call: &Call) -> Result<Run, AllocError> {
+/// Whether `ideal` tells this of a call.
+fn is_ideal(
+    alloc: Global,
+    sides: &Sides,
+    call: &Call,
+    (status, line): (u8, &str),
+) -> Result<bool, AllocError> {
     let words = ["ideal", "p", call.role, "q", call.argument, call.fuel];
-    run_words(alloc, &staged(sides.program, b"", &sides.image), &words)
+    let run = run_words(alloc, &staged(sides.program, b"", &sides.image), &words)?;
+    Ok(run.only_tells(status, line))
 }
 
 /// Runs `step` of a call on the owner's files.
@@ -344,19 +276,20 @@ fn behind<'a>(
 
 /// The proof of a call, where its row is told by `ideal`, `prove`, `verify` and `audit`.
 fn told_proof(alloc: Global, sides: &Sides, row: Row) -> Result<Option<Vec<u8>>, AllocError> {
-    let ([role, argument, fuel, number], status, outcome, proof) = row;
+    let ([role, argument, fuel, number], status, outcome, [new, used, bytes]) = row;
     let call = Call {
         role,
         argument,
         fuel,
     };
+    let line = format!(in alloc; "{outcome}\n")?;
+    let both = format!(in alloc; "{line}proof new {new} used {used} bytes {bytes}\n")?;
     let run = proved(alloc, sides.program, &sides.image, &call, number)?;
-    let both = format!(in alloc; "{outcome}{proof}")?;
-    let is_proved = run.tells(status, &both) && run.stored == 1;
-    if !is_proved || !run_ideal(alloc, sides, &call)?.only_tells(status, outcome) {
+    if !run.tells(status, &both) || run.stored != 1 {
         return Ok(None);
     }
-    let are_told = sides.are_told(alloc, &call, &run.file, 4096, (status, outcome))?;
+    let are_told = is_ideal(alloc, sides, &call, (status, &line))?
+        && sides.are_told(alloc, &call, &run.file, 4096, (status, &line))?;
     Ok(are_told.then_some(run.file))
 }
 
@@ -419,8 +352,8 @@ fn what_is_proved_is_told_alike(rt: HostRuntime) -> Result<(), Fail> {
 #[test]
 fn a_piece_is_named_as_long_as_it_is_kept(rt: HostRuntime) -> Result<(), Fail> {
     let made = made_sides(rt.alloc(), AGAIN, "make", "()")?;
-    for [others, number, proof] in &DISTANCES {
-        let row = (["again", others, "2000", number], 0, "done 0\n", *proof);
+    for (others, number, proof) in &DISTANCES {
+        let row = (["again", others, "2000", number], 0, "done 0", *proof);
         if told_proof(rt.alloc(), &made, row)?.is_none() {
             return Err(Fail::new(format_args!("{others} with {number}")));
         }
@@ -446,8 +379,7 @@ const TEXT: &[u8] =
 fn the_longest_piece_is_proved(rt: HostRuntime) -> Result<(), Fail> {
     let alloc = rt.alloc();
     let made = made_sides(alloc, TEXT, "make", &letters(alloc, 65_532)?)?;
-    let proof = "proof new 1 used 0 bytes 65547\n";
-    let row = (["size", "()", "1", "16"], 0, "done 65532\n", proof);
+    let row = (["size", "()", "1", "16"], 0, "done 65532", [1, 0, 65_547]);
     assert!(rt; told_proof(alloc, &made, row)?.is_some());
     Ok(())
 }
@@ -509,50 +441,40 @@ fn proofs_have_these_bytes(rt: HostRuntime) -> Result<(), Fail> {
     Ok(())
 }
 
-/// Types and literals of what is opened, the line of the outcome, and that of the proof.
-const OPENED: [[&str; 4]; 6] = [
-    ["unit", "()", "done ()\n", "proof new 1 used 0 bytes 11\n"],
-    [
+/// Types and literals of what is opened, the outcome, and the bytes of the proof.
+const OPENED: [(&str, &str, &str, u64); 6] = [
+    ("unit", "()", "done ()", 11),
+    (
         "int",
         " -9223372036854775808",
-        "done -9223372036854775808\n",
-        "proof new 1 used 0 bytes 19\n",
-    ],
-    [
-        "text",
-        "\"\"",
-        "done \"\"\n",
-        "proof new 1 used 0 bytes 15\n",
-    ],
-    [
-        "text",
-        "\"é\"",
-        "done \"é\"\n",
-        "proof new 1 used 0 bytes 17\n",
-    ],
-    [
+        "done -9223372036854775808",
+        19,
+    ),
+    ("text", "\"\"", "done \"\"", 15),
+    ("text", "\"é\"", "done \"é\"", 17),
+    (
         "(int, (bool, text))",
-        "(7, (true, \"a\"))",
-        "done (7, (true, \"a\"))\n",
-        "proof new 1 used 0 bytes 25\n",
-    ],
-    [
+        "(7,(true,\"a\"))",
+        "done (7, (true, \"a\"))",
+        25,
+    ),
+    (
         "list",
         "More(1, More(2, None))",
-        "done More(1, More(2, None))\n",
-        "proof new 1 used 0 bytes 30\n",
-    ],
+        "done More(1, More(2, None))",
+        30,
+    ),
 ];
 
 #[test]
 fn values_of_each_type_are_opened(rt: HostRuntime) -> Result<(), Fail> {
     let alloc = rt.alloc();
-    for [ty, literal, outcome, proof] in &OPENED {
+    for (ty, literal, outcome, bytes) in &OPENED {
         let program = format!(in alloc;
             "type list = None | More(int, list); state auth {ty}; init make(x: {ty}): auth {ty} = auth(x); query open(s: auth {ty}, x: unit): {ty} = unauth(s);"
         )?;
         let made = made_sides(alloc, program.as_bytes(), "make", literal)?;
-        let row = (["open", "()", "1", "0"], 0, *outcome, *proof);
+        let row = (["open", "()", "1", "0"], 0, *outcome, [1, 0, *bytes]);
         if told_proof(alloc, &made, row)?.is_none() {
             return Err(Fail::new(format_args!("{ty} {literal}")));
         }

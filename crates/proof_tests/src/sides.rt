@@ -14,7 +14,7 @@ pub struct Sides<'a> {
 }
 
 /// What both have of a state that is made by this role of a literal.
-pub fn sides<'a>(
+pub fn made_sides<'a>(
     alloc: Global,
     program: &'a [u8],
     role: &str,

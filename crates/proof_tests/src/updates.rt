@@ -29,88 +29,30 @@ fn the_new_state_is_stored_where_it_is_named(rt: HostRuntime) -> Result<(), Fail
     Ok(())
 }
 
+/// Roles that are called with a name for the new state, the fuel and the proof, where no state is stored: the status and the line.
+const UNSTORED: [(&str, &str, &[u8], u8, &str); 5] = [
+    ("both", "1", ONE, 7, "input refused: role kind\n"),
+    ("make", "1", ONE, 7, "input refused: role kind\n"),
+    ("flip", "0", HEADER, 4, "out of fuel\n"),
+    ("flip", "1", HEADER, 5, "rejected short 0\n"),
+    ("flip", "1", b"LAP1", 5, "rejected header\n"),
+];
+
 /// A log of as many entries as there may be.
 const FULL: &[u8] = b"\x7f\xff\xff\xff\xff\xff\xff\xff********************************";
 
-/// A program and a state, the role, the argument and the fuel of a call with a name for the new state, and the proof, where no state is
-/// stored: the status and the line.
-type Row = (
-    &'static [u8],
-    &'static [u8],
-    [&'static str; 3],
-    &'static [u8],
-    u8,
-    &'static str,
-);
-
-const UNSTORED: [Row; 7] = [
-    (
-        SWITCH,
-        &YES,
-        ["both", "()", "1"],
-        ONE,
-        7,
-        "input refused: role kind\n",
-    ),
-    (
-        SWITCH,
-        &YES,
-        ["make", "()", "1"],
-        ONE,
-        7,
-        "input refused: role kind\n",
-    ),
-    (
-        SWITCH,
-        &YES,
-        ["flip", "()", "0"],
-        HEADER,
-        4,
-        "out of fuel\n",
-    ),
-    (
-        SWITCH,
-        &YES,
-        ["flip", "()", "1"],
-        HEADER,
-        5,
-        "rejected short 0\n",
-    ),
-    (
-        SWITCH,
-        &YES,
-        ["flip", "()", "1"],
-        b"LAP1",
-        5,
-        "rejected header\n",
-    ),
-    (
-        SWITCH,
-        &NO,
-        ["flip", "true", "1"],
-        ONE,
-        7,
-        "input refused: argument Mismatch 0\n",
-    ),
-    (
-        LOG,
-        FULL,
-        ["append", "\"\"", "9"],
-        HEADER,
-        3,
-        "trap overflow\n",
-    ),
-];
-
 #[test]
 fn no_state_is_stored_where_none_is_made(rt: HostRuntime) -> Result<(), Fail> {
-    for (program, state, [role, argument, fuel], proof, status, line) in &UNSTORED {
-        let words = ["verify", "p", role, "s", argument, fuel, "q", "o"];
-        let run = run_words(rt.alloc(), &staged(program, state, proof), &words)?;
+    for (role, fuel, proof, status, line) in &UNSTORED {
+        let words = ["verify", "p", role, "s", "()", fuel, "q", "o"];
+        let run = run_words(rt.alloc(), &staged(SWITCH, &YES, proof), &words)?;
         if !run.only_tells(*status, line) {
             return Err(Fail::new(format_args!("{role} {line}")));
         }
     }
+    let words = ["verify", "p", "append", "s", "\"\"", "1", "q", "o"];
+    let run = run_words(rt.alloc(), &staged(LOG, FULL, HEADER), &words)?;
+    assert!(rt; run.only_tells(3, "trap overflow\n"));
     Ok(())
 }
 

@@ -9,66 +9,68 @@ use program_texts::{FIRST, SWITCH, TWO};
 use std::alloc::{AllocError, Global};
 use std::test::Fail;
 
-/// A proof with this fuel: its bytes, the status and the line.
-const PROOFS: [(&[u8], &str, u8, &str); 25] = [
-    (b"LAP1\0\0\0\0\0\0\0", "1", 0, "done ()\n"),
-    (b"LAP1\0\0\0\0\0\0\0", "1000000000000", 0, "done ()\n"),
+/// A proof, and the status and the line.
+type Row = (&'static [u8], u8, &'static str);
+
+/// Proofs of `open`.
+const PROOFS: [Row; 20] = [
+    (b"LAP1\0\0\0\0\0\0\0", 0, "done ()\n"),
     // nothing is left, and a header that isn't whole, begins otherwise, or asks for a ring: of 1,024 pieces at most
-    (b"LAP1\0\0", "1", 5, "rejected short 0\n"),
-    (b"LAP1\0", "1", 5, "rejected header\n"),
-    (b"", "1", 5, "rejected header\n"),
-    (b"LAP2\0\0\0\0\0\0\0", "1", 5, "rejected header\n"),
-    (b"LAP1\0\x01\0\0\0\0\0", "1", 0, "done ()\n"),
-    (b"LAP1\x04\0\0\0\0\0\0", "1", 0, "done ()\n"),
-    (b"LAP1\x04\x01\0\0\0\0\0", "1", 5, "rejected header\n"),
+    (b"LAP1\0\0", 5, "rejected short 0\n"),
+    (b"LAP1\0", 5, "rejected header\n"),
+    (b"", 5, "rejected header\n"),
+    (b"LAP2\0\0\0\0\0\0\0", 5, "rejected header\n"),
+    (b"LAP1\0\x01\0\0\0\0\0", 0, "done ()\n"),
+    (b"LAP1\x04\0\0\0\0\0\0", 0, "done ()\n"),
+    (b"LAP1\x04\x01\0\0\0\0\0", 5, "rejected header\n"),
     // a frame that is cut in its length, in its piece and in its number
-    (b"LAP1\0\0\0", "1", 5, "rejected cut 0\n"),
-    (b"LAP1\0\0\0\0\0", "1", 5, "rejected cut 0\n"),
-    (b"LAP1\0\0\0\0\0\0\x01", "1", 5, "rejected cut 0\n"),
-    (b"LAP1\0\0\x01\0", "1", 5, "rejected cut 0\n"),
+    (b"LAP1\0\0\0", 5, "rejected cut 0\n"),
+    (b"LAP1\0\0\0\0\0", 5, "rejected cut 0\n"),
+    (b"LAP1\0\0\0\0\0\0\x01", 5, "rejected cut 0\n"),
+    (b"LAP1\0\0\x01\0", 5, "rejected cut 0\n"),
     // another piece, and one longer than the limit, which is found as soon as its length is whole
     (
         b"LAP1\0\0\0\0\0\0\x01\0",
-        "1",
         5,
         "rejected wrong-piece 0 e3b0c44298fc1c149afbf4c8996fb92427ae41e4649b934ca495991b7852b855 6e340b9cffb37a989ca544e6bb780a2c78901d3fb33738768511a30617afa01d\n",
     ),
     (
         b"LAP1\0\0\0\0\x01\0\x01",
-        "1",
         5,
         "rejected piece-long 0 65537\n",
     ),
     (
         b"LAP1\0\0\0\xff\xff\xff\xff",
-        "1",
         5,
         "rejected piece-long 0 4294967295\n",
     ),
     // bytes left behind, another kind of frame, and a piece that isn't kept
-    (b"LAP1\0\0\0\0\0\0\0\0", "1", 5, "rejected leftover 1\n"),
-    (b"LAP1\0\0\x07", "1", 5, "rejected bad-kind 0 7\n"),
-    (b"LAP1\0\0\xff\0", "1", 5, "rejected bad-kind 0 255\n"),
-    (b"LAP1\0\0\x01\0\0", "1", 5, "rejected bad-use 0 0 0\n"),
-    (
-        b"LAP1\0\0\x01\x01\x02",
-        "1",
-        5,
-        "rejected bad-use 0 258 0\n",
-    ),
-    // no fuel
-    (b"LAP1\0\0", "0", 4, "out of fuel\n"),
-    (b"LAP1\0\0", "00000000000000000000", 4, "out of fuel\n"),
-    (b"LAP1\0\0\0\0\0\0\0", "0", 5, "rejected leftover 5\n"),
-    (b"LAP1\0", "0", 5, "rejected header\n"),
+    (b"LAP1\0\0\0\0\0\0\0\0", 5, "rejected leftover 1\n"),
+    (b"LAP1\0\0\x07", 5, "rejected bad-kind 0 7\n"),
+    (b"LAP1\0\0\xff\0", 5, "rejected bad-kind 0 255\n"),
+    (b"LAP1\0\0\x01\0\0", 5, "rejected bad-use 0 0 0\n"),
+    (b"LAP1\0\0\x01\x01\x02", 5, "rejected bad-use 0 258 0\n"),
 ];
 
-/// The number of the first proof, from 0, that is judged otherwise where one read gives so many bytes at most.
-fn misjudged(alloc: Global, made: &Sides, most_read: usize) -> Result<Option<usize>, AllocError>
+/// The same without fuel.
+const UNFUELED: [Row; 3] = [
+    (b"LAP1\0\0", 4, "out of fuel\n"),
+    (b"LAP1\0\0\0\0\0\0\0", 5, "rejected leftover 5\n"),
+    (b"LAP1\0", 5, "rejected header\n"),
+];
+
+/// The number of the first proof of a call, from 0, that is judged otherwise where one read gives so many bytes at most.
+fn misjudged(
+    alloc: Global,
+    made: &Sides,
+    call: &Call,
+    rows: &[Row],
+    most_read: usize,
+) -> Result<Option<usize>, AllocError>
     requires { 0 < most_read }
 {
-    for (number, (proof, fuel, status, line)) in PROOFS.iter().enumerate() {
-        if !made.are_told(alloc, &opening(fuel), proof, most_read, (*status, line))? {
+    for (number, (proof, status, line)) in rows.iter().enumerate() {
+        if !made.are_told(alloc, call, proof, most_read, (*status, line))? {
             return Ok(Some(number));
         }
     }
@@ -77,10 +79,13 @@ fn misjudged(alloc: Global, made: &Sides, most_read: usize) -> Result<Option<usi
 
 #[test]
 fn proofs_are_judged_by_reads_of_any_size(rt: HostRuntime) -> Result<(), Fail> {
-    let made = made_sides(rt.alloc(), FIRST, "make", "()")?;
+    let alloc = rt.alloc();
+    let made = made_sides(alloc, FIRST, "make", "()")?;
     for most_read in [4096, 1, 2, 3, 7] {
-        if let Some(number) = misjudged(rt.alloc(), &made, most_read)? {
-            return Err(Fail::new(format_args!("row {number}, by {most_read}")));
+        let fueled = misjudged(alloc, &made, &opening("1"), &PROOFS, most_read)?;
+        let unfueled = misjudged(alloc, &made, &opening("0"), &UNFUELED, most_read)?;
+        if (fueled, unfueled) != (None, None) {
+            return Err(Fail::new(format_args!("{fueled:?} {unfueled:?} by {most_read}")));
         }
     }
     Ok(())
@@ -90,188 +95,122 @@ fn proofs_are_judged_by_reads_of_any_size(rt: HostRuntime) -> Result<(), Fail> {
 const SEE: &[u8] =
     b"state auth (bool, bool); init make(x: (bool, bool)): auth (bool, bool) = auth(x); query see(s: auth (bool, bool), x: unit): (bool, bool) = unauth(s);";
 
-/// A program and the literal of its state, the role, the argument and the fuel of a call, a proof, and the status and the line.
-type Row = (
-    &'static [u8],
-    &'static str,
-    [&'static str; 3],
-    &'static [u8],
-    u8,
-    &'static str,
-);
-
-const ROWS: [Row; 19] = [
-    // two pieces that differ from the honest one: the digest tells, whether they spell a pair or not
+/// Pieces that differ from the honest one: the digest tells, whether they spell a pair or not.
+const SEEN: [Row; 3] = [
+    (b"LAP1\0\0\0\0\0\0\x02\x01\0", 0, "done (true, false)\n"),
     (
-        SEE,
-        "(true, false)",
-        ["see", "()", "1"],
-        b"LAP1\0\0\0\0\0\0\x02\x01\0",
-        0,
-        "done (true, false)\n",
-    ),
-    (
-        SEE,
-        "(true, false)",
-        ["see", "()", "1"],
         b"LAP1\0\0\0\0\0\0\x02\0\x01",
         5,
         "rejected wrong-piece 0 47dc540c94ceb704a23875c11273e16bb0b8a87aed84de911f2133568115f254 b413f47d13ee2fe6c845b2ee141af81de858df4ec549a58b7970bb96645bc8d2\n",
     ),
     (
-        SEE,
-        "(true, false)",
-        ["see", "()", "1"],
         b"LAP1\0\0\0\0\0\0\x02\x03\x02",
         5,
         "rejected wrong-piece 0 47dc540c94ceb704a23875c11273e16bb0b8a87aed84de911f2133568115f254 d4ea3fc5537ce615543ea44f074bff451fb6c9749e9e8692c111f7070b4780c7\n",
     ),
-    // a piece that is new where it might be named, and one that is named and isn't kept
+];
+
+/// Pieces that are new where they might be named, that are named and aren't kept, and that differ, new or named, at each place.
+const OPENED: [Row; 7] = [
     (
-        TWO,
-        "(true, false)",
-        ["three", "()", "1"],
         b"LAP1\0\x02\0\0\0\0\x01\x01\0\0\0\0\x01\0\0\0\0\0\x01\x01",
         0,
         "done (true, (false, true))\n",
     ),
     (
-        TWO,
-        "(true, false)",
-        ["three", "()", "1"],
         b"LAP1\0\x01\0\0\0\0\x01\x01\0\0\0\0\x01\0\x01\0\x01",
         5,
         "rejected bad-use 2 1 1\n",
     ),
     (
-        TWO,
-        "(true, false)",
-        ["three", "()", "1"],
         b"LAP1\0\x02\0\0\0\0\x01\x01\0\0\0\0\x01\0\x01\0\x02",
         5,
         "rejected bad-use 2 2 2\n",
     ),
-    // the first piece that differs, new or named, at each place
     (
-        TWO,
-        "(true, false)",
-        ["three", "()", "1"],
         b"LAP1\0\x02\0\0\0\0\x01\0\0\0\0\0\x01\0\x01\0\x01",
         5,
         "rejected wrong-piece 0 4bf5122f344554c53bde2ebb8cd2b7e3d1600ad631c385a5d7cce23c7785459a 6e340b9cffb37a989ca544e6bb780a2c78901d3fb33738768511a30617afa01d\n",
     ),
     (
-        TWO,
-        "(true, false)",
-        ["three", "()", "1"],
         b"LAP1\0\x02\0\0\0\0\x01\x01\x01\0\0\x01\0\x01",
         5,
         "rejected wrong-piece 1 6e340b9cffb37a989ca544e6bb780a2c78901d3fb33738768511a30617afa01d 4bf5122f344554c53bde2ebb8cd2b7e3d1600ad631c385a5d7cce23c7785459a\n",
     ),
     (
-        TWO,
-        "(true, false)",
-        ["three", "()", "1"],
         b"LAP1\0\x02\0\0\0\0\x01\x01\0\0\0\0\x01\0\x01\0\0",
         5,
         "rejected wrong-piece 2 4bf5122f344554c53bde2ebb8cd2b7e3d1600ad631c385a5d7cce23c7785459a 6e340b9cffb37a989ca544e6bb780a2c78901d3fb33738768511a30617afa01d\n",
     ),
     (
-        TWO,
-        "(true, false)",
-        ["three", "()", "1"],
         b"LAP1\0\0\0\0\0\0\x01\x01\0\0\0\0\x01\0\0\0\0\0\0",
         5,
         "rejected wrong-piece 2 4bf5122f344554c53bde2ebb8cd2b7e3d1600ad631c385a5d7cce23c7785459a e3b0c44298fc1c149afbf4c8996fb92427ae41e4649b934ca495991b7852b855\n",
     ),
-    // of an update
+];
+
+/// Of an update.
+const FLIPPED: [Row; 3] = [
     (
-        SWITCH,
-        "true",
-        ["flip", "()", "1"],
         b"LAP1\0\0\0\0\0\0\x01\x01",
         0,
         "done (#6e340b9cffb37a989ca544e6bb780a2c78901d3fb33738768511a30617afa01d, true)\n",
     ),
     (
-        SWITCH,
-        "true",
-        ["flip", "()", "1"],
         b"LAP1\0\0\0\0\0\0\x01\0",
         5,
         "rejected wrong-piece 0 4bf5122f344554c53bde2ebb8cd2b7e3d1600ad631c385a5d7cce23c7785459a 6e340b9cffb37a989ca544e6bb780a2c78901d3fb33738768511a30617afa01d\n",
     ),
     (
-        SWITCH,
-        "true",
-        ["flip", "()", "1"],
         b"LAP1\0\x01\0\0\0\0\x01\x01\x01\0\0",
         5,
         "rejected leftover 3\n",
     ),
-    // a trap ends a run as a value does: the first trap or rejection from the left ends it, and bytes left behind it are refused
+];
+
+/// A trap ends a run as a value does: the first trap or rejection from the left ends it, and bytes left behind it are refused.
+const EARLY: [Row; 2] = [
+    (b"LAP1\0\0", 3, "trap overflow\n"),
+    (b"LAP1\0\0\0", 5, "rejected leftover 1\n"),
+];
+
+const LATE: [Row; 3] = [
+    (b"LAP1\0\0", 5, "rejected short 0\n"),
+    (b"LAP1\0\0\x02", 5, "rejected bad-kind 0 2\n"),
     (
-        SWITCH,
-        "true",
-        ["over", "()", "1"],
-        b"LAP1\0\0",
-        5,
-        "rejected short 0\n",
-    ),
-    (
-        TRAPS,
-        "16",
-        ["early", "1", "1"],
-        b"LAP1\0\0",
-        3,
-        "trap overflow\n",
-    ),
-    (
-        TRAPS,
-        "16",
-        ["early", "1", "1"],
-        b"LAP1\0\0\0",
-        5,
-        "rejected leftover 1\n",
-    ),
-    (
-        TRAPS,
-        "16",
-        ["ratio", "0", "1"],
-        b"LAP1\0\0\x02",
-        5,
-        "rejected bad-kind 0 2\n",
-    ),
-    (
-        TRAPS,
-        "16",
-        ["ratio", "0", "1"],
         b"LAP1\0\0\0\0\0\0\x08\0\0\0\0\0\0\0\x10",
         3,
         "trap divzero\n",
     ),
-    (
-        TRAPS,
-        "16",
-        ["linked", "1", "9"],
-        b"LAP1\0\0\0\0\0\0\x08\0\0\0\0\0\0\0\x10",
-        4,
-        "out of fuel\n",
-    ),
+];
+
+/// A program and the literal of its state, the role and the argument of a call, and proofs of it.
+type Table = (
+    &'static [u8],
+    &'static str,
+    [&'static str; 2],
+    &'static [Row],
+);
+
+const TABLES: [Table; 5] = [
+    (SEE, "(true, false)", ["see", "()"], &SEEN),
+    (TWO, "(true, false)", ["three", "()"], &OPENED),
+    (SWITCH, "true", ["flip", "()"], &FLIPPED),
+    (TRAPS, "16", ["early", "1"], &EARLY),
+    (TRAPS, "16", ["ratio", "0"], &LATE),
 ];
 
 #[test]
 fn proofs_of_calls_are_judged(rt: HostRuntime) -> Result<(), Fail> {
-    for (number, row) in ROWS.iter().enumerate() {
-        let (program, literal, [role, argument, fuel], proof, status, line) = *row;
+    for (program, literal, [role, argument], rows) in &TABLES {
         let made = made_sides(rt.alloc(), program, "make", literal)?;
         let call = Call {
             role,
             argument,
-            fuel,
+            fuel: "1",
         };
-        if !made.are_told(rt.alloc(), &call, proof, 4096, (status, line))? {
-            return Err(Fail::new(format_args!("row {number}: {line}")));
+        if let Some(number) = misjudged(rt.alloc(), &made, &call, rows, 4096)? {
+            return Err(Fail::new(format_args!("{role}: row {number}")));
         }
     }
     Ok(())
