@@ -27,7 +27,7 @@ import tempfile
 from random_programs import Example, Program
 
 KEPT = [0, 1, 2, 16, 1024]
-FUELS = [0, 1, 2, 3, 5, 8, 20, 100, 1000, 1000, 1000]
+FUELS = [0, 1, 2, 3, 8, 20, 100, 300, 1000, 1000, 1000, 1000, 1000, 1000]
 OUTCOMES = {0: "done ", 3: "trap ", 4: "out of fuel"}
 PIECE_LIMIT = 65_536
 
@@ -139,15 +139,16 @@ def next_piece(proof, at, kept, new):
     return None, at, f"bad-kind {{}} {kind}"
 
 
-def altered(rng, proof):
-    """A proof that is changed in one way, or in two."""
-    for _ in range(rng.choice([1, 1, 1, 2])):
+def altered(rng, honest):
+    """Another proof, which differs from this one by one change or by a few."""
+    proof = honest
+    while proof == honest or rng.random() < 0.2:
         try:
             frames = frames_of(proof)
             is_formed = bytes_of(frames, 0)[6:] == proof[6:]
         except (struct.error, IndexError):
             is_formed = False
-        proof = altered_frames(rng, proof, frames) if is_formed and rng.random() < 0.6 else altered_bytes(rng, proof)
+        proof = altered_frames(rng, proof, frames) if is_formed and rng.random() < 0.7 else altered_bytes(rng, proof)
     return proof
 
 
@@ -173,8 +174,10 @@ def altered_bytes(rng, proof):
 def altered_frames(rng, proof, frames):
     kept = struct.unpack_from(">H", proof, 4)[0] if len(proof) >= 6 else 0
     choice = rng.randrange(9)
-    if choice == 0 or not frames:
+    if choice == 0 or not frames and choice < 5:
         return bytes_of(frames, rng.choice([*KEPT, 3, 17, 1023, 1025, 65_535]))
+    if not frames:
+        return bytes_of([rng.choice([0, b"", b"\0"])], kept)
     at, other = rng.randrange(len(frames)), rng.randrange(len(frames))
     if choice == 1:
         del frames[at]
@@ -253,6 +256,7 @@ class Play:
         self.counts[ideal.text.split()[0]] += 1
         pieces = self.proved(prove, kept, ideal, [role, *words])
         proofs = [prove.stored] + [altered(self.rng, prove.stored) for _ in range(self.altered_proofs)]
+        self.counts["altered proofs"] += self.altered_proofs
         judged = yield [command for proof in proofs for command in self.judges(role, words, proof)]
         for number, proof in enumerate(proofs):
             self.judged(proof, judged[2 * number : 2 * number + 2], pieces, ideal, [role, *words])
@@ -282,7 +286,6 @@ class Play:
         cause = rejection(proof, pieces)
         verdict = (5, f"rejected {cause}\n") if cause else ideal[:2]
         audited = verdict if cause else (ideal.status, "agrees " + ideal.text)
-        self.counts["proofs"] += 1
         self.counts[f"proofs, {cause.split()[0] if cause else 'accepted'}"] += 1
         need(verify == (*verdict, None), "verify", *call, verify, verdict, proof.hex())
         need(audit == (*audited, None), "audit", *call, audit, audited, proof.hex())
