@@ -327,8 +327,11 @@ class Runner:
         out = os.path.join(self.folder, "o")
         if os.path.exists(out):
             os.remove(out)
-        done = subprocess.run([self.lamauth, *words], cwd=self.folder, stdout=subprocess.PIPE, stderr=subprocess.STDOUT,
-                              timeout=120, close_fds=False, check=False)
+        try:
+            done = subprocess.run([self.lamauth, *words], cwd=self.folder, stdout=subprocess.PIPE, stderr=subprocess.STDOUT,
+                                  timeout=120, close_fds=False, check=False)
+        except subprocess.TimeoutExpired:
+            return Result(None, "no answer in 120 seconds", None)
         stored = None
         if os.path.exists(out):
             with open(out, "rb") as file:
