@@ -94,9 +94,9 @@ pub fn check(alloc: Global, program: &[u8]) -> Result<Run, AllocError> {
     run_words(alloc, &staged(program, &[], &[]), &["check", "p"])
 }
 
-/// Runs `init` of the role `make` on a literal.
-pub fn made(alloc: Global, program: &[u8], literal: &str) -> Result<Run, AllocError> {
-    let words = ["init", "p", "make", literal, "1", "o"];
+/// Runs a role of `init` on a literal.
+pub fn made(alloc: Global, program: &[u8], role: &str, literal: &str) -> Result<Run, AllocError> {
+    let words = ["init", "p", role, literal, "1000", "o"];
     run_words(alloc, &staged(program, &[], &[]), &words)
 }
 
@@ -123,8 +123,14 @@ pub fn opening(fuel: &str) -> Call<'_> {
     }
 }
 
-/// Runs `prove` of a call on an image.
-pub fn proved(alloc: Global, program: &[u8], image: &[u8], call: &Call) -> Result<Run, AllocError> {
+/// Runs `prove` of a call on an image, where so many pieces are kept.
+pub fn proved(
+    alloc: Global,
+    program: &[u8],
+    image: &[u8],
+    call: &Call,
+    number: &str,
+) -> Result<Run, AllocError> {
     let words = [
         "prove",
         "p",
@@ -132,7 +138,7 @@ pub fn proved(alloc: Global, program: &[u8], image: &[u8], call: &Call) -> Resul
         "q",
         call.argument,
         call.fuel,
-        "0",
+        number,
         "o",
     ];
     run_words(alloc, &staged(program, &[], image), &words)
@@ -148,51 +154,4 @@ pub fn verified(
 ) -> Result<Run, AllocError> {
     let words = ["verify", "p", call.role, "s", call.argument, call.fuel, "q"];
     run_words(alloc, &staged(program, state, proof), &words)
-}
-
-/// Runs `audit` of a proof of a call on an image.
-pub fn audited(
-    alloc: Global,
-    program: &[u8],
-    image: &[u8],
-    proof: &[u8],
-    call: &Call,
-) -> Result<Run, AllocError> {
-    let words = ["audit", "p", call.role, "s", call.argument, call.fuel, "q"];
-    run_words(alloc, &staged(program, image, proof), &words)
-}
-
-/// A state that is made by `init`, what a client keeps of it, a call on it that is proved, and what the client is told of the proof.
-#[derive(Drop)]
-pub struct Trip {
-    pub made: Box<Run>,
-    pub kept: Box<Run>,
-    pub proved: Box<Run>,
-    pub verified: Box<Run>,
-}
-
-/// Makes a state of a literal, keeps its projection, proves a call and verifies the proof.
-pub fn trip_of(
-    alloc: Global,
-    program: &[u8],
-    literal: &str,
-    call: &Call,
-) -> Result<Trip, AllocError> {
-    let made = boxed(alloc, made(alloc, program, literal))?;
-    let kept = boxed(alloc, kept(alloc, program, &made.file))?;
-    let proved = boxed(alloc, proved(alloc, program, &made.file, call))?;
-    let verified = boxed(
-        alloc,
-        verified(alloc, program, &kept.file, &proved.file, call),
-    )?;
-    Ok(Trip {
-        made,
-        kept,
-        proved,
-        verified,
-    })
-}
-
-fn boxed(alloc: Global, run: Result<Run, AllocError>) -> Result<Box<Run>, AllocError> {
-    Ok(Box::new(alloc, run?)?)
 }

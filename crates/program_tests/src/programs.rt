@@ -1,6 +1,5 @@
-// What `check` says of the texts of programs, and where the fragment ends that the commands take which make or audit a proof.
-use cli_stage::runs::{check, opening, proved, run_words, verified};
-use cli_stage::stage::{HEADER, PROOF, STATE, staged};
+// What `check` says of the texts of programs.
+use cli_stage::runs::check;
 use program_texts::{BST, FIRST, LOG, MERKLE, SUM};
 use std::alloc::{AllocError, Global};
 use std::test::Fail;
@@ -176,7 +175,7 @@ const FAULTY_TEXTS: [Row; 43] = [
 ];
 
 /// Trees that the rules refuse.
-const FAULTY_TREES: [Row; 30] = [
+const FAULTY_TREES: [Row; 34] = [
     // names that stand twice
     (
         b"state unit;\nquery q(s: unit, x: unit): unit = ();\nquery q(s: unit, x: unit): unit = ();",
@@ -279,6 +278,22 @@ const FAULTY_TREES: [Row; 30] = [
     (
         b"state unit;\nquery q(s: unit, x: unit): int = unauth(unauth(x));",
         "program refused: NotAuth 2 48\n",
+    ),
+    (
+        b"state unit;\nquery q(s: unit, x: unit): unit = fst(x);",
+        "program refused: NotPair 2 39\n",
+    ),
+    (
+        b"type a = A; state unit; fun f(x: int): int = match x with | A -> 1 end;",
+        "program refused: NotSum 1 52\n",
+    ),
+    (
+        b"type a = A | B; state unit; fun f(x: a): int = match x with | B -> 1 | A -> 1 end;",
+        "program refused: ArmsWrong 1 48\n",
+    ),
+    (
+        b"state unit; fun f(x: int): int = f(x, y);",
+        "program refused: WrongCount 1 34\n",
     ),
     // of faults of two passes that of the first, and of two of one pass the first
     (
@@ -490,140 +505,5 @@ fn functions_have_a_greatest_number(rt: HostRuntime) -> Result<(), Fail> {
     assert!(rt; most.status == 0);
     let more = check(alloc, &with_functions(alloc, 1025)?)?;
     assert!(rt; more.only_tells(6, "program refused: Limit-functions 1026 7\n"));
-    Ok(())
-}
-
-/// Programs of the fragment that open a state `s` of `()`.
-const FRAGMENT: [&[u8]; 8] = [
-    b"query open(s: auth unit, x: unit): unit = unauth(s); state auth unit;",
-    b"# \xff\xfe\"\nstate\tauth\r\nunit;query open(s:auth unit,x:unit):unit=unauth(s);#",
-    b"state auth unit; query open(s: auth unit, x: unit): unit = unauth(s); # no newline",
-    b"state auth unit; query open(x: auth unit, s: unit): unit = unauth(x);",
-    b"state auth unit; query open(s_1A: auth unit, x: unit): unit = unauth(s_1A);",
-    b"state auth unit; query a234567890123456789012345678901234567890123456789012345678901234(s: auth unit, x: unit): unit = (); query open(s: auth unit, x: unit): unit = unauth(s);",
-    b"state auth unit; query n(s: auth unit, x: int): int = add(-0, add(-9223372036854775808, 9223372036854775807)); query open(s: auth unit, x: unit): unit = unauth(s);",
-    b"state auth unit; query n(s: auth unit, x: bool): text = \"\\\"\\\\\\n\\t\\x7f\\x00 \xc3\xa9 # no comment\"; query open(s: auth unit, x: unit): unit = unauth(s);",
-];
-
-#[test]
-fn programs_of_the_fragment_are_run(rt: HostRuntime) -> Result<(), Fail> {
-    for (number, program) in FRAGMENT.iter().enumerate() {
-        let run = verified(rt.alloc(), program, &STATE, PROOF, &opening("1"))?;
-        if !run.only_tells(0, "done ()\n") {
-            return Err(Fail::new(format_args!("row {number}")));
-        }
-    }
-    Ok(())
-}
-
-/// Texts of the whole language that the rules refuse, each with what `check` tells, and what `prove` tells: where the fragment ends.
-const BEYOND: [(&[u8], &str, &str); 14] = [
-    (
-        b"state unit;\nquery q(s: unit, x: unit): unit = (x, x);",
-        "program refused: WrongType 2 35\n",
-        "program refused: Expected 2 36\n",
-    ),
-    (
-        b"state unit;\nquery q(s: unit, x: unit): unit = x(x);",
-        "program refused: UnknownName 2 35\n",
-        "program refused: Expected 2 36\n",
-    ),
-    (
-        b"state unit;\nquery q(s: unit, x: unit): unit = fst(x);",
-        "program refused: NotPair 2 39\n",
-        "program refused: Expected 2 35\n",
-    ),
-    (
-        b"state unit;\nquery q(s: unit, x: unit): unit = Some;",
-        "program refused: UnknownName 2 35\n",
-        "program refused: Expected 2 35\n",
-    ),
-    (
-        b"state unit;\nquery q(s: (unit, unit), x: unit): unit = ();",
-        "program refused: RoleShape 2 7\n",
-        "program refused: Expected 2 12\n",
-    ),
-    (
-        b"state unit;\nquery q(s: tree, x: unit): unit = ();",
-        "program refused: UnknownName 2 12\n",
-        "program refused: Expected 2 12\n",
-    ),
-    (
-        b"state unit;\nfun f(x: int): int = unauth(5);",
-        "program refused: NotAuth 2 29\n",
-        "program refused: Expected 2 1\n",
-    ),
-    (
-        b"state unit;\nupdate q(s: unit, x: unit): unit = ();",
-        "program refused: RoleShape 2 8\n",
-        "program refused: Expected 2 1\n",
-    ),
-    (
-        b"type t = A;",
-        "program refused: NoState 1 12\n",
-        "program refused: Expected 1 1\n",
-    ),
-    (
-        b"type a = A; state unit; fun f(x: int): int = match x with | A -> 1 end;",
-        "program refused: NotSum 1 52\n",
-        "program refused: Expected 1 1\n",
-    ),
-    (
-        b"type a = A | B; state unit; fun f(x: a): int = match x with | B -> 1 | A -> 1 end;",
-        "program refused: ArmsWrong 1 48\n",
-        "program refused: Expected 1 1\n",
-    ),
-    (
-        b"state unit; fun f(x: int): int = f(x, y);",
-        "program refused: WrongCount 1 34\n",
-        "program refused: Expected 1 13\n",
-    ),
-    (
-        b"type a = A; type b = B | A; state unit;",
-        "program refused: Twice 1 26\n",
-        "program refused: Expected 1 1\n",
-    ),
-    (
-        b"state unit; query q(s: unit, x: unit): int = let y = 1 in add(x, y);",
-        "program refused: WrongType 1 63\n",
-        "program refused: Expected 1 46\n",
-    ),
-];
-
-#[test]
-fn the_fragment_ends_at_the_first_token_beyond_it(rt: HostRuntime) -> Result<(), Fail> {
-    for (text, line, beyond) in &BEYOND {
-        if !check(rt.alloc(), text)?.only_tells(6, line) {
-            return Err(Fail::new(*line));
-        }
-        let run = proved(rt.alloc(), text, PROOF, &opening("1"))?;
-        if !run.only_tells(6, beyond) {
-            return Err(Fail::new(*beyond));
-        }
-    }
-    Ok(())
-}
-
-/// A text that `check` and `verify` take, and the commands refuse that make or audit a proof.
-const WHOLE: &[u8] = b"state unit; query q(s: unit, x: int): int = if lt(x, 0) then 0 else x;";
-
-const COMMANDS: [&[&str]; 2] = [
-    &["prove", "p", "q", "q", "1", "1", "0", "o"],
-    &["audit", "p", "q", "q", "1", "1", "q"],
-];
-
-#[test]
-fn proofs_are_made_of_the_fragment(rt: HostRuntime) -> Result<(), Fail> {
-    assert!(rt; check(rt.alloc(), WHOLE)?.status == 0);
-    let words = ["verify", "p", "q", "s", "1", "1", "q"];
-    assert!(rt;
-        run_words(rt.alloc(), &staged(WHOLE, &[], HEADER), &words)?.only_tells(0, "done 1\n")
-    );
-    for (number, words) in COMMANDS.iter().enumerate() {
-        let run = run_words(rt.alloc(), &staged(WHOLE, &[], PROOF), words)?;
-        if !run.only_tells(6, "program refused: Expected 1 45\n") {
-            return Err(Fail::new(format_args!("row {number}")));
-        }
-    }
     Ok(())
 }

@@ -2,7 +2,7 @@
 use crate::programs::repeated;
 use cli_stage::runs::{Run, run_failing, run_words};
 use cli_stage::stage::staged;
-use program_texts::{BST, MERKLE};
+use program_texts::{BST, MERKLE, SWITCH};
 use std::alloc::{AllocError, Global};
 use std::test::Fail;
 
@@ -59,11 +59,8 @@ fn wrong_row(alloc: Global, program: &[u8], rows: &[Row]) -> Result<Option<usize
     Ok(None)
 }
 
-/// A state that is a bool, authenticated.
-const BOOL: &[u8] =
-    b"state auth bool; init make(x: bool): auth bool = auth(x); query both(s: auth bool, x: unit): (bool, bool) = (unauth(s), unauth(s)); update flip(s: auth bool, x: unit): (auth bool, bool) = let b = unauth(s) in (auth(not(b)), b); query over(s: auth bool, x: unit): int = let b = unauth(s) in add(9223372036854775807, 1);";
-
-const BOOL_ROWS: [Row; 5] = [
+/// A bool, authenticated.
+const SWITCH_ROWS: [Row; 5] = [
     (
         Calls::Init,
         ["make", "true", "1"],
@@ -175,7 +172,7 @@ const DIVIDING_ROWS: [Row; 7] = [
 #[test]
 fn calls_of_roles_are_told(rt: HostRuntime) -> Result<(), Fail> {
     let tables: [(&str, &[u8], &[Row]); 5] = [
-        ("bool", BOOL, &BOOL_ROWS),
+        ("switch", SWITCH, &SWITCH_ROWS),
         ("tree", BST, &TREE_ROWS),
         ("list", MERKLE, &LIST_ROWS),
         ("long list", MERKLE, &LONG_ROWS),
@@ -190,7 +187,7 @@ fn calls_of_roles_are_told(rt: HostRuntime) -> Result<(), Fail> {
 }
 
 /// The image of the state of `true`: the bool, and what is authenticated of it.
-const BOOL_IMAGE: &[u8] =
+const SWITCH_IMAGE: &[u8] =
     b"LAI1J\xd2!\x82\x9f\xe5m\xdf3V\xf1r2[\xb4\xd2\x9fd\xe1C\xd4\x8dp\xaf-\x0eA\xd0-\xa3\xffZ\0\0\0\x02\x01\x01\x06\0\0\0\0";
 
 /// The image of a list of two ints 5: the length, the int, a tip and what is authenticated of it, which is both halves of the fork, what
@@ -201,10 +198,10 @@ const LIST_IMAGE: &[u8] =
 /// Programs, a call of `make`, and the line and the image that `init` tells and stores.
 const MADE: [(&[u8], [&str; 3], &str, &[u8]); 2] = [
     (
-        BOOL,
+        SWITCH,
         ["make", "true", "1"],
         "done #4bf5122f344554c53bde2ebb8cd2b7e3d1600ad631c385a5d7cce23c7785459a\n",
-        BOOL_IMAGE,
+        SWITCH_IMAGE,
     ),
     (
         MERKLE,

@@ -2,7 +2,7 @@
 use crate::programs::repeated;
 use cli_stage::runs::{kept, made, run_failing, run_words};
 use cli_stage::stage::{STATE, staged};
-use program_texts::{BST, FIRST};
+use program_texts::{BST, FIRST, TWO};
 use std::alloc::{AllocError, Global};
 use std::test::Fail;
 
@@ -71,7 +71,7 @@ fn an_init_is_refused_or_out_of_fuel(rt: HostRuntime) -> Result<(), Fail> {
 fn an_init_stores_the_image_of_its_state(rt: HostRuntime) -> Result<(), Fail> {
     let alloc = rt.alloc();
     let line = "done #e3b0c44298fc1c149afbf4c8996fb92427ae41e4649b934ca495991b7852b855\n";
-    assert!(rt; made(alloc, FIRST, "()")?.stores(0, line, FIRST_IMAGE));
+    assert!(rt; made(alloc, FIRST, "make", "()")?.stores(0, line, FIRST_IMAGE));
     let words = ["init", "p", "make", "()", "1", "o"];
     let run = run_failing(alloc, &staged(FIRST, b"", b""), &words, &[3], (100, &[]))?;
     assert!(rt; run.tells(9, ""));
@@ -83,11 +83,7 @@ fn an_init_stores_the_image_of_its_state(rt: HostRuntime) -> Result<(), Fail> {
 const BST_IMAGE: &[u8] =
     b"LAI1\xe9v}\x8b;R\x93\x0f\x1b\xa4\xec6\xbf\xdf\xcb\x92,\x8f`\x81R#\xf5\x12\xad[R\xeb\xe8\xbdk\xf7\0\0\0\x06\x02\0\0\0\0\0\0\0\x05\x02\0\0\0\0\0\0\0\x07\x05\0\0\0\x06\0\0\0\x02\x05\0\0\x01\0\0\0\0\0\0\0\x01\0\0\0\x03\0\0\0\x03\x06\0\0\0\x04";
 
-/// A program whose state is a pair of digests.
-const TWO: &[u8] =
-    b"state (auth bool, auth bool); init make(x: (bool, bool)): (auth bool, auth bool) = (auth(fst(x)), auth(snd(x))); query three(s: (auth bool, auth bool), x: unit): (bool, (bool, bool)) = (unauth(fst(s)), (unauth(snd(s)), unauth(fst(s))));";
-
-/// The image of (true, true): the bool, what is authenticated of it, and the pair.
+/// The image of `TWO` at (true, true): the bool, what is authenticated of it, and the pair.
 const TWO_IMAGE: &[u8] =
     b"LAI1c\xc9\x0bs\x7f\x14h\xbf\xea\x96^%\x10;d=\xe62\x8b\xcc\x99#\xe9\x1a\xab\xa4x\xe9\xf1/BW\0\0\0\x03\x01\x01\x06\0\0\0\0\x04\0\0\0\x01\0\0\0\x01";
 

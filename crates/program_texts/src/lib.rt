@@ -1,4 +1,4 @@
-//! The texts of programs that more than one crate of tests reads. Each is the file of `examples/` that is named beside it.
+//! The texts of programs that more than one crate of tests reads. Where a file of `examples/` is named beside one, it has this text.
 #![tactic(auto)]
 
 /// Authenticates a unit and opens it: `first/a.lam`.
@@ -90,3 +90,11 @@ query entry(s: (int, auth peaks), i: int): found = if lt(i, 0) then Missing
 update append(s: (int, auth peaks), e: text): ((int, auth peaks), int) =
   ((add(fst(s), 1), push(1, auth(Entry(e)), snd(s))), fst(s));
 ";
+
+/// Opens a bool, turns it around, and traps.
+pub const SWITCH: &[u8] =
+    b"state auth bool; init make(x: bool): auth bool = auth(x); query both(s: auth bool, x: unit): (bool, bool) = (unauth(s), unauth(s)); update flip(s: auth bool, x: unit): (auth bool, bool) = let b = unauth(s) in (auth(not(b)), b); query over(s: auth bool, x: unit): int = let b = unauth(s) in add(9223372036854775807, 1);";
+
+/// Opens the first of two bools, the second and the first again.
+pub const TWO: &[u8] =
+    b"state (auth bool, auth bool); init make(x: (bool, bool)): (auth bool, auth bool) = (auth(fst(x)), auth(snd(x))); query three(s: (auth bool, auth bool), x: unit): (bool, (bool, bool)) = (unauth(fst(s)), (unauth(snd(s)), unauth(fst(s))));";

@@ -44,7 +44,7 @@ fn roles_and_numbers_are_refused(rt: HostRuntime) -> Result<(), Fail> {
     Ok(())
 }
 
-/// At each type of the fragment: bytes that are no spelling, with the place of their first fault.
+/// Types and bytes that are no spelling, with the place of their first fault.
 const STATES: [(&str, &[u8], &str); 18] = [
     ("unit", b"\0", "input refused: state 0\n"),
     ("bool", b"", "input refused: state 0\n"),

@@ -2,13 +2,15 @@
 #![tactic(auto)]
 
 #[cfg(test)]
-mod audits;
+mod calls;
+#[cfg(test)]
+mod faults;
 #[cfg(test)]
 mod inputs;
 #[cfg(test)]
-mod proofs;
+mod refused;
 #[cfg(test)]
-mod trips;
+mod sides;
 #[cfg(test)]
 mod updates;
 #[cfg(test)]

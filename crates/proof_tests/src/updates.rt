@@ -1,11 +1,8 @@
-// What `verify` says of calls of the whole language: of updates, whose new state is stored, of named types, and of rings.
+// What `verify` stores of updates, and constructors that are told by their names.
 use cli_stage::runs::{Call, run_words, verified};
 use cli_stage::stage::{HEADER, staged};
+use program_texts::{LOG, SWITCH};
 use std::test::Fail;
-
-/// A state of a bool, with queries and an update.
-const SWITCH: &[u8] =
-    b"state auth bool; init make(x: bool): auth bool = auth(x); query both(s: auth bool, x: unit): (bool, bool) = (unauth(s), unauth(s)); update flip(s: auth bool, x: unit): (auth bool, bool) = let b = unauth(s) in (auth(not(b)), b); update over(s: auth bool, x: unit): (auth bool, int) = let b = unauth(s) in (auth(b), add(9223372036854775807, 1));";
 
 /// The digests of the bytes 0 and 1, which spell false and true.
 const NO: [u8; 32] = [
@@ -21,82 +18,41 @@ const YES: [u8; 32] = [
 /// The proof of one new piece, the byte 1.
 const ONE: &[u8] = b"LAP1\0\0\0\0\0\0\x01\x01";
 
-const FLIPPED: &str =
-    "done (#6e340b9cffb37a989ca544e6bb780a2c78901d3fb33738768511a30617afa01d, true)\n";
-
 #[test]
 fn the_new_state_is_stored_where_it_is_named(rt: HostRuntime) -> Result<(), Fail> {
     let stage = staged(SWITCH, &YES, ONE);
+    let line = "done (#6e340b9cffb37a989ca544e6bb780a2c78901d3fb33738768511a30617afa01d, true)\n";
     let alone = ["verify", "p", "flip", "s", "()", "1", "q"];
-    assert!(rt; run_words(rt.alloc(), &stage, &alone)?.only_tells(0, FLIPPED));
+    assert!(rt; run_words(rt.alloc(), &stage, &alone)?.only_tells(0, line));
     let named = ["verify", "p", "flip", "s", "()", "1", "q", "o"];
-    assert!(rt; run_words(rt.alloc(), &stage, &named)?.stores(0, FLIPPED, &NO));
+    assert!(rt; run_words(rt.alloc(), &stage, &named)?.stores(0, line, &NO));
     Ok(())
 }
 
 /// Roles that are called with a name for the new state, the fuel and the proof, where no state is stored: the status and the line.
-const UNSTORED: [(&str, &str, &[u8], u8, &str); 6] = [
+const UNSTORED: [(&str, &str, &[u8], u8, &str); 5] = [
     ("both", "1", ONE, 7, "input refused: role kind\n"),
     ("make", "1", ONE, 7, "input refused: role kind\n"),
-    ("over", "1", ONE, 3, "trap overflow\n"),
     ("flip", "0", HEADER, 4, "out of fuel\n"),
     ("flip", "1", HEADER, 5, "rejected short 0\n"),
     ("flip", "1", b"LAP1", 5, "rejected header\n"),
 ];
 
+/// A log of as many entries as there may be.
+const FULL: &[u8] = b"\x7f\xff\xff\xff\xff\xff\xff\xff********************************";
+
 #[test]
 fn no_state_is_stored_where_none_is_made(rt: HostRuntime) -> Result<(), Fail> {
     for (role, fuel, proof, status, line) in &UNSTORED {
         let words = ["verify", "p", role, "s", "()", fuel, "q", "o"];
-        if !run_words(rt.alloc(), &staged(SWITCH, &YES, proof), &words)?.only_tells(*status, line) {
+        let run = run_words(rt.alloc(), &staged(SWITCH, &YES, proof), &words)?;
+        if !run.only_tells(*status, line) {
             return Err(Fail::new(format_args!("{role} {line}")));
         }
     }
-    Ok(())
-}
-
-/// A state of two bools, and a query that opens the first, the second and the first again.
-const TWO: &[u8] =
-    b"state (auth bool, auth bool); query three(s: (auth bool, auth bool), x: unit): (bool, (bool, bool)) = (unauth(fst(s)), (unauth(snd(s)), unauth(fst(s))));";
-
-/// Proofs where as many pieces are kept as their headers say, with the status and the line.
-const RINGS: [(&[u8], u8, &str); 4] = [
-    (
-        b"LAP1\0\x02\0\0\0\0\x01\x01\0\0\0\0\x01\0\x01\0\x01",
-        0,
-        "done (true, (false, true))\n",
-    ),
-    (
-        b"LAP1\0\x01\0\0\0\0\x01\x01\0\0\0\0\x01\0\0\0\0\0\x01\x01",
-        0,
-        "done (true, (false, true))\n",
-    ),
-    (
-        b"LAP1\0\x01\0\0\0\0\x01\x01\0\0\0\0\x01\0\x01\0\x01",
-        5,
-        "rejected bad-use 2 1 1\n",
-    ),
-    (
-        b"LAP1\0\x02\0\0\0\0\x01\x01\0\0\0\0\x01\0\x01\0\x02",
-        5,
-        "rejected bad-use 2 2 2\n",
-    ),
-];
-
-#[test]
-fn pieces_are_named_again_in_a_ring(rt: HostRuntime) -> Result<(), Fail> {
-    let mut state = Vec::from_slice(rt.alloc(), &YES)?;
-    state.extend_from_slice(&NO)?;
-    let call = Call {
-        role: "three",
-        argument: "()",
-        fuel: "1",
-    };
-    for (proof, status, line) in &RINGS {
-        if !verified(rt.alloc(), TWO, &state, proof, &call)?.only_tells(*status, line) {
-            return Err(Fail::new(*line));
-        }
-    }
+    let words = ["verify", "p", "append", "s", "\"\"", "1", "q", "o"];
+    let run = run_words(rt.alloc(), &staged(LOG, FULL, HEADER), &words)?;
+    assert!(rt; run.only_tells(3, "trap overflow\n"));
     Ok(())
 }
 

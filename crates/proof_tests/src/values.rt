@@ -1,7 +1,6 @@
-// Values: read from a state or an argument, computed, digested and printed.
+// Values: read from a state, an argument or a piece, and printed.
 use cli_stage::runs::{Call, opening, verified};
 use cli_stage::stage::HEADER;
-use program_texts::SUM;
 use std::alloc::{AllocError, Global};
 use std::test::Fail;
 
@@ -94,39 +93,9 @@ const LITERALS: [(&str, &str, &str); 11] = [
     ("text", "\t\"# no comment\"\r\n", "done \"# no comment\"\n"),
 ];
 
-/// Literals at their types, and the digests that `sha256sum` prints of their spellings.
-const DIGESTS: [(&str, &str, &str); 3] = [
-    (
-        "int",
-        "5",
-        "done #5dee4dd60ff8d0ba9900fe91e90e0dcf65f0570d42c431f727d0300dd70dc431\n",
-    ),
-    (
-        "bool",
-        "true",
-        "done #4bf5122f344554c53bde2ebb8cd2b7e3d1600ad631c385a5d7cce23c7785459a\n",
-    ),
-    (
-        "text",
-        "\"a\u{e9}\"",
-        "done #6fbb40b16b18dcf954951d0e5e96b071c8999b096cc3835cc6d6ee3466dc0a4b\n",
-    ),
-];
-
 /// Whether this line is told of a query that gives its argument, at a literal of a type.
 fn is_given(alloc: Global, ty: &str, literal: &str, line: &str) -> Result<bool, AllocError> {
     let text = format!(in alloc; "state unit; query q(s: unit, x: {ty}): {ty} = x;")?;
-    is_told(alloc, &text, literal, line)
-}
-
-/// Whether it is told of a query that authenticates its argument.
-fn is_digested(alloc: Global, ty: &str, literal: &str, line: &str) -> Result<bool, AllocError> {
-    let text = format!(in alloc; "state unit; query q(s: unit, x: {ty}): auth {ty} = auth(x);")?;
-    is_told(alloc, &text, literal, line)
-}
-
-/// Whether it is told of the query of a program.
-fn is_told(alloc: Global, text: &str, literal: &str, line: &str) -> Result<bool, AllocError> {
     let call = Call {
         role: "q",
         argument: literal,
@@ -139,16 +108,6 @@ fn is_told(alloc: Global, text: &str, literal: &str, line: &str) -> Result<bool,
 fn arguments_are_printed(rt: HostRuntime) -> Result<(), Fail> {
     for (ty, literal, line) in &LITERALS {
         if !is_given(rt.alloc(), ty, literal, line)? {
-            return Err(Fail::new(format_args!("{ty} {literal}")));
-        }
-    }
-    Ok(())
-}
-
-#[test]
-fn values_are_digested_by_their_spelling(rt: HostRuntime) -> Result<(), Fail> {
-    for (ty, literal, line) in &DIGESTS {
-        if !is_digested(rt.alloc(), ty, literal, line)? {
             return Err(Fail::new(format_args!("{ty} {literal}")));
         }
     }
@@ -186,74 +145,6 @@ fn pieces_are_read_at_their_type(rt: HostRuntime) -> Result<(), Fail> {
     for (ty, status, line) in &PIECES {
         if !is_opened(rt.alloc(), ty, *status, line)? {
             return Err(Fail::new(format_args!("{ty} {line}")));
-        }
-    }
-    Ok(())
-}
-
-/// States and arguments, with the status and the line of their sum.
-const SUMS: [([u8; 8], &str, u8, &str); 6] = [
-    ([0, 0, 0, 0, 0, 0, 0, 5], "3", 0, "done 8\n"),
-    (
-        [0, 0, 0, 0, 0, 0, 0, 1],
-        "9223372036854775807",
-        3,
-        "trap overflow\n",
-    ),
-    ([0xff; 8], "1", 0, "done 0\n"),
-    ([0xff; 8], " -9223372036854775808", 3, "trap overflow\n"),
-    (
-        [0x80, 0, 0, 0, 0, 0, 0, 0],
-        "9223372036854775807",
-        0,
-        "done -1\n",
-    ),
-    (
-        [0x7f, 0xff, 0xff, 0xff, 0xff, 0xff, 0xff, 0xff],
-        "0",
-        0,
-        "done 9223372036854775807\n",
-    ),
-];
-
-#[test]
-fn sums_are_exact_or_trap(rt: HostRuntime) -> Result<(), Fail> {
-    for (state, argument, status, line) in &SUMS {
-        let call = Call {
-            role: "more",
-            argument,
-            fuel: "1",
-        };
-        if !verified(rt.alloc(), SUM, state, HEADER, &call)?.only_tells(*status, line) {
-            return Err(Fail::new(*line));
-        }
-    }
-    Ok(())
-}
-
-/// A program that traps before it opens its state, and behind it.
-const TRAPS: &[u8] =
-    b"state auth int; query open(s: auth int, x: unit): int = add(add(9223372036854775807, 1), unauth(s)); query late(s: auth int, x: unit): int = add(unauth(s), add(9223372036854775807, 1));";
-
-/// The role and the proof, with the status and the line. A trap ends the run like an outcome: bytes left behind it are refused, and the first
-/// trap or rejection from the left ends it.
-const TRAPPED: [(&str, &[u8], u8, &str); 4] = [
-    ("open", HEADER, 3, "trap overflow\n"),
-    ("open", b"LAP1\0\0\0", 5, "rejected leftover 1\n"),
-    ("late", HEADER, 5, "rejected short 0\n"),
-    ("late", b"LAP1\0\0\x02", 5, "rejected bad-kind 0 2\n"),
-];
-
-#[test]
-fn a_trap_is_judged_like_a_value(rt: HostRuntime) -> Result<(), Fail> {
-    for (role, proof, status, line) in &TRAPPED {
-        let call = Call {
-            role,
-            argument: "()",
-            fuel: "1",
-        };
-        if !verified(rt.alloc(), TRAPS, &[0; 32], proof, &call)?.only_tells(*status, line) {
-            return Err(Fail::new(format_args!("{role} {line}")));
         }
     }
     Ok(())
