@@ -1,5 +1,4 @@
-use Rattle.std.proofs.Common.{rules, ◌↔◌, Contains, IsSome, ◌≡◌, ℕ, ◌+◌, ◌<◌, ◌≤◌, length, Bool, true, false, List, [], ◌∷◌, slice_index_or}
-use Rattle.ads_library.specs.Names.{library_names}
+use Rattle.std.proofs.Common.{rules}
 use Rattle.ads_library.proofs.texts.source.Goals as goal
 
 -- src/texts.rt:6:1
