@@ -1,8 +1,8 @@
 -- What reading a program says of the program of its text. Where memory ran out nothing is said.
 use Rattle.std.specs.Prelude.{◌≡◌, Result, Ok, Err, ⊤}
-use Rattle.core_terms.specs.Programs as held
+use Rattle.core_terms.specs.Programs.{constructor_names, meaning}
 use Rattle.core_terms.specs.Terms as tree
-use Rattle.core_terms.specs.declared.program.Program.{Program as HeldProgram}
+use Rattle.core_terms.specs.declared.program.Program.{Program}
 use Rattle.lexemes.specs.Readings.{SyntaxFault}
 use Rattle.core_terms.specs.declared.fault.Fault.TheVariants as fault
 use Rattle.auth_types.specs.Outcomes.{TypeFault}
@@ -29,9 +29,9 @@ of_type_fault (fault.At kind at) = At (Typing kind) at.line at.column
 of_type_fault fault.NoMemory = NoMemory
 
 -- a program with the digest that it holds
-abbrev pub digested_of : HeldProgram → DigestedProgram
-digested_of p = record { program = held.meaning p; digest = p.text_digest.0 }
+abbrev pub digested_of : Program → DigestedProgram
+digested_of p = record { program = meaning p; digest = p.text_digest.0 }
 
 -- the same with the names of its constructors
-abbrev pub named_of : HeldProgram → NamedProgram
-named_of p = record { digested = digested_of p; names = held.constructor_names p.types.named.items }
+abbrev pub named_of : Program → NamedProgram
+named_of p = record { digested = digested_of p; names = constructor_names p.types.named.items }

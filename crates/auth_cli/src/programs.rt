@@ -2,7 +2,7 @@
 ghost use Rattle.std.specs.Prelude.{◌≡◌, ◌≤◌, length, IfOk};
 ghost use Rattle.std.specs.Option.{ForSome};
 ghost use Rattle.sha2.specs.Sha256.{sha256};
-ghost use Rattle.core_terms.specs.Programs as held;
+ghost use Rattle.core_terms.specs.Programs.{constructor_names, meaning};
 ghost use Rattle.auth_cli.specs.Reaching.{FaultsAt};
 ghost use Rattle.auth_cli.specs.Answer.{with_program_file};
 ghost use Rattle.auth_cli.specs.Halting.{GoesOn, HaltCause};
@@ -74,9 +74,9 @@ const MAX_PROGRAM: usize = 262_144;
 #[tactic(auto, unfolding(crate::specs::TextPrograms::program_of_text))]
 pub fn read_program(alloc: Global, text: &[u8]) -> Result<Program, ProgramFault>
     requires { length text.now ≤ 262144 }
-    ensures answer { ReadsProgram held.meaning (program_of_text text.now) result }
+    ensures answer { ReadsProgram meaning (program_of_text text.now) result }
     ensures digest { IfOk result (λ p. p.text_digest.0 ≡ sha256 text.now) }
-    ensures names { IfOk result (λ p. held.constructor_names p.types.named.items ≡ constructor_names_of_text text.now) }
+    ensures names { IfOk result (λ p. constructor_names p.types.named.items ≡ constructor_names_of_text text.now) }
 {
     let ast = parse(alloc, text)?;
     Ok(check(alloc, ast, Sha::of(text))?)
