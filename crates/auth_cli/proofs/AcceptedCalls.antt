@@ -1,10 +1,10 @@
 -- The proof of a call that the words and the files name is accepted, by the headline's companion.
-use Rattle.std.proofs.Common.{◌≡◌, ℕ, ◌≤◌, ◌<◌, List, [], sym, ap, ◌∙◌, subst}
+use Rattle.std.proofs.Common.{◌≡◌, ℕ, ◌≤◌, List, sym, ap, ◌∙◌, subst}
 use Rattle.sha2.specs.Sha256.{sha256}
 use Rattle.sha2.proofs.Facts256.{length-sha256}
 use Rattle.lam_outside.specs.Told.{Contents}
 use Rattle.core_terms.specs.Spelling.{spelling}
-use Rattle.core_terms.specs.Terms.{Program, function_at}
+use Rattle.core_terms.specs.Terms.{function_at}
 use Rattle.core_terms.specs.Types.{Ty}
 use Rattle.core_terms.specs.Values.{Value}
 use Rattle.core_terms.specs.Projection.{digest_at, projection}
@@ -16,11 +16,10 @@ use Rattle.ideal_meaning.specs.Ideal.{ideal, outcome, outcome_projection}
 use Rattle.ideal_meaning.proofs.Companion.{companion}
 use Rattle.printed_syntax.specs.LiteralLaws.{IsLiteralValue}
 use Rattle.printed_syntax.proofs.LiteralsReadBack.{literals_are_read_back}
-use Rattle.auth_cli.specs.Answer.{image_read, state_projection}
+use Rattle.auth_cli.specs.Answer.{image_read, role_verdict, state_projection}
 use Rattle.auth_cli.specs.IdealCalls.{IdealCall, call_pieces, call_proof, called_program, projected_outcome}
 use Rattle.auth_cli.specs.NamedCalls.{NamesInputs, NamesRole}
 use Rattle.auth_cli.specs.ProvedCalls.{IsAcceptedCall}
-use Rattle.auth_cli.specs.Answer.{role_verdict}
 use Rattle.auth_cli.specs.RoleCalls.{named_literal, outcome_called, type_passed}
 use Rattle.auth_cli.specs.declared.roles.Callee.TheVariants.{OfState}
 use Rattle.auth_cli.proofs.ImageRoots.{IsKept, root_is_kept}

@@ -159,8 +159,16 @@ module _ (a : Answer) (tells : TellsAnAudit (code a.status)) where
         number.0,
         out,
         record {
-          program_name = program; role_name = role; image_name = image; argument_text = argument; fuel_text = fuel; kept_text = kept;
-          words = refl; role = role_is.1; kept = number.1; inputs = inputs.2;
+          program_name = program;
+          role_name = role;
+          image_name = image;
+          argument_text = argument;
+          fuel_text = fuel;
+          kept_text = kept;
+          words = refl;
+          role = role_is.1;
+          kept = number.1;
+          inputs = inputs.2;
         },
         inputs.3,
       )
@@ -189,8 +197,16 @@ module _ (a : Answer) (tells : TellsAnAudit (code a.status)) where
         call,
         read.0,
         record {
-          program_name = program; role_name = role; image_name = image; argument_text = argument; fuel_text = fuel; proof_name = proof;
-          words = refl; role = role_is.1; inputs = inputs.2; proof_file = read.1;
+          program_name = program;
+          role_name = role;
+          image_name = image;
+          argument_text = argument;
+          fuel_text = fuel;
+          proof_name = proof;
+          words = refl;
+          role = role_is.1;
+          inputs = inputs.2;
+          proof_file = read.1;
         },
         read.2,
       )

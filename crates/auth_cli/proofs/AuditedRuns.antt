@@ -13,7 +13,7 @@ use Rattle.collision_audit.specs.Splits.{Split, offered_in}
 use Rattle.collision_audit.proofs.FirstSplits.{split_is_found}
 use Rattle.auth_cli.specs.Answer.{agreeing, audit_told, call_audit_answer, shallow_told}
 use Rattle.auth_cli.specs.AuditedCalls.{AgreesOnOutcome, AuditSays, SplitsAt}
-use Rattle.auth_cli.specs.IdealCalls.{IdealCall, call_audit, called_program, projected_outcome, values_called}
+use Rattle.auth_cli.specs.IdealCalls.{IdealCall, call_audit, called_program, values_called}
 use Rattle.auth_cli.specs.declared.status.Status.{Status}
 use Rattle.auth_cli.specs.declared.status.Status.TheVariants as status
 use Rattle.auth_cli.proofs.Ends.{one_line}

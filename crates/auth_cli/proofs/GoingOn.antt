@@ -14,7 +14,7 @@ use Rattle.auth_cli.specs.Answer.{Answer, call_audit_answer, command_answer, inp
 use Rattle.auth_cli.specs.Answer.{with_bytes, with_file, with_fuel, with_fueled_role, with_ideal_call, with_image, with_image_file, with_kept, with_program_file, with_text, with_literal, with_number, with_passed, with_program, with_role_at, with_root}
 use Rattle.auth_cli.specs.AuditedCalls.{CallsAudit}
 use Rattle.auth_cli.specs.FueledRoles.{DigestedProgram, FueledRole, NamedProgram}
-use Rattle.auth_cli.specs.IdealCalls.{IdealCall, called_program}
+use Rattle.auth_cli.specs.IdealCalls.{IdealCall}
 use Rattle.auth_cli.specs.NamedCalls.{KeepsProgram, KeepsState, NamesInputs, NamesRole}
 use Rattle.auth_cli.specs.ProvedCalls.{CallsProve}
 use Rattle.auth_cli.specs.RoleCalls.{is_called, kind_called, program_called}

@@ -1,6 +1,6 @@
 -- The state that an image keeps: an ideal value of the state's type, within the limits, and with it all that is authenticated in it.
-use Rattle.std.proofs.Common.{◌≡◌, ℕ, zero, suc, ◌+◌, ◌<◌, ◌≤◌, ◌-◌, ◌^◌, ◌==◌, Bool, true, false, not, List, [], ◌∷◌, ◌++◌, length, map, take, drop, Option, Some, None, option_map, slice_get, slice_index_or, unwrap_or, bytes_eq, if◌then◌else◌, cond, refl, sym, ap, ◌∙◌, subst, arith, lt-ltb}
-use Rattle.std.specs.Prelude.{ℤ, pos, negsuc, IsUtf8, nat_lt, nat_le}
+use Rattle.std.proofs.Common.{◌≡◌, ℕ, zero, suc, ◌+◌, ◌-◌, ◌^◌, ◌==◌, Bool, true, false, not, List, [], ◌∷◌, ◌++◌, length, take, drop, Option, Some, None, option_map, slice_get, slice_index_or, unwrap_or, bytes_eq, if◌then◌else◌, cond, refl, sym, subst, arith, lt-ltb}
+use Rattle.std.specs.Prelude.{pos, negsuc, IsUtf8, nat_lt, nat_le}
 use Rattle.std.specs.Int.{w16, w32, w64, cast_signed, from_be_bytes}
 use Rattle.std.specs.List.{All}
 use Rattle.std.specs.Option.{option_and_then}
@@ -11,13 +11,13 @@ use Rattle.std.proofs.lemmas.Option.{get_or_from_slice_get, slice_get_within}
 use Rattle.std.proofs.lemmas.Str.{IsUtf8-from_is_utf8}
 use Rattle.core_terms.specs.Formats.{depth_limit}
 use Rattle.core_terms.specs.Terms.{Program}
-use Rattle.core_terms.specs.Types.{Ty, UnitTy, BoolTy, IntTy, TextTy, PairTy, NamedTy, AuthTy, fields_at, OnFields}
+use Rattle.core_terms.specs.Types.{Ty, NamedTy, AuthTy, fields_at, OnFields}
 use Rattle.core_terms.specs.Typing.{same_type}
-use Rattle.core_terms.specs.Values.{Value, UnitV, BoolV, IntV, TextV, PairV, ConV, Values, NoV, AndV, IsIdeal, AreIdeal, IsWithin, AuthWithin, AuthWithinAll, size, depth, int_fits}
+use Rattle.core_terms.specs.Values.{Value, ConV, Values, AndV, IsIdeal, AreIdeal, IsWithin, AuthWithin, AuthWithinAll, size, depth, int_fits}
 use Rattle.core_terms.proofs.TypingSound.{same_sound}
 use Rattle.images.specs.Images.{Entry, entry, Loading, Loaded, FaultyImage, BadRecord, TooBig, TooDeep, Cut, Image, Root, Refused, Magic, OtherProgram, RootType, Leftover, as_image, checked_entry, field_count, fields_from, image_magic, image_of, last, load_records, pair_from, rooted, stands_for, with_record, within_limits}
 use Rattle.images.specs.Parts.{is_part}
-use Rattle.images.specs.Records.{Record, UnitRecord, BoolRecord, IntRecord, TextRecord, PairRecord, ConRecord, AuthRecord, RecordRead, ReadRecord, CutRecord, NoRecord, auth_record, bool_record, con_record, fields_record, fixed, int_record, number_of, numbers_of, pair_record, read_record, record_of, text_record}
+use Rattle.images.specs.Records.{Record, UnitRecord, BoolRecord, IntRecord, TextRecord, PairRecord, ConRecord, AuthRecord, RecordRead, ReadRecord, CutRecord, NoRecord, bool_record, con_record, fields_record, fixed, number_of, numbers_of, read_record, text_record}
 
 -- ---- values that are kept
 
@@ -173,9 +173,10 @@ module _ (P : Program) where
       where
         by : (vs : Option Values) → OnValues ts vs → OnFound (option_map (λ vs. entry (NamedTy number) (ConV tag vs)) vs)
         by None good = tt
-        by (Some vs) good =
-            (subst (λ o. OnFields o (λ ts. AreIdeal P.types ts vs)) (sym is) good.0,
-              subst (λ o. OnFields o (λ ts. AuthWithinAll P.format.limit P.types ts vs)) (sym is) good.1)
+        by (Some vs) good = (
+          subst (λ o. OnFields o (λ ts. AreIdeal P.types ts vs)) (sym is) good.0,
+          subst (λ o. OnFields o (λ ts. AuthWithinAll P.format.limit P.types ts vs)) (sym is) good.1,
+        )
 
     found : (r : Record) → IsRecord r → OnFound (stands_for P.types entries r)
     found UnitRecord good = (tt, tt)

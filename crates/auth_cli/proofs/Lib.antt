@@ -7,18 +7,18 @@ pub mod Ends  -- `check_command`, `ideal_command`, `audit_command`, `ended`
 pub mod EndsStored  -- `init_command`, `step_command`, `shallow_command`, `prove_command`, `verify_command`
 pub mod Known  -- `write_all`
 pub mod Numbers  -- `read_number`, `has_digits_alone`
-pub mod RolesByName  -- `query_named`
-pub mod RoleShapes  -- `role_named`, `call_role`, `run_init`, `run_on_state`, `state_made`
+pub mod RolesByName  -- `run`: clause `headline`
+pub mod RoleShapes  -- `role_named`, `read_ideal_call`, `run_call`, `make_proof`, `audit_call`, `state_made`
 pub mod PutArguments  -- `put_argument`
 pub mod StatesRead  -- `judge_state`, `read_passed`
 pub mod TextNames  -- `read_program`
 pub mod MarkedStates  -- `load_state`, `spell_state`, `value_line`, `role_output`
 pub mod StateOutputs  -- `spell_state`
-pub mod EndedRuns  -- `run_init`, `run_on_state`
+pub mod EndedRuns  -- `read_ideal_call`, `run_init`, `run_call`
 pub mod RoleReports  -- `value_line`, `role_report`, `state_made`
 pub mod StoredOutputs  -- `role_output`
 pub mod RoleSteps  -- `call_init`, `call_role` and the finders on them
-pub mod JudgedRoles  -- `find_judgement`, `judge_proof`, `outcome_output`, `shallow_report`, `new_state`
+pub mod JudgedRoles  -- `find_judgement`, `judge_proof`, `outcome_output`, `new_state`; `outcome_report`
 pub mod NewStates  -- `state_spelling`
 pub mod JudgedAudits  -- `audit_named`, `audit_started`
 pub mod HeldCalls  -- `make_proof`, `audit_call`
@@ -38,5 +38,5 @@ pub mod TrueLine  -- `run`: clause `headline`
 pub mod SoundTexts  -- the law `programs_are_sound`
 pub mod TextFormats  -- the law `programs_are_sound`
 pub mod OnProofs  -- `run`; the law `verdicts_are_on_proofs`
-pub mod NamedConstructors  -- the law `texts_of_the_whole_language`
+pub mod NamedConstructors  -- the law `constructors_are_named`
 pub mod ClientStates  -- the law `shallow_stores_the_clients_state`

@@ -1,5 +1,5 @@
 -- Roles of sound programs that read a state, and the headline of a call of one.
-use Rattle.std.proofs.Common.{◌≡◌, ℕ, ◌<◌, true, List, [], ◌∷◌, drop, length, Some, Option, None, slice_index_or, refl, sym, ap, subst, lit<}
+use Rattle.std.proofs.Common.{◌≡◌, ℕ, ◌<◌, true, List, [], drop, length, Some, Option, None, slice_index_or, refl, sym, ap, subst, lit<}
 use Rattle.sha2.specs.Sha256.{sha256}
 use Rattle.sha2.proofs.Facts256.{length-sha256}
 use Rattle.lam_outside.specs.Told.{Contents}

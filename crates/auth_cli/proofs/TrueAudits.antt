@@ -10,7 +10,7 @@ use Rattle.core_terms.specs.Types.{Ty}
 use Rattle.core_terms.specs.Values.{Value}
 use Rattle.ideal_meaning.specs.Checked.{Verdict, BadState, BadArgument, Rejected, Accepted, verdict}
 use Rattle.ideal_meaning.specs.Headline.{call_of}
-use Rattle.ideal_meaning.specs.Ideal.{Outcome, honest_pieces, ideal, outcome, outcome_projection}
+use Rattle.ideal_meaning.specs.Ideal.{honest_pieces, ideal, outcome, outcome_projection}
 use Rattle.collision_audit.specs.Audits.{Audit, Collides, IsOnProof, Judges, verdict_on_projections}
 use Rattle.collision_audit.specs.Splits.{offered_in, split_of}
 use Rattle.collision_audit.proofs.AuditHeadline.{agreement_is_true, collides, judges}

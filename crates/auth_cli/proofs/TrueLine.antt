@@ -13,7 +13,6 @@ use Rattle.core_terms.specs.Terms.{Program}
 use Rattle.core_terms.specs.Values.{Value}
 use Rattle.ideal_meaning.specs.Ideal.{Outcome}
 use Rattle.ideal_meaning.specs.Checked.{Verdict, BadState, BadArgument, Rejected, Accepted}
-use Rattle.printed_syntax.specs.Literals.{IsValue}
 use Rattle.auth_cli.specs.Answer.{Answer, RoleCall, accepted_answer, answer, answer_with, called_answer, callee_of, judged_answer, role_verdict, verdict_answer, verified_answer}
 use Rattle.auth_cli.specs.Arguments.{fuel_of}
 use Rattle.auth_cli.specs.Codes.{code}
@@ -21,7 +20,7 @@ use Rattle.auth_cli.specs.Ending.{Outside, EndsAs, IsToldAs}
 use Rattle.auth_cli.specs.FueledRoles.{FueledRole, NamedProgram}
 use Rattle.auth_cli.specs.NamedCalls.{NamesRole, named_program}
 use Rattle.auth_cli.specs.RoleCalls.{passed_literal, program_called}
-use Rattle.auth_cli.specs.TextPrograms.{TextProgram, IsProgram, program_of_text}
+use Rattle.auth_cli.specs.TextPrograms.{IsProgram, program_of_text}
 use Rattle.auth_cli.specs.TrueLines.{CallsVerify, IsTrueLine, TellsOutcome, words_of}
 use Rattle.auth_cli.specs.declared.roles.Callee.{Callee}
 use Rattle.auth_cli.specs.declared.status.Status.{Status}
@@ -94,10 +93,10 @@ module _ (line : List (List ℕ)) (files : Contents) (r : FueledRole) (state arg
       let proof_is : means.3 ≡ proof = let both = sym means.7 ∙ calls.proof_file in cc in (
         subst (λ (r : FueledRole). NamesRole (callee_of out) calls.program_name calls.role_name calls.fuel_text files r) same means.4,
         is ∙ sym means.8
-        ∙ ap (λ (r : FueledRole). Some (verified_answer out (record { role = r; state = means.1; argument = spelling means.2 }) means.3)) same
-        ∙ ap (λ (s : List ℕ). Some (verified_answer out (record { role = r; state = s; argument = spelling means.2 }) means.3)) state_is
-        ∙ ap (λ (x : Value). Some (verified_answer out (record { role = r; state = s; argument = spelling x }) means.3)) argument_is
-        ∙ ap (λ (bytes : List ℕ). Some (verified_answer out (record { role = r; state = s; argument = spelling x }) bytes)) proof_is,
+            ∙ ap (λ (r : FueledRole). Some (verified_answer out (record { role = r; state = means.1; argument = spelling means.2 }) means.3)) same
+            ∙ ap (λ (s : List ℕ). Some (verified_answer out (record { role = r; state = s; argument = spelling means.2 }) means.3)) state_is
+            ∙ ap (λ (x : Value). Some (verified_answer out (record { role = r; state = s; argument = spelling x }) means.3)) argument_is
+            ∙ ap (λ (bytes : List ℕ). Some (verified_answer out (record { role = r; state = s; argument = spelling x }) bytes)) proof_is,
       )
 
 -- a run that ends in this status has the headline
