@@ -1,6 +1,11 @@
 -- The reader of expressions, on tokens that only begin alike.
+<<<<<<< HEAD
 use Rattle.std.proofs.Common.{◌≡◌, ℕ, zero, suc, ◌≤◌, ◌⊎◌, inl, inr, Bool, true, false, List, [], ◌∷◌, ◌++◌, Option, Some, None, ℤ, refl, sym, ap, ap₂, subst, ◌∙◌, arith}
 use Rattle.core_terms.specs.declared.term.BinaryOperator.{BinaryOperator}
+=======
+use Rattle.std.proofs.Common.{◌≡◌, ℕ, zero, suc, ◌≤◌, ◌⊎◌, inl, inr, true, false, List, [], ◌∷◌, ◌++◌, Option, Some, None, ℤ, refl, sym, ap, ap₂, subst, ◌∙◌, arith}
+use Rattle.core_terms.specs.declared.term.BinaryOperator.{BinaryOperator}
+>>>>>>> f87ae5cfa8d1d617748230d39d8bf70daf8b90d7
 use Rattle.lexemes.specs.declared.place.Place.{Place}
 use Rattle.lexemes.specs.declared.fault.SyntaxKind.{SyntaxKind}
 use Rattle.lexemes.specs.declared.fault.SyntaxKind.TheVariants.{Expected}
@@ -10,16 +15,16 @@ use Rattle.lexemes.specs.declared.token.Mark.TheVariants.{LeftParenthesis, Right
 use Rattle.lexemes.specs.Tokens.{Token, KeywordToken, MarkToken, LowerToken, UpperToken, IntToken, TextToken, Tokens, Next, End, Faulty}
 use Rattle.auth_syntax.specs.Syntax.{UnaryOperation, ExpSyntax, UnitSyntax, BoolSyntax, IntSyntax, TextSyntax, LocalSyntax, UnarySyntax, BinarySyntax, ConstructorSyntax, LetSyntax, IfSyntax, MatchSyntax, NoExp, NoArmSyntax, AndArmSyntax}
 use Rattle.auth_syntax.specs.Grammar.{Written, standing, mark, word, lower, expression_tokens, arms_tokens, IsExpression}
-use Rattle.lexemes.specs.Readings.{Reading, Found, FaultAt, refused}
+use Rattle.lexemes.specs.Readings.{Reading, Found, FaultAt}
 use Rattle.auth_syntax.specs.Parsing.{unary_of, binary_of, operation_from, read_expression, begins_expression, operation_begins, word_begins}
 use Rattle.auth_syntax.specs.FirstFaults.{Placed, placed}
 use Rattle.auth_syntax.proofs.Readers.{IsClear, Row, Done, read_row, row_written, found_thing, found_left}
 use Rattle.auth_syntax.proofs.Expressions.{AreExpressionsRead, expressions_are, expressions_listed, row_tokens, row_parts, pair_row, unary_row, binary_row, call_row, constructor_row, let_row, if_row, match_row, pair_written, binary_written, let_written, if_written, match_written, match_parts, call_parts, unary_of-word, binary_of-word, IsNotClosing, parts_of}
-use Rattle.auth_syntax.proofs.Fronts.{SameHead, CanBegin, Taken, Blocked, Stuck, IsLocal, kind_is, place_is}
+use Rattle.auth_syntax.proofs.Fronts.{SameHead, CanBegin, Taken, Stuck, IsLocal}
 use Rattle.auth_syntax.proofs.FrontRows.{some_name}
 use Rattle.auth_syntax.proofs.Productions.{HasSome, IsRead, IsHeaded, read_taken, read_stuck, token_taken, token_stuck, token_refused, rest_refused}
 use Rattle.auth_syntax.proofs.Levels.{outer_taken, outer_stuck, zero_stuck}
-use Rattle.auth_syntax.proofs.FrontCommas.{list_local, optional_local, paren_or_clear, clear_same}
+use Rattle.auth_syntax.proofs.FrontCommas.{list_local, optional_local, clear_same}
 use Rattle.auth_syntax.proofs.FrontArms.{arms_local}
 use Rattle.auth_syntax.proofs.LevelSteps.{read_expression-none}
 

@@ -1,9 +1,9 @@
 -- The token at the head, which says what is read.
-use Rattle.std.proofs.Common.{◌≡◌, Bool, true, false, List, [], ◌∷◌, refl, sym, ap, subst, ◌∙◌}
+use Rattle.std.proofs.Common.{◌≡◌, List, [], ◌∷◌, refl, sym, ap, subst, ◌∙◌}
 use Rattle.lexemes.specs.declared.place.Place.{Place}
 use Rattle.lexemes.specs.Tokens.{Token, Tokens, Next}
 use Rattle.auth_syntax.specs.Grammar.{Written, standing}
-use Rattle.lexemes.specs.Readings.{Reading, Found}
+use Rattle.lexemes.specs.Readings.{Found}
 use Rattle.auth_syntax.proofs.Beginnings.{Begin, First, begin-none, begin-next}
 use Rattle.auth_syntax.proofs.Readers.{found_thing, found_left}
 

@@ -6,8 +6,8 @@ use Rattle.lexemes.specs.declared.token.Mark.TheVariants.{LeftParenthesis, Right
 use Rattle.lexemes.specs.declared.token.Keyword.TheVariants.{In as InWord, With as WithWord, Then as ThenWord, Else as ElseWord}
 use Rattle.core_terms.specs.declared.fault.Fault.TheVariants.{At, NoMemory}
 use Rattle.lexemes.specs.declared.fault.SyntaxKind.TheVariants.{Expected, Lexical, TooNested}
-use Rattle.lexemes.specs.Tokens.{MarkToken, Tokens, Next, End, Faulty, count}
-use Rattle.lexemes.specs.Readings.{SyntaxFault, Reading, Found, FaultAt, then_read, refused, read_mark, read_keyword}
+use Rattle.lexemes.specs.Tokens.{MarkToken, Tokens, Next, count}
+use Rattle.lexemes.specs.Readings.{SyntaxFault, Reading, Found, FaultAt, then_read, read_mark, read_keyword}
 use Rattle.lexemes.specs.Remaining.{Reads, Takes, read_if_mark}
 use Rattle.auth_syntax.specs.Syntax.{NameSyntax, UnaryOperation, ExpSyntax, UnitSyntax, PairSyntax, UnarySyntax, BinarySyntax, LetSyntax, IfSyntax, MatchSyntax}
 use Rattle.auth_syntax.specs.Parsing.{read_lower, read_upper, read_optional_list, read_expression, operation_from, read_unit_or_pair, read_let, read_if, read_match, read_arms}

@@ -1,5 +1,5 @@
 -- Parts of expressions as the code reads them: each with what has to stand behind it.
-use Rattle.std.specs.Prelude.{◌≡◌, ◌≢◌, ℕ, ⊤, Result, Ok, Err, Bool, true, false, Option, Some, None, List, Box}
+use Rattle.std.specs.Prelude.{◌≡◌, ◌≢◌, ℕ, ⊤, Result, Ok, Err, true, Option, Some, None, List, Box}
 use Rattle.std.specs.declared.alloc.Global.{Global}
 use Rattle.core_terms.specs.declared.term.BinaryOperator.{BinaryOperator}
 use Rattle.lexemes.specs.declared.place.Place.{Place}
@@ -8,7 +8,7 @@ use Rattle.lexemes.specs.declared.fault.SyntaxKind.TheVariants.{Expected}
 use Rattle.core_terms.specs.Texts.{bytes_of}
 use Rattle.core_terms.specs.declared.fault.Fault.TheVariants.{At, NoMemory}
 use Rattle.lexemes.specs.Tokens.{Token, KeywordToken, MarkToken, LowerToken, UpperToken, IntToken, TextToken, Tokens, Next}
-use Rattle.lexemes.specs.Readings.{SyntaxFault, Reading, Found, FaultAt, then_read, refused, read_mark, read_keyword}
+use Rattle.lexemes.specs.Readings.{SyntaxFault, Reading, Found, FaultAt, then_read, read_mark, read_keyword}
 use Rattle.auth_syntax.specs.Syntax.{NameSyntax, UnaryOperation, ExpSyntax}
 use Rattle.auth_syntax.specs.Parsing.{begins_expression, read_expression, read_lower, read_upper, read_optional_list}
 use Rattle.auth_syntax.specs.Trees.{name_of, names_of, unary_of, boxed_of}

@@ -1,5 +1,5 @@
 -- What is read as a literal of a type, by the rules on the tokens: a value exactly where its literal stands there, a fault exactly where it is broken.
-use Rattle.std.proofs.Common.{◌≡◌, ℕ, zero, suc, ◌<◌, ◌≤◌, Bool, true, false, List, [], ◌∷◌, Option, Some, None, option_map, slice_get, bytes_eq, ◌⊎◌, inl, inr, refl, sym, ap, ◌∙◌, subst, if◌then◌else◌, arith}
+use Rattle.std.proofs.Common.{◌≡◌, ℕ, zero, suc, ◌<◌, Bool, true, false, List, [], ◌∷◌, Option, Some, None, option_map, slice_get, bytes_eq, inl, inr, refl, sym, ap, ◌∙◌, subst, if◌then◌else◌, arith}
 use Rattle.std.specs.Prelude.{nat_le}
 use Rattle.std.specs.Bool.{Decides}
 use Rattle.std.proofs.lemmas.Slice.Eq.{bytes_eq-Decides}
@@ -7,15 +7,13 @@ use Rattle.std.proofs.lemmas.Bool.{leb-true, leb-false, le-leb, lt-leb}
 use Rattle.core_terms.specs.Types.{Ty, UnitTy, BoolTy, IntTy, TextTy, PairTy, NamedTy, AuthTy, Table, fields_at}
 use Rattle.core_terms.specs.Formats.{depth_limit}
 use Rattle.core_terms.specs.Values.{Value, UnitV, BoolV, IntV, TextV, PairV, ConV, DigestV, Values, NoV, AndV, size}
-use Rattle.core_terms.specs.Terms.{Program}
-use Rattle.auth_syntax.specs.Grammar.{bool_word}
-use Rattle.lexemes.specs.Tokens.{KeywordToken, MarkToken, UpperToken, IntToken, TextToken, Tokens, Next, End, Faulty, tokens}
+use Rattle.lexemes.specs.Tokens.{KeywordToken, UpperToken, IntToken, TextToken, Tokens, Next, End, Faulty, tokens}
 use Rattle.lexemes.specs.declared.place.Place.{Place}
 use Rattle.lexemes.specs.declared.token.Keyword.{Keyword}
 use Rattle.lexemes.specs.declared.token.Keyword.TheVariants.{True as TrueWord, False as FalseWord}
-use Rattle.printed_syntax.specs.Literals.{ConstructorNames, LiteralReading, Means, FaultAt, then_means, mismatch, too_deep, unit_literal, bool_literal, int_literal, text_literal, pair_literal, fields_literal, number_of_name, constructor_with, constructor_named, constructor_literal, literal_of, Literal, IsValue, FirstFault, at_end, value_within, whole_literal, literal_in}
+use Rattle.printed_syntax.specs.Literals.{ConstructorNames, LiteralReading, Means, FaultAt, then_means, mismatch, too_deep, unit_literal, bool_literal, int_literal, text_literal, pair_literal, number_of_name, constructor_with, constructor_named, constructor_literal, literal_of, Literal, IsValue, FirstFault, at_end, value_within, whole_literal}
 use Rattle.printed_syntax.specs.LiteralLaws.{LiteralsAreByTheirTokens}
-use Rattle.printed_syntax.specs.LiteralRules.{IsTokenAt, IsUnfit, IsTooDeep, unit_parts, pair_parts, field_parts, ArePartsAt, OnePartBreaks, IsFirstName, IsConstructorAt, IsLiteral, BreaksLiteral, IsWholeLiteral, BreaksWholeLiteral}
+use Rattle.printed_syntax.specs.LiteralRules.{IsUnfit, IsTooDeep, unit_parts, pair_parts, field_parts, ArePartsAt, OnePartBreaks, IsFirstName, IsConstructorAt, IsLiteral, BreaksLiteral, IsWholeLiteral, BreaksWholeLiteral}
 use Rattle.printed_syntax.specs.declared.fault.LiteralKind.{LiteralKind}
 use Rattle.printed_syntax.specs.declared.fault.LiteralKind.TheVariants.{Mismatch, TooBig}
 use Rattle.printed_syntax.proofs.RuledReadings.{Judges, Ruled, judges_then, judges_more, then_value, then_fault, IsNone, head_ruled, row, fields, Makes, row_ruled}

@@ -1,5 +1,5 @@
 -- Whether a tree is well-formed hangs on no place in it.
-use Rattle.std.proofs.Common.{◌≡◌, ℕ, suc, max, ◌≤◌, true, List, [], ◌∷◌, map, refl, sym, ap, ap₂, subst}
+use Rattle.std.proofs.Common.{◌≡◌, ℕ, suc, max, ◌≤◌, List, [], ◌∷◌, map, refl, sym, ap, ap₂, subst}
 use Rattle.auth_syntax.specs.Syntax.{TypeSyntax, AuthTypeSyntax, PairTypeSyntax, ExpSyntax, PairSyntax, UnarySyntax, BinarySyntax, CallSyntax, ConstructorSyntax, LetSyntax, IfSyntax, MatchSyntax, ExpsSyntax, NoExp, AndExp, ArmsSyntax, NoArmSyntax, AndArmSyntax, ParameterSyntax, FunctionSyntax, ConstructorDeclaration, DeclarationSyntax, TypeDeclaration, StateDeclaration, FunctionDeclaration}
 use Rattle.auth_syntax.specs.Grammar.{type_levels, expression_levels, expressions_levels, arms_levels, HasParts, HaveParts, ArmsHaveParts, IsSome, IsType, IsExpression, AreTypes, AreParameters, AreConstructors, IsFunction, IsDeclaration, AreDeclarations}
 use Rattle.printed_syntax.specs.WithoutPlaces.{type_without_places, expression_without_places, expressions_without_places, arms_without_places, parameter_without_places, function_without_places, constructor_without_places, declaration_without_places}

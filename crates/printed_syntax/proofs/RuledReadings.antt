@@ -1,5 +1,5 @@
 -- A reading of literals that gives a value exactly where a rule holds, and tells a fault exactly where another one does: step by step.
-use Rattle.std.proofs.Common.{◌≡◌, ℕ, Bool, true, false, List, [], ◌∷◌, ◌⊎◌, inl, inr, refl, sym, ap, ◌∙◌, subst, if◌then◌else◌}
+use Rattle.std.proofs.Common.{◌≡◌, ℕ, Bool, true, false, List, [], ◌∷◌, inl, inr, refl, sym, ap, ◌∙◌, subst, if◌then◌else◌}
 use Rattle.core_terms.specs.Types.{Ty}
 use Rattle.core_terms.specs.Values.{Value, Values, NoV, AndV}
 use Rattle.lexemes.specs.Readings.{is_mark}
@@ -8,8 +8,8 @@ use Rattle.lexemes.specs.declared.place.Place.{Place}
 use Rattle.lexemes.specs.declared.token.Mark.{Mark}
 use Rattle.lexemes.specs.declared.token.Mark.TheVariants.{RightParenthesis, Comma, LeftParenthesis}
 use Rattle.lexemes.proofs.Signs.{is_mark-true, is_mark-same}
-use Rattle.printed_syntax.specs.Literals.{LiteralReading, Means, FaultAt, then_means, mismatch, behind_mark, more_fields, fields_literal}
-use Rattle.printed_syntax.specs.LiteralRules.{IsTokenAt, IsUnfit, Part, TheMark, ValueOf, later_field_parts, field_parts, ArePartsAt, IsPartAt, BreaksPart, OnePartBreaks}
+use Rattle.printed_syntax.specs.Literals.{LiteralReading, Means, FaultAt, then_means, behind_mark, more_fields, fields_literal}
+use Rattle.printed_syntax.specs.LiteralRules.{IsTokenAt, IsUnfit, Part, TheMark, ValueOf, later_field_parts, field_parts, ArePartsAt, OnePartBreaks}
 use Rattle.printed_syntax.specs.declared.fault.LiteralKind.{LiteralKind}
 use Rattle.printed_syntax.specs.declared.fault.LiteralKind.TheVariants.{Mismatch}
 

@@ -1,4 +1,4 @@
-use Rattle.std.proofs.Common.{◌≡◌, ◌∙◌, true, false, ap, subst, sym}
+use Rattle.std.proofs.Common.{◌≡◌, ◌∙◌, false, ap, subst, sym}
 use Rattle.lexemes.specs.TokenViews.{token_view}
 use Rattle.lexemes.specs.Tokens.{Next}
 use Rattle.lexemes.specs.Readings.{Reading}
