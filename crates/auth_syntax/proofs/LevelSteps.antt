@@ -1,11 +1,6 @@
 -- What is read on a level, by the token at the head: where it begins nothing, where no level is left, and where one is.
-<<<<<<< HEAD
-use Rattle.std.proofs.Common.{◌≡◌, ◌≢◌, ℕ, zero, suc, ◌-◌, Bool, true, false, Option, Some, None, cond, arith, refl, ap, ◌∙◌}
-use Rattle.core_terms.specs.declared.term.BinaryOperator.{BinaryOperator}
-=======
 use Rattle.std.proofs.Common.{◌≡◌, ◌≢◌, ℕ, zero, suc, ◌-◌, true, false, Option, Some, None, cond, arith, refl, ap}
 use Rattle.core_terms.specs.declared.term.BinaryOperator.{BinaryOperator}
->>>>>>> f87ae5cfa8d1d617748230d39d8bf70daf8b90d7
 use Rattle.lexemes.specs.declared.place.Place.{Place}
 use Rattle.lexemes.specs.declared.fault.SyntaxKind.TheVariants.{Expected, TooNested}
 use Rattle.lexemes.specs.declared.token.Keyword.{Keyword}
