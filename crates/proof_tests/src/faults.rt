@@ -88,7 +88,7 @@ type Writing = (
 const WRITINGS: [Writing; 4] = [
     (
         &PROVE,
-        100,
+        79,
         &[1],
         9,
         "done (#6e340b9cffb37a989ca544e6bb780a2c78901d3fb33738768511a30617afa01d, true)\n",
