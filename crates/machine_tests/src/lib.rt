@@ -1,5 +1,5 @@
 //! Tests of the machine: what each operation gives at its borders, the limits of values, choices, fuel in one run and in slices, deep
-//! recursion, and the instructions that are generated.
+//! recursion, and the instructions that are generated; and tests of the library on it.
 #![tactic(auto)]
 
 #[cfg(test)]
@@ -8,6 +8,10 @@ mod choices;
 mod emitted;
 #[cfg(test)]
 mod fuel;
+#[cfg(test)]
+mod generator;
+#[cfg(test)]
+mod library;
 #[cfg(test)]
 mod limits;
 #[cfg(test)]
