@@ -32,7 +32,8 @@ pub record IsMeant (call : IdealCall) : Type 0 where
   pub state : IsKept (called_program call) (called_program call).state call.state
   pub argument : IsLiteralValue (called_program call) (argument_type (called_program call) call.role.role) call.argument
 
-pub call_is_meant : (program role image argument fuel : List ℕ) (files : Contents) (call : IdealCall) → NamesRole OfState program role fuel files call.role → NamesInputs image argument files call → IsMeant call
+pub call_is_meant : (program role image argument fuel : List ℕ) (files : Contents) (call : IdealCall) → NamesRole OfState program role fuel files call.role
+    → NamesInputs image argument files call → IsMeant call
 unfolding image_read named_literal
 call_is_meant program role image argument fuel files call names inputs =
     let r = call.role in
@@ -64,7 +65,9 @@ call_is_accepted call n meant few =
     let x = call.argument in
     let reader = meant.reader in
     let accepted =
-    companion sha256 length-sha256 P reader.format reader.typed f (function_at P f).kind t reader.answer reader.role reader.reads s x meant.state.ideal meant.argument.ideal
+    companion sha256 length-sha256 P reader.format reader.typed f (function_at P f).kind t reader.answer reader.role reader.reads s x meant.state.ideal
+    meant.argument.ideal
     meant.state.fits meant.argument.fits meant.state.deep k n few in
-    subst (λ (own : Value). verdict sha256 P t f (spelling (projection sha256 P P.state s)) (spelling own) k (call_proof call n) ≡ Accepted (projected_outcome call)) (own_projection call meant)
+    subst (λ (own : Value). verdict sha256 P t f (spelling (projection sha256 P P.state s)) (spelling own) k (call_proof call n) ≡ Accepted (projected_outcome call))
+    (own_projection call meant)
     (accepted ∙ ap (λ (t : Ty). Accepted (outcome_projection sha256 P t (outcome (ideal P f (call_of s x) k)))) (sym reader.result))

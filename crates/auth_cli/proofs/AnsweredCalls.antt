@@ -55,11 +55,13 @@ module _ (a : Answer) (tells : TellsAnAudit (code a.status)) where
   none_is is = absurd (cc)
 
   refusal_is : {A : Type 0} (b : Answer) → IsAnswer (Some b) → 5 < code b.status → code b.status < 11 → A
-  refusal_is b is high low = let same : b ≡ a = cc in absurd (no_audit (code b.status) high low (subst (λ (a : Answer). TellsAnAudit (code a.status)) (sym same) tells))
+  refusal_is b is high low =
+      let same : b ≡ a = cc in absurd (no_audit (code b.status) high low (subst (λ (a : Answer). TellsAnAudit (code a.status)) (sym same) tells))
 
   -- ---- each step
 
-  test_passed : (test : Bool) (fault : InputFault) (behind : Option Answer) → IsAnswer (cond test behind (Some (input_refused fault))) → (test ≡ true) × IsAnswer behind
+  test_passed : (test : Bool) (fault : InputFault) (behind : Option Answer) → IsAnswer (cond test behind (Some (input_refused fault)))
+      → (test ≡ true) × IsAnswer behind
   test_passed true fault behind is = (refl, is)
   test_passed false fault behind is = refusal_is (input_refused fault) is (lit< tt) (lit< tt)
 
@@ -70,7 +72,8 @@ module _ (a : Answer) (tells : TellsAnAudit (code a.status)) where
       let fits = test_passed (nat_le (length bytes) most) (TooLong word) (go bytes) is in
       (bytes, refl, leb-true (length bytes) most fits.0, fits.1)
 
-  bytes_read : (file : Option (List ℕ)) (go : List ℕ → Option Answer) → IsAnswer (with_bytes file go) → (bytes : List ℕ) × (file ≡ Some bytes) × IsAnswer (go bytes)
+  bytes_read : (file : Option (List ℕ)) (go : List ℕ → Option Answer) → IsAnswer (with_bytes file go)
+      → (bytes : List ℕ) × (file ≡ Some bytes) × IsAnswer (go bytes)
   bytes_read None go is = none_is is
   bytes_read (Some bytes) go is = (bytes, refl, is)
 
@@ -79,7 +82,8 @@ module _ (a : Answer) (tells : TellsAnAudit (code a.status)) where
   program_read digest (IsProgram P) go is = (P, refl, is)
   program_read digest (IsRefused kind line column) go is = refusal_is _ is (lit< tt) (lit< tt)
 
-  number_read : (word : Argument) (found : Option ℕ) (go : ℕ → Option Answer) → IsAnswer (with_number word found go) → (n : ℕ) × (found ≡ Some n) × IsAnswer (go n)
+  number_read : (word : Argument) (found : Option ℕ) (go : ℕ → Option Answer) → IsAnswer (with_number word found go)
+      → (n : ℕ) × (found ≡ Some n) × IsAnswer (go n)
   number_read word None go is = refusal_is _ is (lit< tt) (lit< tt)
   number_read word (Some n) go is = (n, refl, is)
 
@@ -102,11 +106,13 @@ module _ (a : Answer) (tells : TellsAnAudit (code a.status)) where
 
   -- ---- what the words and the files name
 
-  program_named : (file : Option (List ℕ)) (go : NamedProgram → Option Answer) → IsAnswer (with_program_file file go) → (p : NamedProgram) × KeepsProgram file p × IsAnswer (go p)
+  program_named : (file : Option (List ℕ)) (go : NamedProgram → Option Answer) → IsAnswer (with_program_file file go)
+      → (p : NamedProgram) × KeepsProgram file p × IsAnswer (go p)
   program_named file go is =
       let read = file_read max_program named.Program file (λ text. with_text text go) is in
       let text = read.0 in
-      let program = program_read (sha256 text) (program_of_text text) (λ p. go (record { digested = p; names = constructor_names_of_text text })) read.3 in
+      let program =
+      program_read (sha256 text) (program_of_text text) (λ p. go (record { digested = p; names = constructor_names_of_text text })) read.3 in
       (named_program text program.0, record { text = text; there = read.1; fits = read.2; program = program.1; named = refl }, program.2)
 
   role_is_named : (callee : Callee) (program role fuel : List ℕ) (files : Contents) (go : FueledRole → Option Answer)
@@ -121,8 +127,10 @@ module _ (a : Answer) (tells : TellsAnAudit (code a.status)) where
       let told = number_read named.Fuel (fuel_of fuel) (fueled found.0) found.3 in
       (record { program = p; role = found.0; fuel = told.0 }, record { program_file = kept.1; role = found.1; called = found.2; fuel = told.1 }, told.2)
 
-  inputs_are_named : (r : FueledRole) (image argument : List ℕ) (files : Contents) (go : IdealCall → Option Answer) → IsAnswer (with_ideal_call r image argument files go)
-      → (s : Value) × (x : Value) × NamesInputs image argument files (record { role = r; state = s; argument = x }) × IsAnswer (go (record { role = r; state = s; argument = x }))
+  inputs_are_named : (r : FueledRole) (image argument : List ℕ) (files : Contents) (go : IdealCall → Option Answer)
+      → IsAnswer (with_ideal_call r image argument files go)
+      → (s : Value) × (x : Value) × NamesInputs image argument files (record { role = r; state = s; argument = x })
+      × IsAnswer (go (record { role = r; state = s; argument = x }))
   inputs_are_named r image argument files go is =
       let on_state : Value → Option Answer = λ s. with_passed r argument (λ x. go (record { role = r; state = s; argument = x })) in
       let read = file_read max_file named.Image (files image) (λ bytes. with_image r.program.digested bytes on_state) is in
@@ -130,8 +138,10 @@ module _ (a : Answer) (tells : TellsAnAudit (code a.status)) where
       let passed = literal_read (passed_literal r argument) (λ x. go (record { role = r; state = root.0; argument = x })) root.2 in
       (root.0, passed.0, record { image_file = record { image = read.0; there = read.1; fits = read.2; root = root.1 }; argument = passed.1 }, passed.2)
 
-  spelled_are_named : (r : FueledRole) (state argument : List ℕ) (files : Contents) (go : RoleCall → Option Answer) → IsAnswer (with_role_call r state argument files go)
-      → (s : List ℕ) × (x : Value) × (files state ≡ Some s) × (passed_literal r argument ≡ IsValue x) × IsAnswer (go (record { role = r; state = s; argument = spelling x }))
+  spelled_are_named : (r : FueledRole) (state argument : List ℕ) (files : Contents) (go : RoleCall → Option Answer)
+      → IsAnswer (with_role_call r state argument files go)
+      → (s : List ℕ) × (x : Value) × (files state ≡ Some s) × (passed_literal r argument ≡ IsValue x)
+      × IsAnswer (go (record { role = r; state = s; argument = spelling x }))
   spelled_are_named r state argument files go is =
       let P = program_called r in
       let on_state : List ℕ → Option Answer = λ s. with_passed r argument (λ x. go (record { role = r; state = s; argument = spelling x })) in
@@ -146,7 +156,8 @@ module _ (a : Answer) (tells : TellsAnAudit (code a.status)) where
   abbrev MeansProof : Invocation → Contents → Type 0
   MeansProof called files = (call : IdealCall) × (n : ℕ) × (out : List ℕ) × CallsProve called files call n out × IsAnswer (Some (proof_answer call n out))
 
-  prove_answered : (program role image argument fuel kept out : List ℕ) (files : Contents) → IsAnswer (proved_answer program role image argument fuel kept out files)
+  prove_answered : (program role image argument fuel kept out : List ℕ) (files : Contents)
+      → IsAnswer (proved_answer program role image argument fuel kept out files)
       → MeansProof (calls Prove (program ∷ role ∷ image ∷ argument ∷ fuel ∷ kept ∷ out ∷ [])) files
   prove_answered program role image argument fuel kept out files is =
       let told : ℕ → IdealCall → Option Answer = λ n call. Some (proof_answer call n out) in
@@ -221,9 +232,11 @@ module _ (a : Answer) (tells : TellsAnAudit (code a.status)) where
       (audit_texts called.texts files (subst (λ (c : Command). IsAnswer (answer_with c called.texts files)) command is))
 
   -- `verify`: it is the verdict on a proof of a call
-  pub verify_means : (program role state argument fuel proof : List ℕ) (out : Option (List ℕ)) (files : Contents) → IsAnswer (judged_answer program role state argument fuel proof out files)
+  pub verify_means : (program role state argument fuel proof : List ℕ) (out : Option (List ℕ)) (files : Contents)
+      → IsAnswer (judged_answer program role state argument fuel proof out files)
       → (r : FueledRole) × (s : List ℕ) × (x : Value) × (bytes : List ℕ) × NamesRole (callee_of out) program role fuel files r × (files state ≡ Some s)
-      × (passed_literal r argument ≡ IsValue x) × (files proof ≡ Some bytes) × IsAnswer (Some (verified_answer out (record { role = r; state = s; argument = spelling x }) bytes))
+      × (passed_literal r argument ≡ IsValue x) × (files proof ≡ Some bytes)
+      × IsAnswer (Some (verified_answer out (record { role = r; state = s; argument = spelling x }) bytes))
   verify_means program role state argument fuel proof out files is =
       let on_call : RoleCall → Option Answer = λ call. with_bytes (files proof) (λ bytes. Some (verified_answer out call bytes)) in
       let role_is = role_is_named (callee_of out) program role fuel files (λ r. with_role_call r state argument files on_call) is in

@@ -29,7 +29,8 @@ use Rattle.auth_cli.proofs.VerifiedCalls.{call_is_verified}
 -- ---- the answer that was told
 
 -- a run told its answer, or it ended in a fault
-pub told_or_fault : (found : Contents → Option Answer) (old new : Outside) (ended : Status) → EndsAs found old new ended → EndsAnswered found old new ended ⊎ IsOfFault (code ended)
+pub told_or_fault : (found : Contents → Option Answer) (old new : Outside) (ended : Status) → EndsAs found old new ended
+    → EndsAnswered found old new ended ⊎ IsOfFault (code ended)
 told_or_fault found old new status.ReadFault ends = inr (inl refl)
 told_or_fault found old new status.WriteFault ends = inr (inr (inl refl))
 told_or_fault found old new status.NoMemory ends = inr (inr (inr refl))
@@ -48,7 +49,8 @@ no_fault n tells (inl is) = no_audit n (omega (arith, is)) (omega (arith, is)) t
 no_fault n tells (inr (inl is)) = no_audit n (omega (arith, is)) (omega (arith, is)) tells
 no_fault n tells (inr (inr is)) = no_audit n (omega (arith, is)) (omega (arith, is)) tells
 
-module _ (found : Contents → Option Answer) (old new : Outside) (ended : Status) (ends : EndsAs found old new ended) (files : Contents) (known : old.contents ≡ Some files) where
+module _ (found : Contents → Option Answer) (old new : Outside) (ended : Status) (ends : EndsAs found old new ended)
+    (files : Contents) (known : old.contents ≡ Some files) where
   -- with the number of an audit, it told its answer
   pub told : TellsAnAudit (code ended) → IsToldAs (found files) old new ended
   told tells = by (told_or_fault found old new ended ends)
@@ -70,7 +72,8 @@ module _ (found : Contents → Option Answer) (old new : Outside) (ended : Statu
       by (inr fault) = inr fault
 
 -- what is told is some answer with the status
-pub some_told : (found : Option Answer) (old new : Outside) (ended : Status) → IsToldAs found old new ended → (a : Answer) × (found ≡ Some a) × (code a.status ≡ code ended)
+pub some_told : (found : Option Answer) (old new : Outside) (ended : Status) → IsToldAs found old new ended
+    → (a : Answer) × (found ≡ Some a) × (code a.status ≡ code ended)
 some_told None old new ended told = absurd told
 some_told (Some a) old new ended told = (a, refl, ap code told.0)
 
@@ -79,7 +82,8 @@ or_fault n go (inl is) = inl (go is)
 or_fault n go (inr fault) = inr fault
 
 -- the answer to words is that to the command that they call
-of_command : (words : List (List ℕ)) (called : Invocation) (files : Contents) → invocation_of words ≡ Some called → answer words files ≡ command_answer called files
+of_command : (words : List (List ℕ)) (called : Invocation) (files : Contents) → invocation_of words ≡ Some called
+    → answer words files ≡ command_answer called files
 unfolding answer
 of_command words called files is = ap (λ found. called_answer found files) is
 
@@ -99,10 +103,11 @@ outcome_tells r Out = inr (inr refl)
 
 -- ---- a run of words that call a command
 
-module _ (words : List (List ℕ)) (called : Invocation) (is : invocation_of words ≡ Some called) (files : Contents) (old new : Outside) (known : old.contents ≡ Some files)
-    (ended : Status) (ends : EndsAs (answer words) old new ended) where
+module _ (words : List (List ℕ)) (called : Invocation) (is : invocation_of words ≡ Some called) (files : Contents)
+    (old new : Outside) (known : old.contents ≡ Some files) (ended : Status) (ends : EndsAs (answer words) old new ended) where
   command_told : TellsAnAudit (code ended) → IsToldAs (command_answer called files) old new ended
-  command_told tells = subst (λ (o : Option Answer). IsToldAs o old new ended) (of_command words called files is) (told (answer words) old new ended ends files known tells)
+  command_told tells =
+      subst (λ (o : Option Answer). IsToldAs o old new ended) (of_command words called files is) (told (answer words) old new ended ends files known tells)
 
   command_tells : (a : Answer) → command_answer called files ≡ Some a → (code ended ≡ code a.status) ⊎ IsOfFault (code ended)
   command_tells a answered = number_or_fault (answer words) old new ended ends files known a (of_command words called files is ∙ answered)
@@ -127,7 +132,8 @@ module _ (words : List (List ℕ)) (called : Invocation) (is : invocation_of wor
         written = told.1;
         stored = told.2;
         accepted = accepted;
-        verified = call_is_verified call means.1 calls.program_name calls.role_name calls.image_name calls.argument_text calls.fuel_text files meant accepted calls.role calls.inputs;
+        verified = call_is_verified call means.1 calls.program_name calls.role_name calls.image_name calls.argument_text calls.fuel_text files meant accepted
+            calls.role calls.inputs;
       }
 
   pub prove_tells : (call : IdealCall) (n : ℕ) (name : List ℕ) → CallsProve called files call n name → TellsOutcome (code ended) ⊎ IsOfFault (code ended)
@@ -152,6 +158,8 @@ module _ (words : List (List ℕ)) (called : Invocation) (is : invocation_of wor
         says = audit_says call means.1 (call_audit call means.1) old.written new.written ended (true_audit call means.1 meant) told.0 told.1;
       }
 
-  pub split_tells : (call : IdealCall) (proof : List ℕ) → CallsAudit called files call proof → (split : Split) → SplitsAt call proof split → (code ended ≡ 11) ⊎ IsOfFault (code ended)
+  pub split_tells : (call : IdealCall) (proof : List ℕ) → CallsAudit called files call proof → (split : Split) → SplitsAt call proof split
+      → (code ended ≡ 11) ⊎ IsOfFault (code ended)
   split_tells call proof calls split at =
-      or_fault (code ended) (λ same. same ∙ ap code (split_is_told call proof split at)) (command_tells (call_audit_answer call proof) (audit_is_answered called files call proof calls))
+      or_fault (code ended) (λ same. same ∙ ap code (split_is_told call proof split at))
+      (command_tells (call_audit_answer call proof) (audit_is_answered called files call proof calls))

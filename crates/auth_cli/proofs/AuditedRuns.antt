@@ -20,25 +20,27 @@ use Rattle.auth_cli.proofs.Ends.{one_line}
 use Rattle.auth_cli.proofs.TrueAudits.{IsTrueAudit}
 
 -- an audit that agrees says what it agrees on, with the status of an outcome
-outcome_says : (call : IdealCall) (proof : List ℕ) (o : Outcome) (ended : Status) (old new : Option (List ℕ)) → (shallow_told call.role o).status ≡ ended
-    → AgreesOnOutcome call proof ended old new → AuditSays call proof ended old new
-outcome_says call proof (Done v) ended old new told agrees = subst (λ ended. AuditSays call proof ended old new) told (subst (λ ended. AgreesOnOutcome call proof ended old new) (sym told) agrees)
-outcome_says call proof (Trapped trap) ended old new told agrees = subst (λ ended. AuditSays call proof ended old new) told (subst (λ ended. AgreesOnOutcome call proof ended old new) (sym told) agrees)
-outcome_says call proof Out ended old new told agrees = subst (λ ended. AuditSays call proof ended old new) told (subst (λ ended. AgreesOnOutcome call proof ended old new) (sym told) agrees)
+outcome_says : (call : IdealCall) (proof : List ℕ) (o : Outcome) (old new : Option (List ℕ))
+    → AgreesOnOutcome call proof (shallow_told call.role o).status old new
+    → AuditSays call proof (shallow_told call.role o).status old new
+outcome_says call proof (Done v) old new agrees = agrees
+outcome_says call proof (Trapped trap) old new agrees = agrees
+outcome_says call proof Out old new agrees = agrees
 
-pub audit_says : (call : IdealCall) (proof : List ℕ) (audit : Audit) (old new : Option (List ℕ)) (ended : Status) → IsTrueAudit call proof audit → (audit_told call.role audit).status ≡ ended
+pub audit_says : (call : IdealCall) (proof : List ℕ) (audit : Audit) (old new : Option (List ℕ)) (ended : Status) → IsTrueAudit call proof audit
+    → (audit_told call.role audit).status ≡ ended
     → new ≡ append_known old (concat (audit_told call.role audit).lines) → AuditSays call proof ended old new
 audit_says call proof (Collides split) old new ended is_so told written =
     subst (λ ended. AuditSays call proof ended old new) told
     (record { split = split; is_split = is_so; line = written ∙ ap (append_known old) (one_line (collision_line split.place split.offered split.honest)) })
 audit_says call proof (Judges (Accepted o)) old new ended is_so told written =
-    outcome_says call proof o ended old new told (record {
+    subst (λ ended. AuditSays call proof ended old new) told (outcome_says call proof o old new (record {
       no_split = is_so.0;
       honest = is_so.1;
       accepted = is_so.2 ∙ ap Accepted is_so.3;
-      status_told = ap (λ (o : Outcome). (shallow_told call.role o).status) (sym is_so.3) ∙ told;
+      status_told = ap (λ (o : Outcome). (shallow_told call.role o).status) (sym is_so.3);
       line = written ∙ ap (λ (o : Outcome). append_known old (concat (agreeing (shallow_told call.role o)).lines)) is_so.3;
-    })
+    }))
 audit_says call proof (Judges (Rejected cause)) old new ended is_so told written =
     subst (λ ended. AuditSays call proof ended old new) told
     (record { no_split = is_so.0; cause = cause; rejected = is_so.1; line = written ∙ ap (append_known old) (one_line (rejected_line cause)) })
@@ -52,4 +54,5 @@ split_is_told call proof split is =
     let P = called_program call in
     let r = call.role in
     let found = (split_is_found (digest_at sha256 P) (offered_in P.format proof) (honest_pieces sha256 P r.role (values_called call) r.fuel) split).1 is in
-    ap (λ found. (audit_told r (unless_split found (verdict_on_projections sha256 P (argument_type P r.role) r.role call.state call.argument r.fuel proof))).status) found
+    let v = verdict_on_projections sha256 P (argument_type P r.role) r.role call.state call.argument r.fuel proof in
+    ap (λ found. (audit_told r (unless_split found v)).status) found

@@ -64,11 +64,13 @@ reader P f sound within reads =
     }
 
 -- a role that the words name is one, where the command calls roles on states
-pub named_reader : (callee : Callee) → CallsOnStates callee → (program role fuel : List ℕ) (files : Contents) (r : FueledRole) → NamesRole callee program role fuel files r
+pub named_reader : (callee : Callee) → CallsOnStates callee → (program role fuel : List ℕ) (files : Contents) (r : FueledRole)
+    → NamesRole callee program role fuel files r
     → IsReader (program_called r) r.role
 named_reader callee on_states program role fuel files r names =
     let P = program_called r in
-    reader P r.role (text_is_sound names.program_file.text P names.program_file.program) (role_within P role r.role names.role) (calls_reads callee (kind_called r) on_states names.called)
+    reader P r.role (text_is_sound names.program_file.text P names.program_file.program) (role_within P role r.role names.role)
+    (calls_reads callee (kind_called r) on_states names.called)
 
 -- what is accepted of a call is true, or there is a split
 pub reader_headline : (r : FueledRole) (state argument : Value) (proof : List ℕ) (o : Outcome) → IsReader (program_called r) r.role
@@ -79,10 +81,14 @@ pub reader_headline : (r : FueledRole) (state argument : Value) (proof : List �
       argument = spelling (projection sha256 (program_called r) (argument_type (program_called r) r.role) argument);
     }) proof ≡ Accepted o
     → (n : ℕ) × (header (program_called r).format proof ≡ Some n)
-    × TrueOrSplit sha256 (program_called r) r.role (result_called r) (call_of state argument) r.fuel (offered_pieces (offered (program_called r).format.limit (drop 6 proof) n [])) o
+    × TrueOrSplit sha256 (program_called r) r.role (result_called r) (call_of state argument) r.fuel
+    (offered_pieces (offered (program_called r).format.limit (drop 6 proof) n [])) o
 unfolding role_verdict
 reader_headline r state argument proof o reader ideal_state ideal_argument accepted =
     let P = program_called r in
     let f = r.role in
-    let said = headline sha256 length-sha256 P reader.format reader.typed f (function_at P f).kind (argument_type P f) reader.answer reader.role reader.reads state argument ideal_state ideal_argument r.fuel proof o accepted in
-    (said.0, said.1, subst (λ t. TrueOrSplit sha256 P f t (call_of state argument) r.fuel (offered_pieces (offered P.format.limit (drop 6 proof) said.0 [])) o) (sym reader.result) said.2)
+    let said =
+    headline sha256 length-sha256 P reader.format reader.typed f (function_at P f).kind (argument_type P f) reader.answer reader.role reader.reads state
+    argument ideal_state ideal_argument r.fuel proof o accepted in
+    let pieces = offered_pieces (offered P.format.limit (drop 6 proof) said.0 []) in
+    (said.0, said.1, subst (λ t. TrueOrSplit sha256 P f t (call_of state argument) r.fuel pieces o) (sym reader.result) said.2)

@@ -27,7 +27,8 @@ use Rattle.auth_cli.proofs.AcceptedCalls.{IsMeant, own_projection}
 abbrev pub IsTrueAudit : IdealCall → List ℕ → Audit → Type 0
 IsTrueAudit call proof (Collides split) = SplitsAt call proof split
 IsTrueAudit call proof (Judges (Accepted o)) =
-    SplitsNowhere call proof × (offered_in (called_program call).format proof ≡ call_pieces call) × (role_verdict (client_call call) proof ≡ Accepted o) × (o ≡ projected_outcome call)
+    SplitsNowhere call proof × (offered_in (called_program call).format proof ≡ call_pieces call) × (role_verdict (client_call call) proof ≡ Accepted o)
+    × (o ≡ projected_outcome call)
 IsTrueAudit call proof (Judges (Rejected cause)) = SplitsNowhere call proof × (role_verdict (client_call call) proof ≡ Rejected cause)
 IsTrueAudit call proof (Judges v) = ⊥
 
@@ -63,7 +64,8 @@ module _ (call : IdealCall) (proof : List ℕ) (meant : IsMeant call) where
       ((no_split_is_found (digest_at sha256 P) (offered_in P.format proof) (honest_pieces sha256 P f (call_of s x) k)).0 none.0, none.1)
 
   on_proof : IsOnProof (verdict_on_projections sha256 P t f s x k proof)
-  on_proof = verdict_is_on_proof sha256 length-sha256 P meant.reader.format t f s x meant.state.ideal meant.argument.ideal meant.state.fits meant.argument.fits k proof
+  on_proof =
+      verdict_is_on_proof sha256 length-sha256 P meant.reader.format t f s x meant.state.ideal meant.argument.ideal meant.state.fits meant.argument.fits k proof
 
   is_so : (audit : Audit) → call_audit call proof ≡ audit → IsTrueAudit call proof audit
   unfolding call_audit call_pieces projected_outcome outcome_called
@@ -74,8 +76,10 @@ module _ (call : IdealCall) (proof : List ℕ) (meant : IsMeant call) where
       let nowhere = splits_nowhere (Accepted o) e in
       let reader = meant.reader in
       let is_true =
-      agreement_is_true sha256 length-sha256 P reader.format reader.typed f (function_at P f).kind t reader.answer reader.role reader.reads s x meant.state.ideal meant.argument.ideal k proof o e in
-      (nowhere.0, is_true.0, client_verdict ∙ nowhere.1, is_true.1 ∙ ap (λ (t : Ty). outcome_projection sha256 P t (outcome (ideal P f (call_of s x) k))) (sym reader.result))
+      agreement_is_true sha256 length-sha256 P reader.format reader.typed f (function_at P f).kind t reader.answer reader.role reader.reads s x
+      meant.state.ideal meant.argument.ideal k proof o e in
+      let outcome_is = is_true.1 ∙ ap (λ (t : Ty). outcome_projection sha256 P t (outcome (ideal P f (call_of s x) k))) (sym reader.result) in
+      (nowhere.0, is_true.0, client_verdict ∙ nowhere.1, outcome_is)
   is_so (Judges (Rejected cause)) e = let nowhere = splits_nowhere (Rejected cause) e in (nowhere.0, client_verdict ∙ nowhere.1)
   is_so (Judges (BadState offset)) e = subst IsOnProof (splits_nowhere (BadState offset) e).1 on_proof
   is_so (Judges (BadArgument offset)) e = subst IsOnProof (splits_nowhere (BadArgument offset) e).1 on_proof

@@ -30,7 +30,8 @@ use Rattle.auth_cli.proofs.SoundRoles.{callee_reads, named_reader, reader_headli
 
 -- words and files name one role
 module _ (callee : Callee) (program role fuel : List ℕ) (files : Contents) (named : FueledRole) (names : NamesRole callee program role fuel files named)
-    (r : FueledRole) (text : List ℕ) (held : files program ≡ Some text) (is_program : program_of_text text ≡ IsProgram (program_called r)) (is : r.program ≡ named_program text (program_called r))
+    (r : FueledRole) (text : List ℕ) (held : files program ≡ Some text) (is_program : program_of_text text ≡ IsProgram (program_called r))
+    (is : r.program ≡ named_program text (program_called r))
     (is_role : role_named (program_called r) role ≡ Some r.role) (is_fuel : fuel_of fuel ≡ Some r.fuel) where
   same_text : names.program_file.text ≡ text
   same_text = let there = sym names.program_file.there ∙ held in cc
@@ -66,7 +67,8 @@ called_as : (program role state argument fuel proof : List ℕ) (out : Option (L
 called_as program role state argument fuel proof None files = refl
 called_as program role state argument fuel proof (Some name) files = refl
 
-module _ (line : List (List ℕ)) (files : Contents) (r : FueledRole) (state argument : Value) (proof : List ℕ) (out : Option (List ℕ)) (calls : CallsVerify line files r state argument proof out) where
+module _ (line : List (List ℕ)) (files : Contents) (r : FueledRole) (state argument : Value) (proof : List ℕ) (out : Option (List ℕ))
+    (calls : CallsVerify line files r state argument proof out) where
   abbrev P : Program
   P = program_called r
 
@@ -79,14 +81,20 @@ module _ (line : List (List ℕ)) (files : Contents) (r : FueledRole) (state arg
   judged : answer line files ≡ judged_answer calls.program_name calls.role_name calls.state_name calls.argument_text calls.fuel_text calls.proof_name out files
   unfolding answer
   judged =
-      ap (λ found. called_answer found files) calls.words ∙ called_as calls.program_name calls.role_name calls.state_name calls.argument_text calls.fuel_text calls.proof_name out files
+      ap (λ found. called_answer found files) calls.words
+      ∙ called_as calls.program_name calls.role_name calls.state_name calls.argument_text calls.fuel_text calls.proof_name out files
 
   -- the answer is the verdict on the proof
   verified : (a : Answer) → TellsOutcome (code a.status) → answer line files ≡ Some a
-      → NamesRole (callee_of out) calls.program_name calls.role_name calls.fuel_text files r × (answer line files ≡ Some (verified_answer out (record { role = r; state = s; argument = spelling x }) proof))
+      → NamesRole (callee_of out) calls.program_name calls.role_name calls.fuel_text files r
+      × (answer line files ≡ Some (verified_answer out (record { role = r; state = s; argument = spelling x }) proof))
   verified a tells is =
-      let means = verify_means a (inl tells) calls.program_name calls.role_name calls.state_name calls.argument_text calls.fuel_text calls.proof_name out files (sym judged ∙ is) in
-      let same = one_role (callee_of out) calls.program_name calls.role_name calls.fuel_text files means.0 means.4 r calls.text calls.program_file calls.program calls.named calls.role calls.fuel in
+      let means =
+      verify_means a (inl tells) calls.program_name calls.role_name calls.state_name calls.argument_text calls.fuel_text calls.proof_name out files
+      (sym judged ∙ is) in
+      let same =
+      one_role (callee_of out) calls.program_name calls.role_name calls.fuel_text files means.0 means.4 r calls.text calls.program_file calls.program
+      calls.named calls.role calls.fuel in
       let state_is : means.1 ≡ s = let both = sym means.5 ∙ calls.state_file in cc in
       let literal = sym (ap (λ (r : FueledRole). passed_literal r calls.argument_text) same) ∙ means.6 in
       let argument_is : means.2 ≡ x = let both = sym literal ∙ calls.argument_is in cc in
@@ -106,7 +114,8 @@ true_line line old new status ends files known r state argument proof out calls 
     let heard = told (answer line) old new status ends files known (inl tells) in
     let some = some_told (answer line files) old new status heard in
     let is = verified line files r state argument proof out calls some.0 (subst TellsOutcome (sym some.2) tells) some.1 in
-    let call : RoleCall = record { role = r; state = s line files r state argument proof out calls; argument = spelling (x line files r state argument proof out calls) } in
+    let call : RoleCall =
+    record { role = r; state = s line files r state argument proof out calls; argument = spelling (x line files r state argument proof out calls) } in
     let answered = subst (λ (o : Option Answer). IsToldAs o old new status) is.1 heard in
     let o = accepted (accepted_answer r out) (role_verdict call proof) (subst TellsOutcome (ap code (sym answered.0)) tells) in
     let reader = named_reader (callee_of out) (callee_reads out) calls.program_name calls.role_name calls.fuel_text files r is.0 in (

@@ -36,7 +36,9 @@ module _ (P : Program) (format : IsFormat P.format) (v : Value) (ideal : IsIdeal
 
   state_goes : (go : List ℕ → Option Answer) → with_state P (spelling (state_projection P v)) go ≡ go (spelling (state_projection P v))
   unfolding state_read state_projection
-  state_goes go = read_goes go (projection_is_read_back (digest_at sha256 P) (format.digest_length sha256 length-sha256) P.format.limit format.limit_fits P.types P.state v ideal)
+  state_goes go =
+      read_goes go
+      (projection_is_read_back (digest_at sha256 P) (format.digest_length sha256 length-sha256) P.format.limit format.limit_fits P.types P.state v ideal)
 
   state_short : length (spelling (state_projection P v)) ≤ max_file
   unfolding state_projection
@@ -46,7 +48,8 @@ module _ (P : Program) (format : IsFormat P.format) (v : Value) (ideal : IsIdeal
       omega (arith, is, kept, fits.size_fits, format.message_fits)
 
 pub call_is_verified : (call : IdealCall) (n : ℕ) (program role image argument fuel : List ℕ) (files : Contents) → IsMeant call → IsAcceptedCall call n
-    → (names : NamesRole OfState program role fuel files call.role) → NamesInputs image argument files call → IsVerified call n names.program_file.text role argument fuel
+    → (names : NamesRole OfState program role fuel files call.role) → NamesInputs image argument files call
+    → IsVerified call n names.program_file.text role argument fuel
 call_is_verified call n program role image argument fuel files meant accepted names inputs name state proof out later called program_is state_is proof_is =
     let r = call.role in
     let P = called_program call in
@@ -56,7 +59,8 @@ call_is_verified call n program role image argument fuel files meant accepted na
     let on_state : List ℕ → Option Answer = λ s. with_passed r argument (λ x. on_call (record { role = r; state = s; argument = spelling x })) in
     program_goes (files program) (later name) r.program names.program_file (λ p. with_fueled_role (callee_of out) p role fuel on_role) program_is
     ∙ fueled_goes (callee_of out) OfState program role fuel files r on_role names called
-    ∙ file_goes max_file named.State (later state) client.state (λ bytes. with_state P bytes on_state) state_is (state_short P meant.reader.format call.state meant.state.ideal meant.state.fits)
+    ∙ file_goes max_file named.State (later state) client.state (λ bytes. with_state P bytes on_state) state_is
+    (state_short P meant.reader.format call.state meant.state.ideal meant.state.fits)
     ∙ state_goes P meant.reader.format call.state meant.state.ideal meant.state.fits on_state
     ∙ ap (λ found. with_literal found (λ x. on_call (record { role = r; state = client.state; argument = spelling x }))) inputs.argument
     ∙ ap (λ file. with_bytes file (λ bytes. Some (verified_answer out client bytes))) proof_is
