@@ -24,6 +24,8 @@ pub mod Composites
 pub mod FieldRefs
 pub mod FieldSteps
 pub mod Constructors
+-- the records that are loaded, by number
+mod KeptRecords
 -- stored, load_records, root, load_image
 pub mod AtRecords
 pub mod LoadedLists
@@ -60,6 +62,7 @@ mod LoadedAgain
 mod SavedLoads
 -- a program's images are by its types alone: for callers that have a program
 pub mod ImagesByTypes
--- the laws saved_parts_are_once and parts_are_found
+-- the laws saved_parts_are_once, parts_are_found and roots_fit
 mod SavedOnce
 mod PartsFound
+pub mod ImageRoots

@@ -1,5 +1,5 @@
 -- The root of an image: the last record, of the state's type, with nothing behind it.
-use Rattle.std.proofs.Common.{◌≡◌, ◌==◌, ℕ, ◌-◌, Bool, true, false, List, [], ◌∷◌, length, Some, slice_get, nat_eq, refl, sym, ap, ◌∙◌, subst, if◌then◌else◌, arith, eqb-true}
+use Rattle.std.proofs.Common.{◌≡◌, ◌==◌, ℕ, ◌-◌, Bool, true, false, List, [], ◌∷◌, length, None, Some, slice_get, nat_eq, refl, sym, ap, ◌∙◌, subst, if◌then◌else◌, arith, eqb-true}
 use Rattle.core_terms.specs.ProgramTypes.{types_by_number, types_meaning}
 use Rattle.core_terms.specs.Typing.{same_type}
 use Rattle.core_terms.specs.Values.{Value}
@@ -12,7 +12,7 @@ use Rattle.value_store.specs.Nodes.{Node}
 use Rattle.value_store.specs.Standing.{StandsFor}
 use Rattle.images.specs.StoredRecords.{AreStored, IsStored}
 use Rattle.images.specs.declared.stored.StoredRecord.{StoredRecord}
-use Rattle.images.proofs.StoredLists.{same_length, stored_there}
+use Rattle.images.proofs.StoredLists.{none_there, same_length, stored_there}
 use Rattle.images.proofs.TypeNumbers.{same_types}
 
 -- a root that is there, by whether it is of the state's type
@@ -21,13 +21,22 @@ rooted_by same v [] = if same then Root v else Refused RootType
 rooted_by same v (b ∷ rest) = if same then Refused (Leftover (length (b ∷ rest))) else Refused RootType
 
 -- no bytes, and some
-pub is_none : (rest : List ℕ) (b : Bool) → b ≡ (length rest == 0) → b ≡ true → rest ≡ []
+pub is_none : {A : Type 0} (rest : List A) (b : Bool) → b ≡ (length rest == 0) → b ≡ true → rest ≡ []
 is_none [] b is empty = refl
 is_none (x ∷ xs) b is empty = let zero = eqb-true (length (x ∷ xs)) 0 (sym is ∙ empty) in absurd (omega arith)
 
 pub is_some : (rest : List ℕ) (b : Bool) → b ≡ (length rest == 0) → b ≡ false → rest ≡ [] → ⊥
 is_some [] b is empty none = cc
 is_some (x ∷ xs) b is empty none = cc
+
+-- no records
+pub no_root : (marking : Marking) (p : Types) (nodes : List Node) (records : List StoredRecord) (entries : List Entry)
+    → AreStored marking (types_meaning p) (types_by_number p) nodes records entries → (rest : List ℕ) → slice_get records (length records - 1) ≡ None
+    → rooted (types_meaning p).state (last entries) rest ≡ Refused RootType
+no_root marking p nodes records entries stored rest none =
+    ap (λ o. rooted (types_meaning p).state o rest)
+    (ap (λ n. slice_get entries (n - 1)) (sym (same_length marking (types_meaning p) (types_by_number p) nodes records entries stored))
+    ∙ none_there marking (types_meaning p) (types_by_number p) nodes records entries stored (length records - 1) none)
 
 module _ (marking : Marking) (p : Types) (nodes : List Node) (records : List StoredRecord) (entries : List Entry)
     (stored : AreStored marking (types_meaning p) (types_by_number p) nodes records entries) (rest : List ℕ) (r : StoredRecord) (at : slice_get records (length records - 1) ≡ Some r)

@@ -1,8 +1,9 @@
--- The laws of images: what a reader may hold the records that are saved, and the search for parts of the state's type, to.
+-- The laws of images: what a reader may hold the records that are saved, the search for parts of the state's type, and the root of an image to.
 use Rattle.std.specs.Prelude.{◌≡◌, ◌↔◌, ◌≤◌, ◌^◌, ℕ, true, List, [], length, Some, slice_get}
 use Rattle.core_terms.specs.Types.{Ty, PairTy, NamedTy, AuthTy, Table, fields_at, has_numbers}
-use Rattle.core_terms.specs.Values.{Value, IsIdeal}
-use Rattle.images.specs.Images.{Entry, entry, last}
+use Rattle.core_terms.specs.Values.{Value, IsIdeal, IsWithin, AuthWithin}
+use Rattle.core_terms.specs.Terms.{Program}
+use Rattle.images.specs.Images.{Entry, Root, entry, image_of, last}
 use Rattle.images.specs.Parts.{is_part}
 use Rattle.images.specs.SavedImages.{distinct, record_bytes, walk}
 
@@ -29,3 +30,9 @@ pub data IsPartOf (types : Table) (whole : Ty) : Ty → Type 0 where
 -- The search, which opens as many named types as there are, finds each part of a type, and nothing else.
 abbrev pub PartsAreFound : Type 0
 PartsAreFound = (types : Table) (t whole : Ty) → (is_part types t whole ≡ true) ↔ IsPartOf types whole t
+
+-- The root of an image is an ideal value of the state's type, within the limits, as is each authenticated value in it.
+abbrev pub RootsFit : Type 0
+RootsFit =
+    (P : Program) (digest bytes : List ℕ) (v : Value) → image_of P digest bytes ≡ Root v
+    → IsIdeal P.types P.state v × IsWithin P.format.limit P.types P.state v × AuthWithin P.format.limit P.types P.state v

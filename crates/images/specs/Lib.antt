@@ -9,6 +9,7 @@ pub mod Saves
 pub mod LoadedRoots
 pub mod PartMarks
 pub mod ReadRecords
+pub mod KeptRecords
 pub mod StoredRecords
 pub mod LoadedRecords
 pub mod FormRecords

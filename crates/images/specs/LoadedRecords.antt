@@ -27,7 +27,7 @@ IsRecordFront P size number read (Err fault) =
 -- the result tells what loading gives: all records, each stored, and the bytes behind them; or the fault
 abbrev pub AreLoaded : Marking → Program → List Ty → Loading → Result Records ImageFault → Type 0
 AreLoaded marking P types loading (Ok records) =
-    (entries : List Entry) × (loading ≡ Loaded entries records.rest.now) × AreStored marking P types (nodes_in records.store) records.loaded.items entries
+    (entries : List Entry) × (loading ≡ Loaded entries records.rest.now) × AreStored marking P types (nodes_in records.store) records.loaded entries
 AreLoaded marking P types loading (Err fault) = TellsFault (λ f. loading ≡ FaultyImage f) fault
 
 -- the result tells the root, which stands for the value of the image's; or the fault

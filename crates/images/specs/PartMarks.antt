@@ -14,7 +14,7 @@ use Rattle.images.specs.declared.parts.PartMarks.{PartMarks}
 
 -- the type with a number
 abbrev pub type_of : Types → ℕ → Ty
-type_of p i = slice_index_or (types_by_number p) i UnitTy
+type_of types i = slice_index_or (types_by_number types) i UnitTy
 
 -- the number is marked
 abbrev pub IsMarked : List Bool → ℕ → Type 0
@@ -23,26 +23,28 @@ IsMarked marks i = slice_index_or marks i false ≡ true
 -- The marks are as many as the program's types. The mark with a number says whether the type with that number is the state's or a part of it, and
 -- there is no part of the state's type that has no number.
 abbrev pub ArePartMarks : Types → List Bool → Type 0
-ArePartMarks p marks = (length marks ≡ length (types_by_number p))
-    × ((i : ℕ) → i < length (types_by_number p) → slice_index_or marks i false ≡ is_part (types_meaning p).types (type_of p i) (types_meaning p).state)
-    × ((t : Ty) → is_part (types_meaning p).types t (types_meaning p).state ≡ true → (i : ℕ) × (i < length (types_by_number p)) × (type_of p i ≡ t))
+ArePartMarks types marks = (length marks ≡ length (types_by_number types))
+    × ((i : ℕ) → i < length (types_by_number types) → slice_index_or marks i false
+    ≡ is_part (types_meaning types).types (type_of types i) (types_meaning types).state)
+    × ((t : Ty) → is_part (types_meaning types).types t (types_meaning types).state ≡ true
+    → (i : ℕ) × (i < length (types_by_number types)) × (type_of types i ≡ t))
 
 -- those are the marks of the program
 abbrev pub IsMarksOf : Types → PartMarks → Type 0
-IsMarksOf p parts = ArePartMarks p parts.marks.items
+IsMarksOf types parts = ArePartMarks types parts.marks.items
 
 -- the number of the form's type, which is the state's or a part of it; or the form's type is neither
 abbrev pub IsPartOfState : Types → TyForm → Option TyId → Type 0
-IsPartOfState p form None = is_part (types_meaning p).types (type_of_form (types_by_number p) form) (types_meaning p).state ≡ false
-IsPartOfState p form (Some ty) = (is_part (types_meaning p).types (type_of_form (types_by_number p) form) (types_meaning p).state ≡ true)
-    × (type_of p ty.0 ≡ type_of_form (types_by_number p) form)
-    × (ty.0 < length (types_by_number p))
+IsPartOfState types form None = is_part (types_meaning types).types (type_of_form (types_by_number types) form) (types_meaning types).state ≡ false
+IsPartOfState types form (Some ty) = (is_part (types_meaning types).types (type_of_form (types_by_number types) form) (types_meaning types).state ≡ true)
+    × (type_of types ty.0 ≡ type_of_form (types_by_number types) form)
+    × (ty.0 < length (types_by_number types))
 
 -- the parts that are found by opening so many named types at most are marked, and nothing else is
 abbrev pub AreLevelMarks : Types → ℕ → List Bool → Type 0
-AreLevelMarks p opened marks = (length marks ≡ length (types_by_number p))
-    × ((i : ℕ) → IsMarked marks i → is_part_within (types_meaning p).types opened (type_of p i) (types_meaning p).state ≡ true)
-    × ((t : Ty) → is_part_within (types_meaning p).types opened t (types_meaning p).state ≡ true → (i : ℕ) × IsMarked marks i × (type_of p i ≡ t))
+AreLevelMarks types opened marks = (length marks ≡ length (types_by_number types))
+    × ((i : ℕ) → IsMarked marks i → is_part_within (types_meaning types).types opened (type_of types i) (types_meaning types).state ≡ true)
+    × ((t : Ty) → is_part_within (types_meaning types).types opened t (types_meaning types).state ≡ true → (i : ℕ) × IsMarked marks i × (type_of types i ≡ t))
 
 -- these are marked beside those that were, and nothing else is
 abbrev pub AddsMarks : (ℕ → Type 0) → (old new : List Bool) → Type 0
@@ -68,18 +70,20 @@ IsOfField constructors count i =
 
 -- the constructors of a named type; other types have none
 abbrev pub constructors_in : Types → Ty → List Constructor
-constructors_in p (NamedTy number) = unwrap_or (option_map (λ (declared : NamedType). declared.constructors.items) (slice_get p.named.items number)) []
-constructors_in p t = []
+constructors_in types (NamedTy number) = unwrap_or (option_map (λ (declared : NamedType). declared.constructors.items) (slice_get types.named.items number)) []
+constructors_in types t = []
 
 -- the type with this number is one of a field of a type that is marked, among the first so many
 abbrev pub IsOpened : Types → List Bool → ℕ → ℕ → Type 0
-IsOpened p marks count i =
-    (number : ℕ) × (number < count) × IsMarked marks number × IsOfField (constructors_in p (type_of p number)) (length (constructors_in p (type_of p number))) i
+IsOpened types marks count i =
+    (number : ℕ) × (number < count) × IsMarked marks number
+    × IsOfField (constructors_in types (type_of types number)) (length (constructors_in types (type_of types number))) i
 
 -- Beside what was marked, those types are marked that are parts of it with no named type opened, and nothing else is. They are types of the
 -- program.
 abbrev pub IsSpread : Types → (old new : List Bool) → Type 0
-IsSpread p old new = (length new ≡ length old)
+IsSpread types old new = (length new ≡ length old)
     × ((i : ℕ) → IsMarked old i → IsMarked new i)
-    × ((i : ℕ) → IsMarked new i → (j : ℕ) × IsMarked old j × (is_part_within (types_meaning p).types 0 (type_of p i) (type_of p j) ≡ true))
-    × ((j : ℕ) (t : Ty) → IsMarked new j → is_part_within (types_meaning p).types 0 t (type_of p j) ≡ true → (i : ℕ) × IsMarked new i × (type_of p i ≡ t))
+    × ((i : ℕ) → IsMarked new i → (j : ℕ) × IsMarked old j × (is_part_within (types_meaning types).types 0 (type_of types i) (type_of types j) ≡ true))
+    × ((j : ℕ) (t : Ty) → IsMarked new j → is_part_within (types_meaning types).types 0 t (type_of types j) ≡ true
+    → (i : ℕ) × IsMarked new i × (type_of types i ≡ t))

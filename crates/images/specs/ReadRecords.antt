@@ -29,19 +29,19 @@ record_told (AuthRecord inner) = meant.AuthRecord inner
 -- These are the types of the fields of the constructor, whose type is a part of the state's, and they are in the program's table; or there is no
 -- such constructor.
 abbrev pub AreFieldsOf : Types → (number tag : ℕ) → Option (Bor (List TyId)) → Type 0
-AreFieldsOf p number tag None = (size : ℕ) → field_count (types_meaning p) size number tag ≡ None
-AreFieldsOf p number tag (Some fields) = (is_part (types_meaning p).types (NamedTy number) (types_meaning p).state ≡ true)
-    × (fields_at (types_meaning p).types number tag ≡ Some (types_at (types_by_number p) fields.now))
-    × (are_below (length (types_by_number p)) fields.now ≡ true)
+AreFieldsOf types number tag None = (size : ℕ) → field_count (types_meaning types) size number tag ≡ None
+AreFieldsOf types number tag (Some fields) = (is_part (types_meaning types).types (NamedTy number) (types_meaning types).state ≡ true)
+    × (fields_at (types_meaning types).types number tag ≡ Some (types_at (types_by_number types) fields.now))
+    × (are_below (length (types_by_number types)) fields.now ≡ true)
 
 -- A record of a constructor is of one whose type is a part of the state's; it has the types of its fields, which are in the program's table, and
 -- 4 bytes for each.
 abbrev pub HasConstructor : Types → Record → Type 0
-HasConstructor p (OfConstructor c) = (is_part (types_meaning p).types (NamedTy c.named.0) (types_meaning p).state ≡ true)
-    × (fields_at (types_meaning p).types c.named.0 c.tag.0 ≡ Some (types_at (types_by_number p) c.fields.now))
-    × (are_below (length (types_by_number p)) c.fields.now ≡ true)
+HasConstructor types (OfConstructor c) = (is_part (types_meaning types).types (NamedTy c.named.0) (types_meaning types).state ≡ true)
+    × (fields_at (types_meaning types).types c.named.0 c.tag.0 ≡ Some (types_at (types_by_number types) c.fields.now))
+    × (are_below (length (types_by_number types)) c.fields.now ≡ true)
     × (length c.numbers.now ≡ 4 * length c.fields.now)
-HasConstructor p r = Unit {0}
+HasConstructor types r = Unit {0}
 
 -- the result tells what stands at the front: a record and the bytes behind it, or why there is none
 abbrev pub IsRead : RecordRead → Result Front RecordFault → Type 0

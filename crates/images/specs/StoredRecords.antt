@@ -3,7 +3,9 @@ use Rattle.std.specs.Prelude.{◌≡◌, ℕ, List, [], ◌∷◌, Option, Some,
 use Rattle.std.specs.Option.{option_and_then}
 use Rattle.core_terms.specs.Types.{Ty}
 use Rattle.core_terms.specs.Terms.{Program}
-use Rattle.images.specs.Images.{Entry, Loading, FaultyImage}
+use Rattle.core_terms.specs.ProgramTypes.{types_by_number, types_meaning}
+use Rattle.core_terms.specs.declared.program_types.Types.{Types}
+use Rattle.images.specs.Images.{Entry, Loading, FaultyImage, checked_entry}
 use Rattle.images.specs.Loads.{TellsFault}
 use Rattle.images.specs.declared.fault.ImageFault.{ImageFault}
 use Rattle.value_store.specs.Markings.{Marking, kind_of, seen_as}
@@ -30,6 +32,16 @@ module _ (marking : Marking) (P : Program) (types : List Ty) (nodes : List Node)
   abbrev pub IsLoaded : ((Entry → Loading) → Loading) → Result StoredRecord ImageFault → Type 0
   IsLoaded loading (Ok stored) = (e : Entry) × IsStored stored e × ((go : Entry → Loading) → loading go ≡ go e)
   IsLoaded loading (Err fault) = (go : Entry → Loading) → TellsFault (λ f. loading go ≡ FaultyImage f) fault
+
+-- the records of a program with these types are stored
+abbrev pub AreKept : Marking → Types → List Node → List StoredRecord → List Entry → Type 0
+AreKept marking types = AreStored marking (types_meaning types) (types_by_number types)
+
+-- The result tells what the record with this number of a program with these types stands for, and where that is stored: this entry, where there
+-- is one and it passes the checks; or the fault.
+abbrev pub LoadsEntry : Marking → Types → List Node → ℕ → Option Entry → Result StoredRecord ImageFault → Type 0
+LoadsEntry marking types nodes number found result =
+    (size : ℕ) → IsLoaded marking (types_meaning types) (types_by_number types) nodes (λ go. checked_entry (types_meaning types) size number found go) result
 
 -- the nodes of the records with these numbers, where each is one of the type with the number beside it
 abbrev pub refs_from : List StoredRecord → List ℕ → List TyId → Option (List Ref)

@@ -1,9 +1,9 @@
 // What a record stands for, put into the store: its type is a part of the state's, and its value is within the limits.
-ghost use Rattle.std.specs.Prelude.{ℕ, List, Some};
-ghost use Rattle.core_terms.specs.ProgramTypes.{types_by_number, types_meaning};
+ghost use Rattle.std.specs.Prelude.{List, Some};
+ghost use Rattle.core_terms.specs.ProgramTypes.{types_meaning};
 ghost use Rattle.core_terms.specs.Types.{UnitTy, BoolTy, IntTy, TextTy};
 ghost use Rattle.core_terms.specs.Values.{UnitV, BoolV, IntV, TextV};
-ghost use Rattle.images.specs.Images.{Entry, checked_entry, entry};
+ghost use Rattle.images.specs.Images.{Entry, entry};
 ghost use Rattle.images.specs.Images as meant;
 ghost use Rattle.images.specs.Records as defined;
 ghost use Rattle.value_store.specs.Markings.{Marking};
@@ -12,13 +12,14 @@ ghost use Rattle.value_store.specs.Stores.{nodes_in};
 ghost use Rattle.images.specs.PartMarks.{IsMarksOf};
 ghost use Rattle.images.specs.ReadRecords.{HasConstructor, record_told};
 ghost use Rattle.images.specs.declared.record.Record.{Record};
-ghost use Rattle.images.specs.StoredRecords.{AreStored, IsLoaded};
+ghost use Rattle.images.specs.StoredRecords.{AreKept, LoadsEntry};
 
 use crate::ImageFault;
-use crate::fields::{earlier, field_refs};
+use crate::fields::field_refs;
 use crate::part_types::PartTypes;
 use crate::record::ConstructorRecord;
 use crate::stored::StoredRecord;
+use crate::stored_records::StoredRecords;
 use core_terms::TyForm;
 use std::alloc::Global;
 use value_store::{Marker, Nodes, Store};
@@ -31,15 +32,15 @@ const MOST_DEPTH: u32 = 512;
 
 /// The value of `unit`.
 pub(crate) fn unit(
-    types: &PartTypes,
+    parts: &PartTypes,
     store: &mut Store,
     number: u32,
 ) -> Result<StoredRecord, ImageFault>
-    requires marked { IsMarksOf types.now.types.now types.now.parts.now }
-    ensures loaded { (marking : Marking) (size : ℕ) → IsLoaded marking (types_meaning types.now.types.now) (types_by_number types.now.types.now) (nodes_in store.new) (λ go. checked_entry (types_meaning types.now.types.now) size number (Some (entry UnitTy UnitV)) go) result }
+    requires marked { IsMarksOf parts.now.types.now parts.now.marks.now }
+    ensures loaded { (marking : Marking) → LoadsEntry marking parts.now.types.now (nodes_in store.new) number (Some (entry UnitTy UnitV)) result }
     ensures keeps { Keeps (nodes_in store.old) (nodes_in store.new) }
 {
-    let Some(ty) = types.part(TyForm::UnitForm) else {
+    let Some(ty) = parts.part(TyForm::UnitForm) else {
         return Err(ImageFault::BadRecord(number));
     };
     let value = store.put_unit()?;
@@ -48,16 +49,16 @@ pub(crate) fn unit(
 
 /// A bool.
 pub(crate) fn bool(
-    types: &PartTypes,
+    parts: &PartTypes,
     store: &mut Store,
     number: u32,
     value: bool,
 ) -> Result<StoredRecord, ImageFault>
-    requires marked { IsMarksOf types.now.types.now types.now.parts.now }
-    ensures loaded { (marking : Marking) (size : ℕ) → IsLoaded marking (types_meaning types.now.types.now) (types_by_number types.now.types.now) (nodes_in store.new) (λ go. checked_entry (types_meaning types.now.types.now) size number (Some (entry BoolTy (BoolV value))) go) result }
+    requires marked { IsMarksOf parts.now.types.now parts.now.marks.now }
+    ensures loaded { (marking : Marking) → LoadsEntry marking parts.now.types.now (nodes_in store.new) number (Some (entry BoolTy (BoolV value))) result }
     ensures keeps { Keeps (nodes_in store.old) (nodes_in store.new) }
 {
-    let Some(ty) = types.part(TyForm::BoolForm) else {
+    let Some(ty) = parts.part(TyForm::BoolForm) else {
         return Err(ImageFault::BadRecord(number));
     };
     let value = store.put_bool(value)?;
@@ -66,16 +67,16 @@ pub(crate) fn bool(
 
 /// An int.
 pub(crate) fn int(
-    types: &PartTypes,
+    parts: &PartTypes,
     store: &mut Store,
     number: u32,
     value: i64,
 ) -> Result<StoredRecord, ImageFault>
-    requires marked { IsMarksOf types.now.types.now types.now.parts.now }
-    ensures loaded { (marking : Marking) (size : ℕ) → IsLoaded marking (types_meaning types.now.types.now) (types_by_number types.now.types.now) (nodes_in store.new) (λ go. checked_entry (types_meaning types.now.types.now) size number (Some (entry IntTy (IntV value))) go) result }
+    requires marked { IsMarksOf parts.now.types.now parts.now.marks.now }
+    ensures loaded { (marking : Marking) → LoadsEntry marking parts.now.types.now (nodes_in store.new) number (Some (entry IntTy (IntV value))) result }
     ensures keeps { Keeps (nodes_in store.old) (nodes_in store.new) }
 {
-    let Some(ty) = types.part(TyForm::IntForm) else {
+    let Some(ty) = parts.part(TyForm::IntForm) else {
         return Err(ImageFault::BadRecord(number));
     };
     let value = store.put_int(value)?;
@@ -84,19 +85,19 @@ pub(crate) fn int(
 
 /// A text, which may have too many bytes.
 pub(crate) fn text(
-    types: &PartTypes,
+    parts: &PartTypes,
     store: &mut Store,
     number: u32,
     text: &str,
 ) -> Result<StoredRecord, ImageFault>
-    requires marked { IsMarksOf types.now.types.now types.now.parts.now }
-    ensures loaded { (marking : Marking) (size : ℕ) → IsLoaded marking (types_meaning types.now.types.now) (types_by_number types.now.types.now) (nodes_in store.new) (λ go. checked_entry (types_meaning types.now.types.now) size number (Some (entry TextTy (TextV text.now))) go) result }
+    requires marked { IsMarksOf parts.now.types.now parts.now.marks.now }
+    ensures loaded { (marking : Marking) → LoadsEntry marking parts.now.types.now (nodes_in store.new) number (Some (entry TextTy (TextV text.now))) result }
     ensures keeps { Keeps (nodes_in store.old) (nodes_in store.new) }
 {
-    let Some(ty) = types.part(TyForm::TextForm) else {
+    let Some(ty) = parts.part(TyForm::TextForm) else {
         return Err(ImageFault::BadRecord(number));
     };
-    if text.len() > types.size_limit() as usize - LENGTH_BYTES {
+    if text.len() > parts.size_limit() as usize - LENGTH_BYTES {
         return Err(ImageFault::TooBig(number));
     }
     let value = store.put_text(text)?;
@@ -105,29 +106,29 @@ pub(crate) fn text(
 
 /// A pair, by the numbers of the records of its parts, which must be earlier ones.
 pub(crate) fn pair(
-    types: &PartTypes,
+    parts: &PartTypes,
     store: &mut Store,
-    loaded: &[StoredRecord],
+    loaded: &StoredRecords,
     number: u32,
     first: u32,
     second: u32,
 ) -> Result<StoredRecord, ImageFault>
-    requires marked { IsMarksOf types.now.types.now types.now.parts.now }
-    requires stored { (marking : Marking) × (entries : List Entry) × AreStored marking (types_meaning types.now.types.now) (types_by_number types.now.types.now) (nodes_in store.old) loaded.now entries }
-    ensures loaded { (marking : Marking) (entries : List Entry) → AreStored marking (types_meaning types.now.types.now) (types_by_number types.now.types.now) (nodes_in store.old) loaded.now entries
-        → (size : ℕ) → IsLoaded marking (types_meaning types.now.types.now) (types_by_number types.now.types.now) (nodes_in store.new) (λ go. checked_entry (types_meaning types.now.types.now) size number (meant.stands_for (types_meaning types.now.types.now).types entries (defined.PairRecord first second)) go) result }
+    requires marked { IsMarksOf parts.now.types.now parts.now.marks.now }
+    requires stored { (marking : Marking) × (entries : List Entry) × AreKept marking parts.now.types.now (nodes_in store.old) loaded.now entries }
+    ensures loaded { (marking : Marking) (entries : List Entry) → AreKept marking parts.now.types.now (nodes_in store.old) loaded.now entries
+        → LoadsEntry marking parts.now.types.now (nodes_in store.new) number (meant.stands_for (types_meaning parts.now.types.now).types entries (defined.PairRecord first second)) result }
     ensures keeps { Keeps (nodes_in store.old) (nodes_in store.new) }
 {
-    let Some(first) = earlier(loaded, first) else {
+    let Some(first) = loaded.get(first as usize) else {
         return Err(ImageFault::BadRecord(number));
     };
-    let Some(second) = earlier(loaded, second) else {
+    let Some(second) = loaded.get(second as usize) else {
         return Err(ImageFault::BadRecord(number));
     };
-    let Some(ty) = types.part(TyForm::PairForm(first.ty, second.ty)) else {
+    let Some(ty) = parts.part(TyForm::PairForm(first.ty, second.ty)) else {
         return Err(ImageFault::BadRecord(number));
     };
-    if store.shallow_size(first.value) + store.shallow_size(second.value) > types.size_limit() {
+    if store.shallow_size(first.value) + store.shallow_size(second.value) > parts.size_limit() {
         return Err(ImageFault::TooBig(number));
     }
     if store
@@ -143,53 +144,53 @@ pub(crate) fn pair(
 
 /// An authenticated value, by the number of the record of what is authenticated, which must be an earlier one.
 pub(crate) fn authenticated<M: Marker>(
-    types: &PartTypes,
+    parts: &PartTypes,
     marker: &mut M,
     store: &mut Store,
-    loaded: &[StoredRecord],
+    loaded: &StoredRecords,
     number: u32,
     inner: u32,
 ) -> Result<StoredRecord, ImageFault>
-    requires marked { IsMarksOf types.now.types.now types.now.parts.now }
-    requires stored { (entries : List Entry) × AreStored M.marking (types_meaning types.now.types.now) (types_by_number types.now.types.now) (nodes_in store.old) loaded.now entries }
-    ensures loaded { (entries : List Entry) → AreStored M.marking (types_meaning types.now.types.now) (types_by_number types.now.types.now) (nodes_in store.old) loaded.now entries
-        → (size : ℕ) → IsLoaded M.marking (types_meaning types.now.types.now) (types_by_number types.now.types.now) (nodes_in store.new) (λ go. checked_entry (types_meaning types.now.types.now) size number (meant.stands_for (types_meaning types.now.types.now).types entries (defined.AuthRecord inner)) go) result }
+    requires marked { IsMarksOf parts.now.types.now parts.now.marks.now }
+    requires stored { (entries : List Entry) × AreKept M.marking parts.now.types.now (nodes_in store.old) loaded.now entries }
+    ensures loaded { (entries : List Entry) → AreKept M.marking parts.now.types.now (nodes_in store.old) loaded.now entries
+        → LoadsEntry M.marking parts.now.types.now (nodes_in store.new) number (meant.stands_for (types_meaning parts.now.types.now).types entries (defined.AuthRecord inner)) result }
     ensures keeps { Keeps (nodes_in store.old) (nodes_in store.new) }
 {
-    let Some(inner) = earlier(loaded, inner) else {
+    let Some(inner) = loaded.get(inner as usize) else {
         return Err(ImageFault::BadRecord(number));
     };
-    let Some(ty) = types.part(TyForm::AuthForm(inner.ty)) else {
+    let Some(ty) = parts.part(TyForm::AuthForm(inner.ty)) else {
         return Err(ImageFault::BadRecord(number));
     };
-    let value = marker.mark_auth(types.types, store, inner.ty, inner.value)?;
+    let value = marker.mark_auth(parts.types, store, inner.ty, inner.value)?;
     Ok(StoredRecord { ty, value })
 }
 
 /// A constructor value, by the numbers of the records of its fields, which must be earlier ones of the fields' types.
 pub(crate) fn constructor(
     alloc: Global,
-    types: &PartTypes,
+    parts: &PartTypes,
     store: &mut Store,
-    loaded: &[StoredRecord],
+    loaded: &StoredRecords,
     number: u32,
     found: ConstructorRecord,
 ) -> Result<StoredRecord, ImageFault>
-    requires marked { IsMarksOf types.now.types.now types.now.parts.now }
-    requires stored { (marking : Marking) × (entries : List Entry) × AreStored marking (types_meaning types.now.types.now) (types_by_number types.now.types.now) (nodes_in store.old) loaded.now entries }
-    requires of_program { HasConstructor types.now.types.now (Record.Constructor found) }
-    ensures loaded { (marking : Marking) (entries : List Entry) → AreStored marking (types_meaning types.now.types.now) (types_by_number types.now.types.now) (nodes_in store.old) loaded.now entries
-        → (size : ℕ) → IsLoaded marking (types_meaning types.now.types.now) (types_by_number types.now.types.now) (nodes_in store.new) (λ go. checked_entry (types_meaning types.now.types.now) size number (meant.stands_for (types_meaning types.now.types.now).types entries (record_told (Record.Constructor found.entry))) go) result }
+    requires marked { IsMarksOf parts.now.types.now parts.now.marks.now }
+    requires stored { (marking : Marking) × (entries : List Entry) × AreKept marking parts.now.types.now (nodes_in store.old) loaded.now entries }
+    requires of_program { HasConstructor parts.now.types.now (Record.Constructor found) }
+    ensures loaded { (marking : Marking) (entries : List Entry) → AreKept marking parts.now.types.now (nodes_in store.old) loaded.now entries
+        → LoadsEntry marking parts.now.types.now (nodes_in store.new) number (meant.stands_for (types_meaning parts.now.types.now).types entries (record_told (Record.Constructor found.entry))) result }
     ensures keeps { Keeps (nodes_in store.old) (nodes_in store.new) }
 {
-    let Some(ty) = types.part(TyForm::NamedForm(found.named)) else {
+    let Some(ty) = parts.part(TyForm::NamedForm(found.named)) else {
         return Err(ImageFault::BadRecord(number));
     };
     let Some(refs) = field_refs(alloc, loaded, found.fields, found.numbers)? else {
         return Err(ImageFault::BadRecord(number));
     };
     let fields = refs.as_slice();
-    if !store.sizes_fit(fields, types.size_limit() - 1) {
+    if !store.sizes_fit(fields, parts.size_limit() - 1) {
         return Err(ImageFault::TooBig(number));
     }
     if !store.depths_fit(fields, MOST_DEPTH - 1) {

@@ -1,24 +1,17 @@
 // The fields of a constructor value, as nodes of the store.
-ghost use Rattle.std.specs.Prelude.{◌≡◌, ◌*◌, length, slice_get, option_map, IfOk};
+ghost use Rattle.std.specs.Prelude.{◌≡◌, ◌*◌, length, option_map, IfOk};
 ghost use Rattle.images.specs.Records.{numbers_of};
 ghost use Rattle.images.specs.StoredRecords.{refs_from};
 
-use crate::stored::StoredRecord;
+use crate::stored_records::StoredRecords;
 use core_terms::TyId;
 use std::alloc::{AllocError, Global};
 use value_store::Ref;
 
-/// The record with this number, among those that are loaded.
-pub(crate) fn earlier(loaded: &[StoredRecord], number: u32) -> Option<StoredRecord>
-    ensures { result ≡ slice_get loaded.now number }
-{
-    loaded.get(number as usize).copied()
-}
-
 /// The nodes of the records with these numbers, of 4 bytes each; none where one is no earlier record, or not of the type beside it.
 pub(crate) fn field_refs(
     alloc: Global,
-    loaded: &[StoredRecord],
+    loaded: &StoredRecords,
     types: &[TyId],
     numbers: &[u8],
 ) -> Result<Option<Vec<Ref>>, AllocError>
@@ -31,7 +24,7 @@ pub(crate) fn field_refs(
         let Some((number, behind)) = rest.split_first_chunk::<4>() else {
             unreachable!();
         };
-        let Some(found) = earlier(loaded, u32::from_be_bytes(*number)) else {
+        let Some(found) = loaded.get(u32::from_be_bytes(*number) as usize) else {
             return Ok(None);
         };
         if !found.is_of(*ty) {

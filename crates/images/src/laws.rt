@@ -1,5 +1,5 @@
 // The laws of images in `specs/`: each is a function without parameters, whose contract is the law.
-ghost use Rattle.images.specs.ImageLaws.{PartsAreFound, SavedPartsAreOnce};
+ghost use Rattle.images.specs.ImageLaws.{PartsAreFound, RootsFit, SavedPartsAreOnce};
 
 /// No two records of a value that is saved are equal, and the last one is that of the value itself.
 pub fn saved_parts_are_once()
@@ -9,4 +9,9 @@ pub fn saved_parts_are_once()
 /// The search for the parts of a type, by which the types of records are judged, finds each part and nothing else.
 pub fn parts_are_found()
     ensures { PartsAreFound }
+{}
+
+/// The root of an image is a state within the limits.
+pub fn roots_fit()
+    ensures { RootsFit }
 {}

@@ -17,6 +17,7 @@ mod parts;
 mod record;
 mod save;
 mod stored;
+mod stored_records;
 
 pub use fault::{ImageFault, SaveFault};
 pub use load::{Loaded, load_image};

@@ -1,14 +1,14 @@
 // Loading the records of an image into a store.
-ghost use Rattle.std.specs.Prelude.{ℕ, List, [], IfOk};
+ghost use Rattle.std.specs.Prelude.{List, [], IfOk};
 ghost use Rattle.core_terms.specs.ProgramTypes.{types_by_number, types_meaning};
-ghost use Rattle.images.specs.Images.{Entry, checked_entry, field_count, image_of, last, rooted};
+ghost use Rattle.images.specs.Images.{Entry, field_count, image_of, last, rooted};
 ghost use Rattle.images.specs.Images as meant;
 ghost use Rattle.images.specs.Records as defined;
 ghost use Rattle.images.specs.LoadedRoots.{LoadsOver};
 ghost use Rattle.images.specs.LoadedRecords.{AreLoaded, IsRecordFront, IsRoot};
 ghost use Rattle.images.specs.PartMarks.{IsMarksOf};
 ghost use Rattle.images.specs.ReadRecords.{HasConstructor, record_told};
-ghost use Rattle.images.specs.StoredRecords.{AreStored, IsLoaded};
+ghost use Rattle.images.specs.StoredRecords.{AreKept, LoadsEntry};
 ghost use Rattle.value_store.specs.Markings.{Marking};
 ghost use Rattle.value_store.specs.Nodes.{Node};
 ghost use Rattle.value_store.specs.Standing.{Keeps};
@@ -16,12 +16,13 @@ ghost use Rattle.value_store.specs.Stores.{nodes_in};
 
 use crate::ImageFault;
 use crate::entries::{authenticated, bool, constructor, int, pair, text, unit};
+use crate::header::{Header, read_header};
 use crate::part_types::PartTypes;
 use crate::parts::PartMarks;
 use crate::record::{Front, Record, RecordFault, read_record};
 use crate::stored::StoredRecord;
+use crate::stored_records::StoredRecords;
 use core_terms::{Digest, Types};
-use crate::header::{Header, read_header};
 use std::alloc::Global;
 use value_store::{Marker, Ref, Store};
 
@@ -36,7 +37,7 @@ pub struct Loaded {
 #[derive(Drop)]
 struct Records<'a> {
     store: Store,
-    loaded: Vec<StoredRecord>,
+    loaded: StoredRecords,
     rest: &'a [u8],
 }
 
@@ -57,12 +58,12 @@ pub fn load_image<M: Marker>(
     ensures loads { LoadsOver M.marking (types_meaning types.now) (image_of (types_meaning types.now) text_digest.now.0 bytes.now) result }
 {
     let header = read_header(text_digest, bytes)?;
-    let parts = PartMarks::of(alloc, types)?;
-    let part_types = PartTypes {
+    let marks = PartMarks::of(alloc, types)?;
+    let parts = PartTypes {
         types,
-        parts: &parts,
+        marks: &marks,
     };
-    let records = load_records(alloc, &part_types, marker, bytes.len(), header)?;
+    let records = load_records(alloc, &parts, marker, bytes.len(), header)?;
     let root = root(types, &records.loaded, records.rest)?;
     Ok(Loaded {
         store: records.store,
@@ -73,22 +74,22 @@ pub fn load_image<M: Marker>(
 /// The records behind the header, one after another, in an image of `size` bytes.
 fn load_records<'a, M: Marker>(
     alloc: Global,
-    types: &PartTypes<'a>,
+    parts: &PartTypes<'a>,
     marker: &mut M,
     size: usize,
     header: Header<'a>,
 ) -> Result<Records<'a>, ImageFault>
-    requires marked { IsMarksOf types.now.types.now types.now.parts.now }
-    ensures { AreLoaded M.marking (types_meaning types.now.types.now) (types_by_number types.now.types.now) (meant.load_records (types_meaning types.now.types.now) size header.entry.count [] header.entry.records.now) result }
+    requires marked { IsMarksOf parts.now.types.now parts.now.marks.now }
+    ensures { AreLoaded M.marking (types_meaning parts.now.types.now) (types_by_number parts.now.types.now) (meant.load_records (types_meaning parts.now.types.now) size header.entry.count [] header.entry.records.now) result }
 {
     let mut store = Store::new(alloc);
-    let mut loaded = Vec::new(alloc);
+    let mut loaded = StoredRecords::new(alloc);
     let mut rest = header.records;
     for number in 0..header.count {
-        let front = next_front(types, number, size, rest)?;
+        let front = next_front(parts, number, size, rest)?;
         let stored = stored(
             alloc,
-            types,
+            parts,
             marker,
             &mut store,
             &loaded,
@@ -107,16 +108,16 @@ fn load_records<'a, M: Marker>(
 
 /// The record with this number, at the front of some bytes of an image of `size`.
 fn next_front<'a>(
-    types: &PartTypes<'a>,
+    parts: &PartTypes<'a>,
     number: u32,
     size: usize,
     bytes: &'a [u8],
 ) -> Result<Front<'a>, ImageFault>
-    requires marked { IsMarksOf types.now.types.now types.now.parts.now }
-    ensures front { IsRecordFront (types_meaning types.now.types.now) size number (defined.read_record (field_count (types_meaning types.now.types.now) size) bytes.now) result }
-    ensures constructor { IfOk result (λ front. HasConstructor types.now.types.now front.record) }
+    requires marked { IsMarksOf parts.now.types.now parts.now.marks.now }
+    ensures front { IsRecordFront (types_meaning parts.now.types.now) size number (defined.read_record (field_count (types_meaning parts.now.types.now) size) bytes.now) result }
+    ensures constructor { IfOk result (λ front. HasConstructor parts.now.types.now front.record) }
 {
-    match read_record(types.types, types.parts, bytes) {
+    match read_record(parts.types, parts.marks, bytes) {
         Ok(front) => Ok(front),
         Err(RecordFault::Cut) => Err(ImageFault::Cut(size)),
         Err(RecordFault::Bad) => Err(ImageFault::BadRecord(number)),
@@ -126,34 +127,34 @@ fn next_front<'a>(
 /// What the record with this number stands for, behind those that are loaded, put into the store.
 fn stored<M: Marker>(
     alloc: Global,
-    types: &PartTypes,
+    parts: &PartTypes,
     marker: &mut M,
     store: &mut Store,
-    loaded: &[StoredRecord],
+    loaded: &StoredRecords,
     number: u32,
     found: Record,
 ) -> Result<StoredRecord, ImageFault>
-    requires marked { IsMarksOf types.now.types.now types.now.parts.now }
-    requires stored { (entries : List Entry) × AreStored M.marking (types_meaning types.now.types.now) (types_by_number types.now.types.now) (nodes_in store.old) loaded.now entries }
-    requires constructor { HasConstructor types.now.types.now found }
-    ensures loaded { (entries : List Entry) → AreStored M.marking (types_meaning types.now.types.now) (types_by_number types.now.types.now) (nodes_in store.old) loaded.now entries
-        → (size : ℕ) → IsLoaded M.marking (types_meaning types.now.types.now) (types_by_number types.now.types.now) (nodes_in store.new) (λ go. checked_entry (types_meaning types.now.types.now) size number (meant.stands_for (types_meaning types.now.types.now).types entries (record_told found.entry)) go) result }
+    requires marked { IsMarksOf parts.now.types.now parts.now.marks.now }
+    requires stored { (entries : List Entry) × AreKept M.marking parts.now.types.now (nodes_in store.old) loaded.now entries }
+    requires constructor { HasConstructor parts.now.types.now found }
+    ensures loaded { (entries : List Entry) → AreKept M.marking parts.now.types.now (nodes_in store.old) loaded.now entries
+        → LoadsEntry M.marking parts.now.types.now (nodes_in store.new) number (meant.stands_for (types_meaning parts.now.types.now).types entries (record_told found.entry)) result }
     ensures keeps { Keeps (nodes_in store.old) (nodes_in store.new) }
 {
     match found {
-        Record::Unit => unit(types, store, number),
-        Record::Bool(value) => bool(types, store, number, value),
-        Record::Int(value) => int(types, store, number, value),
-        Record::Text(value) => text(types, store, number, value),
-        Record::Pair(first, second) => pair(types, store, loaded, number, first, second),
-        Record::Constructor(found) => constructor(alloc, types, store, loaded, number, found),
-        Record::Auth(inner) => authenticated(types, marker, store, loaded, number, inner),
+        Record::Unit => unit(parts, store, number),
+        Record::Bool(value) => bool(parts, store, number, value),
+        Record::Int(value) => int(parts, store, number, value),
+        Record::Text(value) => text(parts, store, number, value),
+        Record::Pair(first, second) => pair(parts, store, loaded, number, first, second),
+        Record::Constructor(found) => constructor(alloc, parts, store, loaded, number, found),
+        Record::Auth(inner) => authenticated(parts, marker, store, loaded, number, inner),
     }
 }
 
 /// The node of the last record, which must be of the state's type; nothing stands behind it.
-fn root(types: &Types, loaded: &[StoredRecord], rest: &[u8]) -> Result<Ref, ImageFault>
-    ensures { (marking : Marking) (nodes : List Node) (entries : List Entry) → AreStored marking (types_meaning types.now) (types_by_number types.now) nodes loaded.now entries
+fn root(types: &Types, loaded: &StoredRecords, rest: &[u8]) -> Result<Ref, ImageFault>
+    ensures { (marking : Marking) (nodes : List Node) (entries : List Entry) → AreKept marking types.now nodes loaded.now entries
         → IsRoot marking (types_meaning types.now) nodes (rooted (types_meaning types.now).state (last entries) rest.now) result }
 {
     let Some(root) = loaded.last() else {

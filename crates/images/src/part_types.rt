@@ -11,17 +11,17 @@ use core_terms::{TyForm, TyId, Types};
 #[derive(Clone, Copy)]
 pub(crate) struct PartTypes<'a> {
     pub types: &'a Types,
-    pub parts: &'a PartMarks,
+    pub marks: &'a PartMarks,
 }
 
 impl<'a> PartTypes<'a> {
     /// The type of this form, where it is the state's or a part of it. The form's parts are types of the program.
     pub fn part(&self, form: TyForm) -> Option<TyId>
-        requires marked { IsMarksOf self.now.types.now self.now.parts.now }
+        requires marked { IsMarksOf self.now.types.now self.now.marks.now }
         requires behind { stands_behind (length (types_by_number self.now.types.now)) form ≡ true }
         ensures { IsPartOfState self.now.types.now form result }
     {
-        self.parts.part_of(self.types, form)
+        self.marks.part_of(self.types, form)
     }
 
     /// The greatest number of bytes of a spelling.

@@ -33,7 +33,7 @@ impl PartMarks {
 
     /// Whether the type, which is one of the program's, is the state's or a part of it.
     pub fn is_part(&self, ty: TyId) -> bool
-        ensures { (p : code.Types) → IsMarksOf p self.now → ty.0 < length (types_by_number p) → result ≡ is_part (types_meaning p).types (type_of p ty.0) (types_meaning p).state }
+        ensures { (types : code.Types) → IsMarksOf types self.now → ty.0 < length (types_by_number types) → result ≡ is_part (types_meaning types).types (type_of types ty.0) (types_meaning types).state }
     {
         match self.marks.get(ty.0) {
             Some(mark) => *mark,

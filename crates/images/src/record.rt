@@ -83,7 +83,7 @@ pub(crate) fn read_record<'a>(
 /// A bool: a byte 0 or 1.
 fn read_bool(bytes: &[u8]) -> Result<Front<'_>, RecordFault>
     ensures read { IsRead (meant.bool_record bytes.now) result }
-    ensures constructor { (p : code.Types) → IfOk result (λ front. HasConstructor p front.record) }
+    ensures constructor { (types : code.Types) → IfOk result (λ front. HasConstructor types front.record) }
 {
     let Some((byte, rest)) = bytes.split_first() else {
         return Err(RecordFault::Cut);
@@ -104,7 +104,7 @@ fn read_bool(bytes: &[u8]) -> Result<Front<'_>, RecordFault>
 /// An int: 8 bytes of two's complement.
 fn read_int(bytes: &[u8]) -> Result<Front<'_>, RecordFault>
     ensures read { IsRead (meant.int_record bytes.now) result }
-    ensures constructor { (p : code.Types) → IfOk result (λ front. HasConstructor p front.record) }
+    ensures constructor { (types : code.Types) → IfOk result (λ front. HasConstructor types front.record) }
 {
     let Some((number, rest)) = bytes.split_first_chunk::<8>() else {
         return Err(RecordFault::Cut);
@@ -118,7 +118,7 @@ fn read_int(bytes: &[u8]) -> Result<Front<'_>, RecordFault>
 /// A text: its length in 4 bytes, and that many bytes of UTF-8.
 fn read_text(bytes: &[u8]) -> Result<Front<'_>, RecordFault>
     ensures read { IsRead (meant.text_record bytes.now) result }
-    ensures constructor { (p : code.Types) → IfOk result (λ front. HasConstructor p front.record) }
+    ensures constructor { (types : code.Types) → IfOk result (λ front. HasConstructor types front.record) }
 {
     let Some((len, behind)) = bytes.split_first_chunk::<4>() else {
         return Err(RecordFault::Cut);
@@ -138,7 +138,7 @@ fn read_text(bytes: &[u8]) -> Result<Front<'_>, RecordFault>
 /// A pair: the numbers of two records, of 4 bytes each.
 fn read_pair(bytes: &[u8]) -> Result<Front<'_>, RecordFault>
     ensures read { IsRead (meant.pair_record bytes.now) result }
-    ensures constructor { (p : code.Types) → IfOk result (λ front. HasConstructor p front.record) }
+    ensures constructor { (types : code.Types) → IfOk result (λ front. HasConstructor types front.record) }
 {
     let Some((first, behind)) = bytes.split_first_chunk::<4>() else {
         return Err(RecordFault::Cut);
@@ -206,7 +206,7 @@ fn fields_of<'a>(
 /// An authenticated value: the number of a record, of 4 bytes.
 fn read_auth(bytes: &[u8]) -> Result<Front<'_>, RecordFault>
     ensures read { IsRead (meant.auth_record bytes.now) result }
-    ensures constructor { (p : code.Types) → IfOk result (λ front. HasConstructor p front.record) }
+    ensures constructor { (types : code.Types) → IfOk result (λ front. HasConstructor types front.record) }
 {
     let Some((inner, rest)) = bytes.split_first_chunk::<4>() else {
         return Err(RecordFault::Cut);

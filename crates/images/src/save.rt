@@ -16,8 +16,8 @@ ghost use Rattle.value_store.specs.Standing.{IdealNodes, StandsFor};
 ghost use Rattle.value_store.specs.Stores.{nodes_in};
 
 use crate::SaveFault;
-use core_terms::{Digest, Types};
 use crate::header::{digest_bytes, write_header};
+use core_terms::{Digest, Types};
 use record::part;
 use records::Records;
 use std::alloc::{AllocError, Global};

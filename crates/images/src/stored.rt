@@ -1,10 +1,10 @@
-// What is kept of a record that was loaded.
+// What a record that was loaded stands for.
 ghost use Rattle.std.specs.Prelude.{◌≡◌, nat_eq};
 
 use core_terms::TyId;
 use value_store::Ref;
 
-/// What a record stands for: a node of the store, and the number of its type.
+/// A node of the store, and the number of its type.
 #[derive(Clone, Copy)]
 pub(crate) struct StoredRecord {
     pub ty: TyId,

@@ -4,8 +4,8 @@ ghost use Rattle.value_store.specs.Markings.{IdealMarking};
 use auth_syntax::parser::parse;
 use auth_types::check::check;
 use core_terms::{Digest, Program, TyId, Types};
-use std::alloc::{AllocError, Global};
 use images::{ImageFault, load_image, save_image};
+use std::alloc::{AllocError, Global};
 use value_store::{Held, Marker, Nodes, Ref, Store};
 
 /// The longest text of a program, in bytes.

@@ -13,9 +13,9 @@ use Rattle.images.proofs.entries.bool.Goals as goal
 
 pub returns-clause-loaded : goal.returns-clause-loaded
 returns-clause-loaded c marking size =
-    let p = c.args.types.now.types.now in
+    let p = c.args.parts.now.types.now in
     loaded p size c.args.number BoolTy (BoolV c.args.value) (λ go. checked_entry (types_meaning p) size c.args.number (Some (entry BoolTy (BoolV c.args.value))) go)
     (λ go. refl) c.in-Some.ensures.0
     (lit≤ tt) (lit≤ tt) marking (nodes_in c.put_bool.new.self) (record { ty = c.in-Some.ty; value = c.in_ok-value.value }) (BoolV c.args.value)
-    (numbered c.args.types.now.types.now BoolForm c.in-Some.ty c.in-Some.ensures) (bool_seen marking (types_meaning p) c.args.value)
+    (numbered c.args.parts.now.types.now BoolForm c.in-Some.ty c.in-Some.ensures) (bool_seen marking (types_meaning p) c.args.value)
     (c.in_ok-value.ensures.stands (kind_of marking (types_meaning p)) (types_meaning p).types)

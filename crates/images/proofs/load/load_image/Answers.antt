@@ -1,8 +1,6 @@
-use Rattle.std.proofs.Common.{◌≡◌, Err, sym, subst}
+use Rattle.std.proofs.Common.{◌≡◌, Err}
 use Rattle.std.proofs.lemmas.Result.{err_from_is_err_and}
-use Rattle.core_terms.specs.ProgramTypes.{types_by_number, types_meaning}
 use Rattle.value_store.specs.Stores.{nodes_in}
-use Rattle.images.specs.StoredRecords.{AreStored}
 use Rattle.images.proofs.LoadedImages.{fault_told, header_fault, records_fault, root_fault, root_told, with_header}
 use Rattle.images.proofs.load.load_image.Goals as goal
 
@@ -41,14 +39,13 @@ returns-in_err-root g c =
     let header = c.in_ok-header.header in
     let found = c.in_ok-records.records in
     let records = c.in_ok-records.ensures in
-    let stored = subst (λ loaded. AreStored m (types_meaning types) (types_by_number types) (nodes_in found.store) loaded records.0) (sym c.deref.ensures.value) records.2 in
     let fault = c.in_err-root.field-0.0 in
     let err = err_from_is_err_and c.from_residual-in_err-root.result c.from_residual-in_err-root.ensures.1 in
     let same : c.from_residual-in_err-root.result ≡ Err fault = cc in
     record {
       loads = fault_told m types digest bytes fault c.from_residual-in_err-root.result same
           (root_fault m types digest bytes header.count header.records.now (with_header m types digest bytes header c.in_ok-header.ensures) records.0 found.rest.now records.1
-          fault (c.in_err-root.ensures m (nodes_in found.store) records.0 stored));
+          fault (c.in_err-root.ensures m (nodes_in found.store) records.0 records.2));
     }
 
 pub returns : goal.returns
@@ -60,8 +57,7 @@ returns g c =
     let header = c.in_ok-header.header in
     let found = c.in_ok-records.records in
     let records = c.in_ok-records.ensures in
-    let stored = subst (λ loaded. AreStored m (types_meaning types) (types_by_number types) (nodes_in found.store) loaded records.0) (sym c.deref.ensures.value) records.2 in
-    let root = c.in_ok-root.ensures m (nodes_in found.store) records.0 stored in
+    let root = c.in_ok-root.ensures m (nodes_in found.store) records.0 records.2 in
     record {
       loads = (
         root.0,

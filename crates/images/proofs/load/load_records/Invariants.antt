@@ -4,4 +4,4 @@ use Rattle.images.proofs.load.load_records.Given as goal
 
 abbrev pub invariant-loop-number : goal.invariant-loop-number
 invariant-loop-number g l =
-    SoFar g.M.Marker.marking l.types.types.now l.size l.header.count l.header.records.now l.number (nodes_in l.store) l.loaded.items l.rest
+    SoFar g.M.Marker.marking l.parts.types.now l.size l.header.count l.header.records.now l.number (nodes_in l.store) l.loaded l.rest

@@ -9,9 +9,9 @@ returns-in-Ok-clause-front c = c.in-Ok.ensures.read c.args.size
 pub returns-in-Err-Cut-clause-front : goal.returns-in-Err-Cut-clause-front
 returns-in-Err-Cut-clause-front c entries go =
     let read = rw c.in-Err-Cut.field-0-is at (c.in-Err-Cut.ensures.read c.args.size) in
-    ap (λ read. with_record (types_meaning c.args.types.now.types.now) c.args.size c.args.number entries read go) read
+    ap (λ read. with_record (types_meaning c.args.parts.now.types.now) c.args.size c.args.number entries read go) read
 
 pub returns-in-Err-Bad-clause-front : goal.returns-in-Err-Bad-clause-front
 returns-in-Err-Bad-clause-front c entries go =
     let read = rw c.in-Err-Bad.field-0-is at (c.in-Err-Bad.ensures.read c.args.size) in
-    ap (λ read. with_record (types_meaning c.args.types.now.types.now) c.args.size c.args.number entries read go) read
+    ap (λ read. with_record (types_meaning c.args.parts.now.types.now) c.args.size c.args.number entries read go) read

@@ -1,0 +1,108 @@
+// The records that are loaded, by number.
+ghost use Rattle.std.specs.Prelude.{◌≡◌, ◌+◌, ◌-◌, ◌<◌, ◌++◌, ◌∷◌, [], length, slice_get, OnOk};
+ghost use Rattle.images.specs.KeptRecords.{node_at};
+
+use crate::stored::StoredRecord;
+use core_terms::TyId;
+use std::alloc::{AllocError, Global};
+use std::marker::Model;
+use value_store::Ref;
+
+/// The greatest number of a type that is kept.
+const MOST_TYPE: usize = 4_294_967_295;
+
+/// The records that are loaded. Most often each is the node with its own number, so that its type is all that is kept of it, in 4 bytes.
+#[derive(Drop)]
+pub(crate) struct StoredRecords {
+    types: Vec<u32>,
+    /// How many of the first ones are the nodes with their own numbers.
+    same: usize,
+    /// The nodes of the others.
+    others: Vec<Ref>,
+}
+
+impl Model for StoredRecords {
+    ghost use Rattle.std.specs.Prelude.{◌≡◌, ◌+◌, List, length};
+    ghost use Rattle.images.specs.declared.stored.StoredRecord.{StoredRecord};
+
+    ghost Value = { List StoredRecord };
+
+    ghost use Rattle.images.specs.KeptRecords.{records_kept};
+
+    ghost view = { λ kept. records_kept kept.same kept.others.items kept.types.items };
+
+    ghost invariant = { λ kept. kept.same + length kept.others.items ≡ length kept.types.items };
+}
+
+impl StoredRecords {
+    /// No records.
+    pub fn new(alloc: Global) -> Self
+        ensures { result ≡ [] }
+    {
+        StoredRecords {
+            types: Vec::new(alloc),
+            same: 0,
+            others: Vec::new(alloc),
+        }
+    }
+
+    /// The record with this number, where there are so many.
+    pub fn get(&self, number: usize) -> Option<StoredRecord>
+        ensures { result ≡ slice_get self.now number }
+    {
+        let Some(ty) = type_at(&self.types, number) else {
+            return None;
+        };
+        Some(StoredRecord {
+            ty: TyId(ty as usize),
+            value: node(self.same, &self.others, number),
+        })
+    }
+
+    /// The last record, where there is one.
+    pub fn last(&self) -> Option<StoredRecord>
+        ensures { result ≡ slice_get self.now (length self.now - 1) }
+    {
+        self.get(self.types.len().saturating_sub(1))
+    }
+
+    /// Adds a record. One of a type behind the first 2^32 finds no room.
+    pub fn push(&mut self, found: StoredRecord) -> Result<(), AllocError>
+        ensures { OnOk result (self.new ≡ self.old ++ found ∷ []) }
+    {
+        if found.ty.0 > MOST_TYPE {
+            return Err(AllocError);
+        }
+        self.types.push(found.ty.0 as u32)?;
+        if self.others.is_empty() && found.value.0 == self.same {
+            self.same += 1;
+            return Ok(());
+        }
+        match self.others.push(found.value) {
+            Ok(_) => Ok(()),
+            Err(_) => {
+                self.types.pop();
+                Err(AllocError)
+            }
+        }
+    }
+}
+
+/// The number of a record's type, where there are so many records.
+fn type_at(types: &[u32], number: usize) -> Option<u32>
+    ensures { result ≡ slice_get types.now number }
+{
+    types.get(number).copied()
+}
+
+/// The node of the record with this number.
+fn node(same: usize, others: &[Ref], number: usize) -> Ref
+    requires { number < same + length others.now }
+    ensures { result ≡ node_at same others.now number }
+{
+    if number < same {
+        Ref(number)
+    } else {
+        others[number - same]
+    }
+}
