@@ -15,8 +15,8 @@ use Rattle.core_terms.specs.Types.{Ty, NamedTy, AuthTy, fields_at, OnFields}
 use Rattle.core_terms.specs.Typing.{same_type}
 use Rattle.core_terms.specs.Values.{Value, ConV, Values, AndV, IsIdeal, AreIdeal, IsWithin, AuthWithin, AuthWithinAll, size, depth, int_fits}
 use Rattle.core_terms.proofs.TypingSound.{same_sound}
-use Rattle.images.specs.Images.{Entry, entry, Loading, Loaded, FaultyImage, BadRecord, TooBig, TooDeep, Cut, Image, Root, Refused, Magic, OtherProgram, RootType, Leftover, as_image, checked_entry, field_count, fields_from, image_magic, image_of, last, load_records, pair_from, rooted, stands_for, with_record, within_limits}
 use Rattle.images.specs.ImageLaws.{RootsFit}
+use Rattle.images.specs.Images.{Entry, entry, Loading, Loaded, FaultyImage, BadRecord, TooBig, TooDeep, Cut, Image, Root, Refused, Magic, OtherProgram, RootType, Leftover, as_image, checked_entry, field_count, fields_from, image_magic, image_of, last, load_records, pair_from, rooted, stands_for, with_record, within_limits}
 use Rattle.images.specs.Parts.{is_part}
 use Rattle.images.specs.Records.{Record, UnitRecord, BoolRecord, IntRecord, TextRecord, PairRecord, ConRecord, AuthRecord, RecordRead, ReadRecord, CutRecord, NoRecord, bool_record, con_record, fields_record, fixed, number_of, numbers_of, read_record, text_record}
 
@@ -97,13 +97,16 @@ module _ (P : Program) where
   con_read file_size bytes =
       let number = from_be_bytes w16 (take 2 bytes) in
       let tag = slice_index_or bytes 2 0 in
-      either_read (nat_le 3 (length bytes)) (fields_record number tag (field_count P file_size number tag) (drop 3 bytes)) CutRecord (counted number tag (drop 3 bytes)) tt
+      either_read (nat_le 3 (length bytes)) (fields_record number tag (field_count P file_size number tag) (drop 3 bytes)) CutRecord
+      (counted number tag (drop 3 bytes)) tt
     where
-      in_table : (number tag : ℕ) (bytes : List ℕ) (found : Option (List Ty)) → fields_at P.types number tag ≡ found → OnRead (fields_record number tag (option_map length found) bytes)
+      in_table : (number tag : ℕ) (bytes : List ℕ) (found : Option (List Ty)) → fields_at P.types number tag ≡ found
+          → OnRead (fields_record number tag (option_map length found) bytes)
       in_table number tag bytes None is = tt
       in_table number tag bytes (Some ts) is = fields_read number tag (length ts) bytes (ts, is)
 
-      by : (number tag : ℕ) (bytes : List ℕ) (part : Bool) → OnRead (fields_record number tag (if part then option_map length (fields_at P.types number tag) else None) bytes)
+      by : (number tag : ℕ) (bytes : List ℕ) (part : Bool)
+          → OnRead (fields_record number tag (if part then option_map length (fields_at P.types number tag) else None) bytes)
       by number tag bytes true = in_table number tag bytes (fields_at P.types number tag) refl
       by number tag bytes false = tt
 
@@ -137,7 +140,8 @@ module _ (P : Program) where
     pair_found : (i j : ℕ) → OnFound (stands_for P.types entries (PairRecord i j))
     pair_found i j = by (slice_get entries i) (slice_get entries j) (λ e is. at i e is) (λ e is. at j e is)
       where
-        by : (a b : Option Entry) → ((e : Entry) → a ≡ Some e → IsKeptEntry P e) → ((e : Entry) → b ≡ Some e → IsKeptEntry P e) → OnFound (option_and_then (λ a. option_map (λ b. pair_from a b) b) a)
+        by : (a b : Option Entry) → ((e : Entry) → a ≡ Some e → IsKeptEntry P e) → ((e : Entry) → b ≡ Some e → IsKeptEntry P e)
+            → OnFound (option_and_then (λ a. option_map (λ b. pair_from a b) b) a)
         by None b first second = tt
         by (Some a) None first second = tt
         by (Some a) (Some b) first second = let x = first a refl in let y = second b refl in ((x.ideal, y.ideal), (x.deep, y.deep))
@@ -170,7 +174,8 @@ module _ (P : Program) where
     con_found : (number tag : ℕ) (fields : List ℕ) → IsRecord (ConRecord number tag fields) → OnFound (stands_for P.types entries (ConRecord number tag fields))
     con_found number tag fields (ts, is) =
         by (fields_from entries fields (unwrap_or (fields_at P.types number tag) []))
-        (subst (λ o. OnValues (unwrap_or o []) (fields_from entries fields (unwrap_or (fields_at P.types number tag) []))) is (values_found fields (unwrap_or (fields_at P.types number tag) [])))
+        (subst (λ o. OnValues (unwrap_or o []) (fields_from entries fields (unwrap_or (fields_at P.types number tag) []))) is
+        (values_found fields (unwrap_or (fields_at P.types number tag) [])))
       where
         by : (vs : Option Values) → OnValues ts vs → OnFound (option_map (λ vs. entry (NamedTy number) (ConV tag vs)) vs)
         by None good = tt
@@ -196,17 +201,23 @@ module _ (P : Program) where
 
   module _ (file_size : ℕ) where
     judged : (i : ℕ) (e : Entry) (go : Loading) → IsFound P e → (IsKeptEntry P e → OnLoading go) → OnLoading (within_limits P file_size i e go)
-    judged i e go found more = by (not (is_part P.types e.of_type P.state)) (nat_lt P.format.limit (size P.types e.of_type e.value)) refl (nat_lt depth_limit (depth P.types e.of_type e.value)) refl
+    judged i e go found more =
+        by (not (is_part P.types e.of_type P.state)) (nat_lt P.format.limit (size P.types e.of_type e.value)) refl
+        (nat_lt depth_limit (depth P.types e.of_type e.value)) refl
       where
-        by : (other : Bool) (big : Bool) → nat_lt P.format.limit (size P.types e.of_type e.value) ≡ big → (deep : Bool) → nat_lt depth_limit (depth P.types e.of_type e.value) ≡ deep
+        by : (other : Bool) (big : Bool) → nat_lt P.format.limit (size P.types e.of_type e.value) ≡ big → (deep : Bool)
+            → nat_lt depth_limit (depth P.types e.of_type e.value) ≡ deep
             → OnLoading (if other then FaultyImage (BadRecord i) else (if big then FaultyImage (TooBig i) else (if deep then FaultyImage (TooDeep i) else go)))
         by true big b deep d = tt
         by false true b deep d = tt
         by false false b true d = tt
         by false false b false d =
-            more (record { ideal = found.0; fits = record { size_fits = ltb-false P.format.limit (size P.types e.of_type e.value) b; depth_fits = ltb-false depth_limit (depth P.types e.of_type e.value) d }; deep = found.1 })
+            let small = ltb-false P.format.limit (size P.types e.of_type e.value) b in
+            let shallow = ltb-false depth_limit (depth P.types e.of_type e.value) d in
+            more (record { ideal = found.0; fits = record { size_fits = small; depth_fits = shallow }; deep = found.1 })
 
-    entry_loads : (i : ℕ) (found : Option Entry) (go : Entry → Loading) → ((e : Entry) → found ≡ Some e → IsFound P e) → ((e : Entry) → IsKeptEntry P e → OnLoading (go e)) → OnLoading (checked_entry P file_size i found go)
+    entry_loads : (i : ℕ) (found : Option Entry) (go : Entry → Loading) → ((e : Entry) → found ≡ Some e → IsFound P e)
+        → ((e : Entry) → IsKeptEntry P e → OnLoading (go e)) → OnLoading (checked_entry P file_size i found go)
     entry_loads i None go good more = tt
     entry_loads i (Some e) go good more = judged i e (go e) (good e refl) (more e)
 
@@ -215,12 +226,14 @@ module _ (P : Program) where
     record_loads i entries kept CutRecord good go more = tt
     record_loads i entries kept NoRecord good go more = tt
     record_loads i entries kept (ReadRecord r rest) good go more =
-        entry_loads i (stands_for P.types entries r) (λ e. go e rest) (λ e is. subst (OnFound entries kept) is (found entries kept r good)) (λ e kept. more e rest kept)
+        entry_loads i (stands_for P.types entries r) (λ e. go e rest) (λ e is. subst (OnFound entries kept) is (found entries kept r good))
+        (λ e kept. more e rest kept)
 
     loads : (more : ℕ) (entries : List Entry) (bytes : List ℕ) → All (IsKeptEntry P) entries → OnLoading (load_records P file_size more entries bytes)
     loads zero entries bytes kept = kept
     loads (suc more) entries bytes kept =
-        record_loads (length entries) entries kept (read_record (field_count P file_size) bytes) (record_read file_size bytes) (λ e rest. load_records P file_size more (entries ++ e ∷ []) rest)
+        record_loads (length entries) entries kept (read_record (field_count P file_size) bytes) (record_read file_size bytes)
+        (λ e rest. load_records P file_size more (entries ++ e ∷ []) rest)
         (λ e rest good. loads more (entries ++ e ∷ []) rest (All-push (IsKeptEntry P) entries e kept good))
 
   -- the root
