@@ -1,7 +1,7 @@
 -- The headline with its pair: what is accepted is true, or the audit shows the split.
 use Rattle.std.proofs.Common.{◌≡◌, ◌⊎◌, inl, inr, ℕ, List, [], drop, Option, Some, None, refl, sym, ap, ◌∙◌, subst}
 use Rattle.core_terms.specs.Types.{Ty}
-use Rattle.core_terms.specs.Formats.{Hash, IsHash}
+use Rattle.core_terms.specs.Formats.{Hash}
 use Rattle.core_terms.specs.Projection.{digest_at}
 use Rattle.core_terms.specs.Roles.{role_result}
 use Rattle.core_terms.specs.Terms.{Program}
@@ -14,7 +14,7 @@ use Rattle.ideal_meaning.proofs.Headline.{headline}
 use Rattle.collision_audit.specs.AuditLaws.{AgreementIsTrue, AuditShowsCollision, IsTrueOutcome}
 use Rattle.collision_audit.specs.Audits.{Collides, Judges, audit_of, unless_split, verdict_on_projections}
 use Rattle.collision_audit.specs.Splits.{Split, IsSplit, offered_behind, offered_in, split_of}
-use Rattle.collision_audit.proofs.FirstSplits.{split_is_found, no_split_is_found, splits_somewhere}
+use Rattle.collision_audit.proofs.FirstSplits.{split_is_found, splits_somewhere}
 
 -- what a good header offers
 pub behind_good : (hash : Hash) (P : Program) (f : ℕ) (t : Ty) (state argument : Value) (k : ℕ) (bytes : List ℕ) (o : Outcome) (n : ℕ) → header P.format bytes ≡ Some n

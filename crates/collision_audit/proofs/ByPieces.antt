@@ -25,7 +25,7 @@ use Rattle.collision_audit.specs.Audits.{Audit, Collides, Judges, unless_split, 
 use Rattle.collision_audit.specs.Splits.{Split, first_split, offered_behind, split_from, split_of}
 use Rattle.collision_audit.specs.PieceAudits.{audit_by_pieces, audit_file, audit_frames, audit_from, differing, outcome_seen}
 use Rattle.collision_audit.specs.PieceLaws.{AuditIsByPieces}
-use Rattle.collision_audit.proofs.Parting.{not_same}
+use Rattle.collision_audit.proofs.FirstSplits.{not_same}
 use Rattle.collision_audit.proofs.Reaching.{Reaches, ReachesIn, place_behind, reaches_one, run_reaches}
 
 module _ (hash : Hash) (P : Program) (o : Outcome) where

@@ -1,11 +1,19 @@
 -- The first split of two lists of pieces, which is found exactly where they split.
-use Rattle.std.proofs.Common.{◌≡◌, ℕ, zero, suc, ◌+◌, Bool, true, false, List, [], ◌∷◌, Option, Some, None, slice_get, bytes_eq, if◌then◌else◌, refl, sym, ap, ◌∙◌, subst, arith, true≢false}
+use Rattle.std.proofs.Common.{◌≡◌, ◌≢◌, ℕ, zero, suc, ◌+◌, Bool, true, false, List, [], ◌∷◌, Option, Some, None, slice_get, bytes_eq, if◌then◌else◌, refl, sym, ap, ◌∙◌, subst, arith, true≢false}
 use Rattle.std.proofs.lemmas.Slice.Eq.{bytes_eq-Decides}
 use Rattle.core_terms.specs.Types.{Ty}
 use Rattle.ideal_meaning.specs.Checked.{IsSplitAt}
 use Rattle.ideal_meaning.specs.Ideal.{Piece, bytes_of}
 use Rattle.collision_audit.specs.AuditLaws.{SplitIsFound, NoSplitIsFound}
 use Rattle.collision_audit.specs.Splits.{Split, IsSplit, first_split, split_from}
+
+-- bytes that differ are told apart
+pub not_same : (x y : List ℕ) → x ≢ y → bytes_eq x y ≡ false
+not_same x y differs = by (bytes_eq x y) refl
+  where
+    by : (b : Bool) → bytes_eq x y ≡ b → b ≡ false
+    by true e = absurd (differs ((bytes_eq-Decides x y).0 e))
+    by false e = refl
 
 module _ (digest : Ty → List ℕ → List ℕ) where
   -- the lists split at place i, where pieces are numbered from `place`, and s is that split

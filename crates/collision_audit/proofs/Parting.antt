@@ -24,6 +24,7 @@ use Rattle.core_terms.specs.Values.{Value}
 use Rattle.value_store.specs.Nodes.{Node}
 use Rattle.value_store.specs.Standing.{ProverNodes, StandsFor}
 use Rattle.collision_audit.specs.Audits.{Audit, Judges}
+use Rattle.collision_audit.proofs.FirstSplits.{not_same}
 use Rattle.collision_audit.specs.Splits.{left_behind}
 use Rattle.collision_audit.specs.AuditAnswers.{AreLeft, StopsBehind}
 use Rattle.collision_audit.specs.Comparing.{Compares, ComparesAll, IsAhead, IsCounted, TakesPiece, TellsDifference}
@@ -35,13 +36,6 @@ use Rattle.collision_audit.specs.declared.audited.Audited.TheVariants as audited
 use Rattle.collision_audit.specs.declared.offers.Offered.{Offered}
 use Rattle.collision_audit.specs.declared.offers.Offered.TheVariants.{Same, Other, Ended}
 use Rattle.prover_mode.specs.declared.opened.Opened.{Opened}
-
-pub not_same : (x y : List ℕ) → x ≢ y → bytes_eq x y ≡ false
-not_same x y differs = by (bytes_eq x y) refl
-  where
-    by : (b : Bool) → bytes_eq x y ≡ b → b ≡ false
-    by true e = absurd (differs ((bytes_eq-Decides x y).0 e))
-    by false e = refl
 
 pub ok_too : {T E : Type 0} (result : Result T E) (A B : T → Type 0) → ((x : T) → A x → B x) → IfOk result A → IfOk result B
 ok_too (Ok x) A B f h = f x h

@@ -10,11 +10,11 @@ use Rattle.core_terms.specs.Spelling.{spelling}
 use Rattle.core_terms.specs.Terms.{Kind, Program, IsTyped, function_at}
 use Rattle.core_terms.specs.Values.{Value, Values, IsIdeal, AreIdeal}
 use Rattle.ideal_meaning.specs.Agreement.{AllOpenedFit, Follows, IsRefused, OffersOther, Parts, TookHonest, honest_so_far}
-use Rattle.ideal_meaning.specs.Checked.{BadPiece, Cause, Rejected, Taking, Verdict, WrongPiece, before_all, checked, judge, judged, opened, take_piece, with_argument, with_header, with_state}
+use Rattle.ideal_meaning.specs.Checked.{Cause, Rejected, Taking, Verdict, WrongPiece, before_all, checked, judge, judged, opened, take_piece, with_argument, with_header, with_state}
 use Rattle.ideal_meaning.specs.Frames.{NoMore, Offer, Offers, header, offered, offered_pieces}
 use Rattle.ideal_meaning.specs.Headline.{call_of}
 use Rattle.ideal_meaning.specs.Ideal.{Opened, Piece, honest_bytes, honest_piece, honest_pieces, ideal}
-use Rattle.ideal_meaning.specs.Run.{Ends, Gives, Opening, Opens, Refuses, Rejects, Run, state_of}
+use Rattle.ideal_meaning.specs.Run.{Ends, Gives, Opening, Refuses, Run, state_of}
 use Rattle.ideal_meaning.proofs.Headline.{agreement}
 use Rattle.ideal_meaning.proofs.Judged.{split_after}
 use Rattle.ideal_meaning.proofs.Opening.{ReadsBack}
@@ -23,15 +23,8 @@ use Rattle.ideal_meaning.proofs.RoleCalls.{parameters_are}
 use Rattle.collision_audit.specs.AuditLaws.{EndsWithTheDifference, FirstDifferAt}
 use Rattle.collision_audit.specs.Audits.{unless_split, verdict_on_projections}
 use Rattle.collision_audit.specs.Splits.{Split, first_split, left_behind, offered_behind, offered_in, split_from, split_of}
-use Rattle.collision_audit.proofs.FirstSplits.{splits_somewhere}
+use Rattle.collision_audit.proofs.FirstSplits.{not_same, splits_somewhere}
 use Rattle.collision_audit.proofs.FrontAudits.{behind_header, same_header, same_pieces}
-
-not_same : (x y : List ℕ) → x ≢ y → bytes_eq x y ≡ false
-not_same x y differs = by (bytes_eq x y) refl
-  where
-    by : (b : Bool) → bytes_eq x y ≡ b → b ≡ false
-    by true e = absurd (differs ((bytes_eq-Decides x y).0 e))
-    by false e = refl
 
 -- the lists differ at one place alone, so what is found there is found in each list that begins alike
 found_alike : (digest : Ty → List ℕ → List ℕ) (place i : ℕ) (xs ys : List (List ℕ)) (honest : List Piece) → take (suc i) xs ≡ take (suc i) ys

@@ -8,7 +8,8 @@ use Rattle.proof_stream.specs.declared.frame.Frame.TheVariants.{New, Back}
 use Rattle.proof_stream.specs.declared.frame.FrameEnd.{FrameEnd}
 use Rattle.proof_stream.specs.declared.frame.FrameEnd.TheVariants as frame_end
 use Rattle.reuse_buffer.specs.Kept.{Kept, kept}
-use Rattle.collision_audit.specs.Comparing.{ComparesKept, ComparesNew, EndsAs, IsAhead, TakesPiece, end_told}
+use Rattle.verifier_mode.specs.Faults.{end_told}
+use Rattle.collision_audit.specs.Comparing.{ComparesKept, ComparesNew, EndsAs, IsAhead, TakesPiece}
 use Rattle.collision_audit.specs.declared.audited.AuditFault.{AuditFault}
 use Rattle.collision_audit.specs.declared.offers.Offered.{Offered}
 use Rattle.collision_audit.specs.declared.offers.Offered.TheVariants.{Same, Other, Ended}

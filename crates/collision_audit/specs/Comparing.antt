@@ -1,14 +1,14 @@
 -- What an offered piece is against an honest one.
 use Rattle.std.specs.Prelude.{◌≡◌, ◌≢◌, ℕ, List, [], ◌∷◌, drop, length, Option, Some, None, slice_get, option_map, Result, Ok, Err, ⊤}
 use Rattle.ideal_meaning.specs.Checked as checked
-use Rattle.ideal_meaning.specs.Frames.{End, NoByte, IsCut, KindIs, LongBy, NoMore, Offer, offered}
+use Rattle.ideal_meaning.specs.Frames.{End, NoMore, Offer, offered}
 use Rattle.ideal_meaning.specs.Frames as frames
 use Rattle.ideal_meaning.specs.Ideal.{Outcome}
 use Rattle.ideal_meaning.specs.Told.{cause_told}
 use Rattle.proof_stream.specs.Readers.{limit_of}
 use Rattle.proof_stream.specs.declared.frame.FrameEnd.{FrameEnd}
-use Rattle.proof_stream.specs.declared.frame.FrameEnd.TheVariants as frame_end
 use Rattle.reuse_buffer.specs.Kept.{Kept, kept}
+use Rattle.verifier_mode.specs.Faults.{end_told}
 use Rattle.collision_audit.specs.Audits.{Audit, Collides, Judges}
 use Rattle.collision_audit.specs.AuditAnswers.{AreLeft, StopsBehind, split_told}
 use Rattle.collision_audit.specs.declared.audited.AuditFault.{AuditFault}
@@ -46,15 +46,6 @@ abbrev pub TellsDifference : Audit → Audited → Type 0
 TellsDifference audit (audited.Agrees told) = ⊥
 TellsDifference audit (audited.Collision c) = audit ≡ Collides (split_told c)
 TellsDifference audit (audited.Rejected cause) = audit ≡ Judges (checked.Rejected (cause_told cause))
-
--- how the offered pieces end, where it is the bytes that end them
-abbrev pub end_told : FrameEnd → Option End
-end_told frame_end.End = Some NoByte
-end_told frame_end.Cut = Some IsCut
-end_told (frame_end.BadKind byte) = Some (KindIs byte)
-end_told (frame_end.PieceLong len) = Some (LongBy len)
-end_told frame_end.ReadFault = None
-end_told frame_end.NoMemory = None
 
 -- why there is no piece with this number
 abbrev pub EndsAs : FrameEnd → (place : ℕ) → Result Offered AuditFault → Type 0
