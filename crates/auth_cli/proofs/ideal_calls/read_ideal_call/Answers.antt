@@ -3,7 +3,9 @@ use Rattle.std.proofs.lemmas.Result.{err_from_is_err_and}
 use Rattle.core_terms.specs.Programs.{meaning, types_of}
 use Rattle.core_terms.specs.TypeTables.{type_at}
 use Rattle.core_terms.specs.Values.{Value}
+use Rattle.value_store.specs.Standing.{StandsFor}
 use Rattle.value_store.specs.Stores.{nodes_in}
+use Rattle.value_store.specs.declared.node.Ref.{Ref}
 use Rattle.auth_cli.specs.Answer.{Answer, with_image_file, with_literal, with_passed}
 use Rattle.auth_cli.specs.CallsInStores.{HoldsCall}
 use Rattle.auth_cli.specs.FueledRoles.{FueledRole}
@@ -36,7 +38,9 @@ returns-in_err-argument-clause-goes g c = λ callee is told known.
     let text = c.args.argument.now in
     let state = c.in_ok-loaded.ensures.goes told known in
     let err = err_from_is_err_and c.from_residual-in_err-argument.result c.from_residual-in_err-argument.ensures.1 in
-    let halts = (halts_in_hand (with_literal (named_literal (named_of p) (type_at (types_of p) c.args.called.argument) text)) _ _ c.in_err-argument.ensures.goes).1 in
+    let t = type_at (types_of p) c.args.called.argument in
+    let halts = (halts_in_hand {T = Ref} (with_literal (named_literal (named_of p) t text)) (λ value v. StandsFor (prover_nodes p) (meaning p).types (nodes_in c.put_argument.new.store) value.0 t v)
+    c.in_err-argument.field-0.0 c.in_err-argument.ensures.goes).1 in
     halts_for (λ go. with_image_file (digested_of p) (told c.args.image.now) (λ s. behind_state r text s go)) (HoldsCall callee p) c.from_residual-in_err-argument.result _ (cc)
     (λ go. halts_behind _ _ _ (state.1 (λ s. behind_state r text s go) ∙ ap (λ t. with_literal (named_literal (named_of p) t text) (λ a. go (record { role = r; state = state.0; argument = a }))) (passed_is callee p c.args.called is))
     (halts (λ a. go (record { role = r; state = state.0; argument = a }))))
