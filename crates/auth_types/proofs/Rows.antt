@@ -1,4 +1,4 @@
--- The definitions, computed on texts of the whole language.
+-- The definitions, computed on texts.
 use Rattle.std.proofs.Common.{◌≡◌, ℕ, Bool, true, false, ◌&&◌, List, ◌++◌, Option, Some, None, refl}
 use Rattle.std.specs.Prelude.{codes}
 use Rattle.std.specs.Str.{is_utf8, chars}
