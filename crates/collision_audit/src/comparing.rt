@@ -43,7 +43,7 @@ pub(crate) fn compare_file<H: Hash32, S: Source, N: Nodes>(
     ensures faults { AuditCause (S.faults proof.old) (S.faults proof.new) result }
     ensures rest { S.rest proof.new ≡ S.rest proof.old }
 {
-    match Offers::open(alloc, types.spelling_limit(), proof)? {
+    match Offers::open(alloc, types, proof)? {
         Some(mut offers) => compare_to_end::<H, S, N>(
             alloc,
             types,

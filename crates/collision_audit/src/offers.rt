@@ -1,7 +1,7 @@
 // What a proof offers, compared with the honest pieces.
 ghost use Rattle.std.specs.Prelude.{◌≡◌, ◌≤◌, ◌<◌, ◌^◌, ℕ, List, drop, length, Some, None, Err};
 ghost use Rattle.std.specs.Option.{ForSome};
-ghost use Rattle.core_terms.specs.Formats.{Format};
+ghost use Rattle.core_terms.specs.ProgramTypes.{types_meaning};
 ghost use Rattle.ideal_meaning.specs.Frames.{Offer, header};
 ghost use Rattle.proof_stream.specs.Readers.{limit_of, piece_of};
 ghost use Rattle.proof_stream.specs.Incoming.{FrameCause};
@@ -10,16 +10,11 @@ ghost use Rattle.collision_audit.specs.AuditAnswers.{AuditCause};
 ghost use Rattle.collision_audit.specs.Comparing.{ComparesKept, ComparesNew, EndsAs, IsAhead, IsCounted, Opens, TakesPiece};
 
 use crate::audited::{AuditFault, Audited};
-use core_terms::Cause;
+use core_terms::{Cause, Types};
 use lam_outside::Source;
 use proof_stream::{Frame, FrameEnd, FrameReader, HeadEnd};
 use reuse_buffer::Ring;
 use std::alloc::{AllocError, Global};
-
-/// The bytes that a proof file begins with.
-const MAGIC: [u8; 4] = *b"LAP1";
-/// The greatest number of pieces that a proof file may ask to be kept.
-const MOST_KEPT: u16 = 1024;
 
 /// What is offered in the place of an honest piece.
 #[derive(Drop)]
@@ -41,19 +36,19 @@ pub(crate) struct Offers {
 }
 
 impl Offers {
-    /// Takes the header of a proof file, whose pieces have at most `limit` bytes; none where there is no good one.
+    /// Takes the header of a proof file, as the format of a program with these types has it; none where there is no good one.
     pub(crate) fn open<S: Source>(
         alloc: Global,
-        limit: usize,
+        types: &Types,
         proof: &mut S,
     ) -> Result<Option<Self>, AuditFault>
-        ensures opens { (format : Format) → format.magic ≡ MAGIC → format.most_kept ≡ 1024 → ForSome (S.left proof.old)
-            (λ bytes. Opens limit (header format bytes) bytes (S.left proof.new) result) }
+        ensures opens { let format = (types_meaning types.now).format in ForSome (S.left proof.old)
+            (λ bytes. Opens format.limit (header format bytes) bytes (S.left proof.new) result) }
         ensures faults { AuditCause (S.faults proof.old) (S.faults proof.new) result }
         ensures rest { S.rest proof.new ≡ S.rest proof.old }
     {
-        let mut reader = FrameReader::new(alloc, limit);
-        let size = match reader.header(proof, MAGIC, MOST_KEPT) {
+        let mut reader = FrameReader::new(alloc, types.spelling_limit());
+        let size = match reader.header(proof, types.proof_magic(), types.most_kept()) {
             Ok(size) => size,
             Err(HeadEnd::Header) => return Ok(None),
             Err(HeadEnd::ReadFault) => return Err(AuditFault::ReadFault),

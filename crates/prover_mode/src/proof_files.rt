@@ -1,7 +1,7 @@
 // Proof files of calls.
 ghost use Rattle.std.specs.Prelude.{◌≡◌, ◌<◌, ◌≤◌, ◌^◌, ◌++◌, ◌∷◌, [], List, ℕ, IfOk, length};
 ghost use Rattle.std.specs.Int.{w16, to_be_bytes};
-ghost use Rattle.core_terms.specs.Formats.{first_format};
+ghost use Rattle.core_terms.specs.ProgramTypes.{types_meaning};
 ghost use Rattle.core_terms.specs.Projection.{digest_at};
 ghost use Rattle.core_terms.specs.Terms.{function_at};
 ghost use Rattle.core_terms.specs.Values.{Value};
@@ -17,14 +17,11 @@ ghost use Rattle.prover_mode.specs.Counts.{again_in, fresh_in};
 
 use crate::proving::{Proved, prove};
 use code_gen::Code;
-use core_terms::{FunctionId, Hash32};
+use core_terms::{FunctionId, Hash32, Types};
 use proof_stream::put_header;
 use reuse_buffer::Ring;
 use std::alloc::{AllocError, Global};
 use value_store::{Nodes, Ref};
-
-/// The bytes that a proof file begins with.
-const MAGIC: [u8; 4] = *b"LAP1";
 
 /// Proves a call as [`prove`] does, where no pieces came before, and gives the bytes of the proof file beside it: a header, which asks
 /// for `size` pieces to be kept, as many as the program's format allows at most, and the frames. Whoever holds the spellings of the
@@ -65,16 +62,21 @@ pub fn prove_file<H: Hash32, N: Nodes>(
     let proof = prove::<H, N>(alloc, code, store, role, state, argument, fuel, ring)?;
     let (proved, ring) = proof;
     drop(ring);
-    let file = behind_header(alloc, size, &proved.frames)?;
+    let file = behind_header(alloc, code.types(), size, &proved.frames)?;
     Ok((proved, file))
 }
 
-/// A proof file of these frames.
-fn behind_header(alloc: Global, size: u16, frames: &[u8]) -> Result<Vec<u8>, AllocError>
-    ensures { IfOk result (λ file. file.items ≡ (first_format 1024).magic ++ (to_be_bytes w16 size ++ frames.now)) }
+/// A proof file of these frames, for a program with these types.
+fn behind_header(
+    alloc: Global,
+    types: &Types,
+    size: u16,
+    frames: &[u8],
+) -> Result<Vec<u8>, AllocError>
+    ensures { IfOk result (λ file. file.items ≡ (types_meaning types.now).format.magic ++ (to_be_bytes w16 size ++ frames.now)) }
 {
     let mut file = Vec::new(alloc);
-    put_header(&mut file, MAGIC, size)?;
+    put_header(&mut file, types.proof_magic(), size)?;
     file.extend_from_slice(frames)?;
     Ok(file)
 }

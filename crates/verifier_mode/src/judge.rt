@@ -15,6 +15,7 @@ ghost use Rattle.value_store.specs.Standing.{AllStandFor, VerifierNodes};
 ghost use Rattle.value_store.specs.Stores.{nodes_in};
 ghost use Rattle.mode_vm.specs.Meanings.{program_of};
 ghost use Rattle.mode_vm.specs.StateCalls.{TakesState};
+ghost use Rattle.proof_stream.specs.TakenFrames.{HeadCause, TakesHeader};
 ghost use Rattle.reuse_buffer.specs.Kept.{kept};
 ghost use Rattle.verifier_mode.specs.CallParts.{ArePut};
 ghost use Rattle.verifier_mode.specs.Spelled.{IsSpelledAs, OutcomeStands};
@@ -25,16 +26,11 @@ use crate::verdict::Verdict;
 use code_gen::Code;
 use core_terms::{Cause, FunctionId, Hash32, Outcome, Program, Spelling, TyId, Types};
 use lam_outside::Source;
-use proof_stream::FrameReader;
+use proof_stream::{FrameReader, HeadEnd};
 use reuse_buffer::Ring;
 use shallow_codec::{UnspellFault, spell, unspell};
 use std::alloc::{AllocError, Global};
 use value_store::{Ref, Store};
-
-/// The bytes that a proof file begins with.
-const MAGIC: [u8; 4] = *b"LAP1";
-/// The greatest number of pieces that a proof file may ask to be kept.
-const MOST_KEPT: u16 = 1024;
 
 /// Judges a call of a query or an update with this much fuel (at most 10^12), from the spellings of its state and its argument and the
 /// bytes of a proof file, which may ask for as many pieces to be kept as the program's format allows. The proof is read as it is needed,
@@ -156,12 +152,23 @@ fn judge_file<H: Hash32, S: Source>(
     ensures faults { VerdictCause (S.faults proof.old) (S.faults proof.new) result }
     ensures rest { S.rest proof.new ≡ S.rest proof.old }
 {
-    let size = FrameReader::new(alloc, 0).header(proof, MAGIC, MOST_KEPT)?;
+    let size = read_header(alloc, code.types(), proof)?;
     let ring = Ring::with_size(alloc, size)?;
     let judged = judge_call::<H, S>(alloc, code, store, role, args, fuel, proof, ring)?;
     let (outcome, ring) = judged;
     drop(ring);
     Ok(outcome)
+}
+
+/// Takes the header of a proof file, as the format of a program with these types has it, and answers how many pieces it asks to be kept.
+fn read_header<S: Source>(alloc: Global, types: &Types, proof: &mut S) -> Result<u16, HeadEnd>
+    ensures takes { let format = (types_meaning types.now).format in
+        ForSome (S.left proof.old) (λ bytes. TakesHeader format.magic format.most_kept bytes (S.left proof.new) result) }
+    ensures within { IfOk result (λ size. size ≤ (types_meaning types.now).format.most_kept) }
+    ensures cause { HeadCause (S.faults proof.old) (S.faults proof.new) result }
+    ensures rest { S.rest proof.new ≡ S.rest proof.old }
+{
+    FrameReader::new(alloc, 0).header(proof, types.proof_magic(), types.most_kept())
 }
 
 /// Judges a call on a state and an argument that stand in the store: the run, and the bytes left behind it.

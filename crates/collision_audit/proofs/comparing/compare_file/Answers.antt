@@ -1,4 +1,4 @@
-use Rattle.std.proofs.Common.{Ok, [], drop, length, map, refl, ◌∙◌, subst}
+use Rattle.std.proofs.Common.{Ok, [], drop, length, map, subst}
 use Rattle.core_terms.specs.ProgramTypes.{types_meaning}
 use Rattle.core_terms.specs.Projection.{digest_at}
 use Rattle.ideal_meaning.specs.Frames.{header, offered}
@@ -16,11 +16,11 @@ returns-in-Some-clause-compares g c seen h bytes told =
     let honest = map (honest_piece hash P) seen in
     let left = g.S.Source.left c.open.new.proof in
     let offers = c.in-Some.offers in
-    let opens = subst (λ r. Opens c.spelling_limit.result (header format bytes) bytes left (Ok r)) c.in-Some.is (c.in_ok-offers.ensures.opens format refl refl bytes told) in
+    let opens = subst (λ r. Opens format.limit (header format bytes) bytes left (Ok r)) c.in-Some.is (c.in_ok-offers.ensures.opens bytes told) in
     let o = offered P.format.limit (drop 6 bytes) offers.ring.size [] in
     good_file (digest_at hash P) P.format.limit honest bytes (g.S.Source.left c.compare_to_end.new.proof) (header format bytes) offers.ring.size c.compare_to_end.result opens.0
     (c.compare_to_end.ensures.compares seen (length (drop 6 bytes)) o h
-    (ahead_first P.format.limit (limit_of offers.reader) offers.ring left (drop 6 bytes) (opens.2 ∙ c.spelling_limit.ensures) opens.1 opens.3))
+    (ahead_first P.format.limit (limit_of offers.reader) offers.ring left (drop 6 bytes) opens.2 opens.1 opens.3))
 
 pub returns-in-None-clause-compares : goal.returns-in-None-clause-compares
 returns-in-None-clause-compares g c seen h bytes told =
@@ -28,5 +28,5 @@ returns-in-None-clause-compares g c seen h bytes told =
     let P = types_meaning c.args.types.now in
     let format = P.format in
     let left = g.S.Source.left c.open.new.proof in
-    let opens = subst (λ r. Opens c.spelling_limit.result (header format bytes) bytes left (Ok r)) c.in-None.is (c.in_ok-offers.ensures.opens format refl refl bytes told) in
+    let opens = subst (λ r. Opens format.limit (header format bytes) bytes left (Ok r)) c.in-None.is (c.in_ok-offers.ensures.opens bytes told) in
     bad_file (digest_at hash P) P.format.limit (map (honest_piece hash P) seen) bytes left (header format bytes) opens
