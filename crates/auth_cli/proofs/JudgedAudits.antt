@@ -1,18 +1,16 @@
 -- What is found of an audit of a call.
 use Rattle.std.proofs.Common.{◌≡◌, ℕ, List, Option, Some, None, Result, Ok, Err, IsErrAnd, refl, sym, ap, ◌∙◌, subst}
 use Rattle.lam_outside.specs.Told.{Contents}
-use Rattle.printed_lines.specs.declared.refusal.Refusal.TheVariants as refusal
 use Rattle.collision_audit.specs.AuditAnswers.{AuditCause}
 use Rattle.collision_audit.specs.declared.audited.AuditFault.{AuditFault}
 use Rattle.collision_audit.specs.declared.audited.AuditFault.TheVariants as fault
 use Rattle.auth_cli.specs.Answer.{Answer, call_audit_answer, with_bytes, with_fueled_role, with_ideal_call}
 use Rattle.auth_cli.specs.CallsInStores.{audited_behind, with_called}
 use Rattle.auth_cli.specs.FueledRoles.{FueledRole, NamedProgram}
-use Rattle.auth_cli.specs.Halting.{Finds, FindsInHand, Found, JudgementCause, of_audit_fault}
+use Rattle.auth_cli.specs.Halting.{Finds, Found, JudgementCause, of_audit_fault}
 use Rattle.auth_cli.specs.IdealCalls.{IdealCall}
 use Rattle.auth_cli.specs.Reaching.{without}
 use Rattle.auth_cli.specs.declared.report.Halt.{Halt}
-use Rattle.auth_cli.specs.declared.report.Halt.TheVariants.{Usage, Refused, ReadFault, NoMemory}
 use Rattle.auth_cli.specs.declared.roles.Callee.TheVariants.{OfState}
 use Rattle.auth_cli.proofs.Reached.{behind, inputs_step, is_missing}
 
@@ -28,15 +26,9 @@ audit_judges U before now f (Ok t) halt cause = absurd halt
 audit_judges {T = T} U before now fault.ReadFault (Err h) halt rose = subst (λ h. JudgementCause {T = T} before now (Err h)) (sym halt) rose
 audit_judges {T = T} U before now fault.NoMemory (Err h) halt same = subst (λ h. JudgementCause {T = T} before now (Err h)) (sym halt) same
 
--- what is found in hand halts for no fault of the outside
-pub found_judges : (answer : Answer) (before now : ℕ) (result : Found) → FindsInHand answer result → now ≡ before → JudgementCause before now result
-found_judges answer before now (Ok report) finds same = same
-found_judges answer before now (Err Usage) finds same = absurd finds
-found_judges answer before now (Err (Refused (refusal.Program kind line column))) finds same = same
-found_judges answer before now (Err (Refused (refusal.Input fault))) finds same = same
-found_judges answer before now (Err (Refused (refusal.Proof cause))) finds same = same
-found_judges answer before now (Err ReadFault) finds same = absurd finds
-found_judges answer before now (Err NoMemory) finds same = same
+-- what halts work that reads nothing is no fault of the outside
+pub same_cause : {T : Type 0} (before now : ℕ) (result : Result T Halt) → JudgementCause before before result → now ≡ before → JudgementCause before now result
+same_cause before now result cause same = subst (λ n. JudgementCause before n result) (sym same) cause
 
 -- without the file of the proof there is no answer behind a call that was read
 pub no_proof : (p : NamedProgram) (role image argument fuel proof : List ℕ) (r : FueledRole) (call : IdealCall) (files : Contents)

@@ -1,5 +1,5 @@
 -- The output of a proof: its file, and the lines of the outcome and of the proof.
-use Rattle.std.proofs.Common.{◌≡◌, ℕ, List, [], ◌∷◌, ◌++◌, length, Vec, Some, refl, sym, ap, ◌∙◌, append-nil, cond, ◌+◌}
+use Rattle.std.proofs.Common.{◌≡◌, ℕ, List, [], ◌∷◌, ◌++◌, length, Vec, Some, refl, sym, ap, ◌∙◌, append-nil, cond, ◌+◌, arith}
 use Rattle.std.specs.List.{concat}
 use Rattle.std.specs.Prelude.{count_by}
 use Rattle.std.specs.declared.alloc.Global.{Global}
@@ -15,15 +15,18 @@ use Rattle.auth_cli.specs.Reporting.{IsToldOf, ReportsProof}
 use Rattle.auth_cli.specs.Storing.{IsOutput}
 use Rattle.auth_cli.specs.declared.report.Report.{Report}
 
+zero_plus : (n : ℕ) → 0 + n ≡ n
+zero_plus n = omega arith
+
 -- the frames of each kind, counted
 new_count : (fs : List Frame) → count_by is_new fs ≡ fresh_in fs
 new_count [] = refl
 new_count (New p ∷ fs) = sum_by-cons (λ frame. cond (is_new frame) 1 0) (New p) fs ∙ ap (λ (n : ℕ). 1 + n) (new_count fs) ∙ one-add (fresh_in fs)
-new_count (Use k ∷ fs) = sum_by-cons (λ frame. cond (is_new frame) 1 0) (Use k) fs ∙ ap (λ (n : ℕ). 0 + n) (new_count fs)
+new_count (Use k ∷ fs) = sum_by-cons (λ frame. cond (is_new frame) 1 0) (Use k) fs ∙ zero_plus (count_by is_new fs) ∙ new_count fs
 
 used_count : (fs : List Frame) → count_by is_used fs ≡ again_in fs
 used_count [] = refl
-used_count (New p ∷ fs) = sum_by-cons (λ frame. cond (is_used frame) 1 0) (New p) fs ∙ ap (λ (n : ℕ). 0 + n) (used_count fs)
+used_count (New p ∷ fs) = sum_by-cons (λ frame. cond (is_used frame) 1 0) (New p) fs ∙ zero_plus (count_by is_used fs) ∙ used_count fs
 used_count (Use k ∷ fs) = sum_by-cons (λ frame. cond (is_used frame) 1 0) (Use k) fs ∙ ap (λ (n : ℕ). 1 + n) (used_count fs) ∙ one-add (again_in fs)
 
 -- the file of a proof, and the lines that tell the outcome and the proof, are those of the answer

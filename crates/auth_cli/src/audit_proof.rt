@@ -1,5 +1,5 @@
 // The command `audit`.
-ghost use Rattle.std.specs.Prelude.{◌≡◌, IfOk, Ok, Some, length};
+ghost use Rattle.std.specs.Prelude.{◌≡◌, ℕ, IfOk, Ok, Some, length};
 ghost use Rattle.std.specs.Option.{ForSome};
 ghost use Rattle.command_words.specs.Commands.{texts};
 ghost use Rattle.command_words.specs.declared.command.Command.TheVariants.{Audit};
@@ -29,13 +29,13 @@ use crate::report::tell;
 use crate::roles::{CallWords, CalledRole, Callee};
 use crate::{Ending, Halt, Report, Status};
 use code_gen::Code;
-use collision_audit::{AuditFault, Audited, Collision, audit};
 use core_terms::{Outcome, Program, Spelling};
 use digest_layer::Sha;
 use lam_outside::{Files, Sink};
 use printed_lines::lines::{agrees_line, collision_line};
 use printed_lines::refusal::Refusal;
 use std::alloc::{AllocError, Global};
+use collision_audit::{AuditFault, Audited, Collision, audit};
 use value_store::Store;
 
 /// Audits a proof of a query or an update, and tells the outcome on which it agrees, the collision that the proof shows, or why the
@@ -169,6 +169,7 @@ fn report_audit(
     requires { (callee : Callee) × IsCalled callee program.now called.now }
     ensures finds { (audit : audits.Audit) → TellsAudit (meaning program.now) called.now.function.0 audit (Ok audited)
         → FindsInHand (audit_told (role_of program.now called.now) audit) result }
+    ensures faults { (count : ℕ) → JudgementCause count count result }
     ensures ending { IfOk result (λ report. MayAnswer Audit (ending_status report.ending)) }
 {
     match audited {

@@ -52,7 +52,7 @@ returns-in_err-call-clause-reached g c =
     let words = c.args.words.now in
     let proof = c.args.proof.now in
     let err = err_from_is_err_and c.from_residual.result c.from_residual.ensures.1 in
-    subst (λ p. FaultsAtReached (audited_behind words.role.now c.args.image.now words.argument.now words.fuel.now proof (named_of p)) _ _ c.from_residual.result) c.program-program.ensures
+    subst (λ p. FaultsAtReached (audited_behind words.role.now c.args.image.now words.argument.now words.fuel.now proof (named_of p)) (g.F.Files.contents c.args.files.now) (g.F.Files.asked c.read_named_call.new.files) c.from_residual.result) c.program-program.ensures
     (same_reached (audited_behind words.role.now c.args.image.now words.argument.now words.fuel.now proof (named_of c.program-program.result.now)) _ _ _ c.from_residual.result (cc)
     (c.in_err-call.ensures.reached (behind_call proof)))
 

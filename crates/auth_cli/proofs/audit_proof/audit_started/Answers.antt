@@ -7,7 +7,7 @@ use Rattle.auth_cli.specs.Answer.{audit_told, call_audit_answer}
 use Rattle.auth_cli.specs.Halting.{Finds}
 use Rattle.auth_cli.specs.IdealCalls.{call_audit}
 use Rattle.auth_cli.specs.RolesCalled.{IsCalled, role_of}
-use Rattle.auth_cli.proofs.JudgedAudits.{audit_judges, audit_unfound, found_judges}
+use Rattle.auth_cli.proofs.JudgedAudits.{audit_judges, audit_unfound, same_cause}
 use Rattle.auth_cli.proofs.Steps.{report_found}
 use Rattle.auth_cli.proofs.audit_proof.audit_started.Goals as goal
 
@@ -31,3 +31,6 @@ returns-clause-finds g c = λ callee call calls h bytes told.
     let found = c.report_audit.ensures.finds audit (subst (λ p. TellsAudit (meaning p) called.function.0 audit (Ok c.in_ok-audited.audited)) (sym c.program.ensures) tells) in
     subst (λ r. Finds (Some (audit_told r audit)) c.report_audit.result) (ap (λ p. role_of p called) c.program.ensures ∙ h.role)
     (report_found (audit_told (role_of c.program.result.now called) audit) c.report_audit.result found)
+
+pub returns-clause-cause : goal.returns-clause-cause
+returns-clause-cause g c = same_cause _ _ c.report_audit.result (c.report_audit.ensures.faults _) c.in_ok-audited.ensures.cause

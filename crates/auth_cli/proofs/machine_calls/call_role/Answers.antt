@@ -1,8 +1,7 @@
-use Rattle.std.proofs.Common.{subst}
+use Rattle.std.proofs.Common.{◌≡◌, subst}
 use Rattle.std.proofs.lemmas.Result.{err_from_is_err_and}
 use Rattle.lam_outside.specs.Told.{Contents}
 use Rattle.core_terms.specs.declared.program.Program.{Program}
-use Rattle.code_gen.specs.Programs.{program_in}
 use Rattle.auth_cli.specs.Answer.{with_ended_call}
 use Rattle.auth_cli.specs.CallsInStores.{HoldsCall, HoldsSome, with_called}
 use Rattle.auth_cli.specs.Halting.{GoesOnFor}
@@ -27,7 +26,7 @@ returns-in_err-call-clause-reached g c = λ go.
     let words = c.args.words.now in
     let callee = c.args.callee in
     let err = err_from_is_err_and c.from_residual.result c.from_residual.ensures.1 in
-    subst (λ p. FaultsAtReached (λ told. with_ended_call callee (named_of p) words.role.now c.args.image.now words.argument.now words.fuel.now told go) _ _ c.from_residual.result) c.program.ensures
+    subst (λ p. FaultsAtReached (λ told. with_ended_call callee (named_of p) words.role.now c.args.image.now words.argument.now words.fuel.now told go) (g.F.Files.contents c.args.files.now) (g.F.Files.asked c.read_named_call.new.files) c.from_residual.result) c.program.ensures
     (same_reached (λ told. with_ended_call callee (named_of c.program.result.now) words.role.now c.args.image.now words.argument.now words.fuel.now told go) _ _ _ c.from_residual.result (cc)
     (c.in_err-call.ensures.reached (λ files call. go (ended_call call))))
 
@@ -40,8 +39,12 @@ returns-clause-goes g c = λ told known.
     let callee = c.args.callee in
     let call = c.in_ok-call.ensures.goes told known in
     let holds = subst (λ p. HoldsCall callee p c.in_ok-call.call call.0) c.program.ensures call.2 in
-    subst (λ p. GoesOnFor (with_ended_call callee (named_of p) words.role.now c.args.image.now words.argument.now words.fuel.now told) (IsEnded callee (program_in c.args.code.now)) _) c.program.ensures
-    (ended_call call.0, (λ go. call.1 (λ call. go (ended_call call))), c.in_ok-run_call.ensures callee call.0 c.requires holds)
+    (
+      ended_call call.0,
+      (λ go. subst (λ p. with_ended_call callee (named_of p) words.role.now c.args.image.now words.argument.now words.fuel.now told go ≡ go (ended_call call.0)) c.program.ensures
+          (call.1 (λ call. go (ended_call call)))),
+      c.in_ok-run_call.ensures callee call.0 c.requires holds,
+    )
 
 pub returns-clause-ended : goal.returns-clause-ended
 returns-clause-ended g c =

@@ -47,7 +47,7 @@ returns-in_err-called-clause-reached g c = λ name.
     let words = c.args.words.now in
     let q = c.program-program.result.now in
     let err = err_from_is_err_and c.from_residual.result c.from_residual.ensures.1 in
-    subst (λ p. FaultsAtReached (proved_behind words.role.now c.args.image.now words.argument.now words.fuel.now c.args.kept.now name (named_of p)) _ _ c.from_residual.result) c.program-program.ensures
+    subst (λ p. FaultsAtReached (proved_behind words.role.now c.args.image.now words.argument.now words.fuel.now c.args.kept.now name (named_of p)) (g.F.Files.contents c.args.files.now) (g.F.Files.asked c.args.files.now) c.from_residual.result) c.program-program.ensures
     (hand_reached (with_fueled_role OfState (named_of q) words.role.now words.fuel.now) (role_of q)
     (proved_behind words.role.now c.args.image.now words.argument.now words.fuel.now c.args.kept.now name (named_of q)) _ _ _ c.from_residual.result (cc) c.in_err-called.ensures.goes)
 
@@ -66,7 +66,7 @@ returns-in_err-kept-clause-reached g c = λ name.
     let words = c.args.words.now in
     let q = c.program-program.result.now in
     let err = err_from_is_err_and c.from_residual-in_err-kept.result c.from_residual-in_err-kept.ensures.1 in
-    subst (λ p. FaultsAtReached (proved_behind words.role.now c.args.image.now words.argument.now words.fuel.now c.args.kept.now name (named_of p)) _ _ c.from_residual-in_err-kept.result) c.program-program.ensures
+    subst (λ p. FaultsAtReached (proved_behind words.role.now c.args.image.now words.argument.now words.fuel.now c.args.kept.now name (named_of p)) (g.F.Files.contents c.args.files.now) (g.F.Files.asked c.args.files.now) c.from_residual-in_err-kept.result) c.program-program.ensures
     (hand_reached (kept_step c.args.kept.now) (λ (n : ℕ). n)
     (proved_behind words.role.now c.args.image.now words.argument.now words.fuel.now c.args.kept.now name (named_of q)) _ _ _ c.from_residual-in_err-kept.result (cc) c.in_err-kept.ensures.goes)
 
@@ -92,7 +92,7 @@ returns-in_err-call-clause-reached g c = λ name.
     let q = c.program-program.result.now in
     let r = role_of q c.in_ok-called.called in
     let err = err_from_is_err_and c.from_residual-in_err-call.result c.from_residual-in_err-call.ensures.1 in
-    subst (λ p. FaultsAtReached (proved_behind words.role.now image words.argument.now words.fuel.now c.args.kept.now name (named_of p)) _ _ c.from_residual-in_err-call.result) c.program-program.ensures
+    subst (λ p. FaultsAtReached (proved_behind words.role.now image words.argument.now words.fuel.now c.args.kept.now name (named_of p)) (g.F.Files.contents c.args.files.now) (g.F.Files.asked c.read_ideal_call.new.files) c.from_residual-in_err-call.result) c.program-program.ensures
     (faults_reached (proved_behind words.role.now image words.argument.now words.fuel.now c.args.kept.now name (named_of q)) image _ _ _ c.from_residual-in_err-call.result (cc)
     (λ files known. c.in_ok-called.ensures.goes (behind_role image words.argument.now c.args.kept.now (without image files) name)
     ∙ c.in_ok-kept.ensures.goes (behind_kept r image words.argument.now (without image files) name)
@@ -109,8 +109,8 @@ returns-clause-finds g c = λ name told known.
     let n = c.in_ok-kept.kept in
     let call = c.in_ok-call.ensures.goes OfState c.in_ok-called.ensures.valid told known in
     let goes = c.in_ok-called.ensures.goes (behind_role c.args.image.now words.argument.now c.args.kept.now told name)
-    ∙ c.in_ok-kept.ensures.goes (behind_kept r c.args.image.now words.argument.now told name)
-    ∙ call.1 (behind_call n name) in (
+        ∙ c.in_ok-kept.ensures.goes (behind_kept r c.args.image.now words.argument.now told name)
+        ∙ call.1 (behind_call n name) in (
       proof_answer call.0 n name,
       subst (λ p. proved_behind words.role.now c.args.image.now words.argument.now words.fuel.now c.args.kept.now name (named_of p) told ≡ Some (proof_answer call.0 n name)) c.program-program.ensures goes,
       c.in_ok-make_proof.ensures.output OfState call.0 tt (subst (λ p. HoldsCall OfState p c.in_ok-call.call call.0) c.program-program.ensures call.2) name,
