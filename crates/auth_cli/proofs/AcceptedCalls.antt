@@ -22,7 +22,7 @@ use Rattle.auth_cli.specs.NamedCalls.{NamesInputs, NamesRole}
 use Rattle.auth_cli.specs.ProvedCalls.{IsAcceptedCall}
 use Rattle.auth_cli.specs.RoleCalls.{named_literal, outcome_called, type_passed}
 use Rattle.auth_cli.specs.declared.roles.Callee.TheVariants.{OfState}
-use Rattle.auth_cli.proofs.ImageRoots.{IsKept, root_is_kept}
+use Rattle.images.proofs.ImageRoots.{IsKept, root_is_kept}
 use Rattle.auth_cli.proofs.OnProofs.{passed_behind}
 use Rattle.auth_cli.proofs.SoundRoles.{IsReader, named_reader}
 

@@ -26,7 +26,6 @@ pub mod ProofOutputs  -- `make_proof`
 pub mod Called  -- `ended`, `run`
 pub mod AnsweredCalls  -- `run`: what the steps of an answer went on with
 pub mod GoingOn  -- `run`, the law `shallow_stores_the_clients_state`: that they go on
-pub mod ImageRoots  -- `run`: the states that images keep
 pub mod AcceptedCalls  -- `run`: clauses `companion`, `audited`
 pub mod VerifiedCalls  -- `run`: clause `companion`
 pub mod TrueAudits  -- `run`: clause `audited`
