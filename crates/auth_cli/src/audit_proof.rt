@@ -29,13 +29,13 @@ use crate::report::tell;
 use crate::roles::{CallWords, CalledRole, Callee};
 use crate::{Ending, Halt, Report, Status};
 use code_gen::Code;
+use collision_audit::{AuditFault, Audited, Collision, audit};
 use core_terms::{Outcome, Program, Spelling};
 use digest_layer::Sha;
 use lam_outside::{Files, Sink};
 use printed_lines::lines::{agrees_line, collision_line};
 use printed_lines::refusal::Refusal;
 use std::alloc::{AllocError, Global};
-use collision_audit::{AuditFault, Audited, Collision, audit};
 use value_store::Store;
 
 /// Audits a proof of a query or an update, and tells the outcome on which it agrees, the collision that the proof shows, or why the

@@ -14,8 +14,8 @@ ghost use Rattle.auth_cli.specs.Statuses.{MayAnswer};
 ghost use Rattle.auth_cli.specs.Storing.{FindsOutput, FindsOutputInHand};
 
 use crate::machine_calls::{call_init, read_code};
-use crate::roles::CallWords;
 use crate::role_outcomes::role_output;
+use crate::roles::CallWords;
 use crate::storing::store_and_tell;
 use crate::{Halt, Output, Status};
 use code_gen::Code;

@@ -107,12 +107,7 @@ fn prove_named<F: Files>(
 }
 
 /// The proof file of a call, where so many pieces are kept, and the lines that tell it.
-fn make_proof(
-    alloc: Global,
-    code: &Code,
-    call: IdealCall,
-    kept: u16,
-) -> Result<Output, AllocError>
+fn make_proof(alloc: Global, code: &Code, call: IdealCall, kept: u16) -> Result<Output, AllocError>
     requires called { (callee : Callee) × CallsOnStates callee × HoldsSome callee (program_in code.now) call }
     requires fits { kept ≤ 1024 }
     ensures ending { IfOk result (λ output. IsOutcome (ending_status output.report.ending)) }

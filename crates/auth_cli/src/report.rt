@@ -12,13 +12,13 @@ ghost use Rattle.auth_cli.specs.Telling.{Tells, TellsText};
 
 use crate::Status;
 use crate::programs::ProgramFault;
+use collision_audit::AuditFault;
 use images::{ImageFault, SaveFault};
 use lam_outside::{Failed, Files, Load, Sink, load_all};
 use printed_lines::lines::refusal_line;
 use printed_lines::refusal::{Argument, ImageKind, InputFault, Refusal};
 use printed_syntax::fault::{LiteralFault, LiteralKind};
 use std::alloc::{AllocError, Global};
-use collision_audit::AuditFault;
 use verifier_mode::Verdict;
 
 /// How a command ends whose work was done.

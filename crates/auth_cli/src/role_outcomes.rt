@@ -19,10 +19,10 @@ use crate::machine_calls::Ended;
 use crate::outcomes::line_report;
 use crate::{Ending, Halt, Output, Report};
 use core_terms::{Outcome, Program, RoleKind, TyId};
+use images::save_image;
 use printed_lines::lines::{named_done_line, out_line, trap_line};
 use shallow_codec::spell;
 use std::alloc::{AllocError, Global};
-use images::save_image;
 use value_store::{Nodes, Ref, Store, View};
 
 /// The report of the outcome.

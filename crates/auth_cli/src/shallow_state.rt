@@ -19,11 +19,11 @@ use crate::stored_states::load_image_file;
 use crate::storing::store_and_tell;
 use crate::{Ending, Halt, Output, Report, Status};
 use core_terms::Program;
+use images::Loaded;
 use lam_outside::{Files, Sink};
 use printed_lines::lines::state_line;
 use shallow_codec::spell;
 use std::alloc::{AllocError, Global};
-use images::Loaded;
 
 /// Stores the spelling of the projection of a state, and tells its value. The words behind the command are `P IMG OUT`.
 pub fn shallow_command<F: Files, O: Sink>(

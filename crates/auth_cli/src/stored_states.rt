@@ -14,10 +14,10 @@ use crate::calls::MAX_FILE;
 use crate::prover_marking::ProverMarker;
 use crate::report::load;
 use core_terms::Program;
+use images::{Loaded, load_image};
 use lam_outside::Files;
 use printed_lines::refusal::Argument;
 use std::alloc::Global;
-use images::{Loaded, load_image};
 
 /// The ideal state in a file with an image of the program, over the prover's nodes.
 pub fn load_image_file<F: Files>(

@@ -40,8 +40,8 @@ use digest_layer::Sha;
 use lam_outside::{Files, Sink};
 use shallow_codec::{UnspellFault, spell, unspell};
 use std::alloc::{AllocError, Global};
-use verifier_mode::{Verdict, verify};
 use value_store::Store;
+use verifier_mode::{Verdict, verify};
 
 /// The words behind the command: those of a call, the files of its state and of its proof, and the name that the new state is stored under,
 /// where there is one.

@@ -38,8 +38,7 @@ returns-clause-goes g c = λ told known.
     let words = c.args.words.now in
     let callee = c.args.callee in
     let call = c.in_ok-call.ensures.goes told known in
-    let holds = subst (λ p. HoldsCall callee p c.in_ok-call.call call.0) c.program.ensures call.2 in
-    (
+    let holds = subst (λ p. HoldsCall callee p c.in_ok-call.call call.0) c.program.ensures call.2 in (
       ended_call call.0,
       (λ go. subst (λ p. with_ended_call callee (named_of p) words.role.now c.args.image.now words.argument.now words.fuel.now told go ≡ go (ended_call call.0)) c.program.ensures
           (call.1 (λ call. go (ended_call call)))),

@@ -109,8 +109,8 @@ returns-clause-finds g c = λ name told known.
     let n = c.in_ok-kept.kept in
     let call = c.in_ok-call.ensures.goes OfState c.in_ok-called.ensures.valid told known in
     let goes = c.in_ok-called.ensures.goes (behind_role c.args.image.now words.argument.now c.args.kept.now told name)
-        ∙ c.in_ok-kept.ensures.goes (behind_kept r c.args.image.now words.argument.now told name)
-        ∙ call.1 (behind_call n name) in (
+    ∙ c.in_ok-kept.ensures.goes (behind_kept r c.args.image.now words.argument.now told name)
+    ∙ call.1 (behind_call n name) in (
       proof_answer call.0 n name,
       subst (λ p. proved_behind words.role.now c.args.image.now words.argument.now words.fuel.now c.args.kept.now name (named_of p) told ≡ Some (proof_answer call.0 n name)) c.program-program.ensures goes,
       c.in_ok-make_proof.ensures.output OfState call.0 tt (subst (λ p. HoldsCall OfState p c.in_ok-call.call call.0) c.program-program.ensures call.2) name,
