@@ -3,7 +3,7 @@
 
     tools/measure_proofs.py crates/lamauth/out/lamauth BENCH
 
-BENCH is a folder with the sources of the program in C: its `make` builds `bst_p`, which proves and verifies calls of examples/bst.lam, and
+BENCH is a folder with the sources of the program in C: its `make` builds `bst_p`, which proves and verifies calls of bst.lam, and
 `image_p`, which loads an image, digests it and saves it again, all with a portable SHA-256; its `make_image.py` and `make_list.py` write
 images of a balanced tree and of a path. They are built in a folder of their own. Both programs have to print the same lines and to store
 the same files.
@@ -60,7 +60,7 @@ class Bench:
         run(["make", "-s", "bst_p", "image_p"], folder)
         self.digests = {}
         for name in LARGEST:
-            text = os.path.join(options.examples, name + ".lam")
+            text = os.path.join(options.library, name + ".lam")
             shutil.copy(text, folder)
             with open(text, "rb") as file:
                 self.digests[name] = hashlib.sha256(file.read()).hexdigest()
@@ -108,7 +108,7 @@ def main():
     parser.add_argument("--most", type=int, default=2_000_000, help="no more keys than this")
     parser.add_argument("--uncounted", action="store_true", help="count no instructions")
     here = os.path.dirname(os.path.abspath(__file__))
-    parser.add_argument("--examples", default=os.path.join(os.path.dirname(here), "examples"))
+    parser.add_argument("--library", default=os.path.join(os.path.dirname(here), "crates/library_files/data"))
     options = parser.parse_args()
     with tempfile.TemporaryDirectory() as folder:
         bench = Bench(options, folder)

@@ -341,7 +341,7 @@ class Runner:
 
 def program_of(options, number):
     rng = random.Random(f"{options.seed}/{number}")
-    return (Example(rng, options.examples) if rng.random() < 0.25 else Program(rng)), rng
+    return (Example(rng, options.root) if rng.random() < 0.25 else Program(rng)), rng
 
 
 def played(play, run):
@@ -380,7 +380,7 @@ def main():
     parser.add_argument("--jobs", type=int, default=2)
     parser.add_argument("--keep", help="a folder where the files of one program are kept")
     here = os.path.dirname(os.path.abspath(__file__))
-    parser.add_argument("--examples", default=os.path.join(os.path.dirname(here), "examples"))
+    parser.add_argument("--root", default=os.path.dirname(here))
     options = parser.parse_args()
     options.lamauth = os.path.abspath(options.lamauth)
     tasks = [(options, number) for number in range(options.first, options.first + options.programs)]

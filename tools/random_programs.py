@@ -1,4 +1,4 @@
-"""Random well-typed programs of the whole language, for random_calls.py: their texts, the arguments of their roles, and the examples."""
+"""Random well-typed programs, for random_calls.py: their texts, the arguments of their roles, and the examples."""
 import os
 
 INTS = [0, 1, -1, 2, 3, 4, 5, 7, 16, 100, 255, 256, 1000, 65_536, 2**31, -(2**31), 2**63 - 1, -(2**63), 2**63 - 2]
@@ -338,7 +338,7 @@ class Program:
 
 
 class Example:
-    """A program of examples/, with arguments of its roles among which keys and places come again."""
+    """A program of the library or of examples/, with arguments of its roles among which keys and places come again."""
 
     ROLES = {
         "bst": (["empty"], ["get"], ["put", "put"]),
@@ -346,10 +346,12 @@ class Example:
         "log": (["start"], ["size", "entry"], ["append", "append"]),
     }
 
-    def __init__(self, rng, examples):
+    FOLDERS = {"log": "examples"}
+
+    def __init__(self, rng, root):
         self.rng = rng
         self.name = rng.choice(sorted(self.ROLES))
-        with open(os.path.join(examples, self.name + ".lam"), encoding="utf-8") as file:
+        with open(os.path.join(root, self.FOLDERS.get(self.name, "crates/library_files/data"), self.name + ".lam"), encoding="utf-8") as file:
             self.program = file.read()
 
     def text(self):

@@ -1,4 +1,4 @@
-// The texts of the library. Each is the file of this name in `examples/`.
+// The texts of the library. Each is the file of this name in `crates/library_files/data`.
 ghost use Rattle.std.specs.Prelude.{◌↔◌, Contains, IsSome};
 ghost use Rattle.ads_library.specs.Names.{library_names};
 

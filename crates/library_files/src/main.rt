@@ -1,4 +1,4 @@
-//! Compares the texts of the library with the files that `examples/` shows of them, which lie in `data/`.
+//! Compares the texts of the library with its files, which lie in `data/`.
 #![tactic(auto)]
 
 use ads_library::source;

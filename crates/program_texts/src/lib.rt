@@ -1,4 +1,4 @@
-//! The texts of programs that more than one crate of tests reads. Where a file of `examples/` is named beside one, it has this text.
+//! The texts of programs that more than one crate of tests reads. Where a file is named beside one, it has this text.
 #![tactic(auto)]
 
 /// Authenticates a unit and opens it: `first/a.lam`.
