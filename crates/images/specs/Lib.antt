@@ -13,6 +13,7 @@ pub mod KeptRecords
 pub mod StoredRecords
 pub mod LoadedRecords
 pub mod FormRecords
+pub mod NodeNumbers
 pub mod SavedRecords
 pub mod Frames
 pub mod ImageLaws

@@ -1,6 +1,5 @@
 -- The records that are saved so far.
 use Rattle.std.specs.Prelude.{◌≡◌, ◌≢◌, ◌⊎◌, ℕ, ◌+◌, ◌<◌, ◌≤◌, List, [], ◌∷◌, ◌++◌, length, map, Option, Some, IsSome, Result, Ok, Err, nat_eq, slice_get, unwrap_or, if◌then◌else◌, ⊤}
-use Rattle.std.specs.HashMap.{get}
 use Rattle.core_terms.specs.Types.{Table}
 use Rattle.images.specs.Images.{Entry}
 use Rattle.images.specs.SavedImages.{records_bytes}
@@ -8,6 +7,7 @@ use Rattle.images.specs.declared.fault.SaveFault.{SaveFault}
 use Rattle.images.specs.declared.fault.SaveFault.TheVariants.{TooLong, NoMemory}
 use Rattle.value_store.specs.Nodes.{Form}
 use Rattle.images.specs.FormRecords.{bytes_of, joined, most_bytes, record_at}
+use Rattle.images.specs.NodeNumbers.{number_in}
 use Rattle.images.specs.declared.save.records.Records.{Records}
 
 -- the records as bytes, in the order of the image
@@ -20,7 +20,7 @@ bytes_in records = joined (records_in records)
 
 -- the number of the record of a node that has one
 abbrev pub number_at : Records → ℕ → Option ℕ
-number_at records r = get nat_eq records.numbers r
+number_at records r = number_in records.numbers r
 
 abbrev pub number_or_first : Records → ℕ → ℕ
 number_or_first records r = unwrap_or (number_at records r) 0

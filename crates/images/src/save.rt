@@ -1,4 +1,5 @@
 // Writing the image of a value that stands in a store.
+mod numbers;
 mod record;
 mod records;
 

@@ -1,16 +1,16 @@
 // The records that are saved so far.
 ghost use Rattle.std.specs.Prelude.{◌≡◌, ◌<◌, ◌≤◌, ◌++◌, ℕ, [], length, map, nat_eq, Some, None, IfOk, IfErr, OnOk};
-ghost use Rattle.std.specs.HashMap.{get};
 ghost use Rattle.indexmap.specs.IndexSet.{index_set_len};
 ghost use Rattle.value_store.specs.Nodes.{refs_in};
 ghost use Rattle.value_store.specs.Views.{form_shown};
 ghost use Rattle.images.specs.FormRecords.{HasShortText, bytes_of, joined, most_bytes};
+ghost use Rattle.images.specs.NodeNumbers.{number_in};
 
+use super::numbers::Numbers;
 use super::record::{Record, head, part};
 use crate::SaveFault;
 use indexmap::IndexSet;
 use std::alloc::{AllocError, Global};
-use std::collections::HashMap;
 use value_store::{Ref, View};
 
 /// The greatest number of bytes of the records of an image that is written.
@@ -21,14 +21,14 @@ const MOST_BYTES: usize = 67_108_824;
 pub(crate) struct Records {
     records: IndexSet<Record>,
     /// The number of the record of each node that has one.
-    numbers: HashMap<usize, usize>,
+    numbers: Numbers,
     /// The number of bytes of all records.
     byte_count: usize,
     alloc: Global,
     ghost counted: { byte_count ≡ length (joined (map bytes_of records.keys)) },
     ghost short: { byte_count ≤ most_bytes },
     ghost few: { index_set_len records ≤ byte_count },
-    ghost within: { (r n : ℕ) → get nat_eq numbers r ≡ Some n → n < index_set_len records },
+    ghost within: { (r n : ℕ) → number_in numbers r ≡ Some n → n < index_set_len records },
 }
 
 impl Records {
@@ -41,7 +41,7 @@ impl Records {
     {
         Records {
             records: IndexSet::new(alloc),
-            numbers: HashMap::new(alloc),
+            numbers: Numbers::new(alloc),
             byte_count: 0,
             alloc,
         }
@@ -69,7 +69,7 @@ impl Records {
     pub fn number_of(&self, node: Ref) -> Option<usize>
         ensures { result ≡ number_at self.now node.0 }
     {
-        self.numbers.get(&node.0).copied()
+        self.numbers.get(node.0)
     }
 
     /// Adds the record of a node whose parts have theirs.
@@ -81,10 +81,8 @@ impl Records {
     {
         let record = self.record_of(view)?;
         let number = self.number_for(record)?;
-        match self.numbers.insert(node.0, number) {
-            Ok(_) => Ok(()),
-            Err(_) => Err(SaveFault::NoMemory),
-        }
+        self.numbers.set(node.0, number as u32)?;
+        Ok(())
     }
 
     /// The record of what is shown.
