@@ -160,14 +160,21 @@ class Program:
         return {"unit": "()", "bool": f"lt(rem({x}, 3), 1)", "int": x, "text": f"if lt({x}, 9) then {other} else cat({other}, {other})"}[ty]
 
     def count(self, name):
+        def total(tag, fields, names):
+            sum_of = "1"
+            for field, ty in zip(names, fields):
+                sum_of = f"add({self.counted(ty, field)}, {sum_of})"
+            return sum_of
+
+        return f"if le(n, 0) then 0 else match v with {self.arms(name, total)} end"
+
+    def arms(self, name, body):
+        """An arm for each constructor of a type, with what `body` gives for its tag, the types of its fields and their names."""
         arms = []
         for tag, fields in self.types[name]:
             names = [f"a{number}" for number in range(len(fields))]
-            total = "1"
-            for field, ty in zip(names, fields):
-                total = f"add({self.counted(ty, field)}, {total})"
-            arms.append(f"| {self.constructed(tag, names)} -> {total}")
-        return f"if le(n, 0) then 0 else match v with {' '.join(arms)} end"
+            arms.append(f"| {self.constructed(tag, names)} -> {body(tag, fields, names)}")
+        return " ".join(arms)
 
     def counted(self, ty, value):
         if ty in self.types:
@@ -179,16 +186,16 @@ class Program:
         return {"unit": "1", "bool": f"if {value} then 2 else 3", "int": f"rem({value}, 1000)", "text": f"len({value})"}[ty]
 
     def change(self, name):
-        arms = []
-        for tag, fields in self.types[name]:
-            names = [f"a{number}" for number in range(len(fields))]
+        def altered(tag, fields, names):
             values = list(names)
             if names:
                 place = self.rng.randrange(len(names))
                 values[place] = self.changed(fields[place], names[place])
-            arms.append(f"| {self.constructed(tag, names)} -> {self.constructed(tag, values)}")
+            return self.constructed(tag, values)
+
+        arms = self.arms(name, altered)
         made = self.made(name, "x")
-        return f"if le(n, 0) then v else if eq(rem(x, 7), n) then {made} else match v with {' '.join(arms)} end"
+        return f"if le(n, 0) then v else if eq(rem(x, 7), n) then {made} else match v with {arms} end"
 
     def changed(self, ty, value):
         if ty in self.types:
