@@ -1,7 +1,7 @@
 // The arms of a match, laid one behind the other.
 ghost use Rattle.std.specs.Prelude.{◌≡◌, ◌≤◌, ◌+◌, ◌-◌, ◌++◌, length, map, IfOk, OnOk};
 ghost use Rattle.core_terms.specs.Programs.{types_of};
-ghost use Rattle.code_gen.specs.CodeTrees.{instructions_of};
+ghost use Rattle.code_gen.specs.CodeTrees.{Adds, instructions_of, listed};
 ghost use Rattle.code_gen.specs.Code as meant;
 
 use crate::instruction::Instruction;
@@ -17,7 +17,7 @@ pub(crate) fn select(
     arms: Vec<Vec<Instruction>>,
     alloc: Global,
 ) -> Result<(), AllocError>
-    ensures { OnOk result (instructions_of (types_of program.now) code.new.items ≡ instructions_of (types_of program.now) code.old.items ++ meant.match_code named.0 (map (λ c. instructions_of (types_of program.now) c.items) arms.items)) }
+    ensures { OnOk result (Adds program.now code.old.items code.new.items (meant.match_code named.0 (map (λ c. listed program.now c.items) arms.items))) }
 {
     let layout = laid_out(program, &arms, alloc)?;
     put(code, program, Instruction::Switch(named, layout.places))?;
@@ -37,7 +37,7 @@ fn laid_out(
     arms: &[Vec<Instruction>],
     alloc: Global,
 ) -> Result<Layout, AllocError>
-    ensures { IfOk result (λ layout. let codes = map (λ c. instructions_of (types_of program.now) c.items) arms.now in (layout.places.items ≡ meant.places 0 codes) × (layout.length ≡ length (meant.laid codes))) }
+    ensures { IfOk result (λ layout. let codes = map (λ c. listed program.now c.items) arms.now in (layout.places.items ≡ meant.places 0 codes) × (layout.length ≡ length (meant.laid codes))) }
 {
     let mut places = Vec::new(alloc);
     let mut end: usize = 0;
@@ -67,7 +67,7 @@ fn lay(
     total: usize,
 ) -> Result<(), AllocError>
     requires { total ≡ length (meant.laid (map (λ c. instructions_of (types_of program.now) c.items) arms.items)) }
-    ensures { OnOk result (instructions_of (types_of program.now) code.new.items ≡ instructions_of (types_of program.now) code.old.items ++ meant.laid (map (λ c. instructions_of (types_of program.now) c.items) arms.items)) }
+    ensures { OnOk result (Adds program.now code.old.items code.new.items (meant.laid (map (λ c. listed program.now c.items) arms.items))) }
 {
     let mut left = total;
     for arm in arms {
@@ -85,7 +85,7 @@ fn lay_arm(
     left: usize,
 ) -> Result<usize, AllocError>
     requires { length arm.items ≤ left }
-    ensures code { OnOk result (instructions_of (types_of program.now) code.new.items ≡ (instructions_of (types_of program.now) code.old.items ++ instructions_of (types_of program.now) arm.items) ++ meant.jump_code (left - length arm.items)) }
+    ensures code { OnOk result (listed program.now code.new.items ≡ (listed program.now code.old.items ++ listed program.now arm.items) ++ meant.jump_code (left - length arm.items)) }
     ensures later { IfOk result (λ later. later ≡ left - length arm.items - 1) }
 {
     let behind = left - arm.len();
@@ -96,7 +96,7 @@ fn lay_arm(
 
 /// Adds what stands before `left` instructions, the jump among them: nothing where there are none, else the jump past the others.
 fn put_jump(code: &mut Vec<Instruction>, program: &Program, left: usize) -> Result<(), AllocError>
-    ensures { OnOk result (instructions_of (types_of program.now) code.new.items ≡ instructions_of (types_of program.now) code.old.items ++ meant.jump_code left) }
+    ensures { OnOk result (Adds program.now code.old.items code.new.items (meant.jump_code left)) }
 {
     match left.checked_sub(1) {
         Some(others) => put(code, program, Instruction::Jump(others)),

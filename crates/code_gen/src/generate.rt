@@ -1,8 +1,8 @@
 // The generator: from terms to instructions.
-ghost use Rattle.std.specs.Prelude.{◌≡◌, ◌++◌, ◌∷◌, [], List, map, slice_get, unwrap_or, IfOk, OnOk};
+ghost use Rattle.std.specs.Prelude.{◌≡◌, ◌++◌, ◌∷◌, [], map, IfOk, OnOk};
 ghost use Rattle.core_terms.specs.Programs.{meaning, types_of};
-ghost use Rattle.core_terms.specs.ProgramTrees.{arms_in_a_row, expression_of, function_of};
-ghost use Rattle.code_gen.specs.CodeTrees.{all_of, codes_of, instruction_of, instructions_of};
+ghost use Rattle.core_terms.specs.ProgramTrees.{function_of};
+ghost use Rattle.code_gen.specs.CodeTrees.{Adds, arms_code, codes_of, listed, single, term_code, terms_code};
 ghost use Rattle.code_gen.specs.Code as meant;
 ghost use Rattle.code_gen.specs.Instructions as instruction;
 
@@ -17,7 +17,7 @@ pub(crate) fn function_codes(
     program: &Program,
     alloc: Global,
 ) -> Result<Vec<Vec<Instruction>>, AllocError>
-    ensures { IfOk result (λ codes. map (λ c. instructions_of (types_of program.now) c.items) codes.items ≡ codes_of program.now) }
+    ensures { IfOk result (λ codes. map (λ c. listed program.now c.items) codes.items ≡ codes_of program.now) }
 {
     let mut codes = Vec::new(alloc);
     for function in program.functions() {
@@ -33,7 +33,7 @@ fn function_code(
     function: &Function,
     alloc: Global,
 ) -> Result<Vec<Instruction>, AllocError>
-    ensures { IfOk result (λ code. instructions_of (types_of program.now) code.items ≡ (meant.function_code (meaning program.now).types (function_of (types_of program.now) function.now)).code) }
+    ensures { IfOk result (λ code. listed program.now code.items ≡ (meant.function_code (meaning program.now).types (function_of (types_of program.now) function.now)).code) }
 {
     let mut code = Vec::new(alloc);
     emit(&mut code, program, &function.body, alloc)?;
@@ -49,7 +49,7 @@ fn emit(
     term: &Term,
     alloc: Global,
 ) -> Result<(), AllocError>
-    ensures { OnOk result (instructions_of (types_of program.now) code.new.items ≡ instructions_of (types_of program.now) code.old.items ++ meant.code_of (meaning program.now).types (expression_of (types_of program.now) term.now)) }
+    ensures { OnOk result (Adds program.now code.old.items code.new.items (term_code program.now term.now)) }
 {
     match term {
         Term::UnitLiteral => put(code, program, Instruction::PushUnit),
@@ -111,7 +111,7 @@ fn emit_one(
     instruction: Instruction,
     alloc: Global,
 ) -> Result<(), AllocError>
-    ensures { OnOk result (instructions_of (types_of program.now) code.new.items ≡ instructions_of (types_of program.now) code.old.items ++ (meant.code_of (meaning program.now).types (expression_of (types_of program.now) x.now) ++ instruction_of (types_of program.now) instruction ∷ [])) }
+    ensures { OnOk result (Adds program.now code.old.items code.new.items (term_code program.now x.now ++ single program.now instruction)) }
 {
     emit(code, program, x, alloc)?;
     put(code, program, instruction)
@@ -127,7 +127,7 @@ fn emit_two(
     instruction: Instruction,
     alloc: Global,
 ) -> Result<(), AllocError>
-    ensures { OnOk result (instructions_of (types_of program.now) code.new.items ≡ instructions_of (types_of program.now) code.old.items ++ (meant.code_of (meaning program.now).types (expression_of (types_of program.now) x.now) ++ (meant.code_of (meaning program.now).types (expression_of (types_of program.now) y.now) ++ instruction_of (types_of program.now) instruction ∷ []))) }
+    ensures { OnOk result (Adds program.now code.old.items code.new.items (term_code program.now x.now ++ term_code program.now y.now ++ single program.now instruction)) }
 {
     emit(code, program, x, alloc)?;
     emit(code, program, y, alloc)?;
@@ -143,7 +143,7 @@ fn emit_all(
     instruction: Instruction,
     alloc: Global,
 ) -> Result<(), AllocError>
-    ensures { OnOk result (instructions_of (types_of program.now) code.new.items ≡ instructions_of (types_of program.now) code.old.items ++ (all_of (meaning program.now).types (map (expression_of (types_of program.now)) terms.now) ++ instruction_of (types_of program.now) instruction ∷ [])) }
+    ensures { OnOk result (Adds program.now code.old.items code.new.items (terms_code program.now terms.now ++ single program.now instruction)) }
 {
     emit_row(code, program, terms, alloc)?;
     put(code, program, instruction)
@@ -157,7 +157,7 @@ fn emit_row(
     terms: &[Term],
     alloc: Global,
 ) -> Result<(), AllocError>
-    ensures { OnOk result (instructions_of (types_of program.now) code.new.items ≡ instructions_of (types_of program.now) code.old.items ++ all_of (meaning program.now).types (map (expression_of (types_of program.now)) terms.now)) }
+    ensures { OnOk result (Adds program.now code.old.items code.new.items (terms_code program.now terms.now)) }
 {
     for term in terms {
         emit(code, program, term, alloc)?;
@@ -174,7 +174,7 @@ fn emit_let(
     body: &Term,
     alloc: Global,
 ) -> Result<(), AllocError>
-    ensures { OnOk result (instructions_of (types_of program.now) code.new.items ≡ instructions_of (types_of program.now) code.old.items ++ (meant.code_of (meaning program.now).types (expression_of (types_of program.now) bound.now) ++ (instruction.Bind ∷ (meant.code_of (meaning program.now).types (expression_of (types_of program.now) body.now) ++ instruction.Unbind 1 ∷ [])))) }
+    ensures { OnOk result (Adds program.now code.old.items code.new.items (term_code program.now bound.now ++ instruction.Bind ∷ term_code program.now body.now ++ instruction.Unbind 1 ∷ [])) }
 {
     emit(code, program, bound, alloc)?;
     put(code, program, Instruction::Bind)?;
@@ -192,7 +192,7 @@ fn emit_if(
     other: &Term,
     alloc: Global,
 ) -> Result<(), AllocError>
-    ensures { OnOk result (instructions_of (types_of program.now) code.new.items ≡ instructions_of (types_of program.now) code.old.items ++ meant.if_code (meant.code_of (meaning program.now).types (expression_of (types_of program.now) test.now)) (meant.code_of (meaning program.now).types (expression_of (types_of program.now) first.now)) (meant.code_of (meaning program.now).types (expression_of (types_of program.now) other.now))) }
+    ensures { OnOk result (Adds program.now code.old.items code.new.items (meant.if_code (term_code program.now test.now) (term_code program.now first.now) (term_code program.now other.now))) }
 {
     emit(code, program, test, alloc)?;
     let mut first_code = Vec::new(alloc);
@@ -212,7 +212,7 @@ fn emit_match(
     arms: &[Term],
     alloc: Global,
 ) -> Result<(), AllocError>
-    ensures { OnOk result (instructions_of (types_of program.now) code.new.items ≡ instructions_of (types_of program.now) code.old.items ++ (meant.code_of (meaning program.now).types (expression_of (types_of program.now) subject.now) ++ meant.match_code named.0 (meant.arm_codes (meaning program.now).types (arms_in_a_row (map (expression_of (types_of program.now)) arms.now)) (unwrap_or (slice_get (meaning program.now).types named.0) [])))) }
+    ensures { OnOk result (Adds program.now code.old.items code.new.items (term_code program.now subject.now ++ meant.match_code named.0 (arms_code program.now named arms.now))) }
 {
     emit(code, program, subject, alloc)?;
     let arm_codes = arm_codes(program, named, arms, alloc)?;
@@ -227,7 +227,7 @@ fn arm_codes(
     arms: &[Term],
     alloc: Global,
 ) -> Result<Vec<Vec<Instruction>>, AllocError>
-    ensures { IfOk result (λ codes. map (λ c. instructions_of (types_of program.now) c.items) codes.items ≡ meant.arm_codes (meaning program.now).types (arms_in_a_row (map (expression_of (types_of program.now)) arms.now)) (unwrap_or (slice_get (meaning program.now).types named.0) [])) }
+    ensures { IfOk result (λ codes. map (λ c. listed program.now c.items) codes.items ≡ arms_code program.now named arms.now) }
 {
     let mut codes = Vec::new(alloc);
     for (tag, arm) in arms.iter().enumerate() {
@@ -246,7 +246,7 @@ fn arm_code(
     arm: &Term,
     alloc: Global,
 ) -> Result<Vec<Instruction>, AllocError>
-    ensures { IfOk result (λ code. instructions_of (types_of program.now) code.items ≡ meant.code_of (meaning program.now).types (expression_of (types_of program.now) arm.now) ++ meant.unbind_code (meant.field_count (meaning program.now).types named.0 tag)) }
+    ensures { IfOk result (λ code. listed program.now code.items ≡ term_code program.now arm.now ++ meant.unbind_code (meant.field_count (meaning program.now).types named.0 tag)) }
 {
     let mut code = Vec::new(alloc);
     emit(&mut code, program, arm, alloc)?;

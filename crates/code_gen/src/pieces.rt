@@ -1,8 +1,8 @@
 // Pieces of code, added behind what is there. The program is passed to say what its types stand for.
-ghost use Rattle.std.specs.Prelude.{◌≡◌, ◌++◌, ◌∷◌, [], length, unwrap_or, IfOk, OnOk};
-ghost use Rattle.core_terms.specs.Programs.{meaning, types_of};
+ghost use Rattle.std.specs.Prelude.{◌≡◌, ◌∷◌, [], IfOk, OnOk};
+ghost use Rattle.core_terms.specs.Programs.{meaning};
 ghost use Rattle.core_terms.specs.Texts.{bytes_of};
-ghost use Rattle.code_gen.specs.CodeTrees.{instruction_of, instructions_of};
+ghost use Rattle.code_gen.specs.CodeTrees.{Adds, listed, single};
 ghost use Rattle.code_gen.specs.Code as meant;
 ghost use Rattle.code_gen.specs.Instructions as instruction;
 
@@ -16,7 +16,7 @@ pub(crate) fn put(
     program: &Program,
     instruction: Instruction,
 ) -> Result<(), AllocError>
-    ensures { OnOk result (instructions_of (types_of program.now) code.new.items ≡ instructions_of (types_of program.now) code.old.items ++ instruction_of (types_of program.now) instruction ∷ []) }
+    ensures { OnOk result (Adds program.now code.old.items code.new.items (single program.now instruction)) }
 {
     code.push(instruction)?;
     Ok(())
@@ -28,7 +28,7 @@ pub(crate) fn append(
     program: &Program,
     more: Vec<Instruction>,
 ) -> Result<(), AllocError>
-    ensures { OnOk result (instructions_of (types_of program.now) code.new.items ≡ instructions_of (types_of program.now) code.old.items ++ instructions_of (types_of program.now) more.items) }
+    ensures { OnOk result (Adds program.now code.old.items code.new.items (listed program.now more.items)) }
 {
     let mut more = more;
     code.append(&mut more)?;
@@ -42,7 +42,7 @@ pub(crate) fn put_text(
     text: &Text,
     alloc: Global,
 ) -> Result<(), AllocError>
-    ensures { OnOk result (instructions_of (types_of program.now) code.new.items ≡ instructions_of (types_of program.now) code.old.items ++ instruction.PushText (bytes_of text.now) ∷ []) }
+    ensures { OnOk result (Adds program.now code.old.items code.new.items (instruction.PushText (bytes_of text.now) ∷ [])) }
 {
     let copy = copied(text, alloc)?;
     put(code, program, Instruction::PushText(copy))
@@ -63,7 +63,7 @@ pub(crate) fn put_unbind(
     named: NamedId,
     tag: usize,
 ) -> Result<(), AllocError>
-    ensures { OnOk result (instructions_of (types_of program.now) code.new.items ≡ instructions_of (types_of program.now) code.old.items ++ meant.unbind_code (meant.field_count (meaning program.now).types named.0 tag)) }
+    ensures { OnOk result (Adds program.now code.old.items code.new.items (meant.unbind_code (meant.field_count (meaning program.now).types named.0 tag))) }
 {
     match field_count(program, named, tag) {
         0 => Ok(()),
@@ -91,7 +91,7 @@ pub(crate) fn choose(
     first: Vec<Instruction>,
     other: Vec<Instruction>,
 ) -> Result<(), AllocError>
-    ensures { OnOk result (instructions_of (types_of program.now) code.new.items ≡ instructions_of (types_of program.now) code.old.items ++ meant.if_code [] (instructions_of (types_of program.now) first.items) (instructions_of (types_of program.now) other.items)) }
+    ensures { OnOk result (Adds program.now code.old.items code.new.items (meant.if_code [] (listed program.now first.items) (listed program.now other.items))) }
 {
     put(code, program, Instruction::Branch(first.len() + 1))?;
     append(code, program, first)?;
