@@ -12,11 +12,10 @@ ghost use Rattle.auth_syntax.specs.Outcomes.{Parses};
 ghost use Rattle.lexemes.specs.Remaining.{Reads, remaining};
 
 use crate::tree::{Ast, PlacedName};
-use core_terms::Name;
 use lexemes::fault::{SyntaxFault, SyntaxKind};
 use lexemes::parser::{Parser, PlacedToken};
 use lexemes::token::Token;
-use std::alloc::{AllocError, Global};
+use std::alloc::Global;
 
 /// How many types, or expressions, may stand inside one another. Reading a part calls itself once for each level, and lists are read by
 /// loops, so this bounds the stack too.
@@ -40,23 +39,15 @@ pub fn parse(alloc: Global, text: &[u8]) -> Result<Ast, SyntaxFault>
     Ok(Ast { declarations, end })
 }
 
-/// The name of these bytes, which are copied.
-fn name(alloc: Global, bytes: &[u8]) -> Result<Name, AllocError>
-    ensures { IfOk result (λ name. name ≡ bytes.now) }
-{
-    let copy = bytes.to_vec(alloc)?;
-    Ok(Name::new(copy))
-}
-
 /// Takes a lower name.
 fn lower(parser: &mut Parser<'_>) -> Result<PlacedName, SyntaxFault>
     ensures { Reads name_of (read_lower (remaining parser.old)) result (remaining parser.new) }
 {
     let PlacedToken { at, token } = parser.token()?;
     match token {
-        Token::Lower(bytes) => Ok(PlacedName {
+        Token::Lower(name) => Ok(PlacedName {
             at,
-            name: name(parser.alloc, bytes)?,
+            name: name.to_name(parser.alloc)?,
         }),
         _ => Err(SyntaxFault::At(SyntaxKind::Expected, at)),
     }
@@ -68,9 +59,9 @@ fn upper(parser: &mut Parser<'_>) -> Result<PlacedName, SyntaxFault>
 {
     let PlacedToken { at, token } = parser.token()?;
     match token {
-        Token::Upper(bytes) => Ok(PlacedName {
+        Token::Upper(name) => Ok(PlacedName {
             at,
-            name: name(parser.alloc, bytes)?,
+            name: name.to_name(parser.alloc)?,
         }),
         _ => Err(SyntaxFault::At(SyntaxKind::Expected, at)),
     }

@@ -1,7 +1,12 @@
--- Which values are within limits: of what is authenticated, of each of some values, and in a program's format.
-use Rattle.std.proofs.Common.{◌≤◌, [], ◌∷◌, true, arith}
-use Rattle.std.specs.Prelude.{pos, replicate}
-use Rattle.core_terms.specs.Types.{BoolTy, IntTy, TextTy, PairTy, NamedTy, AuthTy}
+-- Which values are within limits: of what is authenticated, of each of some values, and in a program's format. Which formats and names are
+-- none, and what the limits of a program come to in numbers.
+use Rattle.std.proofs.Common.{ℕ, ◌≤◌, ◌<◌, List, [], ◌∷◌, length, true, arith}
+use Rattle.std.specs.Prelude.{All, pos, replicate}
+use Rattle.core_terms.specs.Types.{Table, BoolTy, IntTy, TextTy, PairTy, NamedTy, AuthTy}
+use Rattle.core_terms.specs.Formats.{Format, IsFormat, first_format}
+use Rattle.core_terms.specs.Names.{IsName}
+use Rattle.core_terms.specs.Terms.{Function, Program}
+use Rattle.core_terms.specs.ProgramLimits.{IsFunctionWithin, IsWithinLimits, expressions_in_all, levels_of, levels_of_type, locals_in}
 use Rattle.core_terms.specs.Values.{Value, BoolV, IntV, TextV, PairV, NoV, AndV, AreWithin, AuthWithin}
 use Rattle.core_terms.specs.Projection.{AllFit, Fits}
 use Rattle.core_terms.specs.FormatRows.{other_program}
@@ -47,3 +52,41 @@ ten_bytes_do_not h = let k : 10 ≤ 9 = h.size_fits in absurd (omega (arith, k))
 
 nor_in_a_row : AllFit other_program (BoolTy ∷ TextTy ∷ []) (AndV (BoolV true) (AndV long NoV)) → ⊥
 nor_in_a_row h = let k : 44 ≤ 9 = h.1.0.size_fits in absurd (omega (arith, k))
+
+-- no format: where a text literal is too long for a spelling, where a spelling is too long for a message, and where a ring's size has no field
+abbrev of_limit : ℕ → Format
+of_limit limit = record { digest = λ hash t bytes. hash bytes; limit = limit; magic = replicate 4 0; most_kept = 0 }
+
+too_short_a_limit : IsFormat (of_limit 65535) → ⊥
+too_short_a_limit h = let k : 65536 ≤ 65535 = h.limit_holds in absurd (omega (arith, k))
+
+too_long_a_limit : IsFormat (of_limit 16777180) → ⊥
+too_long_a_limit h = let k : 16777217 ≤ 16777216 = h.message_fits in absurd (omega (arith, k))
+
+too_great_a_ring : IsFormat (first_format 65536) → ⊥
+too_great_a_ring h = let k : 65536 < 65536 = h.kept_fits in absurd (omega (arith, k))
+
+-- names: of one byte and of 64
+one_byte_is_a_name : IsName (0x61 ∷ [])
+one_byte_is_a_name = (omega arith, omega arith)
+
+sixty_four_are_a_name : IsName (replicate 64 0x61)
+sixty_four_are_a_name = (omega arith, omega arith)
+
+no_byte_is_no_name : IsName [] → ⊥
+no_byte_is_no_name h = let k : 1 ≤ 0 = h.0 in absurd (omega (arith, k))
+
+sixty_five_are_no_name : IsName (replicate 65 0x61) → ⊥
+sixty_five_are_no_name h = let k : 65 ≤ 64 = h.1 in absurd (omega (arith, k))
+
+-- the limits of a function by itself, and of a program
+limits_of_a_function : (types : Table) (g : Function) → IsFunctionWithin types g
+    → (1 ≤ length g.name) × (length g.name ≤ 64) × (length g.parameters ≤ 8) × All (λ t. levels_of_type t ≤ 100) g.parameters
+    × (levels_of_type g.result ≤ 100) × (locals_in types (length g.parameters) g.body ≤ 255) × (levels_of g.body ≤ 100)
+limits_of_a_function types g h = (h.name.0, h.name.1, h.parameters, h.parameter_types, h.result_type, h.locals, h.levels)
+
+limits_of_a_program : (P : Program) → IsWithinLimits P
+    → (length P.types ≤ 256) × All (λ constructors. length constructors ≤ 255) P.types × All (All (λ fields. length fields ≤ 8)) P.types
+    × All (All (All (λ t. levels_of_type t ≤ 100))) P.types × (levels_of_type P.state ≤ 100)
+    × (length P.functions ≤ 1024) × All (IsFunctionWithin P.types) P.functions × (expressions_in_all P.functions ≤ 262144)
+limits_of_a_program P h = (h.types, h.constructors, h.fields, h.field_types, h.state_type, h.functions, h.each, h.expressions)

@@ -8,6 +8,7 @@ pub mod Roles
 pub mod Projection
 pub mod Typing
 pub mod TypeTables
+pub mod Names
 pub mod Texts
 pub mod ProgramTrees
 pub mod ProgramTypes

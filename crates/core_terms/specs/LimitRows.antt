@@ -1,8 +1,11 @@
--- Expressions at their limits. Each equation holds by computing both sides.
-use Rattle.std.specs.Prelude.{◌≡◌, ℕ, zero, suc, true, false, [], ◌∷◌, nat_le, refl}
-use Rattle.core_terms.specs.Types.{IntTy, BoolTy, PairTy, AuthTy, Table}
-use Rattle.core_terms.specs.Terms.{Expression, UnitE, BoolE, LocalE, NotE, LetE, IfE, MatchE, CallE, ConE, NoE, AndE, NoArm, AndArm}
-use Rattle.core_terms.specs.ProgramLimits.{expressions_in, levels_of, levels_of_type, locals_in, most_levels, most_locals}
+-- Names, expressions and programs at their limits. Each equation holds by computing both sides.
+use Rattle.std.specs.Prelude.{◌≡◌, ℕ, zero, suc, true, false, List, [], ◌∷◌, map, nat_le, refl}
+use Rattle.core_terms.specs.Types.{UnitTy, IntTy, BoolTy, PairTy, AuthTy, NamedTy, Table}
+use Rattle.core_terms.specs.Terms.{Expression, UnitE, BoolE, LocalE, PairE, FstE, SndE, NotE, LenE, AuthE, UnauthE, ConE, ArithE, CompareE, TextCompareE, CatE, LetE, IfE, MatchE, CallE, NoE, AndE, NoArm, AndArm, Function, Inner}
+use Rattle.core_terms.specs.declared.term.Arith.TheVariants.{Add}
+use Rattle.core_terms.specs.declared.term.Compare.TheVariants.{Lt}
+use Rattle.core_terms.specs.declared.term.TextCompare.TheVariants.{Lt as TLt}
+use Rattle.core_terms.specs.ProgramLimits.{expressions_in, expressions_in_all, levels_of, levels_of_type, locals_in, longest_name, most_constructors, most_expressions, most_fields, most_functions, most_levels, most_locals, most_parameters, most_types}
 
 -- so many negations, one of another
 abbrev pub negations : ℕ → Expression
@@ -44,3 +47,56 @@ locals_too_many = refl
 
 pub levels_of_types : (levels_of_type IntTy ≡ 1) × (levels_of_type (PairTy (AuthTy (AuthTy IntTy)) IntTy) ≡ 4)
 levels_of_types = (refl, refl)
+
+pub levels_of_other_types : (levels_of_type (PairTy IntTy (PairTy IntTy IntTy)) ≡ 3) × (levels_of_type (AuthTy (NamedTy 0)) ≡ 2)
+levels_of_other_types = (refl, refl)
+
+-- the limits themselves
+pub limits_of_programs : (most_types ≡ 256) × (most_constructors ≡ 255) × (most_fields ≡ 8) × (most_functions ≡ 1024) × (most_parameters ≡ 8)
+limits_of_programs = (refl, refl, refl, refl, refl)
+
+pub limits_of_bodies : (most_locals ≡ 255) × (most_levels ≡ 100) × (most_expressions ≡ 262144) × (longest_name ≡ 64)
+limits_of_bodies = (refl, refl, refl, refl)
+
+-- Each form that has parts, with these two.
+abbrev pub forms : Expression → Expression → List Expression
+forms x y =
+    PairE UnitTy UnitTy x y ∷ FstE UnitTy UnitTy x ∷ SndE UnitTy UnitTy x ∷ NotE x ∷ LenE x ∷ AuthE UnitTy x ∷ UnauthE UnitTy x
+    ∷ ConE 0 0 (AndE x (AndE y NoE)) ∷ ArithE Add x y ∷ CompareE Lt x y ∷ TextCompareE TLt x y ∷ CatE x y
+    ∷ LetE UnitTy x y ∷ IfE x y UnitE ∷ IfE UnitE x y ∷ MatchE 0 x (AndArm y (AndArm UnitE NoArm)) ∷ MatchE 0 UnitE (AndArm x (AndArm y NoArm))
+    ∷ CallE 0 (AndE x (AndE y NoE)) ∷ []
+
+pub expressions_of_forms : map expressions_in (forms (negations 1) (negations 2))
+    ≡ 6 ∷ 3 ∷ 3 ∷ 3 ∷ 3 ∷ 3 ∷ 3 ∷ 6 ∷ 6 ∷ 6 ∷ 6 ∷ 6 ∷ 6 ∷ 7 ∷ 7 ∷ 7 ∷ 7 ∷ 6 ∷ []
+expressions_of_forms = refl
+
+-- the deeper part counts, whichever it is
+pub levels_of_forms : map levels_of (forms (negations 1) (negations 2)) ≡ 4 ∷ 3 ∷ 3 ∷ 3 ∷ 3 ∷ 3 ∷ 3 ∷ 4 ∷ 4 ∷ 4 ∷ 4 ∷ 4 ∷ 4 ∷ 4 ∷ 4 ∷ 4 ∷ 4 ∷ 4 ∷ []
+levels_of_forms = refl
+
+pub levels_of_turned_forms : map levels_of (forms (negations 2) (negations 1)) ≡ 4 ∷ 4 ∷ 4 ∷ 4 ∷ 4 ∷ 4 ∷ 4 ∷ 4 ∷ 4 ∷ 4 ∷ 4 ∷ 4 ∷ 4 ∷ 4 ∷ 4 ∷ 4 ∷ 4 ∷ 4 ∷ []
+levels_of_turned_forms = refl
+
+-- an expression that binds one local, and one that binds two
+abbrev pub bind_one : Expression
+bind_one = LetE UnitTy UnitE UnitE
+
+abbrev pub bind_two : Expression
+bind_two = LetE UnitTy UnitE bind_one
+
+-- the part with more locals counts, whichever it is; those of a `let` and of an arm come to what is bound in their bodies
+pub locals_of_forms : map (locals_in two_constructors 0) (forms bind_one bind_two) ≡ 2 ∷ 1 ∷ 1 ∷ 1 ∷ 1 ∷ 1 ∷ 1 ∷ 2 ∷ 2 ∷ 2 ∷ 2 ∷ 2 ∷ 3 ∷ 2 ∷ 2 ∷ 4 ∷ 3 ∷ 2 ∷ []
+locals_of_forms = refl
+
+pub locals_of_turned_forms : map (locals_in two_constructors 0) (forms bind_two bind_one) ≡ 2 ∷ 2 ∷ 2 ∷ 2 ∷ 2 ∷ 2 ∷ 2 ∷ 2 ∷ 2 ∷ 2 ∷ 2 ∷ 2 ∷ 2 ∷ 2 ∷ 2 ∷ 3 ∷ 4 ∷ 2 ∷ []
+locals_of_turned_forms = refl
+
+pub of_a_leaf : (expressions_in (LocalE 3) ≡ 1) × (levels_of (LocalE 3) ≡ 1) × (locals_in two_constructors 5 (LocalE 3) ≡ 5)
+of_a_leaf = (refl, refl, refl)
+
+-- all bodies of a program count together
+abbrev pub with_body : Expression → Function
+with_body body = record { name = []; kind = Inner; parameters = []; result = UnitTy; body = body }
+
+pub expressions_of_bodies : expressions_in_all (with_body (negations 2) ∷ with_body (negations 1) ∷ []) ≡ 5
+expressions_of_bodies = refl

@@ -1,6 +1,7 @@
 -- The limits of a program: how many named types, constructors, fields, functions, parameters, locals and expressions it has, how
 -- long its names are, and how far its types and expressions are nested.
 use Rattle.std.specs.Prelude.{ℕ, suc, ◌+◌, ◌≤◌, max, List, [], ◌∷◌, length, slice_get, unwrap_or, All}
+pub use Rattle.core_terms.specs.Names.{IsName, longest_name}
 use Rattle.core_terms.specs.Types.{Ty, PairTy, AuthTy, Table}
 use Rattle.core_terms.specs.Terms.{Expression, PairE, FstE, SndE, NotE, LenE, AuthE, UnauthE, ConE, ArithE, CompareE, TextCompareE, CatE, LetE, IfE, MatchE, CallE, Expressions, NoE, AndE, Arms, NoArm, AndArm, Function, Program}
 
@@ -27,10 +28,7 @@ most_locals = 255
 abbrev pub most_expressions : ℕ
 most_expressions = 262144
 
--- how many bytes a name has at most, and how many levels a type that is written, and the body of a function
-abbrev pub longest_name : ℕ
-longest_name = 64
-
+-- how many levels a type that is written has at most, and the body of a function
 abbrev pub most_levels : ℕ
 most_levels = 100
 
@@ -133,10 +131,6 @@ module _ (types : Table) where
 abbrev pub expressions_in_all : List Function → ℕ
 expressions_in_all [] = 0
 expressions_in_all (g ∷ gs) = expressions_in g.body + expressions_in_all gs
-
--- a name has as many bytes as it may have
-abbrev pub IsName : List ℕ → Type 0
-IsName name = (1 ≤ length name) × (length name ≤ longest_name)
 
 -- a type that is written, and a function by itself, are within the limits
 abbrev pub IsFlatType : Ty → Type 0

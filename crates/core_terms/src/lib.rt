@@ -26,7 +26,7 @@ pub use program::{FunctionId, Program};
 pub use program_types::Types;
 pub use roles::{Role, RoleId, RoleKind};
 pub use term::{
-    Arith, BinaryOperator, Compare, Constructor, Function, Kind, LocalId, Name, NamedType, Term,
-    Text, TextCompare,
+    Arith, BinaryOperator, Compare, Constructor, Function, Kind, LocalId, Name, NameRef, NamedType,
+    Term, Text, TextCompare,
 };
 pub use types::{NamedId, Tag, TyForm, TyId, TyTable};

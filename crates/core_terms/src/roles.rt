@@ -85,18 +85,11 @@ fn as_role(
     };
     Ok(Role {
         function: id,
-        name: copied(&function.name, alloc)?,
+        name: function.name.copied(alloc)?,
         kind,
         argument: function.parameters[place],
         result: function.result,
     })
-}
-
-/// A name of the same bytes.
-fn copied(name: &Name, alloc: Global) -> Result<Name, AllocError>
-    ensures { IfOk result (λ copy. copy ≡ name.now) }
-{
-    Ok(Name::new(Vec::from_slice(alloc, name.as_bytes())?))
 }
 
 /// The place of the first of the roles that has this name.

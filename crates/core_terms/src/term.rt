@@ -1,35 +1,49 @@
 // Terms: the bodies of functions, with names resolved and types written.
-ghost use Rattle.std.specs.Prelude.{◌≡◌, ◌≤◌, true, length, ℕ, List};
+ghost use Rattle.std.specs.Prelude.{◌≡◌, ◌≤◌, ◌↔◌, true, length, IfOk, IfSome, IsSome};
 ghost use Rattle.std.specs.Str.{is_utf8};
 
 use crate::{FunctionId, NamedId, Tag, TyId};
+use std::alloc::{AllocError, Global};
 use std::marker::Model;
 
-/// A name of a program. Clauses see the list of its bytes.
+/// A name of a program: 1 to 64 bytes. Clauses see the list of its bytes.
 #[derive(Drop)]
 pub struct Name {
     bytes: Vec<u8>,
 }
 
 impl Model for Name {
+    ghost use Rattle.std.specs.Prelude.{ℕ, List};
+    ghost use Rattle.core_terms.specs.Names.{IsName};
+
     ghost Value = { List ℕ };
 
     ghost view = { λ name. name.bytes.items };
+
+    ghost invariant = { λ name. IsName name.bytes.items };
 }
 
 impl Name {
-    /// Takes the bytes over.
-    pub fn new(bytes: Vec<u8>) -> Self
-        ensures { result ≡ bytes.items }
-    {
-        Name { bytes }
-    }
+    ghost use Rattle.core_terms.specs.Names.{IsName};
 
     /// The bytes, lent.
     pub fn as_bytes(&self) -> &[u8]
-        ensures { result.now ≡ self.now }
+        ensures bytes { result.now ≡ self.now }
+        ensures is_name { IsName result.now }
     {
         &self.bytes
+    }
+
+    /// A name of the same bytes.
+    ///
+    /// # Errors
+    ///
+    /// `AllocError` where there is no memory for the copy.
+    pub fn copied(&self, alloc: Global) -> Result<Name, AllocError>
+        ensures { IfOk result (λ copy. copy ≡ self.now) }
+    {
+        let bytes = Vec::from_slice(alloc, &self.bytes)?;
+        Ok(Name { bytes })
     }
 }
 
@@ -52,6 +66,54 @@ impl Eq for Name {
     ghost use Rattle.std.specs.Cmp.Lexicographic.{nat_list_eq_equiv};
 
     ghost laws = { nat_list_eq_equiv };
+}
+
+/// How many bytes a name has at most.
+const LONGEST_NAME: usize = 64;
+
+/// The bytes of a name, lent: 1 to 64 of them.
+#[derive(Clone, Copy)]
+pub struct NameRef<'a> {
+    bytes: &'a [u8],
+    ghost some: { 1 ≤ length bytes.now },
+    ghost short: { length bytes.now ≤ 64 },
+}
+
+impl<'a> NameRef<'a> {
+    ghost use Rattle.core_terms.specs.Names.{IsName};
+    ghost use Rattle.core_terms.specs.Texts.{name_bytes};
+
+    /// The name of these bytes; `None` exactly where they are none: where there is no byte, or where there are more than 64.
+    pub fn new(bytes: &'a [u8]) -> Option<Self>
+        ensures exactly { IsSome result ↔ IsName bytes.now }
+        ensures bytes { IfSome result (λ name. name_bytes name ≡ bytes.now) }
+    {
+        if bytes.is_empty() || bytes.len() > LONGEST_NAME {
+            None
+        } else {
+            Some(NameRef { bytes })
+        }
+    }
+
+    /// The bytes.
+    pub fn as_bytes(self) -> &'a [u8]
+        ensures bytes { result.now ≡ name_bytes self.entry }
+        ensures is_name { IsName result.now }
+    {
+        self.bytes
+    }
+
+    /// A name of one's own, of the same bytes.
+    ///
+    /// # Errors
+    ///
+    /// `AllocError` where there is no memory for the copy.
+    pub fn to_name(self, alloc: Global) -> Result<Name, AllocError>
+        ensures { IfOk result (λ name. name ≡ name_bytes self.entry) }
+    {
+        let bytes = Vec::from_slice(alloc, self.bytes)?;
+        Ok(Name { bytes })
+    }
 }
 
 /// A text that stands in a program: UTF-8 of at most 65,532 bytes.

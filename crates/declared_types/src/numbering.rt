@@ -126,13 +126,6 @@ fn parameter_numbers(
     Ok(ids)
 }
 
-/// A copy of a name.
-fn copied(alloc: Global, name: &Name) -> Result<Name, AllocError>
-    ensures { IfOk result (λ copy. copy ≡ name.now) }
-{
-    Ok(Name::new(name.as_bytes().to_vec(alloc)?))
-}
-
 /// The named types of declarations.
 fn named_types(
     alloc: Global,
@@ -163,7 +156,7 @@ fn named_type(
     ensures found { IfOk result (λ named. IsNamedOf (names_in names.now.keys) (types_in types.new) (record { name = written.name_of declared.now.name; constructors = written.constructors_of declared.now.constructors }) named) }
 {
     let constructors = constructors(alloc, types, names, &declared.constructors)?;
-    let name = copied(alloc, &declared.name.name)?;
+    let name = declared.name.name.copied(alloc)?;
     Ok(NamedType { name, constructors })
 }
 
@@ -195,7 +188,7 @@ fn constructor(
     ensures found { IfOk result (λ constructor. IsConstructorOf (names_in names.now.keys) (types_in types.new) (written.constructor_of declared.now) constructor) }
 {
     let fields = numbers(alloc, types, names, &declared.fields)?;
-    let name = copied(alloc, &declared.name.name)?;
+    let name = declared.name.name.copied(alloc)?;
     Ok(Constructor { name, fields })
 }
 

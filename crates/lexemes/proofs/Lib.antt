@@ -3,6 +3,8 @@ pub mod PlaceLemmas
 pub mod Counted
 -- lexer::Lexer::next and lexer::words
 pub mod TokenLemmas
+-- the names among them
+pub mod WordLemmas
 -- lexer::texts
 pub mod TextLemmas
 -- lexer::numbers and lexer::pieces

@@ -50,7 +50,7 @@ prefix_is_part : (p : ℕ → Bool) (b : ℕ) (rest : List ℕ) → p b ≡ true
     → (0 < prefix_len p (b ∷ rest)) × (prefix_len p (b ∷ rest) ≤ length (b ∷ rest))
 prefix_is_part p b rest h = (rw h (omega arith), prefix_len-le-length p (b ∷ rest))
 
-taken_is_part : (p : ℕ → Bool) (b : ℕ) (rest : List ℕ) → p b ≡ true
+pub taken_is_part : (p : ℕ → Bool) (b : ℕ) (rest : List ℕ) → p b ≡ true
     → let run = take (prefix_len p (b ∷ rest)) (b ∷ rest) in (0 < length run) × (length run ≤ length (b ∷ rest))
 taken_is_part p b rest h =
     let part = prefix_is_part p b rest h in

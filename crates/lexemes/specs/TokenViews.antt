@@ -1,6 +1,6 @@
 -- What the tokens of the code stand for.
 use Rattle.std.specs.Prelude.{◌≡◌}
-use Rattle.core_terms.specs.Texts.{bytes_of}
+use Rattle.core_terms.specs.Texts.{bytes_of, name_bytes}
 use Rattle.lexemes.specs.Tokens.{Token, KeywordToken, MarkToken, LowerToken, UpperToken, IntToken, TextToken, Tokens, Next, End, Faulty, tokens_from}
 use Rattle.lexemes.specs.declared.token.Token.{Token as TokenCode}
 use Rattle.lexemes.specs.declared.token.Token.TheVariants as code
@@ -12,8 +12,8 @@ use Rattle.lexemes.specs.declared.lexer.Lexer.{Lexer}
 abbrev pub token_view : TokenCode → Token
 token_view (code.Keyword keyword) = KeywordToken keyword
 token_view (code.Mark mark) = MarkToken mark
-token_view (code.Lower name) = LowerToken name.now
-token_view (code.Upper name) = UpperToken name.now
+token_view (code.Lower name) = LowerToken (name_bytes name)
+token_view (code.Upper name) = UpperToken (name_bytes name)
 token_view (code.Int z) = IntToken z
 token_view (code.Text text) = TextToken (bytes_of text)
 

@@ -1,6 +1,6 @@
 // The tokens that a text consists of.
 
-use core_terms::{BinaryOperator, Text};
+use core_terms::{BinaryOperator, NameRef, Text};
 
 /// A word that the grammar gives a meaning.
 #[derive(Clone, Copy)]
@@ -48,15 +48,15 @@ pub enum Mark {
     Arrow,
 }
 
-/// A token; the bytes of a name are lent from the text, a text has the bytes that it stands for.
+/// A token; a name is lent from the text, a text literal has the bytes that it stands for.
 #[derive(Drop)]
 pub enum Token<'a> {
     Keyword(Keyword),
     Mark(Mark),
     /// A name that begins with a small letter and is no keyword.
-    Lower(&'a [u8]),
+    Lower(NameRef<'a>),
     /// A name that begins with a capital.
-    Upper(&'a [u8]),
+    Upper(NameRef<'a>),
     Int(i64),
     Text(Text),
 }

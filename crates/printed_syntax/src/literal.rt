@@ -120,7 +120,7 @@ fn constructor(
     let Token::Upper(name) = token else {
         return Err(SyntaxFault::At(SyntaxKind::Expected, at));
     };
-    let Some((tag, types)) = program.constructor(named, name) else {
+    let Some((tag, types)) = program.constructor(named, name.as_bytes()) else {
         return Err(SyntaxFault::At(SyntaxKind::Expected, at));
     };
     bytes.push(tag.0)?;

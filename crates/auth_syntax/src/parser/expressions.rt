@@ -12,7 +12,7 @@ ghost use Rattle.auth_syntax.specs.Trees.{arm_of, arms_of, boxed_of, expression_
 ghost use Rattle.lexemes.specs.Remaining.{Reads};
 ghost use Rattle.lexemes.specs.Readings.{read_separator};
 
-use crate::parser::{NESTING_LIMIT, lower, name, upper};
+use crate::parser::{NESTING_LIMIT, lower, upper};
 use crate::tree::{Arm, ExpTree, PlacedName, UnaryOperator};
 use core_terms::{BinaryOperator, Name, Text};
 use lexemes::fault::{SyntaxFault, SyntaxKind};
@@ -317,8 +317,8 @@ fn owned(alloc: Global, token: Token<'_>) -> Result<Head, AllocError>
     match token {
         Token::Keyword(keyword) => Ok(Head::Keyword(keyword)),
         Token::Mark(mark) => Ok(Head::Mark(mark)),
-        Token::Lower(bytes) => Ok(Head::Lower(name(alloc, bytes)?)),
-        Token::Upper(bytes) => Ok(Head::Upper(name(alloc, bytes)?)),
+        Token::Lower(name) => Ok(Head::Lower(name.to_name(alloc)?)),
+        Token::Upper(name) => Ok(Head::Upper(name.to_name(alloc)?)),
         Token::Int(value) => Ok(Head::Int(value)),
         Token::Text(text) => Ok(Head::Text(text)),
     }

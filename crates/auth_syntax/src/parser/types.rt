@@ -8,7 +8,7 @@ ghost use Rattle.lexemes.specs.TokenViews.{token_view};
 ghost use Rattle.auth_syntax.specs.Trees.{boxed_type_of, type_of, types_of};
 ghost use Rattle.lexemes.specs.Remaining.{Reads};
 
-use crate::parser::{NESTING_LIMIT, name};
+use crate::parser::NESTING_LIMIT;
 use crate::tree::TypeTree;
 use lexemes::fault::{SyntaxFault, SyntaxKind};
 use lexemes::parser::{Parser, PlacedToken};
@@ -52,7 +52,7 @@ fn type_from(
         Token::Keyword(Keyword::Bool) => Ok(TypeTree::BoolType(at)),
         Token::Keyword(Keyword::Int) => Ok(TypeTree::IntType(at)),
         Token::Keyword(Keyword::Text) => Ok(TypeTree::TextType(at)),
-        Token::Lower(bytes) => Ok(TypeTree::NamedType(at, name(parser.alloc, bytes)?)),
+        Token::Lower(name) => Ok(TypeTree::NamedType(at, name.to_name(parser.alloc)?)),
         Token::Keyword(Keyword::Auth) => auth_type(parser, at, levels),
         Token::Mark(Mark::LeftParenthesis) => pair_type(parser, at, levels),
         _ => Err(SyntaxFault::At(SyntaxKind::Expected, at)),

@@ -16,7 +16,7 @@ ghost use Rattle.declared_types.specs.Scopes.{AreWithin, IsCounted, IsHeadWithin
 
 use crate::bodies::elaborator::Elaborator;
 use auth_syntax::tree::{FunctionKind, Parameter};
-use core_terms::{Function, Kind, Name, Term, TyId, TyTable};
+use core_terms::{Function, Kind, Term, TyId, TyTable};
 use declared_types::fault::TypeFault;
 use declared_types::scope::{Head, Scope};
 use std::alloc::{AllocError, Global};
@@ -40,13 +40,6 @@ fn kind(kind: FunctionKind) -> Kind
     }
 }
 
-/// A name, copied.
-fn copied(alloc: Global, name: &Name) -> Result<Name, AllocError>
-    ensures { IfOk result (λ copy. copy ≡ name.now) }
-{
-    Ok(Name::new(name.as_bytes().to_vec(alloc)?))
-}
-
 /// The function of a head, with this body.
 fn with_body(alloc: Global, head: &Head<'_>, body: Box<Term>) -> Result<Function, AllocError>
     ensures name { IfOk result (λ f. f.name ≡ head.now.function.now.name.name) }
@@ -55,7 +48,7 @@ fn with_body(alloc: Global, head: &Head<'_>, body: Box<Term>) -> Result<Function
     ensures gives { IfOk result (λ f. f.result ≡ head.now.result) }
     ensures body { IfOk result (λ f. f.body ≡ body.value) }
 {
-    let name = copied(alloc, &head.function.name.name)?;
+    let name = head.function.name.name.copied(alloc)?;
     let parameters = head.parameters.to_vec(alloc)?;
     Ok(Function {
         name,

@@ -67,6 +67,7 @@ fn minus_piece<'a>(text: &[u8], behind: &[u8]) -> Piece<'a>
 }
 
 // The piece at the head of a text that begins with this byte.
+#[tactic(auto, using(crate::proofs::WordLemmas::small_word, crate::proofs::WordLemmas::capital_word))]
 fn first_piece<'a>(
     alloc: Global,
     text: &'a [u8],

@@ -1,17 +1,14 @@
 // Words: keywords and names.
 
-ghost use Rattle.std.specs.Prelude.{◌≡◌};
+ghost use Rattle.std.specs.Prelude.{◌≡◌, ◌≤◌, length};
 ghost use Rattle.std.specs.List.{prefix_len};
 ghost use Rattle.lexemes.specs.Tokens.{is_name_byte, keyword_text, keyword_of, operator_text, name_piece, lower_piece, UpperToken};
 ghost use Rattle.lexemes.specs.PieceViews.{piece_view};
-ghost use Rattle.lexemes.specs.TokenViews.{token_view};
 
 use crate::fault::LexicalFault;
 use crate::lexer::pieces::Piece;
 use crate::token::{Keyword, Token};
-use core_terms::{Arith, BinaryOperator, Compare, TextCompare};
-
-const NAME_LIMIT: usize = 64;
+use core_terms::{Arith, BinaryOperator, Compare, NameRef, TextCompare};
 
 /// How many bytes a text begins with that may stand in a name.
 pub(crate) fn word_len(text: &[u8]) -> usize
@@ -125,30 +122,29 @@ fn keyword_of(word: &[u8]) -> Option<Keyword>
         .copied()
 }
 
-// A name of at most 64 bytes.
-fn name_piece<'a>(name: Token<'a>, word: &'a [u8]) -> Piece<'a>
-    ensures { piece_view result ≡ name_piece (token_view name.entry) word.now }
-{
-    if word.len() <= NAME_LIMIT {
-        Piece::Taken(name, word.len())
-    } else {
-        Piece::Wrong(LexicalFault::NameLong, 0)
-    }
-}
-
 /// A word that begins with a small letter: a keyword, or else a lower name.
+#[tactic(auto, using(crate::proofs::WordLemmas::name_taken, crate::proofs::WordLemmas::name_long))]
 pub(crate) fn lower_piece<'a>(word: &'a [u8]) -> Piece<'a>
+    requires { 1 ≤ length word.now }
     ensures { piece_view result ≡ lower_piece (keyword_of word.now) word.now }
 {
-    match keyword_of(word) {
-        Some(keyword) => Piece::Taken(Token::Keyword(keyword), word.len()),
-        None => name_piece(Token::Lower(word), word),
+    if let Some(keyword) = keyword_of(word) {
+        return Piece::Taken(Token::Keyword(keyword), word.len());
+    }
+    match NameRef::new(word) {
+        Some(name) => Piece::Taken(Token::Lower(name), word.len()),
+        None => Piece::Wrong(LexicalFault::NameLong, 0),
     }
 }
 
 /// A word that begins with a capital: an upper name.
+#[tactic(auto, using(crate::proofs::WordLemmas::name_taken, crate::proofs::WordLemmas::name_long))]
 pub(crate) fn upper_piece<'a>(word: &'a [u8]) -> Piece<'a>
+    requires { 1 ≤ length word.now }
     ensures { piece_view result ≡ name_piece (UpperToken word.now) word.now }
 {
-    name_piece(Token::Upper(word), word)
+    match NameRef::new(word) {
+        Some(name) => Piece::Taken(Token::Upper(name), word.len()),
+        None => Piece::Wrong(LexicalFault::NameLong, 0),
+    }
 }

@@ -12,7 +12,7 @@ returns-then-not-branch c =
     let names = names_met c.args.names.now.keys in
     let name = c.args.constructor.now.name.name in
     constructor_again c.args.before names (constructor_of c.args.constructor.now) (Sound (name ∷ names))
-    (new_to c.args.names.now.keys c.as_bytes.result name c.as_bytes.ensures c.in_ok-insert.field-0 c.in_ok-insert.ensures.added
+    (new_to c.args.names.now.keys c.as_bytes.result name c.as_bytes.ensures.bytes c.in_ok-insert.field-0 c.in_ok-insert.ensures.added
     ∙ ap not c.if-not-branch.true)
 
 pub returns-then-before-ge-MOST_CONSTRUCTORS : goal.returns-then-before-ge-MOST_CONSTRUCTORS
@@ -20,7 +20,7 @@ returns-then-before-ge-MOST_CONSTRUCTORS c =
     let names = names_met c.args.names.now.keys in
     let name = c.args.constructor.now.name.name in
     constructor_too_many c.args.before names (constructor_of c.args.constructor.now) (Sound (name ∷ names))
-    (new_to c.args.names.now.keys c.as_bytes.result name c.as_bytes.ensures c.in_ok-insert.field-0 c.in_ok-insert.ensures.added
+    (new_to c.args.names.now.keys c.as_bytes.result name c.as_bytes.ensures.bytes c.in_ok-insert.field-0 c.in_ok-insert.ensures.added
     ∙ ap not c.if-not-branch.false) c.if-before-ge-MOST_CONSTRUCTORS.true
 
 pub returns : goal.returns
@@ -29,10 +29,10 @@ returns c =
     let name = c.args.constructor.now.name.name in
     let fields = checked_fields 0 (map type_of c.args.constructor.now.fields.items) in
     let met = ap names_met c.in_ok-insert.ensures.keys
-    ∙ names_with c.args.names.now.keys c.as_bytes.result (name_of c.args.constructor.now.name) c.as_bytes.ensures c.in_ok-insert.field-0
+    ∙ names_with c.args.names.now.keys c.as_bytes.result (name_of c.args.constructor.now.name) c.as_bytes.ensures.bytes c.in_ok-insert.field-0
     c.in_ok-insert.ensures.added c.if-not-branch.false in
     let may_stand = constructor_fields c.args.before names (constructor_of c.args.constructor.now) (Sound (name ∷ names))
-    (new_to c.args.names.now.keys c.as_bytes.result name c.as_bytes.ensures c.in_ok-insert.field-0 c.in_ok-insert.ensures.added
+    (new_to c.args.names.now.keys c.as_bytes.result name c.as_bytes.ensures.bytes c.in_ok-insert.field-0 c.in_ok-insert.ensures.added
     ∙ ap not c.if-not-branch.false) c.if-before-ge-MOST_CONSTRUCTORS.false in
     finds_then _ fields _ c.check_fields.result (may_stand ∙ ap (λ ns. then_checked fields (λ _. Sound ns)) (sym met))
     (rw c.deref.ensures.value at c.check_fields.ensures)

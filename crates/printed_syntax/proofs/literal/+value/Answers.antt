@@ -12,7 +12,7 @@ use Rattle.printed_syntax.specs.Literals.{LiteralReading, constructor_literal, f
 use Rattle.printed_syntax.specs.LiteralSteps.{ReadsPart, literal_on, spelled}
 use Rattle.lexemes.specs.Remaining.{remaining}
 use Rattle.lexemes.specs.TokenViews.{token_view}
-use Rattle.lexemes.specs.Tokens.{Next}
+use Rattle.lexemes.specs.Tokens.{Next, UpperToken}
 use Rattle.printed_syntax.proofs.LiteralSpellings.{at_level, constructor_spelled, no_constructor_spelled, fields_read, last_read, more_read, no_comma, no_field, unit_spelled}
 use Rattle.printed_syntax.proofs.literal.+value.Goals as goal
 
@@ -65,9 +65,11 @@ constructor-returns-in_default-constructor t c =
     let program = c.args.program.now in
     let one = literal_on program c.args.levels in
     let names = constructor_names program.types.named.items in
-    let head = c.in_ok-at.ensures ∙ ap (λ token. Next c.in_ok-at.field-0.at (token_view token) (remaining c.token.new.self)) c.in-Upper.is in
+    let head =
+    c.in_ok-at.ensures ∙ ap (λ token. Next c.in_ok-at.field-0.at (token_view token) (remaining c.token.new.self)) c.in-Upper.is
+    ∙ ap (λ bytes. Next c.in_ok-at.field-0.at (UpperToken bytes) (remaining c.token.new.self)) (sym c.as_bytes.ensures.bytes) in
     ap (λ tokens. spelled spelling c.args.bytes.now.items (constructor_literal (meaning program).types names one c.args.named.0 tokens)) head
-    ∙ no_constructor_spelled one (meaning program).types names c.args.named.0 c.args.bytes.now.items c.in-Upper.name.now c.in_ok-at.field-0.at (remaining c.token.new.self) c.in_default-constructor.ensures.tag
+    ∙ no_constructor_spelled one (meaning program).types names c.args.named.0 c.args.bytes.now.items c.as_bytes.result.now c.in_ok-at.field-0.at (remaining c.token.new.self) c.in_default-constructor.ensures.tag
 
 pub constructor-returns : goal.constructor-returns
 constructor-returns t c =
@@ -76,10 +78,12 @@ constructor-returns t c =
     let names = constructor_names program.types.named.items in
     let ts = types_at (types_of program) c.in-Some.types.now in
     let rest = remaining c.token.new.self in
-    let head = c.in_ok-at.ensures ∙ ap (λ token. Next c.in_ok-at.field-0.at (token_view token) rest) c.in-Upper.is in
+    let head =
+    c.in_ok-at.ensures ∙ ap (λ token. Next c.in_ok-at.field-0.at (token_view token) rest) c.in-Upper.is
+    ∙ ap (λ bytes. Next c.in_ok-at.field-0.at (UpperToken bytes) rest) (sym c.as_bytes.ensures.bytes) in
     let read =
     ap (λ tokens. spelled spelling c.args.bytes.now.items (constructor_literal (meaning program).types names one c.args.named.0 tokens)) head
-    ∙ constructor_spelled one (meaning program).types names c.args.named.0 c.in-Some.tag.0 ts c.args.bytes.now.items c.in-Upper.name.now c.in_ok-at.field-0.at rest c.in-Some.ensures.tag c.in-Some.ensures.fields
+    ∙ constructor_spelled one (meaning program).types names c.args.named.0 c.in-Some.tag.0 ts c.args.bytes.now.items c.as_bytes.result.now c.in_ok-at.field-0.at rest c.in-Some.ensures.tag c.in-Some.ensures.fields
     ∙ ap (λ bytes. spelled spellings bytes (fields_literal one ts rest)) (sym c.in_ok-push.ensures.items) in
     subst (λ (reading : LiteralReading (List ℕ)). ReadsPart (λ (_ : Unit {0}). c.fields.new.bytes.items) reading c.fields.result (remaining c.fields.new.parser)) (sym read) c.fields.ensures
 

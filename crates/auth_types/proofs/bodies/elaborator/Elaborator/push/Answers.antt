@@ -14,4 +14,4 @@ pub returns-clause-locals : goal.returns-clause-locals
 returns-clause-locals c =
     locals_one c.args.self.now _ (record { name = c.as_bytes-name.result; ty = c.args.ty }) refl c.in_ok-push.ensures.items
     ∙ ap (λ name. locals_of c.args.self.now ++ record { name = name; of_type = type_at (types_of c.args.self.now) c.args.ty } ∷ [])
-    c.as_bytes-name.ensures
+    c.as_bytes-name.ensures.bytes
