@@ -1,16 +1,41 @@
 // Reading values without parts into a store.
-ghost use Rattle.std.specs.Prelude.{◌≡◌, ◌+◌, ◌≤◌, ◌<◌, ℕ, suc, length};
+ghost use Rattle.std.specs.Prelude.{◌≡◌, ◌+◌, ◌≤◌, ◌<◌, ℕ, List, suc, true, length};
 ghost use Rattle.core_terms.specs.Reading as meant;
+ghost use Rattle.core_terms.specs.TypeTables.{type_of_form};
 ghost use Rattle.core_terms.specs.Types.{AuthTy, BoolTy, IntTy, Table, TextTy, Ty, UnitTy};
 ghost use Rattle.shallow_codec.specs.KnownNothings.{IsNothingAt};
-ghost use Rattle.shallow_codec.specs.PutValues.{IsRead};
+ghost use Rattle.shallow_codec.specs.PutValues.{IsRead, is_leaf};
 ghost use Rattle.value_store.specs.Nodes.{size_limit};
 ghost use Rattle.value_store.specs.Standing.{Grows};
 
 use crate::UnspellFault;
 use crate::cursor::Cursor;
 use crate::reader::Front;
+use core_terms::TyForm;
 use value_store::{Held, Nodes, Ref};
+
+/// The value of a type of this form, which has no parts.
+pub(crate) fn put_leaf<'a, N: Nodes>(
+    store: &mut N,
+    form: TyForm,
+    at: Cursor<'a>,
+) -> Result<Front<'a>, UnspellFault>
+    requires short { at.offset + length at.rest.now ≤ size_limit }
+    requires leaf { is_leaf form ≡ true }
+    ensures read { (types : Table) (tys : List Ty) (levels : ℕ) → IsRead types (N.nodes store.new) (suc levels) (type_of_form tys form) at.entry
+        (meant.read_value types (suc levels) (type_of_form tys form) at.entry.rest.now at.entry.offset) result }
+    ensures grows { Grows (N.nodes store.old) (N.nodes store.new) }
+    ensures lent { N.lent store.new ≡ N.lent store.old }
+{
+    match form {
+        TyForm::UnitForm => put_unit(store, at),
+        TyForm::BoolForm => put_bool(store, at),
+        TyForm::IntForm => put_int(store, at),
+        TyForm::TextForm => put_text(store, at),
+        TyForm::AuthForm(_) => put_digest(store, at),
+        TyForm::PairForm(_, _) | TyForm::NamedForm(_) => unreachable!(),
+    }
+}
 
 /// The value of `unit`, which is spelled by nothing.
 pub(crate) fn put_unit<'a, N: Nodes>(

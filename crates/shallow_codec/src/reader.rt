@@ -11,12 +11,11 @@ ghost use Rattle.value_store.specs.Nodes.{size_limit};
 ghost use Rattle.value_store.specs.Standing.{Grows};
 
 use crate::UnspellFault;
-use crate::composites::{put_fields, put_parts};
+use crate::composites::{put_fields, put_noted, read_head};
 use crate::cursor::Cursor;
-use crate::fields::field_types;
-use crate::leaves::{known_nothing, put_bool, put_digest, put_int, put_text, put_unit};
+use crate::leaves::{known_nothing, put_leaf};
 use crate::nothings::Nothings;
-use core_terms::{NamedId, Tag, TyForm, TyId, Types};
+use core_terms::{NamedId, TyForm, TyId, Types};
 use std::alloc::Global;
 use value_store::{Nodes, Ref};
 
@@ -65,16 +64,13 @@ impl Reader<'_> {
         if levels == 0 {
             return Err(at.bad());
         }
-        match self.types.form(ty) {
-            TyForm::UnitForm => put_unit(store, at),
-            TyForm::BoolForm => put_bool(store, at),
-            TyForm::IntForm => put_int(store, at),
-            TyForm::TextForm => put_text(store, at),
-            TyForm::AuthForm(_) => put_digest(store, at),
+        let form = self.types.form(ty);
+        match form {
             TyForm::PairForm(first, second) => {
                 self.pair(store, nothings, ty, (first, second), levels - 1, at)
             }
-            TyForm::NamedForm(named) => { self.constructor(store, nothings, named, levels - 1, at) }
+            TyForm::NamedForm(named) => self.constructor(store, nothings, named, levels - 1, at),
+            _ => put_leaf(store, form, at),
         }
     }
 
@@ -103,33 +99,9 @@ impl Reader<'_> {
         if let Some(value) = nothings.get(ty) {
             return known_nothing(store, value, levels + 1, at);
         }
-        let front = self.parts(store, nothings, parts, levels, at)?;
-        nothings.note(store, ty, front.value)?;
-        Ok(front)
-    }
-
-    /// A pair, by its parts: the first and then the second.
-    #[cycle(values)]
-    fn parts<'a, N: Nodes>(
-        &self,
-        store: &mut N,
-        nothings: &mut Nothings,
-        parts: (TyId, TyId),
-        levels: u32,
-        at: Cursor<'a>,
-    ) -> Result<Front<'a>, UnspellFault>
-        requires short { at.offset + length at.rest.now ≤ size_limit }
-        requires levels { levels < depth_limit }
-        requires known { AreKnown (table self.now.types.now) (types_by_number self.now.types.now) (N.nodes store.old) nothings.old }
-        ensures read { IsRead (table self.now.types.now) (N.nodes store.new) (suc levels) (PairTy (ty_of self.now.types.now parts.0) (ty_of self.now.types.now parts.1)) at.entry
-            (meant.read_value (table self.now.types.now) (suc levels) (PairTy (ty_of self.now.types.now parts.0) (ty_of self.now.types.now parts.1)) at.entry.rest.now at.entry.offset) result }
-        ensures known { IfOk result (λ _. AreKnown (table self.now.types.now) (types_by_number self.now.types.now) (N.nodes store.new) nothings.new) }
-        ensures grows { Grows (N.nodes store.old) (N.nodes store.new) }
-        ensures lent { N.lent store.new ≡ N.lent store.old }
-    {
         let first = self.value(store, nothings, parts.0, levels, at)?;
         let second = self.value(store, nothings, parts.1, levels, first.behind)?;
-        put_parts(store, first, second)
+        put_noted(store, nothings, ty, first, second)
     }
 
     /// A value of a named type: its tag, and then the fields of its constructor, which have at most so many levels.
@@ -151,14 +123,9 @@ impl Reader<'_> {
         ensures grows { Grows (N.nodes store.old) (N.nodes store.new) }
         ensures lent { N.lent store.new ≡ N.lent store.old }
     {
-        let Some((tag, behind)) = at.read_tag() else {
-            return Err(at.bad());
-        };
-        let Some(types) = field_types(self.types, named, tag) else {
-            return Err(at.bad());
-        };
-        let fields = self.fields(store, nothings, types, levels, behind)?;
-        put_fields(store, named, Tag(tag), fields)
+        let head = read_head(self.types, named, at)?;
+        let fields = self.fields(store, nothings, head.types, levels, head.behind)?;
+        put_fields(store, named, head.tag, fields)
     }
 
     /// Values of these types, one after another.

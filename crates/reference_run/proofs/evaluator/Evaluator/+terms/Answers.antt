@@ -607,3 +607,113 @@ call-eval-requires t c =
     let lookup = c.in-Some-get.ensures.lookup in
     let one : suc c.in-Some.left ≡ c.args.fuel.now = omega (arith, c.in-Some.ensures) in
     (omega (arith, next_call functions c.in-Some.left c.args.fuel.now f g one (found functions f g lookup.3.0 lookup.1), c.decreases), tt)
+
+-- the fuel that a part leaves
+pub eval-returns-in-Fst-clause-fuel : goal.eval-returns-in-Fst-clause-fuel
+eval-returns-in-Fst-clause-fuel t c = c.eval.ensures.fuel
+
+pub eval-returns-in-Snd-clause-fuel : goal.eval-returns-in-Snd-clause-fuel
+eval-returns-in-Snd-clause-fuel t c = c.eval-in-Snd.ensures.fuel
+
+pub eval-returns-in-Not-clause-fuel : goal.eval-returns-in-Not-clause-fuel
+eval-returns-in-Not-clause-fuel t c = c.eval-in-Not.ensures.fuel
+
+pub eval-returns-in-Len-clause-fuel : goal.eval-returns-in-Len-clause-fuel
+eval-returns-in-Len-clause-fuel t c = c.eval-in-Len.ensures.fuel
+
+pub eval-returns-in-Auth-clause-fuel : goal.eval-returns-in-Auth-clause-fuel
+eval-returns-in-Auth-clause-fuel t c = c.eval-in-Auth.ensures.fuel
+
+pub eval-returns-in-Unauth-clause-fuel : goal.eval-returns-in-Unauth-clause-fuel
+eval-returns-in-Unauth-clause-fuel t c = c.eval-in-Unauth.ensures.fuel
+
+pub eval-returns-in-Pair-clause-fuel : goal.eval-returns-in-Pair-clause-fuel
+eval-returns-in-Pair-clause-fuel t c = c.both-operands.ensures.fuel
+
+pub eval-returns-in-Arith-clause-fuel : goal.eval-returns-in-Arith-clause-fuel
+eval-returns-in-Arith-clause-fuel t c = c.both.ensures.fuel
+
+pub eval-returns-in-Compare-clause-fuel : goal.eval-returns-in-Compare-clause-fuel
+eval-returns-in-Compare-clause-fuel t c = c.both-in-Compare.ensures.fuel
+
+pub eval-returns-in-TextCompare-clause-fuel : goal.eval-returns-in-TextCompare-clause-fuel
+eval-returns-in-TextCompare-clause-fuel t c = c.both-in-TextCompare.ensures.fuel
+
+pub eval-returns-in-Cat-clause-fuel : goal.eval-returns-in-Cat-clause-fuel
+eval-returns-in-Cat-clause-fuel t c = c.both-operands-in-Cat.ensures.fuel
+
+pub eval-returns-in-Constructor-clause-fuel : goal.eval-returns-in-Constructor-clause-fuel
+eval-returns-in-Constructor-clause-fuel t c = c.row-fields.ensures.fuel
+
+pub eval-returns-in-Let-clause-fuel : goal.eval-returns-in-Let-clause-fuel
+eval-returns-in-Let-clause-fuel t c = c.bound_in.ensures.fuel
+
+pub eval-returns-in-If-clause-fuel : goal.eval-returns-in-If-clause-fuel
+eval-returns-in-If-clause-fuel t c = c.choice.ensures.fuel
+
+pub eval-returns-in-Match-clause-fuel : goal.eval-returns-in-Match-clause-fuel
+eval-returns-in-Match-clause-fuel t c = c.arm.ensures.fuel
+
+pub eval-returns-in-Call-clause-fuel : goal.eval-returns-in-Call-clause-fuel
+eval-returns-in-Call-clause-fuel t c = omega (arith, c.row-arguments.ensures.fuel, c.call.ensures.fuel)
+
+pub both-returns-in_err-x-clause-fuel : goal.both-returns-in_err-x-clause-fuel
+both-returns-in_err-x-clause-fuel t c = c.eval.ensures.fuel
+
+pub both-returns-in_err-y-clause-fuel : goal.both-returns-in_err-y-clause-fuel
+both-returns-in_err-y-clause-fuel t c = omega (arith, c.eval.ensures.fuel, c.eval-2.ensures.fuel)
+
+pub both-returns-clause-fuel : goal.both-returns-clause-fuel
+both-returns-clause-fuel t c = omega (arith, c.eval.ensures.fuel, c.eval-2.ensures.fuel)
+
+pub bound_in-returns-in_err-value-clause-fuel : goal.bound_in-returns-in_err-value-clause-fuel
+bound_in-returns-in_err-value-clause-fuel t c = c.eval.ensures.fuel
+
+pub bound_in-returns-in_err-inner-clause-fuel : goal.bound_in-returns-in_err-inner-clause-fuel
+bound_in-returns-in_err-inner-clause-fuel t c = c.eval.ensures.fuel
+
+pub bound_in-returns-clause-fuel : goal.bound_in-returns-clause-fuel
+bound_in-returns-clause-fuel t c = omega (arith, c.eval.ensures.fuel, c.eval-2.ensures.fuel)
+
+pub choice-returns-in_err-test-clause-fuel : goal.choice-returns-in_err-test-clause-fuel
+choice-returns-in_err-test-clause-fuel t c = c.eval.ensures.fuel
+
+pub choice-returns-then-bool_in-clause-fuel : goal.choice-returns-then-bool_in-clause-fuel
+choice-returns-then-bool_in-clause-fuel t c = omega (arith, c.eval.ensures.fuel, c.eval-then-bool_in.ensures.fuel)
+
+pub choice-returns-clause-fuel : goal.choice-returns-clause-fuel
+choice-returns-clause-fuel t c = omega (arith, c.eval.ensures.fuel, c.eval-else-bool_in.ensures.fuel)
+
+pub arm-returns-in_err-subject-clause-fuel : goal.arm-returns-in_err-subject-clause-fuel
+arm-returns-in_err-subject-clause-fuel t c = c.eval.ensures.fuel
+
+pub arm-returns-in_err-inner-clause-fuel : goal.arm-returns-in_err-inner-clause-fuel
+arm-returns-in_err-inner-clause-fuel t c = c.eval.ensures.fuel
+
+pub arm-returns-in-Some-clause-fuel : goal.arm-returns-in-Some-clause-fuel
+arm-returns-in-Some-clause-fuel t c = omega (arith, c.eval.ensures.fuel, c.eval-in-Some.ensures.fuel)
+
+pub arm-returns-clause-fuel : goal.arm-returns-clause-fuel
+arm-returns-clause-fuel t c = c.eval.ensures.fuel
+
+pub row-returns-in_err-value-clause-fuel : goal.row-returns-in_err-value-clause-fuel
+row-returns-in_err-value-clause-fuel t c = omega (arith, c.loop-term.invariant.0, c.eval.ensures.fuel)
+
+pub row-returns-in_err-push-clause-fuel : goal.row-returns-in_err-push-clause-fuel
+row-returns-in_err-push-clause-fuel t c = omega (arith, c.loop-term.invariant.0, c.eval.ensures.fuel)
+
+pub row-returns-clause-fuel : goal.row-returns-clause-fuel
+row-returns-clause-fuel t c = c.loop-term.invariant.0
+
+-- the first part is smaller
+pub both-eval-requires : goal.both-eval-requires
+both-eval-requires t c = (omega (arith, c.decreases), tt)
+
+pub bound_in-eval-requires : goal.bound_in-eval-requires
+bound_in-eval-requires t c = (omega (arith, c.decreases), tt)
+
+pub choice-eval-requires : goal.choice-eval-requires
+choice-eval-requires t c = (omega (arith, c.decreases), tt)
+
+pub arm-eval-requires : goal.arm-eval-requires
+arm-eval-requires t c = (omega (arith, c.decreases), tt)

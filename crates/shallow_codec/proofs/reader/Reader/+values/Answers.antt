@@ -1,80 +1,67 @@
-use Rattle.std.proofs.Common.{◌∙◌, refl, List, Err, arith, subst, sym, add-one}
+use Rattle.std.proofs.Common.{◌∙◌, suc, refl, ap, List, Err, arith, rules, subst, sym, add-one}
 use Rattle.core_terms.specs.ProgramTypes.{types_by_number}
 use Rattle.core_terms.specs.Reading.{read_value}
-use Rattle.core_terms.specs.TypeTables.{type_at}
-use Rattle.core_terms.specs.declared.types.TyForm.TheVariants.{UnitForm, BoolForm, IntForm, TextForm}
+use Rattle.core_terms.specs.TypeTables.{type_of_form}
 use Rattle.value_store.specs.CodeNodes.{numbers_of}
 use Rattle.value_store.specs.declared.node.Ref.{Ref}
 use Rattle.std.proofs.lemmas.Result.{err_from_is_err_and}
 use Rattle.shallow_codec.specs.ProgramTypes.{table, ty_of, tys_of}
-use Rattle.shallow_codec.specs.PutNodes.{IsThere}
 use Rattle.shallow_codec.proofs.FieldLoops.{IsPutSoFar}
 use Rattle.shallow_codec.proofs.GrownNodes.{grows_refl, grows_then}
 use Rattle.shallow_codec.specs.PutValues.{IsNodeFront, IsRead}
-use Rattle.shallow_codec.proofs.ReadNodes.{at_form, fields_fit, leaf_is_read, length_types, not_ok, on_level, pair_fits, so_far_all, so_far_fault, so_far_more, so_far_none, still_known, ty_at}
+use Rattle.shallow_codec.proofs.ReadNodes.{at_form, fields_fault, fields_fit, first_fault, leaf_form, length_types, not_ok, on_level, pair_fits, pair_known, second_fault, so_far_all, so_far_fault, so_far_more, so_far_none, still_known, ty_at}
 use Rattle.shallow_codec.proofs.reader.Reader.+values.Goals as goal
 
-pub value-returns-in-UnitForm-clause-read : goal.value-returns-in-UnitForm-clause-read
-value-returns-in-UnitForm-clause-read g t c =
-    leaf_is_read c.args.self.now.types.now (g.N.Nodes.nodes c.args.store.now) (g.N.Nodes.nodes c.put_unit.new.store) c.put_unit.result
-    c.args.levels c.args.ty c.args.at c.form.result UnitForm c.in-UnitForm.is c.form.ensures.form (omega arith) c.put_unit.ensures.read
-
-pub value-returns-in-UnitForm-clause-known : goal.value-returns-in-UnitForm-clause-known
-value-returns-in-UnitForm-clause-known g t c =
-    still_known c.args.self.now.types.now (g.N.Nodes.nodes c.args.store.now) (g.N.Nodes.nodes c.put_unit.new.store) c.put_unit.result
-    c.args.nothings.now c.put_unit.ensures.grows c.requires.known
-
-pub value-returns-in-BoolForm-clause-read : goal.value-returns-in-BoolForm-clause-read
-value-returns-in-BoolForm-clause-read g t c =
-    leaf_is_read c.args.self.now.types.now (g.N.Nodes.nodes c.args.store.now) (g.N.Nodes.nodes c.put_bool.new.store) c.put_bool.result
-    c.args.levels c.args.ty c.args.at c.form.result BoolForm c.in-BoolForm.is c.form.ensures.form (omega arith) c.put_bool.ensures.read
-
-pub value-returns-in-BoolForm-clause-known : goal.value-returns-in-BoolForm-clause-known
-value-returns-in-BoolForm-clause-known g t c =
-    still_known c.args.self.now.types.now (g.N.Nodes.nodes c.args.store.now) (g.N.Nodes.nodes c.put_bool.new.store) c.put_bool.result
-    c.args.nothings.now c.put_bool.ensures.grows c.requires.known
-
-pub value-returns-in-IntForm-clause-read : goal.value-returns-in-IntForm-clause-read
-value-returns-in-IntForm-clause-read g t c =
-    leaf_is_read c.args.self.now.types.now (g.N.Nodes.nodes c.args.store.now) (g.N.Nodes.nodes c.put_int.new.store) c.put_int.result
-    c.args.levels c.args.ty c.args.at c.form.result IntForm c.in-IntForm.is c.form.ensures.form (omega arith) c.put_int.ensures.read
-
-pub value-returns-in-IntForm-clause-known : goal.value-returns-in-IntForm-clause-known
-value-returns-in-IntForm-clause-known g t c =
-    still_known c.args.self.now.types.now (g.N.Nodes.nodes c.args.store.now) (g.N.Nodes.nodes c.put_int.new.store) c.put_int.result
-    c.args.nothings.now c.put_int.ensures.grows c.requires.known
-
-pub value-returns-in-TextForm-clause-read : goal.value-returns-in-TextForm-clause-read
-value-returns-in-TextForm-clause-read g t c =
-    leaf_is_read c.args.self.now.types.now (g.N.Nodes.nodes c.args.store.now) (g.N.Nodes.nodes c.put_text.new.store) c.put_text.result
-    c.args.levels c.args.ty c.args.at c.form.result TextForm c.in-TextForm.is c.form.ensures.form (omega arith) c.put_text.ensures.read
-
-pub value-returns-in-TextForm-clause-known : goal.value-returns-in-TextForm-clause-known
-value-returns-in-TextForm-clause-known g t c =
-    still_known c.args.self.now.types.now (g.N.Nodes.nodes c.args.store.now) (g.N.Nodes.nodes c.put_text.new.store) c.put_text.result
-    c.args.nothings.now c.put_text.ensures.grows c.requires.known
-
-pub value-returns-in-AuthForm-clause-read : goal.value-returns-in-AuthForm-clause-read
-value-returns-in-AuthForm-clause-read g t c =
-    leaf_is_read c.args.self.now.types.now (g.N.Nodes.nodes c.args.store.now) (g.N.Nodes.nodes c.put_digest.new.store) c.put_digest.result
-    c.args.levels c.args.ty c.args.at c.form.result _ c.in-AuthForm.is c.form.ensures.form (omega arith)
-    (λ types n. c.put_digest.ensures.read types n (type_at (types_by_number c.args.self.now.types.now) c.in-AuthForm.field-0))
-
-pub value-returns-in-AuthForm-clause-known : goal.value-returns-in-AuthForm-clause-known
-value-returns-in-AuthForm-clause-known g t c =
-    still_known c.args.self.now.types.now (g.N.Nodes.nodes c.args.store.now) (g.N.Nodes.nodes c.put_digest.new.store) c.put_digest.result
-    c.args.nothings.now c.put_digest.ensures.grows c.requires.known
-
+-- a value, by the form of its type
 pub value-returns-in-PairForm-clause-read : goal.value-returns-in-PairForm-clause-read
 value-returns-in-PairForm-clause-read g t c =
     on_level (table c.args.self.now.types.now) (g.N.Nodes.nodes c.pair.new.store) c.args.levels (ty_of c.args.self.now.types.now c.args.ty) c.args.at
     c.pair.result (omega arith) c.pair.ensures.read
 
+pub value-returns-in-PairForm-clause-known : goal.value-returns-in-PairForm-clause-known
+value-returns-in-PairForm-clause-known g t c = c.pair.ensures.known
+
+pub value-returns-in-PairForm-clause-grows : goal.value-returns-in-PairForm-clause-grows
+value-returns-in-PairForm-clause-grows g t c = c.pair.ensures.grows
+
+pub value-returns-in-PairForm-clause-lent : goal.value-returns-in-PairForm-clause-lent
+value-returns-in-PairForm-clause-lent g t c = c.pair.ensures.lent
+
 pub value-returns-in-NamedForm-clause-read : goal.value-returns-in-NamedForm-clause-read
 value-returns-in-NamedForm-clause-read g t c =
     at_form (table c.args.self.now.types.now) (g.N.Nodes.nodes c.constructor.new.store) c.args.levels (ty_of c.args.self.now.types.now c.args.ty) c.args.at c.constructor.result
-    (types_by_number c.args.self.now.types.now) c.form.result _ c.in-NamedForm.is c.form.ensures.form (omega arith) c.constructor.ensures.read
+    (types_by_number c.args.self.now.types.now) c.form-form.result _ c.in-NamedForm.is c.form-form.ensures.form (omega arith) c.constructor.ensures.read
 
+pub value-returns-in-NamedForm-clause-known : goal.value-returns-in-NamedForm-clause-known
+value-returns-in-NamedForm-clause-known g t c = c.constructor.ensures.known
+
+pub value-returns-in-NamedForm-clause-grows : goal.value-returns-in-NamedForm-clause-grows
+value-returns-in-NamedForm-clause-grows g t c = c.constructor.ensures.grows
+
+pub value-returns-in-NamedForm-clause-lent : goal.value-returns-in-NamedForm-clause-lent
+value-returns-in-NamedForm-clause-lent g t c = c.constructor.ensures.lent
+
+pub value-put_leaf-requires-clause-leaf : goal.value-put_leaf-requires-clause-leaf
+value-put_leaf-requires-clause-leaf g t c = leaf_form c.form-form.result c.in_default.not-PairForm c.in_default.not-NamedForm
+
+pub value-returns-in_default-clause-read : goal.value-returns-in_default-clause-read
+value-returns-in_default-clause-read g t c =
+    let p = c.args.self.now.types.now in
+    at_form (table p) (g.N.Nodes.nodes c.put_leaf.new.store) c.args.levels (ty_of p c.args.ty) c.args.at c.put_leaf.result (types_by_number p)
+    c.form-form.result c.form-form.result refl c.form-form.ensures.form (omega arith) (c.put_leaf.ensures.read (table p) (types_by_number p) _)
+
+pub value-returns-in_default-clause-known : goal.value-returns-in_default-clause-known
+value-returns-in_default-clause-known g t c =
+    still_known c.args.self.now.types.now (g.N.Nodes.nodes c.args.store.now) (g.N.Nodes.nodes c.put_leaf.new.store) c.put_leaf.result
+    c.args.nothings.now c.put_leaf.ensures.grows c.requires.known
+
+pub value-returns-in_default-clause-grows : goal.value-returns-in_default-clause-grows
+value-returns-in_default-clause-grows g t c = c.put_leaf.ensures.grows
+
+pub value-returns-in_default-clause-lent : goal.value-returns-in_default-clause-lent
+value-returns-in_default-clause-lent g t c = c.put_leaf.ensures.lent
+
+-- a pair, which may be known
 pub pair-returns-in-Some-clause-read : goal.pair-returns-in-Some-clause-read
 pair-returns-in-Some-clause-read g t c =
     let types = table c.args.self.now.types.now in
@@ -82,16 +69,8 @@ pair-returns-in-Some-clause-read g t c =
     subst (λ n. IsRead types (g.N.Nodes.nodes c.args.store.now) n a c.args.at (read_value types n a c.args.at.rest.now c.args.at.offset) c.known_nothing.result) (add-one c.args.levels)
     (c.known_nothing.ensures types a (c.requires.known c.args.ty.0 c.in-Some.value (sym c.get.ensures ∙ c.in-Some.is)))
 
-pub pair-returns-clause-known : goal.pair-returns-clause-known
-pair-returns-clause-known g t c =
-    let types = table c.args.self.now.types.now in
-    let tys = types_by_number c.args.self.now.types.now in
-    let read = c.in_ok-front.ensures.read in
-    c.in_ok-note.ensures.known types tys read.0 c.in_ok-front.ensures.known
-    (subst (λ a. IsThere types (g.N.Nodes.nodes c.parts.new.store) c.in_ok-front.front.value.0 a read.0) (sym c.requires.ty) read.2)
-
-pub parts-put_parts-requires-clause-fits : goal.parts-put_parts-requires-clause-fits
-parts-put_parts-requires-clause-fits g t c =
+pub pair-put_noted-requires-clause-fits : goal.pair-put_noted-requires-clause-fits
+pair-put_noted-requires-clause-fits g t c =
     let p = c.args.self.now.types.now in
     let a = ty_of p c.args.parts.0 in
     let b = ty_of p c.args.parts.1 in
@@ -101,34 +80,98 @@ parts-put_parts-requires-clause-fits g t c =
     (read_value (table p) c.args.levels a c.args.at.rest.now c.args.at.offset) (read_value (table p) c.args.levels b mid.rest.now mid.offset)
     c.in_ok-second.ensures.grows c.requires.short c.requires.levels c.in_ok-first.ensures.read c.in_ok-second.ensures.read
 
-pub parts-returns-clause-read : goal.parts-returns-clause-read
-parts-returns-clause-read g t c =
-    c.put_parts.ensures.read (table c.args.self.now.types.now) c.args.levels (ty_of c.args.self.now.types.now c.args.parts.0) (ty_of c.args.self.now.types.now c.args.parts.1)
-    c.args.at (g.N.Nodes.nodes c.value.new.store) c.in_ok-second.ensures.grows c.in_ok-first.ensures.read c.in_ok-second.ensures.read
+pub pair-returns-in_err-first-clause-read : goal.pair-returns-in_err-first-clause-read
+pair-returns-in_err-first-clause-read g t c =
+    let p = c.args.self.now.types.now in
+    let q = err_from_is_err_and c.from_residual.result c.from_residual.ensures.1 in
+    let n = suc c.args.levels in
+    let at = c.args.at in
+    subst (λ t. IsRead (table p) (g.N.Nodes.nodes c.value.new.store) n t at (read_value (table p) n t at.rest.now at.offset) c.from_residual.result) (sym c.requires.ty)
+    (rw (q.1, q.2) (first_fault (table p) (g.N.Nodes.nodes c.value.new.store) c.args.levels (ty_of p c.args.parts.0) (ty_of p c.args.parts.1) c.args.at
+    c.in_err-first.field-0.0 c.in_err-first.ensures.read))
 
-pub parts-returns-clause-known : goal.parts-returns-clause-known
-parts-returns-clause-known g t c =
-    still_known c.args.self.now.types.now (g.N.Nodes.nodes c.value-2.new.store) (g.N.Nodes.nodes c.put_parts.new.store) c.put_parts.result
-    c.value-2.new.nothings c.put_parts.ensures.grows c.in_ok-second.ensures.known
+pub pair-returns-in_err-second-clause-read : goal.pair-returns-in_err-second-clause-read
+pair-returns-in_err-second-clause-read g t c =
+    let p = c.args.self.now.types.now in
+    let q = err_from_is_err_and c.from_residual-in_err-second.result c.from_residual-in_err-second.ensures.1 in
+    let read = c.in_ok-first.ensures.read in
+    let n = suc c.args.levels in
+    let at = c.args.at in
+    subst (λ t. IsRead (table p) (g.N.Nodes.nodes c.value-2.new.store) n t at (read_value (table p) n t at.rest.now at.offset) c.from_residual-in_err-second.result) (sym c.requires.ty)
+    (rw (q.1, q.2) (second_fault (table p) (g.N.Nodes.nodes c.value-2.new.store) c.args.levels (ty_of p c.args.parts.0) (ty_of p c.args.parts.1) c.args.at
+    c.in_ok-first.first.behind read.0 read.1 c.in_err-second.field-0.0 c.in_err-second.ensures.read))
 
+pub pair-returns-clause-read : goal.pair-returns-clause-read
+pair-returns-clause-read g t c =
+    let p = c.args.self.now.types.now in
+    let types = table p in
+    let n = suc c.args.levels in
+    subst (λ a. IsRead types (g.N.Nodes.nodes c.put_noted.new.store) n a c.args.at (read_value types n a c.args.at.rest.now c.args.at.offset) c.put_noted.result) (sym c.requires.ty)
+    (c.put_noted.ensures.read types c.args.levels (ty_of p c.args.parts.0) (ty_of p c.args.parts.1)
+    c.args.at (g.N.Nodes.nodes c.value.new.store) c.in_ok-second.ensures.grows c.in_ok-first.ensures.read c.in_ok-second.ensures.read)
+
+pub pair-returns-clause-known : goal.pair-returns-clause-known
+pair-returns-clause-known g t c =
+    let p = c.args.self.now.types.now in
+    pair_known p (g.N.Nodes.nodes c.value-2.new.store) (g.N.Nodes.nodes c.put_noted.new.store) c.value-2.new.nothings c.put_noted.new.nothings c.args.ty
+    (ty_of p c.args.parts.0) (ty_of p c.args.parts.1) c.requires.ty c.args.levels c.args.at c.put_noted.result c.put_noted.ensures.known c.in_ok-second.ensures.known
+    (c.put_noted.ensures.read (table p) c.args.levels (ty_of p c.args.parts.0) (ty_of p c.args.parts.1)
+    c.args.at (g.N.Nodes.nodes c.value.new.store) c.in_ok-second.ensures.grows c.in_ok-first.ensures.read c.in_ok-second.ensures.read)
+
+pub pair-returns-clause-grows : goal.pair-returns-clause-grows
+pair-returns-clause-grows g t c =
+    grows_then (g.N.Nodes.nodes c.args.store.now) (g.N.Nodes.nodes c.value-2.new.store) (g.N.Nodes.nodes c.put_noted.new.store)
+    (grows_then (g.N.Nodes.nodes c.args.store.now) (g.N.Nodes.nodes c.value.new.store) (g.N.Nodes.nodes c.value-2.new.store) c.in_ok-first.ensures.grows c.in_ok-second.ensures.grows)
+    c.put_noted.ensures.grows
+
+pub pair-returns-clause-lent : goal.pair-returns-clause-lent
+pair-returns-clause-lent g t c = c.put_noted.ensures.lent ∙ (c.in_ok-second.ensures.lent ∙ c.in_ok-first.ensures.lent)
+
+-- a constructor, behind its tag
 pub constructor-put_fields-requires-clause-fits : goal.constructor-put_fields-requires-clause-fits
 constructor-put_fields-requires-clause-fits g t c =
     let p = c.args.self.now.types.now in
     let read = c.in_ok-fields.ensures.read in
-    fields_fit (table p) c.args.levels c.args.named.0 c.in-Some.tag read.1 (tys_of p c.in-Some-field_types.types.now) c.args.at c.in-Some.behind
+    let head = c.in_ok-head.head in
+    let opened = c.in_ok-head.ensures in
+    fields_fit (table p) c.args.levels c.args.named.0 head.tag.0 read.1 (tys_of p head.types.now) c.args.at head.behind
     c.in_ok-fields.fields.behind (g.N.Nodes.nodes c.fields.new.store) (numbers_of c.in_ok-fields.fields.values.items) read.0
-    c.requires.short c.requires.levels c.in-Some.ensures.1 read.3 read.4
+    c.requires.short c.requires.levels opened.2 read.3 read.4
+
+pub constructor-returns-in_err-head-clause-read : goal.constructor-returns-in_err-head-clause-read
+constructor-returns-in_err-head-clause-read g t c =
+    let q = err_from_is_err_and c.from_residual.result c.from_residual.ensures.1 in
+    rw (q.1, q.2) (c.in_err-head.ensures (g.N.Nodes.nodes c.args.store.now) c.args.levels)
+
+pub constructor-returns-in_err-fields-clause-read : goal.constructor-returns-in_err-fields-clause-read
+constructor-returns-in_err-fields-clause-read g t c =
+    let p = c.args.self.now.types.now in
+    let q = err_from_is_err_and c.from_residual-in_err-fields.result c.from_residual-in_err-fields.ensures.1 in
+    let head = c.in_ok-head.head in
+    let opened = c.in_ok-head.ensures in
+    rw (q.1, q.2) (fields_fault (table p) (g.N.Nodes.nodes c.fields.new.store) c.args.levels c.args.named.0 head.tag.0 (tys_of p head.types.now) c.args.at head.behind
+    opened.0 opened.1 opened.2 c.in_err-fields.field-0.0 c.in_err-fields.ensures.read)
 
 pub constructor-returns-clause-read : goal.constructor-returns-clause-read
 constructor-returns-clause-read g t c =
-    c.put_fields.ensures.read (table c.args.self.now.types.now) c.args.levels (tys_of c.args.self.now.types.now c.in-Some-field_types.types.now) c.args.at c.in-Some.behind
-    (sym c.in-Some-field_types.ensures) c.in-Some.ensures.0 c.in-Some.ensures.1 c.in_ok-fields.ensures.read
+    let p = c.args.self.now.types.now in
+    let head = c.in_ok-head.head in
+    let opened = c.in_ok-head.ensures in
+    c.put_fields.ensures.read (table p) c.args.levels (tys_of p head.types.now) c.args.at head.behind opened.0 opened.1 opened.2 c.in_ok-fields.ensures.read
 
 pub constructor-returns-clause-known : goal.constructor-returns-clause-known
 constructor-returns-clause-known g t c =
     still_known c.args.self.now.types.now (g.N.Nodes.nodes c.fields.new.store) (g.N.Nodes.nodes c.put_fields.new.store) c.put_fields.result
     c.fields.new.nothings c.put_fields.ensures.grows c.in_ok-fields.ensures.known
 
+pub constructor-returns-clause-grows : goal.constructor-returns-clause-grows
+constructor-returns-clause-grows g t c =
+    grows_then (g.N.Nodes.nodes c.args.store.now) (g.N.Nodes.nodes c.fields.new.store) (g.N.Nodes.nodes c.put_fields.new.store) c.in_ok-fields.ensures.grows c.put_fields.ensures.grows
+
+pub constructor-returns-clause-lent : goal.constructor-returns-clause-lent
+constructor-returns-clause-lent g t c = c.put_fields.ensures.lent ∙ c.in_ok-fields.ensures.lent
+
+-- fields in a row
 pub fields-loop-ty-init : goal.fields-loop-ty-init
 fields-loop-ty-init g t c = record {
   so_far =
@@ -177,21 +220,27 @@ fields-returns-clause-read g t c =
     (g.N.Nodes.nodes c.loop-ty.store) c.loop-ty.values.items c.loop-ty.behind
     (omega (arith, length_types (types_by_number c.args.self.now.types.now) c.args.types.now)) c.loop-ty.invariant.so_far
 
+pub fields-returns-clause-known : goal.fields-returns-clause-known
+fields-returns-clause-known g t c = c.loop-ty.invariant.known
+
+pub fields-returns-clause-grows : goal.fields-returns-clause-grows
+fields-returns-clause-grows g t c = c.loop-ty.invariant.grows
+
+pub fields-returns-clause-lent : goal.fields-returns-clause-lent
+fields-returns-clause-lent g t c = c.loop-ty.invariant.lent
+
 -- after a fault nothing is said of what is kept
-pub parts-returns-in_err-first-clause-known : goal.parts-returns-in_err-first-clause-known
-parts-returns-in_err-first-clause-known g t c = not_ok _ _ c.from_residual.result c.from_residual.ensures.1
+pub pair-returns-in_err-first-clause-known : goal.pair-returns-in_err-first-clause-known
+pair-returns-in_err-first-clause-known g t c = not_ok _ _ c.from_residual.result c.from_residual.ensures.1
 
-pub parts-returns-in_err-second-clause-known : goal.parts-returns-in_err-second-clause-known
-parts-returns-in_err-second-clause-known g t c = not_ok _ _ c.from_residual-in_err-second.result c.from_residual-in_err-second.ensures.1
+pub pair-returns-in_err-second-clause-known : goal.pair-returns-in_err-second-clause-known
+pair-returns-in_err-second-clause-known g t c = not_ok _ _ c.from_residual-in_err-second.result c.from_residual-in_err-second.ensures.1
 
-pub pair-returns-in_err-front-clause-known : goal.pair-returns-in_err-front-clause-known
-pair-returns-in_err-front-clause-known g t c = not_ok _ _ c.from_residual.result c.from_residual.ensures.1
-
-pub pair-returns-in_err-note-clause-known : goal.pair-returns-in_err-note-clause-known
-pair-returns-in_err-note-clause-known g t c = not_ok _ _ c.from_residual-in_err-note.result c.from_residual-in_err-note.ensures.1
+pub constructor-returns-in_err-head-clause-known : goal.constructor-returns-in_err-head-clause-known
+constructor-returns-in_err-head-clause-known g t c = not_ok _ _ c.from_residual.result c.from_residual.ensures.1
 
 pub constructor-returns-in_err-fields-clause-known : goal.constructor-returns-in_err-fields-clause-known
-constructor-returns-in_err-fields-clause-known g t c = not_ok _ _ c.from_residual.result c.from_residual.ensures.1
+constructor-returns-in_err-fields-clause-known g t c = not_ok _ _ c.from_residual-in_err-fields.result c.from_residual-in_err-fields.ensures.1
 
 pub fields-returns-in_err-front-clause-known : goal.fields-returns-in_err-front-clause-known
 fields-returns-in_err-front-clause-known g t c = not_ok _ _ c.from_residual.result c.from_residual.ensures.1
@@ -199,27 +248,69 @@ fields-returns-in_err-front-clause-known g t c = not_ok _ _ c.from_residual.resu
 pub fields-returns-in_err-push-clause-known : goal.fields-returns-in_err-push-clause-known
 fields-returns-in_err-push-clause-known g t c = not_ok _ _ c.from_residual-in_err-push.result c.from_residual-in_err-push.ensures.1
 
-pub parts-returns-in_err-first-clause-grows : goal.parts-returns-in_err-first-clause-grows
-parts-returns-in_err-first-clause-grows g t c = c.in_err-first.ensures.grows
+-- the nodes grow, and what was lent stays
+pub pair-returns-in_err-first-clause-grows : goal.pair-returns-in_err-first-clause-grows
+pair-returns-in_err-first-clause-grows g t c = c.in_err-first.ensures.grows
 
-pub parts-returns-in_err-second-clause-grows : goal.parts-returns-in_err-second-clause-grows
-parts-returns-in_err-second-clause-grows g t c =
+pub pair-returns-in_err-first-clause-lent : goal.pair-returns-in_err-first-clause-lent
+pair-returns-in_err-first-clause-lent g t c = c.in_err-first.ensures.lent
+
+pub pair-returns-in_err-second-clause-grows : goal.pair-returns-in_err-second-clause-grows
+pair-returns-in_err-second-clause-grows g t c =
     grows_then (g.N.Nodes.nodes c.args.store.now) (g.N.Nodes.nodes c.value.new.store) (g.N.Nodes.nodes c.value-2.new.store) c.in_ok-first.ensures.grows c.in_err-second.ensures.grows
 
-pub pair-returns-in_err-front-clause-grows : goal.pair-returns-in_err-front-clause-grows
-pair-returns-in_err-front-clause-grows g t c = c.in_err-front.ensures.grows
+pub pair-returns-in_err-second-clause-lent : goal.pair-returns-in_err-second-clause-lent
+pair-returns-in_err-second-clause-lent g t c = c.in_err-second.ensures.lent ∙ c.in_ok-first.ensures.lent
 
 pub constructor-returns-in_err-fields-clause-grows : goal.constructor-returns-in_err-fields-clause-grows
 constructor-returns-in_err-fields-clause-grows g t c = c.in_err-fields.ensures.grows
 
-pub parts-returns-in_err-first-clause-lent : goal.parts-returns-in_err-first-clause-lent
-parts-returns-in_err-first-clause-lent g t c = c.in_err-first.ensures.lent
-
-pub parts-returns-in_err-second-clause-lent : goal.parts-returns-in_err-second-clause-lent
-parts-returns-in_err-second-clause-lent g t c = c.in_err-second.ensures.lent ∙ c.in_ok-first.ensures.lent
-
-pub pair-returns-in_err-front-clause-lent : goal.pair-returns-in_err-front-clause-lent
-pair-returns-in_err-front-clause-lent g t c = c.in_err-front.ensures.lent
-
 pub constructor-returns-in_err-fields-clause-lent : goal.constructor-returns-in_err-fields-clause-lent
 constructor-returns-in_err-fields-clause-lent g t c = c.in_err-fields.ensures.lent
+
+pub fields-returns-in_err-front-clause-grows : goal.fields-returns-in_err-front-clause-grows
+fields-returns-in_err-front-clause-grows g t c =
+    grows_then (g.N.Nodes.nodes c.args.store.now) (g.N.Nodes.nodes c.loop-ty.store) (g.N.Nodes.nodes c.value.new.store) c.loop-ty.invariant.grows c.in_err-front.ensures.grows
+
+pub fields-returns-in_err-front-clause-lent : goal.fields-returns-in_err-front-clause-lent
+fields-returns-in_err-front-clause-lent g t c = c.in_err-front.ensures.lent ∙ c.loop-ty.invariant.lent
+
+pub fields-returns-in_err-push-clause-grows : goal.fields-returns-in_err-push-clause-grows
+fields-returns-in_err-push-clause-grows g t c =
+    grows_then (g.N.Nodes.nodes c.args.store.now) (g.N.Nodes.nodes c.loop-ty.store) (g.N.Nodes.nodes c.value.new.store) c.loop-ty.invariant.grows c.in_ok-front.ensures.grows
+
+pub fields-returns-in_err-push-clause-lent : goal.fields-returns-in_err-push-clause-lent
+fields-returns-in_err-push-clause-lent g t c = c.in_ok-front.ensures.lent ∙ c.loop-ty.invariant.lent
+
+-- what is read next has fewer levels, or is nearer to them, and stands further on
+pub value-pair-requires : goal.value-pair-requires
+value-pair-requires g t c κs within =
+    let ty = sym c.form-form.ensures.form ∙ ap (type_of_form (types_by_number c.args.self.now.types.now)) c.in-PairForm.is in
+    (omega (arith, c.decreases), (search rules, (c.requires.short, (omega (arith, c.requires.levels), (ty, c.requires.known)))))
+
+pub value-constructor-requires : goal.value-constructor-requires
+value-constructor-requires g t c κs within =
+    (omega (arith, c.decreases), (search rules, (c.requires.short, (omega (arith, c.requires.levels), c.requires.known))))
+
+pub pair-value-requires : goal.pair-value-requires
+pair-value-requires g t c κs within =
+    (omega (arith, c.decreases), (search rules, (c.requires.short, (omega (arith, c.requires.levels), c.requires.known))))
+
+pub pair-value-requires-2 : goal.pair-value-requires-2
+pair-value-requires-2 g t c κs within =
+    let moves = c.in_ok-first.ensures.read.4 in (
+      omega (arith, c.decreases),
+      (search rules, (omega (arith, moves.offset, moves.left, c.requires.short), (omega (arith, c.requires.levels), c.in_ok-first.ensures.known))),
+    )
+
+pub constructor-fields-requires : goal.constructor-fields-requires
+constructor-fields-requires g t c κs within =
+    let moves = c.in_ok-head.ensures.2 in
+    (omega (arith, c.decreases), (search rules, (omega (arith, moves.offset, moves.left, c.requires.short), (c.requires.levels, c.requires.known))))
+
+pub fields-value-requires : goal.fields-value-requires
+fields-value-requires g t c κs within =
+    let moves = c.loop-ty.invariant.so_far.moves in (
+      omega (arith, c.decreases),
+      (search rules, (omega (arith, moves.offset, moves.left, c.requires.short), (omega (arith, c.requires.levels), c.loop-ty.invariant.known))),
+    )
