@@ -34,7 +34,7 @@ module _ (C W : Type 0) where
   divided_low z x (pos (suc n)) k w = if_low (int_fits (int_div x (pos (suc n)))) k _ _ (le_refl k) (le_refl k)
   divided_low z x (negsuc n) k w = if_low (int_fits (int_div x (negsuc n))) k _ _ (le_refl k) (le_refl k)
 
-  arith_low : (op : Arith) (x y : ℤ) (k : ℕ) (w : W) → fuel_of (arith_of {C = C} op x y k w) ≤ k
+  pub arith_low : (op : Arith) (x y : ℤ) (k : ℕ) (w : W) → fuel_of (arith_of {C = C} op x y k w) ≤ k
   arith_low Add x y k w = if_low (int_fits (x +ℤ y)) k _ _ (le_refl k) (le_refl k)
   arith_low Sub x y k w = if_low (int_fits (x -ℤ y)) k _ _ (le_refl k) (le_refl k)
   arith_low Mul x y k w = if_low (int_fits (x *ℤ y)) k _ _ (le_refl k) (le_refl k)
@@ -46,12 +46,12 @@ module _ (C W : Type 0) where
   choose_alike true f1 g1 f2 g2 env k w h j = h
   choose_alike false f1 g1 f2 g2 env k w h j = j
 
-  with_fuel_low : (k : ℕ) (o : Opening C W) → fuel_of (with_fuel k o) ≤ k
+  pub with_fuel_low : (k : ℕ) (o : Opening C W) → fuel_of (with_fuel k o) ≤ k
   with_fuel_low k (Opens v w) = le_refl k
   with_fuel_low k (Refuses cause w) = le_refl k
 
   module _ (P : Program) (mode : Mode C W) where
-    limited_low : (t : Ty) (v : Value) (k : ℕ) (w : W) → fuel_of (limited {C = C} P.format.limit P.types t v k w) ≤ k
+    pub limited_low : (t : Ty) (v : Value) (k : ℕ) (w : W) → fuel_of (limited {C = C} P.format.limit P.types t v k w) ≤ k
     limited_low t v k w =
         if_low (nat_lt P.format.limit (size P.types t v)) k _ _ (le_refl k) (if_low (nat_lt depth_limit (depth P.types t v)) k _ _ (le_refl k) (le_refl k))
 

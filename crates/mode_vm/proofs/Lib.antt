@@ -35,8 +35,9 @@ pub mod Slicing
 -- the ideal mode, over ideal nodes and the prover's, and runs in it
 pub mod IdealOpenings
 pub mod IdealOutcomes
--- the law `growing`
+-- the law `growing`, and what a paused machine takes, for the modes
 pub mod Growing
+pub mod Fuel
 -- calls on a state and an argument, for the modes
 pub mod StateCalls
 pub mod StateRoles

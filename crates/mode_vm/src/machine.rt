@@ -29,7 +29,7 @@ pub struct Machine<M> {
 impl<M: Mode> Machine<M> {
     ghost use Rattle.mode_vm.specs.Machines.{AreArguments, OpensFew, ValueStack, IsNext, Represents, steps_left};
     ghost use Rattle.mode_vm.specs.Openings.{Counts, OnlyMemory};
-    ghost use Rattle.mode_vm.specs.StateParts.{fuel_after};
+    ghost use Rattle.mode_vm.specs.StateParts.{Starts, fuel_after};
     ghost use Rattle.mode_vm.specs.Runs.{OnGoes, Ready, RunIs, RunStands, Slices, StepIs, StepStands, WillRun};
 
     /// A machine that is to call a function on these arguments, with this much fuel: 10^12 units at most, in a mode that has opened at
@@ -50,6 +50,7 @@ impl<M: Mode> Machine<M> {
         ensures will { IfOk result (λ machine. (nodes : List Node) (vs : Values) (w : StateOf M.marking) → AreArguments M.marking (program_of code.now) nodes function.0 args.now vs
             → WillRun M.marking (program_of code.now) (function_at (program_of code.now) function.0).result nodes machine.state w
             (call_from (program_of code.now) (mode_of M.marking (program_of code.now)) function.0 vs fuel w)) }
+        ensures starts { IfOk result (λ machine. Starts function.0 args.now fuel machine.state) }
         ensures mode { IfOk result (λ machine. machine.mode ≡ mode) }
         ensures few { IfOk result (λ machine. OpensFew (M.opened machine.mode) (program_of code.now) machine.state) }
     {

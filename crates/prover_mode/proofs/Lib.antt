@@ -10,3 +10,5 @@ pub mod SpelledOutcomes
 pub mod Accepted
 -- prove, prove_file: the parts of a call by the types of the code's program, and a ring before its first piece
 pub mod CallParts
+-- Proving's turn, and the callers of it over nodes that were put behind
+pub mod Pausing

@@ -3,3 +3,4 @@ pub mod Counts
 pub mod Written
 pub mod Calls
 pub mod Told
+pub mod Turns

@@ -4,11 +4,10 @@ use Rattle.ideal_meaning.specs.Frames.{Frame, frame_bytes}
 use Rattle.ideal_meaning.specs.Following.{after_frames}
 use Rattle.reuse_buffer.specs.Kept.{Kept, kept}
 use Rattle.prover_mode.specs.Counts.{again_in, fresh_in}
-use Rattle.prover_mode.specs.declared.proving.Proved.{Proved}
 
--- These are the frames, with their numbers; behind them the ring holds the last n of the new pieces, where `recent` came before.
-pub record TellsFrames (fs : List Frame) (n : ℕ) (recent : List (List ℕ)) (proved : Proved) (after : Kept) : Type 0 where
-  pub frames : proved.frames.items ≡ frame_bytes fs
-  pub fresh : proved.fresh ≡ fresh_in fs
-  pub again : proved.again ≡ again_in fs
+-- These are the frames, by their bytes and numbers; behind them the ring holds the last n of the new pieces, where `recent` came before.
+pub record TellsFrames (fs : List Frame) (n : ℕ) (recent : List (List ℕ)) (bytes : List ℕ) (fresh again : ℕ) (after : Kept) : Type 0 where
+  pub frames : bytes ≡ frame_bytes fs
+  pub fresh_count : fresh ≡ fresh_in fs
+  pub again_count : again ≡ again_in fs
   pub ring : after ≡ kept n (after_frames fs recent)

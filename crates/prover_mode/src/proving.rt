@@ -13,9 +13,8 @@ ghost use Rattle.mode_vm.specs.StateCalls.{IsCalledOn, SpellsOutcome, TakesState
 ghost use Rattle.prover_mode.specs.Calls.{run_frames};
 ghost use Rattle.prover_mode.specs.Told.{TellsFrames};
 
-use crate::frames::{FrameWriter, write_frames};
-use crate::prover_runs::{ProverRun, prover_run};
 use crate::spelling::spelled_outcome;
+use crate::turns::{ProofFrames, Proving};
 use code_gen::Code;
 use core_terms::{FunctionId, Hash32, Outcome, Spelling};
 use reuse_buffer::Ring;
@@ -63,21 +62,22 @@ pub fn prove<H: Hash32, N: Nodes>(
         → SpellsOutcome P (function_at P role.0).result (ideal.outcome_projection H.hash P (function_at P role.0).result (ideal.outcome (ideal.ideal P role.0 (call_of s a) fuel))) told.0.outcome) }
     ensures frames { let P = program_of code.now in IfOk result (λ told. (s a : Value) (recent : List (List ℕ))
         → IsCalledOn H.hash P role.0 (N.nodes store.old) state argument s a → ring ≡ kept ring.size recent
-        → TellsFrames (run_frames H.hash P role.0 (call_of s a) fuel ring.size recent) ring.size recent told.0 told.1) }
+        → TellsFrames (run_frames H.hash P role.0 (call_of s a) fuel ring.size recent) ring.size recent told.0.frames.items told.0.fresh told.0.again told.1) }
     ensures keeps { Keeps (N.nodes store.old) (N.nodes store.new) }
     ensures lent { N.lent store.new ≡ N.lent store.old }
 {
-    let run = prover_run::<H, N>(alloc, code, store, role, &[state, argument], fuel)?;
-    let ProverRun { value, opened } = run;
+    let mut proving = Proving::<H>::start(alloc, code, role, state, argument, fuel)?;
+    let Some(value) = proving.turn(code, store, u64::MAX)? else {
+        unreachable!()
+    };
     let ty = code.program().function(role).result;
     let outcome = spelled_outcome::<H, N>(alloc, code.types(), store, value, ty)?;
-    let written = write_frames::<H, N>(alloc, code.types(), store, &opened, ring)?;
-    let FrameWriter {
-        ring,
+    let (frames, ring) = proving.finish(alloc, code, store, ring)?;
+    let ProofFrames {
         bytes,
         fresh,
         again,
-    } = written;
+    } = frames;
     let proved = Proved {
         value,
         outcome,

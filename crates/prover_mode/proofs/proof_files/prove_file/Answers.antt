@@ -22,13 +22,13 @@ pub returns-clause-fresh : goal.returns-clause-fresh
 returns-clause-fresh g c s a called =
     let size : c.in_ok-ring.ring.size ≡ c.args.size = ap (λ (r : Kept). r.size) c.in_ok-ring.ensures in
     let tells = c.in_ok-proof.ensures.frames s a [] called (holds_last c.in_ok-ring.ring c.args.size [] c.in_ok-ring.ensures) in
-    tells.fresh ∙ ap (λ n. fresh_in (run_frames g.H.Hash32.hash (program_of c.args.code.now) c.args.role.0 (call_of s a) c.args.fuel n [])) size
+    tells.fresh_count ∙ ap (λ n. fresh_in (run_frames g.H.Hash32.hash (program_of c.args.code.now) c.args.role.0 (call_of s a) c.args.fuel n [])) size
 
 pub returns-clause-again : goal.returns-clause-again
 returns-clause-again g c s a called =
     let size : c.in_ok-ring.ring.size ≡ c.args.size = ap (λ (r : Kept). r.size) c.in_ok-ring.ensures in
     let tells = c.in_ok-proof.ensures.frames s a [] called (holds_last c.in_ok-ring.ring c.args.size [] c.in_ok-ring.ensures) in
-    tells.again ∙ ap (λ n. again_in (run_frames g.H.Hash32.hash (program_of c.args.code.now) c.args.role.0 (call_of s a) c.args.fuel n [])) size
+    tells.again_count ∙ ap (λ n. again_in (run_frames g.H.Hash32.hash (program_of c.args.code.now) c.args.role.0 (call_of s a) c.args.fuel n [])) size
 
 pub returns-clause-file : goal.returns-clause-file
 returns-clause-file g c s a called =

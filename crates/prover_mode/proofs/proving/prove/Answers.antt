@@ -1,4 +1,4 @@
-use Rattle.std.proofs.Common.{◌≡◌, ap, subst}
+use Rattle.std.proofs.Common.{◌≡◌, ap, subst, arith}
 use Rattle.core_terms.specs.Programs.{meaning, types_of}
 use Rattle.core_terms.specs.ProgramTrees.{function_of}
 use Rattle.core_terms.specs.Terms.{function_at}
@@ -7,19 +7,25 @@ use Rattle.core_terms.specs.TypeTables.{type_at}
 use Rattle.code_gen.specs.Programs.{program_in}
 use Rattle.ideal_meaning.specs.Headline.{call_of}
 use Rattle.ideal_meaning.specs.Ideal.{ideal, outcome}
-use Rattle.ideal_meaning.specs.Run.{state_of}
 use Rattle.mode_vm.specs.Meanings.{program_of}
-use Rattle.mode_vm.proofs.StateCalls.{both_stand}
-use Rattle.prover_mode.proofs.CallParts.{outcome_by, seen_by, spelled_by, written_by}
+use Rattle.prover_mode.proofs.CallParts.{outcome_by, spelled_by}
+use Rattle.prover_mode.proofs.Pausing.{ended, is_told}
 use Rattle.prover_mode.proofs.proving.prove.Goals as goal
 
-pub prover_run-requires-clause-stand : goal.prover_run-requires-clause-stand
-prover_run-requires-clause-stand g c κs within =
+pub turn-requires-clause-proving : goal.turn-requires-clause-proving
+turn-requires-clause-proving g c κs within =
     let s = c.requires.called.0 in
-    let a = c.requires.called.1 in (
-      call_of s a,
-      both_stand (program_of c.args.code.now) c.args.role.0 c.requires.role g.H.Hash32.hash (g.N.Nodes.nodes c.args.store.now) c.args.state c.args.argument s a c.requires.called.2,
-    )
+    let a = c.requires.called.1 in
+    (c.args.role.0, call_of s a, c.args.fuel, 0, c.in_ok-proving.ensures (g.N.Nodes.nodes c.args.store.now) s a c.requires.called.2)
+
+pub unreachable-requires : goal.unreachable-requires
+unreachable-requires g c =
+    let s = c.requires.called.0 in
+    let a = c.requires.called.1 in
+    let starts = c.in_ok-proving.ensures (g.N.Nodes.nodes c.args.store.now) s a c.requires.called.2 in
+    let fits = c.requires.fuel_fits in
+    is_told g.H.Hash32.hash c.args.code.now c.turn.new.self (g.N.Nodes.nodes c.turn.new.store) c.args.role.0 (call_of s a) c.args.fuel _ c.in_ok-value.field-0
+    (c.in_ok-value.ensures.ends c.args.role.0 (call_of s a) c.args.fuel 0 starts) (omega (arith, fits)) c.in_default.is
 
 pub spelled_outcome-requires-after_bounds : goal.spelled_outcome-requires-after_bounds
 spelled_outcome-requires-after_bounds g c κs within =
@@ -29,27 +35,30 @@ spelled_outcome-requires-after_bounds g c κs within =
     let z = (function_at P c.args.role.0).result in
     let s = c.requires.called.0 in
     let a = c.requires.called.1 in
-    let stand = both_stand P c.args.role.0 c.requires.role hash (g.N.Nodes.nodes c.args.store.now) c.args.state c.args.argument s a c.requires.called.2 in
+    let starts = c.in_ok-proving.ensures (g.N.Nodes.nodes c.args.store.now) s a c.requires.called.2 in
+    let ends = ended hash c.args.code.now c.turn.new.self (g.N.Nodes.nodes c.turn.new.store) c.args.role.0 (call_of s a) c.args.fuel _ c.in_ok-value.field-0
+    (c.in_ok-value.ensures.ends c.args.role.0 (call_of s a) c.args.fuel 0 starts) c.in-Some.value c.in-Some.is in
     let at : type_at (types_of p) c.function.result.now.result ≡ z =
     ap (λ (f : tree.Function). f.result) (subst (λ q. function_of (types_of q) c.function.result.now ≡ function_at (meaning q) c.args.role.0) c.program.ensures c.function.ensures.function) in (
       outcome (ideal P c.args.role.0 (call_of s a) c.args.fuel),
-      outcome_by hash p c.types.result.now c.types.ensures c.function.result.now.result z at (g.N.Nodes.nodes c.prover_run.new.store) c.in_ok-run.run'.value _
-          (c.in_ok-run.ensures.value (call_of s a) stand),
+      outcome_by hash p c.types.result.now c.types.ensures c.function.result.now.result z at (g.N.Nodes.nodes c.turn.new.store) c.in-Some.value _ ends.2,
     )
 
-pub write_frames-requires-clause-seen : goal.write_frames-requires-clause-seen
-write_frames-requires-clause-seen g c κs within =
-    let hash = g.H.Hash32.hash in
-    let p = program_in c.args.code.now in
-    let P = program_of c.args.code.now in
+pub finish-requires-clause-has_run : goal.finish-requires-clause-has_run
+finish-requires-clause-has_run g c κs within =
     let s = c.requires.called.0 in
     let a = c.requires.called.1 in
-    let seen = state_of (ideal P c.args.role.0 (call_of s a) c.args.fuel) in
-    let stand = both_stand P c.args.role.0 c.requires.role hash (g.N.Nodes.nodes c.args.store.now) c.args.state c.args.argument s a c.requires.called.2 in (
-      seen,
-      seen_by hash p c.types-2.result.now c.types-2.ensures (g.N.Nodes.nodes c.prover_run.new.store) c.deref.result.now c.in_ok-run.run'.opened.items seen c.deref.ensures.value
-          (c.in_ok-run.ensures.opened (call_of s a) stand),
-    )
+    let starts = c.in_ok-proving.ensures (g.N.Nodes.nodes c.args.store.now) s a c.requires.called.2 in
+    let ends = ended g.H.Hash32.hash c.args.code.now c.turn.new.self (g.N.Nodes.nodes c.turn.new.store) c.args.role.0 (call_of s a) c.args.fuel _ c.in_ok-value.field-0
+    (c.in_ok-value.ensures.ends c.args.role.0 (call_of s a) c.args.fuel 0 starts) c.in-Some.value c.in-Some.is in
+    (c.args.role.0, call_of s a, c.args.fuel, ends.0)
+
+pub returns-clause-value : goal.returns-clause-value
+returns-clause-value g c s a called =
+    let starts = c.in_ok-proving.ensures (g.N.Nodes.nodes c.args.store.now) s a called in
+    let ends = ended g.H.Hash32.hash c.args.code.now c.turn.new.self (g.N.Nodes.nodes c.turn.new.store) c.args.role.0 (call_of s a) c.args.fuel _ c.in_ok-value.field-0
+    (c.in_ok-value.ensures.ends c.args.role.0 (call_of s a) c.args.fuel 0 starts) c.in-Some.value c.in-Some.is in
+    ends.2
 
 pub returns-clause-outcome : goal.returns-clause-outcome
 returns-clause-outcome g c s a called =
@@ -59,23 +68,17 @@ returns-clause-outcome g c s a called =
     let z = (function_at P c.args.role.0).result in
     let o = outcome (ideal P c.args.role.0 (call_of s a) c.args.fuel) in
     let id = c.function.result.now.result in
-    let stand = both_stand P c.args.role.0 c.requires.role hash (g.N.Nodes.nodes c.args.store.now) c.args.state c.args.argument s a called in
+    let starts = c.in_ok-proving.ensures (g.N.Nodes.nodes c.args.store.now) s a called in
+    let ends = ended hash c.args.code.now c.turn.new.self (g.N.Nodes.nodes c.turn.new.store) c.args.role.0 (call_of s a) c.args.fuel _ c.in_ok-value.field-0
+    (c.in_ok-value.ensures.ends c.args.role.0 (call_of s a) c.args.fuel 0 starts) c.in-Some.value c.in-Some.is in
     let at : type_at (types_of p) id ≡ z =
     ap (λ (f : tree.Function). f.result) (subst (λ q. function_of (types_of q) c.function.result.now ≡ function_at (meaning q) c.args.role.0) c.program.ensures c.function.ensures.function) in
-    let ends = outcome_by hash p c.types.result.now c.types.ensures id z at (g.N.Nodes.nodes c.prover_run.new.store) c.in_ok-run.run'.value o (c.in_ok-run.ensures.value (call_of s a) stand) in
-    spelled_by hash p c.types.result.now c.types.ensures id z at o c.in_ok-outcome.outcome (c.in_ok-outcome.ensures o ends)
+    let is = outcome_by hash p c.types.result.now c.types.ensures id z at (g.N.Nodes.nodes c.turn.new.store) c.in-Some.value o ends.2 in
+    spelled_by hash p c.types.result.now c.types.ensures id z at o c.in_ok-outcome.outcome (c.in_ok-outcome.ensures o is)
 
 pub returns-clause-frames : goal.returns-clause-frames
 returns-clause-frames g c s a recent called holds =
-    let hash = g.H.Hash32.hash in
-    let p = program_in c.args.code.now in
-    let P = program_of c.args.code.now in
-    let args = call_of s a in
-    let given = c.types-2.result.now in
-    let seen = state_of (ideal P c.args.role.0 args c.args.fuel) in
-    let stand = both_stand P c.args.role.0 c.requires.role hash (g.N.Nodes.nodes c.args.store.now) c.args.state c.args.argument s a called in
-    let lent = seen_by hash p given c.types-2.ensures (g.N.Nodes.nodes c.prover_run.new.store) c.deref.result.now c.in_ok-run.run'.opened.items seen c.deref.ensures.value
-    (c.in_ok-run.ensures.opened args stand) in
-    let w = c.in_ok-written.written in
-    let h = written_by hash p given c.types-2.ensures c.args.role.0 args c.args.fuel c.args.ring.size recent w (c.in_ok-written.ensures.written seen recent lent holds) in
-    record { frames = h.bytes; fresh = h.fresh; again = h.again; ring = h.ring }
+    let starts = c.in_ok-proving.ensures (g.N.Nodes.nodes c.args.store.now) s a called in
+    let ends = ended g.H.Hash32.hash c.args.code.now c.turn.new.self (g.N.Nodes.nodes c.turn.new.store) c.args.role.0 (call_of s a) c.args.fuel _ c.in_ok-value.field-0
+    (c.in_ok-value.ensures.ends c.args.role.0 (call_of s a) c.args.fuel 0 starts) c.in-Some.value c.in-Some.is in
+    c.in_ok-frames.ensures c.args.role.0 (call_of s a) c.args.fuel recent ends.0 holds
