@@ -1,10 +1,12 @@
 // The texts of the library. Each is the file of this name in `crates/library_files/data`.
-ghost use Rattle.std.specs.Prelude.{◌↔◌, Contains, IsSome};
+ghost use Rattle.std.specs.Prelude.{◌≡◌, ◌↔◌, Contains, IsSome, option_map};
 ghost use Rattle.ads_library.specs.Names.{library_names};
+ghost use Rattle.ads_library.specs.Texts.{library_text};
 
 /// The text of a program of the library; none exactly for other names.
 pub fn source(name: &str) -> Option<&'static [u8]>
-    ensures { IsSome result ↔ Contains library_names name.now }
+    ensures known { IsSome result ↔ Contains library_names name.now }
+    ensures text { option_map (λ text. text.now) result ≡ library_text name.now }
 {
     match name {
         "bst" => Some(BST),

@@ -2,7 +2,7 @@
 use Rattle.std.specs.Prelude.{◌≡◌, ◌⊎◌, ◌≤◌, ℕ, List, [], ◌∷◌, ◌++◌, length, map, find, bytes_eq, codes, Option}
 use Rattle.std.specs.Borrow.{Bor}
 use Rattle.command_words.specs.declared.command.Command.{Command}
-use Rattle.command_words.specs.declared.command.Command.TheVariants.{Check, Init, Ideal, Step, Shallow, Prove, Verify, Audit}
+use Rattle.command_words.specs.declared.command.Command.TheVariants.{Check, Init, Ideal, Step, Shallow, Prove, Verify, Audit, Library, Gen}
 
 abbrev pub Text : Type 0
 Text = List ℕ
@@ -37,6 +37,8 @@ commands =
     row Prove (codes "prove") (codes "P" ∷ codes "ROLE" ∷ codes "IMG" ∷ codes "ARG" ∷ codes "FUEL" ∷ codes "N" ∷ codes "OUT" ∷ []) ∷
     row_with Verify (codes "verify") (codes "P" ∷ codes "ROLE" ∷ codes "STATE" ∷ codes "ARG" ∷ codes "FUEL" ∷ codes "PROOF" ∷ []) (codes "OUT" ∷ []) ∷
     row Audit (codes "audit") (codes "P" ∷ codes "ROLE" ∷ codes "IMG" ∷ codes "ARG" ∷ codes "FUEL" ∷ codes "PROOF" ∷ []) ∷
+    row Library (codes "library") (codes "NAME" ∷ []) ∷
+    row Gen (codes "gen") (codes "NAME" ∷ codes "SEED" ∷ codes "COUNT" ∷ codes "N" ∷ []) ∷
     []
 
 -- the row of this name

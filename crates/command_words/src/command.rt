@@ -14,6 +14,8 @@ pub enum Command {
     Prove,
     Verify,
     Audit,
+    Library,
+    Gen,
 }
 
 /// A command that words call, with the texts of its arguments.
@@ -36,7 +38,7 @@ pub struct Row {
 
 /// The commands.
 #[rattlefmt::skip]
-static COMMANDS: [Row; 8] = [
+static COMMANDS: [Row; 10] = [
     Row { command: Command::Check, name: "check", arguments: &["P"], least: 1 },
     Row { command: Command::Init, name: "init", arguments: &["P", "ROLE", "ARG", "FUEL", "OUT"], least: 5 },
     Row { command: Command::Ideal, name: "ideal", arguments: &["P", "ROLE", "IMG", "ARG", "FUEL"], least: 5 },
@@ -45,6 +47,8 @@ static COMMANDS: [Row; 8] = [
     Row { command: Command::Prove, name: "prove", arguments: &["P", "ROLE", "IMG", "ARG", "FUEL", "N", "OUT"], least: 7 },
     Row { command: Command::Verify, name: "verify", arguments: &["P", "ROLE", "STATE", "ARG", "FUEL", "PROOF", "OUT"], least: 6 },
     Row { command: Command::Audit, name: "audit", arguments: &["P", "ROLE", "IMG", "ARG", "FUEL", "PROOF"], least: 6 },
+    Row { command: Command::Library, name: "library", arguments: &["NAME"], least: 1 },
+    Row { command: Command::Gen, name: "gen", arguments: &["NAME", "SEED", "COUNT", "N"], least: 4 },
 ];
 
 /// The table of the commands.

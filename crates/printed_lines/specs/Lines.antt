@@ -25,7 +25,7 @@ use Rattle.printed_lines.specs.declared.refusal.Argument.TheVariants as argument
 use Rattle.printed_lines.specs.declared.refusal.ImageKind.{ImageKind}
 use Rattle.printed_lines.specs.declared.refusal.ImageKind.TheVariants as image
 use Rattle.printed_lines.specs.declared.refusal.InputFault.{InputFault}
-use Rattle.printed_lines.specs.declared.refusal.InputFault.TheVariants.{TooLong, RoleUnknown, RoleKind, Number, State, Literal, Image}
+use Rattle.printed_lines.specs.declared.refusal.InputFault.TheVariants.{TooLong, LibraryUnknown, RoleUnknown, RoleKind, Number, State, Literal, Image}
 use Rattle.printed_lines.specs.declared.refusal.Refusal.{Refusal}
 use Rattle.printed_lines.specs.declared.refusal.Refusal.TheVariants as refusal
 
@@ -96,6 +96,8 @@ argument_name argument.Proof = codes "PROOF"
 argument_name argument.Image = codes "IMG"
 argument_name argument.Number = codes "N"
 argument_name argument.Out = codes "OUT"
+argument_name argument.Seed = codes "SEED"
+argument_name argument.Count = codes "COUNT"
 
 -- why bytes are no image
 abbrev pub image_text : ImageKind → List ℕ
@@ -111,6 +113,7 @@ image_text (image.Leftover bytes) = codes "image leftover" ++ also bytes
 -- why an input is refused
 abbrev pub input_text : InputFault → List ℕ
 input_text (TooLong argument) = codes "too long" ++ word (argument_name argument)
+input_text LibraryUnknown = codes "library unknown"
 input_text RoleUnknown = codes "role unknown"
 input_text RoleKind = codes "role kind"
 input_text (Number argument) = codes "number" ++ word (argument_name argument)
@@ -182,10 +185,20 @@ named_done_line types names t v = value_line (codes "done ") types names t v
 abbrev pub state_line : Table → ConstructorNames → Ty → Value → List ℕ
 state_line types names t v = value_line (codes "state ") types names t v
 
--- the line of a proof: how many pieces it has of its own, how many it names again, and how many bytes it has
+-- what proofs have: how many pieces of their own, how many they name again, and how many bytes
+abbrev pub proofs_text : (fresh again bytes : ℕ) → List ℕ
+proofs_text fresh again bytes = codes "new" ++ (also fresh ++ (codes " used" ++ (also again ++ (codes " bytes" ++ also bytes))))
+
+-- the line of a proof
 abbrev pub proof_line : (fresh again bytes : ℕ) → List ℕ
-proof_line fresh again bytes =
-    line_of (codes "proof ") (codes "new" ++ (also fresh ++ (codes " used" ++ (also again ++ (codes " bytes" ++ also bytes)))))
+proof_line fresh again bytes = line_of (codes "proof ") (proofs_text fresh again bytes)
+
+-- the line of many calls: how many there were, how many of them ended with a value, and what their proofs have together
+abbrev pub calls_text : (calls done : ℕ) → List ℕ
+calls_text calls done = codes "calls" ++ (also calls ++ (codes " done" ++ (also done ++ codes " ")))
+
+abbrev pub calls_line : (calls done fresh again bytes : ℕ) → List ℕ
+calls_line calls done fresh again bytes = line_of (calls_text calls done) (proofs_text fresh again bytes)
 
 -- the hexadecimal digits of a piece, or a dash where it has no bytes
 abbrev pub piece_text : List ℕ → List ℕ

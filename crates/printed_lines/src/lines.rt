@@ -55,6 +55,7 @@ fn input_text(alloc: Global, fault: InputFault) -> Result<String, AllocError>
             let word = argument_name(word);
             format!(in alloc; "too long {word}")
         }
+        InputFault::LibraryUnknown => format!(in alloc; "library unknown"),
         InputFault::RoleUnknown => format!(in alloc; "role unknown"),
         InputFault::RoleKind => format!(in alloc; "role kind"),
         InputFault::Number(word) => {
@@ -191,8 +192,39 @@ pub fn proof_line(
 ) -> Result<Vec<u8>, AllocError>
     ensures { IfOk result (λ line. line.items ≡ def.proof_line fresh again bytes) }
 {
-    let text = format!(in alloc; "new {fresh} used {again} bytes {bytes}")?;
+    let text = proofs_text(alloc, fresh.into(), again.into(), bytes as u128)?;
     between(alloc, b"proof ", text.as_bytes())
+}
+
+/// The line of many calls: how many there were, how many of them ended with a value, and of their proofs together how many pieces
+/// these have of their own, how many they name again, and how many bytes they have.
+pub fn calls_line(
+    alloc: Global,
+    calls: u64,
+    done: u64,
+    fresh: u128,
+    again: u128,
+    bytes: u128,
+) -> Result<Vec<u8>, AllocError>
+    ensures { IfOk result (λ line. line.items ≡ def.calls_line calls done fresh again bytes) }
+{
+    let calls = calls_text(alloc, calls, done)?;
+    let proofs = proofs_text(alloc, fresh, again, bytes)?;
+    between(alloc, calls.as_bytes(), proofs.as_bytes())
+}
+
+/// How many calls there were, and how many of them ended with a value.
+fn calls_text(alloc: Global, calls: u64, done: u64) -> Result<String, AllocError>
+    ensures { IfOk result (λ text. string_bytes text ≡ def.calls_text calls done) }
+{
+    format!(in alloc; "calls {calls} done {done} ")
+}
+
+/// What proofs have: pieces of their own, pieces that they name again, and bytes.
+fn proofs_text(alloc: Global, fresh: u128, again: u128, bytes: u128) -> Result<String, AllocError>
+    ensures { IfOk result (λ text. string_bytes text ≡ def.proofs_text fresh again bytes) }
+{
+    format!(in alloc; "new {fresh} used {again} bytes {bytes}")
 }
 
 /// The line of a collision: the number of the piece, what the proof offers and what an honest prover writes, each in lower-case

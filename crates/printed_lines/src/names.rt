@@ -95,5 +95,7 @@ pub(crate) fn argument_name(argument: Argument) -> &'static str
         Argument::Image => "IMG",
         Argument::Number => "N",
         Argument::Out => "OUT",
+        Argument::Seed => "SEED",
+        Argument::Count => "COUNT",
     }
 }

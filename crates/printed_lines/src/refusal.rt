@@ -31,6 +31,10 @@ pub enum Argument {
     Number,
     /// `OUT`, the file that is stored.
     Out,
+    /// `SEED`, from which the numbers of a workload follow.
+    Seed,
+    /// `COUNT`, half the number of calls of a workload.
+    Count,
 }
 
 /// Why bytes are no image of a program: the first fault. Records are numbered from 0.
@@ -59,6 +63,8 @@ pub enum ImageKind {
 pub enum InputFault {
     /// The file has more bytes than it may have.
     TooLong(Argument),
+    /// No program of the library has the name.
+    LibraryUnknown,
     /// No role of the program has the name.
     RoleUnknown,
     /// The role is not one that the command calls.
