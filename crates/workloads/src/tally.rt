@@ -1,0 +1,51 @@
+// Sums over calls.
+ghost use Rattle.std.specs.Prelude.{◌≡◌, ◌<◌, ◌+◌, ◌^◌, suc};
+ghost use Rattle.workloads.specs.Workloads.{no_calls};
+ghost use Rattle.workloads.specs.Sums.{IsBounded, call_added};
+
+use crate::calls::CheckedCall;
+
+/// Sums over calls, each of which was proved into a proof file of its own.
+#[derive(Clone, Copy)]
+pub struct Tally {
+    /// How many calls there were.
+    pub calls: u64,
+    /// How many of them ended with a value.
+    pub done: u64,
+    /// How many frames have a piece of their own.
+    pub fresh: u128,
+    /// How many frames name a kept piece.
+    pub again: u128,
+    /// The number of bytes of all proof files.
+    pub bytes: u128,
+}
+
+impl Tally {
+    /// The sums before the first call.
+    pub(crate) fn new() -> Self
+        ensures sums { result ≡ no_calls }
+        ensures bounded { IsBounded result }
+    {
+        Tally {
+            calls: 0,
+            done: 0,
+            fresh: 0,
+            again: 0,
+            bytes: 0,
+        }
+    }
+
+    /// Counts a call.
+    pub(crate) fn add(&mut self, call: &CheckedCall)
+        requires bounded { IsBounded self.old }
+        requires few { self.old.calls < 2 ^ 32 }
+        ensures sums { self.new ≡ call_added self.old call.now }
+        ensures bounded { IsBounded self.new }
+    {
+        self.calls += 1;
+        self.done += u64::from(call.is_done);
+        self.fresh += u128::from(call.fresh);
+        self.again += u128::from(call.again);
+        self.bytes += call.bytes as u128;
+    }
+}
