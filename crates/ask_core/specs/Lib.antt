@@ -1,0 +1,4 @@
+pub mod Clients
+pub mod Turns
+pub mod Answers
+pub mod Checks

@@ -1,0 +1,83 @@
+// The bytes of a state and of a call, before they are sent.
+ghost use Rattle.std.specs.Prelude.{◌≡◌, ◌≤◌, ◌^◌, option_copied};
+ghost use Rattle.core_terms.specs.Programs.{meaning, types_of};
+ghost use Rattle.core_terms.specs.ProgramTypes.{types_by_number, types_meaning};
+ghost use Rattle.core_terms.specs.Projection.{read_at};
+ghost use Rattle.core_terms.specs.TypeTables.{type_at};
+ghost use Rattle.mode_vm.specs.Meanings.{program_of};
+ghost use Rattle.ask_core.specs.Checks.{CallRead, IsCalled, IsRead, StateRead};
+
+use crate::asked::Asked;
+use crate::told::AskFault;
+use code_gen::Code;
+use core_terms::{Program, Role, RoleKind, Spelling, TyId, Types};
+use shallow_codec::{UnspellFault, unspell};
+use std::alloc::Global;
+use value_store::Store;
+
+/// Checks that the bytes spell a state of the program.
+pub fn check_state(alloc: Global, code: &Code, state: &[u8]) -> Result<(), AskFault>
+    ensures { StateRead (program_of code.now) state.now result }
+{
+    let types = code.types();
+    match check_spelled(alloc, types, state, types.state_type()) {
+        Ok(()) => Ok(()),
+        Err(UnspellFault::Bad(offset)) => Err(AskFault::BadState(offset)),
+        Err(UnspellFault::NoMemory) => Err(AskFault::NoMemory),
+    }
+}
+
+/// A call of a role with an argument that these bytes spell.
+pub fn spelled_call(
+    alloc: Global,
+    code: &Code,
+    role: u16,
+    fuel: u64,
+    argument: &[u8],
+) -> Result<Asked, AskFault>
+    requires { fuel ≤ 10 ^ 12 }
+    ensures { CallRead (program_of code.now) role fuel argument.now result }
+{
+    let called = match role_called(code.program(), role) {
+        Some(called) => called,
+        None => return Err(AskFault::OutOfTurn),
+    };
+    match check_spelled(alloc, code.types(), argument, called.argument) {
+        Ok(()) => {
+            let argument = Spelling::new(Vec::from_slice(alloc, argument)?);
+            Ok(Asked {
+                role,
+                argument,
+                fuel,
+            })
+        }
+        Err(UnspellFault::Bad(offset)) => Err(AskFault::BadArgument(offset)),
+        Err(UnspellFault::NoMemory) => Err(AskFault::NoMemory),
+    }
+}
+
+/// The role with a number, where it is a query or an update.
+pub fn role_called(program: &Program, number: u16) -> Option<&Role>
+    ensures { IsCalled (types_of program.now) (meaning program.now) number (option_copied result) }
+{
+    match program.roles().get(usize::from(number)) {
+        Some(role) => match role.kind {
+            RoleKind::Init => None,
+            RoleKind::Query => Some(role),
+            RoleKind::Update => Some(role),
+        },
+        None => None,
+    }
+}
+
+/// Checks that the bytes spell a value of a type.
+fn check_spelled(alloc: Global, types: &Types, bytes: &[u8], ty: TyId) -> Result<(), UnspellFault>
+    ensures { IsRead (read_at (types_meaning types.now) (type_at (types_by_number types.now) ty) bytes.now) result }
+{
+    let mut store = Store::new(alloc);
+    match unspell(alloc, types, &mut store, bytes, ty) {
+        Ok(_) => Ok(()),
+        Err(UnspellFault::Bad(offset)) => Err(UnspellFault::Bad(offset)),
+        Err(UnspellFault::NoMemory) => Err(UnspellFault::NoMemory),
+    }
+}
