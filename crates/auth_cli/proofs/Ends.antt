@@ -10,8 +10,8 @@ use Rattle.printed_lines.specs.Lines.{refusal_line}
 use Rattle.printed_lines.specs.declared.refusal.Refusal.{Refusal}
 use Rattle.printed_lines.specs.declared.refusal.Refusal.TheVariants as refusal
 use Rattle.auth_cli.specs.Answer.{Answer, refused, refusal_status, says}
-use Rattle.auth_cli.specs.Ending.{Outside, EndsAnswered, EndsAs, EndsInWriteFault, IsToldAs, MayWrite, StoresSome, WritesPart, lines_of}
-use Rattle.auth_cli.specs.Halting.{Found, Finds, HaltCause, JudgementCause, MayHalt, MayHaltJudging, ending_status, line_of, status_of}
+use Rattle.auth_cli.specs.Ending.{Outside, EndsAnswered, EndsAs, EndsOnSink, EndsInWriteFault, IsToldAs, MayWrite, StoresSome, WritesPart, lines_of, with_sink}
+use Rattle.auth_cli.specs.Halting.{Found, Finds, HaltCause, InHand, JudgementCause, MayHalt, MayHaltJudging, ending_status, line_of, status_of}
 use Rattle.auth_cli.specs.Telling.{Tells}
 use Rattle.auth_cli.specs.declared.report.Ending.{Ending}
 use Rattle.auth_cli.specs.declared.report.Ending.TheVariants as ending
@@ -21,7 +21,7 @@ use Rattle.auth_cli.specs.declared.status.Status.{Status}
 use Rattle.auth_cli.specs.declared.status.Status.TheVariants as status
 
 -- nothing was handed to `store`
-adds_none : (old new : Option Stores) → new ≡ old → AddsStores old new []
+pub adds_none : (old new : Option Stores) → new ≡ old → AddsStores old new []
 adds_none None None same = tt
 adds_none None (Some calls) same = absurd (cc)
 adds_none (Some calls) None same = tt
@@ -146,3 +146,30 @@ module _ (answer : Contents → Option Answer) (old new : Outside) where
   ends_as found ended finds cause same stores (inl (inr told)) = rw told.0 (part found finds same stores told.1 told.2)
   ends_as found ended finds cause same stores (inr (inl told)) = rw told.0 (memory_ends same stores told.1 told.2)
   ends_as found ended finds cause same stores (inr (inr told)) = rw told.0 (memory_part same stores told.1 told.2)
+
+-- ---- a command that leaves the files alone
+
+hand_finds : (answer : Option Answer) (found : Found) → InHand (Finds answer) found → Finds answer found
+hand_finds answer (Ok report) finds = finds
+hand_finds answer (Err Usage) finds = absurd finds
+hand_finds answer (Err (Refused (refusal.Program kind line column))) finds = finds
+hand_finds answer (Err (Refused (refusal.Input fault))) finds = finds
+hand_finds answer (Err (Refused (refusal.Proof why))) finds = absurd finds
+hand_finds answer (Err ReadFault) finds = absurd finds
+hand_finds answer (Err NoMemory) finds = finds
+
+hand_cause : (answer : Option Answer) (found : Found) (faults : ℕ) → InHand (Finds answer) found → JudgementCause faults faults found
+hand_cause answer (Ok report) faults finds = refl
+hand_cause answer (Err Usage) faults finds = absurd finds
+hand_cause answer (Err (Refused (refusal.Program kind line column))) faults finds = refl
+hand_cause answer (Err (Refused (refusal.Input fault))) faults finds = refl
+hand_cause answer (Err (Refused (refusal.Proof why))) faults finds = absurd finds
+hand_cause answer (Err ReadFault) faults finds = absurd finds
+hand_cause answer (Err NoMemory) faults finds = refl
+
+-- by what its work on what is in hand found, and how that was told
+pub ends_on_sink : (answer : Option Answer) (found : Found) (ended : Status) (old new : Option (List ℕ)) (before now : ℕ) → InHand (Finds answer) found
+    → Tells found ended old new before now → EndsOnSink (λ files. answer) old new before now ended
+ends_on_sink answer found ended old new before now finds told = λ seen.
+    ends_as (λ files. answer) (with_sink seen old before) (with_sink seen new now) found ended (λ files known. hand_finds answer found finds)
+    (hand_cause answer found seen.read_faults finds) refl refl told

@@ -5,6 +5,9 @@ pub mod Words  -- the commands and `carry_out`: the words behind a command
 pub mod Possible  -- the commands and `run`: the statuses that may be answered
 pub mod Ends  -- `check_command`, `ideal_command`, `audit_command`, `ended`
 pub mod EndsStored  -- `init_command`, `step_command`, `shallow_command`, `prove_command`, `verify_command`
+pub mod LineSteps  -- `gen_command`, `find_sums`, `read_numbers`, `generate`, `workload_of`, `put_role`, `get_role`
+pub mod Workloads  -- `find_sums`, `generate`, `run_and_tell`, `sums_report`
+pub mod WorkloadRoles  -- `put_role`, `get_role`
 pub mod Known  -- `write_all`
 pub mod Numbers  -- `read_number`, `has_digits_alone`
 pub mod RolesByName  -- `run`: clause `headline`

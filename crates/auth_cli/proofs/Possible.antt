@@ -9,7 +9,7 @@ use Rattle.auth_cli.specs.Codes.{code}
 use Rattle.auth_cli.specs.Ending.{IsOfRefused}
 use Rattle.auth_cli.specs.Halting.{Found, HaltCause, JudgementCause, MayHalt, ending_status, halt_status, status_of}
 use Rattle.auth_cli.specs.SoundPrograms.{IsOutcome}
-use Rattle.auth_cli.specs.Statuses.{JudgesAProof, MayAnswer, RunsAFunction}
+use Rattle.auth_cli.specs.Statuses.{JudgesAProof, MayAnswer, ReadsAProgram, ReadsFiles, RunsAFunction}
 use Rattle.auth_cli.specs.Storing.{StoresAndTells, output_status}
 use Rattle.auth_cli.specs.Telling.{Tells}
 use Rattle.auth_cli.specs.declared.report.Halt.{Halt}
@@ -33,40 +33,6 @@ module _ (command : Command) where
   outcome_possible runs status.NoMemory is = absurd is
   outcome_possible runs status.Collision is = absurd is
 
-  -- what halts the reading of files, and what halts the judging of a proof
-  halt_possible : (before now : ℕ) (halt : Halt) → MayHalt before now halt → MayAnswer command (halt_status halt)
-  halt_possible before now Usage cause = cause
-  halt_possible before now (Refused (refusal.Program kind line column)) cause = tt
-  halt_possible before now (Refused (refusal.Input fault)) cause = tt
-  halt_possible before now (Refused (refusal.Proof why)) cause = absurd cause
-  halt_possible before now ReadFault cause = tt
-  halt_possible before now NoMemory cause = tt
-
-  -- what was found, by its report
-  pub found_possible : (before now : ℕ) (found : Found) → HaltCause before now found → IfOk found (λ report. MayAnswer command (ending_status report.ending)) → MayAnswer command (status_of found)
-  found_possible before now (Ok report) cause ending = ending
-  found_possible before now (Err halt) cause ending = halt_possible before now halt cause
-
-  pub output_possible : (before now : ℕ) (found : Result Output Halt) → HaltCause before now found → IfOk found (λ output. MayAnswer command (ending_status output.report.ending))
-      → MayAnswer command (output_status found)
-  output_possible before now (Ok output) cause ending = ending
-  output_possible before now (Err halt) cause ending = halt_possible before now halt cause
-
-  pub judged_possible : JudgesAProof command → (before now : ℕ) (found : Found) → JudgementCause before now found → IfOk found (λ report. MayAnswer command (ending_status report.ending))
-      → MayAnswer command (status_of found)
-  judged_possible judges before now (Ok report) cause ending = ending
-  judged_possible judges before now (Err Usage) cause ending = cause
-  judged_possible judges before now (Err (Refused (refusal.Program kind line column))) cause ending = tt
-  judged_possible judges before now (Err (Refused (refusal.Input fault))) cause ending = tt
-  judged_possible judges before now (Err (Refused (refusal.Proof why))) cause ending = judges
-  judged_possible judges before now (Err ReadFault) cause ending = tt
-  judged_possible judges before now (Err NoMemory) cause ending = tt
-
-  pub judged_output_possible : JudgesAProof command → (before now : ℕ) (found : Result Output Halt) → JudgementCause before now found
-      → IfOk found (λ output. MayAnswer command (ending_status output.report.ending)) → MayAnswer command (output_status found)
-  judged_output_possible judges before now (Ok output) cause ending = ending
-  judged_output_possible judges before now (Err halt) cause ending = judged_possible judges before now (Err halt) cause tt
-
   -- how it was told
   pub told_possible : (found : Found) (ended : Status) (old new : Option (List ℕ)) (before now : ℕ) → Tells found ended old new before now → MayAnswer command (status_of found) → MayAnswer command ended
   told_possible found ended old new before now (inl (inl told)) may = subst (MayAnswer command) (sym told.0) may
@@ -83,6 +49,46 @@ module _ (command : Command) where
   -- a run that lacks the memory for its words
   pub memory_possible : (ended : Status) (old new : Option (List ℕ)) (before now : ℕ) → Tells (Err NoMemory) ended old new before now → MayAnswer command ended
   memory_possible ended old new before now told = told_possible (Err NoMemory) ended old new before now told tt
+
+  -- what halted the work
+  pub halted_possible : (found : Found) (halt : Halt) → found ≡ Err halt → MayAnswer command (halt_status halt) → MayAnswer command (status_of found)
+  halted_possible found halt is may = subst (λ (found : Found). MayAnswer command (status_of found)) (sym is) may
+
+-- a command that reads files, and so a program
+module _ (command : Command) (reads : ReadsFiles command) (program : ReadsAProgram command) where
+  -- what halts the reading of files, and what halts the judging of a proof
+  halt_possible : (before now : ℕ) (halt : Halt) → MayHalt before now halt → MayAnswer command (halt_status halt)
+  halt_possible before now Usage cause = cause
+  halt_possible before now (Refused (refusal.Program kind line column)) cause = program
+  halt_possible before now (Refused (refusal.Input fault)) cause = tt
+  halt_possible before now (Refused (refusal.Proof why)) cause = absurd cause
+  halt_possible before now ReadFault cause = reads
+  halt_possible before now NoMemory cause = tt
+
+  -- what was found, by its report
+  pub found_possible : (before now : ℕ) (found : Found) → HaltCause before now found → IfOk found (λ report. MayAnswer command (ending_status report.ending)) → MayAnswer command (status_of found)
+  found_possible before now (Ok report) cause ending = ending
+  found_possible before now (Err halt) cause ending = halt_possible before now halt cause
+
+  pub output_possible : (before now : ℕ) (found : Result Output Halt) → HaltCause before now found → IfOk found (λ output. MayAnswer command (ending_status output.report.ending))
+      → MayAnswer command (output_status found)
+  output_possible before now (Ok output) cause ending = ending
+  output_possible before now (Err halt) cause ending = halt_possible before now halt cause
+
+  pub judged_possible : JudgesAProof command → (before now : ℕ) (found : Found) → JudgementCause before now found → IfOk found (λ report. MayAnswer command (ending_status report.ending))
+      → MayAnswer command (status_of found)
+  judged_possible judges before now (Ok report) cause ending = ending
+  judged_possible judges before now (Err Usage) cause ending = cause
+  judged_possible judges before now (Err (Refused (refusal.Program kind line column))) cause ending = program
+  judged_possible judges before now (Err (Refused (refusal.Input fault))) cause ending = tt
+  judged_possible judges before now (Err (Refused (refusal.Proof why))) cause ending = judges
+  judged_possible judges before now (Err ReadFault) cause ending = reads
+  judged_possible judges before now (Err NoMemory) cause ending = tt
+
+  pub judged_output_possible : JudgesAProof command → (before now : ℕ) (found : Result Output Halt) → JudgementCause before now found
+      → IfOk found (λ output. MayAnswer command (ending_status output.report.ending)) → MayAnswer command (output_status found)
+  judged_output_possible judges before now (Ok output) cause ending = ending
+  judged_output_possible judges before now (Err halt) cause ending = judged_possible judges before now (Err halt) cause tt
 
 -- ---- the run, by the number of its status
 

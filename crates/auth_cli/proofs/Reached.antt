@@ -10,9 +10,9 @@ use Rattle.auth_cli.specs.Codes.{code}
 use Rattle.auth_cli.specs.FueledRoles.{FueledRole}
 use Rattle.auth_cli.specs.RoleCalls.{program_called}
 use Rattle.auth_cli.specs.IdealCalls.{IdealCall}
-use Rattle.auth_cli.specs.Halting.{FindsInHand, Found, GoesOnInHand, ending_status, halt_status, status_of}
+use Rattle.auth_cli.specs.Halting.{Finds, Found, GoesOn, InHand, WithoutFiles, ending_status, halt_status, status_of}
 use Rattle.auth_cli.specs.Reaching.{FaultsAt, FaultsAtReached, HaltsAt, HaltsAtReached, IsLast, IsReached, without}
-use Rattle.auth_cli.specs.Storing.{FindsOutputInHand, StoresAndTells}
+use Rattle.auth_cli.specs.Storing.{FindsOutput, StoresAndTells}
 use Rattle.auth_cli.specs.Telling.{Tells}
 use Rattle.auth_cli.specs.declared.report.Ending.{Ending}
 use Rattle.auth_cli.specs.declared.report.Ending.TheVariants as ending
@@ -84,18 +84,18 @@ any_reached answer name contents asked (Err NoMemory) needs last = tt
 
 -- what halts a step on what is in hand is no read fault
 hand_halt : {A T : Type 0} (step : (A → Option Answer) → Option Answer) (value : T → A) (answer : Contents → Option Answer) (contents : Option Contents) (asked : Option Names) (halt : Halt)
-    → GoesOnInHand step value (Err halt) → HaltsAtReached answer contents asked halt
+    → InHand (GoesOn step value) (Err halt) → HaltsAtReached answer contents asked halt
 hand_halt step value answer contents asked Usage goes = tt
 hand_halt step value answer contents asked (Refused what) goes = tt
 hand_halt step value answer contents asked ReadFault goes = absurd goes
 hand_halt step value answer contents asked NoMemory goes = tt
 
 pub hand_reached : {A T U : Type 0} (step : (A → Option Answer) → Option Answer) (value : T → A) (answer : Contents → Option Answer) (contents : Option Contents) (asked : Option Names) (halt : Halt) (result : Result U Halt)
-    → result ≡ Err halt → GoesOnInHand step value (Err halt) → FaultsAtReached answer contents asked result
+    → result ≡ Err halt → InHand (GoesOn step value) (Err halt) → FaultsAtReached answer contents asked result
 hand_reached step value answer contents asked halt result is goes = subst (FaultsAtReached answer contents asked) (sym is) (hand_halt step value answer contents asked halt goes)
 
 -- nor is what is found in hand
-pub found_reached : (in_hand : Answer) (answer : Contents → Option Answer) (contents : Option Contents) (asked : Option Names) (result : Found) → FindsInHand in_hand result → FaultsAtReached answer contents asked result
+pub found_reached : (in_hand : Answer) (answer : Contents → Option Answer) (contents : Option Contents) (asked : Option Names) (result : Found) → WithoutFiles (Finds (Some in_hand)) result → FaultsAtReached answer contents asked result
 found_reached in_hand answer contents asked (Ok report) finds = tt
 found_reached in_hand answer contents asked (Err Usage) finds = tt
 found_reached in_hand answer contents asked (Err (Refused what)) finds = tt
@@ -103,7 +103,7 @@ found_reached in_hand answer contents asked (Err ReadFault) finds = absurd finds
 found_reached in_hand answer contents asked (Err NoMemory) finds = tt
 
 pub output_reached : (name : List ℕ) (in_hand : Option Answer) (answer : Contents → Option Answer) (contents : Option Contents) (asked : Option Names) (result : Result Output Halt)
-    → FindsOutputInHand name in_hand result → FaultsAtReached answer contents asked result
+    → InHand (FindsOutput name in_hand) result → FaultsAtReached answer contents asked result
 output_reached name in_hand answer contents asked (Ok output) finds = tt
 output_reached name in_hand answer contents asked (Err Usage) finds = tt
 output_reached name in_hand answer contents asked (Err (Refused what)) finds = tt

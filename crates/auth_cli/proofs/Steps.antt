@@ -9,8 +9,8 @@ use Rattle.images.specs.declared.fault.ImageFault.TheVariants as image_fault
 use Rattle.printed_lines.specs.declared.refusal.Refusal.TheVariants as refusal
 use Rattle.auth_cli.specs.Answer.{Answer, image_read, with_image, with_root}
 use Rattle.auth_cli.specs.FueledRoles.{DigestedProgram}
-use Rattle.auth_cli.specs.Halting.{Finds, FindsInHand, Found, GoesOn, GoesOnFor, GoesOnForInHand, GoesOnInHand, HaltCause, HaltsAs, of_image_fault}
-use Rattle.auth_cli.specs.Storing.{FindsOutput, FindsOutputInHand}
+use Rattle.auth_cli.specs.Halting.{Finds, Found, GoesOn, GoesOnFor, HaltCause, HaltsAs, InHand, WithoutFiles, of_image_fault}
+use Rattle.auth_cli.specs.Storing.{FindsOutput}
 use Rattle.auth_cli.specs.declared.report.Halt.{Halt}
 use Rattle.auth_cli.specs.declared.report.Halt.TheVariants.{Usage, Refused, ReadFault, NoMemory}
 use Rattle.auth_cli.specs.declared.report.Output.{Output}
@@ -39,7 +39,7 @@ halts_first_for first next Stands (Err other) halt is halts =
 
 -- a step on what is in hand, behind one that goes on with it
 pub goes_behind : {A B T : Type 0} (first : (A → Option Answer) → Option Answer) (a : A) (next : A → (B → Option Answer) → Option Answer) (Stands : T → B → Type 0) (result : Result T Halt)
-    → ((go : A → Option Answer) → first go ≡ go a) → GoesOnForInHand (next a) Stands result → GoesOnFor (λ go. first (λ a. next a go)) Stands result
+    → ((go : A → Option Answer) → first go ≡ go a) → InHand (GoesOnFor (next a) Stands) result → GoesOnFor (λ go. first (λ a. next a go)) Stands result
 goes_behind first a next Stands (Ok t) is goes = (goes.0, (λ go. is (λ a. next a go) ∙ goes.1 go), goes.2)
 goes_behind first a next Stands (Err Usage) is goes = absurd goes
 goes_behind first a next Stands (Err (Refused (refusal.Program kind line column))) is goes = λ go. halts_behind _ _ (Refused (refusal.Program kind line column)) (is (λ a. next a go)) (goes go)
@@ -55,7 +55,7 @@ follows first a next Stands (Ok t) is goes = (goes.0, (λ go. is (λ a. next a g
 follows first a next Stands (Err halt) is goes = λ go. halts_behind _ _ halt (is (λ a. next a go)) (goes go)
 
 -- what halts a step on what is in hand
-pub hand_halts : {A T : Type 0} (step : (A → Option Answer) → Option Answer) (value : T → A) (halt : Halt) → GoesOnInHand step value (Err halt) → (go : A → Option Answer) → HaltsAs (step go) halt
+pub hand_halts : {A T : Type 0} (step : (A → Option Answer) → Option Answer) (value : T → A) (halt : Halt) → InHand (GoesOn step value) (Err halt) → (go : A → Option Answer) → HaltsAs (step go) halt
 hand_halts step value Usage goes = absurd goes
 hand_halts step value (Refused (refusal.Program kind line column)) goes = goes
 hand_halts step value (Refused (refusal.Input fault)) goes = goes
@@ -69,7 +69,7 @@ finds_halt answer (Ok report) halt is halts = absurd (cc)
 finds_halt answer (Err other) halt is halts = let same : halt ≡ other = cc in subst (HaltsAs answer) same halts
 
 -- what is found of work on what is in hand is found
-pub report_found : (answer : Answer) (result : Found) → FindsInHand answer result → Finds (Some answer) result
+pub report_found : (answer : Answer) (result : Found) → WithoutFiles (Finds (Some answer)) result → Finds (Some answer) result
 report_found answer (Ok report) finds = finds
 report_found answer (Err Usage) finds = absurd finds
 report_found answer (Err (Refused what)) finds = finds
@@ -83,12 +83,12 @@ output_halt name answer (Err other) halt is halts = let same : halt ≡ other = 
 
 -- bytes that are no image are refused
 pub image_refused : {T : Type 0} (p : DigestedProgram) (bytes : List ℕ) (value : T → Value) (fault : ImageFault) (result : Result T Halt)
-    → IsErrAnd result (λ halt. halt ≡ of_image_fault fault) → TellsFault (λ f. image_of p.program p.digest bytes ≡ images.Refused f) fault → GoesOnInHand (with_image p bytes) value result
+    → IsErrAnd result (λ halt. halt ≡ of_image_fault fault) → TellsFault (λ f. image_of p.program p.digest bytes ≡ images.Refused f) fault → InHand (GoesOn (with_image p bytes) value) result
 unfolding image_read
 image_refused p bytes value fault (Ok t) halt is = absurd halt
-image_refused p bytes value fault (Err h) halt is = subst (λ h. GoesOnInHand (with_image p bytes) value (Err h)) (sym halt) (by fault is)
+image_refused p bytes value fault (Err h) halt is = subst (λ h. InHand (GoesOn (with_image p bytes) value) (Err h)) (sym halt) (by fault is)
   where
-    by : (fault : ImageFault) → TellsFault (λ f. image_of p.program p.digest bytes ≡ images.Refused f) fault → GoesOnInHand (with_image p bytes) value (Err (of_image_fault fault))
+    by : (fault : ImageFault) → TellsFault (λ f. image_of p.program p.digest bytes ≡ images.Refused f) fault → InHand (GoesOn (with_image p bytes) value) (Err (of_image_fault fault))
     by image_fault.Magic is = λ go. ap (λ i. with_root i go) is
     by (image_fault.Cut n) is = λ go. ap (λ i. with_root i go) is
     by image_fault.OtherProgram is = λ go. ap (λ i. with_root i go) is
@@ -100,11 +100,11 @@ image_refused p bytes value fault (Err h) halt is = subst (λ h. GoesOnInHand (w
     by image_fault.NoMemory is = λ go. tt
 
 pub image_refused_for : {T : Type 0} (p : DigestedProgram) (bytes : List ℕ) (Stands : T → Value → Type 0) (fault : ImageFault) (result : Result T Halt)
-    → IsErrAnd result (λ halt. halt ≡ of_image_fault fault) → TellsFault (λ f. image_of p.program p.digest bytes ≡ images.Refused f) fault → GoesOnForInHand (with_image p bytes) Stands result
+    → IsErrAnd result (λ halt. halt ≡ of_image_fault fault) → TellsFault (λ f. image_of p.program p.digest bytes ≡ images.Refused f) fault → InHand (GoesOnFor (with_image p bytes) Stands) result
 image_refused_for p bytes Stands fault (Ok t) halt is = absurd halt
 image_refused_for p bytes Stands fault (Err h) halt is = by h (image_refused {T = Value} p bytes (λ v. v) fault (Err h) halt is)
   where
-    by : (h : Halt) → GoesOnInHand {T = Value} (with_image p bytes) (λ v. v) (Err h) → GoesOnForInHand (with_image p bytes) Stands (Err h)
+    by : (h : Halt) → InHand (GoesOn {T = Value} (with_image p bytes) (λ v. v)) (Err h) → InHand (GoesOnFor (with_image p bytes) Stands) (Err h)
     by Usage goes = absurd goes
     by (Refused (refusal.Program kind line column)) goes = goes
     by (Refused (refusal.Input fault)) goes = goes
@@ -119,10 +119,10 @@ image_goes p bytes v is go = ap (λ i. with_root i go) is
 
 -- what halted work on what is in hand is found
 pub hand_halt : {A T : Type 0} (name : List ℕ) (step : (A → Option Answer) → Option Answer) (value : T → A) (go : A → Option Answer) (result : Result Output Halt) (halt : Halt)
-    → result ≡ Err halt → GoesOnInHand step value (Err halt) → FindsOutputInHand name (step go) result
-hand_halt name step value go result halt is goes = subst (FindsOutputInHand name (step go)) (sym is) (by halt goes)
+    → result ≡ Err halt → InHand (GoesOn step value) (Err halt) → InHand (FindsOutput name (step go)) result
+hand_halt name step value go result halt is goes = subst (InHand (FindsOutput name (step go))) (sym is) (by halt goes)
   where
-    by : (halt : Halt) → GoesOnInHand step value (Err halt) → FindsOutputInHand name (step go) (Err halt)
+    by : (halt : Halt) → InHand (GoesOn step value) (Err halt) → InHand (FindsOutput name (step go)) (Err halt)
     by Usage goes = absurd goes
     by (Refused (refusal.Program kind line column)) goes = goes go
     by (Refused (refusal.Input fault)) goes = goes go
@@ -131,7 +131,7 @@ hand_halt name step value go result halt is goes = subst (FindsOutputInHand name
     by NoMemory goes = goes go
 
 -- what is found of work on what is in hand is found
-pub hand_found : (name : List ℕ) (answer : Option Answer) (result : Result Output Halt) → FindsOutputInHand name answer result → FindsOutput name answer result
+pub hand_found : (name : List ℕ) (answer : Option Answer) (result : Result Output Halt) → InHand (FindsOutput name answer) result → FindsOutput name answer result
 hand_found name answer (Ok output) finds = finds
 hand_found name answer (Err Usage) finds = absurd finds
 hand_found name answer (Err (Refused (refusal.Program kind line column))) finds = finds
@@ -141,7 +141,7 @@ hand_found name answer (Err ReadFault) finds = absurd finds
 hand_found name answer (Err NoMemory) finds = finds
 
 -- and no file has failed
-pub hand_cause : (answer : List ℕ → Option Answer) (result : Result Output Halt) (before now : ℕ) → ((name : List ℕ) → FindsOutputInHand name (answer name) result) → now ≡ before → HaltCause before now result
+pub hand_cause : (answer : List ℕ → Option Answer) (result : Result Output Halt) (before now : ℕ) → ((name : List ℕ) → InHand (FindsOutput name (answer name)) result) → now ≡ before → HaltCause before now result
 hand_cause answer (Ok output) before now finds same = same
 hand_cause answer (Err Usage) before now finds same = absurd (finds [])
 hand_cause answer (Err (Refused (refusal.Program kind line column))) before now finds same = same

@@ -12,8 +12,8 @@ use Rattle.images.specs.declared.fault.SaveFault.{SaveFault}
 use Rattle.images.specs.declared.fault.SaveFault.TheVariants as save_fault
 use Rattle.auth_cli.specs.Answer.{Answer, max_file, outcome_stored, outcome_told, says, state_image, storing}
 use Rattle.auth_cli.specs.FueledRoles.{DigestedProgram, FueledRole}
-use Rattle.auth_cli.specs.Halting.{ending_status, of_save_fault}
-use Rattle.auth_cli.specs.Storing.{FindsOutputInHand}
+use Rattle.auth_cli.specs.Halting.{InHand, ending_status, of_save_fault}
+use Rattle.auth_cli.specs.Storing.{FindsOutput}
 use Rattle.auth_cli.specs.declared.report.Halt.{Halt}
 use Rattle.auth_cli.specs.declared.report.Output.{Output}
 use Rattle.auth_cli.specs.declared.report.Report.{Report}
@@ -32,17 +32,17 @@ too_great n most great = grind (arith, common_steps)
 
 -- an image that can't be stored is refused
 pub storing_refused : (p : DigestedProgram) (v : Value) (a : Answer) (fault : SaveFault) (result : Result Output Halt) → IsErrAnd result (λ halt. halt ≡ of_save_fault fault)
-    → IsSaved (saved_image p.program p.digest v) (Err fault) → (name : List ℕ) → FindsOutputInHand name (Some (storing p v name a)) result
+    → IsSaved (saved_image p.program p.digest v) (Err fault) → (name : List ℕ) → InHand (FindsOutput name (Some (storing p v name a))) result
 unfolding state_image
 storing_refused p v a fault (Ok output) err is name = absurd err
 storing_refused p v a save_fault.TooLong (Err h) err is name =
-    subst (λ h. FindsOutputInHand name (Some (storing p v name a)) (Err h)) (sym err)
+    subst (λ h. InHand (FindsOutput name (Some (storing p v name a))) (Err h)) (sym err)
     (ap Some (second_of (nat_le (length (state_image p v)) max_file) _ _ (too_great (length (state_image p v)) max_file is)))
-storing_refused p v a save_fault.NoMemory (Err h) err is name = subst (λ h. FindsOutputInHand name (Some (storing p v name a)) (Err h)) (sym err) tt
+storing_refused p v a save_fault.NoMemory (Err h) err is name = subst (λ h. InHand (FindsOutput name (Some (storing p v name a))) (Err h)) (sym err) tt
 
 -- else it is stored
 pub storing_told : (p : DigestedProgram) (v : Value) (a : Answer) (report : Report) (image : Vec ℕ Global) → a ≡ says (ending_status report.ending) report.text.items
-    → IsSaved (saved_image p.program p.digest v) (Ok image) → (name : List ℕ) → FindsOutputInHand name (Some (storing p v name a)) (Ok (record { report = report; file = Some image }))
+    → IsSaved (saved_image p.program p.digest v) (Ok image) → (name : List ℕ) → InHand (FindsOutput name (Some (storing p v name a))) (Ok (record { report = report; file = Some image }))
 unfolding state_image
 storing_told p v a report image is saved name =
     let same : length (state_image p v) ≤ max_file = saved.1 in (
@@ -57,7 +57,7 @@ storing_told p v a report image is saved name =
 
 -- an output without a file
 pub told_alone : (a : Answer) (report : Report) → a ≡ says (ending_status report.ending) report.text.items
-    → (name : List ℕ) → FindsOutputInHand name (Some a) (Ok (record { report = report; file = None }))
+    → (name : List ℕ) → InHand (FindsOutput name (Some a)) (Ok (record { report = report; file = None }))
 told_alone a report is name = (
   a,
   refl,
@@ -70,7 +70,7 @@ told_alone a report is name = (
 
 -- an outcome that makes no state
 pub stored_alone : (r : FueledRole) (o : Outcome) (report : Report) → ((v : Value) → o ≡ ideal.Done v → ⊥) → outcome_told r o ≡ says (ending_status report.ending) report.text.items
-    → (name : List ℕ) → FindsOutputInHand name (Some (outcome_stored r o name)) (Ok (record { report = report; file = None }))
+    → (name : List ℕ) → InHand (FindsOutput name (Some (outcome_stored r o name))) (Ok (record { report = report; file = None }))
 stored_alone r (ideal.Done v) report none is name = absurd (none v refl)
 stored_alone r (ideal.Trapped trap) report none is name = told_alone (outcome_told r (ideal.Trapped trap)) report is name
 stored_alone r ideal.Out report none is name = told_alone (outcome_told r ideal.Out) report is name

@@ -4,10 +4,10 @@ use Rattle.std.specs.Borrow.{Bor}
 use Rattle.std.proofs.lemmas.List.{length-map}
 use Rattle.command_words.specs.Commands.{IsOfCommand, texts}
 use Rattle.command_words.specs.declared.command.Command.{Command}
-use Rattle.command_words.specs.declared.command.Command.TheVariants.{Check, Init, Ideal, Step, Shallow, Prove, Verify, Audit}
+use Rattle.command_words.specs.declared.command.Command.TheVariants.{Check, Init, Ideal, Step, Shallow, Prove, Verify, Audit, Library, Gen}
 use Rattle.auth_cli.specs.Answer.{answer_with, judged_answer}
 use Rattle.lam_outside.specs.Told.{Contents, Names}
-use Rattle.auth_cli.specs.Ending.{EndsAs, Outside}
+use Rattle.auth_cli.specs.Ending.{EndsAs, EndsOnSink, Outside, with_sink}
 use Rattle.auth_cli.specs.Reaching.{IsReached}
 use Rattle.auth_cli.specs.declared.status.Status.{Status}
 
@@ -40,6 +40,11 @@ pub reached_apart : (command : Command) (words : List (Bor (List ℕ))) (n : ℕ
 reached_apart command words n contents asked later is same reached =
     subst (λ names. IsReached (answer_with command (texts words)) contents names) (sym same) (subst (λ ts. IsReached (answer_with command ts) contents asked) (sym (apart words n is)) reached)
 
+-- the same of a run that leaves the files alone
+pub sink_apart : (command : Command) (words : List (Bor (List ℕ))) (n : ℕ) (old new : Option (List ℕ)) (before now : ℕ) (status : Status) → length words ≡ n
+    → EndsOnSink (answer_with command (texts_from words n 0)) old new before now status → EndsOnSink (answer_with command (texts words)) old new before now status
+sink_apart command words n old new before now status is ends = λ seen. ends_apart command words n (with_sink seen old before) (with_sink seen new now) status is (ends seen)
+
 -- a run of a command that is known
 pub ends_known : (command known : Command) (ts : List (List ℕ)) (old new : Outside) (status : Status) → command ≡ known → EndsAs (answer_with known ts) old new status → EndsAs (answer_with command ts) old new status
 ends_known command known ts old new status is ends = subst (λ c. EndsAs (answer_with c ts) old new status) (sym is) ends
@@ -58,6 +63,8 @@ least_of Shallow = 3
 least_of Prove = 7
 least_of Verify = 6
 least_of Audit = 6
+least_of Library = 1
+least_of Gen = 4
 
 abbrev pub most_of : Command → ℕ
 most_of Verify = 7
@@ -81,7 +88,9 @@ within command words of = subst (λ n. AreSoMany n command) (length-map words (�
     by (inr (inr (inr (inr (inr (inl (is, (least, most)))))))) = subst (AreSoMany n) is (least, most)
     by (inr (inr (inr (inr (inr (inr (inl (is, (least, most))))))))) = subst (AreSoMany n) is (least, most)
     by (inr (inr (inr (inr (inr (inr (inr (inl (is, (least, most)))))))))) = subst (AreSoMany n) is (least, most)
-    by (inr (inr (inr (inr (inr (inr (inr (inr is)))))))) = absurd is
+    by (inr (inr (inr (inr (inr (inr (inr (inr (inl (is, (least, most))))))))))) = subst (AreSoMany n) is (least, most)
+    by (inr (inr (inr (inr (inr (inr (inr (inr (inr (inl (is, (least, most)))))))))))) = subst (AreSoMany n) is (least, most)
+    by (inr (inr (inr (inr (inr (inr (inr (inr (inr (inr is)))))))))) = absurd is
 
 pub counted : (command : Command) (words : List (Bor (List ℕ))) → most_of command ≡ least_of command → IsOfCommand command (texts words) → length words ≡ least_of command
 counted command words same of = let so_many = within command words of in let low = so_many.0 in let high = so_many.1 in omega (arith, low, high, same)

@@ -1,14 +1,16 @@
 -- What a run answers: its status, the lines that it writes and the files that it stores.
-use Rattle.std.specs.Prelude.{ℕ, List, [], ◌∷◌, ◌++◌, length, map, nat_le, codes, Option, Some, None, if◌then◌else◌}
+use Rattle.std.specs.Prelude.{ℕ, List, [], ◌∷◌, ◌++◌, length, map, Bool, true, false, bytes_eq, nat_le, codes, Option, Some, None, if◌then◌else◌}
 use Rattle.sha2.specs.Sha256.{sha256}
 use Rattle.command_words.specs.Invocations.{Invocation, invocation_of}
 use Rattle.command_words.specs.declared.command.Command.{Command}
-use Rattle.command_words.specs.declared.command.Command.TheVariants.{Check, Init, Ideal, Step, Shallow, Prove, Verify, Audit}
+use Rattle.command_words.specs.declared.command.Command.TheVariants.{Check, Init, Ideal, Step, Shallow, Prove, Verify, Audit, Library, Gen}
+use Rattle.ads_library.specs.Texts.{library_text}
 use Rattle.lam_outside.specs.Told.{Contents, Stores}
-use Rattle.core_terms.specs.Types.{Ty}
+use Rattle.core_terms.specs.ProgramTrees.{program_format}
+use Rattle.core_terms.specs.Types.{Ty, IntTy, PairTy}
 use Rattle.core_terms.specs.Values.{Value, NoV, AndV}
 use Rattle.core_terms.specs.Reading.{Read, Good, BadAt}
-use Rattle.core_terms.specs.Terms.{Program, function_at}
+use Rattle.core_terms.specs.Terms.{Kind, Query, Update, Program, function_at}
 use Rattle.core_terms.specs.Roles.{role_named, argument_type}
 use Rattle.core_terms.specs.Spelling.{spelling}
 use Rattle.core_terms.specs.Projection.{projection, read_at}
@@ -19,18 +21,21 @@ use Rattle.ideal_meaning.specs.Checked as checked
 use Rattle.ideal_meaning.specs.Checked.{verdict}
 use Rattle.images.specs.Images as images
 use Rattle.images.specs.SavedImages.{saved_image}
-use Rattle.printed_lines.specs.Lines.{agrees_line, collision_line, named_done_line, ok_line, out_line, refusal_line, rejected_line, state_line, trap_line}
+use Rattle.printed_lines.specs.Lines.{agrees_line, calls_line, collision_line, named_done_line, ok_line, out_line, refusal_line, rejected_line, state_line, trap_line}
 use Rattle.printed_lines.specs.declared.refusal.Argument.{Argument}
 use Rattle.printed_lines.specs.declared.refusal.Argument.TheVariants as named
 use Rattle.printed_lines.specs.declared.refusal.ImageKind.{ImageKind}
 use Rattle.printed_lines.specs.declared.refusal.ImageKind.TheVariants as kind
 use Rattle.printed_lines.specs.declared.refusal.InputFault.{InputFault}
-use Rattle.printed_lines.specs.declared.refusal.InputFault.TheVariants.{TooLong, RoleUnknown, RoleKind, Number, State, Literal as BadLiteral, Image as BadImage}
+use Rattle.printed_lines.specs.declared.refusal.InputFault.TheVariants.{TooLong, LibraryUnknown, RoleUnknown, RoleKind, Number, State, Literal as BadLiteral, Image as BadImage}
 use Rattle.printed_lines.specs.declared.refusal.Refusal.{Refusal}
 use Rattle.printed_lines.specs.declared.refusal.Refusal.TheVariants as refusal
 use Rattle.collision_audit.specs.Audits.{Collides, Judges}
 use Rattle.collision_audit.specs.Audits as audits
-use Rattle.auth_cli.specs.Arguments.{fuel_of, number_within}
+use Rattle.workloads.specs.Workloads.{after_rounds, no_calls}
+use Rattle.workloads.specs.declared.tally.Tally.{Tally}
+use Rattle.workloads.specs.declared.workload.Workload.{Workload}
+use Rattle.auth_cli.specs.Arguments.{fuel_of, most_rounds, most_seed, number_within}
 use Rattle.auth_cli.specs.FueledRoles.{DigestedProgram, FueledRole, NamedProgram}
 use Rattle.auth_cli.specs.IdealCalls.{IdealCall, call_audit, call_proof, call_proof_line, ended_call, projected_outcome}
 use Rattle.auth_cli.specs.RoleCalls.{EndedRole, ended_with, is_called, kind_called, passed_literal, program_called, projection_called, result_called, state_made}
@@ -169,13 +174,14 @@ checked_answer program files = with_program_file (files program) (λ p. Some (sa
 unfoldable pub state_projection : Program → Value → Value
 state_projection P v = projection sha256 P P.state v
 
--- What is answered for an ideal state whose projection is told: its value, with the names of its constructors, and its spelling stored
--- under a name.
+-- the line of the projection of an ideal state: its value, with the names of its constructors
+abbrev pub projected_line : NamedProgram → Value → List ℕ
+projected_line p v = let P = p.digested.program in state_line P.types p.names P.state (state_projection P v)
+
+-- what is answered for an ideal state whose projection is told, and its spelling stored under a name
 abbrev pub state_answer : NamedProgram → Value → List ℕ → Answer
 state_answer p v name =
-    let P = p.digested.program in
-    let projected = state_projection P v in
-    record { status = Done; lines = state_line P.types p.names P.state projected ∷ []; stored = (name, spelling projected) ∷ [] }
+    record { status = Done; lines = projected_line p v ∷ []; stored = (name, spelling (state_projection p.digested.program v)) ∷ [] }
 
 -- `shallow P IMG OUT`: the projection of the state that an image keeps
 abbrev pub spelled_answer : (program image out : List ℕ) → Contents → Option Answer
@@ -359,9 +365,112 @@ audited_answer program role image argument fuel proof files =
     with_ideal_call r image argument files (λ call.
     with_bytes (files proof) (λ bytes. Some (call_audit_answer call bytes)))))
 
+-- goes on with the text of a program of the library
+abbrev pub with_source : Option (List ℕ) → (List ℕ → Option Answer) → Option Answer
+with_source None go = Some (input_refused LibraryUnknown)
+with_source (Some text) go = go text
+
+-- `library NAME`: the text of this program of the library, unchanged
+abbrev pub library_answer : (name : List ℕ) → Contents → Option Answer
+library_answer name files = with_source (library_text name) (λ text. Some (says Done text))
+
+-- the numbers of a workload: the seed, how many rounds it has, and how many pieces each proof asks to be kept
+pub record WorkloadNumbers : Type 0 where
+  pub seed : ℕ
+  pub rounds : ℕ
+  pub kept : ℕ
+
+abbrev pub with_numbers : (seed count kept : List ℕ) → (WorkloadNumbers → Option Answer) → Option Answer
+with_numbers seed count kept go =
+    with_number named.Seed (number_within most_seed seed) (λ x.
+    with_number named.Count (number_within most_rounds count) (λ rounds.
+    with_number named.Number (number_within program_format.most_kept kept) (λ n.
+    go (record { seed = x; rounds = rounds; kept = n }))))
+
+-- what a workload gets by: an int; and what it puts: two of them, the key and the value
+abbrev pub is_key : Ty → Bool
+is_key IntTy = true
+is_key t = false
+
+abbrev pub is_entry : Ty → Bool
+is_entry (PairTy a b) = if is_key a then is_key b else false
+is_entry t = false
+
+-- a workload puts by an update on an entry, and gets by a query on a key
+abbrev pub is_put : Kind → Ty → Bool
+is_put Update t = is_entry t
+is_put kind t = false
+
+abbrev pub is_get : Kind → Ty → Bool
+is_get Query t = is_key t
+is_get kind t = false
+
+-- goes on with the query or the update of this name, where its kind and the type of its argument pass the test
+abbrev pub with_shape : (Kind → Ty → Bool) → Program → ℕ → (ℕ → Option Answer) → Option Answer
+with_shape test P f go = if test (function_at P f).kind (argument_type P f) then go f else Some (input_refused RoleKind)
+
+abbrev pub with_shaped_role : (Kind → Ty → Bool) → Program → List ℕ → (ℕ → Option Answer) → Option Answer
+with_shaped_role test P name go = with_role callee.OfState P name (λ f. with_shape test P f go)
+
+-- how many keys a workload on a program of the library has, by its name
+abbrev pub keys_of : List ℕ → ℕ
+keys_of name = if bytes_eq name (codes "merkle") then 1024 else 1000000
+
+-- goes on with what a workload calls: the update `put` and the query `get`
+abbrev pub with_workload : Program → (name : List ℕ) → (kept : ℕ) → (Workload → Option Answer) → Option Answer
+with_workload P name n go =
+    with_shaped_role is_put P (codes "put") (λ put.
+    with_shaped_role is_get P (codes "get") (λ get.
+    go (record { put = record { 0 = put }; get = record { 0 = get }; keys = keys_of name; kept = n })))
+
+-- the init that makes the first state of a workload, and what is passed to it: of `merkle` the depth of the tree and the value of each leaf
+abbrev pub first_role : List ℕ → List ℕ
+first_role name = if bytes_eq name (codes "merkle") then codes "make" else codes "empty"
+
+abbrev pub first_argument : List ℕ → List ℕ
+first_argument name = if bytes_eq name (codes "merkle") then codes "(10, 0)" else codes "()"
+
+abbrev pub with_first : NamedProgram → (name : List ℕ) → (EndedRole → Option Answer) → Option Answer
+with_first p name go = with_ended_init p (first_role name) (first_argument name) (codes "1000000") go
+
+-- goes on with the state that was made, and tells an outcome without one
+abbrev pub with_outcome : FueledRole → ideal.Outcome → (Value → Option Answer) → Option Answer
+with_outcome r (ideal.Done v) go = go (state_made (kind_called r) v)
+with_outcome r (ideal.Trapped trap) go = Some (outcome_told r (ideal.Trapped trap))
+with_outcome r ideal.Out go = Some (outcome_told r ideal.Out)
+
+-- what is answered for the sums over the calls of a workload, and for its last state
+abbrev pub sums_answer : NamedProgram → Tally → Value → Answer
+sums_answer p t s = record {
+  status = Done;
+  lines = calls_line t.calls t.done t.fresh t.again t.bytes ∷ projected_line p s ∷ [];
+  stored = [];
+}
+
+-- the same for a workload from a state on
+abbrev pub workload_answer : NamedProgram → WorkloadNumbers → Workload → Value → Answer
+workload_answer p numbers w s =
+    let last = after_rounds sha256 p.digested.program w numbers.rounds numbers.seed s no_calls in
+    sums_answer p last.0 last.1
+
+-- what is answered for a workload on a program of the library
+abbrev pub generated_by : NamedProgram → (name : List ℕ) → WorkloadNumbers → Option Answer
+generated_by p name numbers =
+    with_workload p.digested.program name numbers.kept (λ w.
+    with_first p name (λ ended.
+    with_outcome ended.role ended.outcome (λ s. Some (workload_answer p numbers w s))))
+
+-- `gen NAME SEED COUNT N`: a workload of COUNT rounds, each a put and a get, on the program of the library. The numbers are judged before
+-- its text is read.
+abbrev pub generated_answer : (name seed count kept : List ℕ) → Contents → Option Answer
+generated_answer name seed count kept files =
+    with_source (library_text name) (λ text.
+    with_numbers seed count kept (λ numbers.
+    with_text text (λ p. generated_by p name numbers)))
+
 -- What is answered to a command with the texts of its arguments: `check P`, `init P ROLE ARG FUEL OUT`, `ideal P ROLE IMG ARG FUEL`,
--- `step P ROLE IMG ARG FUEL OUT`, `shallow P IMG OUT`, `prove P ROLE IMG ARG FUEL N OUT`, `verify P ROLE STATE ARG FUEL PROOF`, or this with `OUT` behind it, and `audit P ROLE IMG ARG FUEL PROOF`. No command
--- is called with more texts or fewer.
+-- `step P ROLE IMG ARG FUEL OUT`, `shallow P IMG OUT`, `prove P ROLE IMG ARG FUEL N OUT`, `verify P ROLE STATE ARG FUEL PROOF`, or this with `OUT` behind it, `audit P ROLE IMG ARG FUEL PROOF`,
+-- `library NAME` and `gen NAME SEED COUNT N`. No command is called with more texts or fewer.
 abbrev pub answer_with : Command → List (List ℕ) → Contents → Option Answer
 answer_with Check (program ∷ []) = checked_answer program
 answer_with Init (program ∷ role ∷ argument ∷ fuel ∷ out ∷ []) = initial_answer program role argument fuel out
@@ -372,6 +481,8 @@ answer_with Prove (program ∷ role ∷ image ∷ argument ∷ fuel ∷ kept ∷
 answer_with Verify (program ∷ role ∷ state ∷ argument ∷ fuel ∷ proof ∷ []) = judged_answer program role state argument fuel proof None
 answer_with Verify (program ∷ role ∷ state ∷ argument ∷ fuel ∷ proof ∷ out ∷ []) = judged_answer program role state argument fuel proof (Some out)
 answer_with Audit (program ∷ role ∷ image ∷ argument ∷ fuel ∷ proof ∷ []) = audited_answer program role image argument fuel proof
+answer_with Library (name ∷ []) = library_answer name
+answer_with Gen (name ∷ seed ∷ count ∷ kept ∷ []) = generated_answer name seed count kept
 answer_with command texts = λ files. None
 
 abbrev pub command_answer : Invocation → Contents → Option Answer

@@ -7,6 +7,13 @@ use Rattle.std.specs.Str.Parse.{digits_value}
 abbrev pub most_fuel : ℕ
 most_fuel = 1000000000000
 
+-- the greatest seed of a workload, 2^64 - 1, and the greatest number of its rounds
+abbrev pub most_seed : ℕ
+most_seed = 18446744073709551615
+
+abbrev pub most_rounds : ℕ
+most_rounds = 100000
+
 -- a number on the command line has 1 to 20 decimal digits, and nothing else
 abbrev pub is_number : List ℕ → Bool
 is_number text = nat_le 1 (length text) && (nat_le (length text) 20 && all_ascii_digits text)

@@ -111,6 +111,14 @@ EndsAs answer old new WriteFault = EndsInWriteFault answer old new
 EndsAs answer old new NoMemory = EndsInNoMemory answer old new
 EndsAs answer old new status = EndsAnswered answer old new status
 
+-- the same files beside a sink that tells this and failed so often
+abbrev pub with_sink : Outside → (written : Option (List ℕ)) → (faults : ℕ) → Outside
+with_sink seen written faults = record seen { written = written; write_faults = faults }
+
+-- The end of a run that leaves the files alone, whatever they tell.
+abbrev pub EndsOnSink : (Contents → Option Answer) → (old new : Option (List ℕ)) → (before now : ℕ) → Status → Type 0
+EndsOnSink answer old new before now status = (seen : Outside) → EndsAs answer (with_sink seen old before) (with_sink seen new now) status
+
 -- no count of faults rose
 pub record NoneRose (old new : Outside) : Type 0 where
   pub reads : Rose old.read_faults new.read_faults → ⊥

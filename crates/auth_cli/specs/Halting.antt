@@ -1,5 +1,6 @@
 -- What a command's work found, before it is told.
-use Rattle.std.specs.Prelude.{◌≡◌, ℕ, List, codes, Option, Some, Result, Ok, Err, ⊤}
+use Rattle.std.specs.Prelude.{◌≡◌, ℕ, List, [], codes, Option, Some, Result, Ok, Err, ⊤}
+use Rattle.std.specs.List.{concat}
 use Rattle.lam_outside.specs.Causes.{Rose}
 use Rattle.printed_syntax.specs.LiteralAnswers.{LiteralFault}
 use Rattle.core_terms.specs.declared.fault.Fault.TheVariants as literal_fault
@@ -106,35 +107,37 @@ abbrev pub Finds : Option Answer → Found → Type 0
 Finds answer (Ok report) = answer ≡ Some (says (ending_status report.ending) report.text.items)
 Finds answer (Err halt) = HaltsAs answer halt
 
--- the same of work on what is in hand, where no file can fail
-abbrev pub FindsInHand : Answer → Found → Type 0
-FindsInHand answer (Err Usage) = ⊥
-FindsInHand answer (Err ReadFault) = ⊥
-FindsInHand answer found = Finds (Some answer) found
+-- the report tells all lines of the answer, with which nothing is stored
+pub record TellsLines (a : Answer) (report : Report) : Type 0 where
+  pub status : a.status ≡ ending_status report.ending
+  pub lines : concat a.lines ≡ report.text.items
+  pub stored : a.stored ≡ []
+
+-- what the work found is what an answer of several lines says
+abbrev pub FindsLines : Option Answer → Found → Type 0
+FindsLines answer (Ok report) = (a : Answer) × (answer ≡ Some a) × TellsLines a report
+FindsLines answer (Err halt) = HaltsAs answer halt
+
+-- The same of work behind the words that reads no file: no words are refused, and no file can fail.
+abbrev pub WithoutFiles : {T : Type 0} → (Result T Halt → Type 0) → Result T Halt → Type 0
+WithoutFiles Says (Err Usage) = ⊥
+WithoutFiles Says (Err ReadFault) = ⊥
+WithoutFiles Says found = Says found
+
+-- The same of work on what is in hand, where no proof is judged either: none is rejected.
+abbrev pub InHand : {T : Type 0} → (Result T Halt → Type 0) → Result T Halt → Type 0
+InHand Says (Err (Refused (refusal.Proof cause))) = ⊥
+InHand Says found = WithoutFiles Says found
 
 -- A step of the work. Whatever the answer goes on with behind it: the step gives the value that it goes on with, or halts.
 abbrev pub GoesOn : {A T : Type 0} → ((A → Option Answer) → Option Answer) → (T → A) → Result T Halt → Type 0
 GoesOn {A = A} step value (Ok t) = (go : A → Option Answer) → step go ≡ go (value t)
 GoesOn {A = A} step value (Err halt) = (go : A → Option Answer) → HaltsAs (step go) halt
 
--- the same of a step on what is in hand: no file can fail, and no proof is rejected
-abbrev pub GoesOnInHand : {A T : Type 0} → ((A → Option Answer) → Option Answer) → (T → A) → Result T Halt → Type 0
-GoesOnInHand step value (Err Usage) = ⊥
-GoesOnInHand step value (Err (Refused (refusal.Proof cause))) = ⊥
-GoesOnInHand step value (Err ReadFault) = ⊥
-GoesOnInHand step value found = GoesOn step value found
-
 -- A step that gives what stands for the value that the answer goes on with, or halts.
 abbrev pub GoesOnFor : {A T : Type 0} → ((A → Option Answer) → Option Answer) → (T → A → Type 0) → Result T Halt → Type 0
 GoesOnFor {A = A} step Stands (Ok t) = (a : A) × ((go : A → Option Answer) → step go ≡ go a) × Stands t a
 GoesOnFor {A = A} step Stands (Err halt) = (go : A → Option Answer) → HaltsAs (step go) halt
-
--- the same of a step on what is in hand
-abbrev pub GoesOnForInHand : {A T : Type 0} → ((A → Option Answer) → Option Answer) → (T → A → Type 0) → Result T Halt → Type 0
-GoesOnForInHand step Stands (Err Usage) = ⊥
-GoesOnForInHand step Stands (Err (Refused (refusal.Proof cause))) = ⊥
-GoesOnForInHand step Stands (Err ReadFault) = ⊥
-GoesOnForInHand step Stands found = GoesOnFor step Stands found
 
 -- What may halt work on a call and a proof: the count of reads rose at `ReadFault` and nowhere else.
 abbrev pub MayHaltJudging : ℕ → ℕ → Halt → Type 0

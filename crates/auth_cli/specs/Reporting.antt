@@ -6,7 +6,7 @@ use Rattle.ideal_meaning.specs.Ideal as ideal
 use Rattle.printed_lines.specs.Lines.{proof_line}
 use Rattle.prover_mode.specs.declared.proving.Proved.{Proved}
 use Rattle.mode_vm.specs.StateCalls.{SpellsOutcome}
-use Rattle.auth_cli.specs.Answer.{Answer, agreeing, says, shallow_told}
+use Rattle.auth_cli.specs.Answer.{agreeing, says, shallow_told}
 use Rattle.auth_cli.specs.FueledRoles.{FueledRole}
 use Rattle.auth_cli.specs.Halting.{ending_status}
 use Rattle.auth_cli.specs.RoleCalls.{program_called, result_called}

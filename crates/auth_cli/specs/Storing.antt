@@ -4,12 +4,10 @@ use Rattle.std.specs.List.{concat}
 use Rattle.std.specs.declared.alloc.Global.{Global}
 use Rattle.lam_outside.specs.Causes.{Rose}
 use Rattle.lam_outside.specs.Told.{Stores, AddsStores}
-use Rattle.printed_lines.specs.declared.refusal.Refusal.TheVariants as refusal
 use Rattle.auth_cli.specs.Answer.{Answer}
 use Rattle.auth_cli.specs.Halting.{HaltsAs, ending_status, halt_status}
 use Rattle.auth_cli.specs.Telling.{Tells}
 use Rattle.auth_cli.specs.declared.report.Halt.{Halt}
-use Rattle.auth_cli.specs.declared.report.Halt.TheVariants.{Usage, Refused, ReadFault}
 use Rattle.auth_cli.specs.declared.report.Output.{Output}
 use Rattle.auth_cli.specs.declared.status.Status.{Status}
 use Rattle.auth_cli.specs.declared.status.Status.TheVariants.{WriteFault}
@@ -34,13 +32,6 @@ output_status (Err halt) = halt_status halt
 abbrev pub FindsOutput : List ℕ → Option Answer → Result Output Halt → Type 0
 FindsOutput name answer (Ok output) = (a : Answer) × (answer ≡ Some a) × IsOutput a name output
 FindsOutput name answer (Err halt) = HaltsAs answer halt
-
--- the same of work on what is in hand: no file can fail, and no proof is rejected
-abbrev pub FindsOutputInHand : List ℕ → Option Answer → Result Output Halt → Type 0
-FindsOutputInHand name answer (Err Usage) = ⊥
-FindsOutputInHand name answer (Err (Refused (refusal.Proof cause))) = ⊥
-FindsOutputInHand name answer (Err ReadFault) = ⊥
-FindsOutputInHand name answer found = FindsOutput name answer found
 
 -- What halted the work is told, and nothing stored. An output's file is stored first, and then its lines are told; where
 -- storing fails, nothing is written.

@@ -1,35 +1,43 @@
 // Arguments that are numbers.
 ghost use Rattle.std.specs.Prelude.{◌≡◌, ◌≤◌, ◌^◌, IfOk};
 ghost use Rattle.std.specs.Str.{all_ascii_digits};
-ghost use Rattle.printed_lines.specs.declared.refusal.Argument.TheVariants.{Number};
-ghost use Rattle.auth_cli.specs.Answer.{with_fuel, with_number};
+ghost use Rattle.core_terms.specs.Programs.{meaning};
+ghost use Rattle.auth_cli.specs.Answer.{with_fuel, with_kept, with_number};
 ghost use Rattle.auth_cli.specs.Arguments.{is_number, number_within};
-ghost use Rattle.auth_cli.specs.Halting.{GoesOnInHand};
+ghost use Rattle.auth_cli.specs.Halting.{GoesOn, InHand};
 
 use crate::Halt;
+use core_terms::Program;
 use printed_lines::refusal::{Argument, InputFault};
 
 /// The amount of fuel that a text tells.
 pub fn fuel_named(text: &str) -> Result<u64, Halt>
-    ensures goes { GoesOnInHand (with_fuel text.now) (λ k. k) result }
+    ensures goes { InHand (GoesOn (with_fuel text.now) (λ k. k)) result }
     ensures fits { IfOk result (λ k. k ≤ 10 ^ 12) }
 {
-    Ok(read_number(text, MOST_FUEL).ok_or(InputFault::Number(Argument::Fuel))?)
+    number_named(text, Argument::Fuel, MOST_FUEL)
 }
 
-/// The number of pieces to be kept that a text tells.
-pub fn kept_named(text: &str) -> Result<u16, Halt>
-    ensures goes { GoesOnInHand (with_number Number (number_within 1024 text.now)) (λ n. n) result }
+/// The number of pieces to be kept that a text tells, in a proof of a call of the program.
+pub fn kept_named(program: &Program, text: &str) -> Result<u16, Halt>
+    ensures goes { InHand (GoesOn (with_kept (meaning program.now) text.now) (λ n. n)) result }
     ensures fits { IfOk result (λ n. n ≤ 1024) }
 {
-    let kept = read_number(text, MOST_KEPT).ok_or(InputFault::Number(Argument::Number))?;
+    let most = program.types().most_kept();
+    let kept = number_named(text, Argument::Number, u64::from(most))?;
     Ok(kept as u16)
 }
 
 /// The greatest amount of fuel.
 const MOST_FUEL: u64 = 1_000_000_000_000;
-/// The greatest number of pieces that a proof may ask to be kept.
-const MOST_KEPT: u64 = 1024;
+
+/// The number that a text tells for an argument, where it is at most the greatest.
+pub fn number_named(text: &str, argument: Argument, most: u64) -> Result<u64, Halt>
+    ensures goes { InHand (GoesOn (with_number argument (number_within most text.now)) (λ n. n)) result }
+    ensures fits { IfOk result (λ n. n ≤ most) }
+{
+    Ok(read_number(text, most).ok_or(InputFault::Number(argument))?)
+}
 
 /// The number that a text of 1 to 20 decimal digits tells, where it is at most the greatest.
 fn read_number(text: &str, most: u64) -> Option<u64>

@@ -11,7 +11,7 @@ ghost use Rattle.collision_audit.specs.AuditAnswers.{AuditCause, TellsAudit};
 ghost use Rattle.auth_cli.specs.Answer.{answer_with, audit_told, audited_answer, call_audit_answer};
 ghost use Rattle.auth_cli.specs.CallsInStores.{HoldsCall, HoldsSome, audited_behind};
 ghost use Rattle.auth_cli.specs.Ending.{EndsAs, outside};
-ghost use Rattle.auth_cli.specs.Halting.{Finds, FindsInHand, JudgementCause, ending_status};
+ghost use Rattle.auth_cli.specs.Halting.{Finds, JudgementCause, WithoutFiles, ending_status};
 ghost use Rattle.auth_cli.specs.IdealCalls as meant;
 ghost use Rattle.auth_cli.specs.IdealCalls.{call_audit};
 ghost use Rattle.auth_cli.specs.Reaching.{FaultsAtReached, ReachedAt};
@@ -168,7 +168,7 @@ fn report_audit(
 ) -> Result<Report, Halt>
     requires { (callee : Callee) × IsCalled callee program.now called.now }
     ensures finds { (audit : audits.Audit) → TellsAudit (meaning program.now) called.now.function.0 audit (Ok audited)
-        → FindsInHand (audit_told (role_of program.now called.now) audit) result }
+        → WithoutFiles (Finds (Some (audit_told (role_of program.now called.now) audit))) result }
     ensures faults { (count : ℕ) → JudgementCause count count result }
     ensures ending { IfOk result (λ report. MayAnswer Audit (ending_status report.ending)) }
 {

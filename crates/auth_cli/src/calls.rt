@@ -7,7 +7,7 @@ ghost use Rattle.auth_cli.specs.Reaching.{FaultsAt, FaultsAtReached};
 ghost use Rattle.auth_cli.specs.Answer.{Answer, with_fueled_role, with_state, with_state_file};
 ghost use Rattle.auth_cli.specs.Answer as meant;
 ghost use Rattle.auth_cli.specs.FueledRoles.{FueledRole};
-ghost use Rattle.auth_cli.specs.Halting.{GoesOn, GoesOnInHand, HaltCause};
+ghost use Rattle.auth_cli.specs.Halting.{GoesOn, HaltCause, InHand};
 ghost use Rattle.auth_cli.specs.ReadPrograms.{named_of};
 ghost use Rattle.auth_cli.specs.RolesCalled.{IsCalled, role_of};
 ghost use Rattle.auth_cli.specs.RolesJudged.{call_of, with_named_call, with_spelled};
@@ -33,7 +33,7 @@ pub struct RoleCall {
     pub argument: Spelling,
 }
 
-/// The most bytes of a file that is no text of a program and no proof of [`crate::verify_command`].
+/// The most bytes of a file with a state or an image.
 pub const MAX_FILE: usize = 67_108_864;
 
 /// The call of a role that the words name, on the state that a file spells. What is refused first in this order halts it: the role, the
@@ -91,7 +91,7 @@ fn read_state_file<F: Files>(
 /// Judges whether the bytes are a spelling at the type of the program's state.
 #[tactic(auto, unfolding(crate::specs::Answer::state_read))]
 fn judge_state(alloc: Global, program: &Program, bytes: &[u8]) -> Result<(), Halt>
-    ensures { GoesOnInHand (with_state (meaning program.now) bytes.now) (λ _. bytes.now) result }
+    ensures { InHand (GoesOn (with_state (meaning program.now) bytes.now) (λ _. bytes.now)) result }
 {
     let mut store = Store::new(alloc);
     match unspell(
@@ -115,7 +115,7 @@ fn read_passed(
     text: &str,
 ) -> Result<Spelling, Halt>
     requires { (callee : Callee) × IsCalled callee program.now called.now }
-    ensures { GoesOnInHand (with_spelled (role_of program.now called.now) text.now) (λ spelling. spelling) result }
+    ensures { InHand (GoesOn (with_spelled (role_of program.now called.now) text.now) (λ spelling. spelling)) result }
 {
     Ok(parse_literal(alloc, program, called.argument, text)?)
 }

@@ -10,7 +10,7 @@ ghost use Rattle.value_store.specs.Stores.{nodes_in};
 ghost use Rattle.auth_cli.specs.Answer.{Answer, with_fueled_role, with_ideal_call, with_literal};
 ghost use Rattle.auth_cli.specs.CallsInStores.{HoldsCall, HoldsSome, with_called};
 ghost use Rattle.auth_cli.specs.FueledRoles.{FueledRole};
-ghost use Rattle.auth_cli.specs.Halting.{GoesOnFor, GoesOnForInHand, HaltCause};
+ghost use Rattle.auth_cli.specs.Halting.{GoesOnFor, HaltCause, InHand};
 ghost use Rattle.auth_cli.specs.IdealCalls as meant;
 ghost use Rattle.auth_cli.specs.Reaching.{FaultsAt, FaultsAtReached};
 ghost use Rattle.auth_cli.specs.ReadPrograms.{named_of};
@@ -105,7 +105,7 @@ pub fn put_argument(
 ) -> Result<Ref, Halt>
     requires { IsPlain (meaning program.now).types (type_at (types_of program.now) ty) }
     ensures goes { let p = program.now in let t = type_at (types_of p) ty in
-        GoesOnForInHand (with_literal (named_literal (named_of p) t text.now)) (λ value v. StandsFor (prover_nodes p) (meaning p).types (nodes_in store.new) value.0 t v) result }
+        InHand (GoesOnFor (with_literal (named_literal (named_of p) t text.now)) (λ value v. StandsFor (prover_nodes p) (meaning p).types (nodes_in store.new) value.0 t v)) result }
     ensures keeps { Keeps (nodes_in store.old) (nodes_in store.new) }
 {
     let spelling = parse_literal(alloc, program, ty, text)?;

@@ -7,11 +7,11 @@ ghost use Rattle.code_gen.specs.Programs.{program_in};
 ghost use Rattle.auth_cli.specs.Reaching.{FaultsAtReached, ReachedAt};
 ghost use Rattle.auth_cli.specs.Answer.{answer_with, initial_answer, storing_answer, with_ended_init};
 ghost use Rattle.auth_cli.specs.Ending.{EndsAs, outside};
-ghost use Rattle.auth_cli.specs.Halting.{HaltCause, ending_status};
+ghost use Rattle.auth_cli.specs.Halting.{HaltCause, InHand, ending_status};
 ghost use Rattle.auth_cli.specs.ReadPrograms.{named_of};
 ghost use Rattle.auth_cli.specs.SoundPrograms.{IsOutcome};
 ghost use Rattle.auth_cli.specs.Statuses.{MayAnswer};
-ghost use Rattle.auth_cli.specs.Storing.{FindsOutput, FindsOutputInHand};
+ghost use Rattle.auth_cli.specs.Storing.{FindsOutput};
 
 use crate::machine_calls::{call_init, read_code};
 use crate::role_outcomes::role_output;
@@ -69,8 +69,8 @@ fn find_initial<F: Files>(
 
 /// What an init of a program gives.
 fn make_state(alloc: Global, code: &Code, words: &CallWords<'_>) -> Result<Output, Halt>
-    ensures finds { let words = words.now in (name : List ℕ) → FindsOutputInHand name
-        (with_ended_init (named_of (program_in code.now)) words.role.now words.argument.now words.fuel.now (λ ended. Some (storing_answer ended name))) result }
+    ensures finds { let words = words.now in (name : List ℕ) → InHand (FindsOutput name
+        (with_ended_init (named_of (program_in code.now)) words.role.now words.argument.now words.fuel.now (λ ended. Some (storing_answer ended name)))) result }
     ensures ending { IfOk result (λ output. IsOutcome (ending_status output.report.ending)) }
 {
     let ended = call_init(alloc, code, words)?;

@@ -5,7 +5,7 @@ ghost use Rattle.core_terms.specs.Values.{AndV, NoV};
 ghost use Rattle.code_gen.specs.Programs.{program_in};
 ghost use Rattle.auth_cli.specs.Answer.{Answer, with_ended_call, with_ended_init, with_program_file, with_passed};
 ghost use Rattle.auth_cli.specs.CallsInStores.{HoldsCall, HoldsSome};
-ghost use Rattle.auth_cli.specs.Halting.{GoesOn, GoesOnFor, GoesOnForInHand, HaltCause};
+ghost use Rattle.auth_cli.specs.Halting.{GoesOn, GoesOnFor, HaltCause, InHand};
 ghost use Rattle.auth_cli.specs.IdealCalls as meant;
 ghost use Rattle.auth_cli.specs.IdealCalls.{ended_call};
 ghost use Rattle.auth_cli.specs.Reaching.{FaultsAt, FaultsAtReached};
@@ -49,7 +49,7 @@ pub fn read_code<F: Files>(alloc: Global, files: &mut F, name: &str) -> Result<C
 /// Calls the init that the words name.
 pub fn call_init(alloc: Global, code: &Code, words: &CallWords<'_>) -> Result<Ended, Halt>
     ensures { let words = words.now in let p = program_in code.now in
-        GoesOnForInHand (with_ended_init (named_of p) words.role.now words.argument.now words.fuel.now) (IsEnded Callee.Init p) result }
+        InHand (GoesOnFor (with_ended_init (named_of p) words.role.now words.argument.now words.fuel.now) (IsEnded Callee.Init p)) result }
 {
     let program = code.program();
     let called = called_role(program, Callee::Init, words.role, words.fuel)?;
@@ -84,7 +84,7 @@ pub fn call_role<F: Files>(
 fn run_init(alloc: Global, code: &Code, called: CalledRole, argument: &str) -> Result<Ended, Halt>
     requires { IsCalled Callee.Init (program_in code.now) called }
     ensures { let p = program_in code.now in
-        GoesOnForInHand (λ go. with_passed (role_of p called) argument.now (λ a. go (ended_with (role_of p called) (AndV a NoV)))) (IsEnded Callee.Init p) result }
+        InHand (GoesOnFor (λ go. with_passed (role_of p called) argument.now (λ a. go (ended_with (role_of p called) (AndV a NoV)))) (IsEnded Callee.Init p)) result }
 {
     let mut store = Store::new(alloc);
     let ty = called.argument;

@@ -101,7 +101,7 @@ fn prove_named<F: Files>(
 {
     let program = code.program();
     let called = called_role(program, Callee::OfState, words.role, words.fuel)?;
-    let kept = kept_named(kept)?;
+    let kept = kept_named(program, kept)?;
     let call = read_ideal_call(alloc, files, program, called, image, words.argument)?;
     Ok(make_proof(alloc, code, call, kept)?)
 }

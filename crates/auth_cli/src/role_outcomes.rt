@@ -4,15 +4,15 @@ ghost use Rattle.core_terms.specs.Programs.{meaning, types_of};
 ghost use Rattle.core_terms.specs.TypeTables.{type_at};
 ghost use Rattle.core_terms.specs.Types.{PairTy, Table, Ty};
 ghost use Rattle.core_terms.specs.Values.{PairV, Value};
-ghost use Rattle.core_terms.specs.declared.program.Program.{Program as HeldProgram};
+ghost use Rattle.core_terms.specs.declared.program.Program.{Program};
 ghost use Rattle.ideal_meaning.specs.Ideal as meant;
 ghost use Rattle.value_store.specs.Standing.{Kind, StandsFor};
 ghost use Rattle.value_store.specs.Stores.{nodes_in};
 ghost use Rattle.auth_cli.specs.Answer.{outcome_stored, outcome_told, says};
-ghost use Rattle.auth_cli.specs.Halting.{ending_status};
+ghost use Rattle.auth_cli.specs.Halting.{InHand, ending_status};
 ghost use Rattle.auth_cli.specs.RolesCalled.{EndsIn, HasEnded, IsStateMade, MakesStates, projection_line, prover_nodes, role_of};
 ghost use Rattle.auth_cli.specs.SoundPrograms.{IsOutcome};
-ghost use Rattle.auth_cli.specs.Storing.{FindsOutputInHand};
+ghost use Rattle.auth_cli.specs.Storing.{FindsOutput};
 ghost use Rattle.auth_cli.specs.declared.roles.Callee.{Callee};
 
 use crate::machine_calls::Ended;
@@ -47,7 +47,7 @@ pub fn role_report(alloc: Global, program: &Program, ended: &Ended) -> Result<Re
 pub fn role_output(alloc: Global, program: &Program, ended: &Ended) -> Result<Output, Halt>
     requires { (callee : Callee) × MakesStates callee × HasEnded callee program.now ended.now }
     ensures finds { (name : List ℕ) (callee : Callee) (o : meant.Outcome) → MakesStates callee → EndsIn callee program.now ended.now o
-        → FindsOutputInHand name (Some (outcome_stored (role_of program.now ended.now.called) o name)) result }
+        → InHand (FindsOutput name (Some (outcome_stored (role_of program.now ended.now.called) o name))) result }
     ensures ending { IfOk result (λ output. IsOutcome (ending_status output.report.ending)) }
 {
     let report = role_report(alloc, program, ended)?;
@@ -80,9 +80,9 @@ fn value_line(
 }
 
 /// The state that was made: all that an init gives, and the first component of what an update gives.
-fn state_made(ended: &Ended) -> Option<Ref>
-    requires { (p : HeldProgram) × (callee : Callee) × MakesStates callee × HasEnded callee p ended.now }
-    ensures { (p : HeldProgram) (callee : Callee) (o : meant.Outcome) → MakesStates callee → EndsIn callee p ended.now o
+pub fn state_made(ended: &Ended) -> Option<Ref>
+    requires { (p : Program) × (callee : Callee) × MakesStates callee × HasEnded callee p ended.now }
+    ensures { (p : Program) (callee : Callee) (o : meant.Outcome) → MakesStates callee → EndsIn callee p ended.now o
         → IsStateMade p (role_of p ended.now.called) (nodes_in ended.now.store) result o }
 {
     match ended.outcome {

@@ -65,7 +65,7 @@ fn find_state<F: Files>(
 }
 
 /// The projection of a state, spelled and told.
-fn spell_state(alloc: Global, program: &Program, state: &Loaded) -> Result<Output, AllocError>
+pub fn spell_state(alloc: Global, program: &Program, state: &Loaded) -> Result<Output, AllocError>
     requires { (v : Value) × IsStoredState (meaning program.now) state.now v }
     ensures ending { IfOk result (λ output. MayAnswer Shallow (ending_status output.report.ending)) }
     ensures output { IfOk result

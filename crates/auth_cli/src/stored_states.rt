@@ -5,7 +5,7 @@ ghost use Rattle.core_terms.specs.Programs.{meaning};
 ghost use Rattle.core_terms.specs.Values.{Value};
 ghost use Rattle.auth_cli.specs.Reaching.{FaultsAt};
 ghost use Rattle.auth_cli.specs.Answer.{with_image, with_image_file};
-ghost use Rattle.auth_cli.specs.Halting.{GoesOnFor, GoesOnForInHand, HaltCause};
+ghost use Rattle.auth_cli.specs.Halting.{GoesOnFor, HaltCause, InHand};
 ghost use Rattle.auth_cli.specs.ReadPrograms.{digested_of};
 ghost use Rattle.auth_cli.specs.StoredStates.{IsStoredState};
 
@@ -40,7 +40,7 @@ pub fn load_image_file<F: Files>(
 
 /// The ideal state in an image of the program, over the prover's nodes.
 fn load_state(alloc: Global, program: &Program, bytes: &[u8]) -> Result<Loaded, Halt>
-    ensures goes { GoesOnForInHand (with_image (digested_of program.now) bytes.now) (IsStoredState (meaning program.now)) result }
+    ensures goes { InHand (GoesOnFor (with_image (digested_of program.now) bytes.now) (IsStoredState (meaning program.now))) result }
     ensures stands { IfOk result (λ loaded. (v : Value) × IsStoredState (meaning program.now) loaded v) }
 {
     let mut marker = ProverMarker::new(alloc);

@@ -22,8 +22,8 @@ ghost use Rattle.auth_cli.specs.declared.status.Status.{Status};
 
 use crate::report::tell;
 use crate::{
-    Halt, Status, audit_command, check_command, ideal_command, init_command, prove_command,
-    shallow_command, step_command, verify_command,
+    Halt, Status, audit_command, check_command, gen_command, ideal_command, init_command,
+    library_command, prove_command, shallow_command, step_command, verify_command,
 };
 use command_words::{Command, WordsFault, read};
 use lam_outside::{Files, Net, Sink};
@@ -37,7 +37,9 @@ use std::alloc::Global;
 /// | status | line | comes |
 /// |---|---|---|
 /// | 0 | `ok DIGEST` | `check`: the text is a program, and has this SHA-256 digest |
-/// | 0 | `state VALUE` | `shallow`: the projection of the state has this value, and its spelling is stored |
+/// | 0 | `calls C done D new A used U bytes B` | `gen`: of C calls D ended with a value; together their proofs have A pieces of their own and name U again, and their files have B bytes |
+/// | 0 | `state VALUE` | `shallow`: the projection of the state has this value, and its spelling is stored; `gen`, behind the line of its calls: that of the last state has it |
+/// | 0 | the text | `library`: the program of the library, unchanged |
 /// | 0 | `done VALUE` | the outcome has this value, in projection; the image of the state that `init` or `step` made is stored, and the spelling of the one that `verify` names a file for |
 /// | 0, 3, 4 | `proof new A used U bytes B` | `prove`, behind the outcome's line: the proof has A pieces of its own, names U again, and the file that is stored has B bytes |
 /// | 2 | `usage: lamauth COMMAND ARGUMENTS` | the words call no command |
@@ -47,9 +49,12 @@ use std::alloc::Global;
 /// | 5 | `rejected CAUSE` | the proof is rejected, for the cause below; in `audit` it shows no collision |
 /// | 6 | `program refused: KIND LINE COLUMN` | the text is no program: its first fault |
 /// | 7 | `input refused: too long ARGUMENT` | the file that `P`, `STATE` or `IMG` names is too long, or the image for `OUT` would be |
+/// | 7 | `input refused: library unknown` | the library has no program of this name |
 /// | 7 | `input refused: role unknown` | the program has no role of this name |
 /// | 7 | `input refused: role kind` | the role is not of the kind that the command calls: an init for `init`, an update for `step` and for `verify` with `OUT`, else a query or an update |
 /// | 7 | `input refused: number FUEL` | the fuel isn't of 1 to 20 digits, or above 10^12 |
+/// | 7 | `input refused: number SEED` | the seed isn't of 1 to 20 digits, or above 2^64 - 1 |
+/// | 7 | `input refused: number COUNT` | the number of rounds isn't of 1 to 20 digits, or above 100,000 |
 /// | 7 | `input refused: number N` | the number of pieces that are kept isn't of 1 to 20 digits, or above 1,024 |
 /// | 7 | `input refused: state OFFSET` | the state's bytes are no spelling: the first fault |
 /// | 7 | `input refused: image magic` | the image doesn't begin as one |
@@ -81,10 +86,10 @@ use std::alloc::Global;
 /// | `leftover BYTES` | the run ended, and so many bytes are left, or 65536 where there are more |
 ///
 /// The program's text has at most 262,144 bytes, each other file at most 67,108,864, but that a proof that is judged may
-/// have any length. What is refused first in this order
-/// ends the run: the words, the program, the role, the fuel, the number of pieces that are kept, the state or the image, the
-/// argument, the proof. A file is opened when all that stands before it is well-formed, so `read fault` comes only from a file
-/// that this order had reached. A file is stored before any line is written. No command of these uses the net.
+/// have any length. What is refused first in this order ends the run: the words, the program, the role, the fuel, the number of
+/// pieces that are kept, the state or the image, the argument, the proof; of `gen` the words, the name, the seed, the number of
+/// rounds, the number of pieces that are kept. A file is opened when all that stands before it is well-formed, so `read fault`
+/// comes only from a file that this order had reached. A file is stored before any line is written. No command of these uses the net.
 pub fn run<F: Files, O: Sink, N: Net>(
     alloc: Global,
     words: &[&str],
@@ -216,5 +221,7 @@ fn carry_out<F: Files, O: Sink>(
         Command::Prove => prove_command(alloc, words, files, out),
         Command::Verify => verify_command(alloc, words, files, out),
         Command::Audit => audit_command(alloc, words, files, out),
+        Command::Library => library_command(alloc, words, out),
+        Command::Gen => gen_command(alloc, words, out),
     }
 }

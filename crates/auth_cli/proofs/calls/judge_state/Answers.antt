@@ -6,7 +6,7 @@ use Rattle.shallow_codec.specs.ProgramTypes.{table, ty_of}
 use Rattle.shallow_codec.specs.Unspelled.{IsUnspelled}
 use Rattle.value_store.specs.Stores.{nodes_in}
 use Rattle.auth_cli.specs.Answer.{with_state}
-use Rattle.auth_cli.specs.Halting.{GoesOnInHand}
+use Rattle.auth_cli.specs.Halting.{GoesOn, InHand}
 use Rattle.auth_cli.proofs.StatesRead.{state_goes_on, state_is_refused}
 use Rattle.auth_cli.proofs.calls.judge_state.Goals as goal
 
@@ -21,5 +21,5 @@ returns-in-Err-Bad c =
     let bytes = c.args.bytes.now in
     let nodes = nodes_in c.unspell.new.store in
     let bad = subst (λ fault. IsUnspelled (table types) nodes (ty_of types id) (read_at (types_meaning types) (ty_of types id) bytes) (Err fault)) c.in-Err-Bad.field-0-is c.in-Err-Bad.ensures.value in
-    subst (λ halt. GoesOnInHand {T = Unit {0}} (with_state (meaning c.args.program.now) bytes) (λ _. bytes) (Err halt)) (sym c.into.ensures)
+    subst (λ halt. InHand (GoesOn {T = Unit {0}} (with_state (meaning c.args.program.now) bytes) (λ _. bytes)) (Err halt)) (sym c.into.ensures)
     (state_is_refused c.args.program.now types c.types.ensures id c.state_type.ensures.state bytes nodes c.in-Err-Bad.offset bad)

@@ -17,7 +17,7 @@ returns-clause-ends g c =
 pub returns-clause-possible : goal.returns-clause-possible
 returns-clause-possible g c =
     let found = c.find_digest-found in
-    told_possible Check found.result c.tell.result _ _ _ _ c.tell.ensures (found_possible Check _ _ found.result found.ensures.cause found.ensures.ending)
+    told_possible Check found.result c.tell.result _ _ _ _ c.tell.ensures (found_possible Check tt tt _ _ found.result found.ensures.cause found.ensures.ending)
 
 pub returns-clause-reached : goal.returns-clause-reached
 returns-clause-reached g c = λ is.

@@ -20,7 +20,7 @@ pub returns-clause-possible : goal.returns-clause-possible
 returns-clause-possible g c =
     let found = c.find_ideal-found in
     told_possible Ideal found.result c.tell.result _ _ _ _ c.tell.ensures
-    (found_possible Ideal _ _ found.result found.ensures.cause (IfOk-weaker found.result _ _ (λ report is. outcome_possible Ideal tt _ is) found.ensures.ending))
+    (found_possible Ideal tt tt _ _ found.result found.ensures.cause (IfOk-weaker found.result _ _ (λ report is. outcome_possible Ideal tt _ is) found.ensures.ending))
 
 pub returns-clause-reached : goal.returns-clause-reached
 returns-clause-reached g c = λ is.

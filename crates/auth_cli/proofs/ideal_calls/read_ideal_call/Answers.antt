@@ -1,4 +1,4 @@
-use Rattle.std.proofs.Common.{List, ℕ, Option, Result, Err, refl, sym, ap, ◌∙◌, subst}
+use Rattle.std.proofs.Common.{List, ℕ, Option, refl, ap, ◌∙◌}
 use Rattle.std.proofs.lemmas.Result.{err_from_is_err_and}
 use Rattle.core_terms.specs.Programs.{meaning, types_of}
 use Rattle.core_terms.specs.TypeTables.{type_at}
@@ -9,7 +9,6 @@ use Rattle.value_store.specs.declared.node.Ref.{Ref}
 use Rattle.auth_cli.specs.Answer.{Answer, with_image_file, with_literal, with_passed}
 use Rattle.auth_cli.specs.CallsInStores.{HoldsCall}
 use Rattle.auth_cli.specs.FueledRoles.{FueledRole}
-use Rattle.auth_cli.specs.Halting.{HaltsAs}
 use Rattle.auth_cli.specs.IdealCalls.{IdealCall}
 use Rattle.auth_cli.specs.ReadPrograms.{digested_of, named_of}
 use Rattle.auth_cli.specs.RoleCalls.{named_literal}

@@ -1,10 +1,11 @@
 use Rattle.std.proofs.Common.{Some, ap, sym, ◌∙◌, subst}
 use Rattle.std.proofs.lemmas.Result.{err_from_is_err_and}
 use Rattle.code_gen.specs.Programs.{program_in}
+use Rattle.auth_cli.specs.Halting.{InHand}
 use Rattle.auth_cli.specs.Answer.{outcome_stored, storing_answer, with_ended_init}
 use Rattle.auth_cli.specs.ReadPrograms.{named_of}
 use Rattle.auth_cli.specs.RolesCalled.{EndsIn, IsEnded, role_of}
-use Rattle.auth_cli.specs.Storing.{FindsOutputInHand}
+use Rattle.auth_cli.specs.Storing.{FindsOutput}
 use Rattle.auth_cli.specs.declared.roles.Callee.TheVariants.{Init}
 use Rattle.auth_cli.proofs.RoleSteps.{hand_unfound}
 use Rattle.auth_cli.proofs.init_state.make_state.Goals as goal
@@ -26,5 +27,5 @@ pub returns-clause-finds : goal.returns-clause-finds
 returns-clause-finds c = λ name.
     let ended = c.in_ok-ended.ensures in
     let found = c.role_output.ensures.finds name Init ended.0.outcome tt (subst (λ p. EndsIn Init p c.in_ok-ended.ended ended.0.outcome) (sym c.program.ensures) ended.2.1) in
-    subst (λ answer. FindsOutputInHand name answer c.role_output.result) (sym (ended.1 (λ ended. Some (storing_answer ended name))))
-    (subst (λ r. FindsOutputInHand name (Some (outcome_stored r ended.0.outcome name)) c.role_output.result) (ap (λ p. role_of p c.in_ok-ended.ended.called) c.program.ensures ∙ sym ended.2.0) found)
+    subst (λ answer. InHand (FindsOutput name answer) c.role_output.result) (sym (ended.1 (λ ended. Some (storing_answer ended name))))
+    (subst (λ r. InHand (FindsOutput name (Some (outcome_stored r ended.0.outcome name))) c.role_output.result) (ap (λ p. role_of p c.in_ok-ended.ended.called) c.program.ensures ∙ sym ended.2.0) found)

@@ -4,7 +4,7 @@ use Rattle.core_terms.specs.Values.{AndV, NoV}
 use Rattle.code_gen.specs.Programs.{program_in}
 use Rattle.auth_cli.specs.Answer.{Answer, with_ended_init, with_fueled_role, with_passed}
 use Rattle.auth_cli.specs.FueledRoles.{FueledRole}
-use Rattle.auth_cli.specs.Halting.{GoesOnForInHand}
+use Rattle.auth_cli.specs.Halting.{GoesOnFor, InHand}
 use Rattle.auth_cli.specs.ReadPrograms.{named_of}
 use Rattle.auth_cli.specs.RoleCalls.{ended_with}
 use Rattle.auth_cli.specs.RolesCalled.{IsCalled, IsEnded, role_of}
@@ -16,7 +16,7 @@ pub returns-in_err-called : goal.returns-in_err-called
 returns-in_err-called c =
     let words = c.args.words.now in
     let err = err_from_is_err_and c.from_residual.result c.from_residual.ensures.1 in
-    subst (λ p. GoesOnForInHand (with_ended_init (named_of p) words.role.now words.argument.now words.fuel.now) (IsEnded Init p) c.from_residual.result) c.program-program.ensures
+    subst (λ p. InHand (GoesOnFor (with_ended_init (named_of p) words.role.now words.argument.now words.fuel.now) (IsEnded Init p)) c.from_residual.result) c.program-program.ensures
     (hand_first (with_fueled_role Init (named_of c.program-program.result.now) words.role.now words.fuel.now) (λ r go. with_passed r words.argument.now (λ a. go (ended_with r (AndV a NoV))))
     (role_of c.program-program.result.now) (IsEnded Init c.program-program.result.now) c.from_residual.result _ (cc) c.in_err-called.ensures.goes)
 

@@ -1,11 +1,9 @@
 use Rattle.std.proofs.Common.{◌≡◌, subst}
 use Rattle.std.proofs.lemmas.Result.{err_from_is_err_and}
-use Rattle.lam_outside.specs.Told.{Contents}
-use Rattle.core_terms.specs.declared.program.Program.{Program}
 use Rattle.auth_cli.specs.Answer.{with_ended_call}
-use Rattle.auth_cli.specs.CallsInStores.{HoldsCall, HoldsSome, with_called}
+use Rattle.auth_cli.specs.CallsInStores.{HoldsCall, HoldsSome}
 use Rattle.auth_cli.specs.Halting.{GoesOnFor}
-use Rattle.auth_cli.specs.IdealCalls.{IdealCall, ended_call}
+use Rattle.auth_cli.specs.IdealCalls.{ended_call}
 use Rattle.auth_cli.specs.ReadPrograms.{named_of}
 use Rattle.auth_cli.specs.Reaching.{FaultsAtReached}
 use Rattle.auth_cli.specs.RolesCalled.{IsEnded}

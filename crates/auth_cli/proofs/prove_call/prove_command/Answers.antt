@@ -20,7 +20,7 @@ pub returns-clause-possible : goal.returns-clause-possible
 returns-clause-possible g c =
     let found = c.find_proof-found in
     stored_possible Prove _ found.result c.store_and_tell.result _ _ _ _ _ _ _ _ c.store_and_tell.ensures.ends
-    (output_possible Prove _ _ found.result found.ensures.cause (IfOk-weaker found.result _ _ (λ output is. outcome_possible Prove tt _ is) found.ensures.ending))
+    (output_possible Prove tt tt _ _ found.result found.ensures.cause (IfOk-weaker found.result _ _ (λ output is. outcome_possible Prove tt _ is) found.ensures.ending))
 
 pub returns-clause-reached : goal.returns-clause-reached
 returns-clause-reached g c = λ is.

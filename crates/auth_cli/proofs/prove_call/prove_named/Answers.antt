@@ -1,13 +1,11 @@
 use Rattle.std.proofs.Common.{◌≡◌, ℕ, List, Option, Some, ap, ◌∙◌, subst}
 use Rattle.std.proofs.lemmas.Result.{err_from_is_err_and}
 use Rattle.lam_outside.specs.Told.{Contents}
-use Rattle.core_terms.specs.declared.program.Program.{Program}
 use Rattle.printed_lines.specs.declared.refusal.Argument.TheVariants.{Number}
 use Rattle.auth_cli.specs.Answer.{Answer, proof_answer, with_fueled_role, with_ideal_call, with_kept, with_number}
 use Rattle.auth_cli.specs.Arguments.{number_within}
 use Rattle.auth_cli.specs.CallsInStores.{HoldsCall, HoldsSome, proved_behind}
 use Rattle.auth_cli.specs.FueledRoles.{FueledRole}
-use Rattle.auth_cli.specs.Halting.{HaltsAs}
 use Rattle.auth_cli.specs.IdealCalls.{IdealCall}
 use Rattle.auth_cli.specs.ReadPrograms.{named_of}
 use Rattle.auth_cli.specs.Reaching.{FaultsAtReached, without}

@@ -10,12 +10,12 @@ use Rattle.value_store.specs.Stores.{nodes_in}
 use Rattle.value_store.proofs.ProverNodes.{shown_ideal}
 use Rattle.images.specs.LoadedRoots.{IsStateAt}
 use Rattle.auth_cli.specs.Answer.{outcome_stored, outcome_told, says}
-use Rattle.auth_cli.specs.Halting.{ending_status}
+use Rattle.auth_cli.specs.Halting.{InHand, ending_status}
 use Rattle.auth_cli.specs.ReadPrograms.{digested_of}
 use Rattle.auth_cli.specs.RoleCalls.{kind_called}
 use Rattle.auth_cli.specs.RoleCalls as roles
 use Rattle.auth_cli.specs.RolesCalled.{role_of}
-use Rattle.auth_cli.specs.Storing.{FindsOutputInHand}
+use Rattle.auth_cli.specs.Storing.{FindsOutput}
 use Rattle.auth_cli.proofs.MarkedStates.{saved_by_types}
 use Rattle.auth_cli.proofs.StoredOutputs.{stored_alone, storing_refused, storing_told}
 use Rattle.auth_cli.proofs.role_outcomes.role_output.Goals as goal
@@ -46,7 +46,7 @@ returns-in_err-image-in-Some-clause-finds c = λ name callee o makes ends.
     let at_types = subst (λ (types : Types). IsStateAt (types_meaning types) ended.store c.in-Some.state v) (sym c.types-types.ensures) ideal in
     let saved = saved_by_types p c.types-types.result.now c.text_digest-digest.result.now v (Err c.in_err-image-in-Some.field-0.0) c.types-types.ensures c.text_digest-digest.ensures
     (c.in_err-image-in-Some.ensures.saved v at_types) in
-    subst (λ o. FindsOutputInHand name (Some (outcome_stored r o name)) c.from_residual-in_err-image-in-Some.result) (sym made.1)
+    subst (λ o. InHand (FindsOutput name (Some (outcome_stored r o name))) c.from_residual-in_err-image-in-Some.result) (sym made.1)
     (storing_refused (digested_of p) v (outcome_told r (Done made.0)) c.in_err-image-in-Some.field-0.0 c.from_residual-in_err-image-in-Some.result
     c.from_residual-in_err-image-in-Some.ensures.1 saved name)
 
@@ -63,7 +63,7 @@ returns-in_ok-image-in-Some-clause-finds c = λ name callee o makes ends.
     let saved = saved_by_types p c.types-types.result.now c.text_digest-digest.result.now v (Ok c.in_ok-image-in-Some.image) c.types-types.ensures c.text_digest-digest.ensures
     (c.in_ok-image-in-Some.ensures.saved v at_types) in
     let tells = subst (λ o. outcome_told r o ≡ says (ending_status report.ending) report.text.items) made.1 (c.in_ok-report.ensures.tells callee o ends) in
-    subst (λ o. FindsOutputInHand name (Some (outcome_stored r o name)) (Ok (record { report = report; file = Some c.in_ok-image-in-Some.image }))) (sym made.1)
+    subst (λ o. InHand (FindsOutput name (Some (outcome_stored r o name))) (Ok (record { report = report; file = Some c.in_ok-image-in-Some.image }))) (sym made.1)
     (storing_told (digested_of p) v (outcome_told r (Done made.0)) report c.in_ok-image-in-Some.image tells saved name)
 
 pub returns-in-None-clause-finds : goal.returns-in-None-clause-finds

@@ -18,7 +18,7 @@ returns-clause-ends g c =
 pub returns-clause-possible : goal.returns-clause-possible
 returns-clause-possible g c =
     let found = c.find_state-found in
-    stored_possible Shallow _ found.result c.store_and_tell.result _ _ _ _ _ _ _ _ c.store_and_tell.ensures.ends (output_possible Shallow _ _ found.result found.ensures.cause found.ensures.ending)
+    stored_possible Shallow _ found.result c.store_and_tell.result _ _ _ _ _ _ _ _ c.store_and_tell.ensures.ends (output_possible Shallow tt tt _ _ found.result found.ensures.cause found.ensures.ending)
 
 pub returns-clause-reached : goal.returns-clause-reached
 returns-clause-reached g c = λ is.

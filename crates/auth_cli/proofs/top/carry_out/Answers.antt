@@ -1,6 +1,6 @@
-use Rattle.std.proofs.Common.{refl, sym, subst}
+use Rattle.std.proofs.Common.{None, refl, sym, subst}
 use Rattle.command_words.specs.Commands.{IsOfCommand, texts}
-use Rattle.command_words.specs.declared.command.Command.TheVariants.{Check, Init, Ideal, Step, Shallow, Prove, Verify, Audit}
+use Rattle.command_words.specs.declared.command.Command.TheVariants.{Check, Init, Ideal, Step, Shallow, Prove, Verify, Audit, Library, Gen}
 use Rattle.auth_cli.specs.Statuses.{MayAnswer}
 use Rattle.auth_cli.proofs.Words.{counted, ends_known, reached_known, within}
 use Rattle.auth_cli.proofs.top.carry_out.Goals as goal
@@ -103,3 +103,27 @@ returns-in-Verify-clause-reached g c = λ is. reached_known c.args.command Verif
 
 pub returns-in-Audit-clause-reached : goal.returns-in-Audit-clause-reached
 returns-in-Audit-clause-reached g c = λ is. reached_known c.args.command Audit (texts c.args.words.now) _ _ c.in-Audit.is (c.audit_command.ensures.reached is)
+
+pub library_command-requires : goal.library_command-requires
+library_command-requires g c = counted Library c.args.words.now refl (subst (λ command. IsOfCommand command (texts c.args.words.now)) c.in-Library.is c.requires)
+
+pub returns-in-Library-clause-ends : goal.returns-in-Library-clause-ends
+returns-in-Library-clause-ends g c = ends_known c.args.command Library (texts c.args.words.now) _ _ c.library_command.result c.in-Library.is (c.library_command.ensures.ends (record { contents = _; stores = _; written = None; read_faults = _; store_faults = _; write_faults = 0 }))
+
+pub returns-in-Library-clause-possible : goal.returns-in-Library-clause-possible
+returns-in-Library-clause-possible g c = subst (λ command. MayAnswer command c.library_command.result) (sym c.in-Library.is) c.library_command.ensures.possible
+
+pub returns-in-Library-clause-reached : goal.returns-in-Library-clause-reached
+returns-in-Library-clause-reached g c = λ is. absurd (subst (MayAnswer Library) is c.library_command.ensures.possible)
+
+pub gen_command-requires : goal.gen_command-requires
+gen_command-requires g c = counted Gen c.args.words.now refl (subst (λ command. IsOfCommand command (texts c.args.words.now)) c.in-Gen.is c.requires)
+
+pub returns-in-Gen-clause-ends : goal.returns-in-Gen-clause-ends
+returns-in-Gen-clause-ends g c = ends_known c.args.command Gen (texts c.args.words.now) _ _ c.gen_command.result c.in-Gen.is (c.gen_command.ensures.ends (record { contents = _; stores = _; written = None; read_faults = _; store_faults = _; write_faults = 0 }))
+
+pub returns-in-Gen-clause-possible : goal.returns-in-Gen-clause-possible
+returns-in-Gen-clause-possible g c = subst (λ command. MayAnswer command c.gen_command.result) (sym c.in-Gen.is) c.gen_command.ensures.possible
+
+pub returns-in-Gen-clause-reached : goal.returns-in-Gen-clause-reached
+returns-in-Gen-clause-reached g c = λ is. absurd (subst (MayAnswer Gen) is c.gen_command.ensures.possible)

@@ -79,7 +79,7 @@ pub returns-clause-possible : goal.returns-clause-possible
 returns-clause-possible g c =
     let found = c.find_verdict-found in
     stored_possible Verify _ found.result c.store_and_tell.result _ _ _ _ _ _ _ _ c.store_and_tell.ensures.ends
-    (judged_output_possible Verify tt _ _ found.result found.ensures.cause (IfOk-weaker found.result _ _ (λ output is. outcome_possible Verify tt _ is) found.ensures.ending))
+    (judged_output_possible Verify tt tt tt _ _ found.result found.ensures.cause (IfOk-weaker found.result _ _ (λ output is. outcome_possible Verify tt _ is) found.ensures.ending))
 
 pub returns-clause-reached : goal.returns-clause-reached
 returns-clause-reached g c = λ is.
