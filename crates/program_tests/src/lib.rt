@@ -5,6 +5,8 @@
 #[cfg(test)]
 mod endless;
 #[cfg(test)]
+mod library;
+#[cfg(test)]
 mod programs;
 #[cfg(test)]
 mod roles;

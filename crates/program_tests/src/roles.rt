@@ -1,6 +1,6 @@
 // What `init`, `ideal` and `step` tell of calls of roles, and the states that they store.
 use crate::programs::repeated;
-use cli_stage::runs::{Run, run_failing, run_words};
+use cli_stage::runs::{Run, run_words};
 use cli_stage::stage::staged;
 use program_texts::{BST, MERKLE, SWITCH};
 use std::alloc::{AllocError, Global};
@@ -361,15 +361,5 @@ fn calls_of_roles_are_refused_for_the_first_fault(rt: HostRuntime) -> Result<(),
             return Err(Fail::new(format_args!("row {number}: {line}")));
         }
     }
-    Ok(())
-}
-
-// The seventh call of the files is that of `store`: a new state that is not stored is not told.
-#[test]
-fn a_step_is_stored_before_it_is_told(rt: HostRuntime) -> Result<(), Fail> {
-    let stage = staged(BST, b"", EMPTY);
-    let words = ["step", "p", "put", "q", "(1, 10)", "2", "o"];
-    let run = run_failing(rt.alloc(), &stage, &words, &[6], (100, &[]))?;
-    assert!(rt; run.tells(9, ""));
     Ok(())
 }

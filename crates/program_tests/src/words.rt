@@ -8,7 +8,7 @@ const USAGE: &str = "usage: lamauth COMMAND ARGUMENTS\n";
 
 /// Words that call no command: at first those of which one is no name or none that a command has, then each command with one argument too
 /// few and with one too many, and last a negative argument with no blank before it.
-const REFUSED: [&[&str]; 31] = [
+const REFUSED: [&[&str]; 35] = [
     &[],
     &["-x"],
     &[""],
@@ -39,6 +39,10 @@ const REFUSED: [&[&str]; 31] = [
     &["verify", "p", "open", "s", "()", "1", "q", "o", "o"],
     &["audit", "p", "open", "s", "()", "1"],
     &["audit", "p", "open", "s", "()", "1", "q", "o"],
+    &["library"],
+    &["library", "bst", "o"],
+    &["gen", "bst", "1", "1"],
+    &["gen", "bst", "1", "1", "0", "o"],
     &["verify", "p", "more", "s", "-3", "1", "q"],
 ];
 

@@ -1,63 +1,108 @@
-// What `prove`, `verify` and `audit` do where a file or the output fails.
+// What each command does where a call of the files or of the output fails.
 ghost use Rattle.std.specs.Prelude.{◌<◌};
 
 use crate::sides::{Sides, made_sides};
-use cli_stage::runs::run_failing;
-use cli_stage::stage::{Stage, staged};
-use program_texts::SWITCH;
+use cli_stage::runs::{Run, Writes, run_failing};
+use cli_stage::stage::{PROOF, Stage};
+use program_texts::{FIRST, SWITCH};
 use std::alloc::{AllocError, Global};
 use std::test::Fail;
 
-/// The words of `prove`, of `verify` and of `audit`, of the call of `flip`.
-const PROVE: [&str; 8] = ["prove", "p", "flip", "q", "()", "1", "1024", "o"];
-
-const VERIFY: [&str; 8] = ["verify", "p", "flip", "s", "()", "1", "q", "o"];
-
-const AUDIT: [&str; 7] = ["audit", "p", "flip", "s", "()", "1", "q"];
-
-/// The proof of one new piece, the byte 1.
+/// The proof of one new piece, the byte 1, and that of the same piece twice.
 const ONE: &[u8] = b"LAP1\0\0\0\0\0\0\x01\x01";
 
-/// A command with how many calls of the files read them, and the status and the text where the call behind these fails.
+const TWICE: &[u8] = b"LAP1\0\0\0\0\0\0\x01\x01\0\0\0\0\x01\x01";
+
+/// A program, and the literal of a state of it.
+type Made = (&'static [u8], &'static str);
+
+const UNIT: Made = (FIRST, "()");
+
+const BOOL: Made = (SWITCH, "true");
+
+/// A state; the words of a command, and a proof where it judges one; how much one read gives at most, how many calls of the files read
+/// them, and whether a call behind these stores one.
 ///
 /// Of a program, an image and a state there are a start, a read of all and a read at the end; of a proof a start, and reads of the header,
-/// of the frame's kind, of its length and of its piece, and at the end. What is stored comes behind, before any line is written.
-type Reading = (&'static [&'static str], u64, u8, &'static str);
+/// of each frame's kind, of its length and of its piece, and at the end.
+type Row = (Made, &'static str, &'static [u8], [u64; 2], bool);
 
-const READINGS: [Reading; 3] = [
-    (&PROVE, 6, 9, ""),
-    (&VERIFY, 12, 9, ""),
-    (
-        &AUDIT,
-        12,
-        0,
-        "agrees done (#6e340b9cffb37a989ca544e6bb780a2c78901d3fb33738768511a30617afa01d, true)\n",
-    ),
+const ROWS: [Row; 13] = [
+    (UNIT, "check p", b"", [4096, 3], false),
+    (BOOL, "init p make true 1 o", b"", [4096, 3], true),
+    (BOOL, "ideal p over q () 1", b"", [4096, 6], false),
+    (BOOL, "step p flip q () 1 o", b"", [4096, 6], true),
+    (UNIT, "shallow p q o", b"", [4096, 6], true),
+    (BOOL, "prove p both q () 1 0 o", b"", [4096, 6], true),
+    (BOOL, "prove p both q () 1 1 o", b"", [4096, 6], true),
+    (BOOL, "prove p flip q () 0 0 o", b"", [4096, 6], true),
+    (UNIT, "verify p open s () 1 q", PROOF, [4096, 11], false),
+    (UNIT, "verify p open s () 1 q", PROOF, [1, 160], false),
+    (BOOL, "verify p both s () 1 q", TWICE, [4096, 15], false),
+    (BOOL, "verify p flip s () 1 q o", ONE, [4096, 12], true),
+    (BOOL, "audit p flip s () 1 q", ONE, [4096, 12], false),
 ];
 
-/// The files of a command: beside a proof what a client keeps, or what the owner has; the image alone where a proof is made.
-fn stage_of<'a>(words: &[&str], sides: &'a Sides) -> Stage<'a>
+/// What both sides have of the state of a row.
+fn sides_of_row(alloc: Global, row: &Row) -> Result<Sides<'static>, AllocError> {
+    let (program, literal) = row.0;
+    made_sides(alloc, program, "make", literal)
+}
+
+/// A run of a row's words, where these calls of the files fail, and these writes, of so many bytes each.
+fn run_row(
+    alloc: Global,
+    row: &Row,
+    sides: &Sides,
+    failing: &[u64],
+    writes: Writes,
+) -> Result<Run, AllocError>
+    requires { 0 < writes.0 }
+{
+    let words: Vec<&str> = row.1.split(' ').collect(alloc)?;
+    run_failing(alloc, &stage_of(row, sides), &words, failing, writes)
+}
+
+/// The files of a command: beside a proof what a client keeps, or what the owner has, else the image alone.
+fn stage_of<'a>(row: &Row, sides: &'a Sides) -> Stage<'a>
     ensures { 0 < result.most_read }
 {
-    match words.first() {
-        Some(&"verify") => staged(SWITCH, &sides.state, ONE),
-        Some(&"audit") => staged(SWITCH, &sides.image, ONE),
-        _ => staged(SWITCH, b"", &sides.image),
+    let (_, words, proof, [most_read, _], _) = *row;
+    let most_read = (most_read as usize).max(1);
+    let (state, proof) = if words.starts_with("verify") {
+        (sides.state.as_slice(), proof)
+    } else if words.starts_with("audit") {
+        (sides.image.as_slice(), proof)
+    } else {
+        (b"".as_slice(), sides.image.as_slice())
+    };
+    Stage {
+        program: sides.program,
+        state,
+        proof,
+        most_read,
+    }
+}
+
+/// Whether a run ends as it has to where this call of the files fails, or, behind the last one, as it does where none fails.
+fn ends_as_due(row: &Row, call: u64, run: &Run, whole: &Run) -> bool {
+    let (_, _, _, [_, reads], is_stored) = *row;
+    if call < reads {
+        run.only_tells(8, "read fault\n")
+    } else if call == reads && is_stored {
+        run.tells(9, "")
+    } else {
+        run.status == whole.status && run.text.as_slice() == whole.text.as_slice()
     }
 }
 
 /// The number of the first call of the files, from 0, whose failure is told otherwise.
-fn misread(alloc: Global, made: &Sides, reading: Reading) -> Result<Option<u64>, AllocError> {
-    let (words, reads, status, text) = reading;
-    let stage = stage_of(words, made);
-    for call in 0..=reads {
-        let run = run_failing(alloc, &stage, words, &[call], (100, &[]))?;
-        let (status, text) = if call < reads {
-            (8, "read fault\n")
-        } else {
-            (status, text)
-        };
-        if !run.tells(status, text) {
+fn misread(alloc: Global, row: &Row) -> Result<Option<u64>, AllocError> {
+    let sides = sides_of_row(alloc, row)?;
+    let whole = run_row(alloc, row, &sides, &[], (100, &[]))?;
+    for call in 0..=row.3[1].saturating_add(1) {
+        let run = run_row(alloc, row, &sides, &[call], (100, &[]))?;
+        if !ends_as_due(row, call, &run, &whole) {
             return Ok(Some(call));
         }
     }
@@ -66,54 +111,45 @@ fn misread(alloc: Global, made: &Sides, reading: Reading) -> Result<Option<u64>,
 
 #[test]
 fn each_call_of_the_files_fails_once(rt: HostRuntime) -> Result<(), Fail> {
-    let made = made_sides(rt.alloc(), SWITCH, "make", "true")?;
-    for reading in READINGS {
-        if let Some(call) = misread(rt.alloc(), &made, reading)? {
-            return Err(Fail::new(format_args!("{:?} at call {call}", reading.0)));
+    for (number, row) in ROWS.iter().enumerate() {
+        if let Some(call) = misread(rt.alloc(), row)? {
+            return Err(Fail::new(format_args!("row {number} at call {call}")));
         }
     }
     Ok(())
 }
 
-/// A command with how many bytes a write takes at most and which one fails, and the status, the text and how many files are stored.
-type Writing = (
-    &'static [&'static str],
-    usize,
-    &'static [u64],
-    u8,
-    &'static str,
-    usize,
-);
-
-const WRITINGS: [Writing; 4] = [
-    (
-        &PROVE,
-        79,
-        &[1],
-        9,
-        "done (#6e340b9cffb37a989ca544e6bb780a2c78901d3fb33738768511a30617afa01d, true)\n",
-        1,
-    ),
-    (
-        &PROVE,
-        4,
-        &[],
-        0,
-        "done (#6e340b9cffb37a989ca544e6bb780a2c78901d3fb33738768511a30617afa01d, true)\nproof new 1 used 0 bytes 12\n",
-        1,
-    ),
-    (&VERIFY, 2, &[2], 9, "done", 1),
-    (&AUDIT, 7, &[1], 9, "agrees ", 0),
-];
+/// The number of the first write, from 0, whose failure doesn't end a run with what the writes before it took, where each takes so many
+/// bytes; what is stored is stored before.
+fn miswritten(
+    alloc: Global,
+    row: &Row,
+    sides: &Sides,
+    most: usize,
+) -> Result<Option<usize>, AllocError>
+    requires { 0 < most }
+{
+    let whole = run_row(alloc, row, sides, &[], (most, &[]))?;
+    let mut written = Vec::new(alloc);
+    for (write, piece) in whole.text.chunks(most).enumerate() {
+        let run = run_row(alloc, row, sides, &[], (most, &[write as u64]))?;
+        let is_cut = run.status == 9 && run.text.as_slice() == written.as_slice();
+        if !is_cut || run.stored != whole.stored {
+            return Ok(Some(write));
+        }
+        written.extend_from_slice(piece)?;
+    }
+    Ok(None)
+}
 
 #[test]
-fn stops_at_a_failed_write(rt: HostRuntime) -> Result<(), Fail> {
-    let made = made_sides(rt.alloc(), SWITCH, "make", "true")?;
-    for (words, most, failing, status, text, stored) in &WRITINGS {
-        let stage = stage_of(words, &made);
-        let run = run_failing(rt.alloc(), &stage, words, &[], ((*most).max(1), failing))?;
-        if !run.tells(*status, text) || run.stored != *stored {
-            return Err(Fail::new(format_args!("{words:?} {text}")));
+fn each_write_fails_once(rt: HostRuntime) -> Result<(), Fail> {
+    for (number, row) in ROWS.iter().enumerate() {
+        let sides = sides_of_row(rt.alloc(), row)?;
+        for most in [1, 2, 7, 100] {
+            if let Some(write) = miswritten(rt.alloc(), row, &sides, most.max(1))? {
+                return Err(Fail::new(format_args!("row {number} at write {write} of {most}")));
+            }
         }
     }
     Ok(())

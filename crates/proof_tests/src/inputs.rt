@@ -45,7 +45,7 @@ fn roles_and_numbers_are_refused(rt: HostRuntime) -> Result<(), Fail> {
 }
 
 /// Types and bytes that are no spelling, with the place of their first fault.
-const STATES: [(&str, &[u8], &str); 18] = [
+const STATES: [(&str, &[u8], &str); 16] = [
     ("unit", b"\0", "input refused: state 0\n"),
     ("bool", b"", "input refused: state 0\n"),
     ("bool", b"\x02", "input refused: state 0\n"),
@@ -60,12 +60,6 @@ const STATES: [(&str, &[u8], &str); 18] = [
     ("text", b"\0\0\0\x01\xff", "input refused: state 0\n"),
     ("text", b"\0\0\0\x02\xc3\xa9a", "input refused: state 6\n"),
     ("text", b"\0\0\0\x01a\0\0", "input refused: state 5\n"),
-    ("auth unit", b"", "input refused: state 0\n"),
-    (
-        "auth unit",
-        b"0123456789012345678901234567890",
-        "input refused: state 0\n",
-    ),
     (
         "auth int",
         b"0123456789012345678901234567890123",

