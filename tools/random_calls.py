@@ -3,12 +3,17 @@
 
     tools/random_calls.py crates/lamauth/out/lamauth
     tools/random_calls.py LAMAUTH --seed 7 --programs 100 --altered 10 --jobs 4
+    tools/random_calls.py LAMAUTH --programs 500 --flips 20
 
 Of each program a state is made, and some of its queries and updates are called with random arguments, fuel and numbers of kept pieces.
 `ideal`, `prove`, `verify` and `audit` have to tell the same outcome. The proof has to be the one that its pieces and the number of kept
 pieces determine, which is computed here. Behind an update `verify` has to store what `shallow` stores of the image that `step` stores.
 Of an altered proof both `verify` and `audit` have to tell what is computed here: since no two pieces have one digest, a run is that of
 the honest pieces up to the first that differs, and is rejected there for its cause; or the proof is accepted with the true outcome.
+
+With --flips one byte is changed, in turn of a proof and of an image. An image that is refused has to be refused alike by each command that
+reads one; one that is accepted is another state, of which all commands have to tell the same. What is proved of it is handed to a client of
+the honest state too, who has to reject it, or tell the outcome of that.
 
 Each difference is told with the seed and the number of its program; `--first NUMBER --programs 1 --keep FOLDER` plays that one again and
 keeps its files. The status is 1 where there is a difference.
@@ -152,6 +157,13 @@ def altered(rng, honest):
     return proof
 
 
+def flipped(rng, data):
+    """The same bytes but for one."""
+    data = bytearray(data)
+    data[rng.randrange(len(data))] ^= rng.randrange(1, 256)
+    return bytes(data)
+
+
 def altered_bytes(rng, proof):
     data = bytearray(proof)
     at = rng.randrange(len(data)) if data else 0
@@ -213,6 +225,8 @@ def literal_word(literal):
 class Play:
     """The calls of one program. Lists of commands are yielded, each with the files that it reads, and their results are sent back."""
 
+    alter = staticmethod(altered)
+
     def __init__(self, program, rng, altered_proofs, counts):
         self.program, self.rng, self.altered_proofs, self.counts = program, rng, altered_proofs, counts
         self.text = program.text().encode()
@@ -242,26 +256,38 @@ class Play:
                 self.state = shallow.stored
                 return
 
-    def call(self):
-        """A call of a random role, with its altered proofs; an update leaves both sides with its new state."""
+    def random_call(self):
+        """The kind of a random role, the role, and the words of an argument and fuel."""
         kind = self.rng.choice(["query", "update"])
         role = self.rng.choice(self.program.roles(kind))
-        words = [literal_word(self.program.argument(role)), str(self.rng.choice(FUELS))]
+        return kind, role, [literal_word(self.program.argument(role)), str(self.rng.choice(FUELS))]
+
+    def call(self):
+        """A call of a random role, with its altered proofs; an update leaves both sides with its new state."""
+        kind, role, words = self.random_call()
+        ideal, proof, pieces = yield from self.prove(role, words)
+        self.counts[ideal.text.split()[0]] += 1
+        proofs = [proof] + [self.alter(self.rng, proof) for _ in range(self.altered_proofs)]
+        self.counts["altered proofs"] += self.altered_proofs
+        yield from self.judge(role, words, proofs, ideal, pieces)
+        if kind == "update":
+            yield from self.step(role, words, ideal, proof)
+
+    def prove(self, role, words):
+        """What `ideal` tells of a call, its proof and the pieces of that."""
         kept = self.rng.choice(KEPT)
         ideal, prove = yield [
             self.command("ideal", role, "i", *words, i=self.image),
             self.command("prove", role, "i", *words, str(kept), "o", i=self.image),
         ]
         need(is_outcome(ideal), "ideal", role, *words, ideal)
-        self.counts[ideal.text.split()[0]] += 1
-        pieces = self.proved(prove, kept, ideal, [role, *words])
-        proofs = [prove.stored] + [altered(self.rng, prove.stored) for _ in range(self.altered_proofs)]
-        self.counts["altered proofs"] += self.altered_proofs
+        return ideal, prove.stored, self.proved(prove, kept, ideal, [role, *words])
+
+    def judge(self, role, words, proofs, ideal, pieces):
+        """Has `verify` and `audit` judge proofs of a run that opens these pieces."""
         judged = yield [command for proof in proofs for command in self.judges(role, words, proof)]
         for number, proof in enumerate(proofs):
             self.judged(proof, judged[2 * number : 2 * number + 2], pieces, ideal, [role, *words])
-        if kind == "update":
-            yield from self.step(role, words, ideal, prove.stored)
 
     def proved(self, prove, kept, ideal, call):
         """The pieces of a proof, which has to be the one that they and the number of kept ones determine."""
@@ -305,6 +331,48 @@ class Play:
             self.image, self.state = step.stored, verify.stored
 
 
+class Flips(Play):
+    """The same of proofs and images with one byte changed, as many as there were altered proofs."""
+
+    alter = staticmethod(flipped)
+
+    def __init__(self, program, rng, flips, counts):
+        super().__init__(program, rng, 1, counts)
+        self.flips = flips
+
+    def run(self):
+        yield from self.make()
+        for number in range(self.flips if self.image else 0):
+            yield from (self.flipped_image() if number % 2 else self.call())
+
+    def flipped_image(self):
+        """A call on the state of a changed image, where it has one, by its owner and by a client of the honest state."""
+        honest, image = (self.image, self.state), flipped(self.rng, self.image)
+        _, role, words = self.random_call()
+        ideal, _, pieces = yield from self.prove(role, words)
+        (shallow,) = yield [self.command("shallow", "i", "o", i=image)]
+        self.counts[f"images, {shallow.text.split()[0] if shallow.status == 0 else 'refused'}"] += 1
+        if shallow.status:
+            yield from self.refused(image, role, words, shallow)
+            return
+        need(shallow.text.startswith("state ") and shallow.stored is not None, "shallow", shallow, image.hex())
+        self.image, self.state = image, shallow.stored
+        other, proof, opened = yield from self.prove(role, words)
+        yield from self.judge(role, words, [proof], other, opened)
+        self.image, self.state = honest
+        yield from self.judge(role, words, [proof], ideal, pieces)
+
+    def refused(self, image, role, words, shallow):
+        """Each command that reads an image has to refuse this one alike."""
+        need(shallow.status == 7 and shallow.text.startswith("input refused: image "), "shallow", shallow, image.hex())
+        results = yield [
+            self.command("ideal", role, "i", *words, i=image),
+            self.command("prove", role, "i", *words, "0", "o", i=image),
+            self.command("audit", role, "i", *words, "q", i=image, q=b""),
+        ]
+        need(all(result == shallow for result in results), "an image is refused otherwise", shallow, *results, image.hex())
+
+
 def is_outcome(result):
     return result.status in OUTCOMES and result.text.startswith(OUTCOMES[result.status])
 
@@ -315,8 +383,8 @@ def is_outcome(result):
 class Runner:
     """Runs the built program in a folder of its own."""
 
-    def __init__(self, lamauth, folder):
-        self.lamauth, self.folder, self.lying = lamauth, folder, {}
+    def __init__(self, lamauth, folder, environment=None):
+        self.lamauth, self.folder, self.environment, self.lying = lamauth, folder, environment, {}
 
     def run(self, words, files):
         for name, data in files.items():
@@ -329,7 +397,7 @@ class Runner:
             os.remove(out)
         try:
             done = subprocess.run([self.lamauth, *words], cwd=self.folder, stdout=subprocess.PIPE, stderr=subprocess.STDOUT,
-                                  timeout=120, close_fds=False, check=False)
+                                  env=self.environment, timeout=120, close_fds=False, check=False)
         except subprocess.TimeoutExpired:
             return Result(None, "no answer in 120 seconds", None)
         stored = None
@@ -361,7 +429,7 @@ def play_number(task):
     options, number = task
     program, rng = program_of(options, number)
     counts = collections.Counter(programs=1)
-    play = Play(program, rng, options.altered, counts)
+    play = Flips(program, rng, options.flips, counts) if options.flips else Play(program, rng, options.altered, counts)
     with tempfile.TemporaryDirectory() as folder:
         difference = played(play, Runner(options.lamauth, options.keep or folder).run)
     if difference:
@@ -377,6 +445,7 @@ def main():
     parser.add_argument("--first", type=int, default=0, help="the number of the first program")
     parser.add_argument("--programs", type=int, default=2000)
     parser.add_argument("--altered", type=int, default=4, help="altered proofs of each call")
+    parser.add_argument("--flips", type=int, default=0, help="changed bytes of the proofs and images of each program, and nothing else altered")
     parser.add_argument("--jobs", type=int, default=2)
     parser.add_argument("--keep", help="a folder where the files of one program are kept")
     here = os.path.dirname(os.path.abspath(__file__))
