@@ -6,7 +6,7 @@ use std::alloc::{AllocError, Global};
 use std::test::Fail;
 
 /// The role and the fuel, and the line.
-const ROLES: [[&str; 3]; 12] = [
+static ROLES: [[&str; 3]; 12] = [
     ["close", "1", "input refused: role unknown\n"],
     ["Open", "1", "input refused: role unknown\n"],
     ["open ", "1", "input refused: role unknown\n"],
@@ -45,7 +45,7 @@ fn roles_and_numbers_are_refused(rt: HostRuntime) -> Result<(), Fail> {
 }
 
 /// Types and bytes that are no spelling, with the place of their first fault.
-const STATES: [(&str, &[u8], &str); 16] = [
+static STATES: [(&str, &[u8], &str); 16] = [
     ("unit", b"\0", "input refused: state 0\n"),
     ("bool", b"", "input refused: state 0\n"),
     ("bool", b"\x02", "input refused: state 0\n"),
@@ -94,7 +94,7 @@ fn blanks(alloc: Global, beginning: &[u8], length: usize) -> Result<Vec<u8>, All
 
 /// How long the program and the state are, which query is called on them, and the status and the line. A program has at most 262,144
 /// bytes. The state of an int has 8 bytes; more than 65,536 bytes are no spelling of anything.
-const LONG: [(usize, usize, &str, u8, &str); 5] = [
+static LONG: [(usize, usize, &str, u8, &str); 5] = [
     (262_144, 8, "more", 0, "done 2314885530818453537\n"),
     (262_145, 8, "more", 7, "input refused: too long P\n"),
     (200, 65_536, "open", 7, "input refused: role unknown\n"),
@@ -120,7 +120,7 @@ fn programs_and_states_have_a_greatest_length(rt: HostRuntime) -> Result<(), Fai
 }
 
 /// Texts that are no literals of a type, each with the line of its first fault.
-const LITERALS: [(&str, &str, &str); 44] = [
+static LITERALS: [(&str, &str, &str); 44] = [
     ("unit", "(", "input refused: argument Mismatch 1\n"),
     ("unit", ")", "input refused: argument Mismatch 0\n"),
     ("unit", " ", "input refused: argument Mismatch 1\n"),
@@ -248,7 +248,7 @@ fn a_literal_text_has_a_greatest_length(rt: HostRuntime) -> Result<(), Fail> {
 
 /// Programs, states and words of which two or more are refused: the earlier is told, of the program, the role, the fuel, the state and the
 /// argument. The proof is opened last.
-const ORDER: [(&[u8], &[u8], &[&str], u8, &str); 9] = [
+static ORDER: [(&[u8], &[u8], &[&str], u8, &str); 9] = [
     (
         b"abc",
         &[],

@@ -5,7 +5,7 @@ use std::alloc::{AllocError, Global};
 use std::test::Fail;
 
 /// States at their types, and how they are printed.
-const STATES: [(&str, &[u8], &str); 17] = [
+static STATES: [(&str, &[u8], &str); 17] = [
     ("unit", b"", "done ()\n"),
     ("bool", b"\0", "done false\n"),
     ("bool", b"\x01", "done true\n"),
@@ -67,7 +67,7 @@ fn states_are_printed(rt: HostRuntime) -> Result<(), Fail> {
 }
 
 /// Literals at their types, and how their values are printed.
-const LITERALS: [(&str, &str, &str); 11] = [
+static LITERALS: [(&str, &str, &str); 11] = [
     ("unit", " ( ) ", "done ()\n"),
     ("unit", " ( # a comment\n) ", "done ()\n"),
     ("bool", "true", "done true\n"),
@@ -124,7 +124,7 @@ const FIVE: [u8; 32] = [
 const PIECE: &[u8] = b"LAP1\0\0\0\0\0\0\x08\0\0\0\0\0\0\0\x05";
 
 /// Types at which this piece is read, with the status and the line.
-const PIECES: [(&str, u8, &str); 4] = [
+static PIECES: [(&str, u8, &str); 4] = [
     ("int", 0, "done 5\n"),
     ("bool", 5, "rejected bad-piece 0 1\n"),
     ("text", 5, "rejected bad-piece 0 4\n"),
