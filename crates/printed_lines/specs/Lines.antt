@@ -25,7 +25,7 @@ use Rattle.printed_lines.specs.declared.refusal.Argument.TheVariants as argument
 use Rattle.printed_lines.specs.declared.refusal.ImageKind.{ImageKind}
 use Rattle.printed_lines.specs.declared.refusal.ImageKind.TheVariants as image
 use Rattle.printed_lines.specs.declared.refusal.InputFault.{InputFault}
-use Rattle.printed_lines.specs.declared.refusal.InputFault.TheVariants.{TooLong, LibraryUnknown, RoleUnknown, RoleKind, Number, State, Literal, Image}
+use Rattle.printed_lines.specs.declared.refusal.InputFault.TheVariants.{TooLong, LibraryUnknown, RoleUnknown, RoleKind, Number, State, Literal, Image, Script}
 use Rattle.printed_lines.specs.declared.refusal.Refusal.{Refusal}
 use Rattle.printed_lines.specs.declared.refusal.Refusal.TheVariants as refusal
 
@@ -101,6 +101,7 @@ argument_name argument.Count = codes "COUNT"
 argument_name argument.Port = codes "PORT"
 argument_name argument.Connections = codes "CONNS"
 argument_name argument.Slice = codes "SLICE"
+argument_name argument.Script = codes "SCRIPT"
 
 -- why bytes are no image
 abbrev pub image_text : ImageKind → List ℕ
@@ -123,6 +124,7 @@ input_text (Number argument) = codes "number" ++ word (argument_name argument)
 input_text (State offset) = codes "state" ++ also offset
 input_text (Literal kind offset) = codes "argument" ++ (word (literal_name kind) ++ also offset)
 input_text (Image kind) = image_text kind
+input_text (Script line) = codes "script" ++ also line
 
 -- that a frame names a kept piece which isn't there
 abbrev pub bad_use_text : ℕ → ℕ → ℕ → List ℕ

@@ -68,6 +68,7 @@ fn input_text(alloc: Global, fault: InputFault) -> Result<String, AllocError>
             format!(in alloc; "argument {kind} {offset}")
         }
         InputFault::Image(kind) => image_text(alloc, kind),
+        InputFault::Script(line) => format!(in alloc; "script {line}"),
     }
 }
 
