@@ -10,3 +10,7 @@ pub mod Steps
 pub mod HeardReplies
 -- what a line that asks does: `ask`
 pub mod Asked
+-- a play as a run of the client: the law `plays_tell_truth`
+pub mod Runs
+-- a line behind others, and bytes that moved: `ask_and_wait`, `let_run`, `play_step`, `play`
+pub mod Played

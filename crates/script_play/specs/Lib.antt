@@ -1,4 +1,5 @@
 pub mod Plays
+pub mod PlayRuns
 pub mod DeedLines
 pub mod PlayRows
 pub mod Playing

@@ -1,5 +1,5 @@
 -- What the code of a play does outside, against the play of the definition.
-use Rattle.std.specs.Prelude.{◌≡◌, ℕ, ◌≤◌, Bool, true, false, List, [], ◌∷◌, ◌++◌, take, Option, Some, Result, Ok, Err, ⊤}
+use Rattle.std.specs.Prelude.{◌≡◌, ℕ, Bool, true, false, List, [], ◌∷◌, ◌++◌, take, Option, Some, Result, Ok, Err, ⊤}
 use Rattle.std.specs.Option.{option_or}
 use Rattle.std.specs.Io.KnownBytes.{append_known}
 use Rattle.lam_outside.specs.Causes.{Rose}
@@ -11,7 +11,6 @@ use Rattle.code_gen.specs.declared.code.Code.{Code}
 use Rattle.printed_syntax.specs.Literals.{ConstructorNames}
 use Rattle.session_meaning.specs.Client as meant
 use Rattle.session_meaning.specs.Messages.{Messages, NoMore, Then, Reply, Request, reply_of, messages, request_bytes}
-use Rattle.ask_script.specs.Scripts.{UserStep, Opens, Calls, Goes, Closes, most_fuel, most_session}
 use Rattle.wire_form.specs.MessageViews.{request_meant}
 use Rattle.wire_form.specs.declared.message.Request.{Request as AskedRequest}
 use Rattle.ask_core.specs.Answers.{fault_told}
@@ -165,10 +164,3 @@ PlayCause link link' sink sink' (Err Ended) = (link' ≡ link) × (sink' ≡ sin
 PlayCause link link' sink sink' (Err LinkFault) = Rose link link' × (sink' ≡ sink)
 PlayCause link link' sink sink' (Err NoMemory) = (link' ≡ link) × (sink' ≡ sink)
 PlayCause link link' sink sink' (Err WriteFault) = (link' ≡ link) × Rose sink sink'
-
--- the numbers of a step are those that a client takes
-abbrev pub IsInRange : UserStep → Type 0
-IsInRange (Opens session kept) = (1 ≤ session) × (session ≤ most_session) × (kept ≤ 1024)
-IsInRange (Calls session role fuel argument) = (1 ≤ session) × (session ≤ most_session) × (fuel ≤ most_fuel)
-IsInRange Goes = Unit {0}
-IsInRange (Closes session) = (1 ≤ session) × (session ≤ most_session)

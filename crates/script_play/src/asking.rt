@@ -37,6 +37,7 @@ pub fn ask<L: Link, O: Sink>(
         (asked_play t session ms rests) result }
     ensures sends { IfOk result (λ sent. (t : Taken) → Answers (λ c. Unit {0}) t answered → sent ≡ is_sending t.answer) }
     ensures memory { IfOk result (λ sent. IsAnswered answered) }
+    ensures given { L.given link.new ≡ L.given link.old }
     ensures left { L.left link.new ≡ L.left link.old }
     ensures beyond { L.beyond link.new ≡ L.beyond link.old }
     ensures cause { PlayCause (L.faults link.old) (L.faults link.new) (O.faults out.old) (O.faults out.new) result }
@@ -70,9 +71,10 @@ fn refused(alloc: Global, session: u16, fault: AskFault) -> Result<Telling, Allo
 }
 
 /// Sends a request.
-fn send<L: Link>(alloc: Global, link: &mut L, request: &Request) -> Result<(), Halt>
+pub fn send<L: Link>(alloc: Global, link: &mut L, request: &Request) -> Result<(), Halt>
     requires { IsRequest (request_meant request.now) }
     ensures sends { SendsRequest (request_meant request.now) (L.sent link.old) (L.sent link.new) result }
+    ensures given { L.given link.new ≡ L.given link.old }
     ensures left { L.left link.new ≡ L.left link.old }
     ensures beyond { L.beyond link.new ≡ L.beyond link.old }
     ensures cause { (sink : ℕ) → PlayCause (L.faults link.old) (L.faults link.new) sink sink result }

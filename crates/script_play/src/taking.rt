@@ -3,6 +3,7 @@ ghost use Rattle.std.specs.Prelude.{◌≡◌, ◌<◌, ℕ, true, IfOk, IfErr, 
 ghost use Rattle.mode_vm.specs.Meanings.{program_of};
 ghost use Rattle.session_meaning.specs.Client.{Client};
 ghost use Rattle.session_meaning.specs.Messages.{Messages, Reply};
+ghost use Rattle.wire_form.specs.MovedBytes.{Moves};
 ghost use Rattle.ask_core.specs.Sessions.{StandsFor, StandsForSome, sessions_waiting};
 ghost use Rattle.script_play.specs.Plays.{take_replies};
 ghost use Rattle.script_play.specs.Playing.{AreComing, IsCutShort, PlayCause, PlaysAs, names_of, own_of, take_one, waits_for, world};
@@ -55,6 +56,7 @@ pub fn take_replies<H: Hash32, L: Link, O: Sink>(
         (take_replies H.hash (program_of code) (own_of code) (waits_for whose) c ms) result }
     ensures known { StandsForSome core.new }
     ensures code { core.new.code ≡ core.old.code }
+    ensures moves { Moves (L.given link.old) (L.left link.old) (L.given link.new) (L.left link.new) }
     ensures beyond { L.beyond link.new ≡ L.beyond link.old }
     ensures cause { PlayCause (L.faults link.old) (L.faults link.new) (O.faults out.old) (O.faults out.new) result }
 {
@@ -80,6 +82,7 @@ fn take_one<H: Hash32, L: Link, O: Sink>(
     ensures fewer { OnOk result (sessions_waiting core.new < sessions_waiting core.old) }
     ensures known { StandsForSome core.new }
     ensures code { core.new.code ≡ core.old.code }
+    ensures moves { Moves (L.given link.old) (L.left link.old) (L.given link.new) (L.left link.new) }
     ensures beyond { L.beyond link.new ≡ L.beyond link.old }
     ensures cause { PlayCause (L.faults link.old) (L.faults link.new) (O.faults out.old) (O.faults out.new) result }
 {
@@ -101,6 +104,7 @@ fn next_telling<H: Hash32, L: Link>(
     ensures known { StandsForSome core.new }
     ensures code { core.new.code ≡ core.old.code }
     ensures sent { L.sent link.new ≡ L.sent link.old }
+    ensures moves { Moves (L.given link.old) (L.left link.old) (L.given link.new) (L.left link.new) }
     ensures beyond { L.beyond link.new ≡ L.beyond link.old }
     ensures cause { (sink : ℕ) → PlayCause (L.faults link.old) (L.faults link.new) sink sink result }
 {

@@ -4,6 +4,8 @@ use Rattle.verifier_mode.proofs.Given.{gives_with}
 use Rattle.ask_core.specs.Sessions.{StandsFor}
 use Rattle.script_play.specs.Plays.{take_replies}
 use Rattle.script_play.specs.Playing.{PlaysAs, names_of, own_of, take_one, waits_for, world}
+use Rattle.wire_form.proofs.Moving.{moves_on}
+use Rattle.script_play.proofs.Played.{none_moved}
 use Rattle.script_play.proofs.Worlds.{begins_so, ends_so, goes_on_so, halts_so, waits_more, waits_no_more}
 use Rattle.script_play.proofs.taking.take_replies.Goals as goal
 
@@ -11,6 +13,7 @@ pub loop-alloc-init : goal.loop-alloc-init
 loop-alloc-init g c = record {
   known = c.requires.known;
   code = refl;
+  moves = none_moved (g.L.Source.given c.args.link.now) (g.L.Source.left c.args.link.now);
   beyond = refl;
   faults = refl;
   sink = refl;
@@ -34,6 +37,7 @@ loop-alloc-preserved g c =
     record {
       known = c.in_ok-take_one.ensures.known;
       code = c.in_ok-take_one.ensures.code ∙ before.code;
+      moves = moves_on _ _ _ _ _ _ before.moves c.in_ok-take_one.ensures.moves;
       beyond = c.in_ok-take_one.ensures.beyond ∙ before.beyond;
       faults = c.in_ok-take_one.ensures.cause.0 ∙ before.faults;
       sink = c.in_ok-take_one.ensures.cause.1 ∙ before.sink;
@@ -84,3 +88,6 @@ returns-clause-plays g c m ms is comes =
     ends_so P (names_of code) (take_replies hash P own (waits_for c.args.whose) m ms) (take_replies hash P own (waits_for c.args.whose)) (StandsFor c.loop-alloc.core)
     (g.L.Source.left c.loop-alloc.link) first here far
     (waits_no_more hash P own (waits_for c.args.whose) far.client far.coming (sym (c.waits.ensures far.client far.stands) ∙ c.loop-alloc-test.false)) (tt {0})
+
+pub returns-in_err-take_one-clause-moves : goal.returns-in_err-take_one-clause-moves
+returns-in_err-take_one-clause-moves g c = moves_on _ _ _ _ _ _ c.loop-alloc.invariant.moves c.in_err-take_one.ensures.moves

@@ -2,6 +2,7 @@ use Rattle.std.proofs.Common.{◌≡◌}
 use Rattle.mode_vm.specs.Meanings.{program_of}
 use Rattle.session_meaning.specs.Client.{Client}
 use Rattle.session_meaning.specs.Messages.{Messages, Reply}
+use Rattle.wire_form.specs.MovedBytes.{Moves}
 use Rattle.ask_core.specs.Sessions.{StandsFor, StandsForSome, sessions_waiting}
 use Rattle.script_play.specs.Plays.{take_replies}
 use Rattle.script_play.specs.Playing.{AreComing, names_of, own_of, waits_for, world}
@@ -12,6 +13,7 @@ abbrev pub invariant-loop-alloc : goal.invariant-loop-alloc
 invariant-loop-alloc g l = record {
   known : StandsForSome l.core;
   code : l.core.code ≡ l.fn.core.code;
+  moves : Moves (g.L.Source.given l.fn.link) (g.L.Source.left l.fn.link) (g.L.Source.given l.link) (g.L.Source.left l.link);
   beyond : g.L.Link.beyond l.link ≡ g.L.Link.beyond l.fn.link;
   faults : g.L.Source.faults l.link ≡ g.L.Source.faults l.fn.link;
   sink : g.O.Sink.faults l.out ≡ g.O.Sink.faults l.fn.out;
