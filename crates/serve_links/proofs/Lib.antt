@@ -9,4 +9,6 @@ mod Answering
 -- a connection: serve_link
 mod SoFar
 -- links one after another: serve_next, serve_links
-mod Linking
+pub mod Linking
+-- the laws: links
+mod LinkHistories

@@ -23,18 +23,18 @@ use Rattle.serve_links.specs.declared.connection.ConnectionEnd.{ConnectionEnd}
 use Rattle.serve_links.specs.declared.connection.ConnectionEnd.TheVariants as connection
 
 -- What is told of the link that stands, where the links are told.
-record IsTold (ended : Option (List Linked)) (port : ℕ) (given left sent : Option (List ℕ)) (after : List Linked) : Type 0 where
-  before : List Linked
-  read : List ℕ
-  rest : List ℕ
-  out : List ℕ
-  ended_is : ended ≡ Some before
-  given_is : given ≡ Some read
-  left_is : left ≡ Some rest
-  sent_is : sent ≡ Some out
-  all : after ≡ before ++ record { port = port; given = read; left = rest; sent = out } ∷ []
+pub record IsTold (ended : Option (List Linked)) (port : ℕ) (given left sent : Option (List ℕ)) (after : List Linked) : Type 0 where
+  pub before : List Linked
+  pub read : List ℕ
+  pub rest : List ℕ
+  pub out : List ℕ
+  pub ended_is : ended ≡ Some before
+  pub given_is : given ≡ Some read
+  pub left_is : left ≡ Some rest
+  pub sent_is : sent ≡ Some out
+  pub all : after ≡ before ++ record { port = port; given = read; left = rest; sent = out } ∷ []
 
-told : (ended : Option (List Linked)) (port : ℕ) (given left sent : Option (List ℕ)) (after : List Linked) → links_so_far ended (Some port) given left sent ≡ Some after
+pub told : (ended : Option (List Linked)) (port : ℕ) (given left sent : Option (List ℕ)) (after : List Linked) → links_so_far ended (Some port) given left sent ≡ Some after
     → IsTold ended port given left sent after
 told (Some before) port (Some read) (Some rest) (Some out) after is =
     record { before = before; read = read; rest = rest; out = out; ended_is = refl; given_is = refl; left_is = refl; sent_is = refl; all = sym (cc (is)) }
@@ -44,7 +44,7 @@ told (Some before) port (Some read) None sent after is = absurd (let clash : Non
 told (Some before) port (Some read) (Some rest) None after is = absurd (let clash : None ≡ Some after = is in cc)
 
 -- bytes behind nothing are these bytes, where they are told
-from_nothing : (first given : Option (List ℕ)) (more all : List ℕ) → first ≡ nothing_yet given → Some all ≡ append_known first more → all ≡ more
+pub from_nothing : (first given : Option (List ℕ)) (more all : List ℕ) → first ≡ nothing_yet given → Some all ≡ append_known first more → all ≡ more
 from_nothing first (Some bytes) more all none is =
     let e : Some all ≡ Some more = is ∙ ap (λ w. append_known w more) none in cc
 from_nothing first None more all none is = absurd (let clash : Some all ≡ None = is ∙ ap (λ w. append_known w more) none in cc)

@@ -6,6 +6,7 @@
 
 mod connection;
 mod halt;
+pub mod laws;
 mod message;
 mod net;
 mod sending;
