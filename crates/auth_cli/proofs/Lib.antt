@@ -10,8 +10,13 @@ pub mod ServePrepared  -- `begin`, `last_image`
 pub mod ServeGone  -- `listen_and_serve`
 pub mod ServeCourses  -- `listen_and_serve`
 pub mod ServeRuns  -- `serve_command`
+pub mod ServedVersions  -- the law `served_versions`
 pub mod ServeStored  -- `store_last`, `tell_unstored`
 pub mod ServeTexts  -- `listen_and_serve`, `serve`: texts behind one another
+pub mod AskReading  -- `steps_in`, `read_script_file`
+pub mod AskLinks  -- `ask`: the link that was made, and the play on it
+pub mod AskCounted  -- `ask_command`: clauses `counts`, `possible`
+pub mod AskRuns  -- `ask_command`: clauses `ends`, `reached`
 pub mod ServeCounted  -- `serve_command`: clauses `counts`, `possible`
 pub mod LineSteps  -- `gen_command`, `find_sums`, `read_numbers`, `generate`, `workload_of`, `put_role`, `get_role`
 pub mod Workloads  -- `find_sums`, `generate`, `run_and_tell`, `sums_report`

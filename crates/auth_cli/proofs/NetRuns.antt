@@ -3,16 +3,18 @@ use Rattle.std.proofs.Common.{◌≡◌, ◌≢◌, ◌⊎◌, ◌↔◌, ◌<�
 use Rattle.std.specs.Option.{ForSome}
 use Rattle.command_words.specs.Invocations.{Invocation, invocation_of}
 use Rattle.command_words.specs.declared.command.Command.{Command}
-use Rattle.command_words.specs.declared.command.Command.TheVariants.{Check, Init, Ideal, Step, Shallow, Prove, Verify, Audit, Library, Gen, Serve}
+use Rattle.command_words.specs.declared.command.Command.TheVariants.{Check, Init, Ideal, Step, Shallow, Prove, Verify, Audit, Library, Gen, Serve, Ask}
 use Rattle.lam_outside.specs.Causes.{Rose}
 use Rattle.lam_outside.specs.Told.{Contents, Names}
 use Rattle.auth_cli.specs.Answer.{Answer, answer, answer_with, called_answer, usage_answer}
+use Rattle.auth_cli.specs.Asking.{AskCounts, IsAsk}
 use Rattle.auth_cli.specs.Codes.{code}
 use Rattle.auth_cli.specs.Ending.{EndsAs, Outside}
 use Rattle.auth_cli.specs.NetFaults.{NetFaults, NetRose}
-use Rattle.auth_cli.specs.NetRuns.{EndsCommand, EndsRun, IsOffline, IsReadFaultAt, UsesNoNet}
+use Rattle.auth_cli.specs.NetRuns.{CallsNoDial, CallsNoListen, DialsNone, EndsCommand, EndsRun, IsOffline, IsReadFaultAt, ListensToNone, UsesNoNet}
 use Rattle.auth_cli.specs.Reaching.{IsReached, ReachedAt}
-use Rattle.auth_cli.specs.Serving.{CountsBy, IsServe, NetSeen, ServeCounts}
+use Rattle.auth_cli.specs.OnlineRuns.{CountsBy, NetSeen}
+use Rattle.auth_cli.specs.Serving.{IsServe, ServeCounts}
 use Rattle.auth_cli.specs.TrueLines.{IsTrueLine}
 use Rattle.auth_cli.specs.declared.status.Status.{Status}
 use Rattle.auth_cli.specs.declared.status.Status.TheVariants as status
@@ -21,19 +23,20 @@ use Rattle.auth_cli.proofs.TrueLine.{true_line}
 
 -- ---- commands
 
--- all commands but `serve`
-pub not_serve : (command : Command) → command ≢ Serve → UsesNoNet command
-not_serve Check offline = tt
-not_serve Init offline = tt
-not_serve Ideal offline = tt
-not_serve Step offline = tt
-not_serve Shallow offline = tt
-not_serve Prove offline = tt
-not_serve Verify offline = tt
-not_serve Audit offline = tt
-not_serve Library offline = tt
-not_serve Gen offline = tt
-not_serve Serve other = absurd (other refl)
+-- all commands but `serve` and `ask`
+pub not_online : (command : Command) → command ≢ Serve → command ≢ Ask → UsesNoNet command
+not_online Check no_serve no_ask = tt
+not_online Init no_serve no_ask = tt
+not_online Ideal no_serve no_ask = tt
+not_online Step no_serve no_ask = tt
+not_online Shallow no_serve no_ask = tt
+not_online Prove no_serve no_ask = tt
+not_online Verify no_serve no_ask = tt
+not_online Audit no_serve no_ask = tt
+not_online Library no_serve no_ask = tt
+not_online Gen no_serve no_ask = tt
+not_online Serve no_serve no_ask = absurd (no_serve refl)
+not_online Ask no_serve no_ask = absurd (no_ask refl)
 
 module _ (texts : List (List ℕ)) (old new : Outside) (net net' : NetSeen) (ended : Status) where
   -- such a command ends by its answer
@@ -49,6 +52,7 @@ module _ (texts : List (List ℕ)) (old new : Outside) (net net' : NetSeen) (end
   ends_offline Library offline ends same = (ends, same)
   ends_offline Gen offline ends same = (ends, same)
   ends_offline Serve offline ends same = absurd offline
+  ends_offline Ask offline ends same = absurd offline
 
   command_offline : (command : Command) → UsesNoNet command → EndsCommand command texts old new net net' ended → EndsAs (answer_with command texts) old new ended
   command_offline Check offline ends = ends.0
@@ -62,11 +66,12 @@ module _ (texts : List (List ℕ)) (old new : Outside) (net net' : NetSeen) (end
   command_offline Library offline ends = ends.0
   command_offline Gen offline ends = ends.0
   command_offline Serve offline ends = absurd offline
+  command_offline Ask offline ends = absurd offline
 
--- it ended by an answer, with the net's counts as they were; or as `serve` does, whose counts tell its status
+-- it ended by an answer, with the net's counts as they were; or as `serve` or `ask` does, whose counts tell its status
 abbrev IsCounted : (old new : Outside) → (net net' : NetSeen) → Status → Type 0
 IsCounted old new net net' ended =
-    ((found : Contents → Option Answer) × EndsAs found old new ended × (net' ≡ net)) ⊎ ServeCounts old new net.faults net'.faults ended
+    ((found : Contents → Option Answer) × EndsAs found old new ended × (net' ≡ net)) ⊎ CountsBy old new net.faults net'.faults ended
 
 command_counted : (command : Command) (texts : List (List ℕ)) (old new : Outside) (net net' : NetSeen) (ended : Status) → EndsCommand command texts old new net net' ended
     → IsCounted old new net net' ended
@@ -80,7 +85,8 @@ command_counted Verify texts old new net net' ended ends = inl (answer_with Veri
 command_counted Audit texts old new net net' ended ends = inl (answer_with Audit texts, ends.0, ends.1)
 command_counted Library texts old new net net' ended ends = inl (answer_with Library texts, ends.0, ends.1)
 command_counted Gen texts old new net net' ended ends = inl (answer_with Gen texts, ends.0, ends.1)
-command_counted Serve texts old new net net' ended ends = inr ends.1
+command_counted Serve texts old new net net' ended ends = inr ends.1.by_status
+command_counted Ask texts old new net net' ended ends = inr ends.1.by_status
 
 -- ---- runs
 
@@ -107,6 +113,13 @@ pub run_serves : (found : Option Invocation) (called : Invocation) (old new : Ou
 run_serves found called old new net net' ended is serve ends =
     let run = subst (λ (found : Option Invocation). EndsRun found old new net net' ended) is ends in
     (subst (λ (command : Command). EndsCommand command called.texts old new net net' ended) serve run).0
+
+-- and one of `ask`
+pub run_asks : (found : Option Invocation) (called : Invocation) (old new : Outside) (net net' : NetSeen) (ended : Status) → found ≡ Some called → called.command ≡ Ask
+    → EndsRun found old new net net' ended → IsAsk called.texts old new net net' ended
+run_asks found called old new net net' ended is ask ends =
+    let run = subst (λ (found : Option Invocation). EndsRun found old new net net' ended) is ends in
+    (subst (λ (command : Command). EndsCommand command called.texts old new net net' ended) ask run).0
 
 counted : (found : Option Invocation) (old new : Outside) (net net' : NetSeen) (ended : Status) → EndsRun found old new net net' ended → IsCounted old new net net' ended
 counted None old new net net' ended ends = inl ((λ files. Some usage_answer), ends.0, ends.1)
@@ -151,6 +164,14 @@ run_memory (Some called) old new net net' ended ends same = by called.command
         dials = ap (λ (n : NetSeen). n.faults.dials) same;
       },
     )
+    by Ask = (
+      inl (ends (answer_with Ask called.texts), same),
+      record {
+        by_status = ends_counted (answer_with Ask called.texts) old new net net' ended (ends (answer_with Ask called.texts)) same;
+        listens = ap (λ (n : NetSeen). n.faults.listens) same;
+        accepts = ap (λ (n : NetSeen). n.faults.accepts) same;
+      },
+    )
     by Check = (ends (answer_with Check called.texts), same)
     by Init = (ends (answer_with Init called.texts), same)
     by Ideal = (ends (answer_with Ideal called.texts), same)
@@ -193,7 +214,7 @@ module _ (old new : Outside) (net net' : NetSeen) where
   pub run_fault : (found : Option Invocation) (ended : Status) → EndsRun found old new net net' ended → code ended ≡ 8 → Rose old.read_faults new.read_faults ⊎ NetRose net.faults net'.faults
   run_fault found ended ends is = elim (counted found old new net net' ended ends) [
     | inl offline ↦ inl (fault_rose offline.0 old new ended offline.1 is)
-    | inr serve ↦ serve_fault ended serve.by_status is
+    | inr serve ↦ serve_fault ended serve is
   ]
 
   -- and there, 9 and 10 aside
@@ -225,7 +246,7 @@ module _ (old new : Outside) (net net' : NetSeen) where
         → (code ended ≡ 8) ⊎ ((code ended ≡ 9) ⊎ (code ended ≡ 10))
     run_rose found ended ends rose = elim (counted found old new net net' ended ends) [
       | inl offline ↦ offline_rose ended offline.0 offline.1 offline.2 rose
-      | inr serve ↦ serve_rose ended serve.by_status rose
+      | inr serve ↦ serve_rose ended serve rose
     ]
 
   -- 9 exactly where the count of the sink or of `store` rose
@@ -257,15 +278,52 @@ module _ (old new : Outside) (net net' : NetSeen) where
         → (code ended ≡ 9) ↔ (Rose old.write_faults new.write_faults ⊎ Rose old.store_faults new.store_faults)
     run_writes found ended ends = elim (counted found old new net net' ended ends) [
       | inl offline ↦ write_told offline.0 old new writes stores ended offline.1
-      | inr serve ↦ serve_writes ended serve.by_status
+      | inr serve ↦ serve_writes ended serve
     ]
 
-  -- and nothing is dialled
-  pub run_dials : (found : Option Invocation) (ended : Status) → EndsRun found old new net net' ended → net'.faults.dials ≡ net.faults.dials
-  run_dials found ended ends = elim (counted found old new net net' ended ends) [
-    | inl offline ↦ ap (λ (n : NetSeen). n.faults.dials) offline.2
-    | inr serve ↦ serve.dials
-  ]
+  -- `ask` alone dials
+  command_dials : (command : Command) (texts : List (List ℕ)) (ended : Status) → DialsNone command → EndsCommand command texts old new net net' ended → net'.faults.dials ≡ net.faults.dials
+  command_dials Ask texts ended none ends = absurd none
+  command_dials Serve texts ended none ends = ends.1.dials
+  command_dials Check texts ended none ends = ap (λ (n : NetSeen). n.faults.dials) ends.1
+  command_dials Init texts ended none ends = ap (λ (n : NetSeen). n.faults.dials) ends.1
+  command_dials Ideal texts ended none ends = ap (λ (n : NetSeen). n.faults.dials) ends.1
+  command_dials Step texts ended none ends = ap (λ (n : NetSeen). n.faults.dials) ends.1
+  command_dials Shallow texts ended none ends = ap (λ (n : NetSeen). n.faults.dials) ends.1
+  command_dials Prove texts ended none ends = ap (λ (n : NetSeen). n.faults.dials) ends.1
+  command_dials Verify texts ended none ends = ap (λ (n : NetSeen). n.faults.dials) ends.1
+  command_dials Audit texts ended none ends = ap (λ (n : NetSeen). n.faults.dials) ends.1
+  command_dials Library texts ended none ends = ap (λ (n : NetSeen). n.faults.dials) ends.1
+  command_dials Gen texts ended none ends = ap (λ (n : NetSeen). n.faults.dials) ends.1
+
+  pub run_dials : (found : Option Invocation) (ended : Status) → CallsNoDial found → EndsRun found old new net net' ended → net'.faults.dials ≡ net.faults.dials
+  run_dials None ended none ends = ap (λ (n : NetSeen). n.faults.dials) ends.1
+  run_dials (Some called) ended none ends = command_dials called.command called.texts ended none ends
+
+  -- `serve` alone listens, and accepts
+  abbrev Listens : Type 0
+  Listens = (net'.faults.listens ≡ net.faults.listens) × (net'.faults.accepts ≡ net.faults.accepts)
+
+  listens_as_before : net' ≡ net → Listens
+  listens_as_before same = (ap (λ (n : NetSeen). n.faults.listens) same, ap (λ (n : NetSeen). n.faults.accepts) same)
+
+  command_listens : (command : Command) (texts : List (List ℕ)) (ended : Status) → ListensToNone command → EndsCommand command texts old new net net' ended → Listens
+  command_listens Serve texts ended none ends = absurd none
+  command_listens Ask texts ended none ends = (ends.1.listens, ends.1.accepts)
+  command_listens Check texts ended none ends = listens_as_before ends.1
+  command_listens Init texts ended none ends = listens_as_before ends.1
+  command_listens Ideal texts ended none ends = listens_as_before ends.1
+  command_listens Step texts ended none ends = listens_as_before ends.1
+  command_listens Shallow texts ended none ends = listens_as_before ends.1
+  command_listens Prove texts ended none ends = listens_as_before ends.1
+  command_listens Verify texts ended none ends = listens_as_before ends.1
+  command_listens Audit texts ended none ends = listens_as_before ends.1
+  command_listens Library texts ended none ends = listens_as_before ends.1
+  command_listens Gen texts ended none ends = listens_as_before ends.1
+
+  pub run_listens : (found : Option Invocation) (ended : Status) → CallsNoListen found → EndsRun found old new net net' ended → Listens
+  run_listens None ended none ends = listens_as_before ends.1
+  run_listens (Some called) ended none ends = command_listens called.command called.texts ended none ends
 
 -- ---- the headline, and read faults
 
@@ -275,11 +333,11 @@ pub true_run : (line : List (List ℕ)) (old new : Outside) (net net' : NetSeen)
 true_run line old new net net' ended ends files known r state argument proof out calls tells =
     true_line line old new ended (run_offline line old new net net' ended (called_offline (invocation_of line) _ calls.words tt) ends) files known r state argument proof out calls tells
 
--- what is said of a read fault of `serve`
-pub serve_read : (command : Command) (texts : List (List ℕ)) (contents : Option Contents) (asked : Option Names) (before now : ℕ) (ended : Status) → command ≡ Serve
-    → (now ≡ before) ⊎ IsReached (answer_with Serve texts) contents asked → IsReadFaultAt (answer_with command texts) contents asked before now ended
-serve_read command texts contents asked before now ended serve reached is =
-    subst (λ (command : Command). (now ≡ before) ⊎ IsReached (answer_with command texts) contents asked) (sym serve) reached
+-- what is said of a read fault of a command that is known
+pub online_read : (command known : Command) (texts : List (List ℕ)) (contents : Option Contents) (asked : Option Names) (before now : ℕ) (ended : Status) → command ≡ known
+    → (now ≡ before) ⊎ IsReached (answer_with known texts) contents asked → IsReadFaultAt (answer_with command texts) contents asked before now ended
+online_read command known texts contents asked before now ended is_known reached is =
+    subst (λ (command : Command). (now ≡ before) ⊎ IsReached (answer_with command texts) contents asked) (sym is_known) reached
 
 module _ (answer : Contents → Option Answer) (contents : Option Contents) (asked : Option Names) (before now : ℕ) (ended : Status) where
   -- what is said of a read fault, where each file but the one asked for last was read

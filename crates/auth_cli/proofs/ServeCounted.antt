@@ -6,29 +6,8 @@ use Rattle.lam_outside.specs.Told.{Contents, Stores}
 use Rattle.auth_cli.specs.Answer.{Answer, Serving}
 use Rattle.auth_cli.specs.Ending.{EndsAnswered, EndsAs, Outside}
 use Rattle.auth_cli.specs.NetFaults.{NetFaults, NetRose}
-use Rattle.auth_cli.specs.Serving.{
-  Course,
-  CountsBy,
-  EndsServing,
-  HasFaults,
-  IsListening,
-  IsStored,
-  IsStoredBy,
-  IsTooLong,
-  LacksMemory,
-  NetSeen,
-  NotListening,
-  NotWritten,
-  ServeCounts,
-  Served,
-  Storage,
-  StoreFails,
-  TellsPart,
-  TellsWhole,
-  WithoutMemory,
-  course_status,
-  storage_status,
-}
+use Rattle.auth_cli.specs.OnlineRuns.{CountsBy, NetSeen}
+use Rattle.auth_cli.specs.Serving.{Course, EndsServing, HasFaults, IsListening, IsStored, IsStoredBy, IsTooLong, LacksMemory, NotListening, NotWritten, ServeCounts, Served, Storage, StoreFails, TellsPart, TellsWhole, WithoutMemory, course_status, storage_status}
 use Rattle.auth_cli.specs.Statuses.{MayAnswer}
 use Rattle.auth_cli.specs.declared.status.Status.{Status}
 use Rattle.auth_cli.specs.declared.status.Status.TheVariants as status
@@ -39,7 +18,7 @@ module _ (answer : Contents → Option Answer) (old new : Outside) (net : NetFau
   answered : (ended : Status) → EndsAnswered answer old new ended → (new.read_faults ≡ old.read_faults) × (net ≡ net) × (new.store_faults ≡ old.store_faults) × (new.write_faults ≡ old.write_faults)
   answered ended ends = (ends.reads, refl, ends.stores, ends.writes)
 
-  unserved_by : (ended : Status) → EndsAs answer old new ended → CountsBy old new net net ended
+  pub unserved_by : (ended : Status) → EndsAs answer old new ended → CountsBy old new net net ended
   unserved_by status.ReadFault ends = (inl ends.rose, ends.stores, ends.writes)
   unserved_by status.WriteFault (inl fails) = inl fails.rose
   unserved_by status.WriteFault (inr fails) = inr fails.rose

@@ -22,7 +22,8 @@ use Rattle.auth_cli.specs.Answer.{Serving}
 use Rattle.auth_cli.specs.NetFaults.{NetFaults}
 use Rattle.auth_cli.specs.ReadPrograms.{digested_of}
 use Rattle.auth_cli.specs.ServeSteps.{IsEndTold, TellsCourse}
-use Rattle.auth_cli.specs.Serving.{HasFaults, NetSeen, Served, WithoutMemory, count_lines, course_status, first_server, server_lines}
+use Rattle.auth_cli.specs.OnlineRuns.{NetSeen}
+use Rattle.auth_cli.specs.Serving.{HasFaults, Served, WithoutMemory, count_lines, course_status, first_server, server_lines}
 use Rattle.auth_cli.specs.Telling.{TellsText}
 use Rattle.auth_cli.specs.declared.status.Status.{Status}
 use Rattle.auth_cli.specs.declared.status.Status.TheVariants as status

@@ -17,13 +17,14 @@ use Rattle.auth_cli.specs.Answer.{Serving}
 use Rattle.auth_cli.specs.FueledRoles.{DigestedProgram}
 use Rattle.auth_cli.specs.NetFaults.{NetFaults}
 use Rattle.auth_cli.specs.ReadPrograms.{digested_of}
-use Rattle.auth_cli.specs.Serving.{AreMade, AreServedLacking, AreServedOn, Course, HasFaults, HasGone, HasMade, MakesLinks, NetSeen, NotListening, NotWritten, Served, WithoutMemory, first_server, listened_behind}
+use Rattle.auth_cli.specs.OnlineRuns.{NetSeen}
+use Rattle.auth_cli.specs.Serving.{AreMade, AreServedLacking, AreServedOn, Course, HasFaults, HasGone, HasMade, MakesLinks, NotListening, NotWritten, Served, WithoutMemory, first_server, listened_behind}
 
 pub same_links : (ended ended' : Option (List Linked)) (linked linked' : Option ℕ) (given given' left left' sent sent' : Option (List ℕ))
     → ended' ≡ ended → linked' ≡ linked → given' ≡ given → left' ≡ left → sent' ≡ sent → links_so_far ended' linked' given' left' sent' ≡ links_so_far ended linked given left sent
 same_links ended ended' linked linked' given given' left left' sent sent' a b c d e = rw (a, b, c, d, e) refl
 
-abbrev counts_as : (links listens accepts dials : ℕ) → NetFaults
+abbrev pub counts_as : (links listens accepts dials : ℕ) → NetFaults
 counts_as links listens accepts dials = record { links = links; listens = listens; accepts = accepts; dials = dials }
 
 pub same_faults : (links links' listens listens' accepts accepts' dials dials' : ℕ) → links' ≡ links → listens' ≡ listens → accepts' ≡ accepts → dials' ≡ dials

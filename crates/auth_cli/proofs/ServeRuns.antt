@@ -11,7 +11,8 @@ use Rattle.auth_cli.specs.Ending.{Outside}
 use Rattle.auth_cli.specs.Halting.{MayHalt}
 use Rattle.auth_cli.specs.Reaching.{HaltsAtReached, IsReached}
 use Rattle.auth_cli.specs.PreparedServers.{IsPrepared}
-use Rattle.auth_cli.specs.Serving.{EndsServing, MeansServing, NetSeen}
+use Rattle.auth_cli.specs.OnlineRuns.{NetSeen}
+use Rattle.auth_cli.specs.Serving.{EndsServing, MeansServing}
 use Rattle.auth_cli.specs.declared.serving.PreparedServer.{PreparedServer}
 use Rattle.auth_cli.specs.declared.report.Halt.{Halt}
 use Rattle.auth_cli.specs.declared.report.Halt.TheVariants.{Usage, Refused, ReadFault, NoMemory}

@@ -18,8 +18,13 @@ pub mod RoleCalls
 pub mod RolesCalled
 pub mod RolesJudged
 pub mod PreparedServers
+pub mod ServedHistories
 pub mod ServeSteps
+pub mod OnlineRuns
 pub mod Serving
+pub mod PreparedClients
+pub mod Asking
+pub mod AskSteps
 pub mod NetRuns
 pub mod ShallowLaws
 pub mod SoundPrograms

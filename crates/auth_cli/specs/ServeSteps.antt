@@ -11,7 +11,8 @@ use Rattle.serve_links.specs.declared.net.ServingEnd.{ServingEnd}
 use Rattle.serve_links.specs.declared.net.ServingEnd.TheVariants as end
 use Rattle.session_meaning.specs.Server.{Server}
 use Rattle.auth_cli.specs.Answer.{Serving}
-use Rattle.auth_cli.specs.Serving.{Course, IsListening, IsStoredBy, IsTooLong, LacksMemory, NetSeen, HasGone, NotListening, NotWritten, Served, Storage, WithoutMemory, course_lines, course_status, last_image, count_lines, storage_lines, storage_status}
+use Rattle.auth_cli.specs.OnlineRuns.{NetSeen}
+use Rattle.auth_cli.specs.Serving.{Course, IsListening, IsStoredBy, IsTooLong, LacksMemory, HasGone, NotListening, NotWritten, Served, Storage, WithoutMemory, course_lines, course_status, last_image, count_lines, storage_lines, storage_status}
 use Rattle.images.specs.declared.fault.SaveFault.{SaveFault}
 use Rattle.images.specs.declared.fault.SaveFault.TheVariants as save_fault
 use Rattle.auth_cli.specs.Telling.{TellsText}

@@ -8,7 +8,7 @@ use Rattle.sha2.specs.Sha256.{sha256}
 use Rattle.command_words.specs.declared.command.Command.TheVariants.{Serve}
 use Rattle.core_terms.specs.Values.{Value}
 use Rattle.lam_outside.specs.Causes.{Rose}
-use Rattle.lam_outside.specs.Links.{Linked, links_so_far}
+use Rattle.lam_outside.specs.Links.{Linked}
 use Rattle.lam_outside.specs.Told.{Contents, Stores, AddsStores}
 use Rattle.printed_lines.specs.Lines.{link_fault_line, listening_line, refusal_line, versions_line}
 use Rattle.printed_lines.specs.declared.refusal.Argument.TheVariants as named
@@ -18,23 +18,10 @@ use Rattle.serve_links.specs.ServedLinks.{AreServed, AreServedInPart}
 use Rattle.session_meaning.specs.Server.{Server, last_turn, new_server, version_at}
 use Rattle.auth_cli.specs.Answer.{Answer, Serving, answer_with, max_file, state_image, with_serving}
 use Rattle.auth_cli.specs.Ending.{Outside, EndsAs, WritesPart}
-use Rattle.auth_cli.specs.NetFaults.{NetFaults, NetRose}
+use Rattle.auth_cli.specs.NetFaults.{NetFaults}
+use Rattle.auth_cli.specs.OnlineRuns.{CountsBy, NetSeen}
 use Rattle.auth_cli.specs.declared.status.Status.{Status}
 use Rattle.auth_cli.specs.declared.status.Status.TheVariants.{Done, InputRefused, ReadFault, WriteFault, NoMemory}
-
--- WHAT A NET TELLS: the links so far, in order, and the port that is listened to; and its counts of faults
-pub record NetSeen : Type 0 where
-  pub links : Option (List Linked)
-  pub listened : Option ℕ
-  pub faults : NetFaults
-
-abbrev pub net_seen : {N : Type 0} → (ended : N → Option (List Linked)) → (linked : N → Option ℕ) → (given left sent : N → Option (List ℕ)) → (listened : N → Option ℕ)
-    → (faults : N → NetFaults) → N → NetSeen
-net_seen ended linked given left sent listened faults net = record {
-  links = links_so_far (ended net) (linked net) (given net) (left net) (sent net);
-  listened = listened net;
-  faults = faults net;
-}
 
 -- LINKS
 -- the server before its first connection
@@ -212,17 +199,7 @@ abbrev pub IsServe : (texts : List (List ℕ)) → (old new : Outside) → (net 
 IsServe texts old new net net' status = (EndsAs (answer_with Serve texts) old new status × (net' ≡ net)) ⊎ IsServing texts old new net net' status
 
 -- COUNTS
--- Whatever is told, by the status: that of reading files or one of the net rose at `ReadFault`, that of the sink or of `store` at `WriteFault`;
--- those of the sink and of `store` rose at no other, and those of reading and of the net at `ReadFault`, `WriteFault` and `NoMemory` alone. No
--- link is dialled, ever.
-abbrev pub CountsBy : (old new : Outside) → (net net' : NetFaults) → Status → Type 0
-CountsBy old new net net' ReadFault =
-    (Rose old.read_faults new.read_faults ⊎ NetRose net net') × (new.store_faults ≡ old.store_faults) × (new.write_faults ≡ old.write_faults)
-CountsBy old new net net' WriteFault = Rose old.write_faults new.write_faults ⊎ Rose old.store_faults new.store_faults
-CountsBy old new net net' NoMemory = (new.store_faults ≡ old.store_faults) × (new.write_faults ≡ old.write_faults)
-CountsBy old new net net' status =
-    (new.read_faults ≡ old.read_faults) × (net' ≡ net) × (new.store_faults ≡ old.store_faults) × (new.write_faults ≡ old.write_faults)
-
+-- by the status, and no link is dialled, ever
 pub record ServeCounts (old new : Outside) (net net' : NetFaults) (status : Status) : Type 0 where
   pub by_status : CountsBy old new net net' status
   pub dials : net'.dials ≡ net.dials

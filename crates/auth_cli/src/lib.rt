@@ -2,6 +2,8 @@
 #![tactic(auto)]
 
 mod arguments;
+mod ask;
+mod asking;
 mod audit_proof;
 mod calls;
 mod check_program;
@@ -31,6 +33,7 @@ mod top;
 mod verify_call;
 mod workload_roles;
 
+pub use ask::ask_command;
 pub use audit_proof::audit_command;
 pub use check_program::check_command;
 pub use gen_workload::gen_command;

@@ -7,11 +7,12 @@ ghost use Rattle.printed_lines.specs.declared.refusal.Refusal.TheVariants.{Input
 ghost use Rattle.auth_cli.specs.declared.report.Halt.TheVariants.{NoMemory, ReadFault, Refused};
 ghost use Rattle.auth_cli.specs.Reaching.{FaultsAt};
 ghost use Rattle.auth_cli.specs.Answer.{refusal_status, with_file};
-ghost use Rattle.auth_cli.specs.Halting.{GoesOn, HaltCause, ending_status, of_audit_fault, of_image_fault, of_literal_fault, of_program_fault, of_save_fault, of_verdict};
+ghost use Rattle.auth_cli.specs.Halting.{GoesOn, HaltCause, ending_status, of_audit_fault, of_image_fault, of_literal_fault, of_program_fault, of_save_fault, of_script_fault, of_verdict};
 ghost use Rattle.auth_cli.specs.Telling.{Tells, TellsText};
 
 use crate::Status;
 use crate::programs::ProgramFault;
+use ask_script::ScriptFault;
 use collision_audit::AuditFault;
 use images::{ImageFault, SaveFault};
 use lam_outside::{Failed, Files, Load, Sink, load_all};
@@ -136,6 +137,17 @@ impl From<SaveFault> for Halt {
                 Halt::Refused(Refusal::Input(InputFault::TooLong(Argument::Out)))
             }
             SaveFault::NoMemory => Halt::NoMemory,
+        }
+    }
+}
+
+impl From<ScriptFault> for Halt {
+    ghost from_gives = { λ fault halt. halt ≡ of_script_fault fault };
+
+    fn from(fault: ScriptFault) -> Self {
+        match fault {
+            ScriptFault::Line(number) => Halt::Refused(Refusal::Input(InputFault::Script(number))),
+            ScriptFault::NoMemory => Halt::NoMemory,
         }
     }
 }

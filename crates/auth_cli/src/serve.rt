@@ -10,7 +10,8 @@ ghost use Rattle.auth_cli.specs.NetFaults.{net_faults};
 ghost use Rattle.auth_cli.specs.PreparedServers.{IsPrepared};
 ghost use Rattle.auth_cli.specs.Reaching.{IsReached};
 ghost use Rattle.auth_cli.specs.ServeSteps.{IsEndTold, TellsCourse};
-ghost use Rattle.auth_cli.specs.Serving.{EndsServing, IsServe, ServeCounts, Served, count_lines, course_status, fault_lines, net_seen};
+ghost use Rattle.auth_cli.specs.Serving.{EndsServing, IsServe, ServeCounts, Served, count_lines, course_status, fault_lines};
+ghost use Rattle.auth_cli.specs.OnlineRuns.{net_seen};
 ghost use Rattle.auth_cli.specs.Statuses.{MayAnswer};
 
 use crate::last_version::store_last;

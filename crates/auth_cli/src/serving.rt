@@ -126,7 +126,7 @@ fn read_numbers(words: &ServeWords<'_>) -> Result<Numbers, Halt>
 }
 
 /// The greatest number of a port.
-const MOST_PORT: u64 = 65_535;
+pub const MOST_PORT: u64 = 65_535;
 /// The greatest number of connections.
 const MOST_CONNECTIONS: u64 = 1_000;
 /// The greatest slice, in calls of functions.

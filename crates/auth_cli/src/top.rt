@@ -5,27 +5,30 @@ ghost use Rattle.std.specs.Io.KnownBytes.{append_known};
 ghost use Rattle.command_words.specs.CommandLine.{AreRefused};
 ghost use Rattle.command_words.specs.Commands.{IsOfCommand, texts};
 ghost use Rattle.command_words.specs.Invocations.{Invocation, invocation_of};
-ghost use Rattle.command_words.specs.declared.command.Command.TheVariants.{Audit, Prove, Serve};
+ghost use Rattle.command_words.specs.declared.command.Command.TheVariants.{Ask, Audit, Prove, Serve};
 ghost use Rattle.collision_audit.specs.Splits.{Split};
 ghost use Rattle.lam_outside.specs.Causes.{Rose};
 ghost use Rattle.auth_cli.specs.Answer.{answer, answer_with};
+ghost use Rattle.auth_cli.specs.Asking.{IsAsk};
 ghost use Rattle.auth_cli.specs.AuditedCalls.{CallsAudit, IsAudited, SplitsAt, TellsAnAudit};
 ghost use Rattle.auth_cli.specs.Codes.{code};
 ghost use Rattle.auth_cli.specs.Ending.{outside, EndsAs, IsOfFault, IsOfRefused, IsToldByCode, MayWrite, NoneRose, StoresSome, WritesPart, no_memory_text};
 ghost use Rattle.auth_cli.specs.IdealCalls.{IdealCall};
 ghost use Rattle.auth_cli.specs.NetFaults.{NetRose, net_faults};
-ghost use Rattle.auth_cli.specs.NetRuns.{EndsCommand, EndsRun, IsOffline, IsReadFaultAt, UsesNoNet};
+ghost use Rattle.auth_cli.specs.NetRuns.{CallsNoDial, CallsNoListen, EndsCommand, EndsRun, IsOffline, IsReadFaultAt, UsesNoNet};
+ghost use Rattle.auth_cli.specs.OnlineRuns.{net_seen};
 ghost use Rattle.auth_cli.specs.ProvedCalls.{CallsProve, IsProved};
 ghost use Rattle.auth_cli.specs.Reaching.{IsReached, ReachedAt};
-ghost use Rattle.auth_cli.specs.Serving.{IsServe, net_seen};
+ghost use Rattle.auth_cli.specs.Serving.{IsServe};
 ghost use Rattle.auth_cli.specs.Statuses.{MayAnswer};
 ghost use Rattle.auth_cli.specs.TrueLines.{IsTrueLine, TellsOutcome};
 ghost use Rattle.auth_cli.specs.declared.status.Status.{Status};
 
 use crate::report::tell;
 use crate::{
-    Halt, Status, audit_command, check_command, gen_command, ideal_command, init_command,
-    library_command, prove_command, serve_command, shallow_command, step_command, verify_command,
+    Halt, Status, ask_command, audit_command, check_command, gen_command, ideal_command,
+    init_command, library_command, prove_command, serve_command, shallow_command, step_command,
+    verify_command,
 };
 use command_words::{Command, WordsFault, read};
 use lam_outside::{Files, Net, Sink};
@@ -128,6 +131,13 @@ pub fn run<F: Files, O: Sink, N: Net>(
         (called : Invocation) → invocation_of (texts words.now) ≡ Some called → called.command ≡ Serve
         → (status : Status) × (result ≡ code status) × IsServe called.texts (seen files.old out.old) (seen files.new out.new) (links net.old) (links net.new) status }
 
+    // The one of `ask`: what was sent on the link that was made, what was written of the play on the replies that came, and the state told last,
+    // which is stored however the play ended.
+    ensures asks { let seen = outside F.contents F.stores F.faults F.store_faults O.written O.faults in
+        let links = net_seen N.ended N.linked N.given N.left N.sent N.listened (net_faults N.faults N.listen_faults N.accept_faults N.dial_faults) in
+        (called : Invocation) → invocation_of (texts words.now) ≡ Some called → called.command ≡ Ask
+        → (status : Status) × (result ≡ code status) × IsAsk called.texts (seen files.old out.old) (seen files.new out.new) (links net.old) (links net.new) status }
+
     // Where no count rose, status, lines and stored files are those of the defined answer, or memory was wanting.
     ensures answered { IsOffline (invocation_of (texts words.now)) → let seen = outside F.contents F.stores F.faults F.store_faults O.written O.faults in
         NoneRose (seen files.old out.old) (seen files.new out.new) → result ≢ 10
@@ -175,9 +185,11 @@ pub fn run<F: Files, O: Sink, N: Net>(
         Rose (F.faults files.old) (F.faults files.new) ⊎ NetRose (counts net.old) (counts net.new) → (result ≡ 8) ⊎ ((result ≡ 9) ⊎ (result ≡ 10)) }
     ensures read_fault_line { IsOffline (invocation_of (texts words.now)) → result ≡ 8 → O.written out.new ≡ append_known (O.written out.old) (codes "read fault\n") }
 
-    // Words that call no command on the net leave it as it was; and nothing is ever dialled.
+    // Words that call no command on the net leave it as it was; `ask` alone dials, and `serve` alone listens and accepts.
     ensures unused { IsOffline (invocation_of (texts words.now)) → net.new ≡ net.old }
-    ensures dials { N.dial_faults net.new ≡ N.dial_faults net.old }
+    ensures dials { CallsNoDial (invocation_of (texts words.now)) → N.dial_faults net.new ≡ N.dial_faults net.old }
+    ensures listens { CallsNoListen (invocation_of (texts words.now))
+        → (N.listen_faults net.new ≡ N.listen_faults net.old) × (N.accept_faults net.new ≡ N.accept_faults net.old) }
 
     // And where a file could not be read, it is one that the order of refusals had reached: the one that was asked for last, without which
     // these words and the other files have no answer.
@@ -246,6 +258,7 @@ fn carry_out<F: Files, O: Sink, N: Net>(
 {
     match command {
         Command::Serve => serve_command(alloc, words, files, out, net),
+        Command::Ask => ask_command(alloc, words, files, out, net),
         _ => carry_out_offline(alloc, command, words, files, out),
     }
 }
@@ -276,6 +289,6 @@ fn carry_out_offline<F: Files, O: Sink>(
         Command::Audit => audit_command(alloc, words, files, out),
         Command::Library => library_command(alloc, words, out),
         Command::Gen => gen_command(alloc, words, out),
-        Command::Serve => unreachable!(),
+        Command::Serve | Command::Ask => unreachable!(),
     }
 }

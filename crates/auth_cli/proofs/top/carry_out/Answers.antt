@@ -1,6 +1,10 @@
 use Rattle.command_words.specs.Commands.{texts}
-use Rattle.auth_cli.proofs.NetRuns.{serve_read}
+use Rattle.command_words.specs.declared.command.Command.TheVariants.{Ask, Serve}
+use Rattle.auth_cli.proofs.NetRuns.{online_read}
 use Rattle.auth_cli.proofs.top.carry_out.Goals as goal
 
 pub returns-in-Serve-clause-reached : goal.returns-in-Serve-clause-reached
-returns-in-Serve-clause-reached g c = serve_read c.args.command (texts c.args.words.now) _ _ _ _ c.serve_command.result c.in-Serve.is c.serve_command.ensures.reached
+returns-in-Serve-clause-reached g c = online_read c.args.command Serve (texts c.args.words.now) _ _ _ _ c.serve_command.result c.in-Serve.is c.serve_command.ensures.reached
+
+pub returns-in-Ask-clause-reached : goal.returns-in-Ask-clause-reached
+returns-in-Ask-clause-reached g c = online_read c.args.command Ask (texts c.args.words.now) _ _ _ _ c.ask_command.result c.in-Ask.is c.ask_command.ensures.reached

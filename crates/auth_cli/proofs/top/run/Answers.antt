@@ -10,7 +10,7 @@ use Rattle.auth_cli.specs.TrueLines.{TellsOutcome}
 use Rattle.auth_cli.proofs.AnsweredRuns.{audited_run, prove_tells, proved_run, split_tells}
 use Rattle.auth_cli.proofs.Answered.{answered, fault_line, memory_line, part_written, stored, stored_first}
 use Rattle.auth_cli.proofs.Called.{refused_code}
-use Rattle.auth_cli.proofs.NetRuns.{AreBelow, command_is_offline, reached_risen, run_dials, run_fault, run_offline, run_rose, run_serves, run_writes, true_run}
+use Rattle.auth_cli.proofs.NetRuns.{AreBelow, command_is_offline, reached_risen, run_asks, run_dials, run_fault, run_listens, run_offline, run_rose, run_serves, run_writes, true_run}
 use Rattle.auth_cli.proofs.Possible.{collision_alone, usage_alone}
 use Rattle.auth_cli.proofs.Reached.{read_fault_of_code}
 use Rattle.auth_cli.proofs.top.run.Goals as goal
@@ -20,6 +20,9 @@ returns-clause-ends g c = λ offline. (c.ended.result, c.code.ensures, run_offli
 
 pub returns-clause-serves : goal.returns-clause-serves
 returns-clause-serves g c = λ called is serve. (c.ended.result, c.code.ensures, run_serves (invocation_of (texts c.args.words.now)) called _ _ _ _ c.ended.result is serve c.ended.ensures.ends)
+
+pub returns-clause-asks : goal.returns-clause-asks
+returns-clause-asks g c = λ called is ask. (c.ended.result, c.code.ensures, run_asks (invocation_of (texts c.args.words.now)) called _ _ _ _ c.ended.result is ask c.ended.ensures.ends)
 
 pub returns-clause-headline : goal.returns-clause-headline
 returns-clause-headline g c = rw c.code.ensures (true_run (texts c.args.words.now) _ _ _ _ c.ended.result c.ended.ensures.ends)
@@ -116,4 +119,7 @@ returns-clause-write_fault g c =
     rw c.code.ensures (run_writes _ _ _ _ c.requires.writes_below c.requires.stores_below (invocation_of (texts c.args.words.now)) c.ended.result c.ended.ensures.ends)
 
 pub returns-clause-dials : goal.returns-clause-dials
-returns-clause-dials g c = run_dials _ _ _ _ (invocation_of (texts c.args.words.now)) c.ended.result c.ended.ensures.ends
+returns-clause-dials g c = λ none. run_dials _ _ _ _ (invocation_of (texts c.args.words.now)) c.ended.result none c.ended.ensures.ends
+
+pub returns-clause-listens : goal.returns-clause-listens
+returns-clause-listens g c = λ none. run_listens _ _ _ _ (invocation_of (texts c.args.words.now)) c.ended.result none c.ended.ensures.ends
