@@ -14,26 +14,28 @@ fn add(bytes: &mut Vec<u8>, head: &[u8], tail: &[u8]) -> Result<(), AllocError> 
     bytes.extend_from_slice(tail)
 }
 
-/// What a client of session 1 says: it greets at a state of the program, calls a role without an argument, lets it run, and leaves.
+/// What a client of session 1 says: it greets at a state of the program, calls a role without an argument, lets it run for so many
+/// rounds, and leaves.
 pub fn conversation(
     alloc: Global,
     program: &[u8],
     state: &[u8],
     role: u8,
+    rounds: u32,
 ) -> Result<Vec<u8>, AllocError> {
     let mut bytes = Vec::new(alloc);
     let mut greeting = Vec::from_slice(alloc, &Sha::of(program).0)?;
     greeting.extend_from_slice(&[0, 0])?;
     greeting.extend_from_slice(state)?;
     add(&mut bytes, &[1, 0, 1], &greeting)?;
-    call_and_leave(&mut bytes, role)?;
+    call_and_leave(&mut bytes, role, rounds)?;
     Ok(bytes)
 }
 
 /// The messages behind the greeting, with fuel 1.
-fn call_and_leave(bytes: &mut Vec<u8>, role: u8) -> Result<(), AllocError> {
+fn call_and_leave(bytes: &mut Vec<u8>, role: u8, rounds: u32) -> Result<(), AllocError> {
     add(bytes, &[2, 0, 1, 0, role, 0, 0, 0, 0, 0, 0, 0, 1], &[])?;
-    add(bytes, &[3, 0, 0, 0, 0, 0, 1], &[])?;
+    add(bytes, &[3, 0, 0], &rounds.to_be_bytes())?;
     add(bytes, &[4, 0, 1], &[])
 }
 

@@ -32,8 +32,8 @@ fn peers(alloc: Global) -> Result<Vec<Vec<u8>>, AllocError> {
     let first = state_made(alloc, "true")?;
     let second = state_made(alloc, "false")?;
     let mut all = Vec::new(alloc);
-    all.push(conversation(alloc, SWITCH, &first.state, FLIP)?)?;
-    all.push(conversation(alloc, SWITCH, &second.state, BOTH)?)?;
+    all.push(conversation(alloc, SWITCH, &first.state, FLIP, 1)?)?;
+    all.push(conversation(alloc, SWITCH, &second.state, BOTH, 1)?)?;
     Ok(all)
 }
 
