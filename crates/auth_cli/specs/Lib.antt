@@ -17,6 +17,10 @@ pub mod Reporting
 pub mod RoleCalls
 pub mod RolesCalled
 pub mod RolesJudged
+pub mod PreparedServers
+pub mod ServeSteps
+pub mod Serving
+pub mod NetRuns
 pub mod ShallowLaws
 pub mod SoundPrograms
 pub mod Statuses

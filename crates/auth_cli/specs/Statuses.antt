@@ -1,15 +1,16 @@
 -- The statuses that a command may answer, whatever the files hold.
 use Rattle.std.specs.Prelude.{◌≡◌}
 use Rattle.command_words.specs.declared.command.Command.{Command}
-use Rattle.command_words.specs.declared.command.Command.TheVariants.{Check, Shallow, Verify, Audit, Library, Gen}
+use Rattle.command_words.specs.declared.command.Command.TheVariants.{Check, Shallow, Verify, Audit, Library, Gen, Serve}
 use Rattle.auth_cli.specs.declared.status.Status.{Status}
 use Rattle.auth_cli.specs.declared.status.Status.TheVariants.{Usage, Trap, OutOfFuel, Rejected, ProgramRefused, ReadFault, Collision}
 
--- the command runs a function, which may trap or find no fuel
+-- the command tells the outcome of a function, which may trap or find no fuel
 abbrev pub RunsAFunction : Command → Type 0
 RunsAFunction Check = ⊥
 RunsAFunction Shallow = ⊥
 RunsAFunction Library = ⊥
+RunsAFunction Serve = ⊥
 RunsAFunction command = Unit {0}
 
 -- the command judges a proof, which it may reject

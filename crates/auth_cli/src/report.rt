@@ -208,7 +208,7 @@ pub fn load<F: Files>(
 }
 
 /// The line of the want of memory.
-const NO_MEMORY: &[u8] = b"no memory\n";
+pub const NO_MEMORY: &[u8] = b"no memory\n";
 
 /// Writes the line that was found, or the one for what halted the work.
 ///
@@ -247,7 +247,7 @@ fn status_of(refusal: &Refusal) -> Status
 }
 
 /// Writes a text, and answers the status that is meant, or `WriteFault`.
-fn tell_text<O: Sink>(out: &mut O, status: Status, text: &[u8]) -> Status
+pub fn tell_text<O: Sink>(out: &mut O, status: Status, text: &[u8]) -> Status
     ensures { TellsText status text.now result (O.written out.old) (O.written out.new) (O.faults out.old) (O.faults out.new) }
 {
     match write_all(out, text) {
@@ -257,7 +257,7 @@ fn tell_text<O: Sink>(out: &mut O, status: Status, text: &[u8]) -> Status
 }
 
 /// Writes all of the text.
-fn write_all<O: Sink>(out: &mut O, text: &[u8]) -> Result<(), Failed>
+pub fn write_all<O: Sink>(out: &mut O, text: &[u8]) -> Result<(), Failed>
     ensures all { OnOk result (O.written out.new ≡ append_known (O.written out.old) text.now) }
     ensures part { OnErr result ((n : ℕ) × (n ≤ length text.now) × (O.written out.new ≡ append_known (O.written out.old) (take n text.now))) }
     ensures cause { HasCause (O.faults out.old) (O.faults out.new) result }

@@ -98,6 +98,9 @@ argument_name argument.Number = codes "N"
 argument_name argument.Out = codes "OUT"
 argument_name argument.Seed = codes "SEED"
 argument_name argument.Count = codes "COUNT"
+argument_name argument.Port = codes "PORT"
+argument_name argument.Connections = codes "CONNS"
+argument_name argument.Slice = codes "SLICE"
 
 -- why bytes are no image
 abbrev pub image_text : ImageKind → List ℕ
@@ -212,3 +215,16 @@ collision_line place offered honest = line_of (codes "collision") (also place ++
 -- the line of an audit that agrees on an outcome, behind which the outcome's line stands
 abbrev pub agrees_line : List ℕ → List ℕ
 agrees_line line = codes "agrees " ++ line
+
+-- the lines of a server: that it listens to a port, how many versions and commits it has at the end, and that a link failed
+abbrev pub listening_line : ℕ → List ℕ
+listening_line port = line_of (codes "listening ") (decimal port)
+
+abbrev pub versions_text : (versions commits : ℕ) → List ℕ
+versions_text versions commits = decimal versions ++ (codes " commits" ++ also commits)
+
+abbrev pub versions_line : (versions commits : ℕ) → List ℕ
+versions_line versions commits = line_of (codes "versions ") (versions_text versions commits)
+
+abbrev pub link_fault_line : List ℕ
+link_fault_line = codes "link fault\n"

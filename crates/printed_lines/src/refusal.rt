@@ -35,6 +35,12 @@ pub enum Argument {
     Seed,
     /// `COUNT`, half the number of calls of a workload.
     Count,
+    /// `PORT`, which a server listens to.
+    Port,
+    /// `CONNS`, the number of connections that a server serves.
+    Connections,
+    /// `SLICE`, the greatest number of calls of functions in a turn of a session.
+    Slice,
 }
 
 /// Why bytes are no image of a program: the first fault. Records are numbered from 0.

@@ -1,0 +1,5 @@
+pub mod Plays
+pub mod DeedLines
+pub mod PlayRows
+pub mod Playing
+pub mod Tellings

@@ -1,0 +1,5 @@
+pub mod Connections
+pub mod Ends
+pub mod Histories
+pub mod Messages
+pub mod ServedLinks
