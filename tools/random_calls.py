@@ -386,12 +386,16 @@ class Runner:
     def __init__(self, lamauth, folder, environment=None):
         self.lamauth, self.folder, self.environment, self.lying = lamauth, folder, environment, {}
 
-    def run(self, words, files):
+    def write(self, files):
+        """Writes the files that don't lie there already."""
         for name, data in files.items():
             if self.lying.get(name) != data:
                 with open(os.path.join(self.folder, name), "wb") as file:
                     file.write(data)
                 self.lying[name] = data
+
+    def run(self, words, files):
+        self.write(files)
         out = os.path.join(self.folder, "o")
         if os.path.exists(out):
             os.remove(out)

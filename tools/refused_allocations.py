@@ -8,14 +8,19 @@ A library in C that is loaded before the C library counts the calls of `malloc` 
 tells how many allocations a run makes, and of how many refusals it answers `no memory`, behind whole lines alone and with status 10. Where
 the refusal was of more room than was needed, or of what a run can do without, it may answer what it answers with none refused. Any
 other answer is told, and the status is 1 then.
+
+`serve` has a client of its own, which sends all of its requests and reads to the end; and `ask` a server, which sends all of its replies.
+What was sent behind a refusal has to be a front of what is sent with none refused, and a stored version one of those that the requests make.
 """
 import argparse
+import hashlib
 import os
 import subprocess
 import sys
 import tempfile
 
 from random_calls import Runner
+from talking import AskedServer, ServedClient, run_talking
 
 LIBRARY = r"""
 #define _GNU_SOURCE
@@ -90,9 +95,58 @@ COMMANDS = [
     (SWITCH, "true", ["audit", "p"], b""),
 ]
 
+SPIN = (
+    "state auth bool; fun spin(n: int): int = if le(n, 0) then 0 else spin(sub(n, 1)); init make(x: bool): auth bool = auth(x); "
+    "update put(s: auth bool, e: (int, bool)): (auth bool, int) = let n = spin(fst(e)) in (auth(snd(e)), n);"
+)
+
+
+def message(kind, session, body=b""):
+    """The bytes of a message."""
+    inside = bytes([kind]) + session.to_bytes(2, "big") + body
+    return len(inside).to_bytes(4, "big") + inside
+
+
+def hello(session, program, state, kept=0):
+    return message(1, session, hashlib.sha256(program.encode()).digest() + kept.to_bytes(2, "big") + state)
+
+
+def call(session, role, fuel, argument=b""):
+    return message(2, session, role.to_bytes(2, "big") + fuel.to_bytes(8, "big") + argument)
+
+
+def go(rounds):
+    return message(3, 0, rounds.to_bytes(4, "big"))
+
+
+def bye(session):
+    return message(4, session)
+
+
+def integer(number):
+    return number.to_bytes(8, "big", signed=True)
+
+
+def digest(piece):
+    return hashlib.sha256(piece).digest()
+
+
+NONE, FALSE, TRUE = digest(b""), b"\0", b"\1"
+
+# a program, the literal of its state, a slice, and what is sent to `serve`: one session that opens the state; and two that make another
+SERVED = [
+    (FIRST, "()", 1, hello(1, FIRST, NONE) + call(1, 1, 1) + go(1) + bye(1)),
+    (SPIN, "true", 1, hello(1, SPIN, digest(TRUE)) + hello(2, SPIN, digest(TRUE)) + call(1, 1, 100, integer(3) + TRUE) + call(2, 1, 100, integer(0) + FALSE) + go(10)),
+]
+
+# a program, the literal of its state, a script of `ask`, and what is replied
+ASKED = [
+    (FIRST, "()", "open 1 0\ncall 1 open 1 ()\ngo\nclose 1\n", message(0x81, 1) + message(0x82, 1, bytes(5)) + message(0x85, 1, bytes(1))),
+]
+
 
 class Refusals:
-    """Runs of one command, of which allocations are refused."""
+    """Runs of commands, of which allocations are refused."""
 
     def __init__(self, options, folder):
         self.lamauth, self.folder = options.lamauth, folder
@@ -101,44 +155,63 @@ class Refusals:
         with open(source, "w", encoding="utf-8") as file:
             file.write(LIBRARY)
         subprocess.run(["cc", "-shared", "-fPIC", "-O1", "-fno-builtin", "-o", self.library, source, "-ldl"], check=True)
+        self.runner = Runner(self.lamauth, folder)
 
-    def run(self, words, files, first=0, last=0):
-        """What a run answers, and how many allocations it made."""
+    def run(self, words, files, peer=None, first=0, last=0):
+        """What a run answers and sends, and how many allocations it made."""
         environment = {"LD_PRELOAD": self.library, "REFUSE_FROM": str(first), "REFUSE_TO": str(last), "REFUSE_COUNT": self.count}
-        result = Runner(self.lamauth, self.folder, environment).run(words, files)
+        if peer is None:
+            self.runner.environment = environment
+            result, sent = self.runner.run(words, files), b""
+        else:
+            self.runner.write(files)
+            result, sent = run_talking(self.lamauth, self.folder, environment, words, peer)
         with open(self.count, encoding="ascii") as file:
-            return result, int(file.read())
+            return (result, sent), int(file.read())
 
-    def answers(self, words, files, lasts):
+    def answers(self, words, files, peer, lasts):
         """The answers of a run, by the allocation from which on those up to a last one are refused, until there is none to refuse."""
-        whole, _ = self.run(words, files)
+        whole, _ = self.run(words, files, peer)
         counts, others, first = {"no memory": 0, "as with none refused": 0}, [], 1
         while True:
-            result, calls = self.run(words, files, first, lasts(first))
+            answer, calls = self.run(words, files, peer, first, lasts(first))
             if calls < first:
-                return counts, others if result == whole else [*others, (first, result)]
-            if result == whole:
+                return counts, others if answer == whole else [*others, (first, answer)]
+            if answer == whole:
                 counts["as with none refused"] += 1
-            elif is_want(result, whole):
+            elif is_want(answer, whole, files):
                 counts["no memory"] += 1
             else:
-                others.append((first, result))
+                others.append((first, answer))
             first += 1
 
 
-def is_want(result, whole):
-    """Whether an answer is the want of memory, behind whole lines of what is answered with none refused."""
+def is_want(answer, whole, files):
+    """Whether an answer is the want of memory, behind whole lines of what is answered with none refused. What was sent is a front of
+    what is sent then, and what was stored is the same, or nothing, or the state that was there."""
+    (result, sent), (whole, all_sent) = answer, whole
     lines = whole.text.splitlines(keepends=True)
     texts = ["".join(lines[:k]) + "no memory\n" for k in range(len(lines) + 1)]
-    return result.status == 10 and result.text in texts and result.stored in (None, whole.stored)
+    stored = result.stored in (None, whole.stored, files["i"], files["s"])
+    return result.status == 10 and result.text in texts and stored and all_sent.startswith(sent)
 
 
-def files_of(refusals, program, literal, proof):
-    """The files that commands on a state name: its program, its image, its projection, and a proof."""
-    files = {"p": program.encode(), "q": proof}
-    files["i"] = refusals.run(["init", "p", "make", literal, "1", "o"], files)[0].stored
-    files["s"] = refusals.run(["shallow", "p", "i", "o"], files)[0].stored
+def files_of(refusals, program, literal, **others):
+    """The files that commands on a state name: its program, its image and its projection; and others."""
+    files = {"p": program.encode(), **others}
+    for made, words in (("i", ["init", "p", "make", literal, "1", "o"]), ("s", ["shallow", "p", "i", "o"])):
+        files[made] = refusals.run(words, files)[0][0].stored
     return files
+
+
+def cases(refusals):
+    """The words of each command, its files, and the peer to which it speaks, where it speaks to one."""
+    for program, literal, words, proof in COMMANDS:
+        yield words, files_of(refusals, program, literal, q=proof), None
+    for program, literal, piece, requests in SERVED:
+        yield ["serve", "p", "i", "PORT", "1", str(piece), "o"], files_of(refusals, program, literal), ServedClient(requests)
+    for program, literal, script, replies in ASKED:
+        yield ["ask", "p", "s", "PORT", "t", "o"], files_of(refusals, program, literal, t=script.encode()), AskedServer(replies)
 
 
 def main():
@@ -151,12 +224,11 @@ def main():
     wrong = []
     with tempfile.TemporaryDirectory() as folder:
         refusals = Refusals(options, folder)
-        for program, literal, words, proof in COMMANDS:
-            files = files_of(refusals, program, literal, proof)
-            whole, calls = refusals.run(words, files)
+        for words, files, peer in cases(refusals):
+            (whole, _), calls = refusals.run(words, files, peer)
             cells = [f"`{' '.join(words)}`", str(whole.status), str(calls)]
             for lasts in (lambda first: first, lambda first: 2**64 - 1):
-                counts, others = refusals.answers(words, files, lasts)
+                counts, others = refusals.answers(words, files, peer, lasts)
                 cells += [str(count) for count in counts.values()]
                 wrong += [(words, *other) for other in others]
             print("| " + " | ".join(cells) + " |", flush=True)

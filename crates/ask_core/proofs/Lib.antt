@@ -6,3 +6,16 @@ pub mod Refusing
 pub mod Asking
 -- what is seen: `waiting`, `state`
 pub mod Seeing
+-- what is seen of all sessions: `any_waits`, `any_calls`, `called`
+pub mod SeenSessions
+-- the role of a call: `role_called`, `proof_replied`, `state_behind`
+pub mod Called
+-- what follows of a reply to a session that waits: `greeting_replied`, `leaving_replied`, `calling_replied`
+pub mod Following
+-- and of a proof, by its verdict: `proof_replied`
+pub mod Judged
+-- the state behind an accepted outcome: `first_spelled`, `state_behind`
+pub mod FirstComponents
+pub mod StatesBehind
+-- what is taken of a reply: `take_reply`
+pub mod Taking

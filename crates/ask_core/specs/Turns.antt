@@ -5,7 +5,7 @@ use Rattle.ask_core.specs.declared.standing.Known.{Known}
 use Rattle.ask_core.specs.declared.standing.Standing.{Standing}
 use Rattle.ask_core.specs.declared.standing.Standing.TheVariants.{Greeting, Idle, Calling, Leaving, FailedBy, BrokenBy}
 use Rattle.ask_core.specs.declared.told.AskFault.{AskFault}
-use Rattle.ask_core.specs.declared.told.AskFault.TheVariants.{OutOfTurn, Failed, Broken, Closed}
+use Rattle.ask_core.specs.declared.told.AskFault.TheVariants.{OutOfTurn, Stranger, Failed, Broken, Closed}
 
 -- it is greeted with this state, and with a ring of this size that holds nothing
 abbrev pub IsGreeting : ℕ → List ℕ → Standing → Type 0
@@ -24,6 +24,15 @@ standing_state (Idle known) = Some known.state
 standing_state (Calling known asked) = Some known.state
 standing_state standing = None
 
+-- the number of the role that is called, and whether one is
+abbrev pub standing_called : Standing → Option ℕ
+standing_called (Calling known asked) = Some asked.role
+standing_called standing = None
+
+abbrev pub standing_calls : Standing → Bool
+standing_calls (Calling known asked) = true
+standing_calls standing = false
+
 -- why a greeting is refused
 abbrev pub greeting_fault : Standing → AskFault
 greeting_fault (FailedBy cause) = Failed cause
@@ -40,6 +49,13 @@ idle_fault standing = Some OutOfTurn
 abbrev pub idle_known : Standing → Option Known
 idle_known (Idle known) = Some known
 idle_known standing = None
+
+-- why a reply to the session with this number isn't looked at; none where one is waited for
+abbrev pub reply_fault : ℕ → Standing → Option AskFault
+reply_fault number (Idle known) = Some (Stranger number)
+reply_fault number (FailedBy cause) = Some (Failed cause)
+reply_fault number (BrokenBy kind) = Some (Broken kind)
+reply_fault number standing = None
 
 -- the same of the session with a number, where an end for all sessions may have come, and where nothing may stand under it
 abbrev pub waits_in : Option Standing → Bool
@@ -59,3 +75,7 @@ abbrev pub idle_refused : (closed : Option ℕ) → Option Standing → Option A
 idle_refused (Some cause) found = Some (Closed cause)
 idle_refused None (Some standing) = idle_fault standing
 idle_refused None None = Some OutOfTurn
+
+abbrev pub reply_refused : ℕ → Option Standing → Option AskFault
+reply_refused number (Some standing) = reply_fault number standing
+reply_refused number None = Some (Stranger number)

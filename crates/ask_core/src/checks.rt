@@ -1,8 +1,10 @@
 // The bytes of a state and of a call, before they are sent.
-ghost use Rattle.std.specs.Prelude.{◌≡◌, ◌≤◌, ◌^◌, option_copied};
+ghost use Rattle.std.specs.Prelude.{◌≡◌, ◌≤◌, ◌^◌, IfSome, option_copied};
 ghost use Rattle.core_terms.specs.Programs.{meaning, types_of};
 ghost use Rattle.core_terms.specs.ProgramTypes.{types_by_number, types_meaning};
 ghost use Rattle.core_terms.specs.Projection.{read_at};
+ghost use Rattle.core_terms.specs.Roles.{HasRoleShape};
+ghost use Rattle.core_terms.specs.RoleViews.{role_of};
 ghost use Rattle.core_terms.specs.TypeTables.{type_at};
 ghost use Rattle.mode_vm.specs.Meanings.{program_of};
 ghost use Rattle.ask_core.specs.Checks.{CallRead, IsCalled, IsRead, StateRead};
@@ -58,7 +60,8 @@ pub fn spelled_call(
 
 /// The role with a number, where it is a query or an update.
 pub fn role_called(program: &Program, number: u16) -> Option<&Role>
-    ensures { IsCalled (types_of program.now) (meaning program.now) number (option_copied result) }
+    ensures called { IsCalled (types_of program.now) (meaning program.now) number (option_copied result) }
+    ensures shape { IfSome (option_copied result) (λ role. HasRoleShape (meaning program.now) (role_of (types_of program.now) role)) }
 {
     match program.roles().get(usize::from(number)) {
         Some(role) => match role.kind {

@@ -1,12 +1,14 @@
 -- How a run ended, by the number of its status: where no count rose, and what it stored.
-use Rattle.std.proofs.Common.{◌≡◌, ◌≢◌, ◌⊎◌, ◌<◌, ◌^◌, ◌-◌, ℕ, List, [], Option, Some, None, refl, ap, inl, inr, sym, ◌∙◌, arith}
+use Rattle.std.proofs.Common.{◌≡◌, ◌≢◌, ◌⊎◌, ◌↔◌, ◌<◌, ◌^◌, ◌-◌, ℕ, List, [], Option, Some, None, refl, ap, inl, inr, sym, ◌∙◌, arith}
+use Rattle.std.specs.Io.KnownBytes.{append_known}
 use Rattle.std.specs.List.{concat}
+use Rattle.std.specs.Prelude.{codes}
 use Rattle.std.specs.Option.{ForSome}
 use Rattle.lam_outside.specs.Causes.{Rose}
 use Rattle.lam_outside.specs.Told.{AddsStores, Contents, Stores}
 use Rattle.auth_cli.specs.Answer.{Answer}
 use Rattle.auth_cli.specs.Codes.{code}
-use Rattle.auth_cli.specs.Ending.{EndsAnswered, EndsAs, IsToldAs, IsToldByCode, MayWrite, NoneRose, Outside, StoresSome, WritesPart, lines_of}
+use Rattle.auth_cli.specs.Ending.{EndsAnswered, EndsAs, IsToldAs, IsToldByCode, MayWrite, NoneRose, Outside, StoresSome, WritesPart, lines_of, no_memory_text}
 use Rattle.auth_cli.specs.declared.status.Status.{Status}
 use Rattle.auth_cli.specs.declared.status.Status.TheVariants as status
 use Rattle.auth_cli.proofs.Known.{append_none}
@@ -24,7 +26,7 @@ none_stored None old new none = none
 none_stored (Some a) old new none = inl none
 
 -- a count that stands where it stood didn't rise
-no_rise : {before now : ℕ} → before < 2 ^ 64 - 1 → now ≡ before → Rose before now → ⊥
+pub no_rise : {before now : ℕ} → before < 2 ^ 64 - 1 → now ≡ before → Rose before now → ⊥
 no_rise below same rose = omega (arith, below, same, rose)
 
 module _ (answer : Contents → Option Answer) (old new : Outside) where
@@ -120,6 +122,62 @@ module _ (answer : Contents → Option Answer) (old new : Outside) where
   fault_rose status.ProgramRefused ends is = absurd (omega arith)
   fault_rose status.InputRefused ends is = absurd (omega arith)
   fault_rose status.Collision ends is = absurd (omega arith)
+
+  -- 9 exactly where the count of the sink or of `store` rose
+  module _ (writes : old.write_faults < 2 ^ 64 - 1) (stores : old.store_faults < 2 ^ 64 - 1) where
+    abbrev Writes : Status → Type 0
+    Writes ended = (code ended ≡ 9) ↔ (Rose old.write_faults new.write_faults ⊎ Rose old.store_faults new.store_faults)
+
+    neither : (ended : Status) → (code ended ≡ 9 → ⊥) → new.store_faults ≡ old.store_faults → new.write_faults ≡ old.write_faults → Writes ended
+    neither ended other same same' = (
+      (λ is. absurd (other is)),
+      (λ rose. elim rose [
+        | inl rose ↦ absurd (no_rise writes same' rose)
+        | inr rose ↦ absurd (no_rise stores same rose)
+      ]),
+    )
+
+    pub write_told : (ended : Status) → EndsAs answer old new ended → Writes ended
+    write_told status.WriteFault (inl fails) = ((λ is. inl fails.rose), (λ rose. refl))
+    write_told status.WriteFault (inr fails) = ((λ is. inr fails.rose), (λ rose. refl))
+    write_told status.ReadFault ends = neither status.ReadFault (λ is. omega arith) ends.stores ends.writes
+    write_told status.NoMemory ends = neither status.NoMemory (λ is. omega arith) ends.stores ends.writes
+    write_told status.Done ends = neither status.Done (λ is. omega arith) ends.stores ends.writes
+    write_told status.Usage ends = neither status.Usage (λ is. omega arith) ends.stores ends.writes
+    write_told status.Trap ends = neither status.Trap (λ is. omega arith) ends.stores ends.writes
+    write_told status.OutOfFuel ends = neither status.OutOfFuel (λ is. omega arith) ends.stores ends.writes
+    write_told status.Rejected ends = neither status.Rejected (λ is. omega arith) ends.stores ends.writes
+    write_told status.ProgramRefused ends = neither status.ProgramRefused (λ is. omega arith) ends.stores ends.writes
+    write_told status.InputRefused ends = neither status.InputRefused (λ is. omega arith) ends.stores ends.writes
+    write_told status.Collision ends = neither status.Collision (λ is. omega arith) ends.stores ends.writes
+
+  -- what was written at 8, and at 10
+  pub fault_line : (ended : Status) → EndsAs answer old new ended → code ended ≡ 8 → new.written ≡ append_known old.written (codes "read fault\n")
+  fault_line status.ReadFault ends is = ends.written
+  fault_line status.WriteFault ends is = absurd (omega arith)
+  fault_line status.NoMemory ends is = absurd (omega arith)
+  fault_line status.Done ends is = absurd (omega arith)
+  fault_line status.Usage ends is = absurd (omega arith)
+  fault_line status.Trap ends is = absurd (omega arith)
+  fault_line status.OutOfFuel ends is = absurd (omega arith)
+  fault_line status.Rejected ends is = absurd (omega arith)
+  fault_line status.ProgramRefused ends is = absurd (omega arith)
+  fault_line status.InputRefused ends is = absurd (omega arith)
+  fault_line status.Collision ends is = absurd (omega arith)
+
+  pub memory_line : (ended : Status) → EndsAs answer old new ended → code ended ≡ 10
+      → ForSome old.contents (λ files. (k : ℕ) × (new.written ≡ append_known old.written (no_memory_text (answer files) k)))
+  memory_line status.NoMemory ends is = ends.written
+  memory_line status.WriteFault ends is = absurd (omega arith)
+  memory_line status.ReadFault ends is = absurd (omega arith)
+  memory_line status.Done ends is = absurd (omega arith)
+  memory_line status.Usage ends is = absurd (omega arith)
+  memory_line status.Trap ends is = absurd (omega arith)
+  memory_line status.OutOfFuel ends is = absurd (omega arith)
+  memory_line status.Rejected ends is = absurd (omega arith)
+  memory_line status.ProgramRefused ends is = absurd (omega arith)
+  memory_line status.InputRefused ends is = absurd (omega arith)
+  memory_line status.Collision ends is = absurd (omega arith)
 
 -- four counts that stand where they stood didn't rise
 pub none_rose : (links listens accepts dials : ℕ) → links < 2 ^ 64 - 1 → listens < 2 ^ 64 - 1 → accepts < 2 ^ 64 - 1 → dials < 2 ^ 64 - 1

@@ -21,7 +21,8 @@ use Rattle.printed_lines.specs.declared.refusal.InputFault.{InputFault}
 use Rattle.printed_lines.specs.declared.refusal.InputFault.TheVariants.{RoleKind, TooLong}
 use Rattle.auth_cli.specs.Answer.{Answer, RoleCall, answer_with, audited_answer, call_audit_answer, command_answer, image_read, input_refused, judged_answer, max_file, max_program, callee_of, proof_answer, proved_answer, state_read, verified_answer}
 use Rattle.auth_cli.specs.Answer.{with_bytes, with_file, with_fuel, with_fueled_role, with_ideal_call, with_image, with_kept, with_program_file, with_text, with_literal, with_number, with_passed, with_program, with_role_at, with_role_call, with_root, with_state, with_state_read}
-use Rattle.auth_cli.specs.Arguments.{fuel_of, number_within}
+use Rattle.auth_cli.specs.Arguments.{fuel_of}
+use Rattle.number_words.specs.Numbers.{number_within}
 use Rattle.auth_cli.specs.AuditedCalls.{CallsAudit, TellsAnAudit}
 use Rattle.auth_cli.specs.Codes.{code}
 use Rattle.auth_cli.specs.FueledRoles.{DigestedProgram, FueledRole, NamedProgram}

@@ -9,7 +9,7 @@ use Rattle.command_words.specs.declared.command.Command.TheVariants.{Audit, Prov
 use Rattle.ideal_meaning.specs.Ideal.{Outcome, Done, Trapped, Out}
 use Rattle.collision_audit.specs.Splits.{Split}
 use Rattle.auth_cli.specs.Answer.{Answer, answer, call_audit_answer, called_answer, command_answer, proof_answer, shallow_told}
-use Rattle.auth_cli.specs.Arguments.{is_number, number_within}
+use Rattle.number_words.specs.Numbers.{is_number, number_within}
 use Rattle.auth_cli.specs.AuditedCalls.{CallsAudit, IsAudited, SplitsAt, TellsAnAudit}
 use Rattle.auth_cli.specs.Codes.{code}
 use Rattle.auth_cli.specs.Ending.{EndsAnswered, EndsAs, IsOfFault, IsToldAs, Outside}

@@ -12,11 +12,6 @@ use Rattle.auth_cli.specs.declared.report.Halt.TheVariants.{Usage, NoMemory}
 use Rattle.auth_cli.specs.declared.status.Status.{Status}
 use Rattle.auth_cli.specs.declared.status.Status.TheVariants as status
 
--- it ends as that command does
-pub ends_called : (words : List (List ℕ)) (called : Invocation) (old new : Outside) (status : Status) → invocation_of words ≡ Some called → EndsAs (command_answer called) old new status → EndsAs (answer words) old new status
-unfolding answer
-ends_called words called old new status is ends = subst (λ found. EndsAs (called_answer found) old new status) (sym is) ends
-
 -- words that call a command aren't refused
 pub none_refused : (words : List (List ℕ)) (called : Invocation) (status : Status) → invocation_of words ≡ Some called → invocation_of words ≡ None → IsOfRefused status
 none_refused words called status is none = by (invocation_of words) is none

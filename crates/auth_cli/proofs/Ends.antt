@@ -147,6 +147,14 @@ module _ (answer : Contents → Option Answer) (old new : Outside) where
   ends_as found ended finds cause same stores (inr (inl told)) = rw told.0 (memory_ends same stores told.1 told.2)
   ends_as found ended finds cause same stores (inr (inr told)) = rw told.0 (memory_part same stores told.1 told.2)
 
+  -- words that call no command, by how that was told
+  pub usage_ends : (ended : Status) → ForSome old.contents (λ files. answer files ≡ Some (says status.Usage (line_of (Err Usage)))) → new.read_faults ≡ old.read_faults → new.stores ≡ old.stores
+      → new.store_faults ≡ old.store_faults → Tells (Err Usage) ended old.written new.written old.write_faults new.write_faults → EndsAs answer old new ended
+  usage_ends ended finds reads same stores (inl (inl told)) = rw told.0 (answered status.Usage (line_of (Err Usage)) finds told.1 same reads stores told.2)
+  usage_ends ended finds reads same stores (inl (inr told)) = rw told.0 (part (Err Usage) finds same stores told.1 told.2)
+  usage_ends ended finds reads same stores (inr (inl told)) = rw told.0 (memory_ends same stores told.1 told.2)
+  usage_ends ended finds reads same stores (inr (inr told)) = rw told.0 (memory_part same stores told.1 told.2)
+
 -- ---- a command that leaves the files alone
 
 hand_finds : (answer : Option Answer) (found : Found) → InHand (Finds answer) found → Finds answer found

@@ -5,11 +5,23 @@ pub mod Words  -- the commands and `carry_out`: the words behind a command
 pub mod Possible  -- the commands and `run`: the statuses that may be answered
 pub mod Ends  -- `check_command`, `ideal_command`, `audit_command`, `ended`
 pub mod EndsStored  -- `init_command`, `step_command`, `shallow_command`, `prove_command`, `verify_command`
+pub mod ServeReading  -- `read_beginning`
+pub mod ServePrepared  -- `begin`, `last_image`
+pub mod ServeGone  -- `listen_and_serve`
+pub mod ServeCourses  -- `listen_and_serve`
+pub mod ServeRuns  -- `serve_command`
+pub mod ServedVersions  -- the law `served_versions`
+pub mod ServeStored  -- `store_last`, `tell_unstored`
+pub mod ServeTexts  -- `listen_and_serve`, `serve`: texts behind one another
+pub mod AskReading  -- `steps_in`, `read_script_file`
+pub mod AskLinks  -- `ask`: the link that was made, and the play on it
+pub mod AskCounted  -- `ask_command`: clauses `counts`, `possible`
+pub mod AskRuns  -- `ask_command`: clauses `ends`, `reached`
+pub mod ServeCounted  -- `serve_command`: clauses `counts`, `possible`
 pub mod LineSteps  -- `gen_command`, `find_sums`, `read_numbers`, `generate`, `workload_of`, `put_role`, `get_role`
 pub mod Workloads  -- `find_sums`, `generate`, `run_and_tell`, `sums_report`
 pub mod WorkloadRoles  -- `put_role`, `get_role`
 pub mod Known  -- `write_all`
-pub mod Numbers  -- `read_number`, `has_digits_alone`
 pub mod RolesByName  -- `run`: clause `headline`
 pub mod RoleShapes  -- `role_named`, `read_ideal_call`, `run_call`, `make_proof`, `audit_call`, `state_made`
 pub mod PutArguments  -- `put_argument`
@@ -35,6 +47,7 @@ pub mod TrueAudits  -- `run`: clause `audited`
 pub mod AuditedRuns  -- `run`: clauses `audited`, `split`
 pub mod AnsweredRuns  -- `run`: clauses `companion`, `proves`, `audited`, `split`
 pub mod Answered  -- `run`: by the number of its status
+pub mod NetRuns  -- `carry_out`, `ended`, `run`: words that may call a command on the net
 pub mod SoundRoles  -- `find_judgement`; `run`: clauses `companion`, `audited`, `headline`
 pub mod TrueLine  -- `run`: clause `headline`
 pub mod SoundTexts  -- the law `programs_are_sound`

@@ -3,7 +3,7 @@ use Rattle.std.specs.Prelude.{ℕ, List, [], ◌∷◌, ◌++◌, length, map, B
 use Rattle.sha2.specs.Sha256.{sha256}
 use Rattle.command_words.specs.Invocations.{Invocation, invocation_of}
 use Rattle.command_words.specs.declared.command.Command.{Command}
-use Rattle.command_words.specs.declared.command.Command.TheVariants.{Check, Init, Ideal, Step, Shallow, Prove, Verify, Audit, Library, Gen}
+use Rattle.command_words.specs.declared.command.Command.TheVariants.{Check, Init, Ideal, Step, Shallow, Prove, Verify, Audit, Library, Gen, Serve, Ask}
 use Rattle.ads_library.specs.Texts.{library_text}
 use Rattle.lam_outside.specs.Told.{Contents, Stores}
 use Rattle.core_terms.specs.ProgramTrees.{program_format}
@@ -27,15 +27,17 @@ use Rattle.printed_lines.specs.declared.refusal.Argument.TheVariants as named
 use Rattle.printed_lines.specs.declared.refusal.ImageKind.{ImageKind}
 use Rattle.printed_lines.specs.declared.refusal.ImageKind.TheVariants as kind
 use Rattle.printed_lines.specs.declared.refusal.InputFault.{InputFault}
-use Rattle.printed_lines.specs.declared.refusal.InputFault.TheVariants.{TooLong, LibraryUnknown, RoleUnknown, RoleKind, Number, State, Literal as BadLiteral, Image as BadImage}
+use Rattle.printed_lines.specs.declared.refusal.InputFault.TheVariants.{TooLong, LibraryUnknown, RoleUnknown, RoleKind, Number, State, Literal as BadLiteral, Image as BadImage, Script as BadScript}
 use Rattle.printed_lines.specs.declared.refusal.Refusal.{Refusal}
 use Rattle.printed_lines.specs.declared.refusal.Refusal.TheVariants as refusal
+use Rattle.ask_script.specs.Scripts.{Script, Steps, FaultyLine, UserStep, script_of}
 use Rattle.collision_audit.specs.Audits.{Collides, Judges}
 use Rattle.collision_audit.specs.Audits as audits
 use Rattle.workloads.specs.Workloads.{after_rounds, no_calls}
 use Rattle.workloads.specs.declared.tally.Tally.{Tally}
 use Rattle.workloads.specs.declared.workload.Workload.{Workload}
-use Rattle.auth_cli.specs.Arguments.{fuel_of, most_rounds, most_seed, number_within}
+use Rattle.auth_cli.specs.Arguments.{fuel_of, most_links, most_port, most_rounds, most_seed, most_slice, positive_within}
+use Rattle.number_words.specs.Numbers.{number_within}
 use Rattle.auth_cli.specs.FueledRoles.{DigestedProgram, FueledRole, NamedProgram}
 use Rattle.auth_cli.specs.IdealCalls.{IdealCall, call_audit, call_proof, call_proof_line, ended_call, projected_outcome}
 use Rattle.auth_cli.specs.RoleCalls.{EndedRole, ended_with, is_called, kind_called, passed_literal, program_called, projection_called, result_called, state_made}
@@ -468,9 +470,87 @@ generated_answer name seed count kept files =
     with_numbers seed count kept (λ numbers.
     with_text text (λ p. generated_by p name numbers)))
 
+-- the numbers of a serving: the port that is listened to, the number of links that are served, and the greatest number of calls of functions in
+-- a turn
+pub record ServingNumbers : Type 0 where
+  pub port : ℕ
+  pub links : ℕ
+  pub slice : ℕ
+
+abbrev pub with_serving_numbers : (port links slice : List ℕ) → (ServingNumbers → Option Answer) → Option Answer
+with_serving_numbers port links slice go =
+    with_number named.Port (positive_within most_port port) (λ n.
+    with_number named.Connections (positive_within most_links links) (λ m.
+    with_number named.Slice (positive_within most_slice slice) (λ k.
+    go (record { port = n; links = m; slice = k }))))
+
+-- what is served: a program, from this state on, and by these numbers
+pub record Serving : Type 0 where
+  pub program : DigestedProgram
+  pub state : Value
+  pub port : ℕ
+  pub links : ℕ
+  pub slice : ℕ
+
+abbrev pub serving_of : DigestedProgram → ServingNumbers → Value → Serving
+serving_of p numbers v = record { program = p; state = v; port = numbers.port; links = numbers.links; slice = numbers.slice }
+
+-- Goes on with what the words and the files mean to serve: the program's file, the numbers from left to right, and then the image are judged.
+abbrev pub with_serving : (program image port links slice : List ℕ) → Contents → (Serving → Option Answer) → Option Answer
+with_serving program image port links slice files go =
+    with_program_file (files program) (λ p.
+    with_serving_numbers port links slice (λ numbers.
+    with_image_file p.digested (files image) (λ v. go (serving_of p.digested numbers v))))
+
+-- What `serve P IMG PORT CONNS SLICE OUT` answers where it never comes to listen. How it ends from there on depends on the links, and stands in
+-- `Serving.antt`.
+abbrev pub unserved_answer : (program image port links slice : List ℕ) → Contents → Option Answer
+unserved_answer program image port links slice files = with_serving program image port links slice files (λ serving. None)
+
+-- bytes as a script for a program
+unfoldable pub script_read : NamedProgram → List ℕ → Script
+script_read p text = script_of p.digested.program p.names text
+
+-- goes on with the steps of a script, and with those of the script in a file
+abbrev pub with_steps : Script → (List UserStep → Option Answer) → Option Answer
+with_steps (Steps steps) go = go steps
+with_steps (FaultyLine number) go = Some (input_refused (BadScript number))
+
+abbrev pub with_script : NamedProgram → List ℕ → (List UserStep → Option Answer) → Option Answer
+with_script p text go = with_steps (script_read p text) go
+
+abbrev pub with_script_file : NamedProgram → Option (List ℕ) → (List UserStep → Option Answer) → Option Answer
+with_script_file p file go = with_file max_file named.Script file (λ text. with_script p text go)
+
+-- what is asked of a server: a program, the spelling of the state at which sessions are opened, the port that is dialled, and the steps of the
+-- script
+pub record Asking : Type 0 where
+  pub program : NamedProgram
+  pub state : List ℕ
+  pub port : ℕ
+  pub steps : List UserStep
+
+-- Goes on with what is asked about a program: the port, the state and the script are judged in this order.
+abbrev pub with_asked : NamedProgram → (state port script : List ℕ) → Contents → (Asking → Option Answer) → Option Answer
+with_asked p state port script files go =
+    with_number named.Port (positive_within most_port port) (λ n.
+    with_state_file p.digested.program (files state) (λ bytes.
+    with_script_file p (files script) (λ steps.
+    go (record { program = p; state = bytes; port = n; steps = steps }))))
+
+-- the same, where the program's file is judged before
+abbrev pub with_asking : (program state port script : List ℕ) → Contents → (Asking → Option Answer) → Option Answer
+with_asking program state port script files go = with_program_file (files program) (λ p. with_asked p state port script files go)
+
+-- What `ask P STATE PORT SCRIPT OUT` answers where it never comes to dial. How it ends from there on depends on the link, and stands in
+-- `Asking.antt`.
+abbrev pub unasked_answer : (program state port script : List ℕ) → Contents → Option Answer
+unasked_answer program state port script files = with_asking program state port script files (λ asking. None)
+
 -- What is answered to a command with the texts of its arguments: `check P`, `init P ROLE ARG FUEL OUT`, `ideal P ROLE IMG ARG FUEL`,
 -- `step P ROLE IMG ARG FUEL OUT`, `shallow P IMG OUT`, `prove P ROLE IMG ARG FUEL N OUT`, `verify P ROLE STATE ARG FUEL PROOF`, or this with `OUT` behind it, `audit P ROLE IMG ARG FUEL PROOF`,
--- `library NAME` and `gen NAME SEED COUNT N`. No command is called with more texts or fewer.
+-- `library NAME`, `gen NAME SEED COUNT N`, `serve P IMG PORT CONNS SLICE OUT` as long as it doesn't listen, and `ask P STATE PORT SCRIPT OUT` as
+-- long as it doesn't dial. No command is called with more texts or fewer.
 abbrev pub answer_with : Command → List (List ℕ) → Contents → Option Answer
 answer_with Check (program ∷ []) = checked_answer program
 answer_with Init (program ∷ role ∷ argument ∷ fuel ∷ out ∷ []) = initial_answer program role argument fuel out
@@ -483,6 +563,8 @@ answer_with Verify (program ∷ role ∷ state ∷ argument ∷ fuel ∷ proof �
 answer_with Audit (program ∷ role ∷ image ∷ argument ∷ fuel ∷ proof ∷ []) = audited_answer program role image argument fuel proof
 answer_with Library (name ∷ []) = library_answer name
 answer_with Gen (name ∷ seed ∷ count ∷ kept ∷ []) = generated_answer name seed count kept
+answer_with Serve (program ∷ image ∷ port ∷ links ∷ slice ∷ out ∷ []) = unserved_answer program image port links slice
+answer_with Ask (program ∷ state ∷ port ∷ script ∷ out ∷ []) = unasked_answer program state port script
 answer_with command texts = λ files. None
 
 abbrev pub command_answer : Invocation → Contents → Option Answer

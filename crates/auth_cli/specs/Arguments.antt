@@ -1,7 +1,6 @@
 -- The arguments of a command that are numbers.
-use Rattle.std.specs.Prelude.{ℕ, List, length, nat_le, Bool, ◌&&◌, Option, Some, None, if◌then◌else◌}
-use Rattle.std.specs.Str.{all_ascii_digits}
-use Rattle.std.specs.Str.Parse.{digits_value}
+use Rattle.std.specs.Prelude.{ℕ, List, Option, Some, None, nat_le, if◌then◌else◌}
+use Rattle.number_words.specs.Numbers.{number_within}
 
 -- the greatest amount of fuel: 10^12
 abbrev pub most_fuel : ℕ
@@ -14,14 +13,26 @@ most_seed = 18446744073709551615
 abbrev pub most_rounds : ℕ
 most_rounds = 100000
 
--- a number on the command line has 1 to 20 decimal digits, and nothing else
-abbrev pub is_number : List ℕ → Bool
-is_number text = nat_le 1 (length text) && (nat_le (length text) 20 && all_ascii_digits text)
-
--- the number that a text tells, where it is at most the greatest
-abbrev pub number_within : ℕ → List ℕ → Option ℕ
-number_within most text = if is_number text && nat_le (digits_value 10 text) most then Some (digits_value 10 text) else None
-
 -- the amount of fuel that a text tells
 abbrev pub fuel_of : List ℕ → Option ℕ
 fuel_of text = number_within most_fuel text
+
+-- the port that is listened to, the number of links that are served, and the greatest number of calls of functions in a turn: each is 1 at
+-- least
+abbrev pub most_port : ℕ
+most_port = 65535
+
+abbrev pub most_links : ℕ
+most_links = 1000
+
+abbrev pub most_slice : ℕ
+most_slice = 1000000
+
+-- the number itself, where it is 1 at least
+abbrev pub positive : Option ℕ → Option ℕ
+positive None = None
+positive (Some n) = if nat_le 1 n then Some n else None
+
+-- the number that a text tells, where it is 1 at least and at most the greatest
+abbrev pub positive_within : ℕ → List ℕ → Option ℕ
+positive_within most text = positive (number_within most text)

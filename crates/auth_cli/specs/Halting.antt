@@ -5,6 +5,8 @@ use Rattle.lam_outside.specs.Causes.{Rose}
 use Rattle.printed_syntax.specs.LiteralAnswers.{LiteralFault}
 use Rattle.core_terms.specs.declared.fault.Fault.TheVariants as literal_fault
 use Rattle.printed_syntax.specs.declared.fault.LiteralKind.TheVariants.{Mismatch}
+use Rattle.ask_script.specs.declared.script.ScriptFault.{ScriptFault}
+use Rattle.ask_script.specs.declared.script.ScriptFault.TheVariants as script_fault
 use Rattle.images.specs.declared.fault.ImageFault.{ImageFault}
 use Rattle.images.specs.declared.fault.ImageFault.TheVariants as image_fault
 use Rattle.images.specs.declared.fault.SaveFault.{SaveFault}
@@ -84,6 +86,10 @@ of_image_fault image_fault.NoMemory = NoMemory
 abbrev pub of_save_fault : SaveFault → Halt
 of_save_fault save_fault.TooLong = Refused (refusal.Input (input_fault.TooLong argument.Out))
 of_save_fault save_fault.NoMemory = NoMemory
+
+abbrev pub of_script_fault : ScriptFault → Halt
+of_script_fault (script_fault.Line number) = Refused (refusal.Input (input_fault.Script number))
+of_script_fault script_fault.NoMemory = NoMemory
 
 abbrev pub of_verdict : Verdict → Halt
 of_verdict (verdict.Rejected cause) = Refused (refusal.Proof cause)

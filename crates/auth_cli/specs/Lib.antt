@@ -17,6 +17,15 @@ pub mod Reporting
 pub mod RoleCalls
 pub mod RolesCalled
 pub mod RolesJudged
+pub mod PreparedServers
+pub mod ServedHistories
+pub mod ServeSteps
+pub mod OnlineRuns
+pub mod Serving
+pub mod PreparedClients
+pub mod Asking
+pub mod AskSteps
+pub mod NetRuns
 pub mod ShallowLaws
 pub mod SoundPrograms
 pub mod Statuses

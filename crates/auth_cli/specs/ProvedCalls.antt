@@ -8,7 +8,7 @@ use Rattle.lam_outside.specs.Told.{Contents, AddsStores}
 use Rattle.core_terms.specs.Spelling.{spelling}
 use Rattle.ideal_meaning.specs.Checked.{Accepted}
 use Rattle.auth_cli.specs.Answer.{RoleCall, accepted_answer, callee_of, judged_answer, role_verdict, shallow_told, state_projection}
-use Rattle.auth_cli.specs.Arguments.{number_within}
+use Rattle.number_words.specs.Numbers.{number_within}
 use Rattle.auth_cli.specs.Ending.{Outside}
 use Rattle.auth_cli.specs.IdealCalls.{IdealCall, call_proof, call_proof_line, called_program, projected_outcome}
 use Rattle.auth_cli.specs.NamedCalls.{NamesInputs, NamesRole}

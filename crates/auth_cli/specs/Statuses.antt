@@ -1,21 +1,24 @@
 -- The statuses that a command may answer, whatever the files hold.
 use Rattle.std.specs.Prelude.{◌≡◌}
 use Rattle.command_words.specs.declared.command.Command.{Command}
-use Rattle.command_words.specs.declared.command.Command.TheVariants.{Check, Shallow, Verify, Audit, Library, Gen}
+use Rattle.command_words.specs.declared.command.Command.TheVariants.{Check, Shallow, Verify, Audit, Library, Gen, Serve, Ask}
 use Rattle.auth_cli.specs.declared.status.Status.{Status}
 use Rattle.auth_cli.specs.declared.status.Status.TheVariants.{Usage, Trap, OutOfFuel, Rejected, ProgramRefused, ReadFault, Collision}
 
--- the command runs a function, which may trap or find no fuel
+-- the command answers by the outcome of a function, which may trap or find no fuel
 abbrev pub RunsAFunction : Command → Type 0
 RunsAFunction Check = ⊥
 RunsAFunction Shallow = ⊥
 RunsAFunction Library = ⊥
+RunsAFunction Serve = ⊥
+RunsAFunction Ask = ⊥
 RunsAFunction command = Unit {0}
 
--- the command judges a proof, which it may reject
+-- the command judges a proof, or a server's replies, which it may reject
 abbrev pub JudgesAProof : Command → Type 0
 JudgesAProof Verify = Unit {0}
 JudgesAProof Audit = Unit {0}
+JudgesAProof Ask = Unit {0}
 JudgesAProof command = ⊥
 
 -- the command reads files, and the text of a program

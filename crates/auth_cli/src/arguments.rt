@@ -1,13 +1,14 @@
 // Arguments that are numbers.
 ghost use Rattle.std.specs.Prelude.{◌≡◌, ◌≤◌, ◌^◌, IfOk};
-ghost use Rattle.std.specs.Str.{all_ascii_digits};
 ghost use Rattle.core_terms.specs.Programs.{meaning};
 ghost use Rattle.auth_cli.specs.Answer.{with_fuel, with_kept, with_number};
-ghost use Rattle.auth_cli.specs.Arguments.{is_number, number_within};
+ghost use Rattle.auth_cli.specs.Arguments.{positive_within};
 ghost use Rattle.auth_cli.specs.Halting.{GoesOn, InHand};
+ghost use Rattle.number_words.specs.Numbers.{number_within};
 
 use crate::Halt;
 use core_terms::Program;
+use number_words::read_number;
 use printed_lines::refusal::{Argument, InputFault};
 
 /// The amount of fuel that a text tells.
@@ -39,29 +40,19 @@ pub fn number_named(text: &str, argument: Argument, most: u64) -> Result<u64, Ha
     Ok(read_number(text, most).ok_or(InputFault::Number(argument))?)
 }
 
-/// The number that a text of 1 to 20 decimal digits tells, where it is at most the greatest.
-fn read_number(text: &str, most: u64) -> Option<u64>
-    ensures { result ≡ number_within most text.now }
+/// The number that a text tells for an argument, where it is 1 at least and at most the greatest.
+pub fn positive_named(text: &str, argument: Argument, most: u64) -> Result<u64, Halt>
+    ensures goes { InHand (GoesOn (with_number argument (positive_within most text.now)) (λ n. n)) result }
+    ensures positive { IfOk result (λ n. 1 ≤ n) }
+    ensures fits { IfOk result (λ n. n ≤ most) }
 {
-    if !is_number(text) {
-        return None;
-    }
-    let Ok(number) = text.parse::<u64>() else {
-        return None;
-    };
-    if number <= most { Some(number) } else { None }
+    Ok(read_positive(text, most).ok_or(InputFault::Number(argument))?)
 }
 
-/// Whether the text has 1 to 20 decimal digits, and nothing else.
-fn is_number(text: &str) -> bool
-    ensures { result ≡ is_number text.now }
+/// The number that a text of 1 to 20 decimal digits tells, where it is 1 at least and at most the greatest.
+fn read_positive(text: &str, most: u64) -> Option<u64>
+    ensures { result ≡ positive_within most text.now }
 {
-    !text.is_empty() && text.len() <= 20 && has_digits_alone(text)
-}
-
-/// Whether each byte of the text is a decimal digit.
-fn has_digits_alone(text: &str) -> bool
-    ensures { result ≡ all_ascii_digits text.now }
-{
-    text.bytes().all(|byte| byte.is_ascii_digit())
+    let number = read_number(text, most)?;
+    if number >= 1 { Some(number) } else { None }
 }

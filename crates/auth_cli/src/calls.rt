@@ -69,7 +69,7 @@ pub fn read_role_call<F: Files>(
 }
 
 /// The bytes of a file that are a spelling of a state.
-fn read_state_file<F: Files>(
+pub fn read_state_file<F: Files>(
     alloc: Global,
     files: &mut F,
     program: &Program,

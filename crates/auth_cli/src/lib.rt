@@ -2,6 +2,8 @@
 #![tactic(auto)]
 
 mod arguments;
+mod ask;
+mod asking;
 mod audit_proof;
 mod calls;
 mod check_program;
@@ -9,6 +11,7 @@ mod gen_workload;
 mod ideal_call;
 mod ideal_calls;
 mod init_state;
+mod last_version;
 pub mod laws;
 mod library_text;
 mod machine_calls;
@@ -19,6 +22,8 @@ mod prover_marking;
 mod report;
 mod role_outcomes;
 mod roles;
+mod serve;
+mod serving;
 mod shallow_state;
 mod status;
 mod step_state;
@@ -28,6 +33,7 @@ mod top;
 mod verify_call;
 mod workload_roles;
 
+pub use ask::ask_command;
 pub use audit_proof::audit_command;
 pub use check_program::check_command;
 pub use gen_workload::gen_command;
@@ -36,6 +42,7 @@ pub use init_state::init_command;
 pub use library_text::library_command;
 pub use prove_call::prove_command;
 pub use report::{Ending, Halt, Output, Report, tell};
+pub use serve::serve_command;
 pub use shallow_state::shallow_command;
 pub use status::Status;
 pub use step_state::step_command;

@@ -7,11 +7,12 @@ ghost use Rattle.printed_lines.specs.declared.refusal.Refusal.TheVariants.{Input
 ghost use Rattle.auth_cli.specs.declared.report.Halt.TheVariants.{NoMemory, ReadFault, Refused};
 ghost use Rattle.auth_cli.specs.Reaching.{FaultsAt};
 ghost use Rattle.auth_cli.specs.Answer.{refusal_status, with_file};
-ghost use Rattle.auth_cli.specs.Halting.{GoesOn, HaltCause, ending_status, of_audit_fault, of_image_fault, of_literal_fault, of_program_fault, of_save_fault, of_verdict};
+ghost use Rattle.auth_cli.specs.Halting.{GoesOn, HaltCause, ending_status, of_audit_fault, of_image_fault, of_literal_fault, of_program_fault, of_save_fault, of_script_fault, of_verdict};
 ghost use Rattle.auth_cli.specs.Telling.{Tells, TellsText};
 
 use crate::Status;
 use crate::programs::ProgramFault;
+use ask_script::ScriptFault;
 use collision_audit::AuditFault;
 use images::{ImageFault, SaveFault};
 use lam_outside::{Failed, Files, Load, Sink, load_all};
@@ -140,6 +141,17 @@ impl From<SaveFault> for Halt {
     }
 }
 
+impl From<ScriptFault> for Halt {
+    ghost from_gives = { λ fault halt. halt ≡ of_script_fault fault };
+
+    fn from(fault: ScriptFault) -> Self {
+        match fault {
+            ScriptFault::Line(number) => Halt::Refused(Refusal::Input(InputFault::Script(number))),
+            ScriptFault::NoMemory => Halt::NoMemory,
+        }
+    }
+}
+
 impl From<Verdict> for Halt {
     ghost from_gives = { λ verdict halt. halt ≡ of_verdict verdict };
 
@@ -208,7 +220,7 @@ pub fn load<F: Files>(
 }
 
 /// The line of the want of memory.
-const NO_MEMORY: &[u8] = b"no memory\n";
+pub const NO_MEMORY: &[u8] = b"no memory\n";
 
 /// Writes the line that was found, or the one for what halted the work.
 ///
@@ -247,7 +259,7 @@ fn status_of(refusal: &Refusal) -> Status
 }
 
 /// Writes a text, and answers the status that is meant, or `WriteFault`.
-fn tell_text<O: Sink>(out: &mut O, status: Status, text: &[u8]) -> Status
+pub fn tell_text<O: Sink>(out: &mut O, status: Status, text: &[u8]) -> Status
     ensures { TellsText status text.now result (O.written out.old) (O.written out.new) (O.faults out.old) (O.faults out.new) }
 {
     match write_all(out, text) {
@@ -257,7 +269,7 @@ fn tell_text<O: Sink>(out: &mut O, status: Status, text: &[u8]) -> Status
 }
 
 /// Writes all of the text.
-fn write_all<O: Sink>(out: &mut O, text: &[u8]) -> Result<(), Failed>
+pub fn write_all<O: Sink>(out: &mut O, text: &[u8]) -> Result<(), Failed>
     ensures all { OnOk result (O.written out.new ≡ append_known (O.written out.old) text.now) }
     ensures part { OnErr result ((n : ℕ) × (n ≤ length text.now) × (O.written out.new ≡ append_known (O.written out.old) (take n text.now))) }
     ensures cause { HasCause (O.faults out.old) (O.faults out.new) result }

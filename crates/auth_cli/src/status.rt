@@ -18,7 +18,7 @@ pub enum Status {
     ProgramRefused,
     /// A file is too long, or a role, number, state or argument is refused.
     InputRefused,
-    /// A file could not be read.
+    /// A file could not be read, or a link, an `accept` or a `listen` failed.
     ReadFault,
     /// The sink failed, or a file could not be stored.
     WriteFault,

@@ -5,25 +5,30 @@ ghost use Rattle.std.specs.Io.KnownBytes.{append_known};
 ghost use Rattle.command_words.specs.CommandLine.{AreRefused};
 ghost use Rattle.command_words.specs.Commands.{IsOfCommand, texts};
 ghost use Rattle.command_words.specs.Invocations.{Invocation, invocation_of};
-ghost use Rattle.command_words.specs.declared.command.Command.TheVariants.{Audit, Prove};
+ghost use Rattle.command_words.specs.declared.command.Command.TheVariants.{Ask, Audit, Prove, Serve};
 ghost use Rattle.collision_audit.specs.Splits.{Split};
 ghost use Rattle.lam_outside.specs.Causes.{Rose};
 ghost use Rattle.auth_cli.specs.Answer.{answer, answer_with};
+ghost use Rattle.auth_cli.specs.Asking.{IsAsk};
 ghost use Rattle.auth_cli.specs.AuditedCalls.{CallsAudit, IsAudited, SplitsAt, TellsAnAudit};
 ghost use Rattle.auth_cli.specs.Codes.{code};
 ghost use Rattle.auth_cli.specs.Ending.{outside, EndsAs, IsOfFault, IsOfRefused, IsToldByCode, MayWrite, NoneRose, StoresSome, WritesPart, no_memory_text};
 ghost use Rattle.auth_cli.specs.IdealCalls.{IdealCall};
 ghost use Rattle.auth_cli.specs.NetFaults.{NetRose, net_faults};
+ghost use Rattle.auth_cli.specs.NetRuns.{CallsNoDial, CallsNoListen, EndsCommand, EndsRun, IsOffline, IsReadFaultAt, UsesNoNet};
+ghost use Rattle.auth_cli.specs.OnlineRuns.{net_seen};
 ghost use Rattle.auth_cli.specs.ProvedCalls.{CallsProve, IsProved};
 ghost use Rattle.auth_cli.specs.Reaching.{IsReached, ReachedAt};
+ghost use Rattle.auth_cli.specs.Serving.{IsServe};
 ghost use Rattle.auth_cli.specs.Statuses.{MayAnswer};
 ghost use Rattle.auth_cli.specs.TrueLines.{IsTrueLine, TellsOutcome};
 ghost use Rattle.auth_cli.specs.declared.status.Status.{Status};
 
 use crate::report::tell;
 use crate::{
-    Halt, Status, audit_command, check_command, gen_command, ideal_command, init_command,
-    library_command, prove_command, shallow_command, step_command, verify_command,
+    Halt, Status, ask_command, audit_command, check_command, gen_command, ideal_command,
+    init_command, library_command, prove_command, serve_command, shallow_command, step_command,
+    verify_command,
 };
 use command_words::{Command, WordsFault, read};
 use lam_outside::{Files, Net, Sink};
@@ -42,6 +47,8 @@ use std::alloc::Global;
 /// | 0 | the text | `library`: the program of the library, unchanged |
 /// | 0 | `done VALUE` | the outcome has this value, in projection; the image of the state that `init` or `step` made is stored, and the spelling of the one that `verify` names a file for |
 /// | 0, 3, 4 | `proof new A used U bytes B` | `prove`, behind the outcome's line: the proof has A pieces of its own, names U again, and the file that is stored has B bytes |
+/// | 0, 7, 8, 10 | `listening PORT` | `serve`, as soon as it listens; other lines follow |
+/// | 0, 7, 8, 10 | `versions V commits C` | `serve`, behind its last connection: it has so many versions of the state, and commits that made them |
 /// | 2 | `usage: lamauth COMMAND ARGUMENTS` | the words call no command |
 /// | 3 | `trap NAME` | the outcome is this trap: `overflow`, `divzero`, `toobig`, `toodeep` |
 /// | 4 | `out of fuel` | the outcome is the want of fuel |
@@ -55,6 +62,9 @@ use std::alloc::Global;
 /// | 7 | `input refused: number FUEL` | the fuel isn't of 1 to 20 digits, or above 10^12 |
 /// | 7 | `input refused: number SEED` | the seed isn't of 1 to 20 digits, or above 2^64 - 1 |
 /// | 7 | `input refused: number COUNT` | the number of rounds isn't of 1 to 20 digits, or above 100,000 |
+/// | 7 | `input refused: number PORT` | the port isn't of 1 to 20 digits, or not from 1 to 65,535 |
+/// | 7 | `input refused: number CONNS` | the number of connections isn't of 1 to 20 digits, or not from 1 to 1,000 |
+/// | 7 | `input refused: number SLICE` | the number of calls in a turn isn't of 1 to 20 digits, or not from 1 to 1,000,000 |
 /// | 7 | `input refused: number N` | the number of pieces that are kept isn't of 1 to 20 digits, or above 1,024 |
 /// | 7 | `input refused: state OFFSET` | the state's bytes are no spelling: the first fault |
 /// | 7 | `input refused: image magic` | the image doesn't begin as one |
@@ -67,6 +77,7 @@ use std::alloc::Global;
 /// | 7 | `input refused: image leftover BYTES` | so many bytes stand behind the last record |
 /// | 7 | `input refused: argument KIND OFFSET` | the argument is no literal of its type: the first fault |
 /// | 8 | `read fault` | a file could not be read |
+/// | 8 | `link fault` | `serve`: it could not listen; or, as the last line, a link or an accept failed |
 /// | 9 | a part of a line | the sink failed, or a file could not be stored |
 /// | 10 | `no memory` | memory was wanting |
 /// | 11 | `collision PLACE OFFERED HONEST` | `audit`: the first offered piece that differs from the honest one has its digest: the place, and both pieces in lower-case hexadecimal digits, one without bytes as `-` |
@@ -87,9 +98,11 @@ use std::alloc::Global;
 ///
 /// The program's text has at most 262,144 bytes, each other file at most 67,108,864, but that a proof that is judged may
 /// have any length. What is refused first in this order ends the run: the words, the program, the role, the fuel, the number of
-/// pieces that are kept, the state or the image, the argument, the proof; of `gen` the words, the name, the seed, the number of
-/// rounds, the number of pieces that are kept. A file is opened when all that stands before it is well-formed, so `read fault`
-/// comes only from a file that this order had reached. A file is stored before any line is written. No command of these uses the net.
+/// pieces that are kept, the port, the number of connections, the number of calls in a turn, the state or the image, the argument,
+/// the proof; of `gen` the words, the name, the seed, the number of rounds, the number of pieces that are kept. A file is opened when
+/// all that stands before it is well-formed, so `read fault` comes only from a file that this order had reached. A file is stored
+/// before any line is written, but by `serve`, which writes its lines as they arise and stores the last version behind them, however
+/// it ended. `serve` alone uses the net, and waits for peers.
 pub fn run<F: Files, O: Sink, N: Net>(
     alloc: Global,
     words: &[&str],
@@ -105,13 +118,28 @@ pub fn run<F: Files, O: Sink, N: Net>(
     requires accepts_below { N.accept_faults net.old < 2 ^ 64 - 1 }
     requires dials_below { N.dial_faults net.old < 2 ^ 64 - 1 }
 
-    // The one sentence from which the others follow: what was written and stored, and which counts rose, by the status.
-    ensures ends { let seen = outside F.contents F.stores F.faults F.store_faults O.written O.faults in
+    // The one sentence from which the others follow, of words that call no command on the net: what was written and stored, and which
+    // counts rose, by the status.
+    ensures ends { IsOffline (invocation_of (texts words.now)) → let seen = outside F.contents F.stores F.faults F.store_faults O.written O.faults in
         (status : Status) × (result ≡ code status)
         × EndsAs (answer (texts words.now)) (seen files.old out.old) (seen files.new out.new) status }
 
+    // The one of `serve`: what was sent on each link that was made, what was written of it, and the last version, which is stored however the
+    // serving ended.
+    ensures serves { let seen = outside F.contents F.stores F.faults F.store_faults O.written O.faults in
+        let links = net_seen N.ended N.linked N.given N.left N.sent N.listened (net_faults N.faults N.listen_faults N.accept_faults N.dial_faults) in
+        (called : Invocation) → invocation_of (texts words.now) ≡ Some called → called.command ≡ Serve
+        → (status : Status) × (result ≡ code status) × IsServe called.texts (seen files.old out.old) (seen files.new out.new) (links net.old) (links net.new) status }
+
+    // The one of `ask`: what was sent on the link that was made, what was written of the play on the replies that came, and the state told last,
+    // which is stored however the play ended.
+    ensures asks { let seen = outside F.contents F.stores F.faults F.store_faults O.written O.faults in
+        let links = net_seen N.ended N.linked N.given N.left N.sent N.listened (net_faults N.faults N.listen_faults N.accept_faults N.dial_faults) in
+        (called : Invocation) → invocation_of (texts words.now) ≡ Some called → called.command ≡ Ask
+        → (status : Status) × (result ≡ code status) × IsAsk called.texts (seen files.old out.old) (seen files.new out.new) (links net.old) (links net.new) status }
+
     // Where no count rose, status, lines and stored files are those of the defined answer, or memory was wanting.
-    ensures answered { let seen = outside F.contents F.stores F.faults F.store_faults O.written O.faults in
+    ensures answered { IsOffline (invocation_of (texts words.now)) → let seen = outside F.contents F.stores F.faults F.store_faults O.written O.faults in
         NoneRose (seen files.old out.old) (seen files.new out.new) → result ≢ 10
         → ForSome (F.contents files.old) (λ told. IsToldByCode (answer (texts words.now) told) (seen files.old out.old) (seen files.new out.new) result) }
 
@@ -149,64 +177,102 @@ pub fn run<F: Files, O: Sink, N: Net>(
     ensures usage { result ≡ 2 → AreRefused (texts words.now) }
     ensures refused { AreRefused (texts words.now) → (result ≡ 2) ⊎ ((result ≡ 9) ⊎ (result ≡ 10)) }
 
-    // 8 exactly where the read count of the files or the count of the net rose, 9 and 10 aside, and then `read fault` alone was written.
+    // 8 exactly where the read count of the files or the count of the net rose, 9 and 10 aside; and then, of words that call no command on the
+    // net, `read fault` alone was written.
     ensures fault { let counts = net_faults N.faults N.listen_faults N.accept_faults N.dial_faults in
         result ≡ 8 → Rose (F.faults files.old) (F.faults files.new) ⊎ NetRose (counts net.old) (counts net.new) }
     ensures rose { let counts = net_faults N.faults N.listen_faults N.accept_faults N.dial_faults in
         Rose (F.faults files.old) (F.faults files.new) ⊎ NetRose (counts net.old) (counts net.new) → (result ≡ 8) ⊎ ((result ≡ 9) ⊎ (result ≡ 10)) }
-    ensures read_fault_line { result ≡ 8 → O.written out.new ≡ append_known (O.written out.old) (codes "read fault\n") }
+    ensures read_fault_line { IsOffline (invocation_of (texts words.now)) → result ≡ 8 → O.written out.new ≡ append_known (O.written out.old) (codes "read fault\n") }
 
-    // No command uses the net yet: it is left as it was.
-    ensures unused { net.new ≡ net.old }
+    // Words that call no command on the net leave it as it was; `ask` alone dials, and `serve` alone listens and accepts.
+    ensures unused { IsOffline (invocation_of (texts words.now)) → net.new ≡ net.old }
+    ensures dials { CallsNoDial (invocation_of (texts words.now)) → N.dial_faults net.new ≡ N.dial_faults net.old }
+    ensures listens { CallsNoListen (invocation_of (texts words.now))
+        → (N.listen_faults net.new ≡ N.listen_faults net.old) × (N.accept_faults net.new ≡ N.accept_faults net.old) }
 
-    // And 8 comes only from a file that the order of refusals had reached: the one that was asked for last, without which these words and
-    // the other files have no answer.
-    ensures reached { result ≡ 8 → IsReached (answer (texts words.now)) (F.contents files.old) (F.asked files.new) }
+    // And where a file could not be read, it is one that the order of refusals had reached: the one that was asked for last, without which
+    // these words and the other files have no answer.
+    ensures reached { result ≡ 8 → Rose (F.faults files.old) (F.faults files.new) → IsReached (answer (texts words.now)) (F.contents files.old) (F.asked files.new) }
 
     // 9 exactly where the count of the sink or of `store` rose, and then a part of such a text was written.
     ensures write_fault { result ≡ 9
         ↔ (Rose (O.faults out.old) (O.faults out.new) ⊎ Rose (F.store_faults files.old) (F.store_faults files.new)) }
-    ensures write_part { result ≡ 9 → ForSome (F.contents files.old) (λ told.
+    ensures write_part { IsOffline (invocation_of (texts words.now)) → result ≡ 9 → ForSome (F.contents files.old) (λ told.
         (text : List ℕ) × MayWrite (answer (texts words.now) told) text × WritesPart (O.written out.old) (O.written out.new) text) }
 
-    // Stored before any line: where a file could not be stored, nothing was written.
-    ensures stored_first { Rose (F.store_faults files.old) (F.store_faults files.new) → O.written out.new ≡ O.written out.old }
+    // Stored before any line, but by `serve`: where a file could not be stored, nothing was written.
+    ensures stored_first { IsOffline (invocation_of (texts words.now)) → Rose (F.store_faults files.old) (F.store_faults files.new)
+        → O.written out.new ≡ O.written out.old }
 
     // At 10 whole lines of the answer were written, and then `no memory`.
-    ensures no_memory { result ≡ 10 → ForSome (F.contents files.old) (λ told.
+    ensures no_memory { IsOffline (invocation_of (texts words.now)) → result ≡ 10 → ForSome (F.contents files.old) (λ told.
         (k : ℕ) × (O.written out.new ≡ append_known (O.written out.old) (no_memory_text (answer (texts words.now) told) k))) }
 
     // What `store` was given are files of the answer.
-    ensures stored { ForSome (F.contents files.old) (λ told. StoresSome (answer (texts words.now) told) (F.stores files.old) (F.stores files.new)) }
+    ensures stored { IsOffline (invocation_of (texts words.now))
+        → ForSome (F.contents files.old) (λ told. StoresSome (answer (texts words.now) told) (F.stores files.old) (F.stores files.new)) }
 {
-    ended(alloc, words, files, out).code()
+    ended(alloc, words, files, out, net).code()
 }
 
 /// Judges the words, and carries out the command that they call.
-#[tactic(auto, unfolding(crate::specs::Answer::answer))]
-fn ended<F: Files, O: Sink>(alloc: Global, words: &[&str], files: &mut F, out: &mut O) -> Status
+fn ended<F: Files, O: Sink, N: Net>(
+    alloc: Global,
+    words: &[&str],
+    files: &mut F,
+    out: &mut O,
+    net: &mut N,
+) -> Status
     ensures ends { let seen = outside F.contents F.stores F.faults F.store_faults O.written O.faults in
-        EndsAs (answer (texts words.now)) (seen files.old out.old) (seen files.new out.new) result }
-    ensures reached { ReachedAt result (answer (texts words.now)) (F.contents files.old) (F.asked files.new) }
+        let links = net_seen N.ended N.linked N.given N.left N.sent N.listened (net_faults N.faults N.listen_faults N.accept_faults N.dial_faults) in
+        EndsRun (invocation_of (texts words.now)) (seen files.old out.old) (seen files.new out.new) (links net.old) (links net.new) result }
+    ensures unused { IsOffline (invocation_of (texts words.now)) → net.new ≡ net.old }
+    ensures reached { IsReadFaultAt (answer (texts words.now)) (F.contents files.old) (F.asked files.new) (F.faults files.old) (F.faults files.new) result }
     ensures possible { (called : Invocation) → invocation_of (texts words.now) ≡ Some called → MayAnswer called.command result }
     ensures refused { invocation_of (texts words.now) ≡ None → IsOfRefused result }
 {
     match read(alloc, words) {
-        Ok(called) => carry_out(alloc, called.command, called.texts, files, out),
+        Ok(called) => carry_out(alloc, called.command, called.texts, files, out, net),
         Err(WordsFault::Refused) => tell(alloc, out, Err(Halt::Usage)),
         Err(WordsFault::NoMemory) => tell(alloc, out, Err(Halt::NoMemory)),
     }
 }
 
 /// Carries out a command with as many texts as it has arguments.
-fn carry_out<F: Files, O: Sink>(
+fn carry_out<F: Files, O: Sink, N: Net>(
+    alloc: Global,
+    command: Command,
+    words: &[&str],
+    files: &mut F,
+    out: &mut O,
+    net: &mut N,
+) -> Status
+    requires { IsOfCommand command (texts words.now) }
+    ensures ends { let seen = outside F.contents F.stores F.faults F.store_faults O.written O.faults in
+        let links = net_seen N.ended N.linked N.given N.left N.sent N.listened (net_faults N.faults N.listen_faults N.accept_faults N.dial_faults) in
+        EndsCommand command (texts words.now) (seen files.old out.old) (seen files.new out.new) (links net.old) (links net.new) result }
+    ensures unused { UsesNoNet command → net.new ≡ net.old }
+    ensures reached { IsReadFaultAt (answer_with command (texts words.now)) (F.contents files.old) (F.asked files.new) (F.faults files.old) (F.faults files.new) result }
+    ensures possible { MayAnswer command result }
+{
+    match command {
+        Command::Serve => serve_command(alloc, words, files, out, net),
+        Command::Ask => ask_command(alloc, words, files, out, net),
+        _ => carry_out_offline(alloc, command, words, files, out),
+    }
+}
+
+/// The same of a command that uses no net.
+fn carry_out_offline<F: Files, O: Sink>(
     alloc: Global,
     command: Command,
     words: &[&str],
     files: &mut F,
     out: &mut O,
 ) -> Status
-    requires { IsOfCommand command (texts words.now) }
+    requires command { IsOfCommand command (texts words.now) }
+    requires offline { UsesNoNet command }
     ensures ends { let seen = outside F.contents F.stores F.faults F.store_faults O.written O.faults in
         EndsAs (answer_with command (texts words.now)) (seen files.old out.old) (seen files.new out.new) result }
     ensures reached { ReachedAt result (answer_with command (texts words.now)) (F.contents files.old) (F.asked files.new) }
@@ -223,5 +289,6 @@ fn carry_out<F: Files, O: Sink>(
         Command::Audit => audit_command(alloc, words, files, out),
         Command::Library => library_command(alloc, words, out),
         Command::Gen => gen_command(alloc, words, out),
+        Command::Serve | Command::Ask => unreachable!(),
     }
 }

@@ -1,5 +1,5 @@
 -- Expressions by the parts that the code reads: each reading, where a part is read with what has to stand behind it.
-use Rattle.std.proofs.Common.{◌≡◌, ◌∙◌, ℕ, ap, Bool, true, false, Option, Some, None, Result, Err, Vec, refl, sym, subst}
+use Rattle.std.proofs.Common.{◌≡◌, ◌∙◌, ℕ, ap, Bool, true, false, List, Option, Some, None, Result, Err, Vec, refl, sym, subst}
 use Rattle.core_terms.specs.declared.term.BinaryOperator.{BinaryOperator}
 use Rattle.lexemes.specs.declared.place.Place.{Place}
 use Rattle.lexemes.specs.declared.token.Mark.TheVariants.{LeftParenthesis, RightParenthesis, Comma, EqualsSign, Bar, Arrow}
@@ -10,7 +10,7 @@ use Rattle.lexemes.specs.Tokens.{MarkToken, Tokens, Next, count}
 use Rattle.lexemes.specs.Readings.{SyntaxFault, Reading, Found, FaultAt, then_read, read_mark, read_keyword}
 use Rattle.lexemes.specs.Remaining.{Reads, Takes, read_if_mark}
 use Rattle.auth_syntax.specs.Syntax.{NameSyntax, UnaryOperation, ExpSyntax, UnitSyntax, PairSyntax, UnarySyntax, BinarySyntax, LetSyntax, IfSyntax, MatchSyntax}
-use Rattle.auth_syntax.specs.Parsing.{read_lower, read_upper, read_optional_list, read_expression, operation_from, read_unit_or_pair, read_let, read_if, read_match, read_arms}
+use Rattle.auth_syntax.specs.Parsing.{read_lower, read_upper, read_list, read_optional_list, read_call, read_constructor, read_expression, operation_from, read_unit_or_pair, read_let, read_if, read_match, read_arms}
 use Rattle.auth_syntax.specs.Arms.{read_arm}
 use Rattle.auth_syntax.specs.Trees.{ArmSyntax, arms_of, boxed_of, expression_of, name_of, unary_of}
 use Rattle.std.specs.declared.alloc.Global.{Global}
@@ -20,10 +20,10 @@ use Rattle.auth_syntax.specs.declared.tree.ExpTree.{ExpTree}
 use Rattle.auth_syntax.specs.declared.tree.PlacedName.{PlacedName}
 use Rattle.auth_syntax.specs.declared.tree.UnaryOperator.{UnaryOperator}
 use Rattle.auth_syntax.specs.declared.tree.ExpTree as tree
-use Rattle.auth_syntax.specs.declared.tree.ExpTree.TheVariants.{rolls-Unary, rolls-Binary, rolls-Let, rolls-If, rolls-Match}
+use Rattle.auth_syntax.specs.declared.tree.ExpTree.TheVariants.{rolls-Pair, rolls-Unary, rolls-Binary, rolls-Let, rolls-If, rolls-Match}
 use Rattle.auth_syntax.specs.declared.tree.ExpTree.TheFolds.{fold-roll-ExpTree}
-use Rattle.auth_syntax.specs.Parts.{Begins, BothSyntax, OperationSyntax, OnOne, OnTwo, PatternSyntax, then_closed}
-use Rattle.auth_syntax.specs.Parts.{read_before, read_behind, read_binding, read_both, read_operation, read_pattern}
+use Rattle.auth_syntax.specs.Parts.{Begins, BothSyntax, OperationSyntax, OnOne, OnTwo, PatternSyntax, as_call, as_constructor, then_closed}
+use Rattle.auth_syntax.specs.Parts.{read_before, read_behind, read_binding, read_both, read_operands, read_operation, read_pattern}
 use Rattle.auth_syntax.specs.declared.parser.expressions.Behind.{Behind}
 use Rattle.auth_syntax.specs.declared.parser.expressions.Behind.TheVariants as behind
 use Rattle.auth_syntax.proofs.MadeOfTokens.{expression_is_tokens}
@@ -45,6 +45,10 @@ pub seen_as : {A B : Type 0} (view : A → B) (result : Result A SyntaxFault) (l
 seen_as {B} view result left is h = subst (λ (reading : Reading B). Reads view reading result left) (sym is) h
 
 -- what trees stand for, by their parts
+pub pair_tree : (at : Place) (first second : Box ExpTree Global)
+    → expression_of (tree.Pair at first second) ≡ PairSyntax at (boxed_of first) (boxed_of second)
+pair_tree at first second = ap expression_of (sym (rolls-Pair at first second)) ∙ fold-roll-ExpTree _ _ _ _ _
+
 pub unary_tree : (at : Place) (operation : UnaryOperator) (operand : Box ExpTree Global)
     → expression_of (tree.Unary at operation operand) ≡ UnarySyntax at (unary_of operation) (boxed_of operand)
 unary_tree at operation operand = ap expression_of (sym (rolls-Unary at operation operand)) ∙ fold-roll-ExpTree _ _ _ _ _
@@ -113,6 +117,18 @@ module _ (part : Tokens → Reading ExpSyntax) where
       → read_unit_or_pair part at tokens ≡ then_read (read_if_mark RightParenthesis tokens) (unit_or_both at)
   unit_or_pair_is at (Next next (MarkToken RightParenthesis) rest) = refl
   unit_or_pair_is at tokens = sym (both_is tokens (as_pair at))
+
+  -- behind a name
+  pub call_is : (at : Place) (name : List ℕ) (tokens : Tokens) → read_call part at name tokens ≡ then_read (read_operands part tokens) (as_call at name)
+  call_is at name (Next next (MarkToken LeftParenthesis) rest) =
+      sym (in_turn (read_list part (count rest) rest) (λ operands rest. Found (Some operands) rest) (as_call at name))
+  call_is at name tokens = refl
+
+  pub constructor_is : (at : Place) (name : List ℕ) (tokens : Tokens)
+      → read_constructor part at name tokens ≡ then_read (read_operands part tokens) (as_constructor at name)
+  constructor_is at name (Next next (MarkToken LeftParenthesis) rest) =
+      sym (in_turn (read_list part (count rest) rest) (λ operands rest. Found (Some operands) rest) (as_constructor at name))
+  constructor_is at name tokens = refl
 
   -- operations
   abbrev pub operated : Place → OperationSyntax → Tokens → Reading ExpSyntax

@@ -1,5 +1,5 @@
 -- Parts of expressions as the code reads them: each with what has to stand behind it.
-use Rattle.std.specs.Prelude.{◌≡◌, ◌≢◌, ℕ, ⊤, Result, Ok, Err, true, Option, Some, None, List, Box}
+use Rattle.std.specs.Prelude.{◌≡◌, ◌≢◌, ℕ, ⊤, Result, Ok, Err, Bool, true, false, Option, Some, None, List, Box, Vec, option_map}
 use Rattle.std.specs.declared.alloc.Global.{Global}
 use Rattle.core_terms.specs.declared.term.BinaryOperator.{BinaryOperator}
 use Rattle.lexemes.specs.declared.place.Place.{Place}
@@ -7,11 +7,12 @@ use Rattle.lexemes.specs.declared.token.Mark.TheVariants.{LeftParenthesis, Right
 use Rattle.lexemes.specs.declared.fault.SyntaxKind.TheVariants.{Expected}
 use Rattle.core_terms.specs.Texts.{bytes_of}
 use Rattle.core_terms.specs.declared.fault.Fault.TheVariants.{At, NoMemory}
-use Rattle.lexemes.specs.Tokens.{Token, KeywordToken, MarkToken, LowerToken, UpperToken, IntToken, TextToken, Tokens, Next}
+use Rattle.lexemes.specs.Tokens.{Token, KeywordToken, MarkToken, LowerToken, UpperToken, IntToken, TextToken, Tokens, Next, count}
 use Rattle.lexemes.specs.Readings.{SyntaxFault, Reading, Found, FaultAt, then_read, read_mark, read_keyword}
-use Rattle.auth_syntax.specs.Syntax.{NameSyntax, UnaryOperation, ExpSyntax}
-use Rattle.auth_syntax.specs.Parsing.{begins_expression, read_expression, read_lower, read_upper, read_optional_list}
-use Rattle.auth_syntax.specs.Trees.{name_of, names_of, unary_of, boxed_of}
+use Rattle.lexemes.specs.Remaining.{read_if_mark}
+use Rattle.auth_syntax.specs.Syntax.{NameSyntax, UnaryOperation, ExpSyntax, CallSyntax, ConstructorSyntax, LocalSyntax, NoExp}
+use Rattle.auth_syntax.specs.Parsing.{begins_expression, in_a_row, read_expression, read_list, read_lower, read_upper, read_optional_list}
+use Rattle.auth_syntax.specs.Trees.{name_of, names_of, unary_of, boxed_of, expressions_of}
 use Rattle.auth_syntax.specs.declared.tree.ExpTree.{ExpTree}
 use Rattle.auth_syntax.specs.declared.parser.expressions.Behind.{Behind}
 use Rattle.auth_syntax.specs.declared.parser.expressions.Behind.TheVariants as behind
@@ -68,6 +69,25 @@ read_both part tokens =
     then_read (read_before (behind.Mark Comma) part tokens) (λ first tokens.
     then_read (read_before (behind.Mark RightParenthesis) part tokens) (λ second tokens.
     Found (record { first = first; second = second }) tokens))
+
+-- behind a name: expressions in parentheses, or none where no parenthesis stands
+abbrev pub operands_of : Option (Vec ExpTree Global) → Option (List ExpSyntax)
+operands_of operands = option_map expressions_of operands
+
+abbrev pub operands_behind : (Tokens → Reading ExpSyntax) → Bool → Tokens → Reading (Option (List ExpSyntax))
+operands_behind part true tokens = then_read (read_list part (count tokens) tokens) (λ operands tokens. Found (Some operands) tokens)
+operands_behind part false tokens = Found None tokens
+
+abbrev pub read_operands : (Tokens → Reading ExpSyntax) → Tokens → Reading (Option (List ExpSyntax))
+read_operands part tokens = then_read (read_if_mark LeftParenthesis tokens) (operands_behind part)
+
+abbrev pub as_call : Place → List ℕ → Option (List ExpSyntax) → Tokens → Reading ExpSyntax
+as_call at name (Some operands) tokens = Found (CallSyntax at name (in_a_row operands)) tokens
+as_call at name None tokens = Found (LocalSyntax at name) tokens
+
+abbrev pub as_constructor : Place → List ℕ → Option (List ExpSyntax) → Tokens → Reading ExpSyntax
+as_constructor at name (Some operands) tokens = Found (ConstructorSyntax at name (in_a_row operands)) tokens
+as_constructor at name None tokens = Found (ConstructorSyntax at name NoExp) tokens
 
 -- an operation, with the parenthesis before its operands
 pub data OperationSyntax : Type 0 where

@@ -1,9 +1,10 @@
 // Runs over files, a sink and a net in memory.
-ghost use Rattle.std.specs.Prelude.{◌<◌};
+ghost use Rattle.std.specs.Prelude.{◌<◌, ◌-◌, ◌^◌};
+ghost use Rattle.lam_outside.specs.MemNets.{net_accept_faults, net_dial_faults, net_faults, net_listen_faults};
 
 use crate::stage::{Stage, files, net, sink, staged};
 use auth_cli::run;
-use lam_outside::{MemFiles, MemSink};
+use lam_outside::{MemFiles, MemNet, MemSink};
 use std::alloc::{AllocError, Global};
 
 /// What a run told, how many files it stored, and the name and the bytes of the last one.
@@ -74,11 +75,57 @@ pub fn run_failing(
     requires read { 0 < stage.now.most_read }
     requires written { 0 < writes.0 }
 {
+    let mut net = net(alloc, &[], 1, &[])?;
+    run_over(alloc, stage, words, &mut net, failing, writes)
+}
+
+/// What comes on the links of a net, how much of it moves at once, and which calls of the net fail.
+#[derive(Clone, Copy)]
+pub struct Peers<'a> {
+    pub bytes: &'a [Vec<u8>],
+    pub most: usize,
+    pub failing: &'a [u64],
+}
+
+/// Runs these words behind the program's name over a net, where these calls of the files fail; and what was sent on its last link.
+pub fn run_on_net(
+    alloc: Global,
+    stage: &Stage,
+    words: &[&str],
+    peers: &Peers,
+    failing: &[u64],
+    writes: Writes,
+) -> Result<(Run, Vec<u8>), AllocError>
+    requires read { 0 < stage.now.most_read }
+    requires written { 0 < writes.0 }
+    requires moved { 0 < peers.now.most }
+{
+    let mut net = net(alloc, peers.bytes, peers.most, peers.failing)?;
+    let run = run_over(alloc, stage, words, &mut net, failing, writes)?;
+    Ok((run, net.sent().to_vec(alloc)?))
+}
+
+/// The same over this net.
+fn run_over(
+    alloc: Global,
+    stage: &Stage,
+    words: &[&str],
+    net: &mut MemNet,
+    failing: &[u64],
+    writes: Writes,
+) -> Result<Run, AllocError>
+    requires read { 0 < stage.now.most_read }
+    requires written { 0 < writes.0 }
+    requires links { net_faults net.old < 2 ^ 64 - 1 }
+    requires listens { net_listen_faults net.old < 2 ^ 64 - 1 }
+    requires accepts { net_accept_faults net.old < 2 ^ 64 - 1 }
+    requires dials { net_dial_faults net.old < 2 ^ 64 - 1 }
+{
     let (most, failing_writes) = writes;
     let words = with_name(alloc, words)?;
     let mut out = sink(alloc, most, failing_writes)?;
     let mut files = files(alloc, stage, failing)?;
-    let status = run(alloc, &words, &mut files, &mut out, &mut net(alloc));
+    let status = run(alloc, &words, &mut files, &mut out, net);
     told(alloc, status, &files, &out)
 }
 

@@ -68,12 +68,23 @@ pub fn sink(alloc: Global, most: usize, failing: &[u64]) -> Result<MemSink, Allo
     Ok(MemSink::new(alloc, most, Plan::new(Vec::from_slice(alloc, failing)?)))
 }
 
-/// A net on whose links nothing comes.
-pub fn net(alloc: Global) -> MemNet
-    ensures links { net_faults result ≡ 0 }
-    ensures listens { net_listen_faults result ≡ 0 }
-    ensures accepts { net_accept_faults result ≡ 0 }
-    ensures dials { net_dial_faults result ≡ 0 }
+/// A net on whose n-th link the n-th of these bytes come, of which so many move at once, and of which these calls fail.
+pub fn net(
+    alloc: Global,
+    peers: &[Vec<u8>],
+    most: usize,
+    failing: &[u64],
+) -> Result<MemNet, AllocError>
+    requires { 0 < most }
+    ensures links { IfOk result (λ net. net_faults net ≡ 0) }
+    ensures listens { IfOk result (λ net. net_listen_faults net ≡ 0) }
+    ensures accepts { IfOk result (λ net. net_accept_faults net ≡ 0) }
+    ensures dials { IfOk result (λ net. net_dial_faults net ≡ 0) }
 {
-    MemNet::new(alloc, Vec::new(alloc), 1, Plan::new(Vec::new(alloc)))
+    let plan = Plan::new(Vec::from_slice(alloc, failing)?);
+    let mut all = Vec::new(alloc);
+    for bytes in peers {
+        all.push(Vec::from_slice(alloc, bytes)?)?;
+    }
+    Ok(MemNet::new(alloc, all, most, plan))
 }

@@ -16,6 +16,8 @@ pub enum Command {
     Audit,
     Library,
     Gen,
+    Serve,
+    Ask,
 }
 
 /// A command that words call, with the texts of its arguments.
@@ -38,7 +40,7 @@ pub struct Row {
 
 /// The commands.
 #[rattlefmt::skip]
-static COMMANDS: [Row; 10] = [
+static COMMANDS: [Row; 12] = [
     Row { command: Command::Check, name: "check", arguments: &["P"], least: 1 },
     Row { command: Command::Init, name: "init", arguments: &["P", "ROLE", "ARG", "FUEL", "OUT"], least: 5 },
     Row { command: Command::Ideal, name: "ideal", arguments: &["P", "ROLE", "IMG", "ARG", "FUEL"], least: 5 },
@@ -49,6 +51,8 @@ static COMMANDS: [Row; 10] = [
     Row { command: Command::Audit, name: "audit", arguments: &["P", "ROLE", "IMG", "ARG", "FUEL", "PROOF"], least: 6 },
     Row { command: Command::Library, name: "library", arguments: &["NAME"], least: 1 },
     Row { command: Command::Gen, name: "gen", arguments: &["NAME", "SEED", "COUNT", "N"], least: 4 },
+    Row { command: Command::Serve, name: "serve", arguments: &["P", "IMG", "PORT", "CONNS", "SLICE", "OUT"], least: 6 },
+    Row { command: Command::Ask, name: "ask", arguments: &["P", "STATE", "PORT", "SCRIPT", "OUT"], least: 5 },
 ];
 
 /// The table of the commands.

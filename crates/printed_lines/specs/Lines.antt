@@ -25,7 +25,7 @@ use Rattle.printed_lines.specs.declared.refusal.Argument.TheVariants as argument
 use Rattle.printed_lines.specs.declared.refusal.ImageKind.{ImageKind}
 use Rattle.printed_lines.specs.declared.refusal.ImageKind.TheVariants as image
 use Rattle.printed_lines.specs.declared.refusal.InputFault.{InputFault}
-use Rattle.printed_lines.specs.declared.refusal.InputFault.TheVariants.{TooLong, LibraryUnknown, RoleUnknown, RoleKind, Number, State, Literal, Image}
+use Rattle.printed_lines.specs.declared.refusal.InputFault.TheVariants.{TooLong, LibraryUnknown, RoleUnknown, RoleKind, Number, State, Literal, Image, Script}
 use Rattle.printed_lines.specs.declared.refusal.Refusal.{Refusal}
 use Rattle.printed_lines.specs.declared.refusal.Refusal.TheVariants as refusal
 
@@ -98,6 +98,10 @@ argument_name argument.Number = codes "N"
 argument_name argument.Out = codes "OUT"
 argument_name argument.Seed = codes "SEED"
 argument_name argument.Count = codes "COUNT"
+argument_name argument.Port = codes "PORT"
+argument_name argument.Connections = codes "CONNS"
+argument_name argument.Slice = codes "SLICE"
+argument_name argument.Script = codes "SCRIPT"
 
 -- why bytes are no image
 abbrev pub image_text : ImageKind → List ℕ
@@ -120,6 +124,7 @@ input_text (Number argument) = codes "number" ++ word (argument_name argument)
 input_text (State offset) = codes "state" ++ also offset
 input_text (Literal kind offset) = codes "argument" ++ (word (literal_name kind) ++ also offset)
 input_text (Image kind) = image_text kind
+input_text (Script line) = codes "script" ++ also line
 
 -- that a frame names a kept piece which isn't there
 abbrev pub bad_use_text : ℕ → ℕ → ℕ → List ℕ
@@ -212,3 +217,16 @@ collision_line place offered honest = line_of (codes "collision") (also place ++
 -- the line of an audit that agrees on an outcome, behind which the outcome's line stands
 abbrev pub agrees_line : List ℕ → List ℕ
 agrees_line line = codes "agrees " ++ line
+
+-- the lines of a server: that it listens to a port, how many versions and commits it has at the end, and that a link failed
+abbrev pub listening_line : ℕ → List ℕ
+listening_line port = line_of (codes "listening ") (decimal port)
+
+abbrev pub versions_text : (versions commits : ℕ) → List ℕ
+versions_text versions commits = decimal versions ++ (codes " commits" ++ also commits)
+
+abbrev pub versions_line : (versions commits : ℕ) → List ℕ
+versions_line versions commits = line_of (codes "versions ") (versions_text versions commits)
+
+abbrev pub link_fault_line : List ℕ
+link_fault_line = codes "link fault\n"

@@ -6,3 +6,4 @@
 pub mod lines;
 mod names;
 pub mod refusal;
+pub mod session_lines;

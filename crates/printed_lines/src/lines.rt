@@ -68,6 +68,7 @@ fn input_text(alloc: Global, fault: InputFault) -> Result<String, AllocError>
             format!(in alloc; "argument {kind} {offset}")
         }
         InputFault::Image(kind) => image_text(alloc, kind),
+        InputFault::Script(line) => format!(in alloc; "script {line}"),
     }
 }
 
@@ -270,7 +271,7 @@ pub fn agrees_line(alloc: Global, line: &[u8]) -> Result<Vec<u8>, AllocError>
 }
 
 /// A line that ends with these bytes.
-fn between(alloc: Global, front: &[u8], text: &[u8]) -> Result<Vec<u8>, AllocError>
+pub(crate) fn between(alloc: Global, front: &[u8], text: &[u8]) -> Result<Vec<u8>, AllocError>
     ensures { IfOk result (λ line. line.items ≡ def.line_of front.now text.now) }
 {
     let mut line = Vec::from_slice(alloc, front)?;
@@ -304,4 +305,34 @@ pub fn ok_line(alloc: Global, digest: &Digest) -> Result<Vec<u8>, AllocError>
 {
     let digest = hex::encode(alloc, &digest.0)?;
     between(alloc, b"ok ", digest.as_bytes())
+}
+
+/// The line of a server that listens to a port.
+pub fn listening_line(alloc: Global, port: u16) -> Result<Vec<u8>, AllocError>
+    ensures { IfOk result (λ line. line.items ≡ def.listening_line port) }
+{
+    let port = format!(in alloc; "{port}")?;
+    between(alloc, b"listening ", port.as_bytes())
+}
+
+/// The line of a server at its end: how many versions of the state it has, and how many commits.
+pub fn versions_line(alloc: Global, versions: usize, commits: usize) -> Result<Vec<u8>, AllocError>
+    ensures { IfOk result (λ line. line.items ≡ def.versions_line versions commits) }
+{
+    let text = versions_text(alloc, versions, commits)?;
+    between(alloc, b"versions ", text.as_bytes())
+}
+
+/// How many versions there are, and how many commits.
+fn versions_text(alloc: Global, versions: usize, commits: usize) -> Result<String, AllocError>
+    ensures { IfOk result (λ text. string_bytes text ≡ def.versions_text versions commits) }
+{
+    format!(in alloc; "{versions} commits {commits}")
+}
+
+/// The line of a link that failed.
+pub fn link_fault_line() -> &'static str
+    ensures { result.now ≡ def.link_fault_line }
+{
+    "link fault\n"
 }

@@ -97,5 +97,9 @@ pub(crate) fn argument_name(argument: Argument) -> &'static str
         Argument::Out => "OUT",
         Argument::Seed => "SEED",
         Argument::Count => "COUNT",
+        Argument::Port => "PORT",
+        Argument::Connections => "CONNS",
+        Argument::Slice => "SLICE",
+        Argument::Script => "SCRIPT",
     }
 }

@@ -35,6 +35,14 @@ pub enum Argument {
     Seed,
     /// `COUNT`, half the number of calls of a workload.
     Count,
+    /// `PORT`, which a server listens to, or a client dials.
+    Port,
+    /// `CONNS`, the number of connections that a server serves.
+    Connections,
+    /// `SLICE`, the greatest number of calls of functions in a turn of a session.
+    Slice,
+    /// `SCRIPT`, the file of a user's script.
+    Script,
 }
 
 /// Why bytes are no image of a program: the first fault. Records are numbered from 0.
@@ -77,6 +85,8 @@ pub enum InputFault {
     Literal(LiteralKind, usize),
     /// The image's bytes are none of the program.
     Image(ImageKind),
+    /// A line of the script asks for no step: the number of the first one, from 1.
+    Script(usize),
 }
 
 /// What a command refuses, once its words are in order.

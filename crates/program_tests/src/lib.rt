@@ -1,9 +1,11 @@
-//! Tests of the top call: the words of a command line, what it says of the texts of programs, the calls of roles, and the states
-//! that it makes and keeps.
+//! Tests of the top call: the words of a command line, what it says of the texts of programs, the calls of roles, the states that it
+//! makes and keeps, the inputs that it refuses, and how values are printed.
 #![tactic(auto)]
 
 #[cfg(test)]
 mod endless;
+#[cfg(test)]
+mod inputs;
 #[cfg(test)]
 mod library;
 #[cfg(test)]
@@ -12,5 +14,7 @@ mod programs;
 mod roles;
 #[cfg(test)]
 mod states;
+#[cfg(test)]
+mod values;
 #[cfg(test)]
 mod words;

@@ -352,15 +352,17 @@ fn wrong_row(alloc: Global, status: u8, rows: &[Row]) -> Result<Option<usize>, A
     Ok(None)
 }
 
+/// Texts of which `check` tells this status, with a name.
+static TABLES: [(&str, u8, &[Row]); 3] = [
+    ("faulty texts", 6, &FAULTY_TEXTS),
+    ("faulty trees", 6, &FAULTY_TREES),
+    ("programs", 0, &PROGRAMS),
+];
+
 #[test]
 fn texts_are_told(rt: HostRuntime) -> Result<(), Fail> {
-    let tables: [(&str, u8, &[Row]); 3] = [
-        ("faulty texts", 6, &FAULTY_TEXTS),
-        ("faulty trees", 6, &FAULTY_TREES),
-        ("programs", 0, &PROGRAMS),
-    ];
-    for (table, status, rows) in tables {
-        if let Some(number) = wrong_row(rt.alloc(), status, rows)? {
+    for (table, status, rows) in &TABLES {
+        if let Some(number) = wrong_row(rt.alloc(), *status, rows)? {
             return Err(Fail::new(format_args!("{table}: row {number}")));
         }
     }

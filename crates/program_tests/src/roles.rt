@@ -169,16 +169,18 @@ const DIVIDING_ROWS: [Row; 7] = [
     (Calls::Ideal, ["rest", "(7, -2)", "1"], 0, "done 1\n"),
 ];
 
+/// Calls of the roles of a program, with a name.
+static TABLES: [(&str, &[u8], &[Row]); 5] = [
+    ("switch", SWITCH, &SWITCH_ROWS),
+    ("tree", BST, &TREE_ROWS),
+    ("list", MERKLE, &LIST_ROWS),
+    ("long list", MERKLE, &LONG_ROWS),
+    ("dividing", DIVIDING, &DIVIDING_ROWS),
+];
+
 #[test]
 fn calls_of_roles_are_told(rt: HostRuntime) -> Result<(), Fail> {
-    let tables: [(&str, &[u8], &[Row]); 5] = [
-        ("switch", SWITCH, &SWITCH_ROWS),
-        ("tree", BST, &TREE_ROWS),
-        ("list", MERKLE, &LIST_ROWS),
-        ("long list", MERKLE, &LONG_ROWS),
-        ("dividing", DIVIDING, &DIVIDING_ROWS),
-    ];
-    for (table, program, rows) in tables {
+    for (table, program, rows) in &TABLES {
         if let Some(number) = wrong_row(rt.alloc(), program, rows)? {
             return Err(Fail::new(format_args!("{table}: row {number}")));
         }
@@ -254,7 +256,7 @@ const EMPTY: &[u8] =
 
 /// Words, with the status and the line of the first fault. The file `p` has the search tree's program, `q` the image of an empty tree,
 /// and `s` is neither a program nor an image; there is no file `r`.
-const REFUSED: [(&[&str], u8, &str); 22] = [
+static REFUSED: [(&[&str], u8, &str); 22] = [
     (&["ideal", "r", "none", "r", "x", "x"], 8, "read fault\n"),
     (
         &["ideal", "s", "none", "r", "x", "x"],

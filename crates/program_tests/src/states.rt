@@ -140,7 +140,7 @@ const SIDE_HEAD: &[u8] =
 const ZEROS: &[u8] = b"LAI1\0\0\0\0\0\0\0\0\0\0\0\0\0\0\0\0\0\0\0\0\0\0\0\0\0\0\0\0\0\0\0\0";
 
 /// A program, the first bytes of an image and those behind them, with the line of its first fault.
-const REFUSED: [(&[u8], &[u8], &[u8], &str); 20] = [
+static REFUSED: [(&[u8], &[u8], &[u8], &str); 20] = [
     (
         FIRST,
         b"LAI2",

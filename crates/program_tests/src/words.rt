@@ -8,7 +8,7 @@ const USAGE: &str = "usage: lamauth COMMAND ARGUMENTS\n";
 
 /// Words that call no command: at first those of which one is no name or none that a command has, then each command with one argument too
 /// few and with one too many, and last a negative argument with no blank before it.
-const REFUSED: [&[&str]; 35] = [
+static REFUSED: [&[&str]; 35] = [
     &[],
     &["-x"],
     &[""],

@@ -1,6 +1,6 @@
 // Calls that are run, proved, verified and audited: all four tell the same, and an update leaves both sides with the same state.
 use crate::sides::{Sides, made_sides, sides_of};
-use cli_stage::runs::{Call, Run, proved, run_words};
+use cli_stage::runs::{Call, Run, made, proved, run_words};
 use cli_stage::stage::{Stage, staged};
 use program_texts::{BST, LOG, MERKLE, SWITCH, TWO};
 use std::alloc::{AllocError, Global};
@@ -201,7 +201,7 @@ const AGAIN: &[u8] =
 
 /// How many others there are, how many pieces are kept, and the numbers of the proof. A new piece takes 13 bytes; the last one is named
 /// by 3 where there are fewer others than pieces are kept.
-const DISTANCES: [(&str, &str, [u64; 3]); 16] = [
+static DISTANCES: [(&str, &str, [u64; 3]); 16] = [
     ("0", "0", [2, 0, 32]),
     ("1", "0", [3, 0, 45]),
     ("0", "1", [1, 1, 22]),
@@ -253,8 +253,19 @@ fn run_verify(alloc: Global, sides: &Sides, call: &Call, proof: &[u8]) -> Result
     run_words(alloc, &staged(sides.program, &sides.state, proof), &words)
 }
 
-/// What both sides have behind a call: of an update that gives a value the new state. None where `verify` stores something else than the
-/// projection of what `step` stores.
+/// What both sides have of a new state. None where `verify` stored something else than the projection of what `step` stored.
+fn next_sides<'a>(
+    alloc: Global,
+    program: &'a [u8],
+    image: Vec<u8>,
+    verified: &[u8],
+) -> Result<Option<Sides<'a>>, AllocError> {
+    let next = sides_of(alloc, program, image)?;
+    let is_kept = verified == next.state.as_slice();
+    Ok(is_kept.then_some(next))
+}
+
+/// What both sides have behind a call: of an update that gives a value the new state. None where `step` and `verify` don't agree.
 fn behind<'a>(
     alloc: Global,
     sides: Sides<'a>,
@@ -269,28 +280,45 @@ fn behind<'a>(
     if stepped.stored == 0 {
         return Ok(Some(sides));
     }
-    let next = sides_of(alloc, sides.program, stepped.file)?;
-    let is_kept = verified.file.as_slice() == next.state.as_slice();
-    Ok(is_kept.then_some(next))
+    next_sides(alloc, sides.program, stepped.file, &verified.file)
 }
 
-/// The proof of a call, where its row is told by `ideal`, `prove`, `verify` and `audit`.
-fn told_proof(alloc: Global, sides: &Sides, row: Row) -> Result<Option<Vec<u8>>, AllocError> {
+/// The proof that `prove` stores of a row's call, where it tells the row.
+fn stored_proof(alloc: Global, sides: &Sides, row: Row) -> Result<Option<Vec<u8>>, AllocError> {
     let ([role, argument, fuel, number], status, outcome, [new, used, bytes]) = row;
     let call = Call {
         role,
         argument,
         fuel,
     };
-    let line = format!(in alloc; "{outcome}\n")?;
-    let both = format!(in alloc; "{line}proof new {new} used {used} bytes {bytes}\n")?;
+    let text = format!(in alloc; "{outcome}\nproof new {new} used {used} bytes {bytes}\n")?;
     let run = proved(alloc, sides.program, &sides.image, &call, number)?;
-    if !run.tells(status, &both) || run.stored != 1 {
+    let is_told = run.tells(status, &text) && run.stored == 1;
+    Ok(is_told.then_some(run.file))
+}
+
+/// Whether a row is told by `ideal`, and, of this proof, by `verify` and `audit`.
+fn is_told(alloc: Global, sides: &Sides, row: Row, proof: &[u8]) -> Result<bool, AllocError> {
+    let ([role, argument, fuel, _], status, outcome, _) = row;
+    let call = Call {
+        role,
+        argument,
+        fuel,
+    };
+    let line = format!(in alloc; "{outcome}\n")?;
+    Ok(
+        is_ideal(alloc, sides, &call, (status, &line))?
+            && sides.are_told(alloc, &call, proof, 4096, (status, &line))?,
+    )
+}
+
+/// The proof of a call, where its row is told by `ideal`, `prove`, `verify` and `audit`.
+fn told_proof(alloc: Global, sides: &Sides, row: Row) -> Result<Option<Vec<u8>>, AllocError> {
+    let Some(proof) = stored_proof(alloc, sides, row)? else {
         return Ok(None);
-    }
-    let are_told = is_ideal(alloc, sides, &call, (status, &line))?
-        && sides.are_told(alloc, &call, &run.file, 4096, (status, &line))?;
-    Ok(are_told.then_some(run.file))
+    };
+    let are_told = is_told(alloc, sides, row, &proof)?;
+    Ok(are_told.then_some(proof))
 }
 
 /// The same with what both sides have behind the call.
@@ -327,7 +355,7 @@ type Table = (
     &'static [Row<'static>],
 );
 
-const TABLES: [Table; 8] = [
+static TABLES: [Table; 8] = [
     ("switch", SWITCH, ["make", "true"], &SWITCH_ROWS),
     ("two", TWO, ["make", "(true, false)"], &TWO_ROWS),
     ("equal", TWO, ["make", "(true, true)"], &EQUAL_ROWS),
@@ -338,12 +366,18 @@ const TABLES: [Table; 8] = [
     ("log", LOG, ["start", "()"], &LOG_ROWS),
 ];
 
+/// The number of the first row of a table, from 0, that is told otherwise.
+fn wrong_row_of(alloc: Global, table: &Table) -> Result<Option<usize>, AllocError> {
+    let (_, program, [role, literal], rows) = *table;
+    let made = made_sides(alloc, program, role, literal)?;
+    wrong_row(alloc, made, rows)
+}
+
 #[test]
 fn what_is_proved_is_told_alike(rt: HostRuntime) -> Result<(), Fail> {
-    for (name, program, [role, literal], rows) in &TABLES {
-        let made = made_sides(rt.alloc(), program, role, literal)?;
-        if let Some(number) = wrong_row(rt.alloc(), made, rows)? {
-            return Err(Fail::new(format_args!("{name}: row {number}")));
+    for table in &TABLES {
+        if let Some(number) = wrong_row_of(rt.alloc(), table)? {
+            return Err(Fail::new(format_args!("{}: row {number}", table.0)));
         }
     }
     Ok(())
@@ -389,7 +423,14 @@ pub const DEEP_PROOF: &[u8] =
     b"LAP1\0\0\0\0\0\0\x20\xe3\xb0\xc4B\x98\xfc\x1c\x14\x9a\xfb\xf4\xc8\x99o\xb9$'\xaeA\xe4d\x9b\x93L\xa4\x95\x99\x1bxR\xb8U\0\0\0\0\0";
 
 /// A program, the literal of a state, a role with how many pieces are kept, and the proof.
-const FILES: [(&[u8], &str, [&str; 2], &[u8]); 6] = [
+type File = (
+    &'static [u8],
+    &'static str,
+    [&'static str; 2],
+    &'static [u8],
+);
+
+static FILES: [File; 6] = [
     (
         SWITCH,
         "true",
@@ -423,18 +464,23 @@ const FILES: [(&[u8], &str, [&str; 2], &[u8]); 6] = [
     (DEEP, "()", ["deep", "0"], DEEP_PROOF),
 ];
 
+/// Whether `prove` stores the proof of a row.
+fn is_stored(alloc: Global, row: &File) -> Result<bool, AllocError> {
+    let (program, literal, [role, kept], proof) = *row;
+    let image = made(alloc, program, "make", literal)?.file;
+    let call = Call {
+        role,
+        argument: "()",
+        fuel: "1",
+    };
+    let run = proved(alloc, program, &image, &call, kept)?;
+    Ok(run.status == 0 && run.file.as_slice() == proof)
+}
+
 #[test]
 fn proofs_have_these_bytes(rt: HostRuntime) -> Result<(), Fail> {
-    let alloc = rt.alloc();
-    for (number, (program, literal, [role, kept], proof)) in FILES.iter().enumerate() {
-        let made = made_sides(alloc, program, "make", literal)?;
-        let call = Call {
-            role,
-            argument: "()",
-            fuel: "1",
-        };
-        let run = proved(alloc, program, &made.image, &call, kept)?;
-        if run.status != 0 || run.file.as_slice() != *proof {
+    for (number, row) in FILES.iter().enumerate() {
+        if !is_stored(rt.alloc(), row)? {
             return Err(Fail::new(format_args!("row {number}")));
         }
     }
@@ -442,7 +488,7 @@ fn proofs_have_these_bytes(rt: HostRuntime) -> Result<(), Fail> {
 }
 
 /// Types and literals of what is opened, the outcome, and the bytes of the proof.
-const OPENED: [(&str, &str, &str, u64); 6] = [
+static OPENED: [(&str, &str, &str, u64); 6] = [
     ("unit", "()", "done ()", 11),
     (
         "int",
@@ -466,16 +512,26 @@ const OPENED: [(&str, &str, &str, u64); 6] = [
     ),
 ];
 
+/// Whether a literal of a type is opened with this outcome, by a proof of so many bytes.
+fn is_opened(
+    alloc: Global,
+    ty: &str,
+    literal: &str,
+    outcome: &str,
+    bytes: u64,
+) -> Result<bool, AllocError> {
+    let program = format!(in alloc;
+        "type list = None | More(int, list); state auth {ty}; init make(x: {ty}): auth {ty} = auth(x); query open(s: auth {ty}, x: unit): {ty} = unauth(s);"
+    )?;
+    let made = made_sides(alloc, program.as_bytes(), "make", literal)?;
+    let row = (["open", "()", "1", "0"], 0, outcome, [1, 0, bytes]);
+    Ok(told_proof(alloc, &made, row)?.is_some())
+}
+
 #[test]
 fn values_of_each_type_are_opened(rt: HostRuntime) -> Result<(), Fail> {
-    let alloc = rt.alloc();
     for (ty, literal, outcome, bytes) in &OPENED {
-        let program = format!(in alloc;
-            "type list = None | More(int, list); state auth {ty}; init make(x: {ty}): auth {ty} = auth(x); query open(s: auth {ty}, x: unit): {ty} = unauth(s);"
-        )?;
-        let made = made_sides(alloc, program.as_bytes(), "make", literal)?;
-        let row = (["open", "()", "1", "0"], 0, *outcome, [1, 0, *bytes]);
-        if told_proof(alloc, &made, row)?.is_none() {
+        if !is_opened(rt.alloc(), ty, literal, outcome, *bytes)? {
             return Err(Fail::new(format_args!("{ty} {literal}")));
         }
     }

@@ -1,7 +1,9 @@
 // What is told of a file that is cut, to each length, and of one that has a byte too many.
+ghost use Rattle.std.specs.Prelude.{◌<◌};
+
 use crate::calls::{DEEP, DEEP_PROOF};
-use crate::sides::made_sides;
-use cli_stage::runs::{Call, kept, opening, verified};
+use crate::sides::{Sides, made_sides};
+use cli_stage::runs::{Call, kept, made, opening, verified};
 use cli_stage::stage::{PROOF, STATE};
 use program_texts::{FIRST, SWITCH, TWO};
 use std::alloc::{AllocError, Global};
@@ -37,7 +39,7 @@ type Proofs = (
     &'static [Told],
 );
 
-const PROOFS: [Proofs; 4] = [
+static PROOFS: [Proofs; 4] = [
     (
         FIRST,
         "()",
@@ -100,6 +102,26 @@ const PROOFS: [Proofs; 4] = [
     ),
 ];
 
+/// To how many bytes a file is cut whose cut is told otherwise of this call, where one read gives so many bytes at most.
+fn first_misjudged(
+    alloc: Global,
+    made: &Sides,
+    call: &Call,
+    file: &[u8],
+    told: &[Told],
+    most_read: usize,
+) -> Result<Option<usize>, AllocError>
+    requires { 0 < most_read }
+{
+    for bytes in 0..=file.len() {
+        let cut = file.get(..bytes).unwrap_or_default();
+        if !made.are_told(alloc, call, cut, most_read, told_of(told, bytes))? {
+            return Ok(Some(bytes));
+        }
+    }
+    Ok(None)
+}
+
 /// To how many bytes a proof is cut whose cut is told otherwise, where one read gives so many bytes at most.
 fn misjudged(alloc: Global, row: &Proofs, most_read: usize) -> Result<Option<usize>, AllocError> {
     let (program, literal, role, proof, told) = *row;
@@ -110,13 +132,7 @@ fn misjudged(alloc: Global, row: &Proofs, most_read: usize) -> Result<Option<usi
         argument: "()",
         fuel: "1",
     };
-    for bytes in 0..=file.len() {
-        let cut = file.get(..bytes).unwrap_or_default();
-        if !made.are_told(alloc, &call, cut, most_read.max(1), told_of(told, bytes))? {
-            return Ok(Some(bytes));
-        }
-    }
-    Ok(None)
+    first_misjudged(alloc, &made, &call, &file, told, most_read.max(1))
 }
 
 #[test]
@@ -131,7 +147,7 @@ fn a_proof_is_cut(rt: HostRuntime) -> Result<(), Fail> {
     Ok(())
 }
 
-const STATES: [Told; 3] = [
+static STATES: [Told; 3] = [
     (0, 7, "input refused: state 0\n"),
     (32, 0, "done ()\n"),
     (33, 7, "input refused: state 32\n"),
@@ -153,7 +169,7 @@ fn a_state_is_cut(rt: HostRuntime) -> Result<(), Fail> {
 /// A program, the literal of its state, and what is told of the state's image; `N` stands for the number of bytes.
 type Images = (&'static [u8], &'static str, &'static [Told]);
 
-const IMAGES: [Images; 2] = [
+static IMAGES: [Images; 2] = [
     (
         FIRST,
         "()",
@@ -192,20 +208,41 @@ fn line_of(alloc: Global, line: &str, bytes: usize) -> Result<String, AllocError
     }
 }
 
-/// To how many bytes an image is cut whose cut is told otherwise. What is told is stored.
-fn misread(alloc: Global, row: &Images) -> Result<Option<usize>, AllocError> {
-    let (program, literal, told) = *row;
-    let made = made_sides(alloc, program, "make", literal)?;
-    let file = longer(alloc, &made.image)?;
+/// Whether this is told of an image. What is told is stored.
+fn is_told(
+    alloc: Global,
+    program: &[u8],
+    image: &[u8],
+    told: (u8, &str),
+) -> Result<bool, AllocError> {
+    let (status, line) = told;
+    let line = line_of(alloc, line, image.len())?;
+    let run = kept(alloc, program, image)?;
+    Ok(run.tells(status, &line) && (run.stored == 1) == (status == 0))
+}
+
+/// To how many bytes a file is cut whose cut is told otherwise as an image of this program.
+fn first_misread(
+    alloc: Global,
+    program: &[u8],
+    file: &[u8],
+    told: &[Told],
+) -> Result<Option<usize>, AllocError> {
     for bytes in 0..=file.len() {
-        let (status, line) = told_of(told, bytes);
-        let line = line_of(alloc, line, bytes)?;
-        let run = kept(alloc, program, file.get(..bytes).unwrap_or_default())?;
-        if !run.tells(status, &line) || (run.stored == 1) != (status == 0) {
+        let cut = file.get(..bytes).unwrap_or_default();
+        if !is_told(alloc, program, cut, told_of(told, bytes))? {
             return Ok(Some(bytes));
         }
     }
     Ok(None)
+}
+
+/// To how many bytes an image is cut whose cut is told otherwise.
+fn misread(alloc: Global, row: &Images) -> Result<Option<usize>, AllocError> {
+    let (program, literal, told) = *row;
+    let image = made(alloc, program, "make", literal)?.file;
+    let file = longer(alloc, &image)?;
+    first_misread(alloc, program, &file, told)
 }
 
 #[test]

@@ -27,7 +27,7 @@ const BOOL: Made = (SWITCH, "true");
 /// of each frame's kind, of its length and of its piece, and at the end.
 type Row = (Made, &'static str, &'static [u8], [u64; 2], bool);
 
-const ROWS: [Row; 13] = [
+static ROWS: [Row; 13] = [
     (UNIT, "check p", b"", [4096, 3], false),
     (BOOL, "init p make true 1 o", b"", [4096, 3], true),
     (BOOL, "ideal p over q () 1", b"", [4096, 6], false),
@@ -96,17 +96,38 @@ fn ends_as_due(row: &Row, call: u64, run: &Run, whole: &Run) -> bool {
     }
 }
 
-/// The number of the first call of the files, from 0, whose failure is told otherwise.
-fn misread(alloc: Global, row: &Row) -> Result<Option<u64>, AllocError> {
-    let sides = sides_of_row(alloc, row)?;
-    let whole = run_row(alloc, row, &sides, &[], (100, &[]))?;
-    for call in 0..=row.3[1].saturating_add(1) {
-        let run = run_row(alloc, row, &sides, &[call], (100, &[]))?;
-        if !ends_as_due(row, call, &run, &whole) {
+/// Whether a run in which this call of the files fails ends as it has to.
+fn is_read_as_due(
+    alloc: Global,
+    row: &Row,
+    sides: &Sides,
+    call: u64,
+    whole: &Run,
+) -> Result<bool, AllocError> {
+    let run = run_row(alloc, row, sides, &[call], (100, &[]))?;
+    Ok(ends_as_due(row, call, &run, whole))
+}
+
+/// The number of the first call of the files, from 0, whose failure is told otherwise, beside a run in which none fails.
+fn first_misread(
+    alloc: Global,
+    row: &Row,
+    sides: &Sides,
+    whole: &Run,
+) -> Result<Option<u64>, AllocError> {
+    for call in 0..row.3[1].saturating_add(2) {
+        if !is_read_as_due(alloc, row, sides, call, whole)? {
             return Ok(Some(call));
         }
     }
     Ok(None)
+}
+
+/// The number of the first call of the files, from 0, whose failure is told otherwise.
+fn misread(alloc: Global, row: &Row) -> Result<Option<u64>, AllocError> {
+    let sides = sides_of_row(alloc, row)?;
+    let whole = run_row(alloc, row, &sides, &[], (100, &[]))?;
+    first_misread(alloc, row, &sides, &whole)
 }
 
 #[test]
@@ -119,8 +140,46 @@ fn each_call_of_the_files_fails_once(rt: HostRuntime) -> Result<(), Fail> {
     Ok(())
 }
 
-/// The number of the first write, from 0, whose failure doesn't end a run with what the writes before it took, where each takes so many
-/// bytes; what is stored is stored before.
+/// Whether a run in which this write fails, and each takes so many bytes, ends with what the writes before it took; what is stored is
+/// stored before.
+fn is_written_as_due(
+    alloc: Global,
+    row: &Row,
+    sides: &Sides,
+    most: usize,
+    write: usize,
+    whole: &Run,
+) -> Result<bool, AllocError>
+    requires { 0 < most }
+{
+    let run = run_row(alloc, row, sides, &[], (most, &[write as u64]))?;
+    let written = whole
+        .text
+        .get(..write.saturating_mul(most))
+        .unwrap_or_default();
+    Ok(run.status == 9 && run.text.as_slice() == written && run.stored == whole.stored)
+}
+
+/// The number of the first write, from 0, whose failure ends a run otherwise, where each takes so many bytes, beside a run in which none
+/// fails.
+fn first_miswritten(
+    alloc: Global,
+    row: &Row,
+    sides: &Sides,
+    most: usize,
+    whole: &Run,
+) -> Result<Option<usize>, AllocError>
+    requires { 0 < most }
+{
+    for (write, _) in whole.text.chunks(most).enumerate() {
+        if !is_written_as_due(alloc, row, sides, most, write, whole)? {
+            return Ok(Some(write));
+        }
+    }
+    Ok(None)
+}
+
+/// The number of the first write, from 0, whose failure ends a run otherwise, where each takes so many bytes.
 fn miswritten(
     alloc: Global,
     row: &Row,
@@ -130,14 +189,19 @@ fn miswritten(
     requires { 0 < most }
 {
     let whole = run_row(alloc, row, sides, &[], (most, &[]))?;
-    let mut written = Vec::new(alloc);
-    for (write, piece) in whole.text.chunks(most).enumerate() {
-        let run = run_row(alloc, row, sides, &[], (most, &[write as u64]))?;
-        let is_cut = run.status == 9 && run.text.as_slice() == written.as_slice();
-        if !is_cut || run.stored != whole.stored {
-            return Ok(Some(write));
+    first_miswritten(alloc, row, sides, most, &whole)
+}
+
+/// The same by writes of several sizes, with the size.
+fn miswritten_by(
+    alloc: Global,
+    row: &Row,
+    sides: &Sides,
+) -> Result<Option<(usize, usize)>, AllocError> {
+    for most in [1, 2, 7, 100] {
+        if let Some(write) = miswritten(alloc, row, sides, most.max(1))? {
+            return Ok(Some((write, most)));
         }
-        written.extend_from_slice(piece)?;
     }
     Ok(None)
 }
@@ -146,10 +210,8 @@ fn miswritten(
 fn each_write_fails_once(rt: HostRuntime) -> Result<(), Fail> {
     for (number, row) in ROWS.iter().enumerate() {
         let sides = sides_of_row(rt.alloc(), row)?;
-        for most in [1, 2, 7, 100] {
-            if let Some(write) = miswritten(rt.alloc(), row, &sides, most.max(1))? {
-                return Err(Fail::new(format_args!("row {number} at write {write} of {most}")));
-            }
+        if let Some((write, most)) = miswritten_by(rt.alloc(), row, &sides)? {
+            return Err(Fail::new(format_args!("row {number} at write {write} of {most}")));
         }
     }
     Ok(())

@@ -1,5 +1,5 @@
-//! Tests of the top call: the proofs that it makes, what it says of proofs and of the values that they open, and audits; and of all
-//! commands where a file is cut, or a call of the files or of the output fails.
+//! Tests of the top call: the proofs that it makes, what it says of proofs, and audits; and of all commands where a file is cut, or a
+//! call of the files or of the output fails.
 #![tactic(auto)]
 
 #[cfg(test)]
@@ -9,14 +9,10 @@ mod cuts;
 #[cfg(test)]
 mod faults;
 #[cfg(test)]
-mod inputs;
-#[cfg(test)]
 mod refused;
 #[cfg(test)]
 mod sides;
 #[cfg(test)]
 mod updates;
-#[cfg(test)]
-mod values;
 #[cfg(test)]
 mod verdicts;

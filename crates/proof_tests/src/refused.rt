@@ -12,7 +12,7 @@ use std::test::Fail;
 type Words = [&'static str; 6];
 
 /// Inputs that `prove` refuses, and the first fault.
-const PROVE: [(Words, &str); 16] = [
+static PROVE: [(Words, &str); 16] = [
     (["p", "none", "r", "x", "x", "x"], "role unknown"),
     // a function that is no role
     (["p", "look", "r", "x", "x", "x"], "role unknown"),
@@ -39,7 +39,7 @@ const PROVE: [(Words, &str); 16] = [
 ];
 
 /// Inputs that `audit` refuses, and the first fault.
-const AUDIT: [(Words, &str); 9] = [
+static AUDIT: [(Words, &str); 9] = [
     (["p", "none", "r", "x", "x", "r"], "role unknown"),
     (["p", "look", "r", "x", "x", "r"], "role unknown"),
     (["p", "make", "r", "x", "x", "r"], "role kind"),
@@ -52,7 +52,7 @@ const AUDIT: [(Words, &str); 9] = [
 ];
 
 /// The command, and the status and the line of what isn't the fault of an input: a file isn't there, or isn't what it is to be.
-const OTHERS: [(&str, Words, u8, &str); 9] = [
+static OTHERS: [(&str, Words, u8, &str); 9] = [
     ("prove", ["r", "none", "r", "x", "x", "x"], 8, "read fault"),
     ("prove", ["s", "none", "r", "x", "x", "x"], 6, PROGRAM),
     (

@@ -65,12 +65,36 @@ impl<'a> Sides<'a> {
         requires { 0 < most_read }
     {
         let (status, line) = told;
-        let words = ["verify", "p", call.role, "s", call.argument, call.fuel, "q"];
-        let verified = run_words(alloc, &self.stage(false, proof, most_read), &words)?;
-        let words = ["audit", "p", call.role, "s", call.argument, call.fuel, "q"];
-        let audited = run_words(alloc, &self.stage(true, proof, most_read), &words)?;
         let agreed = if status == 5 { "" } else { "agrees " };
         let audit_line = format!(in alloc; "{agreed}{line}")?;
-        Ok(verified.only_tells(status, line) && audited.only_tells(status, &audit_line))
+        Ok(
+            self.is_told(alloc, "verify", call, proof, most_read, told)?
+                && self.is_told(
+                    alloc,
+                    "audit",
+                    call,
+                    proof,
+                    most_read,
+                    (status, &audit_line),
+                )?,
+        )
+    }
+
+    /// Whether this command tells this of a proof of a call, of which one read gives so many bytes at most, and stores nothing.
+    fn is_told(
+        &self,
+        alloc: Global,
+        command: &str,
+        call: &Call,
+        proof: &[u8],
+        most_read: usize,
+        told: (u8, &str),
+    ) -> Result<bool, AllocError>
+        requires { 0 < most_read }
+    {
+        let (status, line) = told;
+        let words = [command, "p", call.role, "s", call.argument, call.fuel, "q"];
+        let stage = self.stage(command == "audit", proof, most_read);
+        Ok(run_words(alloc, &stage, &words)?.only_tells(status, line))
     }
 }

@@ -30,16 +30,13 @@ fn the_new_state_is_stored_where_it_is_named(rt: HostRuntime) -> Result<(), Fail
 }
 
 /// Roles that are called with a name for the new state, the fuel and the proof, where no state is stored: the status and the line.
-const UNSTORED: [(&str, &str, &[u8], u8, &str); 5] = [
+static UNSTORED: [(&str, &str, &[u8], u8, &str); 5] = [
     ("both", "1", ONE, 7, "input refused: role kind\n"),
     ("make", "1", ONE, 7, "input refused: role kind\n"),
     ("flip", "0", HEADER, 4, "out of fuel\n"),
     ("flip", "1", HEADER, 5, "rejected short 0\n"),
     ("flip", "1", b"LAP1", 5, "rejected header\n"),
 ];
-
-/// A log of as many entries as there may be.
-const FULL: &[u8] = b"\x7f\xff\xff\xff\xff\xff\xff\xff********************************";
 
 #[test]
 fn no_state_is_stored_where_none_is_made(rt: HostRuntime) -> Result<(), Fail> {
@@ -50,6 +47,14 @@ fn no_state_is_stored_where_none_is_made(rt: HostRuntime) -> Result<(), Fail> {
             return Err(Fail::new(format_args!("{role} {line}")));
         }
     }
+    Ok(())
+}
+
+/// A log of as many entries as there may be.
+const FULL: &[u8] = b"\x7f\xff\xff\xff\xff\xff\xff\xff********************************";
+
+#[test]
+fn no_state_is_stored_of_a_full_log(rt: HostRuntime) -> Result<(), Fail> {
     let words = ["verify", "p", "append", "s", "\"\"", "1", "q", "o"];
     let run = run_words(rt.alloc(), &staged(LOG, FULL, HEADER), &words)?;
     assert!(rt; run.only_tells(3, "trap overflow\n"));
@@ -61,7 +66,7 @@ const COLORS: &[u8] =
     b"type color = Red | Green(int) | Mix(color, color); state color; query q(s: color, x: color): color = Mix(s, x);";
 
 /// States, arguments, and the status and the line.
-const NAMED: [(&[u8], &str, u8, &str); 4] = [
+static NAMED: [(&[u8], &str, u8, &str); 4] = [
     (b"\0", "Green(7)", 0, "done Mix(Red, Green(7))\n"),
     (b"\x02\0\0", "Red", 0, "done Mix(Mix(Red, Red), Red)\n"),
     (b"\x02\0\x03", "Blue", 7, "input refused: state 2\n"),

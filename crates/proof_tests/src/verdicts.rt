@@ -13,7 +13,7 @@ use std::test::Fail;
 type Row = (&'static [u8], u8, &'static str);
 
 /// Proofs of `open`.
-const PROOFS: [Row; 13] = [
+static PROOFS: [Row; 13] = [
     // a header that begins otherwise, or asks for a ring: of 1,024 pieces at most
     (b"LAP2\0\0\0\0\0\0\0", 5, "rejected header\n"),
     (b"LAP1\0\x01\0\0\0\0\0", 0, "done ()\n"),
@@ -46,7 +46,7 @@ const PROOFS: [Row; 13] = [
 ];
 
 /// The same without fuel.
-const UNFUELED: [Row; 3] = [
+static UNFUELED: [Row; 3] = [
     (b"LAP1\0\0", 4, "out of fuel\n"),
     (b"LAP1\0\0\0\0\0\0\0", 5, "rejected leftover 5\n"),
     (b"LAP1\0", 5, "rejected header\n"),
@@ -185,7 +185,7 @@ type Table = (
     &'static [Row],
 );
 
-const TABLES: [Table; 5] = [
+static TABLES: [Table; 5] = [
     (SEE, "(true, false)", ["see", "()"], &SEEN),
     (TWO, "(true, false)", ["three", "()"], &OPENED),
     (SWITCH, "true", ["flip", "()"], &FLIPPED),
@@ -193,24 +193,30 @@ const TABLES: [Table; 5] = [
     (TRAPS, "16", ["ratio", "0"], &LATE),
 ];
 
+/// The number of the first proof of a table, from 0, that is judged otherwise.
+fn misjudged_of(alloc: Global, table: &Table) -> Result<Option<usize>, AllocError> {
+    let (program, literal, [role, argument], rows) = *table;
+    let made = made_sides(alloc, program, "make", literal)?;
+    let call = Call {
+        role,
+        argument,
+        fuel: "1",
+    };
+    misjudged(alloc, &made, &call, rows, 4096)
+}
+
 #[test]
 fn proofs_of_calls_are_judged(rt: HostRuntime) -> Result<(), Fail> {
-    for (program, literal, [role, argument], rows) in &TABLES {
-        let made = made_sides(rt.alloc(), program, "make", literal)?;
-        let call = Call {
-            role,
-            argument,
-            fuel: "1",
-        };
-        if let Some(number) = misjudged(rt.alloc(), &made, &call, rows, 4096)? {
-            return Err(Fail::new(format_args!("{role}: row {number}")));
+    for table in &TABLES {
+        if let Some(number) = misjudged_of(rt.alloc(), table)? {
+            return Err(Fail::new(format_args!("{}: row {number}", table.2[0])));
         }
     }
     Ok(())
 }
 
 /// How much of the proof of a state of a state stands there, the role, and the status and the line: a piece of 32 bytes, then one of none.
-const LAYERS: [(usize, &str, u8, &str); 2] = [
+static LAYERS: [(usize, &str, u8, &str); 2] = [
     (48, "deep", 0, "done ()\n"),
     (
         43,
@@ -238,7 +244,7 @@ fn nested_states_are_opened(rt: HostRuntime) -> Result<(), Fail> {
 }
 
 /// How many bytes are left, and the line: more than 65,536 are told as 65,536.
-const LEFT: [(usize, &str); 3] = [
+static LEFT: [(usize, &str); 3] = [
     (65_535, "rejected leftover 65535\n"),
     (65_536, "rejected leftover 65536\n"),
     (100_000, "rejected leftover 65536\n"),

@@ -1,25 +1,8 @@
--- lists that stand in a relation
-pub mod Rows
--- version_spelling, has_spelling: the spelling of a version, by the types of the code
-pub mod Spellings
--- newest_version: the versions behind a place
-pub mod Newest
--- what is shared is kept as the store grows
-pub mod Sharing
--- settle: how a run ends, by its tests
-pub mod Settlements
--- greet: the tests of a greeting
-pub mod Greeted
--- grant: the tests of a call, by what each says; and what a call that passes the first of them comes to
-pub mod CallTests
-pub mod Granting
--- start, turn: a call that runs in turns, over a store that is lent
-pub mod Turns
--- state_made, finish: the state that a run made, and its frames
-pub mod RunEnds
--- end_turn, turn: turns of one session; and that a session stays as the store and the versions grow
-pub mod SessionTurns
--- turn of a seat, round: the turns of a round so far
-pub mod RoundSoFar
--- rounds: the rounds so far
-pub mod RoundsSoFar
+-- all steps: rows, and what a core serves behind a change of its sessions or its count
+pub mod Steps
+-- admit, start: the tests of a call, and a session in which it begins to run
+pub mod Calls
+-- start, hello, bye, go, answer: what each comes to
+pub mod Answering
+-- for the crates above: the replies of `handle` are messages
+pub mod Messages

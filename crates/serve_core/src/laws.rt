@@ -3,7 +3,6 @@ ghost use Rattle.session_meaning.specs.Isolation.{SessionsAreIsolated};
 ghost use Rattle.session_meaning.specs.ReplyLaws.{ProofsAreLimited, RepliesAreMessages};
 ghost use Rattle.session_meaning.specs.ServerLaws.{LimitsHold, OnlyGoCommits, OnlyUpdatesCommit, ProofsAreHonest, RoundsAreOwn, TurnsByCalls, UpdatesCommit, VersionsAreCommitted};
 ghost use Rattle.session_meaning.specs.Stopped.{HistoryGoesOn, StopsKeepHistory};
-ghost use Rattle.serve_core.specs.Laws.{OwnNodesStay, VersionsStay};
 
 /// The server, whatever is heard, and in whatever number of turns each call ends.
 ///
@@ -42,10 +41,3 @@ pub fn replies()
 {
     session_meaning::laws::replies();
 }
-
-/// A store that grows, as the commits of others make it, under versions and under calls that run: versions stand as before
-/// (`versions`), and a call's nodes, which are the store's first ones with its own behind them, stay (`calls`).
-pub fn growing()
-    ensures versions { VersionsStay }
-    ensures calls { OwnNodesStay }
-{}

@@ -1,33 +1,15 @@
-//! What the sessions of a server share, over nodes of a store.
+//! The core of a server: it reads and writes nothing, hears messages, and answers replies.
 //!
-//! A server is defined in `session_meaning`, as a machine over values. Here a version is a node of the prover's, and `specs/` says how
-//! the two stand to each other. [`Shared`] holds the versions and the commits: it tests a greeting and a call, settles the end of a run, and
-//! takes the nodes of a call that commits over. A granted call runs in turns, as a [`Running`], on nodes of its own behind those of the
-//! store; once it has run, it is [`Finished`], with its proof. A turn of a [`Session`] is that of the machine: what it leaves of the session
-//! and of what is shared, and the reply. A round takes one turn of each session, in a [`Seat`] under its number, in ascending order.
-//! [`laws`] has what holds of the machine over whole runs, and what stays as the store grows.
+//! A server is defined in `session_meaning`, as a machine over values. [`ServeCore`] is this machine over nodes of a store: it counts the
+//! messages of a connection, keeps the sessions under their numbers, tests each request by what the sessions share, and lets their calls
+//! take turns. `specs/` says how the two stand to each other: each message that it handles is a step of the machine, and where memory is
+//! wanting what is shared is as behind some of the turns. [`laws`] has what holds of the machine over whole runs.
 #![tactic(auto)]
 
-mod commit;
-mod finishing;
-mod grants;
-mod greetings;
+mod heard;
 pub mod laws;
-mod refusal;
-mod rounds;
-mod running;
-mod session;
-mod settling;
-mod shared;
-mod versions;
+mod requests;
+mod server;
 
-pub use commit::Commit;
-pub use finishing::Finished;
-pub use grants::Granted;
-pub use greetings::Room;
-pub use refusal::{Denial, Refusal};
-pub use rounds::Seat;
-pub use running::Running;
-pub use session::{Session, SessionCall, Turned};
-pub use settling::{RunEnd, Settled};
-pub use shared::Shared;
+pub use heard::{Heard, Replies};
+pub use server::ServeCore;

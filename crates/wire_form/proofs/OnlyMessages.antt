@@ -1,10 +1,12 @@
 -- What the body of a message says is one: for request_in and reply_in.
-use Rattle.std.proofs.Common.{◌≡◌, ◌<◌, ◌≤◌, ℕ, suc, List, [], ◌∷◌, length, take, drop, get_or, ap₂, subst, ◌∙◌, arith}
-use Rattle.std.proofs.lemmas.List.{take_all, drop_all}
+use Rattle.std.proofs.Common.{◌≡◌, ◌<◌, ◌≤◌, ℕ, suc, List, [], ◌∷◌, ◌++◌, length, take, drop, get_or, ap₂, subst, ◌∙◌, arith}
+use Rattle.std.proofs.lemmas.List.{append-nil, take_all, drop_all}
+use Rattle.std.specs.Int.{w16, w32, w64, to_be_bytes}
 use Rattle.std.proofs.lemmas.Nat.{from_be_bytes-to_be_bytes_4}
 use Rattle.core_terms.specs.Spelling.{AreBytes}
 use Rattle.session_meaning.specs.Messages as meant
 use Rattle.session_meaning.specs.Messages.{message_limit}
+use Rattle.session_meaning.specs.ReplyLaws.{HasArgumentBytes}
 use Rattle.session_meaning.proofs.OnlyMessages.{only_replies_are_read, only_requests_are_read}
 use Rattle.wire_form.specs.Incoming.{length_field}
 use Rattle.wire_form.proofs.Coming.{whole_read}
@@ -31,6 +33,28 @@ pub is_request : (body : List ℕ) (request : meant.Request) → length body ≤
     → meant.read_body meant.request_of body [] ≡ meant.Got request [] → meant.IsRequest request
 is_request body request fits below says =
     (only_requests_are_read (meant.message body) request [] (framed body (are_bytes body below)) (read_alone meant.request_of body fits ∙ says)).0
+
+-- what stands behind bytes of a string of bytes is one too
+behind : (first bytes : List ℕ) → AreBytes (first ++ bytes) → AreBytes bytes
+behind [] bytes all = all
+behind (b ∷ first) bytes all = behind first bytes all.1
+
+argument_in : (request : meant.Request) → AreBytes (meant.request_bytes request) → HasArgumentBytes request
+argument_in (meant.Hello session program n state) all = tt
+argument_in (meant.Call session role fuel argument) all =
+    let body = behind (to_be_bytes w32 (length (meant.request_body (meant.Call session role fuel argument)))) (meant.request_body (meant.Call session role fuel argument)) all in
+    behind (to_be_bytes w64 fuel) argument
+    (behind (to_be_bytes w16 role) (to_be_bytes w64 fuel ++ argument) (behind (to_be_bytes w16 session) (to_be_bytes w16 role ++ (to_be_bytes w64 fuel ++ argument)) body.1))
+argument_in (meant.Go rounds) all = tt
+argument_in (meant.Bye session) all = tt
+
+-- the argument of a call is one, since the body is
+pub has_argument : (body : List ℕ) (request : meant.Request) → length body ≤ message_limit → ((i : ℕ) → get_or body i 0 < 256)
+    → meant.read_body meant.request_of body [] ≡ meant.Got request [] → HasArgumentBytes request
+has_argument body request fits below says =
+    let bytes = framed body (are_bytes body below) in
+    let is = (only_requests_are_read (meant.message body) request [] bytes (read_alone meant.request_of body fits ∙ says)).1 in
+    argument_in request (subst AreBytes (is ∙ append-nil (meant.request_bytes request)) bytes)
 
 pub is_reply : (body : List ℕ) (reply : meant.Reply) → length body ≤ message_limit → ((i : ℕ) → get_or body i 0 < 256)
     → meant.read_body meant.reply_of body [] ≡ meant.Got reply [] → meant.IsReply reply

@@ -1,5 +1,6 @@
 pub mod Incoming
 pub mod MessageViews
+pub mod MovedBytes
 pub mod ReadMessages
 pub mod TakenFields
 pub mod WrittenMessages

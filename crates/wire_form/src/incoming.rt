@@ -6,6 +6,7 @@ ghost use Rattle.lam_outside.specs.Causes.{HasCause};
 ghost use Rattle.lam_outside.specs.Told.{Reads};
 ghost use Rattle.session_meaning.specs.Messages.{message_limit};
 ghost use Rattle.wire_form.specs.Incoming.{BodyCame, IsWithinLimit, LengthCame, ReadCause};
+ghost use Rattle.wire_form.specs.MovedBytes.{Moves};
 
 use crate::ReadStop;
 use byteorder::{BigEndian, ByteOrder};
@@ -22,6 +23,7 @@ const CHUNK: usize = 4096;
 pub fn read_length<L: Link>(link: &mut L) -> Result<u32, ReadStop>
     ensures came { ForSome (L.left link.old) (λ bytes. LengthCame bytes (L.left link.new) result) }
     ensures fits { IfOk result (λ len. len ≤ message_limit) }
+    ensures moves { Moves (L.given link.old) (L.left link.old) (L.given link.new) (L.left link.new) }
     ensures sent { L.sent link.new ≡ L.sent link.old }
     ensures beyond { L.beyond link.new ≡ L.beyond link.old }
     ensures cause { ReadCause (L.faults link.old) (L.faults link.new) result }
@@ -48,6 +50,7 @@ fn within_limit(len: u32) -> Result<u32, ReadStop>
 pub fn read_body<L: Link>(alloc: Global, link: &mut L, len: usize) -> Result<Vec<u8>, ReadStop>
     ensures came { ForSome (L.left link.old) (λ bytes. BodyCame len bytes (L.left link.new) result) }
     ensures whole { IfOk result (λ body. length body.items ≡ len) }
+    ensures moves { Moves (L.given link.old) (L.left link.old) (L.given link.new) (L.left link.new) }
     ensures sent { L.sent link.new ≡ L.sent link.old }
     ensures beyond { L.beyond link.new ≡ L.beyond link.old }
     ensures cause { ReadCause (L.faults link.old) (L.faults link.new) result }

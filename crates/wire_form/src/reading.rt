@@ -2,8 +2,10 @@
 ghost use Rattle.std.specs.Prelude.{◌≡◌, ◌≤◌, length, IfOk};
 ghost use Rattle.std.specs.Option.{ForSome};
 ghost use Rattle.session_meaning.specs.Messages as meant;
+ghost use Rattle.session_meaning.specs.ReplyLaws.{HasArgumentBytes};
 ghost use Rattle.wire_form.specs.Incoming.{ReadCause, WholeCame};
 ghost use Rattle.wire_form.specs.MessageViews.{reply_meant, request_meant};
+ghost use Rattle.wire_form.specs.MovedBytes.{Moves};
 ghost use Rattle.wire_form.specs.ReadMessages.{ReadsMessage, SaysWhole};
 
 use crate::body::{BodyFault, reply, request};
@@ -22,6 +24,8 @@ use std::alloc::Global;
 pub fn read_request<L: Link>(alloc: Global, link: &mut L) -> Result<Request, ReadStop>
     ensures reads { ForSome (L.left link.old) (λ bytes. ReadsMessage request_meant meant.read_request bytes (L.left link.new) result) }
     ensures message { IfOk result (λ request. meant.IsRequest (request_meant request)) }
+    ensures argument { IfOk result (λ request. HasArgumentBytes (request_meant request)) }
+    ensures moves { Moves (L.given link.old) (L.left link.old) (L.given link.new) (L.left link.new) }
     ensures sent { L.sent link.new ≡ L.sent link.old }
     ensures beyond { L.beyond link.new ≡ L.beyond link.old }
     ensures cause { ReadCause (L.faults link.old) (L.faults link.new) result }
@@ -35,6 +39,7 @@ pub fn read_request<L: Link>(alloc: Global, link: &mut L) -> Result<Request, Rea
 pub fn read_reply<L: Link>(alloc: Global, link: &mut L) -> Result<Reply, ReadStop>
     ensures reads { ForSome (L.left link.old) (λ bytes. ReadsMessage reply_meant meant.read_reply bytes (L.left link.new) result) }
     ensures message { IfOk result (λ reply. meant.IsReply (reply_meant reply)) }
+    ensures moves { Moves (L.given link.old) (L.left link.old) (L.given link.new) (L.left link.new) }
     ensures sent { L.sent link.new ≡ L.sent link.old }
     ensures beyond { L.beyond link.new ≡ L.beyond link.old }
     ensures cause { ReadCause (L.faults link.old) (L.faults link.new) result }
@@ -47,6 +52,7 @@ pub fn read_reply<L: Link>(alloc: Global, link: &mut L) -> Result<Reply, ReadSto
 fn read_whole<L: Link>(alloc: Global, link: &mut L) -> Result<Vec<u8>, ReadStop>
     ensures came { ForSome (L.left link.old) (λ bytes. WholeCame bytes (L.left link.new) result) }
     ensures fits { IfOk result (λ body. length body.items ≤ meant.message_limit) }
+    ensures moves { Moves (L.given link.old) (L.left link.old) (L.given link.new) (L.left link.new) }
     ensures sent { L.sent link.new ≡ L.sent link.old }
     ensures beyond { L.beyond link.new ≡ L.beyond link.old }
     ensures cause { ReadCause (L.faults link.old) (L.faults link.new) result }
@@ -60,6 +66,7 @@ fn request_in(alloc: Global, body: &[u8]) -> Result<Request, ReadStop>
     requires { length body.now ≤ meant.message_limit }
     ensures says { SaysWhole request_meant meant.request_of body.now result }
     ensures message { IfOk result (λ request. meant.IsRequest (request_meant request)) }
+    ensures argument { IfOk result (λ request. HasArgumentBytes (request_meant request)) }
 {
     let Some((kind, fields)) = body.split_first() else {
         return Err(ReadStop::BadMessage(0, 0));

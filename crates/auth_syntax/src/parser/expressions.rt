@@ -1,16 +1,17 @@
 // Expressions, as they are written.
 
-ghost use Rattle.std.specs.Prelude.{◌≡◌, ◌++◌, ◌∷◌, [], IfOk, OnOk, option_map};
-ghost use Rattle.lexemes.specs.Tokens.{count};
-ghost use Rattle.auth_syntax.specs.Parsing.{begins_expression, expression_from, operation_from, read_arm_separator, read_arms, read_call, read_constructor, read_expression, read_if, read_let, read_list, read_lower, read_match, read_optional_list, read_unit_or_pair, read_whole_expression, word_begins, word_from};
+ghost use Rattle.std.specs.Prelude.{◌≡◌, ◌++◌, ◌∷◌, [], IfOk, List, OnOk, Option, option_map};
+ghost use Rattle.lexemes.specs.Tokens.{Tokens, count};
+ghost use Rattle.auth_syntax.specs.Parsing.{begins_expression, expression_from, operation_from, read_arm_separator, read_arms, read_expression, read_if, read_let, read_list, read_lower, read_match, read_optional_list, read_unit_or_pair, read_whole_expression, word_begins, word_from};
 ghost use Rattle.auth_syntax.specs.Parsing as parsing;
 ghost use Rattle.auth_syntax.specs.Arms.{read_arm};
-ghost use Rattle.auth_syntax.specs.Parts.{Begins, both_of, head_token, operation_of, pattern_of, read_before, read_behind, read_binding, read_both, read_operation, read_pattern, then_closed};
+ghost use Rattle.auth_syntax.specs.Parts.{Begins, as_call, as_constructor, both_of, head_token, operands_of, operation_of, pattern_of, read_before, read_behind, read_binding, read_both, read_operands, read_operation, read_pattern, then_closed};
 ghost use Rattle.lexemes.specs.Remaining.{remaining};
 ghost use Rattle.lexemes.specs.TokenViews.{token_view};
 ghost use Rattle.auth_syntax.specs.Trees.{arm_of, arms_of, boxed_of, expression_of, expressions_of, name_of, names_of, unary_of};
 ghost use Rattle.lexemes.specs.Remaining.{Reads};
-ghost use Rattle.lexemes.specs.Readings.{read_separator};
+ghost use Rattle.lexemes.specs.Readings.{Reading, read_separator, then_read};
+ghost use Rattle.auth_syntax.specs.Syntax.{ExpSyntax};
 
 use crate::parser::{NESTING_LIMIT, lower, upper};
 use crate::tree::{Arm, ExpTree, PlacedName, UnaryOperator};
@@ -112,8 +113,11 @@ fn expression_from(
 {
     match head {
         Head::Mark(Mark::LeftParenthesis) => unit_or_pair(parser, at, levels),
-        Head::Lower(name) => local_or_call(parser, at, name, levels),
-        Head::Upper(name) => constructor(parser, at, name, levels),
+        Head::Lower(name) => local_or_call(at, name, operands(parser, levels)),
+        Head::Upper(name) => {
+            let alloc = parser.alloc;
+            constructor(alloc, at, name, operands(parser, levels))
+        }
         Head::Int(value) => Ok(ExpTree::IntLiteral(at, value)),
         Head::Text(text) => Ok(ExpTree::TextLiteral(at, text)),
         Head::Keyword(keyword) => word(parser, at, keyword, levels),
@@ -133,38 +137,16 @@ fn unit_or_pair(parser: &mut Parser<'_>, at: Place, levels: usize) -> Result<Exp
     Ok(ExpTree::Pair(at, first, second))
 }
 
-/// Behind a lower name: the arguments of a call, or nothing where the name is a local.
+/// Behind a name: expressions in parentheses, or none where no parenthesis stands.
 #[cycle(expressions)]
-fn local_or_call(
-    parser: &mut Parser<'_>,
-    at: Place,
-    name: Name,
-    levels: usize,
-) -> Result<ExpTree, SyntaxFault>
-    ensures { Reads expression_of (read_call (read_expression levels) at name (remaining parser.old)) result (remaining parser.new) }
+fn operands(parser: &mut Parser<'_>, levels: usize) -> Result<Option<Vec<ExpTree>>, SyntaxFault>
+    ensures { Reads operands_of (read_operands (read_expression levels) (remaining parser.old)) result (remaining parser.new) }
 {
     if !parser.if_mark(Mark::LeftParenthesis)? {
-        return Ok(ExpTree::Local(at, name));
+        return Ok(None);
     }
-    let arguments = expression_list(parser, levels)?;
-    Ok(ExpTree::Call(at, name, arguments))
-}
-
-/// Behind an upper name: the fields of a constructor, none where no parenthesis stands.
-#[cycle(expressions)]
-fn constructor(
-    parser: &mut Parser<'_>,
-    at: Place,
-    name: Name,
-    levels: usize,
-) -> Result<ExpTree, SyntaxFault>
-    ensures { Reads expression_of (read_constructor (read_expression levels) at name (remaining parser.old)) result (remaining parser.new) }
-{
-    if !parser.if_mark(Mark::LeftParenthesis)? {
-        return Ok(ExpTree::Constructor(at, name, Vec::new(parser.alloc)));
-    }
-    let fields = expression_list(parser, levels)?;
-    Ok(ExpTree::Constructor(at, name, fields))
+    let operands = expression_list(parser, levels)?;
+    Ok(Some(operands))
 }
 
 /// At least one expression, and the parenthesis that ends them.
@@ -344,6 +326,35 @@ fn arm_listed(parser: &mut Parser<'_>, arms: &mut Vec<Arm>, next: Arm) -> Result
 {
     arms.push(next)?;
     arm_separator(parser)
+}
+
+/// A lower name with what was read behind it: the call of a function, or a local where no parenthesis stands.
+fn local_or_call(
+    at: Place,
+    name: Name,
+    operands: Result<Option<Vec<ExpTree>>, SyntaxFault>,
+) -> Result<ExpTree, SyntaxFault>
+    ensures { (reading : Reading (Option (List ExpSyntax))) (left : Tokens) → Reads operands_of reading operands left → Reads expression_of (then_read reading (as_call at name)) result left }
+{
+    match operands? {
+        Some(operands) => Ok(ExpTree::Call(at, name, operands)),
+        None => Ok(ExpTree::Local(at, name)),
+    }
+}
+
+/// An upper name with what was read behind it: the fields of a constructor, none where no parenthesis stands.
+fn constructor(
+    alloc: Global,
+    at: Place,
+    name: Name,
+    operands: Result<Option<Vec<ExpTree>>, SyntaxFault>,
+) -> Result<ExpTree, SyntaxFault>
+    ensures { (reading : Reading (Option (List ExpSyntax))) (left : Tokens) → Reads operands_of reading operands left → Reads expression_of (then_read reading (as_constructor at name)) result left }
+{
+    match operands? {
+        Some(fields) => Ok(ExpTree::Constructor(at, name, fields)),
+        None => Ok(ExpTree::Constructor(at, name, Vec::new(alloc))),
+    }
 }
 
 /// Takes what has to stand behind a part.

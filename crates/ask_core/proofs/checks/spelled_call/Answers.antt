@@ -10,12 +10,12 @@ returns-in_ok-from_slice-in-Ok c =
       refl,
       c.new-argument.ensures ∙ c.in_ok-from_slice-in-Ok.ensures.items,
       refl,
-      role_reads code c.types.result.now c.types.ensures c.args.argument.now c.program.result.now c.program.ensures c.args.role c.in-Some.called.now c.in-Some.ensures,
+      role_reads code c.types.result.now c.types.ensures c.args.argument.now c.program.result.now c.program.ensures c.args.role c.in-Some.called.now c.in-Some.ensures.called,
       (
         good.0,
         good.1,
         good.2,
-        at_argument code c.types.result.now c.types.ensures c.args.argument.now c.program.result.now c.program.ensures c.args.role c.in-Some.called.now c.in-Some.ensures
+        at_argument code c.types.result.now c.types.ensures c.args.argument.now c.program.result.now c.program.ensures c.args.role c.in-Some.called.now c.in-Some.ensures.called
             ∙ good.3,
       ),
     )
@@ -23,7 +23,7 @@ returns-in_ok-from_slice-in-Ok c =
 pub returns-in-Err-Bad : goal.returns-in-Err-Bad
 returns-in-Err-Bad c =
     let code = c.args.code.now in (
-      role_reads code c.types.result.now c.types.ensures c.args.argument.now c.program.result.now c.program.ensures c.args.role c.in-Some.called.now c.in-Some.ensures,
-      at_argument code c.types.result.now c.types.ensures c.args.argument.now c.program.result.now c.program.ensures c.args.role c.in-Some.called.now c.in-Some.ensures
+      role_reads code c.types.result.now c.types.ensures c.args.argument.now c.program.result.now c.program.ensures c.args.role c.in-Some.called.now c.in-Some.ensures.called,
+      at_argument code c.types.result.now c.types.ensures c.args.argument.now c.program.result.now c.program.ensures c.args.role c.in-Some.called.now c.in-Some.ensures.called
           ∙ bad_at _ c.in-Err-Bad.field-0 c.in-Err-Bad.offset c.in-Err-Bad.field-0-is c.in-Err-Bad.ensures ∙ ap BadAt (sym c.in-Err-Bad.offset-is),
     )

@@ -3,7 +3,8 @@ use Rattle.std.proofs.lemmas.Result.{err_from_is_err_and}
 use Rattle.core_terms.specs.ProgramTrees.{program_format}
 use Rattle.printed_lines.specs.declared.refusal.Argument.TheVariants.{Seed, Count, Number}
 use Rattle.auth_cli.specs.Answer.{Answer, WorkloadNumbers, with_number, with_numbers}
-use Rattle.auth_cli.specs.Arguments.{most_rounds, most_seed, number_within}
+use Rattle.auth_cli.specs.Arguments.{most_rounds, most_seed}
+use Rattle.number_words.specs.Numbers.{number_within}
 use Rattle.auth_cli.specs.GeneratedCalls.{numbers_of}
 use Rattle.auth_cli.proofs.LineSteps.{first_halts, goes_as}
 use Rattle.auth_cli.proofs.gen_workload.read_numbers.Goals as goal

@@ -3,7 +3,7 @@ use Rattle.std.proofs.lemmas.Result.{err_from_is_err_and}
 use Rattle.lam_outside.specs.Told.{Contents}
 use Rattle.printed_lines.specs.declared.refusal.Argument.TheVariants.{Number}
 use Rattle.auth_cli.specs.Answer.{Answer, proof_answer, with_fueled_role, with_ideal_call, with_kept, with_number}
-use Rattle.auth_cli.specs.Arguments.{number_within}
+use Rattle.number_words.specs.Numbers.{number_within}
 use Rattle.auth_cli.specs.CallsInStores.{HoldsCall, HoldsSome, proved_behind}
 use Rattle.auth_cli.specs.FueledRoles.{FueledRole}
 use Rattle.auth_cli.specs.IdealCalls.{IdealCall}

@@ -1,11 +1,12 @@
 use Rattle.std.proofs.Common.{◌≡◌, ◌≤◌, ◌-◌, length}
-use Rattle.std.specs.Io.KnownBytes.{prepend_known}
+use Rattle.std.specs.Io.KnownBytes.{append_known, prepend_known}
 use Rattle.wire_form.proofs.incoming.read_body.Given as goal
 
 abbrev pub invariant-loop-chunk : goal.invariant-loop-chunk
 invariant-loop-chunk g l = record {
   within : length l.body.items ≤ l.len;
   came : g.L.Source.left l.fn.link ≡ prepend_known l.body.items (g.L.Source.left l.link);
+  given : g.L.Source.given l.link ≡ append_known (g.L.Source.given l.fn.link) l.body.items;
   sent : g.L.Link.sent l.link ≡ g.L.Link.sent l.fn.link;
   beyond : g.L.Link.beyond l.link ≡ g.L.Link.beyond l.fn.link;
   faults : g.L.Source.faults l.link ≡ g.L.Source.faults l.fn.link;

@@ -1,5 +1,6 @@
 use Rattle.std.proofs.Common.{ℕ, ◌≤◌, subst, drop}
 use Rattle.wire_form.proofs.Coming.{whole_came}
+use Rattle.wire_form.proofs.Moving.{moves_on}
 use Rattle.wire_form.specs.Incoming.{BodyCame}
 use Rattle.wire_form.proofs.reading.read_whole.Goals as goal
 
@@ -10,3 +11,6 @@ returns-clause-came g c = λ bytes told.
     let Fits : ℕ → Type 0 = λ n. n ≤ 16777216 in
     let Came : ℕ → Type 0 = λ n. BodyCame n (drop 4 bytes) (g.L.Source.left c.read_body.new.link) c.read_body.result in
     whole_came bytes _ _ head.0 (subst Fits head.1 head.2) (subst Came head.1 body)
+
+pub returns-clause-moves : goal.returns-clause-moves
+returns-clause-moves g c = moves_on _ _ _ _ _ _ c.in_ok-len.ensures.moves c.read_body.ensures.moves

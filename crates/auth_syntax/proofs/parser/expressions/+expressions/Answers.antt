@@ -1,4 +1,4 @@
-use Rattle.std.proofs.Common.{◌≡◌, ◌∙◌, true, false, refl, ap, subst, sym, List, map}
+use Rattle.std.proofs.Common.{◌≡◌, ◌∙◌, true, false, refl, ap, subst, sym, List, map, arith}
 use Rattle.std.proofs.lemmas.Result.{err_from_is_err_and}
 use Rattle.lexemes.specs.Tokens.{count}
 use Rattle.lexemes.specs.Readings.{Reading, Found, read_separator}
@@ -9,8 +9,8 @@ use Rattle.auth_syntax.specs.Trees.{boxed_of, expression_of, expressions_of, Arm
 use Rattle.lexemes.specs.Remaining.{Reads, remaining}
 use Rattle.auth_syntax.specs.Syntax.{ExpSyntax}
 use Rattle.auth_syntax.proofs.Faults.{refused_part}
-use Rattle.auth_syntax.proofs.PartsRead.{arm_is, binary_tree, if_is, if_tree, let_is, let_tree, match_is, match_tree, none_begun, operation_is, seen_as, unary_tree, unit_or_pair_is}
-use Rattle.auth_syntax.specs.Parts.{both_of, pattern_of}
+use Rattle.auth_syntax.proofs.PartsRead.{arm_is, binary_tree, call_is, constructor_is, if_is, if_tree, let_is, let_tree, match_is, match_tree, none_begun, operation_is, pair_tree, seen_as, unary_tree, unit_or_pair_is}
+use Rattle.auth_syntax.specs.Parts.{both_of, operands_of, operation_of, pattern_of}
 use Rattle.auth_syntax.proofs.LevelSteps.{read_expression-step}
 use Rattle.auth_syntax.proofs.MadeOfTokens.{expression_is_tokens}
 use Rattle.auth_syntax.proofs.Loops.{IsReadSoFar, read_so_far-none, read_so_far-other, read_so_far-end, read_so_far-more, one_is_shorter, listed_by_one, arms_by_one, pushed}
@@ -252,7 +252,70 @@ arm-returns-in_err-body t c =
     (rw (c.in_ok-pattern.ensures)
     (refused_part expression_of arm_of _ _ _ (remaining c.expression.new.parser) r.result r.ensures.1 c.in_err-body.ensures))
 
+pub operands-returns-in_err-if_mark : goal.operands-returns-in_err-if_mark
+operands-returns-in_err-if_mark t c =
+    let r = c.from_residual in
+    refused_part (λ stands. stands) operands_of _ _ _ (remaining c.if_mark.new.self) r.result r.ensures.1 c.in_err-if_mark.ensures
+
+pub operands-returns-in_err-operands : goal.operands-returns-in_err-operands
+operands-returns-in_err-operands t c =
+    let r = c.from_residual-in_err-operands in
+    rw (c.in_ok-if_mark.ensures, c.if-not-branch.false)
+    (refused_part expressions_of operands_of _ _ _ (remaining c.expression_list.new.parser) r.result r.ensures.1 c.in_err-operands.ensures)
+
+pub unit_or_pair-returns-in_err-first : goal.unit_or_pair-returns-in_err-first
+unit_or_pair-returns-in_err-first t c =
+    let reads = read_expression c.args.levels in
+    let r = c.from_residual-in_err-first in
+    seen_as expression_of r.result (remaining c.both.new.parser) (unit_or_pair_is reads c.args.at (remaining c.args.parser.now))
+    (rw (c.in_ok-if_mark.ensures, c.if-branch.false)
+    (refused_part both_of expression_of _ _ _ (remaining c.both.new.parser) r.result r.ensures.1 c.in_err-first.ensures))
+
+pub operation-returns-in_err-operator : goal.operation-returns-in_err-operator
+operation-returns-in_err-operator t c =
+    let reads = read_expression c.args.levels in
+    let r = c.from_residual in
+    seen_as expression_of r.result (remaining c.operation_word.new.parser)
+    (operation_is reads c.args.at (parsing.unary_of c.args.keyword) (parsing.binary_of c.args.keyword) (remaining c.args.parser.now))
+    (refused_part operation_of expression_of _ _ _ (remaining c.operation_word.new.parser) r.result r.ensures.1 c.in_err-operator.ensures)
+
 -- where all parts are read
+pub unit_or_pair-returns : goal.unit_or_pair-returns
+unit_or_pair-returns t c =
+    let reads = read_expression c.args.levels in
+    unit_or_pair_is reads c.args.at (remaining c.args.parser.now)
+    ∙ rw (c.in_ok-if_mark.ensures, c.if-branch.false, c.in_ok-first.ensures, pair_tree) refl
+
+pub operands-returns-then-not-branch : goal.operands-returns-then-not-branch
+operands-returns-then-not-branch t c = rw (c.in_ok-if_mark.ensures, c.if-not-branch.true) refl
+
+pub operands-returns : goal.operands-returns
+operands-returns t c = rw (c.in_ok-if_mark.ensures, c.if-not-branch.false, c.in_ok-operands.ensures) refl
+
+pub expression_from-returns-in-Lower : goal.expression_from-returns-in-Lower
+expression_from-returns-in-Lower t c =
+    let reads = read_expression c.args.levels in
+    rw c.in-Lower.is (seen_as expression_of c.local_or_call.result (remaining c.operands.new.parser)
+    (call_is reads c.args.at _ (remaining c.args.parser.now)) (c.local_or_call.ensures _ _ c.operands.ensures))
+
+pub expression_from-returns-in-Upper : goal.expression_from-returns-in-Upper
+expression_from-returns-in-Upper t c =
+    let reads = read_expression c.args.levels in
+    rw c.in-Upper.is (seen_as expression_of c.constructor.result (remaining c.operands-in-Upper.new.parser)
+    (constructor_is reads c.args.at _ (remaining c.args.parser.now)) (c.constructor.ensures _ _ c.operands-in-Upper.ensures))
+
+pub expression_from-returns-in-Keyword : goal.expression_from-returns-in-Keyword
+expression_from-returns-in-Keyword t c = rw c.in-Keyword.is c.word.ensures
+
+pub word-returns-in-Let : goal.word-returns-in-Let
+word-returns-in-Let t c = rw c.in-Let.is c.let_in.ensures
+
+pub word-returns-in-If : goal.word-returns-in-If
+word-returns-in-If t c = rw c.in-If.is c.conditional.ensures
+
+pub word-returns-in-Match : goal.word-returns-in-Match
+word-returns-in-Match t c = rw c.in-Match.is c.matching.ensures
+
 pub boxed-returns : goal.boxed-returns
 boxed-returns t c = rw c.in_ok-part.ensures c.closed.ensures
 
@@ -282,3 +345,73 @@ matching-returns t c =
     let reads = read_expression c.args.levels in
     match_is reads c.args.at (remaining c.args.parser.now)
     ∙ rw (c.in_ok-subject.ensures, c.in_ok-mark.ensures, c.in_ok-arms.ensures, match_tree) refl
+
+-- a part has no more levels, or as many and less to hand on
+pub boxed-expression-requires : goal.boxed-expression-requires
+boxed-expression-requires t c = omega (arith, c.decreases)
+
+pub both-boxed-requires : goal.both-boxed-requires
+both-boxed-requires t c = omega (arith, c.decreases)
+
+pub both-boxed-requires-2 : goal.both-boxed-requires-2
+both-boxed-requires-2 t c = omega (arith, c.decreases)
+
+pub unit_or_pair-both-requires : goal.unit_or_pair-both-requires
+unit_or_pair-both-requires t c = omega (arith, c.decreases)
+
+pub operands-expression_list-requires : goal.operands-expression_list-requires
+operands-expression_list-requires t c = omega (arith, c.decreases)
+
+pub expression_list-expression-requires : goal.expression_list-expression-requires
+expression_list-expression-requires t c = omega (arith, c.decreases)
+
+pub word-let_in-requires : goal.word-let_in-requires
+word-let_in-requires t c = omega (arith, c.decreases)
+
+pub word-conditional-requires : goal.word-conditional-requires
+word-conditional-requires t c = omega (arith, c.decreases)
+
+pub word-matching-requires : goal.word-matching-requires
+word-matching-requires t c = omega (arith, c.decreases)
+
+pub word-operation-requires : goal.word-operation-requires
+word-operation-requires t c = omega (arith, c.decreases)
+
+pub operation-boxed-requires : goal.operation-boxed-requires
+operation-boxed-requires t c = omega (arith, c.decreases)
+
+pub operation-both-requires : goal.operation-both-requires
+operation-both-requires t c = omega (arith, c.decreases)
+
+pub let_in-boxed-requires : goal.let_in-boxed-requires
+let_in-boxed-requires t c = omega (arith, c.decreases)
+
+pub let_in-boxed-requires-2 : goal.let_in-boxed-requires-2
+let_in-boxed-requires-2 t c = omega (arith, c.decreases)
+
+pub conditional-boxed-requires : goal.conditional-boxed-requires
+conditional-boxed-requires t c = omega (arith, c.decreases)
+
+pub conditional-boxed-requires-2 : goal.conditional-boxed-requires-2
+conditional-boxed-requires-2 t c = omega (arith, c.decreases)
+
+pub conditional-boxed-requires-3 : goal.conditional-boxed-requires-3
+conditional-boxed-requires-3 t c = omega (arith, c.decreases)
+
+pub matching-boxed-requires : goal.matching-boxed-requires
+matching-boxed-requires t c = omega (arith, c.decreases)
+
+pub matching-arm_list-requires : goal.matching-arm_list-requires
+matching-arm_list-requires t c = omega (arith, c.decreases)
+
+pub arm_list-arm-requires : goal.arm_list-arm-requires
+arm_list-arm-requires t c = omega (arith, c.decreases)
+
+pub arm-expression-requires : goal.arm-expression-requires
+arm-expression-requires t c = omega (arith, c.decreases)
+
+pub expression_from-unit_or_pair-requires : goal.expression_from-unit_or_pair-requires
+expression_from-unit_or_pair-requires t c = omega (arith, c.decreases)
+
+pub expression_from-word-requires : goal.expression_from-word-requires
+expression_from-word-requires t c = omega (arith, c.decreases)

@@ -17,17 +17,14 @@ decreases-expression_from l = 6 * l.levels + 5
 abbrev pub decreases-both : goal.decreases-both
 decreases-both l = 6 * l.levels + 2
 
-abbrev pub decreases-constructor : goal.decreases-constructor
-decreases-constructor l = 6 * l.levels + 2
-
 abbrev pub decreases-boxed : goal.decreases-boxed
 decreases-boxed l = 6 * l.levels + 1
 
 abbrev pub decreases-unit_or_pair : goal.decreases-unit_or_pair
 decreases-unit_or_pair l = 6 * l.levels + 3
 
-abbrev pub decreases-local_or_call : goal.decreases-local_or_call
-decreases-local_or_call l = 6 * l.levels + 2
+abbrev pub decreases-operands : goal.decreases-operands
+decreases-operands l = 6 * l.levels + 2
 
 abbrev pub decreases-expression_list : goal.decreases-expression_list
 decreases-expression_list l = 6 * l.levels + 1

@@ -1,0 +1,23 @@
+use Rattle.std.proofs.Common.{refl, sym, ap, subst}
+use Rattle.mode_vm.specs.Meanings.{program_of}
+use Rattle.session_meaning.specs.Messages as message
+use Rattle.wire_form.specs.MessageViews.{reply_meant}
+use Rattle.ask_core.specs.Replies.{IsReplied}
+use Rattle.ask_core.specs.declared.standing.Standing.TheVariants.{Calling}
+use Rattle.ask_core.proofs.Following.{calling_wrong}
+use Rattle.ask_core.proofs.replied.calling_replied.Goals as goal
+
+pub returns-in-Welcome : goal.returns-in-Welcome
+returns-in-Welcome g c =
+    let hash = g.H.Hash32.hash in
+    let P = program_of c.args.code.now in
+    subst (λ r. IsReplied hash P (Calling c.args.known c.args.asked) r c.wrong.result) (sym (ap reply_meant c.in-Welcome.is))
+    (calling_wrong hash P c.args.known c.args.asked c.wrong.result (message.Welcome c.in-Welcome.session) 0x81 (λ c k a is. refl) c.wrong.ensures.standing c.wrong.ensures.told)
+
+pub returns-in-Closed : goal.returns-in-Closed
+returns-in-Closed g c =
+    let hash = g.H.Hash32.hash in
+    let P = program_of c.args.code.now in
+    subst (λ r. IsReplied hash P (Calling c.args.known c.args.asked) r c.wrong-in-Closed.result) (sym (ap reply_meant c.in-Closed.is))
+    (calling_wrong hash P c.args.known c.args.asked c.wrong-in-Closed.result (message.Closed c.in-Closed.session c.in-Closed.cause) 0x85 (λ c k a is. refl)
+    c.wrong-in-Closed.ensures.standing c.wrong-in-Closed.ensures.told)

@@ -1,0 +1,3 @@
+pub mod ScriptAnswers
+pub mod ScriptRows
+pub mod Scripts

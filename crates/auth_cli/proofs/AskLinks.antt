@@ -1,0 +1,98 @@
+-- The link that `ask` made, and the play on it: for `play_and_store`, `ask`.
+use Rattle.std.proofs.Common.{◌≡◌, ℕ, List, [], ◌∷◌, ◌++◌, take, Option, Some, None, Ok, Err, refl, sym, ap, ◌∙◌, subst}
+use Rattle.std.specs.Io.KnownBytes.{append_known, prepend_known}
+use Rattle.core_terms.specs.Terms.{Program}
+use Rattle.lam_outside.specs.Causes.{Rose}
+use Rattle.lam_outside.specs.Links.{Linked, IsMade, links_so_far, nothing_yet}
+use Rattle.printed_lines.specs.Lines.{link_fault_line}
+use Rattle.printed_syntax.specs.Literals.{ConstructorNames}
+use Rattle.script_play.specs.DeedLines.{bytes_sent}
+use Rattle.script_play.specs.Playing.{PlayCause, PlaysAs, World, first_sent, world}
+use Rattle.script_play.specs.Plays.{Play}
+use Rattle.script_play.specs.declared.halt.Halt.TheVariants as halt
+use Rattle.serve_links.proofs.Linking.{from_nothing, told}
+use Rattle.session_meaning.specs.Client.{Client}
+use Rattle.session_meaning.specs.Messages.{messages, reply_of}
+use Rattle.wire_form.specs.MovedBytes.{Moves}
+use Rattle.auth_cli.specs.Answer.{Asking}
+use Rattle.auth_cli.specs.AskSteps.{IsPlayedFrom, PlayLinks}
+use Rattle.auth_cli.specs.Asking.{IsPlayedOn, PlayEnd, PlayFaults, PlayWrites, asked_play}
+use Rattle.auth_cli.specs.Telling.{TellsText}
+use Rattle.auth_cli.specs.declared.status.Status.{Status}
+use Rattle.auth_cli.specs.declared.status.Status.TheVariants.{ReadFault}
+use Rattle.auth_cli.proofs.Known.{append_twice}
+use Rattle.auth_cli.proofs.ServeGone.{counts_as, same_faults}
+
+module _ (P : Program) (names : ConstructorNames) (left' : Option (List ℕ)) (w w' : World) (p : Play) where
+  -- whatever client is left
+  pub any_client : (Is : Client → Type 0) (end : PlayEnd) → PlaysAs P names Is left' w w' p end → PlaysAs P names (λ c. Unit {0}) left' w w' p end
+  any_client Is (Ok played) plays = (plays.0, plays.1, tt, plays.3)
+  any_client Is (Err halt.Ended) plays = plays
+  any_client Is (Err halt.LinkFault) plays = plays
+  any_client Is (Err halt.NoMemory) plays = plays
+  any_client Is (Err halt.WriteFault) plays = plays
+
+  -- some bytes were sent behind those before
+  sent_more : (end : PlayEnd) → PlaysAs P names (λ c. Unit {0}) left' w w' p end → (bytes : List ℕ) × (w'.sent ≡ append_known w.sent bytes)
+  sent_more (Ok played) plays = (bytes_sent p.deeds, ap (λ (w : World). w.sent) plays.1)
+  sent_more (Err halt.Ended) plays = (bytes_sent p.deeds, ap (λ (w : World). w.sent) plays.1)
+  sent_more (Err halt.LinkFault) plays =
+      (bytes_sent plays.front ++ take plays.count (first_sent plays.left), plays.sent ∙ append_twice w.sent (bytes_sent plays.front) (take plays.count (first_sent plays.left)))
+  sent_more (Err halt.NoMemory) plays =
+      (bytes_sent plays.front ++ take plays.count (first_sent plays.left), plays.sent ∙ append_twice w.sent (bytes_sent plays.front) (take plays.count (first_sent plays.left)))
+  sent_more (Err halt.WriteFault) plays = (bytes_sent plays.front, plays.sent)
+
+-- nothing was sent by now on a link that tells what is sent later
+none_sent : (first sent : Option (List ℕ)) (out more : List ℕ) → first ≡ nothing_yet sent → Some out ≡ append_known first more → first ≡ Some []
+none_sent first (Some bytes) out more none is = none
+none_sent first None out more none is = absurd (let clash : Some out ≡ None = is ∙ ap (λ w. append_known w more) none in cc)
+
+-- a link was made, and the play was played on it
+pub played_on : (a : Asking) (end : PlayEnd) (links ended1 ended2 : Option (List Linked)) (port1 port2 : Option ℕ) (given0 sent0 given1 left1 sent1 given2 left2 sent2 : Option (List ℕ))
+    (written written' last : Option (List ℕ)) (after : List Linked) → IsMade a.port links ended1 port1 given0 sent0 given1 sent1 → ended2 ≡ ended1 → port2 ≡ port1
+    → Moves given1 left1 given2 left2 → IsPlayedFrom a end left1 left2 sent1 sent2 written written' last
+    → links_so_far ended2 port2 given2 left2 sent2 ≡ Some after → IsPlayedOn a end links after written written' last
+played_on a end links ended1 ended2 port1 port2 given0 sent0 given1 left1 sent1 given2 left2 sent2 written written' last after made same at moves plays is =
+    let P = a.program.digested.program in
+    let now = told ended2 a.port given2 left2 sent2 after (ap (λ (p : Option ℕ). links_so_far ended2 p given2 left2 sent2) (sym (at ∙ made.at_port)) ∙ is) in
+    let came : left1 ≡ Some (moves.0 ++ now.rest) = moves.1 ∙ ap (prepend_known moves.0) now.left_is in
+    let play = asked_play a (messages reply_of (moves.0 ++ now.rest)) in
+    let here = plays (moves.0 ++ now.rest) came in
+    let more = sent_more P a.program.names left2 (world sent1 written None) (world sent2 written' last) play end here in
+    let first : sent1 ≡ Some [] = none_sent sent1 sent0 now.out more.0 made.none_sent (sym now.sent_is ∙ more.1) in
+    let read : now.read ≡ moves.0 = from_nothing given1 given0 moves.0 now.read made.none_given (sym now.given_is ∙ moves.2) in
+    let Plays : (bytes : List ℕ) → (left sent sent' : Option (List ℕ)) → Type 0 = λ bytes left sent sent'. PlaysAs P a.program.names (λ c. Unit {0}) left (world sent written None)
+    (world sent' written' last) (asked_play a (messages reply_of (bytes ++ now.rest))) end in
+    let on_left : Plays moves.0 (Some now.rest) sent1 sent2 = subst (λ left. Plays moves.0 left sent1 sent2) now.left_is here in
+    let on_first : Plays moves.0 (Some now.rest) (Some []) sent2 = subst (λ sent. Plays moves.0 (Some now.rest) sent sent2) first on_left in
+    let on_sent : Plays moves.0 (Some now.rest) (Some []) (Some now.out) = subst (λ sent'. Plays moves.0 (Some now.rest) (Some []) sent') now.sent_is on_first in
+    record {
+      before = now.before;
+      link = record { port = a.port; given = now.read; left = now.rest; sent = now.out };
+      told = sym made.others_ended ∙ sym same ∙ now.ended_is;
+      all = now.all;
+      at_port = refl;
+      plays = subst (λ bytes. Plays bytes (Some now.rest) (Some []) (Some now.out)) (sym read) on_sent;
+    }
+
+-- the counts of the net, by that of its links
+pub net_counts : (end : PlayEnd) (links made links' listens listens' accepts accepts' dials dials' : ℕ) → made ≡ links → PlayLinks end made links' → listens' ≡ listens → accepts' ≡ accepts → dials' ≡ dials
+    → PlayFaults end (counts_as links listens accepts dials) (counts_as links' listens' accepts' dials')
+net_counts (Err halt.LinkFault) links made links' listens listens' accepts accepts' dials dials' none rose a b c = (subst (λ n. Rose n links') none rose, a, b, c)
+net_counts (Err halt.Ended) links made links' listens listens' accepts accepts' dials dials' none same a b c = same_faults _ _ _ _ _ _ _ _ (same ∙ none) a b c
+net_counts (Err halt.NoMemory) links made links' listens listens' accepts accepts' dials dials' none same a b c = same_faults _ _ _ _ _ _ _ _ (same ∙ none) a b c
+net_counts (Err halt.WriteFault) links made links' listens listens' accepts accepts' dials dials' none same a b c = same_faults _ _ _ _ _ _ _ _ (same ∙ none) a b c
+net_counts (Ok played) links made links' listens listens' accepts accepts' dials dials' none same a b c = same_faults _ _ _ _ _ _ _ _ (same ∙ none) a b c
+
+-- the line of a link that failed is told
+pub line_told : (line bytes : List ℕ) → line ≡ link_fault_line → bytes ≡ line → (ended : Status) (old new : Option (List ℕ)) (before now : ℕ)
+    → TellsText ReadFault bytes ended old new before now → TellsText ReadFault link_fault_line ended old new before now
+line_told line bytes is same ended old new before now told = subst (λ text. TellsText ReadFault text ended old new before now) (same ∙ is) told
+
+-- which counts rose as a play ended
+pub play_causes : (end : PlayEnd) (links links' before now : ℕ) → PlayCause links links' before now end → PlayLinks end links links' × PlayWrites end before now
+play_causes (Ok played) links links' before now cause = cause
+play_causes (Err halt.Ended) links links' before now cause = cause
+play_causes (Err halt.LinkFault) links links' before now cause = cause
+play_causes (Err halt.NoMemory) links links' before now cause = cause
+play_causes (Err halt.WriteFault) links links' before now cause = cause

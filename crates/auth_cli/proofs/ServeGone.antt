@@ -1,0 +1,180 @@
+-- How a serving went, by what `listen` and the serving of links left.
+use Rattle.std.proofs.Common.{◌≡◌, ◌⊎◌, ◌≤◌, ◌<◌, inl, inr, ℕ, Bool, true, false, List, [], ◌∷◌, ◌++◌, length, Option, Some, None, append-nil, refl, ap, sym, ◌∙◌, subst, subst₂, arith}
+use Rattle.std.specs.List.{AllByRecursion}
+use Rattle.std.specs.Option.{ForSome}
+use Rattle.sha2.specs.Sha256.{sha256}
+use Rattle.lam_outside.specs.Causes.{Rose}
+use Rattle.lam_outside.specs.Links.{Linked, links_so_far}
+use Rattle.session_meaning.specs.Server.{Server, last_turn, new_server}
+use Rattle.serve_core.specs.Serving.{Serves}
+use Rattle.serve_core.specs.declared.server.ServeCore.{ServeCore}
+use Rattle.serve_links.specs.Histories.{HasServed, own_digest, program_served, turns_of}
+use Rattle.code_gen.specs.Programs.{program_in}
+use Rattle.serve_links.specs.ServedLinks.{AreCounted, AreMore, AreMoreInPart, AreMoreServed, AreServed, AreServedInPart, ServesLinks, StaysOn}
+use Rattle.serve_links.specs.declared.net.ServingEnd.{ServingEnd}
+use Rattle.serve_links.specs.declared.net.ServingEnd.TheVariants as end
+use Rattle.auth_cli.specs.Answer.{Serving}
+use Rattle.auth_cli.specs.FueledRoles.{DigestedProgram}
+use Rattle.auth_cli.specs.NetFaults.{NetFaults}
+use Rattle.auth_cli.specs.ReadPrograms.{digested_of}
+use Rattle.auth_cli.specs.OnlineRuns.{NetSeen}
+use Rattle.auth_cli.specs.Serving.{AreMade, AreServedLacking, AreServedOn, Course, HasFaults, HasGone, HasMade, MakesLinks, NotListening, NotWritten, Served, WithoutMemory, first_server, listened_behind}
+
+pub same_links : (ended ended' : Option (List Linked)) (linked linked' : Option ℕ) (given given' left left' sent sent' : Option (List ℕ))
+    → ended' ≡ ended → linked' ≡ linked → given' ≡ given → left' ≡ left → sent' ≡ sent → links_so_far ended' linked' given' left' sent' ≡ links_so_far ended linked given left sent
+same_links ended ended' linked linked' given given' left left' sent sent' a b c d e = rw (a, b, c, d, e) refl
+
+abbrev pub counts_as : (links listens accepts dials : ℕ) → NetFaults
+counts_as links listens accepts dials = record { links = links; listens = listens; accepts = accepts; dials = dials }
+
+pub same_faults : (links links' listens listens' accepts accepts' dials dials' : ℕ) → links' ≡ links → listens' ≡ listens → accepts' ≡ accepts → dials' ≡ dials
+    → counts_as links' listens' accepts' dials' ≡ counts_as links listens accepts dials
+same_faults links links' listens listens' accepts accepts' dials dials' a b c d = rw (a, b, c, d) refl
+
+-- no link was made
+made_none : (s : Serving) (links links' : Option (List Linked)) (accepts accepts' : ℕ) → links' ≡ links → ForSome links' (λ after. HasMade s NotWritten links after accepts accepts' (first_server s))
+made_none s links links' accepts accepts' same = λ after known. record {
+  before = after;
+  made = [];
+  told = sym same ∙ known;
+  all = sym (append-nil after);
+  at_port = tt;
+  makes = (refl, refl);
+}
+
+made_unheard : (s : Serving) (links links' : Option (List Linked)) (accepts accepts' : ℕ) → links' ≡ links → ForSome links' (λ after. HasMade s NotListening links after accepts accepts' (first_server s))
+made_unheard s links links' accepts accepts' same = λ after known. record {
+  before = after;
+  made = [];
+  told = sym same ∙ known;
+  all = sym (append-nil after);
+  at_port = tt;
+  makes = (refl, refl);
+}
+
+module _ (s : Serving) (net net' : NetSeen) (links : net'.links ≡ net.links) where
+  -- it could not listen
+  pub not_listening : net'.listened ≡ net.listened → Rose net.faults.listens net'.faults.listens → net'.faults.links ≡ net.faults.links → net'.faults.accepts ≡ net.faults.accepts
+      → net'.faults.dials ≡ net.faults.dials → HasGone s net net' NotListening (first_server s)
+  not_listening listened rose of_links accepts dials = record {
+    links = made_unheard s net.links net'.links net.faults.accepts net'.faults.accepts links;
+    listened = listened;
+    faults = (rose, of_links, accepts, dials);
+  }
+
+  -- the line that says so could not be written
+  pub not_written : net'.listened ≡ Some s.port → net'.faults ≡ net.faults → HasGone s net net' NotWritten (first_server s)
+  not_written listened same = record {
+    links = made_none s net.links net'.links net.faults.accepts net'.faults.accepts links;
+    listened = listened;
+    faults = same;
+  }
+
+-- ---- links were served
+
+-- The core is a server that is left by a course.
+pub record IsLeft (s : Serving) (course : Course) (links links' : Option (List Linked)) (accepts accepts' : ℕ) {A : Type 0} (core : ServeCore A) : Type 0 where
+  pub server : Server
+  pub made : ForSome links' (λ after. HasMade s course links after accepts accepts' server)
+  pub serves : Serves sha256 core server
+
+module _ {A : Type 0} (s : Serving) (old core : ServeCore A) (port connections : ℕ) (program : digested_of (program_in old.code) ≡ s.program) (slice : old.slice ≡ s.slice) (at : port ≡ s.port)
+    (most : connections ≡ s.links) (links links' : Option (List Linked)) (accepts accepts' : ℕ) where
+  abbrev Left : Course → Type 0
+  Left course = IsLeft s course links links' accepts accepts' core
+
+  as_served : (made : List Linked) (faulted : Bool) (behind : Server)
+      → AreServed sha256 (program_served old) (own_digest old) (turns_of old) (first_server s) made faulted behind → AreServedOn s made faulted behind
+  as_served made faulted behind h =
+      subst₂ (λ (p : DigestedProgram) (k : ℕ). AreServed sha256 p.program p.digest (last_turn k) (first_server s) made faulted behind) program slice h
+
+  as_lacking : (made : List Linked) (behind : Server)
+      → AreServedInPart sha256 (program_served old) (own_digest old) (turns_of old) (first_server s) made behind → AreServedLacking s made behind
+  as_lacking made behind h =
+      subst₂ (λ (p : DigestedProgram) (k : ℕ). AreServedInPart sha256 p.program p.digest (last_turn k) (first_server s) made behind) program slice h
+
+  made_of : (course : Course) (after more : List Linked) (behind : Server) → AreMore port links after more → MakesLinks s course more accepts accepts' behind
+      → HasMade s course links after accepts accepts' behind
+  made_of course after more behind are makes = record {
+    before = are.before;
+    made = more;
+    told = are.told;
+    all = are.all;
+    at_port = subst (λ n. AllByRecursion (λ (link : Linked). link.port ≡ n) more) at are.at_port;
+    makes = makes;
+  }
+
+  -- where the links behind are told, they are these
+  for_told : (course : Course) (after : List Linked) (behind : Server) → links' ≡ Some after → HasMade s course links after accepts accepts' behind
+      → ForSome links' (λ after. HasMade s course links after accepts accepts' behind)
+  for_told course after behind told made = λ other known. let same : after ≡ other = cc in subst (λ after. HasMade s course links after accepts accepts' behind) same made
+
+  not_told : (course : Course) (behind : Server) → links' ≡ None → ForSome links' (λ after. HasMade s course links after accepts accepts' behind)
+  not_told course behind none = λ after known. absurd (cc)
+
+  counted_left : (fault : Bool) (after : List Linked) → links' ≡ Some after → AreCounted sha256 old core (first_server s) port links after connections fault accepts accepts' → Left (Served fault)
+  counted_left fault after told h = record {
+    server = h.served.behind;
+    made = for_told (Served fault) after h.served.behind told
+        (made_of (Served fault) after h.served.more h.served.behind h.served.are (h.faulted, as_served h.served.more h.faulted h.served.behind h.served.served, by h.number));
+    serves = h.served.serves;
+  }
+    where
+      number : length h.served.more ≡ h.count
+      number = h.served.number
+
+      by : ((h.count ≡ connections) × (fault ≡ h.faulted)) ⊎ ((h.count < connections) × (fault ≡ true) × Rose accepts accepts') → AreMade s h.served.more h.faulted fault accepts accepts'
+      by (inl (all, same)) = inl (number ∙ all ∙ most, same)
+      by (inr (few, is, rose)) = inr (omega (arith, few, number, most), is, rose)
+
+  part_left : (after : List Linked) → links' ≡ Some after → AreMoreInPart sha256 old core (first_server s) port links after connections → Left WithoutMemory
+  part_left after told h = record {
+    server = h.behind;
+    made = for_told WithoutMemory after h.behind told
+        (made_of WithoutMemory after h.more h.behind h.are (within h.number, inr (as_lacking h.more h.behind h.served)));
+    serves = h.serves;
+  }
+    where
+      within : length h.more ≤ connections → length h.more ≤ s.links
+      within few = omega (arith, few, most)
+
+  -- by how the serving of the links ended
+  pub served_left : (fault : Bool) → StaysOn sha256 core (end.Served fault) → ServesLinks sha256 old core (first_server s) port links links' connections accepts accepts' (end.Served fault)
+      → Left (Served fault)
+  served_left fault stays serves = by links' refl
+    where
+      by : (o : Option (List Linked)) → links' ≡ o → Left (Served fault)
+      by None none = record { server = stays.server; made = not_told (Served fault) stays.server none; serves = stays.serves }
+      by (Some after) told = counted_left fault after told (serves after told)
+
+  pub lacking_left : StaysOn sha256 core end.NoMemory → ServesLinks sha256 old core (first_server s) port links links' connections accepts accepts' end.NoMemory → Left WithoutMemory
+  lacking_left stays serves = by links' refl
+    where
+      by : (o : Option (List Linked)) → links' ≡ o → Left WithoutMemory
+      by None none = record { server = stays.0; made = not_told WithoutMemory stays.0 none; serves = stays.1 }
+      by (Some after) told = part_left after told (serves after told)
+
+-- where memory is wanting for the line behind all of them
+pub line_lacking : {A : Type 0} (s : Serving) (fault : Bool) (links links' : Option (List Linked)) (accepts accepts' : ℕ) (core : ServeCore A) (left : IsLeft s (Served fault) links links' accepts accepts' core)
+    → IsLeft s WithoutMemory links links' accepts accepts' core
+line_lacking s fault links links' accepts accepts' core left = record {
+  server = left.server;
+  made = λ after known. let made = left.made after known in record {
+    before = made.before;
+    made = made.made;
+    told = made.told;
+    all = made.all;
+    at_port = made.at_port;
+    makes = (within made.made made.makes.0 made.makes.2, inl (made.makes.0, made.makes.1));
+  };
+  serves = left.serves;
+}
+  where
+    within : (made : List Linked) (some : Bool) → AreMade s made some fault accepts accepts' → length made ≤ s.links
+    within made some (inl (all, same)) = omega (arith, all)
+    within made some (inr (few, is, rose)) = omega (arith, few)
+
+-- what was listened to and the counts stand so behind it
+pub left_gone : {A : Type 0} (s : Serving) (course : Course) (net net' : NetSeen) (core : ServeCore A) (left : IsLeft s course net.links net'.links net.faults.accepts net'.faults.accepts core)
+    → net'.listened ≡ listened_behind s course net.listened → HasFaults course net.faults net'.faults → HasGone s net net' course left.server
+left_gone s course net net' core left listened faults = record { links = left.made; listened = listened; faults = faults }

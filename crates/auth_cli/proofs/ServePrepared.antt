@@ -1,0 +1,112 @@
+-- A server before its first connection has a history, and the last version of a server.
+use Rattle.std.proofs.Common.{◌≡◌, ◌<◌, ◌≤◌, ◌-◌, ℕ, List, [], ◌∷◌, length, get_or, Result, Vec, refl, ap, sym, ◌∙◌, subst, arith}
+use Rattle.sha2.specs.Sha256.{sha256}
+use Rattle.code_gen.specs.Programs.{program_in}
+use Rattle.code_gen.specs.declared.code.Code.{Code}
+use Rattle.core_terms.specs.Programs.{meaning}
+use Rattle.core_terms.specs.Projection.{digest_at}
+use Rattle.core_terms.specs.Terms.{Program}
+use Rattle.core_terms.specs.Values.{Value, UnitV}
+use Rattle.mode_vm.specs.Meanings.{program_of}
+use Rattle.serve_core.specs.Serving.{Serves}
+use Rattle.serve_core.specs.declared.server.ServeCore.{ServeCore}
+use Rattle.serve_links.specs.Histories.{HasHistory, HasServed, turns_of}
+use Rattle.session_meaning.specs.Server.{Server, new_server}
+use Rattle.session_turns.specs.Versions.{IsVersion}
+use Rattle.session_turns.proofs.Rows.{alike_get, alike_length}
+use Rattle.value_store.specs.Nodes.{AreSound, Node}
+use Rattle.value_store.specs.Standing.{Kind, ProverNodes}
+use Rattle.value_store.specs.Stores.{nodes_in}
+use Rattle.value_store.specs.declared.node.Ref.{Ref}
+use Rattle.value_store.proofs.DeepNodes.{standing_is_deep}
+use Rattle.value_store.proofs.StandingNodes.{within_stands}
+use Rattle.value_store.proofs.TypedNodes.{ideal_stands, prover_refers}
+use Rattle.core_terms.specs.ProgramTypes.{types_meaning}
+use Rattle.core_terms.specs.declared.digest.Digest.{Digest}
+use Rattle.core_terms.specs.declared.program.Program.{Program as Held}
+use Rattle.core_terms.specs.declared.program_types.Types.{Types}
+use Rattle.images.specs.LoadedRoots.{IsStateAt}
+use Rattle.images.specs.SavedImages.{saved_image}
+use Rattle.images.specs.Saves.{IsSaved}
+use Rattle.images.specs.declared.fault.SaveFault.{SaveFault}
+use Rattle.std.specs.declared.alloc.Global.{Global}
+use Rattle.value_store.specs.declared.store.Store.{Store}
+use Rattle.value_store.proofs.ProverNodes.{shown_ideal}
+use Rattle.auth_cli.specs.Answer.{Serving, state_image}
+use Rattle.auth_cli.specs.FueledRoles.{DigestedProgram}
+use Rattle.auth_cli.specs.PreparedServers.{HoldsProgram}
+use Rattle.auth_cli.specs.ServeSteps.{IsServer}
+use Rattle.auth_cli.specs.Serving.{last_image, last_version}
+use Rattle.auth_cli.proofs.MarkedStates.{saved_by_types}
+
+-- the first server has a history, in which nothing was heard
+module _ {A : Type 0} (core : ServeCore A) (code : Code) (same : core.code ≡ code) (nodes : List Node) (sound : AreSound nodes) (root : Ref) (v : Value)
+    (stands : IsVersion sha256 (program_of code) nodes root v) where
+  abbrev P : Program
+  P = program_of code
+
+  abbrev kind : Kind
+  kind = ProverNodes (digest_at sha256 P)
+
+  begins : HasHistory sha256 P (program_in code).text_digest.0 (turns_of core) (new_server v)
+  begins = record {
+    first = v;
+    before = [];
+    ideal = ideal_stands kind P.types (prover_refers (digest_at sha256 P) P.types) nodes P.state v root.0 stands;
+    fits = within_stands kind P.types nodes P.state v root.0 sound stands;
+    deep = standing_is_deep (digest_at sha256 P) P.types nodes root.0 P.state v sound stands;
+    messages = tt;
+    is = refl;
+  }
+
+  pub first_served : Serves sha256 core (new_server v) → HasServed sha256 core
+  first_served serves = record {
+    server = new_server v;
+    history = subst (λ (code : Code). HasHistory sha256 (program_of code) (program_in code).text_digest.0 (turns_of core) (new_server v)) (sym same) begins;
+    serves = serves;
+  }
+
+-- the node of the last version stands for it
+module _ {A : Type 0} (core : ServeCore A) (server : Server) (serves : Serves sha256 core server) (some : 0 < length core.shared.versions.items) where
+  abbrev refs : List Ref
+  refs = core.shared.versions.items
+
+  abbrev Stands : Ref → Value → Type 0
+  Stands = IsVersion sha256 (program_of core.code) (nodes_in core.shared.store)
+
+  same_number : length refs ≡ length server.shared.versions
+  same_number = alike_length Stands refs server.shared.versions serves.shares.versions
+
+  pub last_stands : (none : Ref) → Stands (get_or refs (length refs - 1) none) (last_version server)
+  last_stands none =
+      subst (λ n. Stands (get_or refs (length refs - 1) none) (get_or server.shared.versions (n - 1) UnitV)) same_number
+      (alike_get Stands (length refs - 1) refs server.shared.versions none UnitV serves.shares.versions (omega (arith, some)))
+
+-- the first server has a version
+pub first_version : {A : Type 0} (core : ServeCore A) (v : Value) → Serves sha256 core (new_server v) → 0 < length core.shared.versions.items
+first_version core v serves =
+    let one = alike_length (IsVersion sha256 (program_of core.code) (nodes_in core.shared.store)) core.shared.versions.items (v ∷ []) serves.shares.versions in omega (arith, one)
+
+-- the node of the last version is that of a state, and its image that of the last version
+module _ {A : Type 0} (s : Serving) (core : ServeCore A) (server : Server) (holds : HoldsProgram s core) (is : IsServer core server) (types : Types) (same : types ≡ (program_in core.code).types) where
+  abbrev p : Held
+  p = program_in core.code
+
+  abbrev node : Ref → Ref
+  node none = get_or core.shared.versions.items (length core.shared.versions.items - 1) none
+
+  ideal_last : (none : Ref) → IsStateAt (types_meaning (program_in core.code).types) core.shared.store (node none) (last_version server)
+  ideal_last none =
+      shown_ideal (digest_at sha256 (meaning p)) (meaning p).types (nodes_in core.shared.store) (meaning p).state (last_version server) (node none).0 (last_stands core server is.serves is.some none)
+
+  pub last_is_state : (none root : Ref) (store : Store) → store ≡ core.shared.store → root ≡ node none → IsStateAt (types_meaning types) store root (last_version server)
+  last_is_state none root store at found =
+      subst (λ root. IsStateAt (types_meaning types) store root (last_version server)) (sym found)
+      (subst (λ store. IsStateAt (types_meaning types) store (node none) (last_version server)) (sym at)
+      (subst (λ (types : Types). IsStateAt (types_meaning types) core.shared.store (node none) (last_version server)) (sym same) (ideal_last none)))
+
+  pub last_is_saved : (digest : Digest) (result : Result (Vec ℕ Global) SaveFault) → digest ≡ (program_in core.code).text_digest
+      → IsSaved (saved_image (types_meaning types) digest.0 (last_version server)) result → IsSaved (last_image s server) result
+  unfolding state_image
+  last_is_saved digest result own saved =
+      subst (λ (q : DigestedProgram). IsSaved (saved_image q.program q.digest (last_version server)) result) holds.program (saved_by_types p types digest (last_version server) result same own saved)

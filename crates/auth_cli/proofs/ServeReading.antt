@@ -1,0 +1,24 @@
+-- The steps that read what is served.
+use Rattle.std.proofs.Common.{◌≡◌, ℕ, List, Option, Some, Result, Ok, Err, sym, ◌∙◌, subst, ap}
+use Rattle.core_terms.specs.Programs.{meaning}
+use Rattle.core_terms.specs.Values.{Value}
+use Rattle.core_terms.specs.declared.program.Program.{Program}
+use Rattle.images.specs.declared.load.Loaded.{Loaded}
+use Rattle.auth_cli.specs.Answer.{Answer, Serving, ServingNumbers, serving_of, with_image_file}
+use Rattle.auth_cli.specs.Halting.{GoesOnFor, HaltsAs}
+use Rattle.auth_cli.specs.PreparedServers.{BeginsWith}
+use Rattle.auth_cli.specs.ReadPrograms.{digested_of}
+use Rattle.auth_cli.specs.StoredStates.{IsStoredState}
+use Rattle.auth_cli.specs.declared.report.Halt.{Halt}
+use Rattle.auth_cli.specs.declared.serving.Beginning.{Beginning}
+use Rattle.auth_cli.proofs.Steps.{halts_behind}
+
+-- an image that is refused behind numbers that are in order halts both
+pub image_halts : (p q : Program) → q ≡ p → (first : (ServingNumbers → Option Answer) → Option Answer) (numbers : ServingNumbers) (file : Option (List ℕ))
+    → ((go : ServingNumbers → Option Answer) → first go ≡ go numbers) → (result : Result Beginning Halt) (halt : Halt) → result ≡ Err halt
+    → GoesOnFor {T = Loaded} (with_image_file (digested_of q) file) (IsStoredState (meaning q)) (Err halt)
+    → GoesOnFor (λ go. first (λ numbers. with_image_file (digested_of p) file (λ v. go (serving_of (digested_of p) numbers v)))) (BeginsWith p) result
+image_halts p q same first numbers file goes result halt is halts =
+    subst (GoesOnFor (λ go. first (λ numbers. with_image_file (digested_of p) file (λ v. go (serving_of (digested_of p) numbers v)))) (BeginsWith p)) (sym is)
+    (λ go. halts_behind _ _ halt (goes (λ numbers. with_image_file (digested_of p) file (λ v. go (serving_of (digested_of p) numbers v))))
+    (subst (λ q. HaltsAs (with_image_file (digested_of q) file (λ v. go (serving_of (digested_of p) numbers v))) halt) same (halts (λ v. go (serving_of (digested_of p) numbers v)))))

@@ -1,0 +1,80 @@
+-- A run of `serve`, from what was read and what was served.
+use Rattle.std.proofs.Common.{◌≡◌, ◌⊎◌, inl, inr, ℕ, List, length, Option, Some, None, Err, refl, sym, subst, ◌∙◌}
+use Rattle.std.specs.Borrow.{Bor}
+use Rattle.std.specs.Option.{ForSome}
+use Rattle.command_words.specs.Commands.{texts}
+use Rattle.command_words.specs.declared.command.Command.TheVariants.{Serve}
+use Rattle.lam_outside.specs.Told.{Contents, Names, Stores}
+use Rattle.printed_lines.specs.declared.refusal.Refusal.TheVariants as refusal
+use Rattle.auth_cli.specs.Answer.{Answer, Serving, answer_with, unserved_answer, with_serving}
+use Rattle.auth_cli.specs.Ending.{Outside}
+use Rattle.auth_cli.specs.Halting.{MayHalt}
+use Rattle.auth_cli.specs.Reaching.{HaltsAtReached, IsReached}
+use Rattle.auth_cli.specs.PreparedServers.{IsPrepared}
+use Rattle.auth_cli.specs.OnlineRuns.{NetSeen}
+use Rattle.auth_cli.specs.Serving.{EndsServing, MeansServing}
+use Rattle.auth_cli.specs.declared.serving.PreparedServer.{PreparedServer}
+use Rattle.auth_cli.specs.declared.report.Halt.{Halt}
+use Rattle.auth_cli.specs.declared.report.Halt.TheVariants.{Usage, Refused, ReadFault, NoMemory}
+use Rattle.auth_cli.specs.declared.status.Status.{Status}
+use Rattle.auth_cli.proofs.Words.{apart, reached_apart, text_at}
+
+abbrev seen_as : Option Contents → Option Stores → Option (List ℕ) → (reads store_faults writes : ℕ) → Outside
+seen_as contents stores written reads store_faults writes =
+    record { contents = contents; stores = stores; written = written; read_faults = reads; store_faults = store_faults; write_faults = writes }
+
+-- the files tell what they told
+pub same_seen : (contents contents' : Option Contents) (stores stores' : Option Stores) (written : Option (List ℕ)) (reads reads' store_faults store_faults' writes : ℕ)
+    → contents' ≡ contents → stores' ≡ stores → reads' ≡ reads → store_faults' ≡ store_faults
+    → seen_as contents' stores' written reads' store_faults' writes ≡ seen_as contents stores written reads store_faults writes
+same_seen contents contents' stores stores' written reads reads' store_faults store_faults' writes a b c d = rw (a, b, c, d) refl
+
+-- one serving for both: what was prepared, and what the files mean where they tell
+pub record IsBoth (contents : Option Contents) (Means : Contents → Serving → Type 0) (Prepared : Serving → Type 0) : Type 0 where
+  pub serving : Serving
+  pub prepared : Prepared serving
+  pub means : ForSome contents (λ files. Means files serving)
+
+pub both : (contents : Option Contents) (Means : Contents → Serving → Type 0) (Prepared : Serving → Type 0) → ForSome contents (λ files. (s : Serving) × Means files s × Prepared s)
+    → ((s : Serving) × Prepared s) → IsBoth contents Means Prepared
+both None Means Prepared told some = record { serving = some.0; prepared = some.1; means = λ files known. absurd (cc) }
+both (Some files) Means Prepared told some =
+    let s = told files refl in record {
+      serving = s.0;
+      prepared = s.2;
+      means = λ other known. let same : files ≡ other = cc in subst (λ files. Means files s.0) same s.1;
+    }
+
+-- what halted the reading is a read fault of a file that was reached, or no read failed
+pub halted_at : (answer : Contents → Option Answer) (contents : Option Contents) (asked : Option Names) (before now : ℕ) (halt : Halt) → MayHalt before now halt
+    → HaltsAtReached answer contents asked halt → (now ≡ before) ⊎ IsReached answer contents asked
+halted_at answer contents asked before now Usage cause faults = absurd cause
+halted_at answer contents asked before now (Refused (refusal.Program kind line column)) cause faults = inl cause
+halted_at answer contents asked before now (Refused (refusal.Input fault)) cause faults = inl cause
+halted_at answer contents asked before now (Refused (refusal.Proof why)) cause faults = absurd cause
+halted_at answer contents asked before now ReadFault cause faults = inr faults
+halted_at answer contents asked before now NoMemory cause faults = inl cause
+
+-- ---- the words of `serve`
+
+-- what they mean
+pub means_apart : (words : List (Bor (List ℕ))) (files : Contents) (s : Serving) → length words ≡ 6
+    → ((go : Serving → Option Answer) → with_serving (text_at words 0) (text_at words 1) (text_at words 2) (text_at words 3) (text_at words 4) files go ≡ go s)
+    → MeansServing (texts words) files s (text_at words 5)
+means_apart words files s six goes = subst (λ ts. MeansServing ts files s (text_at words 5)) (sym (apart words 6 six)) (refl, goes)
+
+-- and where a read failed
+pub either_apart : (words : List (Bor (List ℕ))) (contents : Option Contents) (asked : Option Names) (before now : ℕ) → length words ≡ 6
+    → (now ≡ before) ⊎ IsReached (unserved_answer (text_at words 0) (text_at words 1) (text_at words 2) (text_at words 3) (text_at words 4)) contents asked
+    → (now ≡ before) ⊎ IsReached (answer_with Serve (texts words)) contents asked
+either_apart words contents asked before now six (inl same) = inl same
+either_apart words contents asked before now six (inr reached) = inr (reached_apart Serve words 6 contents asked asked six refl reached)
+
+-- a server that is lent is prepared too
+pub prepared_at : (held lent : PreparedServer) → lent ≡ held → ((s : Serving) × IsPrepared held s) → (s : Serving) × IsPrepared lent s
+prepared_at held lent same prepared = (prepared.0, subst (λ server. IsPrepared server prepared.0) (sym same) prepared.1)
+
+-- a serving behind what left the files as they were
+pub from_seen : (s : Serving) (name : List ℕ) (old mid new : Outside) (net net' : NetSeen) (ended : Status) → mid ≡ old → EndsServing s name mid new net net' ended
+    → EndsServing s name old new net net' ended
+from_seen s name old mid new net net' ended same ends = subst (λ old. EndsServing s name old new net net' ended) same ends

@@ -1,0 +1,120 @@
+-- Texts of `serve` that are written one behind another, and fronts of them.
+use Rattle.std.proofs.Common.{◌≡◌, ◌⊎◌, ℕ, zero, suc, ◌≤◌, ◌+◌, List, [], ◌∷◌, ◌++◌, take, Option, inl, inr, refl, ap, sym, ◌∙◌, subst, arith}
+use Rattle.std.specs.List.{concat}
+use Rattle.std.specs.Io.KnownBytes.{append_known}
+use Rattle.std.proofs.lemmas.List.Folds.{concat-append}
+use Rattle.lam_outside.specs.Causes.{Rose}
+use Rattle.session_meaning.specs.Server.{Server}
+use Rattle.auth_cli.specs.Answer.{Serving}
+use Rattle.auth_cli.specs.Ending.{Outside, WritesPart}
+use Rattle.auth_cli.specs.ServeSteps.{IsCourseTold, IsStorageTold}
+use Rattle.auth_cli.specs.Serving.{Course, IsListening, IsStored, IsTooLong, LacksMemory, Storage, StoreFails, TellsPart, TellsWhole, course_lines, course_status, serving_text, storage_lines, storage_status}
+use Rattle.auth_cli.specs.Telling.{TellsText}
+use Rattle.auth_cli.specs.declared.status.Status.{Status}
+use Rattle.auth_cli.specs.declared.status.Status.TheVariants.{WriteFault}
+use Rattle.auth_cli.proofs.Known.{append_none, append_twice}
+
+-- a front of a text is one of the text with more behind it
+front_more : (n : ℕ) (a b : List ℕ) → (m : ℕ) × (take n a ≡ take m (a ++ b))
+front_more zero a b = (0, refl)
+front_more (suc n) [] b = (0, refl)
+front_more (suc n) (x ∷ a) b = let rest = front_more n a b in (suc rest.0, ap (λ xs. x ∷ xs) rest.1)
+
+-- and a text with a front of another behind it is one of both
+more_front : (a b : List ℕ) (n : ℕ) → (m : ℕ) × (a ++ take n b ≡ take m (a ++ b))
+more_front [] b n = (n, refl)
+more_front (x ∷ a) b n = let rest = more_front a b n in (suc rest.0, ap (λ xs. x ∷ xs) rest.1)
+
+pub part_of_more : (old new : Option (List ℕ)) (a b : List ℕ) → WritesPart old new a → WritesPart old new (a ++ b)
+part_of_more old new a b (n, is) = let more = front_more n a b in (more.0, is ∙ ap (append_known old) more.1)
+
+pub whole_behind : (old mid new : Option (List ℕ)) (a b : List ℕ) → mid ≡ append_known old a → new ≡ append_known mid b → new ≡ append_known old (a ++ b)
+whole_behind old mid new a b first then = then ∙ ap (λ w. append_known w b) first ∙ append_twice old a b
+
+pub part_behind : (old mid new : Option (List ℕ)) (a b : List ℕ) → mid ≡ append_known old a → WritesPart mid new b → WritesPart old new (a ++ b)
+part_behind old mid new a b first (n, then) = let more = more_front a b n in (more.0, whole_behind old mid new a (take n b) first then ∙ ap (append_known old) more.1)
+
+-- ---- the lines of a course
+
+-- a first text was written, and then the rest was told
+pub course_told : (s : Serving) (course : Course) (server : Server) (first text : List ℕ) → concat (course_lines s course server) ≡ first ++ text → IsListening course
+    → (told : Status) (old mid new : Option (List ℕ)) (before between now : ℕ) → mid ≡ append_known old first → between ≡ before
+    → TellsText (course_status course) text told mid new between now → IsCourseTold s course server told old new before now
+course_told s course server first text is listening told old mid new before between now written same (inl whole) =
+    inl (listening, whole.0, whole_behind old mid new first text written whole.1 ∙ ap (append_known old) (sym is), whole.2 ∙ same)
+course_told s course server first text is listening told old mid new before between now written same (inr part) =
+    inr (part.0, subst (WritesPart old new) (sym is) (part_behind old mid new first text written part.1), subst (λ n. Rose n now) same part.2)
+
+-- ---- what follows of the storing
+
+no_front : (n : ℕ) → take {A = ℕ} n [] ≡ []
+no_front zero = refl
+no_front (suc n) = refl
+
+no_lines : (storage : Storage) → storage_lines storage WriteFault ≡ []
+no_lines IsStored = refl
+no_lines StoreFails = refl
+no_lines IsTooLong = refl
+no_lines LacksMemory = refl
+
+stays_fault : (storage : Storage) → storage_status storage WriteFault ≡ WriteFault
+stays_fault IsStored = refl
+stays_fault StoreFails = refl
+stays_fault IsTooLong = refl
+stays_fault LacksMemory = refl
+
+rises_twice : (before between now : ℕ) → Rose before between → Rose between now → Rose before now
+rises_twice before between now rose again = omega (arith, rose, again)
+
+module _ (s : Serving) (course : Course) (server : Server) (storage : Storage) (old new : Outside) (told ended : Status) (mid : Option (List ℕ)) (between : ℕ) where
+  abbrev Told : Type 0
+  Told = TellsWhole s course server storage old new ended ⊎ TellsPart s course server storage old new ended
+
+  -- the whole text
+  text_is : concat (course_lines s course server) ++ concat (storage_lines storage (course_status course)) ≡ serving_text s course server storage
+  text_is = sym (concat-append (course_lines s course server) (storage_lines storage (course_status course)))
+
+  -- where all lines of the course were written
+  behind_whole : IsListening course → mid ≡ append_known old.written (concat (course_lines s course server)) → between ≡ old.write_faults
+      → IsStorageTold storage (course_status course) ended mid new.written between new.write_faults → Told
+  behind_whole listening written same (inl whole) = inl (record {
+    listening = listening;
+    status = whole.0;
+    written = whole_behind old.written mid new.written _ _ written whole.1 ∙ ap (append_known old.written) text_is;
+    writes = whole.2 ∙ same;
+  })
+  behind_whole listening written same (inr part) = inr (record {
+    status = part.0;
+    part = subst (WritesPart old.written new.written) text_is (part_behind old.written mid new.written _ _ written part.1);
+    rose = subst (λ n. Rose n new.write_faults) same part.2;
+  })
+
+  -- where the sink failed at them
+  part_grows : WritesPart old.written mid (concat (course_lines s course server)) → new.written ≡ mid → WritesPart old.written new.written (serving_text s course server storage)
+  part_grows part same =
+      subst (WritesPart old.written new.written) text_is
+      (part_of_more old.written new.written _ _ (subst (λ w. WritesPart old.written w (concat (course_lines s course server))) (sym same) part))
+
+  nothing : (n : ℕ) → new.written ≡ append_known mid (take n (concat (storage_lines storage WriteFault))) → new.written ≡ mid
+  nothing n is = is ∙ ap (λ (lines : List (List ℕ)). append_known mid (take n (concat lines))) (no_lines storage) ∙ (ap (append_known mid) (no_front n) ∙ append_none mid)
+
+  all_nothing : new.written ≡ append_known mid (concat (storage_lines storage WriteFault)) → new.written ≡ mid
+  all_nothing is = is ∙ ap (λ (lines : List (List ℕ)). append_known mid (concat lines)) (no_lines storage) ∙ append_none mid
+
+  behind_part : WritesPart old.written mid (concat (course_lines s course server)) → Rose old.write_faults between
+      → IsStorageTold storage WriteFault ended mid new.written between new.write_faults → Told
+  behind_part part rose (inl whole) = inr (record {
+    status = whole.0 ∙ stays_fault storage;
+    part = part_grows part (all_nothing whole.1);
+    rose = subst (Rose old.write_faults) (sym whole.2) rose;
+  })
+  behind_part part rose (inr more) = inr (record {
+    status = more.0;
+    part = part_grows part (nothing more.1.0 more.1.1);
+    rose = rises_twice old.write_faults between new.write_faults rose more.2;
+  })
+
+  pub serving_told : IsCourseTold s course server told old.written mid old.write_faults between → IsStorageTold storage told ended mid new.written between new.write_faults → Told
+  serving_told (inl (listening, is, written, same)) storing =
+      behind_whole listening written same (subst (λ told. IsStorageTold storage told ended mid new.written between new.write_faults) is storing)
+  serving_told (inr (is, part, rose)) storing = behind_part part rose (subst (λ told. IsStorageTold storage told ended mid new.written between new.write_faults) is storing)

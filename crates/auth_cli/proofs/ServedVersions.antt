@@ -1,0 +1,18 @@
+-- A serving leaves a history, since its links do.
+use Rattle.std.proofs.Common.{inl, inr, ℕ, true, false, List, sym, subst}
+use Rattle.sha2.specs.Sha256.{sha256}
+use Rattle.session_meaning.specs.Server.{Server as TheServer, last_turn}
+use Rattle.serve_links.specs.LinkLaws.{KeepsHistory, LinksKeepHistory, PartsKeepHistory}
+use Rattle.auth_cli.specs.Answer.{Serving as TheServing}
+use Rattle.auth_cli.specs.ServedHistories.{VersionsAreServed}
+use Rattle.auth_cli.specs.Serving.{NotListening, NotWritten, Served, WithoutMemory, first_server}
+
+pub versions_are_served : LinksKeepHistory → PartsKeepHistory → VersionsAreServed
+versions_are_served links parts s NotListening made accepts accepts' server m = subst (KeepsHistory s.program.program) (sym m.1) tt
+versions_are_served links parts s NotWritten made accepts accepts' server m = subst (KeepsHistory s.program.program) (sym m.1) tt
+versions_are_served links parts s (Served faulted) made accepts accepts' server m =
+    links sha256 s.program.program s.program.digest (last_turn s.slice) (first_server s) made m.0 server tt m.1
+versions_are_served links parts s WithoutMemory made accepts accepts' server (few, inl served) =
+    links sha256 s.program.program s.program.digest (last_turn s.slice) (first_server s) made served.0 server tt served.1
+versions_are_served links parts s WithoutMemory made accepts accepts' server (few, inr lacking) =
+    parts sha256 s.program.program s.program.digest (last_turn s.slice) (first_server s) made server tt lacking

@@ -1,0 +1,32 @@
+use Rattle.std.proofs.Common.{None, refl}
+use Rattle.session_meaning.specs.Client.{new_client}
+use Rattle.session_meaning.specs.Messages.{messages, reply_of}
+use Rattle.ask_core.specs.Sessions.{StandsFor}
+use Rattle.script_play.specs.Playing.{world}
+use Rattle.auth_cli.specs.Asking.{asked_play}
+use Rattle.auth_cli.specs.PreparedClients.{asked_by}
+use Rattle.auth_cli.proofs.AskLinks.{any_client, play_causes}
+use Rattle.auth_cli.proofs.ask.play_and_store.Goals as goal
+
+pub returns-clause-plays : goal.returns-clause-plays
+returns-clause-plays g c =
+    let a = asked_by c.args.client.now in
+    let end = c.play-end.result in
+    let causes = play_causes end _ _ _ _ c.play-end.ensures.cause in
+    let plays = rw (c.deref.ensures.value, c.deref-2.ensures.value) at c.play-end.ensures.plays in
+    record {
+      end = end;
+      last = c.play-end.new.last;
+      written = g.O.Sink.written c.play-end.new.out;
+      write_faults = g.O.Sink.faults c.play-end.new.out;
+      told = c.tell_end-told.result;
+      plays = λ bytes known. any_client a.program.digested.program a.program.names (g.N.Source.left c.play-end.new.link)
+          (world (g.N.Link.sent c.args.net.now) (g.O.Sink.written c.args.out.now) None)
+          (world (g.N.Link.sent c.play-end.new.link) (g.O.Sink.written c.play-end.new.out) c.play-end.new.last) (asked_play a (messages reply_of bytes)) (StandsFor c.play-end.new.core) end
+          (plays new_client (messages reply_of bytes) c.requires.stands (record { bytes = bytes; told = known; are = refl }));
+      link_faults = causes.0;
+      writes = causes.1;
+      is_told = c.tell_end-told.ensures;
+      stored = rw c.deref-3.ensures.value at c.store_state.ensures.stored;
+      reads = c.store_state.ensures.faults;
+    }

@@ -1,0 +1,20 @@
+use Rattle.std.proofs.Common.{refl, ap, sym}
+use Rattle.code_gen.specs.Programs.{program_in}
+use Rattle.value_store.specs.Stores.{nodes_in}
+use Rattle.auth_cli.specs.ReadPrograms.{digested_of}
+use Rattle.auth_cli.proofs.ServePrepared.{first_served, first_version}
+use Rattle.auth_cli.proofs.serving.begin.Goals as goal
+
+pub returns : goal.returns
+returns c = λ v stands.
+    let core = c.in_ok-core.core in
+    let serves = c.in_ok-core.ensures.serves v stands in record {
+      program = ap (λ code. digested_of (program_in code)) c.in_ok-core.ensures.code;
+      slice = c.in_ok-core.ensures.slice;
+      port = refl;
+      links = refl;
+      greeting = c.in_ok-greeting.ensures;
+      serves = serves;
+      some = first_version core v serves;
+      served = first_served core c.args.code c.in_ok-core.ensures.code (nodes_in c.args.beginning.state.store) c.args.beginning.state.store.sound c.args.beginning.state.root v stands serves;
+    }

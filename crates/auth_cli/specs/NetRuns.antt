@@ -1,0 +1,59 @@
+-- Runs of words that may call a command on the net.
+use Rattle.std.specs.Prelude.{◌≡◌, ◌⊎◌, ℕ, List, Option, Some, None}
+use Rattle.command_words.specs.Invocations.{Invocation}
+use Rattle.command_words.specs.declared.command.Command.{Command}
+use Rattle.command_words.specs.declared.command.Command.TheVariants.{Ask, Serve}
+use Rattle.lam_outside.specs.Told.{Contents, Names}
+use Rattle.auth_cli.specs.Answer.{Answer, answer_with, usage_answer}
+use Rattle.auth_cli.specs.Ending.{EndsAs, Outside}
+use Rattle.auth_cli.specs.Reaching.{IsReached}
+use Rattle.auth_cli.specs.Asking.{AskCounts, IsAsk}
+use Rattle.auth_cli.specs.OnlineRuns.{NetSeen}
+use Rattle.auth_cli.specs.Serving.{IsServe, ServeCounts}
+use Rattle.auth_cli.specs.declared.status.Status.{Status}
+use Rattle.auth_cli.specs.declared.status.Status.TheVariants.{ReadFault}
+
+-- the command uses no net
+abbrev pub UsesNoNet : Command → Type 0
+UsesNoNet Serve = ⊥
+UsesNoNet Ask = ⊥
+UsesNoNet command = Unit {0}
+
+-- words that call such a command, or none
+abbrev pub IsOffline : Option Invocation → Type 0
+IsOffline None = Unit {0}
+IsOffline (Some called) = UsesNoNet called.command
+
+-- the command dials no link, and it listens to no port
+abbrev pub DialsNone : Command → Type 0
+DialsNone Ask = ⊥
+DialsNone command = Unit {0}
+
+abbrev pub ListensToNone : Command → Type 0
+ListensToNone Serve = ⊥
+ListensToNone command = Unit {0}
+
+-- the same of words that call such a command, or none
+abbrev pub CallsNoDial : Option Invocation → Type 0
+CallsNoDial None = Unit {0}
+CallsNoDial (Some called) = DialsNone called.command
+
+abbrev pub CallsNoListen : Option Invocation → Type 0
+CallsNoListen None = Unit {0}
+CallsNoListen (Some called) = ListensToNone called.command
+
+-- The end of a run of a command with these texts behind it: that of `serve` or of `ask`, or that of another command, by its answer and with the
+-- net as it was.
+abbrev pub EndsCommand : Command → List (List ℕ) → (old new : Outside) → (net net' : NetSeen) → Status → Type 0
+EndsCommand Serve texts old new net net' status = IsServe texts old new net net' status × ServeCounts old new net.faults net'.faults status
+EndsCommand Ask texts old new net net' status = IsAsk texts old new net net' status × AskCounts old new net.faults net'.faults status
+EndsCommand command texts old new net net' status = EndsAs (answer_with command texts) old new status × (net' ≡ net)
+
+-- the same of words that call it, or that call no command
+abbrev pub EndsRun : Option Invocation → (old new : Outside) → (net net' : NetSeen) → Status → Type 0
+EndsRun None old new net net' status = EndsAs (λ files. Some usage_answer) old new status × (net' ≡ net)
+EndsRun (Some called) old new net net' status = EndsCommand called.command called.texts old new net net' status
+
+-- where it ended in a fault, each file was read, or the one that was asked for last is one that the order of refusals had reached
+abbrev pub IsReadFaultAt : (Contents → Option Answer) → Option Contents → Option Names → (before now : ℕ) → Status → Type 0
+IsReadFaultAt answer contents asked before now status = status ≡ ReadFault → (now ≡ before) ⊎ IsReached answer contents asked

@@ -1,0 +1,48 @@
+-- What the code holds of a serving: the numbers, the state with which it begins, and the server before its first connection.
+use Rattle.std.specs.Prelude.{◌≡◌, ◌<◌, ℕ, List, Option, length}
+use Rattle.sha2.specs.Sha256.{sha256}
+use Rattle.code_gen.specs.Programs.{program_in}
+use Rattle.core_terms.specs.Programs.{meaning}
+use Rattle.core_terms.specs.declared.program.Program.{Program}
+use Rattle.lam_outside.specs.Told.{Contents}
+use Rattle.printed_lines.specs.Lines.{listening_line}
+use Rattle.serve_core.specs.Serving.{Serves}
+use Rattle.serve_core.specs.declared.server.ServeCore.{ServeCore}
+use Rattle.serve_links.specs.Histories.{HasServed}
+use Rattle.session_meaning.specs.Server.{new_server}
+use Rattle.auth_cli.specs.Answer.{Answer, Serving, ServingNumbers, serving_of, with_image_file, with_serving_numbers}
+use Rattle.auth_cli.specs.FueledRoles.{DigestedProgram}
+use Rattle.auth_cli.specs.ReadPrograms.{digested_of}
+use Rattle.auth_cli.specs.StoredStates.{IsStoredState}
+use Rattle.auth_cli.specs.declared.serving.Beginning.{Beginning}
+use Rattle.auth_cli.specs.declared.serving.Numbers.{Numbers}
+use Rattle.auth_cli.specs.declared.serving.PreparedServer.{PreparedServer}
+
+abbrev pub numbers_of : Numbers → ServingNumbers
+numbers_of numbers = record { port = numbers.port; links = numbers.connections; slice = numbers.slice }
+
+-- Goes on with what is served of a program: the numbers from left to right, and then the image are judged.
+abbrev pub with_beginning : DigestedProgram → (image port links slice : List ℕ) → Contents → (Serving → Option Answer) → Option Answer
+with_beginning p image port links slice files go =
+    with_serving_numbers port links slice (λ numbers.
+    with_image_file p (files image) (λ v. go (serving_of p numbers v)))
+
+-- the serving of the program begins with this state
+pub record BeginsWith (p : Program) (beginning : Beginning) (s : Serving) : Type 0 where
+  pub stands : IsStoredState (meaning p) beginning.state s.state
+  pub is : s ≡ serving_of (digested_of p) (numbers_of beginning.numbers) s.state
+
+-- The server is that of this serving, before its first connection.
+pub record IsPrepared (server : PreparedServer) (s : Serving) : Type 0 where
+  pub program : digested_of (program_in server.core.code) ≡ s.program
+  pub slice : server.core.slice ≡ s.slice
+  pub port : server.port ≡ s.port
+  pub links : server.connections ≡ s.links
+  pub greeting : server.greeting.items ≡ listening_line s.port
+  pub serves : Serves sha256 server.core (new_server s.state)
+  pub some : 0 < length server.core.shared.versions.items
+  pub served : HasServed sha256 server.core
+
+-- the core is one of the program that is served
+pub record HoldsProgram {A : Type 0} (s : Serving) (core : ServeCore A) : Type 0 where
+  pub program : digested_of (program_in core.code) ≡ s.program

@@ -1,0 +1,205 @@
+-- How `serve` ends, once the words and the files are in order: by the links that were made and what came on them, by what could be written, and
+-- by how the last version was stored.
+use Rattle.std.specs.Prelude.{◌≡◌, ◌⊎◌, ◌≤◌, ◌<◌, ◌-◌, ℕ, Bool, true, false, List, [], ◌∷◌, ◌++◌, length, codes, Option, Some, None}
+use Rattle.std.specs.List.{AllByRecursion, concat}
+use Rattle.std.specs.Option.{ForSome}
+use Rattle.std.specs.Io.KnownBytes.{append_known}
+use Rattle.sha2.specs.Sha256.{sha256}
+use Rattle.command_words.specs.declared.command.Command.TheVariants.{Serve}
+use Rattle.core_terms.specs.Values.{Value}
+use Rattle.lam_outside.specs.Causes.{Rose}
+use Rattle.lam_outside.specs.Links.{Linked}
+use Rattle.lam_outside.specs.Told.{Contents, Stores, AddsStores}
+use Rattle.printed_lines.specs.Lines.{link_fault_line, listening_line, refusal_line, versions_line}
+use Rattle.printed_lines.specs.declared.refusal.Argument.TheVariants as named
+use Rattle.printed_lines.specs.declared.refusal.InputFault.TheVariants.{TooLong}
+use Rattle.printed_lines.specs.declared.refusal.Refusal.TheVariants as refusal
+use Rattle.serve_links.specs.ServedLinks.{AreServed, AreServedInPart}
+use Rattle.session_meaning.specs.Server.{Server, last_turn, new_server, version_at}
+use Rattle.auth_cli.specs.Answer.{Answer, Serving, answer_with, max_file, state_image, with_serving}
+use Rattle.auth_cli.specs.Ending.{Outside, EndsAs, WritesPart}
+use Rattle.auth_cli.specs.NetFaults.{NetFaults}
+use Rattle.auth_cli.specs.OnlineRuns.{CountsBy, NetSeen}
+use Rattle.auth_cli.specs.declared.status.Status.{Status}
+use Rattle.auth_cli.specs.declared.status.Status.TheVariants.{Done, InputRefused, ReadFault, WriteFault, NoMemory}
+
+-- LINKS
+-- the server before its first connection
+abbrev pub first_server : Serving → Server
+first_server s = new_server s.state
+
+-- The first server served these links, one after another, each by the server that the one before it left, whether one of them ended in a link
+-- fault; and it left this server. `AreServedLacking` are they up to the last one, on which memory was wanting.
+abbrev pub AreServedOn : Serving → List Linked → (faulted : Bool) → Server → Type 0
+AreServedOn s made faulted server = AreServed sha256 s.program.program s.program.digest (last_turn s.slice) (first_server s) made faulted server
+
+abbrev pub AreServedLacking : Serving → List Linked → Server → Type 0
+AreServedLacking s made server = AreServedInPart sha256 s.program.program s.program.digest (last_turn s.slice) (first_server s) made server
+
+-- COURSES
+-- How the serving went: it could not listen; it listened, and the line that says so could not be written; it served links, and whether one of
+-- them or an `accept` failed; or memory was wanting, for a connection or for the line behind the last one.
+pub data Course : Type 0 where
+  NotListening NotWritten WithoutMemory : Course
+  Served : (faulted : Bool) → Course
+
+-- Of the links that were made: they are as many as were to be served, and there is a fault where one of them ended in one; or fewer, since an
+-- `accept` failed, which is a fault.
+abbrev pub AreMade : Serving → (made : List Linked) → (some_faulted faulted : Bool) → (accepts accepts' : ℕ) → Type 0
+AreMade s made some_faulted faulted accepts accepts' =
+    ((length made ≡ s.links) × (faulted ≡ some_faulted)) ⊎ ((length made < s.links) × (faulted ≡ true) × Rose accepts accepts')
+
+-- These links were made and served, and left this server.
+abbrev pub MakesLinks : Serving → Course → (made : List Linked) → (accepts accepts' : ℕ) → Server → Type 0
+MakesLinks s NotListening made accepts accepts' server = (made ≡ []) × (server ≡ first_server s)
+MakesLinks s NotWritten made accepts accepts' server = (made ≡ []) × (server ≡ first_server s)
+MakesLinks s (Served faulted) made accepts accepts' server =
+    (some_faulted : Bool) × AreServedOn s made some_faulted server × AreMade s made some_faulted faulted accepts accepts'
+MakesLinks s WithoutMemory made accepts accepts' server =
+    (length made ≤ s.links) × (((some_faulted : Bool) × AreServedOn s made some_faulted server) ⊎ AreServedLacking s made server)
+
+-- the counts of the net: that of `listen` rose where it could not listen, one of the others exactly where a link or an `accept` failed
+abbrev pub HasFaults : Course → NetFaults → NetFaults → Type 0
+HasFaults NotListening faults faults' =
+    Rose faults.listens faults'.listens × (faults'.links ≡ faults.links) × (faults'.accepts ≡ faults.accepts) × (faults'.dials ≡ faults.dials)
+HasFaults NotWritten faults faults' = faults' ≡ faults
+HasFaults (Served false) faults faults' = faults' ≡ faults
+HasFaults (Served true) faults faults' =
+    (Rose faults.links faults'.links ⊎ Rose faults.accepts faults'.accepts) × (faults'.listens ≡ faults.listens) × (faults'.dials ≡ faults.dials)
+HasFaults WithoutMemory faults faults' = (faults'.listens ≡ faults.listens) × (faults'.dials ≡ faults.dials)
+
+-- what is listened to
+abbrev pub listened_behind : Serving → Course → Option ℕ → Option ℕ
+listened_behind s NotListening before = before
+listened_behind s course before = Some s.port
+
+-- Where the links behind the serving are told, those before it are; they are these and more, all to the port, which were so made and served.
+pub record HasMade (s : Serving) (course : Course) (links : Option (List Linked)) (after : List Linked) (accepts accepts' : ℕ) (server : Server) : Type 0 where
+  pub before : List Linked
+  pub made : List Linked
+  pub told : links ≡ Some before
+  pub all : after ≡ before ++ made
+  pub at_port : AllByRecursion (λ (link : Linked). link.port ≡ s.port) made
+  pub makes : MakesLinks s course made accepts accepts' server
+
+-- The serving went so, and left this server.
+pub record HasGone (s : Serving) (net net' : NetSeen) (course : Course) (server : Server) : Type 0 where
+  pub links : ForSome net'.links (λ after. HasMade s course net.links after net.faults.accepts net'.faults.accepts server)
+  pub listened : net'.listened ≡ listened_behind s course net.listened
+  pub faults : HasFaults course net.faults net'.faults
+
+-- LINES
+-- the line of so many versions and commits, and behind it that of a fault; and those that the server has
+abbrev pub fault_lines : Bool → List (List ℕ)
+fault_lines true = link_fault_line ∷ []
+fault_lines false = []
+
+abbrev pub count_lines : (versions commits : ℕ) → (faulted : Bool) → List (List ℕ)
+count_lines versions commits faulted = versions_line versions commits ∷ fault_lines faulted
+
+abbrev pub server_lines : Server → (faulted : Bool) → List (List ℕ)
+server_lines server faulted = count_lines (length server.shared.versions) (length server.shared.commits) faulted
+
+-- the lines that are to be written before the last version is stored, as they arise, and the status that stands then
+abbrev pub course_lines : Serving → Course → Server → List (List ℕ)
+course_lines s NotListening server = link_fault_line ∷ []
+course_lines s NotWritten server = listening_line s.port ∷ []
+course_lines s (Served faulted) server = listening_line s.port ∷ server_lines server faulted
+course_lines s WithoutMemory server = listening_line s.port ∷ codes "no memory\n" ∷ []
+
+abbrev pub course_status : Course → Status
+course_status NotListening = ReadFault
+course_status NotWritten = WriteFault
+course_status (Served true) = ReadFault
+course_status (Served false) = Done
+course_status WithoutMemory = NoMemory
+
+-- STORING
+-- How the image of the last version was stored: `store` took it, or failed; it was too long to be stored; or memory was wanting for it.
+pub data Storage : Type 0 where
+  IsStored StoreFails IsTooLong LacksMemory : Storage
+
+-- the last version that the server has, and its image
+abbrev pub last_version : Server → Value
+last_version server = version_at server.shared.versions (length server.shared.versions - 1)
+
+abbrev pub last_image : Serving → Server → List ℕ
+last_image s server = state_image s.program (last_version server)
+
+-- The image was stored so under a name: `store` is handed it, whatever it answers, where the image is no longer than a file may be and memory is
+-- found, and else nothing. Its count of faults rose where it failed.
+abbrev pub IsStoredBy : Storage → (image name : List ℕ) → (stores stores' : Option Stores) → (before now : ℕ) → Type 0
+IsStoredBy IsStored image name stores stores' before now = (length image ≤ max_file) × AddsStores stores stores' ((name, image) ∷ []) × (now ≡ before)
+IsStoredBy StoreFails image name stores stores' before now = (length image ≤ max_file) × AddsStores stores stores' ((name, image) ∷ []) × Rose before now
+IsStoredBy IsTooLong image name stores stores' before now = (max_file < length image) × AddsStores stores stores' [] × (now ≡ before)
+IsStoredBy LacksMemory image name stores stores' before now = AddsStores stores stores' [] × (now ≡ before)
+
+-- the line that follows where this was the status before, and the status at the end: no line follows a fault or the want of memory
+abbrev pub storage_lines : Storage → Status → List (List ℕ)
+storage_lines IsTooLong Done = refusal_line (refusal.Input (TooLong named.Out)) ∷ []
+storage_lines LacksMemory Done = codes "no memory\n" ∷ []
+storage_lines storage status = []
+
+abbrev pub storage_status : Storage → Status → Status
+storage_status StoreFails status = WriteFault
+storage_status IsTooLong Done = InputRefused
+storage_status LacksMemory Done = NoMemory
+storage_status LacksMemory ReadFault = NoMemory
+storage_status storage status = status
+
+-- ENDS
+-- the text of all lines
+abbrev pub serving_text : Serving → Course → Server → Storage → List ℕ
+serving_text s course server storage = concat (course_lines s course server ++ storage_lines storage (course_status course))
+
+-- the first line could be written, where there was one
+abbrev pub IsListening : Course → Type 0
+IsListening NotWritten = ⊥
+IsListening course = Unit {0}
+
+-- All lines were written, the sink's count stayed, and the status is that of the course and of the storing.
+pub record TellsWhole (s : Serving) (course : Course) (server : Server) (storage : Storage) (old new : Outside) (ended : Status) : Type 0 where
+  pub listening : IsListening course
+  pub status : ended ≡ storage_status storage (course_status course)
+  pub written : new.written ≡ append_known old.written (serving_text s course server storage)
+  pub writes : new.write_faults ≡ old.write_faults
+
+-- The sink failed, and a front of their text was written.
+pub record TellsPart (s : Serving) (course : Course) (server : Server) (storage : Storage) (old new : Outside) (ended : Status) : Type 0 where
+  pub status : ended ≡ WriteFault
+  pub part : WritesPart old.written new.written (serving_text s course server storage)
+  pub rose : Rose old.write_faults new.write_faults
+
+-- How a serving ends. Its course and its server, what is written of them, and the last version, which is stored however it ended.
+pub record EndsServing (s : Serving) (name : List ℕ) (old new : Outside) (net net' : NetSeen) (status : Status) : Type 0 where
+  pub course : Course
+  pub server : Server
+  pub storage : Storage
+  pub gone : HasGone s net net' course server
+  pub told : TellsWhole s course server storage old new status ⊎ TellsPart s course server storage old new status
+  pub stored : IsStoredBy storage (last_image s server) name old.stores new.stores old.store_faults new.store_faults
+  pub reads : new.read_faults ≡ old.read_faults
+
+-- The texts behind the command and the files mean to serve this, and to store the last version under this name.
+abbrev pub MeansServing : List (List ℕ) → Contents → Serving → (name : List ℕ) → Type 0
+MeansServing (program ∷ image ∷ port ∷ links ∷ slice ∷ out ∷ []) files s name =
+    (name ≡ out) × ((go : Serving → Option Answer) → with_serving program image port links slice files go ≡ go s)
+MeansServing texts files s name = ⊥
+
+-- a run that came to listen
+pub record IsServing (texts : List (List ℕ)) (old new : Outside) (net net' : NetSeen) (status : Status) : Type 0 where
+  pub serving : Serving
+  pub name : List ℕ
+  pub means : ForSome old.contents (λ files. MeansServing texts files serving name)
+  pub ends : EndsServing serving name old new net net' status
+
+-- A run of `serve` with these texts behind the command: it ended as one does that answers without a link, and left the net as it was; or it came
+-- to listen.
+abbrev pub IsServe : (texts : List (List ℕ)) → (old new : Outside) → (net net' : NetSeen) → Status → Type 0
+IsServe texts old new net net' status = (EndsAs (answer_with Serve texts) old new status × (net' ≡ net)) ⊎ IsServing texts old new net net' status
+
+-- COUNTS
+-- by the status, and no link is dialled, ever
+pub record ServeCounts (old new : Outside) (net net' : NetFaults) (status : Status) : Type 0 where
+  pub by_status : CountsBy old new net net' status
+  pub dials : net'.dials ≡ net.dials

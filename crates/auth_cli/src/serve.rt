@@ -1,0 +1,146 @@
+// The command `serve`.
+ghost use Rattle.std.specs.Prelude.{◌≡◌, ◌⊎◌, IfOk, length};
+ghost use Rattle.std.specs.List.{concat};
+ghost use Rattle.command_words.specs.Commands.{texts};
+ghost use Rattle.command_words.specs.declared.command.Command.TheVariants.{Serve};
+ghost use Rattle.serve_links.specs.Histories.{HasSameCode};
+ghost use Rattle.auth_cli.specs.Answer.{Serving, answer_with};
+ghost use Rattle.auth_cli.specs.Ending.{outside};
+ghost use Rattle.auth_cli.specs.NetFaults.{net_faults};
+ghost use Rattle.auth_cli.specs.PreparedServers.{IsPrepared};
+ghost use Rattle.auth_cli.specs.Reaching.{IsReached};
+ghost use Rattle.auth_cli.specs.ServeSteps.{IsEndTold, TellsCourse};
+ghost use Rattle.auth_cli.specs.Serving.{EndsServing, IsServe, ServeCounts, Served, count_lines, course_status, fault_lines};
+ghost use Rattle.auth_cli.specs.OnlineRuns.{net_seen};
+ghost use Rattle.auth_cli.specs.Statuses.{MayAnswer};
+
+use crate::last_version::store_last;
+use crate::report::{NO_MEMORY, tell, tell_text, write_all};
+use crate::serving::{PreparedServer, ServeWords, read_serving};
+use crate::{Halt, Status};
+use digest_layer::Sha;
+use lam_outside::{Failed, Files, Net, Sink};
+use printed_lines::lines::{link_fault_line, versions_line};
+use serve_core::ServeCore;
+use serve_links::{ServingEnd, serve_links};
+use std::alloc::{AllocError, Global};
+
+/// Serves connections, one after another, and stores the image of the last version of the state. The words behind the command are
+/// `P IMG PORT CONNS SLICE OUT`.
+pub fn serve_command<F: Files, O: Sink, N: Net>(
+    alloc: Global,
+    words: &[&str],
+    files: &mut F,
+    out: &mut O,
+    net: &mut N,
+) -> Status
+    requires { length words.now ≡ 6 }
+    ensures ends { let seen = outside F.contents F.stores F.faults F.store_faults O.written O.faults in
+        let links = net_seen N.ended N.linked N.given N.left N.sent N.listened (net_faults N.faults N.listen_faults N.accept_faults N.dial_faults) in
+        IsServe (texts words.now) (seen files.old out.old) (seen files.new out.new) (links net.old) (links net.new) result }
+    ensures counts { let seen = outside F.contents F.stores F.faults F.store_faults O.written O.faults in
+        let faults = net_faults N.faults N.listen_faults N.accept_faults N.dial_faults in
+        ServeCounts (seen files.old out.old) (seen files.new out.new) (faults net.old) (faults net.new) result }
+    ensures reached { (F.faults files.new ≡ F.faults files.old) ⊎ IsReached (answer_with Serve (texts words.now)) (F.contents files.old) (F.asked files.new) }
+    ensures possible { MayAnswer Serve result }
+{
+    let [program, image, port, connections, slice, name] = words else {
+        unreachable!()
+    };
+    let words = ServeWords {
+        program,
+        image,
+        port,
+        connections,
+        slice,
+    };
+    match read_serving(alloc, &words, files) {
+        Ok(mut server) => serve(alloc, &mut server, name, files, out, net),
+        Err(halt) => tell(alloc, out, Err(halt)),
+    }
+}
+
+/// Serves, and then stores the last version under a name.
+fn serve<F: Files, O: Sink, N: Net>(
+    alloc: Global,
+    server: &mut PreparedServer,
+    name: &str,
+    files: &mut F,
+    out: &mut O,
+    net: &mut N,
+) -> Status
+    requires { (s : Serving) × IsPrepared server.old s }
+    ensures ends { let seen = outside F.contents F.stores F.faults F.store_faults O.written O.faults in
+        let links = net_seen N.ended N.linked N.given N.left N.sent N.listened (net_faults N.faults N.listen_faults N.accept_faults N.dial_faults) in
+        (s : Serving) → IsPrepared server.old s → EndsServing s name.now (seen files.old out.old) (seen files.new out.new) (links net.old) (links net.new) result }
+    ensures asked { F.asked files.new ≡ F.asked files.old }
+{
+    let told = listen_and_serve(alloc, server, out, net);
+    store_last(alloc, &server.core, name, files, out, told)
+}
+
+/// Listens, serves the connections, and tells both. The status so far.
+fn listen_and_serve<O: Sink, N: Net>(
+    alloc: Global,
+    server: &mut PreparedServer,
+    out: &mut O,
+    net: &mut N,
+) -> Status
+    requires { (s : Serving) × IsPrepared server.old s }
+    ensures course { let links = net_seen N.ended N.linked N.given N.left N.sent N.listened (net_faults N.faults N.listen_faults N.accept_faults N.dial_faults) in
+        (s : Serving) → IsPrepared server.old s
+        → TellsCourse s (links net.old) (links net.new) server.new.core result (O.written out.old) (O.written out.new) (O.faults out.old) (O.faults out.new) }
+    ensures code { HasSameCode server.old.core server.new.core }
+{
+    match net.listen(server.port) {
+        Ok(()) => match write_all(out, &server.greeting) {
+            Ok(()) => {
+                let end = serve_links(alloc, &mut server.core, net, server.connections);
+                tell_end(alloc, &server.core, out, end)
+            }
+            Err(Failed) => Status::WriteFault,
+        },
+        Err(Failed) => tell_text(out, Status::ReadFault, link_fault_line().as_bytes()),
+    }
+}
+
+/// Tells how the serving of connections ended: how many versions and commits there are, and that a link failed; or that memory was
+/// wanting, also for these lines.
+fn tell_end<O: Sink>(alloc: Global, core: &ServeCore<Sha>, out: &mut O, end: ServingEnd) -> Status
+    ensures { IsEndTold (length core.now.shared.versions.items) (length core.now.shared.commits.items) end result (O.written out.old) (O.written out.new) (O.faults out.old) (O.faults out.new) }
+{
+    match end {
+        ServingEnd::Served { link_fault } => match end_text(alloc, core, link_fault) {
+            Ok(text) => tell_text(out, end_status(link_fault), &text),
+            Err(AllocError) => tell_text(out, Status::NoMemory, NO_MEMORY),
+        },
+        ServingEnd::NoMemory => tell_text(out, Status::NoMemory, NO_MEMORY),
+    }
+}
+
+/// The status of a serving, whether a link failed or not.
+fn end_status(link_fault: bool) -> Status
+    ensures { result ≡ course_status (Served link_fault) }
+{
+    if link_fault {
+        Status::ReadFault
+    } else {
+        Status::Done
+    }
+}
+
+/// The line of the versions and the commits, and that of a link that failed.
+fn end_text(alloc: Global, core: &ServeCore<Sha>, link_fault: bool) -> Result<Vec<u8>, AllocError>
+    ensures { IfOk result (λ text. text.items ≡ concat (count_lines (length core.now.shared.versions.items) (length core.now.shared.commits.items) link_fault)) }
+{
+    let mut text = versions_line(alloc, core.versions().len(), core.commits().len())?;
+    text.extend_from_slice(fault_text(link_fault).as_bytes())?;
+    Ok(text)
+}
+
+/// The line of a link that failed, where one did.
+fn fault_text(link_fault: bool) -> &'static str
+    ensures { result.now ≡ concat (fault_lines link_fault) }
+{
+    if link_fault { link_fault_line() } else { "" }
+}

@@ -1,0 +1,145 @@
+-- A play comes of events of the client: for the law `plays_tell_truth`.
+use Rattle.std.proofs.Common.{◌≡◌, ◌⊎◌, inl, inr, ℕ, Bool, true, false, List, [], ◌∷◌, ◌++◌, refl, sym, ap, ◌∙◌, subst}
+use Rattle.core_terms.specs.Formats.{Hash}
+use Rattle.core_terms.specs.Terms.{Program}
+use Rattle.session_meaning.specs.Client as client
+use Rattle.session_meaning.specs.Client.{Answer, Client, Event, Taken, new_client, take_event, waits}
+use Rattle.session_meaning.specs.ClientLaws.{ToldIsTrue}
+use Rattle.session_meaning.specs.Messages.{Go, Messages, NoMore, Then, Reply}
+use Rattle.ask_core.specs.Sessions.{some_calls, some_waits}
+use Rattle.ask_script.specs.Scripts.{UserStep, Opens, Calls, Goes, Closes}
+use Rattle.script_play.specs.PlayRuns.{Follows, IsOfNone, PlaysTellTruth, client_behind, deed_of, line_deed}
+use Rattle.script_play.specs.Plays.{Deed, Sends, Stops, Play, asked_play, asks, behind, ends, goes_behind, hears, if_goes, if_waiting, lets_run, most_rounds, play, play_step, rests, take_replies, then_play, told_of}
+
+module _ (hash : Hash) (P : Program) (own : List ℕ) where
+  -- The deeds of a play come of events, which leave its client.
+  record IsRun (c : Client) (p : Play) : Type 0 where
+    events : List Event
+    follows : Follows hash P own c p.deeds events p.client
+
+  -- deeds behind others
+  follows_more : (c : Client) (a b : List Deed) (es fs : List Event) (mid last : Client) → Follows hash P own c a es mid → Follows hash P own mid b fs last
+      → Follows hash P own c (a ++ b) (es ++ fs) last
+  follows_more c [] b es fs mid last first then =
+      subst (λ es. Follows hash P own c b (es ++ fs) last) (sym first.0) (subst (λ c. Follows hash P own c b fs last) first.1 then)
+  follows_more c (d ∷ a) b es fs mid last (inl none) then = inl (none.0, follows_more c a b es fs mid last none.1 then)
+  follows_more c (d ∷ a) b es fs mid last (inr one) then = inr (
+    one.0,
+    one.1 ++ fs,
+    ap (λ es. es ++ fs) one.2,
+    one.3,
+    follows_more (take_event hash P own c one.0).client a b one.1 fs mid last one.4 then,
+  )
+
+  -- nothing is done
+  rests_run : (c : Client) (ms : Messages Reply) → IsRun c (rests c ms)
+  rests_run c ms = record { events = []; follows = (refl, refl) }
+
+  ends_run : (c : Client) (ms : Messages Reply) → IsRun c (ends c ms)
+  ends_run c ms = record { events = []; follows = (refl, refl) }
+
+  goes_run : (goes : Bool) (c : Client) (ms : Messages Reply) (more : Client → Messages Reply → Play) → IsRun c (more c ms) → IsRun c (if_goes goes c ms more)
+  goes_run true c ms more run = run
+  goes_run false c ms more run = ends_run c ms
+
+  -- a deed that comes of no event, and one that comes of an event, before a play
+  none_run : (c : Client) (d : Deed) (p : Play) → IsOfNone d → IsRun c p → IsRun c (behind (d ∷ []) p)
+  none_run c d p none run = record { events = run.events; follows = inl (none, run.follows) }
+
+  event_run : (c : Client) (e : Event) (d : Deed) (p : Play) → d ≡ deed_of P c e (take_event hash P own c e).answer → IsRun (take_event hash P own c e).client p
+      → IsRun c (behind (d ∷ []) p)
+  event_run c e d p is run = record { events = e ∷ run.events; follows = inr (e, run.events, refl, is, run.follows) }
+
+  -- REPLIES
+
+  replies_run : (waiting : Client → Bool) (ms : Messages Reply) (c : Client) → IsRun c (take_replies hash P own waiting c ms)
+  replies_run waiting (NoMore stop) c = by (waiting c)
+    where
+      by : (w : Bool) → IsRun c (if_waiting w c (NoMore stop) (λ c. behind (Stops stop ∷ []) (ends c (NoMore stop))))
+      by true = none_run c (Stops stop) (ends c (NoMore stop)) tt (ends_run c (NoMore stop))
+      by false = rests_run c (NoMore stop)
+  replies_run waiting (Then reply more) c = by (waiting c) (λ c. replies_run waiting more c)
+    where
+      heard : Taken
+      heard = hears hash P own c reply
+
+      by : (w : Bool) → ((c : Client) → IsRun c (take_replies hash P own waiting c more)) → IsRun c (if_waiting w c (Then reply more) (λ c. behind (told_of hash P own c reply ∷ [])
+          (if_goes (goes_behind (hears hash P own c reply).answer) (hears hash P own c reply).client more (λ c ms. take_replies hash P own waiting c more))))
+      by true later = event_run c (client.Hears reply) (told_of hash P own c reply) (if_goes (goes_behind heard.answer) heard.client more (λ c ms. take_replies hash P own waiting c more)) refl
+          (goes_run (goes_behind heard.answer) heard.client more (λ c ms. take_replies hash P own waiting c more) (later heard.client))
+      by false later = rests_run c (Then reply more)
+
+  -- LINES
+
+  -- what the client answers to a line is sent or told
+  asks_run : (c : Client) (e : Event) (session : ℕ) (ms : Messages Reply) (more : Client → Messages Reply → Play)
+      → line_deed session (take_event hash P own c e).answer ≡ deed_of P c e (take_event hash P own c e).answer
+      → IsRun (take_event hash P own c e).client (more (take_event hash P own c e).client ms)
+      → IsRun c (asked_play (take_event hash P own c e) session ms more)
+  asks_run c e session ms more is run = by (take_event hash P own c e).answer is
+    where
+      later : Client
+      later = (take_event hash P own c e).client
+
+      told : (answer : Answer) → line_deed session answer ≡ deed_of P c e (take_event hash P own c e).answer
+          → IsRun c (behind (line_deed session answer ∷ []) (if_goes (goes_behind answer) later ms rests))
+      told answer is = event_run c e (line_deed session answer) (if_goes (goes_behind answer) later ms rests) is (goes_run (goes_behind answer) later ms rests (rests_run later ms))
+
+      by : (answer : Answer) → line_deed session answer ≡ deed_of P c e (take_event hash P own c e).answer → IsRun c (asks answer later session ms more)
+      by (client.Sends request) is = event_run c e (Sends request) (more later ms) is run
+      by client.TellsWelcome is = told client.TellsWelcome is
+      by client.TellsEnded is = told client.TellsEnded is
+      by (client.Tells o) is = told (client.Tells o) is
+      by (client.TellsStale state) is = told (client.TellsStale state) is
+      by (client.TellsRefused cause) is = told (client.TellsRefused cause) is
+      by (client.StateFault offset) is = told (client.StateFault offset) is
+      by (client.ArgumentFault offset) is = told (client.ArgumentFault offset) is
+      by client.OutOfTurn is = told client.OutOfTurn is
+      by client.WantsMemory is = told client.WantsMemory is
+      by (client.IsRejected number cause) is = told (client.IsRejected number cause) is
+      by (client.IsStranger number) is = told (client.IsStranger number) is
+      by (client.IsWrongReply kind) is = told (client.IsWrongReply kind) is
+      by (client.HasFailed cause) is = told (client.HasFailed cause) is
+      by (client.IsBroken kind) is = told (client.IsBroken kind) is
+      by (client.IsClosed cause) is = told (client.IsClosed cause) is
+
+  lets_run_so : (calls : Bool) (c : Client) (ms : Messages Reply) → IsRun c (lets_run hash P own calls c ms)
+  lets_run_so true c ms = none_run c (Sends (Go most_rounds)) (take_replies hash P own some_waits c ms) tt (replies_run some_waits ms c)
+  lets_run_so false c ms = replies_run some_waits ms c
+
+  step_run : (state : List ℕ) (step : UserStep) (c : Client) (ms : Messages Reply) → IsRun c (play_step hash P own state step c ms)
+  step_run state (Opens session kept) c ms =
+      asks_run c (client.Hellos session kept state) session ms (take_replies hash P own (λ c. waits c session)) refl
+      (replies_run (λ c. waits c session) ms (take_event hash P own c (client.Hellos session kept state)).client)
+  step_run state (Calls session role fuel argument) c ms =
+      asks_run c (client.Calls session role fuel argument) session ms rests refl (rests_run (take_event hash P own c (client.Calls session role fuel argument)).client ms)
+  step_run state (Closes session) c ms =
+      asks_run c (client.Byes session) session ms (take_replies hash P own (λ c. waits c session)) refl
+      (replies_run (λ c. waits c session) ms (take_event hash P own c (client.Byes session)).client)
+  step_run state Goes c ms = lets_run_so (some_calls c) c ms
+
+  -- one play behind another
+  then_run : (c : Client) (p : Play) (more : Client → Messages Reply → Play) → IsRun c p → ((c : Client) (ms : Messages Reply) → IsRun c (more c ms)) → IsRun c (then_play p more)
+  then_run c p more first then =
+      let next = if_goes p.goes_on p.client p.coming more in
+      let run = goes_run p.goes_on p.client p.coming more (then p.client p.coming) in
+      record {
+        events = first.events ++ run.events;
+        follows = follows_more c p.deeds next.deeds first.events run.events p.client next.client first.follows run.follows;
+      }
+
+  play_run : (state : List ℕ) (steps : List UserStep) (c : Client) (ms : Messages Reply) → IsRun c (play hash P own state steps c ms)
+  play_run state [] c ms = rests_run c ms
+  play_run state (step ∷ steps) c ms =
+      then_run c (play_step hash P own state step c ms) (play hash P own state steps) (step_run state step c ms) (play_run state steps)
+
+-- what the client of any events is told is true
+pub plays_tell_truth : ToldIsTrue → PlaysTellTruth
+plays_tell_truth told hash is_hash P format typed shaped own state steps ms =
+    let run = play_run hash P own state steps new_client ms in
+    record {
+      events = run.events;
+      client = (play hash P own state steps new_client ms).client;
+      follows = run.follows;
+      truth = λ before later is session known begins v ideal spelled bytes. told hash is_hash P format typed shaped own (client_behind hash P own new_client before) session known begins v ideal spelled later bytes;
+    }

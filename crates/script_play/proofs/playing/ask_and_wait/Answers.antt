@@ -1,0 +1,70 @@
+use Rattle.std.proofs.Common.{◌≡◌, Bool, sym, ◌∙◌}
+use Rattle.mode_vm.specs.Meanings.{program_of}
+use Rattle.verifier_mode.proofs.Given.{gives_with}
+use Rattle.wire_form.proofs.Moving.{moves_on}
+use Rattle.session_meaning.specs.Client.{waits}
+use Rattle.ask_core.specs.Sessions.{StandsFor}
+use Rattle.script_play.specs.Plays.{asked_play, take_replies}
+use Rattle.script_play.specs.Playing.{PlayCause, PlaysAs, names_of, own_of, world}
+use Rattle.script_play.proofs.Asked.{answered_stands, answers_any, still_coming}
+use Rattle.script_play.proofs.Played.{asked_halts, more_plays, same_moved, told_alone}
+use Rattle.script_play.proofs.Steps.{cause_err}
+use Rattle.script_play.proofs.playing.ask_and_wait.Goals as goal
+
+pub returns-in_err-sent-clause-plays : goal.returns-in_err-sent-clause-plays
+returns-in_err-sent-clause-plays g c t ms answers comes =
+    let code = c.args.core.now.code in
+    let P = program_of code in
+    let Is = StandsFor c.args.core.now in
+    let more = take_replies g.H.Hash32.hash P (own_of code) (λ x. waits x c.args.session) in
+    let halt = c.in_err-sent.field-0.0 in
+    let left = g.L.Source.left c.ask.new.link in
+    let before = world (g.L.Link.sent c.args.link.now) (g.O.Sink.written c.args.out.now) c.args.last.now in
+    let behind = world (g.L.Link.sent c.ask.new.link) (g.O.Sink.written c.ask.new.out) c.ask.new.last in
+    gives_with (PlaysAs P (names_of code) {T = Unit {0}} Is left before behind (asked_play t c.args.session ms more)) halt _ c.from_residual.ensures.1
+    (asked_halts P (names_of code) t c.args.session ms more before behind (λ x. x ≡ t.client) Is left left halt
+    (c.in_err-sent.ensures.plays P (names_of code) t ms (answers_any Is t.client t c.args.answered answers) comes))
+
+pub returns-in_err-sent-clause-moves : goal.returns-in_err-sent-clause-moves
+returns-in_err-sent-clause-moves g c = same_moved _ _ _ _ c.ask.ensures.given c.ask.ensures.left
+
+pub returns-in_err-sent-clause-cause : goal.returns-in_err-sent-clause-cause
+returns-in_err-sent-clause-cause g c =
+    let halt = c.in_err-sent.field-0.0 in
+    gives_with (PlayCause {T = Unit {0}} (g.L.Source.faults c.args.link.now) (g.L.Source.faults c.ask.new.link) (g.O.Sink.faults c.args.out.now) (g.O.Sink.faults c.ask.new.out))
+    halt _ c.from_residual.ensures.1 (cause_err Bool (Unit {0}) _ _ _ _ halt c.in_err-sent.ensures.cause)
+
+pub returns-then-sent-clause-plays : goal.returns-then-sent-clause-plays
+returns-then-sent-clause-plays g c t ms answers comes =
+    let code = c.args.core.now.code in
+    let P = program_of code in
+    let Is = StandsFor c.args.core.now in
+    let more = take_replies g.H.Hash32.hash P (own_of code) (λ x. waits x c.args.session) in
+    let any = answers_any Is t.client t c.args.answered answers in
+    more_plays P (names_of code) t c.args.session ms more
+    (world (g.L.Link.sent c.args.link.now) (g.O.Sink.written c.args.out.now) c.args.last.now)
+    (world (g.L.Link.sent c.ask.new.link) (g.O.Sink.written c.ask.new.out) c.ask.new.last)
+    (world (g.L.Link.sent c.take_replies.new.link) (g.O.Sink.written c.take_replies.new.out) c.take_replies.new.last)
+    (sym (c.in_ok-sent.ensures.sends t any) ∙ c.if-sent.true) (c.in_ok-sent.ensures.plays P (names_of code) t ms any comes).1
+    (StandsFor c.take_replies.new.core) (g.L.Source.left c.take_replies.new.link) c.take_replies.result
+    (c.take_replies.ensures.plays t.client ms (answered_stands Is t.client t c.args.answered c.in_ok-sent.ensures.memory answers)
+    (still_coming _ _ ms c.ask.ensures.left comes))
+
+pub returns-then-sent-clause-moves : goal.returns-then-sent-clause-moves
+returns-then-sent-clause-moves g c = moves_on _ _ _ _ _ _ (same_moved _ _ _ _ c.ask.ensures.given c.ask.ensures.left) c.take_replies.ensures.moves
+
+pub returns-clause-plays : goal.returns-clause-plays
+returns-clause-plays g c t ms answers comes =
+    let code = c.args.core.now.code in
+    let P = program_of code in
+    let Is = StandsFor c.args.core.now in
+    let more = take_replies g.H.Hash32.hash P (own_of code) (λ x. waits x c.args.session) in
+    let any = answers_any Is t.client t c.args.answered answers in
+    told_alone P (names_of code) t c.args.session ms more (tt {0})
+    (world (g.L.Link.sent c.args.link.now) (g.O.Sink.written c.args.out.now) c.args.last.now)
+    (world (g.L.Link.sent c.ask.new.link) (g.O.Sink.written c.ask.new.out) c.ask.new.last)
+    (sym (c.in_ok-sent.ensures.sends t any) ∙ c.if-sent.false) Is (g.L.Source.left c.ask.new.link)
+    (answered_stands Is t.client t c.args.answered c.in_ok-sent.ensures.memory answers) (c.in_ok-sent.ensures.plays P (names_of code) t ms any comes)
+
+pub returns-clause-moves : goal.returns-clause-moves
+returns-clause-moves g c = same_moved _ _ _ _ c.ask.ensures.given c.ask.ensures.left

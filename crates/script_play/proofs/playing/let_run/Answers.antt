@@ -1,0 +1,64 @@
+use Rattle.std.proofs.Common.{◌≡◌, sym, ap, ◌∙◌, subst}
+use Rattle.mode_vm.specs.Meanings.{program_of}
+use Rattle.verifier_mode.proofs.Given.{gives_with}
+use Rattle.ask_core.specs.Sessions.{StandsFor, some_calls, some_waits}
+use Rattle.script_play.specs.Plays.{lets_run, take_replies}
+use Rattle.script_play.specs.Playing.{PlayCause, PlaysAs, names_of, own_of, world}
+use Rattle.script_play.proofs.Asked.{still_coming}
+use Rattle.script_play.proofs.Played.{run_plays, run_unsent}
+use Rattle.script_play.proofs.playing.let_run.Goals as goal
+use Rattle.script_play.proofs.playing.let_run.Goals.{then-any_calls+in_ok-send, else-any_calls}
+
+pub returns-in_err-send-clause-plays : goal.returns-in_err-send-clause-plays
+returns-in_err-send-clause-plays g c m ms is comes =
+    let code = c.args.core.now.code in
+    let P = program_of code in
+    let hash = g.H.Hash32.hash in
+    let halt = c.in_err-send.field-0.0 in
+    let left = g.L.Source.left c.send.new.link in
+    let sent = g.L.Link.sent c.args.link.now in
+    let sent' = g.L.Link.sent c.send.new.link in
+    let written = g.O.Sink.written c.args.out.now in
+    let Is = StandsFor c.args.core.now in
+    gives_with (PlaysAs P (names_of code) {T = Unit {0}} Is left (world sent written c.args.last.now) (world sent' written c.args.last.now)
+    (lets_run hash P (own_of code) (some_calls m) m ms)) halt _ c.from_residual.ensures.1
+    (run_unsent hash P (names_of code) (own_of code) (some_calls m) m ms (sym (c.any_calls.ensures m is) ∙ c.if-any_calls.true) Is left sent sent' written c.args.last.now halt
+    c.in_err-send.ensures.sends)
+
+pub returns-in_err-send-clause-cause : goal.returns-in_err-send-clause-cause
+returns-in_err-send-clause-cause g c =
+    let sink = g.O.Sink.faults c.args.out.now in
+    gives_with (PlayCause {T = Unit {0}} (g.L.Source.faults c.args.link.now) (g.L.Source.faults c.send.new.link) sink sink) c.in_err-send.field-0.0 _ c.from_residual.ensures.1
+    (c.in_err-send.ensures.cause sink)
+
+pub returns-clause-plays : goal.returns-clause-plays
+returns-clause-plays g c m ms is comes =
+    let code = c.args.core.now.code in
+    let P = program_of code in
+    let hash = g.H.Hash32.hash in
+    let own = own_of code in
+    let sent = g.L.Link.sent c.args.link.now in
+    let written = g.O.Sink.written c.args.out.now in
+    let first = world sent written c.args.last.now in
+    let later = world (g.L.Link.sent c.take_replies.new.link) (g.O.Sink.written c.take_replies.new.out) c.take_replies.new.last in
+    let left = g.L.Source.left c.take_replies.new.link in
+    let Is = StandsFor c.take_replies.new.core in
+    elim c.if-any_calls.branch [
+      | then-any_calls+in_ok-send w ↦
+          run_plays hash P (names_of code) own (some_calls m) m ms (sym (c.any_calls.ensures m is) ∙ w.if-any_calls.true) sent (g.L.Link.sent c.if-any_calls.link) written c.args.last.now
+          (ap g.L.Link.sent w.link-is ∙ w.in_ok-send.ensures.sends) Is left later c.take_replies.result
+          (c.take_replies.ensures.plays m ms is (still_coming _ _ ms (ap g.L.Source.left w.link-is ∙ w.send.ensures.left) comes))
+      | else-any_calls w ↦
+          subst (λ b. PlaysAs P (names_of code) Is left first later (lets_run hash P own b m ms) c.take_replies.result) (sym (sym (c.any_calls.ensures m is) ∙ w.if-any_calls.false))
+          (subst (λ l. PlaysAs P (names_of code) Is left (world l written c.args.last.now) later (take_replies hash P own some_waits m ms) c.take_replies.result)
+          (ap g.L.Link.sent w.link-is) (c.take_replies.ensures.plays m ms is (still_coming _ _ ms (ap g.L.Source.left w.link-is) comes)))
+    ]
+
+pub returns-clause-cause : goal.returns-clause-cause
+returns-clause-cause g c =
+    let faults : g.L.Source.faults c.if-any_calls.link ≡ g.L.Source.faults c.args.link.now = elim c.if-any_calls.branch [
+      | then-any_calls+in_ok-send w ↦ ap g.L.Source.faults w.link-is ∙ (w.in_ok-send.ensures.cause 0).0
+      | else-any_calls w ↦ ap g.L.Source.faults w.link-is
+    ] in
+    subst (λ l. PlayCause l (g.L.Source.faults c.take_replies.new.link) (g.O.Sink.faults c.args.out.now) (g.O.Sink.faults c.take_replies.new.out) c.take_replies.result) faults
+    c.take_replies.ensures.cause

@@ -1,0 +1,122 @@
+use Rattle.std.proofs.Common.{◌+◌, Ok, Err, drop, length, map, sym, ap, ◌∙◌, subst, refl}
+use Rattle.std.proofs.lemmas.List.{drop_all}
+use Rattle.std.proofs.lemmas.List.Elements.{All-get_or}
+use Rattle.core_terms.specs.declared.digest.Digest.{Digest}
+use Rattle.core_terms.specs.declared.program.Program.{Program}
+use Rattle.mode_vm.specs.Meanings.{program_of}
+use Rattle.verifier_mode.proofs.Given.{gives_with}
+use Rattle.wire_form.proofs.Moving.{moves_on}
+use Rattle.ask_core.specs.Sessions.{StandsFor}
+use Rattle.ask_script.specs.ScriptAnswers.{step_meant}
+use Rattle.ask_script.specs.Scripts.{Fits}
+use Rattle.script_play.specs.Plays.{play, play_step}
+use Rattle.script_play.specs.Playing.{PlaysAs, names_of, own_of, world}
+use Rattle.script_play.proofs.Played.{line_next, none_moved}
+use Rattle.script_play.proofs.Worlds.{begins_so, ends_so, goes_on_so, halts_so}
+use Rattle.script_play.proofs.playing.play.Goals as goal
+
+pub loop-step-init : goal.loop-step-init
+loop-step-init g c = record {
+  known = c.requires.known;
+  code = refl;
+  moves = none_moved (g.L.Source.given c.args.link.now) (g.L.Source.left c.args.link.now);
+  beyond = refl;
+  faults = refl;
+  sink = refl;
+  far = λ m ms is comes. begins_so (program_of c.args.core.now.code) (names_of c.args.core.now.code)
+      (play g.H.Hash32.hash (program_of c.args.core.now.code) (own_of c.args.core.now.code) c.args.state.now (map step_meant c.args.steps.now))
+      (StandsFor c.args.core.now) _ _ m ms is comes;
+}
+
+pub play_step-requires-clause-step : goal.play_step-requires-clause-step
+play_step-requires-clause-step g c κs within =
+    let steps = c.args.steps.now in
+    subst (λ k. Fits (program_of k) (step_meant c.step-item.result)) (sym c.loop-step.invariant.code)
+    (subst (λ s. Fits (program_of c.args.core.now.code) (step_meant s)) (sym c.step-item.is)
+    (All-get_or (λ s. Fits (program_of c.args.core.now.code) (step_meant s)) steps c.loop-step.step-index _ c.loop-step-test.true c.requires.script))
+
+pub loop-step-preserved : goal.loop-step-preserved
+loop-step-preserved g c =
+    let code = c.args.core.now.code in
+    let hash = g.H.Hash32.hash in
+    let P = program_of code in
+    let own = own_of code in
+    let steps = c.args.steps.now in
+    let step = c.step-item.result in
+    let i = c.loop-step.step-index in
+    let before = c.loop-step.invariant in
+    let new = c.play_step.new.core in
+    let first = world (g.L.Link.sent c.args.link.now) (g.O.Sink.written c.args.out.now) c.args.last.now in
+    let here = world (g.L.Link.sent c.loop-step.link) (g.O.Sink.written c.loop-step.out) c.loop-step.last in
+    let later = world (g.L.Link.sent c.play_step.new.link) (g.O.Sink.written c.play_step.new.out) c.play_step.new.last in
+    let left = g.L.Source.left c.play_step.new.link in
+    record {
+      known = c.in_ok-play_step.ensures.known;
+      code = c.in_ok-play_step.ensures.code ∙ before.code;
+      moves = moves_on _ _ _ _ _ _ before.moves c.in_ok-play_step.ensures.moves;
+      beyond = c.in_ok-play_step.ensures.beyond ∙ before.beyond;
+      faults = c.in_ok-play_step.ensures.cause.0 ∙ before.faults;
+      sink = c.in_ok-play_step.ensures.cause.1 ∙ before.sink;
+      far = λ m ms is comes.
+          let far = before.far m ms is comes in
+          goes_on_so P (names_of code) (play hash P own c.args.state.now (map step_meant steps) m ms) (play hash P own c.args.state.now (map step_meant (drop i steps)))
+          (StandsFor c.loop-step.core) (g.L.Source.left c.loop-step.link) first here far (play hash P own c.args.state.now (map step_meant (drop (i + 1) steps)))
+          (play_step hash P own c.args.state.now (step_meant step) far.client far.coming)
+          (line_next hash P own c.args.state.now steps i step c.loop-step-test.true c.step-item.is far.client far.coming)
+          (StandsFor new) left later (tt {0})
+          (subst (λ k. PlaysAs (program_of k) (names_of k) {T = Unit {0}} (StandsFor new) left here later
+          (play_step hash (program_of k) (own_of k) c.args.state.now (step_meant step) far.client far.coming) (Ok (tt {0}))) before.code
+          (c.in_ok-play_step.ensures.plays far.client far.coming far.stands far.comes));
+    }
+
+pub returns-in_err-play_step-clause-plays : goal.returns-in_err-play_step-clause-plays
+returns-in_err-play_step-clause-plays g c m ms is comes =
+    let code = c.args.core.now.code in
+    let hash = g.H.Hash32.hash in
+    let P = program_of code in
+    let own = own_of code in
+    let steps = c.args.steps.now in
+    let step = c.step-item.result in
+    let i = c.loop-step.step-index in
+    let before = c.loop-step.invariant in
+    let far = before.far m ms is comes in
+    let halt = c.in_err-play_step.field-0.0 in
+    let new = c.play_step.new.core in
+    let whole = play hash P own c.args.state.now (map step_meant steps) m ms in
+    let first = world (g.L.Link.sent c.args.link.now) (g.O.Sink.written c.args.out.now) c.args.last.now in
+    let here = world (g.L.Link.sent c.loop-step.link) (g.O.Sink.written c.loop-step.out) c.loop-step.last in
+    let later = world (g.L.Link.sent c.play_step.new.link) (g.O.Sink.written c.play_step.new.out) c.play_step.new.last in
+    let left = g.L.Source.left c.play_step.new.link in
+    gives_with (PlaysAs P (names_of code) {T = Unit {0}} (StandsFor new) left first later whole) halt _ c.from_residual.ensures.1
+    (halts_so P (names_of code) whole (play hash P own c.args.state.now (map step_meant (drop i steps)))
+    (StandsFor c.loop-step.core) (g.L.Source.left c.loop-step.link) first here far (play hash P own c.args.state.now (map step_meant (drop (i + 1) steps)))
+    (play_step hash P own c.args.state.now (step_meant step) far.client far.coming)
+    (line_next hash P own c.args.state.now steps i step c.loop-step-test.true c.step-item.is far.client far.coming)
+    (StandsFor new) (StandsFor new) left left later halt
+    (subst (λ k. PlaysAs (program_of k) (names_of k) {T = Unit {0}} (StandsFor new) left here later
+    (play_step hash (program_of k) (own_of k) c.args.state.now (step_meant step) far.client far.coming) (Err halt)) before.code
+    (c.in_err-play_step.ensures.plays far.client far.coming far.stands far.comes)))
+
+pub returns-in_err-play_step-clause-moves : goal.returns-in_err-play_step-clause-moves
+returns-in_err-play_step-clause-moves g c = moves_on _ _ _ _ _ _ c.loop-step.invariant.moves c.in_err-play_step.ensures.moves
+
+pub returns-clause-plays : goal.returns-clause-plays
+returns-clause-plays g c m ms is comes =
+    let code = c.args.core.now.code in
+    let hash = g.H.Hash32.hash in
+    let P = program_of code in
+    let own = own_of code in
+    let steps = c.args.steps.now in
+    let i = c.loop-step.step-index in
+    let first = world (g.L.Link.sent c.args.link.now) (g.O.Sink.written c.args.out.now) c.args.last.now in
+    let here = world (g.L.Link.sent c.loop-step.link) (g.O.Sink.written c.loop-step.out) c.loop-step.last in
+    let far = c.loop-step.invariant.far m ms is comes in
+    ends_so P (names_of code) (play hash P own c.args.state.now (map step_meant steps) m ms) (play hash P own c.args.state.now (map step_meant (drop i steps)))
+    (StandsFor c.loop-step.core) (g.L.Source.left c.loop-step.link) first here far
+    (ap (λ ss. play hash P own c.args.state.now (map step_meant ss) far.client far.coming) (drop_all i steps c.loop-step-test.false)) (tt {0})
+
+pub play_step-requires-clause-own : goal.play_step-requires-clause-own
+play_step-requires-clause-own g c κs within =
+    ap (λ k. length (own_of k)) c.loop-step.invariant.code ∙ ap (λ k. length (own_of k)) (sym c.code.ensures)
+    ∙ ap (λ (p : Program). length p.text_digest.0) (sym c.program.ensures) ∙ ap (λ (d : Digest). length d.0) (sym c.text_digest.ensures)
+    ∙ ap length (sym c.digest_bytes.ensures.bytes) ∙ c.digest_bytes.ensures.length

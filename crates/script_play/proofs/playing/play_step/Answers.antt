@@ -1,0 +1,161 @@
+use Rattle.std.proofs.Common.{◌≡◌, Ok, Err, sym, subst, arith}
+use Rattle.code_gen.specs.Programs.{program_in}
+use Rattle.core_terms.proofs.CodePrograms.{is_format}
+use Rattle.mode_vm.specs.Meanings.{program_of}
+use Rattle.verifier_mode.proofs.Given.{gives_with}
+use Rattle.session_meaning.specs.Client.{Byes, Calls, Hellos, take_event, waits}
+use Rattle.session_tables.specs.Tables.{rows_of}
+use Rattle.ask_core.specs.Answers.{Asks}
+use Rattle.ask_core.specs.Clients.{IsClient}
+use Rattle.ask_core.specs.Sessions.{StandsFor}
+use Rattle.ask_script.specs.ScriptAnswers.{step_meant}
+use Rattle.ask_script.specs.Scripts.{Fits}
+use Rattle.script_play.specs.Plays.{asked_play, play_step, rests, take_replies}
+use Rattle.script_play.specs.Playing.{PlaysAs, names_of, own_of, world}
+use Rattle.script_play.proofs.Asked.{answered_stands, answers_any}
+use Rattle.script_play.proofs.Played.{asked_fits, asked_halts, asked_stands, core_answers, core_stands}
+use Rattle.script_play.proofs.playing.play_step.Goals as goal
+
+pub hello-answered-requires-after_bounds : goal.hello-answered-requires-after_bounds
+hello-answered-requires-after_bounds g c κs within = (subst (λ s. Fits (program_of c.args.core.now.code) (step_meant s)) c.in-Open.is c.requires.step).2
+
+pub ask_and_wait-requires-clause-known : goal.ask_and_wait-requires-clause-known
+ask_and_wait-requires-clause-known g c κs within =
+    core_stands c.args.core.now c.hello-answered.new.self c.hello-answered.ensures.code c.requires.known.0 _ c.hello-answered.result
+    (c.hello-answered.ensures.answer c.requires.known.0 c.requires.known.1)
+
+pub ask_and_wait-requires-clause-message : goal.ask_and_wait-requires-clause-message
+ask_and_wait-requires-clause-message g c κs within =
+    let code = c.args.core.now.code in
+    let P = program_of code in
+    let new = c.hello-answered.new.self in
+    let fits = subst (λ s. Fits P (step_meant s)) c.in-Open.is c.requires.step in
+    asked_fits g.H.Hash32.hash P (is_format (program_in code)) (own_of code) c.requires.own c.requires.known.0 (Hellos c.in-Open.session c.in-Open.kept c.args.state.now)
+    ((record { least = fits.0; fits = omega (arith, fits.1) }), omega (arith, fits.2))
+    (IsClient P new.closed (rows_of new.sessions)) c.hello-answered.result (c.hello-answered.ensures.answer c.requires.known.0 c.requires.known.1)
+
+pub returns-in-Open-clause-plays : goal.returns-in-Open-clause-plays
+returns-in-Open-clause-plays g c m ms is comes =
+    let code = c.args.core.now.code in
+    let P = program_of code in
+    let hash = g.H.Hash32.hash in
+    let own = own_of code in
+    let behind = c.hello-answered.new.self in
+    let same = c.hello-answered.ensures.code in
+    let t = take_event hash P own m (Hellos c.in-Open.session c.in-Open.kept c.args.state.now) in
+    let first = world (g.L.Link.sent c.args.link.now) (g.O.Sink.written c.args.out.now) c.args.last.now in
+    let later = world (g.L.Link.sent c.ask_and_wait.new.link) (g.O.Sink.written c.ask_and_wait.new.out) c.ask_and_wait.new.last in
+    let left = g.L.Source.left c.ask_and_wait.new.link in
+    let Is = StandsFor c.ask_and_wait.new.core in
+    subst (λ s. PlaysAs P (names_of code) Is left first later (play_step hash P own c.args.state.now (step_meant s) m ms) c.ask_and_wait.result) (sym c.in-Open.is)
+    (subst (λ k. PlaysAs (program_of k) (names_of k) Is left first later
+    (asked_play t c.in-Open.session ms (take_replies hash (program_of k) (own_of k) (λ x. waits x c.in-Open.session))) c.ask_and_wait.result) same
+    (c.ask_and_wait.ensures.plays t ms (core_answers c.args.core.now behind same m t c.hello-answered.result (c.hello-answered.ensures.answer m is)) comes))
+
+pub ask_and_wait-requires-in-Close-clause-known : goal.ask_and_wait-requires-in-Close-clause-known
+ask_and_wait-requires-in-Close-clause-known g c κs within =
+    core_stands c.args.core.now c.bye-answered.new.self c.bye-answered.ensures.code c.requires.known.0 _ c.bye-answered.result
+    (c.bye-answered.ensures.answer c.requires.known.0 c.requires.known.1)
+
+pub ask_and_wait-requires-in-Close-clause-message : goal.ask_and_wait-requires-in-Close-clause-message
+ask_and_wait-requires-in-Close-clause-message g c κs within =
+    let code = c.args.core.now.code in
+    let P = program_of code in
+    let new = c.bye-answered.new.self in
+    let fits = subst (λ s. Fits P (step_meant s)) c.in-Close.is c.requires.step in
+    asked_fits g.H.Hash32.hash P (is_format (program_in code)) (own_of code) c.requires.own c.requires.known.0 (Byes c.in-Close.session)
+    (record { least = fits.0; fits = omega (arith, fits.1) })
+    (IsClient P new.closed (rows_of new.sessions)) c.bye-answered.result (c.bye-answered.ensures.answer c.requires.known.0 c.requires.known.1)
+
+pub returns-in-Close-clause-plays : goal.returns-in-Close-clause-plays
+returns-in-Close-clause-plays g c m ms is comes =
+    let code = c.args.core.now.code in
+    let P = program_of code in
+    let hash = g.H.Hash32.hash in
+    let own = own_of code in
+    let behind = c.bye-answered.new.self in
+    let same = c.bye-answered.ensures.code in
+    let t = take_event hash P own m (Byes c.in-Close.session) in
+    let first = world (g.L.Link.sent c.args.link.now) (g.O.Sink.written c.args.out.now) c.args.last.now in
+    let later = world (g.L.Link.sent c.ask_and_wait-in-Close.new.link) (g.O.Sink.written c.ask_and_wait-in-Close.new.out) c.ask_and_wait-in-Close.new.last in
+    let left = g.L.Source.left c.ask_and_wait-in-Close.new.link in
+    let Is = StandsFor c.ask_and_wait-in-Close.new.core in
+    subst (λ s. PlaysAs P (names_of code) Is left first later (play_step hash P own c.args.state.now (step_meant s) m ms) c.ask_and_wait-in-Close.result) (sym c.in-Close.is)
+    (subst (λ k. PlaysAs (program_of k) (names_of k) Is left first later
+    (asked_play t c.in-Close.session ms (take_replies hash (program_of k) (own_of k) (λ x. waits x c.in-Close.session))) c.ask_and_wait-in-Close.result) same
+    (c.ask_and_wait-in-Close.ensures.plays t ms (core_answers c.args.core.now behind same m t c.bye-answered.result (c.bye-answered.ensures.answer m is)) comes))
+
+pub call-answered-requires-after_bounds : goal.call-answered-requires-after_bounds
+call-answered-requires-after_bounds g c κs within = omega (arith, (subst (λ s. Fits (program_of c.args.core.now.code) (step_meant s)) c.in-Call.is c.requires.step).3)
+
+pub ask-requires : goal.ask-requires
+ask-requires g c =
+    let code = c.args.core.now.code in
+    let P = program_of code in
+    let new = c.call-answered.new.self in
+    let fits = subst (λ s. Fits P (step_meant s)) c.in-Call.is c.requires.step in
+    record {
+      message = asked_fits g.H.Hash32.hash P (is_format (program_in code)) (own_of code) c.requires.own c.requires.known.0
+          (Calls c.in-Call.session c.in-Call.role c.in-Call.fuel c.as_bytes.result.now)
+          (record { least = fits.0; fits = omega (arith, fits.1) }, omega arith, omega (arith, fits.3))
+          (IsClient P new.closed (rows_of new.sessions)) c.call-answered.result (c.call-answered.ensures.answer c.requires.known.0 c.requires.known.1);
+    }
+
+pub returns-in_ok-ask-in-Call-clause-plays : goal.returns-in_ok-ask-in-Call-clause-plays
+returns-in_ok-ask-in-Call-clause-plays g c m ms is comes =
+    let code = c.args.core.now.code in
+    let P = program_of code in
+    let names = names_of code in
+    let behind = c.call-answered.new.self in
+    let t = take_event g.H.Hash32.hash P (own_of code) m (Calls c.in-Call.session c.in-Call.role c.in-Call.fuel c.in-Call.argument) in
+    let first = world (g.L.Link.sent c.args.link.now) (g.O.Sink.written c.args.out.now) c.args.last.now in
+    let later = world (g.L.Link.sent c.ask.new.link) (g.O.Sink.written c.ask.new.out) c.ask.new.last in
+    let left = g.L.Source.left c.ask.new.link in
+    let answers = core_answers c.args.core.now behind c.call-answered.ensures.code m t c.call-answered.result
+    (subst (λ a. Asks (IsClient P behind.closed (rows_of behind.sessions)) m
+    (take_event g.H.Hash32.hash P (own_of code) m (Calls c.in-Call.session c.in-Call.role c.in-Call.fuel a)) c.call-answered.result) c.as_bytes.ensures
+    (c.call-answered.ensures.answer m is)) in
+    subst (λ s. PlaysAs P names (StandsFor behind) left first later (play_step g.H.Hash32.hash P (own_of code) c.args.state.now (step_meant s) m ms) (Ok (tt {0}))) (sym c.in-Call.is)
+    (asked_stands P names t c.in-Call.session ms rests (tt {0}) c.in_ok-ask-in-Call.field-0 first later (StandsFor behind) left
+    (answered_stands (StandsFor behind) m t c.call-answered.result c.in_ok-ask-in-Call.ensures.memory answers)
+    (c.in_ok-ask-in-Call.ensures.plays P names t ms (answers_any (StandsFor behind) m t c.call-answered.result answers) comes))
+
+pub returns-in_ok-ask-in-Call-clause-known : goal.returns-in_ok-ask-in-Call-clause-known
+returns-in_ok-ask-in-Call-clause-known g c =
+    core_stands c.args.core.now c.call-answered.new.self c.call-answered.ensures.code c.requires.known.0 _ c.call-answered.result
+    (c.call-answered.ensures.answer c.requires.known.0 c.requires.known.1)
+
+pub returns-in_err-ask-in-Call-clause-known : goal.returns-in_err-ask-in-Call-clause-known
+returns-in_err-ask-in-Call-clause-known g c =
+    core_stands c.args.core.now c.call-answered.new.self c.call-answered.ensures.code c.requires.known.0 _ c.call-answered.result
+    (c.call-answered.ensures.answer c.requires.known.0 c.requires.known.1)
+
+pub returns-in_err-ask-in-Call-clause-plays : goal.returns-in_err-ask-in-Call-clause-plays
+returns-in_err-ask-in-Call-clause-plays g c m ms is comes =
+    let code = c.args.core.now.code in
+    let P = program_of code in
+    let names = names_of code in
+    let behind = c.call-answered.new.self in
+    let halt = c.in_err-ask-in-Call.field-0.0 in
+    let t = take_event g.H.Hash32.hash P (own_of code) m (Calls c.in-Call.session c.in-Call.role c.in-Call.fuel c.in-Call.argument) in
+    let first = world (g.L.Link.sent c.args.link.now) (g.O.Sink.written c.args.out.now) c.args.last.now in
+    let later = world (g.L.Link.sent c.ask.new.link) (g.O.Sink.written c.ask.new.out) c.ask.new.last in
+    let left = g.L.Source.left c.ask.new.link in
+    let answers = core_answers c.args.core.now behind c.call-answered.ensures.code m t c.call-answered.result
+    (subst (λ a. Asks (IsClient P behind.closed (rows_of behind.sessions)) m
+    (take_event g.H.Hash32.hash P (own_of code) m (Calls c.in-Call.session c.in-Call.role c.in-Call.fuel a)) c.call-answered.result) c.as_bytes.ensures
+    (c.call-answered.ensures.answer m is)) in
+    gives_with (PlaysAs P names {T = Unit {0}} (StandsFor behind) left first later (play_step g.H.Hash32.hash P (own_of code) c.args.state.now (step_meant c.args.step.now) m ms))
+    halt _ c.from_residual.ensures.1
+    (subst (λ s. PlaysAs P names {T = Unit {0}} (StandsFor behind) left first later (play_step g.H.Hash32.hash P (own_of code) c.args.state.now (step_meant s) m ms) (Err halt)) (sym c.in-Call.is)
+    (asked_halts P names t c.in-Call.session ms rests first later (λ x. x ≡ t.client) (StandsFor behind) left left halt
+    (c.in_err-ask-in-Call.ensures.plays P names t ms (answers_any (StandsFor behind) m t c.call-answered.result answers) comes)))
+
+pub returns-in-Go-clause-plays : goal.returns-in-Go-clause-plays
+returns-in-Go-clause-plays g c m ms is comes =
+    let code = c.args.core.now.code in
+    let P = program_of code in
+    let first = world (g.L.Link.sent c.args.link.now) (g.O.Sink.written c.args.out.now) c.args.last.now in
+    let later = world (g.L.Link.sent c.let_run.new.link) (g.O.Sink.written c.let_run.new.out) c.let_run.new.last in
+    subst (λ s. PlaysAs P (names_of code) (StandsFor c.let_run.new.core) (g.L.Source.left c.let_run.new.link) first later
+    (play_step g.H.Hash32.hash P (own_of code) c.args.state.now (step_meant s) m ms) c.let_run.result) (sym c.in-Go.is) (c.let_run.ensures.plays m ms is comes)

@@ -1,0 +1,93 @@
+use Rattle.std.proofs.Common.{Ok, Err, sym, ◌∙◌, subst, refl}
+use Rattle.mode_vm.specs.Meanings.{program_of}
+use Rattle.verifier_mode.proofs.Given.{gives_with}
+use Rattle.ask_core.specs.Sessions.{StandsFor}
+use Rattle.script_play.specs.Plays.{take_replies}
+use Rattle.script_play.specs.Playing.{PlaysAs, names_of, own_of, take_one, waits_for, world}
+use Rattle.wire_form.proofs.Moving.{moves_on}
+use Rattle.script_play.proofs.Played.{none_moved}
+use Rattle.script_play.proofs.Worlds.{begins_so, ends_so, goes_on_so, halts_so, waits_more, waits_no_more}
+use Rattle.script_play.proofs.taking.take_replies.Goals as goal
+
+pub loop-alloc-init : goal.loop-alloc-init
+loop-alloc-init g c = record {
+  known = c.requires.known;
+  code = refl;
+  moves = none_moved (g.L.Source.given c.args.link.now) (g.L.Source.left c.args.link.now);
+  beyond = refl;
+  faults = refl;
+  sink = refl;
+  far = λ m ms is comes. begins_so (program_of c.args.core.now.code) (names_of c.args.core.now.code)
+      (take_replies g.H.Hash32.hash (program_of c.args.core.now.code) (own_of c.args.core.now.code) (waits_for c.args.whose))
+      (StandsFor c.args.core.now) _ _ m ms is comes;
+}
+
+pub loop-alloc-preserved : goal.loop-alloc-preserved
+loop-alloc-preserved g c =
+    let code = c.args.core.now.code in
+    let hash = g.H.Hash32.hash in
+    let P = program_of code in
+    let own = own_of code in
+    let before = c.loop-alloc.invariant in
+    let new = c.take_one.new.core in
+    let first = world (g.L.Link.sent c.args.link.now) (g.O.Sink.written c.args.out.now) c.args.last.now in
+    let here = world (g.L.Link.sent c.loop-alloc.link) (g.O.Sink.written c.loop-alloc.out) c.loop-alloc.last in
+    let later = world (g.L.Link.sent c.take_one.new.link) (g.O.Sink.written c.take_one.new.out) c.take_one.new.last in
+    let left = g.L.Source.left c.take_one.new.link in
+    record {
+      known = c.in_ok-take_one.ensures.known;
+      code = c.in_ok-take_one.ensures.code ∙ before.code;
+      moves = moves_on _ _ _ _ _ _ before.moves c.in_ok-take_one.ensures.moves;
+      beyond = c.in_ok-take_one.ensures.beyond ∙ before.beyond;
+      faults = c.in_ok-take_one.ensures.cause.0 ∙ before.faults;
+      sink = c.in_ok-take_one.ensures.cause.1 ∙ before.sink;
+      far = λ m ms is comes.
+          let far = before.far m ms is comes in
+          let whole = take_replies hash P own (waits_for c.args.whose) m ms in
+          let more = take_replies hash P own (waits_for c.args.whose) in
+          goes_on_so P (names_of code) whole more (StandsFor c.loop-alloc.core) (g.L.Source.left c.loop-alloc.link) first here far more
+          (take_one hash P own far.client far.coming)
+          (waits_more hash P own (waits_for c.args.whose) far.client far.coming (sym (c.waits.ensures far.client far.stands) ∙ c.loop-alloc-test.true))
+          (StandsFor new) left later (tt {0})
+          (subst (λ k. PlaysAs (program_of k) (names_of k) {T = Unit {0}} (StandsFor new) left here later (take_one hash (program_of k) (own_of k) far.client far.coming) (Ok (tt {0}))) before.code
+          (c.in_ok-take_one.ensures.plays far.client far.coming far.stands far.comes));
+    }
+
+pub returns-in_err-take_one-clause-plays : goal.returns-in_err-take_one-clause-plays
+returns-in_err-take_one-clause-plays g c m ms is comes =
+    let code = c.args.core.now.code in
+    let hash = g.H.Hash32.hash in
+    let P = program_of code in
+    let own = own_of code in
+    let before = c.loop-alloc.invariant in
+    let far = before.far m ms is comes in
+    let halt = c.in_err-take_one.field-0.0 in
+    let new = c.take_one.new.core in
+    let whole = take_replies hash P own (waits_for c.args.whose) m ms in
+    let more = take_replies hash P own (waits_for c.args.whose) in
+    let first = world (g.L.Link.sent c.args.link.now) (g.O.Sink.written c.args.out.now) c.args.last.now in
+    let here = world (g.L.Link.sent c.loop-alloc.link) (g.O.Sink.written c.loop-alloc.out) c.loop-alloc.last in
+    let later = world (g.L.Link.sent c.take_one.new.link) (g.O.Sink.written c.take_one.new.out) c.take_one.new.last in
+    let left = g.L.Source.left c.take_one.new.link in
+    gives_with (PlaysAs P (names_of code) {T = Unit {0}} (StandsFor new) left first later whole) halt _ c.from_residual.ensures.1
+    (halts_so P (names_of code) whole more (StandsFor c.loop-alloc.core) (g.L.Source.left c.loop-alloc.link) first here far more (take_one hash P own far.client far.coming)
+    (waits_more hash P own (waits_for c.args.whose) far.client far.coming (sym (c.waits.ensures far.client far.stands) ∙ c.loop-alloc-test.true))
+    (StandsFor new) (StandsFor new) left left later halt
+    (subst (λ k. PlaysAs (program_of k) (names_of k) {T = Unit {0}} (StandsFor new) left here later (take_one hash (program_of k) (own_of k) far.client far.coming) (Err halt)) before.code
+    (c.in_err-take_one.ensures.plays far.client far.coming far.stands far.comes)))
+
+pub returns-clause-plays : goal.returns-clause-plays
+returns-clause-plays g c m ms is comes =
+    let code = c.args.core.now.code in
+    let hash = g.H.Hash32.hash in
+    let P = program_of code in
+    let own = own_of code in
+    let first = world (g.L.Link.sent c.args.link.now) (g.O.Sink.written c.args.out.now) c.args.last.now in
+    let here = world (g.L.Link.sent c.loop-alloc.link) (g.O.Sink.written c.loop-alloc.out) c.loop-alloc.last in
+    let far = c.loop-alloc.invariant.far m ms is comes in
+    ends_so P (names_of code) (take_replies hash P own (waits_for c.args.whose) m ms) (take_replies hash P own (waits_for c.args.whose)) (StandsFor c.loop-alloc.core)
+    (g.L.Source.left c.loop-alloc.link) first here far
+    (waits_no_more hash P own (waits_for c.args.whose) far.client far.coming (sym (c.waits.ensures far.client far.stands) ∙ c.loop-alloc-test.false)) (tt {0})
+
+pub returns-in_err-take_one-clause-moves : goal.returns-in_err-take_one-clause-moves
+returns-in_err-take_one-clause-moves g c = moves_on _ _ _ _ _ _ c.loop-alloc.invariant.moves c.in_err-take_one.ensures.moves

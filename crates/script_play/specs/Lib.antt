@@ -1,0 +1,6 @@
+pub mod Plays
+pub mod PlayRuns
+pub mod DeedLines
+pub mod PlayRows
+pub mod Playing
+pub mod Tellings

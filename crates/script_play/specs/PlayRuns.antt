@@ -1,0 +1,63 @@
+-- A play as a run of the client: the events of which its deeds come, and what is true of what is told.
+use Rattle.std.specs.Prelude.{◌≡◌, ◌⊎◌, ℕ, true, List, [], ◌∷◌, ◌++◌}
+use Rattle.std.specs.List.{AllByRecursion}
+use Rattle.core_terms.specs.Formats.{Hash, IsFormat, IsHash}
+use Rattle.core_terms.specs.Projection.{projection}
+use Rattle.core_terms.specs.Spelling.{spelling}
+use Rattle.core_terms.specs.Terms.{IsTyped, Program}
+use Rattle.core_terms.specs.Typing.{is_shaped}
+use Rattle.core_terms.specs.Values.{IsIdeal, Value}
+use Rattle.session_meaning.specs.Calls.{no_role}
+use Rattle.session_meaning.specs.Client as client
+use Rattle.session_meaning.specs.Client.{Answer, Client, Event, Hears, Known, new_client, take_event}
+use Rattle.session_meaning.specs.ClientLaws.{BeginsWith, HasBytes, TrueUpToSplit, event_session, told_calls}
+use Rattle.session_meaning.specs.Messages.{Go, Messages, Reply, session_of}
+use Rattle.session_meaning.specs.Tables.{find}
+use Rattle.ask_core.specs.Sessions.{called_in}
+use Rattle.ask_script.specs.Scripts.{UserStep}
+use Rattle.script_play.specs.Plays.{Deed, Sends, Tells, Stops, play}
+
+-- What is done of a line of a session, where the client answers so: a request is sent, or it is told why none is. And what is done of an event:
+-- of a reply it is told what it tells.
+abbrev pub line_deed : (session : ℕ) → Answer → Deed
+line_deed session (client.Sends request) = Sends request
+line_deed session answer = Tells session no_role answer
+
+abbrev pub deed_of : Program → Client → Event → Answer → Deed
+deed_of P c (Hears reply) answer = Tells (session_of reply) (called_in P (find (session_of reply) c.sessions)) answer
+deed_of P c e answer = line_deed (event_session e) answer
+
+-- a deed that comes of no event: the calls are to run, or no more replies can be read
+abbrev pub IsOfNone : Deed → Type 0
+IsOfNone (Sends (Go rounds)) = Unit {0}
+IsOfNone (Stops stop) = Unit {0}
+IsOfNone deed = ⊥
+
+module _ (hash : Hash) (P : Program) (own : List ℕ) where
+  -- Such deeds come of these events, one by one and in order, but for those that come of none; and this client stands behind them.
+  abbrev pub Follows : Client → List Deed → List Event → Client → Type 0
+  Follows c [] events behind = (events ≡ []) × (behind ≡ c)
+  Follows c (deed ∷ deeds) events behind = (IsOfNone deed × Follows c deeds events behind)
+      ⊎ ((e : Event) × (later : List Event) × (events ≡ e ∷ later) × (deed ≡ deed_of P c e (take_event hash P own c e).answer)
+      × Follows (take_event hash P own c e).client deeds later behind)
+
+  -- the client behind events
+  abbrev pub client_behind : Client → List Event → Client
+  client_behind c [] = c
+  client_behind c (e ∷ events) = client_behind (take_event hash P own c e).client events
+
+  -- What is told by deeds of a client without sessions is true. They come of events; and wherever among these a session begins with the spelling
+  -- of an ideal state's projection, the outcomes that it is told from there on are the projections of the ideal ones, each on the state that
+  -- those before it leave, up to the first one at whose call there is a split.
+  pub record TellsTruth (deeds : List Deed) : Type 0 where
+    pub events : List Event
+    pub client : Client
+    pub follows : Follows new_client deeds events client
+    pub truth : (before behind : List Event) → events ≡ before ++ behind → (session : ℕ) (known : Known)
+        → BeginsWith known (find session (client_behind new_client before).sessions) → (v : Value) → IsIdeal P.types P.state v
+        → known.state ≡ spelling (projection hash P P.state v) → AllByRecursion HasBytes behind → TrueUpToSplit hash P v (told_calls hash P own session (client_behind new_client before) behind)
+
+-- Whatever replies come, a play of a script of a sound program tells what is true.
+abbrev pub PlaysTellTruth : Type 0
+PlaysTellTruth = (hash : Hash) → IsHash hash → (P : Program) → IsFormat P.format → IsTyped P → is_shaped P ≡ true → (own state : List ℕ) (steps : List UserStep) → (ms : Messages Reply)
+    → TellsTruth hash P own (play hash P own state steps new_client ms).deeds

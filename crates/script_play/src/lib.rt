@@ -1,0 +1,17 @@
+//! The play of a user's script against a server.
+//!
+//! What a play does is defined in `specs/Plays.antt`: a list of deeds, a function of the replies that come. [`play`]
+//! does them over a link and a sink.
+#![tactic(auto)]
+
+mod asking;
+mod halt;
+mod hearing;
+pub mod laws;
+mod lines;
+mod playing;
+mod taking;
+mod telling;
+
+pub use halt::Halt;
+pub use playing::play;

@@ -1,0 +1,153 @@
+-- A message that is answered, and what that makes of the connection: for answer and serve_message.
+use Rattle.std.proofs.Common.{inl, inr, ◌≡◌, ℕ, Bool, true, false, List, [], ◌∷◌, take, not, ◌&&◌, Option, Some, None, Result, Ok, Err, IsErrAnd, refl, sym, ap, subst, ◌∙◌, arith}
+use Rattle.std.specs.Io.KnownBytes.{append_known}
+use Rattle.std.proofs.lemmas.List.{append-nil}
+use Rattle.core_terms.specs.Formats.{Hash}
+use Rattle.session_meaning.specs.Server as meant
+use Rattle.session_meaning.specs.Server.{Server, Hears, HearsBad, HearsEnd, handle, server_after, messages_limit}
+use Rattle.session_meaning.specs.ReplyLaws.{IsHeard}
+use Rattle.serve_core.specs.Serving.{Serves}
+use Rattle.serve_core.specs.declared.server.ServeCore.{ServeCore}
+use Rattle.serve_links.specs.Connections.{bytes_of}
+use Rattle.serve_links.specs.Histories.{HasServed, HasSameCode, own_digest, program_served, step_of, turns_of}
+use Rattle.serve_links.specs.Messages.{Answers, AnswersPart, BreaksOff, ComesNext, CountsMessage, ServesMessage, StaysServing, asks}
+use Rattle.serve_links.specs.declared.halt.Halt.{Halt}
+use Rattle.serve_links.specs.declared.halt.Halt.TheVariants as halt
+use Rattle.serve_links.proofs.Broken.{first_part, first_stopped, none_heard, over_at}
+use Rattle.serve_links.proofs.Serving.{open_counts, served_more}
+
+pub append_nothing : (w : Option (List ℕ)) → append_known w [] ≡ w
+append_nothing None = refl
+append_nothing (Some xs) = ap Some (append-nil xs)
+
+module _ (hash : Hash) {A : Type 0} (old new : ServeCore A) (server : Server) (sent sent' : Option (List ℕ)) where
+  -- a message was read and answered
+  message_served : (bytes : List ℕ) (left' : Option (List ℕ)) (m : meant.Heard) (closing : Bool) → ComesNext bytes left' m
+      → Answers hash old new server sent sent' m (Ok closing) → ServesMessage hash old new server sent sent' bytes left' (Ok (asks m && not closing))
+  message_served bytes left' (Hears r) true next answers = record {
+    out = bytes_of (step_of hash old server (Hears r)).replies;
+    behind = (step_of hash old server (Hears r)).server;
+    sends = answers.0;
+    served = over_at hash (program_served old) (own_digest old) (turns_of old) server bytes left' (Hears r) next (λ other is. sym answers.1);
+    serves = answers.2;
+  }
+  message_served bytes left' (Hears r) false next answers = record {
+    request = r;
+    rest = next.0;
+    came = next.1;
+    told = next.2;
+    stays_open = sym answers.1;
+    sends = answers.0;
+    serves = answers.2;
+  }
+  message_served bytes left' HearsBad closing next answers = record {
+    out = bytes_of (step_of hash old server HearsBad).replies;
+    behind = (step_of hash old server HearsBad).server;
+    sends = answers.0;
+    served = over_at hash (program_served old) (own_digest old) (turns_of old) server bytes left' HearsBad next (λ other is. absurd (cc (is)));
+    serves = answers.2;
+  }
+  message_served bytes left' HearsEnd closing next answers = record {
+    out = bytes_of (step_of hash old server HearsEnd).replies;
+    behind = (step_of hash old server HearsEnd).server;
+    sends = answers.0;
+    served = over_at hash (program_served old) (own_digest old) (turns_of old) server bytes left' HearsEnd next (λ other is. absurd (cc (is)));
+    serves = answers.2;
+  }
+
+  -- a message was read, and its replies were sent in part or not at all
+  part_served : (bytes : List ℕ) (left' : Option (List ℕ)) (m : meant.Heard) → ComesNext bytes left' m → AnswersPart hash old new server sent sent' m
+      → BreaksOff hash old new server sent sent' bytes
+  part_served bytes left' m next part = record {
+    heard = m ∷ [];
+    out = take part.0 (bytes_of (step_of hash old server m).replies);
+    sends = part.2;
+    broken = first_part hash (program_served old) (own_digest old) (turns_of old) server bytes left' m part.0 next part.1;
+    serves = part.3;
+  }
+
+  message_broken : (bytes : List ℕ) (left' : Option (List ℕ)) (m : meant.Heard) (stop : Halt) (result : Result Bool Halt) → IsErrAnd result (λ e. e ≡ stop)
+      → ComesNext bytes left' m → Answers hash old new server sent sent' m (Err stop) → ServesMessage hash old new server sent sent' bytes left' result
+  message_broken bytes left' m stop (Ok on) handed next answers = absurd handed
+  message_broken bytes left' m stop (Err e) handed next answers =
+      let P : Halt → Type 0 = λ e. ServesMessage hash old new server sent sent' bytes left' (Err e) in subst P (sym handed) (by stop answers)
+    where
+      by : (stop : Halt) → Answers hash old new server sent sent' m (Err stop) → ServesMessage hash old new server sent sent' bytes left' (Err stop)
+      by halt.LinkFault part = part_served bytes left' m next part
+      by halt.NoMemory (inl part) =
+          let broken = part_served bytes left' m next part in
+          record { out = broken.out; behind = _; sends = broken.sends; served = (broken.heard, broken.broken, inl refl); serves = broken.serves }
+      by halt.NoMemory (inr stopped) = record {
+        out = [];
+        behind = stopped.1.0;
+        sends = stopped.0 ∙ sym (append_nothing sent);
+        served = first_stopped hash (program_served old) (own_digest old) (turns_of old) server bytes left' m stopped.1.0 next stopped.1.1;
+        serves = stopped.1.2;
+      }
+
+-- The link told the same before the answer, and the message was read of it: the message was served, or the connection broke off.
+module _ (hash : Hash) {A : Type 0} (old new : ServeCore A) (server : Server) (sent0 sent1 sent2 : Option (List ℕ)) (bytes : List ℕ) (left1 left2 : Option (List ℕ)) (m : meant.Heard) where
+  pub served_on : (closing b on : Bool) → on ≡ b && not closing → sent1 ≡ sent0 → left2 ≡ left1 → ComesNext bytes left1 m → asks m ≡ b
+      → Answers hash old new server sent1 sent2 m (Ok closing) → ServesMessage hash old new server sent0 sent2 bytes left2 (Ok on)
+  served_on closing b on test same left next is answers =
+      let OfSent : Option (List ℕ) → Type 0 = λ w. Answers hash old new server w sent2 m (Ok closing) in
+      let OfLeft : Option (List ℕ) → Type 0 = λ w. ComesNext bytes w m in
+      let OfOn : Bool → Type 0 = λ on. ServesMessage hash old new server sent0 sent2 bytes left2 (Ok on) in
+      subst OfOn (ap (λ b. b && not closing) is ∙ sym test) (message_served hash old new server sent0 sent2 bytes left2 m closing (subst OfLeft (sym left) next) (subst OfSent same answers))
+
+  pub broken_on : (stop : Halt) (result : Result Bool Halt) → IsErrAnd result (λ e. e ≡ stop) → sent1 ≡ sent0 → left2 ≡ left1 → ComesNext bytes left1 m
+      → Answers hash old new server sent1 sent2 m (Err stop) → ServesMessage hash old new server sent0 sent2 bytes left2 result
+  broken_on stop result handed same left next answers =
+      let OfSent : Option (List ℕ) → Type 0 = λ w. Answers hash old new server w sent2 m (Err stop) in
+      let OfLeft : Option (List ℕ) → Type 0 = λ w. ComesNext bytes w m in
+      message_broken hash old new server sent0 sent2 bytes left2 m stop result handed (subst OfLeft (sym left) next) (subst OfSent same answers)
+
+-- nothing was read
+pub unread : (hash : Hash) {A : Type 0} (core : ServeCore A) (server : Server) (sent sent' : Option (List ℕ)) (bytes : List ℕ) (left' : Option (List ℕ)) (stop : Halt)
+    (result : Result Bool Halt) → IsErrAnd result (λ e. e ≡ stop) → sent' ≡ sent → Serves hash core server → ServesMessage hash core core server sent sent' bytes left' result
+unread hash core server sent sent' bytes left' stop (Ok on) handed same serves = absurd handed
+unread hash core server sent sent' bytes left' stop (Err halt.LinkFault) handed same serves = record {
+  heard = [];
+  out = [];
+  sends = same ∙ sym (append_nothing sent);
+  broken = none_heard hash (program_served core) (own_digest core) (turns_of core) server bytes;
+  serves = serves;
+}
+unread hash core server sent sent' bytes left' stop (Err halt.NoMemory) handed same serves = record {
+  out = [];
+  behind = server;
+  sends = same ∙ sym (append_nothing sent);
+  served = ([], none_heard hash (program_served core) (own_digest core) (turns_of core) server bytes, inl refl);
+  serves = serves;
+}
+
+-- What is left of the core is a server with a history, unless memory was wanting.
+module _ (hash : Hash) {A : Type 0} (old new : ServeCore A) (same : HasSameCode old new) (h : HasServed hash old) (sent sent' : Option (List ℕ)) (m : meant.Heard) (is : IsHeard m) where
+  pub stays_open : (closing : Bool) → Answers hash old new h.server sent sent' m (Ok closing) → HasServed hash new
+  stays_open closing answers = served_more hash old new same h.server m h.history is answers.2
+
+  pub stays_halted : {T : Type 0} (stop : Halt) (result : Result T Halt) → IsErrAnd result (λ e. e ≡ stop) → Answers hash old new h.server sent sent' m (Err stop)
+      → StaysServing hash new result
+  stays_halted stop (Ok on) handed answers = absurd handed
+  stays_halted {T = T} stop (Err e) handed answers =
+      let P : Halt → Type 0 = λ e. StaysServing {T = T} hash new (Err e) in subst P (sym handed) (by stop answers)
+    where
+      by : (stop : Halt) → Answers hash old new h.server sent sent' m (Err stop) → StaysServing {T = T} hash new (Err stop)
+      by halt.LinkFault part = served_more hash old new same h.server m h.history is part.3
+      by halt.NoMemory (inl part) = ((step_of hash old h.server m).server, part.3)
+      by halt.NoMemory (inr stopped) = (stopped.1.0, stopped.1.2)
+
+  pub counts : (closing b on : Bool) → on ≡ b && not closing → asks m ≡ b → Answers hash old new h.server sent sent' m (Ok closing) → CountsMessage old.heard new.heard (Ok on)
+  counts closing b on test asked answers =
+      let OfOn : Bool → Type 0 = λ on. CountsMessage old.heard new.heard (Ok on) in subst OfOn (ap (λ b. b && not closing) asked ∙ sym test) (by m closing answers.1 answers.2)
+    where
+      by : (m : meant.Heard) (closing : Bool) → closing ≡ (step_of hash old h.server m).closing → Serves hash new (step_of hash old h.server m).server
+          → CountsMessage old.heard new.heard (Ok (asks m && not closing))
+      by (Hears r) true closes serves = tt
+      by (Hears r) false closes serves =
+          let counted = open_counts hash (program_served old) (own_digest old) (turns_of old) h.server r (sym closes) in
+          let before : old.heard ≡ h.server.heard = h.serves.heard in
+          let now = serves.heard in
+          (omega (arith, counted.0, before, now), omega (arith, counted.1, before))
+      by HearsBad closing closes serves = tt
+      by HearsEnd closing closes serves = tt

@@ -1,0 +1,14 @@
+-- send_replies
+mod SentReplies
+-- a core that goes on: answer, serve_message, end_at_fault
+mod Serving
+-- a message of a connection: next_heard, serve_message
+mod Broken
+mod Stopping
+mod Answering
+-- a connection: serve_link
+mod SoFar
+-- links one after another: serve_next, serve_links
+pub mod Linking
+-- the laws: links
+mod LinkHistories

@@ -1,0 +1,149 @@
+-- A connection that goes on, message by message: for serve_link.
+use Rattle.std.proofs.Common.{inl, inr, ◌≡◌, ℕ, Bool, List, [], ◌++◌, Option, Some, None, Result, Err, refl, sym, ap, subst, ◌∙◌, append_assoc}
+use Rattle.std.specs.Io.KnownBytes.{append_known, prepend_known}
+use Rattle.lam_outside.proofs.Moved.{append_twice}
+use Rattle.core_terms.specs.Formats.{Hash}
+use Rattle.code_gen.specs.declared.code.Code.{Code}
+use Rattle.code_gen.specs.Programs.{program_in}
+use Rattle.mode_vm.specs.Meanings.{program_of}
+use Rattle.session_meaning.specs.Server.{Server, Hears, HearsEnd, last_turn}
+use Rattle.wire_form.specs.MovedBytes.{Moves}
+use Rattle.serve_core.specs.Serving.{Serves}
+use Rattle.serve_core.specs.declared.server.ServeCore.{ServeCore}
+use Rattle.serve_links.specs.Connections.{IsServed, bytes_of, left_by_end}
+use Rattle.serve_links.specs.Ends.{IsBroken, StaysServer}
+use Rattle.serve_links.specs.Histories.{HasSameCode, HasServed, own_digest, program_served, step_of, turns_of}
+use Rattle.serve_links.specs.Messages.{BreaksOff, Ends, GoesOn, ServesMessage, StaysServing}
+use Rattle.serve_links.specs.declared.connection.ConnectionEnd.{ConnectionEnd}
+use Rattle.serve_links.specs.declared.connection.ConnectionEnd.TheVariants.{Over, LinkFault, NoMemory}
+use Rattle.serve_links.specs.declared.halt.Halt.{Halt}
+use Rattle.serve_links.specs.declared.halt.Halt.TheVariants as halt
+use Rattle.serve_links.proofs.Answering.{append_nothing}
+use Rattle.serve_links.proofs.Broken.{goes_on}
+use Rattle.serve_links.proofs.Serving.{served_more}
+
+prepend_nothing : (w : Option (List ℕ)) → w ≡ prepend_known [] w
+prepend_nothing None = refl
+prepend_nothing (Some xs) = refl
+
+-- no byte moved
+pub none_moved : (given left : Option (List ℕ)) → Moves given left given left
+none_moved given left = ([], prepend_nothing left, sym (append_nothing given))
+
+module _ (hash : Hash) where
+  -- what a server of this code and these turns sends, and leaves
+  abbrev IsServedBy : Code → ℕ → Server → (bytes sent : List ℕ) → ConnectionEnd → (behind : Server) → Type 0
+  IsServedBy code slice = IsServed hash (program_of code) (program_in code).text_digest.0 (last_turn slice)
+
+module _ (hash : Hash) {A : Type 0} where
+  -- A core served this server as the bytes began to come, and serves one now that goes on with those that are left: whatever that
+  -- one sends then was sent on the whole connection, behind what was sent by now.
+  pub record IsSoFar (old now : ServeCore A) (server : Server) (sent sent' : Option (List ℕ)) (bytes : List ℕ) (left' : Option (List ℕ)) : Type 0 where
+    pub out : List ℕ
+    pub rest : List ℕ
+    pub current : Server
+    pub sends : sent' ≡ append_known sent out
+    pub told : left' ≡ Some rest
+    pub serves : Serves hash now current
+    pub behind : (more : List ℕ) (end : ConnectionEnd) (last : Server) → IsServedBy hash old.code old.slice current rest more end last
+        → IsServedBy hash old.code old.slice server bytes (out ++ more) end last
+
+  -- what a message's result says, where it is known
+  pub served_at : (old new : ServeCore A) (server : Server) (sent sent' : Option (List ℕ)) (bytes : List ℕ) (left' : Option (List ℕ)) (r known : Result Bool Halt) → r ≡ known
+      → ServesMessage hash old new server sent sent' bytes left' r → ServesMessage hash old new server sent sent' bytes left' known
+  served_at old new server sent sent' bytes left' r known is served =
+      let Of : Result Bool Halt → Type 0 = λ r. ServesMessage hash old new server sent sent' bytes left' r in subst Of is served
+
+  -- a core that heard an end at a fault
+  pub stays_at_end : (old new : ServeCore A) → HasSameCode old new → HasServed hash old
+      → ((server : Server) → Serves hash old server → Serves hash new (step_of hash old server HearsEnd).server) → (end : ConnectionEnd) → StaysServer hash new end
+  stays_at_end old new same h ended Over = served_more hash old new same h.server HearsEnd h.history tt (ended h.server h.serves)
+  stays_at_end old new same h ended LinkFault = served_more hash old new same h.server HearsEnd h.history tt (ended h.server h.serves)
+  stays_at_end old new same h ended NoMemory = ((step_of hash old h.server HearsEnd).server, ended h.server h.serves)
+
+  pub stays_halted_fault : (core : ServeCore A) (stop : Halt) → stop ≡ halt.LinkFault → StaysServing {T = Bool} hash core (Err stop) → HasServed hash core
+  stays_halted_fault core stop is stays = let Of : Halt → Type 0 = λ stop. StaysServing {T = Bool} hash core (Err stop) in subst Of is stays
+
+  pub code_more : (old now new : ServeCore A) → HasSameCode old now → HasSameCode now new → HasSameCode old new
+  code_more old now new first more = record { code = more.code ∙ first.code; slice = more.slice ∙ first.slice }
+
+  pub at_first : (core : ServeCore A) (server : Server) (sent : Option (List ℕ)) (bytes : List ℕ) (left : Option (List ℕ)) → left ≡ Some bytes → Serves hash core server
+      → IsSoFar core core server sent sent bytes left
+  at_first core server sent bytes left told serves = record {
+    out = [];
+    rest = bytes;
+    current = server;
+    sends = sym (append_nothing sent);
+    told = told;
+    serves = serves;
+    behind = λ more end last served. served;
+  }
+
+  module _ (old now : ServeCore A) (same : HasSameCode old now) where
+    -- what is said of the core now is said of the one at first
+    abbrev of_code : (P : Code → ℕ → Type 0) → P now.code now.slice → P old.code old.slice
+    of_code P is =
+        let OfCode : Code → Type 0 = λ code. P code now.slice in
+        let OfSlice : ℕ → Type 0 = λ slice. P old.code slice in
+        subst OfSlice same.slice (subst OfCode same.code is)
+
+    module _ (server : Server) (sent sent' sent'' : Option (List ℕ)) (bytes : List ℕ) (left' : Option (List ℕ)) (so_far : IsSoFar old now server sent sent' bytes left') where
+      sent_behind : (more : List ℕ) → sent'' ≡ append_known sent' more → sent'' ≡ append_known sent (so_far.out ++ more)
+      sent_behind more sends = sends ∙ ap (λ w. append_known w more) so_far.sends ∙ append_twice sent so_far.out more
+
+      -- one message more
+      pub one_more : (new : ServeCore A) (left'' : Option (List ℕ)) → GoesOn hash now new so_far.current sent' sent'' so_far.rest left''
+          → IsSoFar old new server sent sent'' bytes left''
+      one_more new left'' on = record {
+        out = so_far.out ++ bytes_of (step_of hash now so_far.current (Hears on.request)).replies;
+        rest = on.rest;
+        current = (step_of hash now so_far.current (Hears on.request)).server;
+        sends = sent_behind (bytes_of (step_of hash now so_far.current (Hears on.request)).replies) on.sends;
+        told = on.told;
+        serves = on.serves;
+        behind = λ more end last served.
+            let said = bytes_of (step_of hash now so_far.current (Hears on.request)).replies in
+            let next = (step_of hash now so_far.current (Hears on.request)).server in
+            let there : IsServedBy hash now.code now.slice next on.rest more end last =
+            of_now (λ code slice. IsServedBy hash code slice next on.rest more end last) served in
+            let one : IsServedBy hash now.code now.slice so_far.current so_far.rest (said ++ more) end last =
+            goes_on hash (program_served now) (own_digest now) (turns_of now) so_far.current so_far.rest on.rest on.request on.came on.stays_open more end last there in
+            let Whole : List ℕ → Type 0 = λ sent. IsServedBy hash old.code old.slice server bytes sent end last in
+            subst Whole (sym (append_assoc so_far.out said more))
+            (so_far.behind (said ++ more) end last (of_code (λ code slice. IsServedBy hash code slice so_far.current so_far.rest (said ++ more) end last) one));
+      }
+        where
+          of_now : (P : Code → ℕ → Type 0) → P old.code old.slice → P now.code now.slice
+          of_now P is =
+              let OfCode : Code → Type 0 = λ code. P code old.slice in
+              let OfSlice : ℕ → Type 0 = λ slice. P now.code slice in
+              subst OfSlice (sym same.slice) (subst OfCode (sym same.code) is)
+
+      -- the connection ends at the next message
+      pub ends_now : (new : ServeCore A) (end : ConnectionEnd) → Ends hash now new so_far.current sent' sent'' so_far.rest end
+          → Ends hash old new server sent sent'' bytes end
+      ends_now new end ended = record {
+        out = so_far.out ++ ended.out;
+        behind = ended.behind;
+        sends = sent_behind ended.out ended.sends;
+        served = so_far.behind ended.out end ended.behind (of_code (λ code slice. IsServedBy hash code slice so_far.current so_far.rest ended.out end ended.behind) ended.served);
+        serves = ended.serves;
+      }
+
+      -- it broke off, and the server heard the end
+      pub breaks_now : (broken ended : ServeCore A) (end : ConnectionEnd) → IsBroken end → (off : BreaksOff hash now broken so_far.current sent' sent'' so_far.rest)
+          → Serves hash ended (left_by_end hash (program_served now) (own_digest now) (turns_of now) so_far.current off.heard)
+          → Ends hash old ended server sent sent'' bytes end
+      breaks_now broken ended end is off serves = ends_now ended end (record {
+        out = off.out;
+        behind = left_by_end hash (program_served now) (own_digest now) (turns_of now) so_far.current off.heard;
+        sends = off.sends;
+        served = by end is;
+        serves = serves;
+      })
+        where
+          by : (end : ConnectionEnd) → IsBroken end
+              → IsServedBy hash now.code now.slice so_far.current so_far.rest off.out end (left_by_end hash (program_served now) (own_digest now) (turns_of now) so_far.current off.heard)
+          by Over is = absurd is
+          by LinkFault is = (off.heard, off.broken, refl)
+          by NoMemory is = (off.heard, off.broken, inr (inl refl))

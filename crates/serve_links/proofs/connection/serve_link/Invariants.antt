@@ -1,0 +1,23 @@
+use Rattle.std.proofs.Common.{◌≡◌, ◌-◌}
+use Rattle.std.specs.Option.{ForSome}
+use Rattle.serve_core.specs.Serving.{Serves}
+use Rattle.session_meaning.specs.Server.{Server, messages_limit}
+use Rattle.wire_form.specs.MovedBytes.{Moves}
+use Rattle.serve_links.specs.Histories.{HasSameCode, HasServed}
+use Rattle.serve_links.proofs.SoFar.{IsSoFar}
+use Rattle.serve_links.proofs.connection.serve_link.Given as goal
+
+abbrev pub invariant-loop-core : goal.invariant-loop-core
+invariant-loop-core g l = record {
+  history : HasServed g.H.Hash32.hash l.core;
+  code : HasSameCode l.fn.core l.core;
+  served : ForSome (g.L.Source.left l.fn.link) (λ bytes. (server : Server) → Serves g.H.Hash32.hash l.fn.core server
+      → IsSoFar g.H.Hash32.hash l.fn.core l.core server (g.L.Link.sent l.fn.link) (g.L.Link.sent l.link) bytes (g.L.Source.left l.link));
+  moves : Moves (g.L.Source.given l.fn.link) (g.L.Source.left l.fn.link) (g.L.Source.given l.link) (g.L.Source.left l.link);
+  beyond : g.L.Link.beyond l.link ≡ g.L.Link.beyond l.fn.link;
+  faults : g.L.Source.faults l.link ≡ g.L.Source.faults l.fn.link;
+}
+
+-- how many messages more may go on
+abbrev pub decreases-loop-core : goal.decreases-loop-core
+decreases-loop-core g l = messages_limit - l.core.heard

@@ -1,0 +1,25 @@
+use Rattle.std.proofs.Common.{◌≡◌, List, Some}
+use Rattle.std.specs.Option.{ForSome}
+use Rattle.lam_outside.specs.Links.{Linked, links_so_far}
+use Rattle.session_meaning.specs.Server.{Server}
+use Rattle.serve_core.specs.Serving.{Serves}
+use Rattle.serve_links.specs.Histories.{HasSameCode, HasServed}
+use Rattle.serve_links.specs.ServedLinks.{AreMoreServed}
+use Rattle.serve_links.proofs.Linking.{IsFaultTold}
+use Rattle.serve_links.proofs.net.serve_links.Given as goal
+
+abbrev pub invariant-loop : goal.invariant-loop
+invariant-loop g l = record {
+  history : HasServed g.H.Hash32.hash l.core;
+  code : HasSameCode l.fn.core l.core;
+  served : ForSome (g.N.Net.listened l.fn.net) (λ port. (server : Server) → Serves g.H.Hash32.hash l.fn.core server → (after : List Linked)
+      → links_so_far (g.N.Net.ended l.net) (g.N.Net.linked l.net) (g.N.Source.given l.net) (g.N.Source.left l.net) (g.N.Link.sent l.net) ≡ Some after
+      → AreMoreServed g.H.Hash32.hash l.fn.core l.core server port
+      (links_so_far (g.N.Net.ended l.fn.net) (g.N.Net.linked l.fn.net) (g.N.Source.given l.fn.net) (g.N.Source.left l.fn.net) (g.N.Link.sent l.fn.net))
+      after l.link_fault l.counter);
+  listened : g.N.Net.listened l.net ≡ g.N.Net.listened l.fn.net;
+  listens : g.N.Net.listen_faults l.net ≡ g.N.Net.listen_faults l.fn.net;
+  dials : g.N.Net.dial_faults l.net ≡ g.N.Net.dial_faults l.fn.net;
+  accepts : g.N.Net.accept_faults l.net ≡ g.N.Net.accept_faults l.fn.net;
+  faults : IsFaultTold l.link_fault (g.N.Source.faults l.fn.net) (g.N.Source.faults l.net);
+}

@@ -1,0 +1,116 @@
+-- One message of a connection: what is heard of the link, what is sent, and which server is left.
+use Rattle.std.specs.Prelude.{◌≡◌, ◌⊎◌, ℕ, ◌+◌, ◌<◌, ◌≤◌, Bool, true, false, List, length, take, Option, Some, Result, Ok, Err, ⊤}
+use Rattle.std.specs.Io.KnownBytes.{append_known}
+use Rattle.core_terms.specs.Formats.{Hash}
+use Rattle.lam_outside.specs.Causes.{Rose}
+use Rattle.session_meaning.specs.Connections.{heard_stop}
+use Rattle.session_meaning.specs.Messages.{Request, Stop, NoMore, Then, request_of, messages}
+use Rattle.session_meaning.specs.Server as meant
+use Rattle.session_meaning.specs.Server.{Server, server_after, messages_limit}
+use Rattle.session_meaning.specs.Stopped.{IsStopped}
+use Rattle.wire_form.specs.declared.message.WriteStop.{WriteStop}
+use Rattle.wire_form.specs.declared.message.WriteStop.TheVariants as write
+use Rattle.serve_core.specs.Serving.{Serves, heard_meant}
+use Rattle.serve_core.specs.declared.server.ServeCore.{ServeCore}
+use Rattle.serve_core.specs.declared.heard.Heard.{Heard}
+use Rattle.serve_links.specs.Connections.{IsBrokenOff, IsServed, bytes_of}
+use Rattle.serve_links.specs.Histories.{HasServed, own_digest, program_served, step_of, turns_of}
+use Rattle.serve_links.specs.declared.connection.ConnectionEnd.{ConnectionEnd}
+use Rattle.serve_links.specs.declared.connection.ConnectionEnd.TheVariants.{Over, NoMemory}
+use Rattle.serve_links.specs.declared.halt.Halt.{Halt}
+use Rattle.serve_links.specs.declared.halt.Halt.TheVariants as halt
+
+-- it is a request
+abbrev pub asks : meant.Heard → Bool
+asks (meant.Hears request) = true
+asks meant.HearsBad = false
+asks meant.HearsEnd = false
+
+-- Of these bytes a message was read, which is heard so, and what is left is behind it; or no more messages are read, and that is
+-- heard so.
+abbrev pub ComesNext : List ℕ → Option (List ℕ) → meant.Heard → Type 0
+ComesNext bytes left' (meant.Hears request) =
+    (rest : List ℕ) × (messages request_of bytes ≡ Then request (messages request_of rest)) × (left' ≡ Some rest)
+ComesNext bytes left' m = (stop : Stop) × (messages request_of bytes ≡ NoMore stop) × (heard_stop stop ≡ m)
+
+-- this is heard next, unless the link failed or memory was wanting
+abbrev pub HearsNext : List ℕ → Option (List ℕ) → Result Heard Halt → Type 0
+HearsNext bytes left' (Ok heard) = ComesNext bytes left' (heard_meant heard)
+HearsNext bytes left' (Err stopped) = ⊤
+
+-- the count of the link's faults rose at a link fault, and nowhere else
+abbrev pub HaltCause : {T : Type 0} → ℕ → ℕ → Result T Halt → Type 0
+HaltCause before now (Ok done) = now ≡ before
+HaltCause before now (Err halt.LinkFault) = Rose before now
+HaltCause before now (Err halt.NoMemory) = now ≡ before
+
+-- why a reply was not written whole, as why a connection breaks off
+abbrev pub halt_of : WriteStop → Halt
+halt_of write.LinkFault = halt.LinkFault
+halt_of write.NoMemory = halt.NoMemory
+
+-- The core goes on as a server with a history, unless memory was wanting: then it is a server still.
+abbrev pub StaysServing : {A T : Type 0} → Hash → ServeCore A → Result T Halt → Type 0
+StaysServing hash core (Ok done) = HasServed hash core
+StaysServing hash core (Err halt.LinkFault) = HasServed hash core
+StaysServing hash core (Err halt.NoMemory) = (server : Server) × Serves hash core server
+
+-- a message that goes on is counted, and is within the limit
+abbrev pub CountsMessage : ℕ → ℕ → Result Bool Halt → Type 0
+CountsMessage before now (Ok true) = (now ≡ before + 1) × (before < messages_limit)
+CountsMessage before now (Ok false) = ⊤
+CountsMessage before now (Err stopped) = ⊤
+
+-- A core served this server, and what was sent grew.
+module _ (hash : Hash) {A : Type 0} (old new : ServeCore A) (server : Server) (sent sent' : Option (List ℕ)) where
+  -- The message was handled, and a front of the replies to it was sent.
+  abbrev pub AnswersPart : meant.Heard → Type 0
+  AnswersPart m =
+      let step = step_of hash old server m in
+      (n : ℕ) × (n ≤ length (bytes_of step.replies)) × (sent' ≡ append_known sent (take n (bytes_of step.replies))) × Serves hash new step.server
+
+  -- Memory was wanting to handle it, and nothing was sent.
+  abbrev pub IsStoppedAt : meant.Heard → Type 0
+  IsStoppedAt m =
+      (sent' ≡ sent) × ((stopped : Server) × IsStopped hash (program_served old) (turns_of old) server m stopped × Serves hash new stopped)
+
+  -- It was handled, and all its replies were sent, with the answer whether the server closes the connection; or a part of that.
+  abbrev pub Answers : meant.Heard → Result Bool Halt → Type 0
+  Answers m (Ok closing) =
+      let step = step_of hash old server m in
+      (sent' ≡ append_known sent (bytes_of step.replies)) × (closing ≡ step.closing) × Serves hash new step.server
+  Answers m (Err halt.LinkFault) = AnswersPart m
+  Answers m (Err halt.NoMemory) = AnswersPart m ⊎ IsStoppedAt m
+
+  -- a request was heard of these bytes and answered, the connection goes on, and these bytes are left
+  pub record GoesOn (bytes : List ℕ) (left' : Option (List ℕ)) : Type 0 where
+    pub request : Request
+    pub rest : List ℕ
+    pub came : messages request_of bytes ≡ Then request (messages request_of rest)
+    pub told : left' ≡ Some rest
+    pub stays_open : (step_of hash old server (meant.Hears request)).closing ≡ false
+    pub sends : sent' ≡ append_known sent (bytes_of (step_of hash old server (meant.Hears request)).replies)
+    pub serves : Serves hash new (step_of hash old server (meant.Hears request)).server
+
+  -- the connection on which these bytes come has ended
+  pub record Ends (bytes : List ℕ) (end : ConnectionEnd) : Type 0 where
+    pub out : List ℕ
+    pub behind : Server
+    pub sends : sent' ≡ append_known sent out
+    pub served : IsServed hash (program_served old) (own_digest old) (turns_of old) server bytes out end behind
+    pub serves : Serves hash new behind
+
+  -- it broke off at a link fault, and the end is still to be heard
+  pub record BreaksOff (bytes : List ℕ) : Type 0 where
+    pub heard : List meant.Heard
+    pub out : List ℕ
+    pub sends : sent' ≡ append_known sent out
+    pub broken : IsBrokenOff hash (program_served old) (own_digest old) (turns_of old) server bytes heard out
+    pub serves : Serves hash new (server_after hash (program_served old) (own_digest old) (turns_of old) server heard)
+
+  -- A message of the connection was served: it goes on, or not.
+  abbrev pub ServesMessage : List ℕ → Option (List ℕ) → Result Bool Halt → Type 0
+  ServesMessage bytes left' (Ok true) = GoesOn bytes left'
+  ServesMessage bytes left' (Ok false) = Ends bytes Over
+  ServesMessage bytes left' (Err halt.LinkFault) = BreaksOff bytes
+  ServesMessage bytes left' (Err halt.NoMemory) = Ends bytes NoMemory

@@ -1,0 +1,140 @@
+-- Links that a server serves one after another.
+use Rattle.std.specs.Prelude.{◌≡◌, ◌⊎◌, ℕ, ◌<◌, ◌≤◌, Bool, true, false, ◌||◌, List, [], ◌∷◌, ◌++◌, length, Option, Some, Result, Ok, Err}
+use Rattle.std.specs.List.{AllByRecursion}
+use Rattle.core_terms.specs.Formats.{Hash}
+use Rattle.core_terms.specs.Terms.{Program}
+use Rattle.lam_outside.specs.Causes.{Rose}
+use Rattle.lam_outside.specs.Links.{Linked}
+use Rattle.session_meaning.specs.Server.{Server}
+use Rattle.serve_core.specs.Serving.{Serves}
+use Rattle.serve_core.specs.declared.server.ServeCore.{ServeCore}
+use Rattle.serve_links.specs.Connections.{IsServed}
+use Rattle.serve_links.specs.Histories.{HasServed, own_digest, program_served, turns_of}
+use Rattle.serve_links.specs.declared.connection.ConnectionEnd.{ConnectionEnd}
+use Rattle.serve_links.specs.declared.connection.ConnectionEnd.TheVariants as connection
+use Rattle.serve_links.specs.declared.halt.Halt.{Halt}
+use Rattle.serve_links.specs.declared.halt.Halt.TheVariants as halt
+use Rattle.serve_links.specs.declared.net.ServingEnd.{ServingEnd}
+use Rattle.serve_links.specs.declared.net.ServingEnd.TheVariants.{Served, NoMemory}
+
+-- the bytes that come on a link: those that were read from it, and those that are left
+abbrev pub bytes_on : Linked → List ℕ
+bytes_on link = link.given ++ link.left
+
+-- it ended in a link fault
+abbrev pub is_fault : ConnectionEnd → Bool
+is_fault connection.Over = false
+is_fault connection.LinkFault = true
+is_fault connection.NoMemory = false
+
+module _ (hash : Hash) (P : Program) (own : List ℕ) (ending : ℕ → ℕ) where
+  -- this link was served, and ended so
+  abbrev pub IsServedOn : Server → Linked → ConnectionEnd → (behind : Server) → Type 0
+  IsServedOn server link end behind = IsServed hash P own ending server (bytes_on link) link.sent end behind
+
+  -- a link was served without want of memory
+  pub record IsLinkServed (server : Server) (link : Linked) (faulted : Bool) (behind : Server) : Type 0 where
+    pub end : ConnectionEnd
+    pub served : IsServedOn server link end behind
+    pub memory : end ≡ connection.NoMemory → ⊥
+    pub fault : faulted ≡ is_fault end
+
+  -- These links were served one after another, each by the server that the one before it left; whether one of them ended in a link
+  -- fault, and the server behind them.
+  abbrev pub AreServed : Server → List Linked → (faulted : Bool) → (behind : Server) → Type 0
+  AreServed server [] faulted behind = (faulted ≡ false) × (behind ≡ server)
+  AreServed server (link ∷ links) faulted behind =
+      (first others : Bool) × (next : Server) × IsLinkServed server link first next × AreServed next links others behind × (faulted ≡ first || others)
+
+  -- The same of these links, but that memory was wanting on the last one.
+  pub record AreServedInPart (server : Server) (links : List Linked) (behind : Server) : Type 0 where
+    pub before : List Linked
+    pub last : Linked
+    pub all : links ≡ before ++ last ∷ []
+    pub faulted : Bool
+    pub next : Server
+    pub served : AreServed server before faulted next
+    pub broken : IsServedOn next last connection.NoMemory behind
+
+-- Where the links are told, there are some more, all to this port.
+pub record AreMore (port : ℕ) (links : Option (List Linked)) (after : List Linked) (more : List Linked) : Type 0 where
+  pub before : List Linked
+  pub told : links ≡ Some before
+  pub all : after ≡ before ++ more
+  pub at_port : AllByRecursion (λ (link : Linked). link.port ≡ port) more
+
+-- A core served a server, on a net that listens to a port.
+module _ (hash : Hash) {A : Type 0} (old new : ServeCore A) (server : Server) (port : ℕ) where
+  -- Where the links are told, there is one more, to this port, and it was served.
+  pub record IsOneServed (links : Option (List Linked)) (after : List Linked) (end : ConnectionEnd) : Type 0 where
+    pub before : List Linked
+    pub link : Linked
+    pub behind : Server
+    pub told : links ≡ Some before
+    pub all : after ≡ before ++ link ∷ []
+    pub at_port : link.port ≡ port
+    pub served : IsServedOn hash (program_served old) (own_digest old) (turns_of old) server link end behind
+    pub serves : Serves hash new behind
+
+  -- The same without want of memory: whether it ended in a link fault.
+  pub record IsOneWhole (links : Option (List Linked)) (after : List Linked) (faulted : Bool) : Type 0 where
+    pub end : ConnectionEnd
+    pub one : IsOneServed links after end
+    pub memory : end ≡ connection.NoMemory → ⊥
+    pub fault : faulted ≡ is_fault end
+
+  -- so it is at an accepted link; where none was, the links and the core are the same
+  abbrev pub ServesNext : (links links' : Option (List Linked)) → Result Bool Halt → Type 0
+  ServesNext links links' (Ok faulted) = (after : List Linked) → links' ≡ Some after → IsOneWhole links after faulted
+  ServesNext links links' (Err halt.LinkFault) = (links' ≡ links) × (new ≡ old)
+  ServesNext links links' (Err halt.NoMemory) = (after : List Linked) → links' ≡ Some after → IsOneServed links after connection.NoMemory
+
+  -- there are so many more, and they were served
+  pub record AreMoreServed (links : Option (List Linked)) (after : List Linked) (faulted : Bool) (count : ℕ) : Type 0 where
+    pub more : List Linked
+    pub behind : Server
+    pub are : AreMore port links after more
+    pub number : length more ≡ count
+    pub served : AreServed hash (program_served old) (own_digest old) (turns_of old) server more faulted behind
+    pub serves : Serves hash new behind
+
+  -- there are at most so many more, and memory was wanting on the last one
+  pub record AreMoreInPart (links : Option (List Linked)) (after : List Linked) (most : ℕ) : Type 0 where
+    pub more : List Linked
+    pub behind : Server
+    pub are : AreMore port links after more
+    pub number : length more ≤ most
+    pub served : AreServedInPart hash (program_served old) (own_digest old) (turns_of old) server more behind
+    pub serves : Serves hash new behind
+
+  -- As many links were served as there were to be, and a fault is told where one of them ended in one; or fewer, since an accept
+  -- failed, which is told as a fault.
+  pub record AreCounted (links : Option (List Linked)) (after : List Linked) (connections : ℕ) (link_fault : Bool) (accepts accepts' : ℕ) : Type 0 where
+    pub faulted : Bool
+    pub count : ℕ
+    pub served : AreMoreServed links after faulted count
+    pub number : ((count ≡ connections) × (link_fault ≡ faulted)) ⊎ ((count < connections) × (link_fault ≡ true) × Rose accepts accepts')
+
+  -- Where the links behind the serving are told, those before it are, and there are so many more.
+  abbrev pub ServesLinks : (links links' : Option (List Linked)) → (connections accepts accepts' : ℕ) → ServingEnd → Type 0
+  ServesLinks links links' connections accepts accepts' (Served link_fault) =
+      (after : List Linked) → links' ≡ Some after → AreCounted links after connections link_fault accepts accepts'
+  ServesLinks links links' connections accepts accepts' NoMemory = (after : List Linked) → links' ≡ Some after → AreMoreInPart links after connections
+
+-- The core goes on as a server with a history. Where memory was wanting it is a server still.
+abbrev pub StaysOn : Hash → {A : Type 0} → ServeCore A → ServingEnd → Type 0
+StaysOn hash core (Served link_fault) = HasServed hash core
+StaysOn hash core NoMemory = (server : Server) × Serves hash core server
+
+-- The count of the links' faults rose exactly where a connection ended in a link fault; memory may be wanting behind a fault too.
+abbrev pub LinkCause : (before now : ℕ) → Result Bool Halt → Type 0
+LinkCause before now (Ok true) = Rose before now
+LinkCause before now (Ok false) = now ≡ before
+LinkCause before now (Err halt.LinkFault) = now ≡ before
+LinkCause before now (Err halt.NoMemory) = (now ≡ before) ⊎ Rose before now
+
+-- A fault is told exactly where the count of the links' faults rose, or that of `accept`. Where memory was wanting, no accept failed.
+abbrev pub ServingCause : (faults faults' accepts accepts' : ℕ) → ServingEnd → Type 0
+ServingCause faults faults' accepts accepts' (Served true) = Rose faults faults' ⊎ Rose accepts accepts'
+ServingCause faults faults' accepts accepts' (Served false) = (faults' ≡ faults) × (accepts' ≡ accepts)
+ServingCause faults faults' accepts accepts' NoMemory = accepts' ≡ accepts

@@ -1,0 +1,70 @@
+// A connection: a server on one link.
+ghost use Rattle.std.specs.Prelude.{◌≡◌};
+ghost use Rattle.std.specs.Option.{ForSome};
+ghost use Rattle.session_meaning.specs.Server.{HearsEnd, Server};
+ghost use Rattle.serve_core.specs.Serving.{Serves};
+ghost use Rattle.serve_links.specs.Ends.{EndCause, IsBroken, StaysServer};
+ghost use Rattle.serve_links.specs.Histories.{HasSameCode, HasServed, step_of};
+ghost use Rattle.serve_links.specs.Messages.{Ends};
+ghost use Rattle.wire_form.specs.MovedBytes.{Moves};
+
+use crate::halt::Halt;
+use crate::message::serve_message;
+use core_terms::Hash32;
+use lam_outside::Link;
+use serve_core::{Heard, ServeCore};
+use std::alloc::Global;
+
+/// How a connection ended.
+#[derive(Clone, Copy)]
+pub enum ConnectionEnd {
+    /// The server closed it, or the input ended.
+    Over,
+    /// The link failed, and its count of faults rose.
+    LinkFault,
+    /// Memory was wanting.
+    NoMemory,
+}
+
+/// Serves a link until the server closes the connection or the input ends. The server closes it at the latest behind 1,000,000
+/// messages, so it ends whatever comes.
+///
+/// What is sent is what the server replies to the messages of the bytes that come. At a link fault the server hears an end, so
+/// that its sessions are ended; of the replies to the last message a front may have been sent. Where memory was wanting the core
+/// is still a server, and the same may have been sent.
+pub fn serve_link<H: Hash32, L: Link>(
+    alloc: Global,
+    core: &mut ServeCore<H>,
+    link: &mut L,
+) -> ConnectionEnd
+    requires { HasServed H.hash core.old }
+    ensures served { ForSome (L.left link.old) (λ bytes. (server : Server) → Serves H.hash core.old server
+        → Ends H.hash core.old core.new server (L.sent link.old) (L.sent link.new) bytes result) }
+    ensures history { StaysServer H.hash core.new result }
+    ensures code { HasSameCode core.old core.new }
+    ensures moves { Moves (L.given link.old) (L.left link.old) (L.given link.new) (L.left link.new) }
+    ensures beyond { L.beyond link.new ≡ L.beyond link.old }
+    ensures cause { EndCause (L.faults link.old) (L.faults link.new) result }
+{
+    loop {
+        match serve_message(alloc, core, link) {
+            Ok(true) => {}
+            Ok(false) => return ConnectionEnd::Over,
+            Err(Halt::LinkFault) => return end_at_fault(core),
+            Err(Halt::NoMemory) => return ConnectionEnd::NoMemory,
+        }
+    }
+}
+
+/// Lets the server hear the end of a connection whose link failed.
+fn end_at_fault<H: Hash32>(core: &mut ServeCore<H>) -> ConnectionEnd
+    requires { HasServed H.hash core.old }
+    ensures broken { IsBroken result }
+    ensures ended { (server : Server) → Serves H.hash core.old server → Serves H.hash core.new (step_of H.hash core.old server HearsEnd).server }
+    ensures code { HasSameCode core.old core.new }
+{
+    match core.handle(Heard::End) {
+        Ok(_) => ConnectionEnd::LinkFault,
+        Err(_) => ConnectionEnd::NoMemory,
+    }
+}

@@ -1,0 +1,90 @@
+// A message of a connection.
+ghost use Rattle.std.specs.Prelude.{◌≡◌, IfOk};
+ghost use Rattle.std.specs.Option.{ForSome};
+ghost use Rattle.session_meaning.specs.ReplyLaws.{IsHeard};
+ghost use Rattle.session_meaning.specs.Server.{Server};
+ghost use Rattle.serve_core.specs.Serving.{Serves, heard_meant};
+ghost use Rattle.serve_links.specs.Histories.{HasSameCode, HasServed};
+ghost use Rattle.serve_links.specs.Messages.{Answers, CountsMessage, HaltCause, HearsNext, ServesMessage, StaysServing, asks};
+ghost use Rattle.wire_form.specs.MovedBytes.{Moves};
+
+use crate::halt::Halt;
+use crate::sending::send_replies;
+use core_terms::Hash32;
+use lam_outside::Link;
+use serve_core::{Heard, ServeCore};
+use std::alloc::Global;
+use wire_form::{ReadStop, read_request};
+
+/// What the server hears next on a link.
+fn next_heard<L: Link>(alloc: Global, link: &mut L) -> Result<Heard, Halt>
+    ensures hears { ForSome (L.left link.old) (λ bytes. HearsNext bytes (L.left link.new) result) }
+    ensures message { IfOk result (λ heard. IsHeard (heard_meant heard)) }
+    ensures moves { Moves (L.given link.old) (L.left link.old) (L.given link.new) (L.left link.new) }
+    ensures sent { L.sent link.new ≡ L.sent link.old }
+    ensures beyond { L.beyond link.new ≡ L.beyond link.old }
+    ensures cause { HaltCause (L.faults link.old) (L.faults link.new) result }
+{
+    match read_request(alloc, link) {
+        Ok(request) => Ok(Heard::Request(request)),
+        Err(ReadStop::BadMessage(_, _)) => Ok(Heard::Bad),
+        Err(ReadStop::TooLong(_)) => Ok(Heard::Bad),
+        Err(ReadStop::End) => Ok(Heard::End),
+        Err(ReadStop::Cut) => Ok(Heard::End),
+        Err(ReadStop::LinkFault) => Err(Halt::LinkFault),
+        Err(ReadStop::NoMemory) => Err(Halt::NoMemory),
+    }
+}
+
+/// Lets the core hear a message, and sends the replies to it. Whether the core closes the connection.
+fn answer<H: Hash32, L: Link>(
+    alloc: Global,
+    core: &mut ServeCore<H>,
+    link: &mut L,
+    heard: Heard,
+) -> Result<bool, Halt>
+    requires history { HasServed H.hash core.old }
+    requires message { IsHeard (heard_meant heard) }
+    ensures answers { (server : Server) → Serves H.hash core.old server → Answers H.hash core.old core.new server (L.sent link.old) (L.sent link.new) (heard_meant heard) result }
+    ensures code { HasSameCode core.old core.new }
+    ensures given { L.given link.new ≡ L.given link.old }
+    ensures left { L.left link.new ≡ L.left link.old }
+    ensures beyond { L.beyond link.new ≡ L.beyond link.old }
+    ensures cause { HaltCause (L.faults link.old) (L.faults link.new) result }
+{
+    let replies = core.handle(heard)?;
+    send_replies(alloc, link, &replies.list)?;
+    Ok(replies.closing)
+}
+
+/// Whether a request is heard.
+fn is_request(heard: &Heard) -> bool
+    ensures { result ≡ asks (heard_meant heard.now) }
+{
+    match heard {
+        Heard::Request(_) => true,
+        Heard::Bad | Heard::End => false,
+    }
+}
+
+/// Serves the next message of a connection. Whether the connection goes on.
+pub fn serve_message<H: Hash32, L: Link>(
+    alloc: Global,
+    core: &mut ServeCore<H>,
+    link: &mut L,
+) -> Result<bool, Halt>
+    requires { HasServed H.hash core.old }
+    ensures served { ForSome (L.left link.old) (λ bytes. (server : Server) → Serves H.hash core.old server
+        → ServesMessage H.hash core.old core.new server (L.sent link.old) (L.sent link.new) bytes (L.left link.new) result) }
+    ensures history { StaysServing H.hash core.new result }
+    ensures counts { CountsMessage core.old.heard core.new.heard result }
+    ensures code { HasSameCode core.old core.new }
+    ensures moves { Moves (L.given link.old) (L.left link.old) (L.given link.new) (L.left link.new) }
+    ensures beyond { L.beyond link.new ≡ L.beyond link.old }
+    ensures cause { HaltCause (L.faults link.old) (L.faults link.new) result }
+{
+    let heard = next_heard(alloc, link)?;
+    let asks = is_request(&heard);
+    let closing = answer(alloc, core, link, heard)?;
+    Ok(asks && !closing)
+}

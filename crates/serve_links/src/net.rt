@@ -1,0 +1,96 @@
+// A server on a net: links one after another.
+ghost use Rattle.std.specs.Prelude.{◌≡◌, ◌<◌, length};
+ghost use Rattle.std.specs.Option.{ForSome};
+ghost use Rattle.session_meaning.specs.Server.{Server};
+ghost use Rattle.lam_outside.specs.Links.{links_so_far};
+ghost use Rattle.serve_core.specs.Serving.{Serves};
+ghost use Rattle.serve_links.specs.Histories.{HasSameCode, HasServed};
+ghost use Rattle.serve_links.specs.Messages.{HaltCause, StaysServing};
+ghost use Rattle.serve_links.specs.ServedLinks.{LinkCause, ServesLinks, ServesNext, ServingCause, StaysOn};
+
+use crate::connection::{ConnectionEnd, serve_link};
+use crate::halt::Halt;
+use core_terms::Hash32;
+use lam_outside::Net;
+use serve_core::ServeCore;
+use std::alloc::Global;
+
+/// How the serving of a net ended.
+#[derive(Clone, Copy)]
+pub enum ServingEnd {
+    /// All links were served that were to be, or an accept failed.
+    Served {
+        /// Whether a link failed, or an accept.
+        link_fault: bool,
+    },
+    /// Memory was wanting.
+    NoMemory,
+}
+
+/// Accepts so many links, one after another, and serves each until its connection ends.
+///
+/// A link fault ends its connection, and the next link is accepted; a failed accept ends the serving. Where memory is wanting the
+/// server is one still, but no link is accepted further.
+pub fn serve_links<H: Hash32, N: Net>(
+    alloc: Global,
+    core: &mut ServeCore<H>,
+    net: &mut N,
+    connections: u16,
+) -> ServingEnd
+    requires { HasServed H.hash core.old }
+    ensures served { ForSome (N.listened net.old) (λ port. (server : Server) → Serves H.hash core.old server
+        → ServesLinks H.hash core.old core.new server port
+        (links_so_far (N.ended net.old) (N.linked net.old) (N.given net.old) (N.left net.old) (N.sent net.old))
+        (links_so_far (N.ended net.new) (N.linked net.new) (N.given net.new) (N.left net.new) (N.sent net.new))
+        connections (N.accept_faults net.old) (N.accept_faults net.new) result) }
+    ensures history { StaysOn H.hash core.new result }
+    ensures code { HasSameCode core.old core.new }
+    ensures versions { 0 < length core.new.shared.versions.items }
+    ensures listened { N.listened net.new ≡ N.listened net.old }
+    ensures listens { N.listen_faults net.new ≡ N.listen_faults net.old }
+    ensures dials { N.dial_faults net.new ≡ N.dial_faults net.old }
+    ensures cause { ServingCause (N.faults net.old) (N.faults net.new) (N.accept_faults net.old) (N.accept_faults net.new) result }
+{
+    let mut link_fault = false;
+    for _ in 0..connections {
+        match serve_next(alloc, core, net) {
+            Ok(faulted) => {
+                if faulted {
+                    link_fault = true;
+                }
+            }
+            Err(Halt::LinkFault) => return ServingEnd::Served { link_fault: true },
+            Err(Halt::NoMemory) => return ServingEnd::NoMemory,
+        }
+    }
+    ServingEnd::Served { link_fault }
+}
+
+/// Accepts the next link, and serves it. Whether it ended in a link fault.
+///
+/// `LinkFault` where the accept failed: its count of faults rose, and nothing else changed. `NoMemory` where memory was wanting.
+fn serve_next<H: Hash32, N: Net>(
+    alloc: Global,
+    core: &mut ServeCore<H>,
+    net: &mut N,
+) -> Result<bool, Halt>
+    requires { HasServed H.hash core.old }
+    ensures served { ForSome (N.listened net.old) (λ port. (server : Server) → Serves H.hash core.old server
+        → ServesNext H.hash core.old core.new server port
+        (links_so_far (N.ended net.old) (N.linked net.old) (N.given net.old) (N.left net.old) (N.sent net.old))
+        (links_so_far (N.ended net.new) (N.linked net.new) (N.given net.new) (N.left net.new) (N.sent net.new)) result) }
+    ensures history { StaysServing H.hash core.new result }
+    ensures code { HasSameCode core.old core.new }
+    ensures listened { N.listened net.new ≡ N.listened net.old }
+    ensures listens { N.listen_faults net.new ≡ N.listen_faults net.old }
+    ensures dials { N.dial_faults net.new ≡ N.dial_faults net.old }
+    ensures accepts { HaltCause (N.accept_faults net.old) (N.accept_faults net.new) result }
+    ensures cause { LinkCause (N.faults net.old) (N.faults net.new) result }
+{
+    net.accept()?;
+    match serve_link(alloc, core, net) {
+        ConnectionEnd::Over => Ok(false),
+        ConnectionEnd::LinkFault => Ok(true),
+        ConnectionEnd::NoMemory => Err(Halt::NoMemory),
+    }
+}

@@ -1,0 +1,16 @@
+//! Tests of the core of a server over messages as bytes: what is sent for what is fed, byte for byte, for small programs; each cause
+//! of a refusal, and which of two comes first; the limits; and long random sessions, against a second server that is written plainly.
+#![tactic(auto)]
+
+#[cfg(test)]
+mod limits;
+#[cfg(test)]
+mod notation;
+#[cfg(test)]
+mod programs;
+#[cfg(test)]
+mod rows;
+#[cfg(test)]
+mod soak;
+#[cfg(test)]
+mod stage;

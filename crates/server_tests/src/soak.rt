@@ -1,0 +1,77 @@
+// Long random sessions on a search tree: the core sends what a second server sends, byte for byte, whatever the slice.
+
+mod model;
+mod requests;
+mod trees;
+
+use crate::programs::TREE;
+use crate::soak::model::Model;
+use crate::soak::requests::Requests;
+use crate::stage::{code_of, served, server};
+use code_gen::Code;
+use std::alloc::{AllocError, Global};
+use std::test::Fail;
+
+/// What is fed to a server, what the model sends, and how many versions there are then.
+#[derive(Drop)]
+struct Course {
+    fed: Vec<u8>,
+    sent: Vec<u8>,
+    versions: usize,
+}
+
+/// So many requests of a seed, as the model answers them.
+fn played(
+    alloc: Global,
+    code: &Code,
+    seed: u64,
+    count: u32,
+    slice: u64,
+) -> Result<Course, AllocError> {
+    let program = code.program();
+    let mut model = Model::new(alloc, program, slice)?;
+    let mut requests = Requests::new(alloc, seed, *program.text_digest());
+    for _ in 0..count {
+        requests.next(&mut model)?;
+    }
+    taken(alloc, &requests, &model)
+}
+
+fn taken(alloc: Global, requests: &Requests, model: &Model<'_>) -> Result<Course, AllocError> {
+    Ok(Course {
+        fed: Vec::from_slice(alloc, requests.fed())?,
+        sent: Vec::from_slice(alloc, model.sent())?,
+        versions: model.count(),
+    })
+}
+
+/// How many versions there are behind a course, where the core sends what the model sends; else 0.
+fn versions_behind(alloc: Global, course: &Course, slice: u64) -> Result<usize, AllocError> {
+    let mut core = server(alloc, TREE, slice.max(1))?;
+    let told = served(alloc, &mut core, &course.fed, 4096)?;
+    let versions = core.versions().len();
+    let same = told.bytes == course.sent
+        && !told.closing
+        && versions == course.versions
+        && core.commits().len().saturating_add(1) == versions;
+    Ok(if same { versions } else { 0 })
+}
+
+/// How many requests there are.
+const REQUESTS: u32 = 2_000;
+
+/// How many versions there are at least behind them.
+const VERSIONS: usize = 70;
+
+#[test]
+fn the_core_sends_what_the_model_sends(rt: HostRuntime) -> Result<(), Fail> {
+    let code = code_of(rt.alloc(), TREE.text)?;
+    for (seed, slice) in [(1, 1), (2, 7), (3, 1_000_000)] {
+        let course = played(rt.alloc(), &code, seed, REQUESTS, slice)?;
+        let versions = versions_behind(rt.alloc(), &course, slice)?;
+        if versions < VERSIONS {
+            return Err(Fail::new(format_args!("{versions} versions, slice {slice}")));
+        }
+    }
+    Ok(())
+}

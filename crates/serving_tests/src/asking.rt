@@ -1,0 +1,254 @@
+// What `ask` tells, stores and sends.
+ghost use Rattle.std.specs.Prelude.{◌<◌};
+
+use crate::messages::{answers, conversation};
+use cli_stage::runs::{Peers, Run, kept, made, run_on_net};
+use cli_stage::stage::{STATE, staged};
+use program_texts::{FIRST, SWITCH};
+use std::alloc::{AllocError, Global};
+use std::test::Fail;
+
+/// A script that opens a session, calls once and closes.
+const SCRIPT: &[u8] = b"open 1 0\ncall 1 open 1 ()\ngo\nclose 1\n";
+
+/// The calls of the net, of the files and of the output that fail.
+#[derive(Clone, Copy)]
+struct Failing<'a> {
+    net: &'a [u64],
+    files: &'a [u64],
+    writes: &'a [u64],
+}
+
+/// None of them.
+static NONE: Failing<'static> = Failing {
+    net: &[],
+    files: &[],
+    writes: &[],
+};
+
+/// Asks a server that replies so, where so many bytes move at once.
+fn ask(
+    alloc: Global,
+    script: &[u8],
+    replies: &[u8],
+    most: usize,
+    failing: &Failing,
+) -> Result<(Run, Vec<u8>), AllocError>
+    requires { 0 < most }
+{
+    let mut bytes = Vec::new(alloc);
+    bytes.push(Vec::from_slice(alloc, replies)?)?;
+    let peers = Peers {
+        bytes: &bytes,
+        most,
+        failing: failing.net,
+    };
+    let stage = staged(FIRST, &STATE, script);
+    let words = ["ask", "p", "s", "4711", "q", "o"];
+    run_on_net(
+        alloc,
+        &stage,
+        &words,
+        &peers,
+        failing.files,
+        (100, failing.writes),
+    )
+}
+
+/// Frames with one new piece of no bytes.
+const FRAMES: &[u8] = &[0, 0, 0, 0, 0];
+
+/// All that is told where nothing fails.
+const WHOLE: &str = "1 welcome\n1 done ()\n1 closed\n";
+
+/// How many bytes move at once.
+static SIZES: [usize; 5] = [1, 2, 3, 7, 4096];
+
+/// Whether all is told, stored and sent, where so many bytes move at once.
+fn is_whole(alloc: Global, most: usize) -> Result<bool, AllocError>
+    requires { 0 < most }
+{
+    let replies = answers(alloc, FRAMES)?;
+    let (run, sent) = ask(alloc, SCRIPT, &replies, most, &NONE)?;
+    let said = conversation(alloc, FIRST, &STATE, 1, u32::MAX)?;
+    Ok(run.stores(0, WHOLE, &STATE) && sent.as_slice() == said.as_slice())
+}
+
+#[test]
+fn a_script_is_played(rt: HostRuntime) -> Result<(), Fail> {
+    for most in &SIZES {
+        if !is_whole(rt.alloc(), (*most).max(1))? {
+            return Err(Fail::new(format_args!("{most} at once")));
+        }
+    }
+    Ok(())
+}
+
+/// Replies to the greeting of session 1, and what is told of them.
+static ENDED: [(&[u8], &str); 9] = [
+    (b"\0\0\0\x03\x01\0\x01", "bad message 1 0\n"),
+    (b"\0\0\0\x03\x85\0\x01", "bad message 133 3\n"),
+    (b"\0\0\0\x04\x85\0\x02\0", "bad reply 2 stranger\n"),
+    (b"\0\0\0\x03\x82\0\x01", "bad reply 1 wrong 130\n"),
+    (b"\0\0\0\x04\x84\0\0\x0b", "server closed 11\n"),
+    (b"\x01\0\0\x01", "message too long 16777217\n"),
+    (b"\0\0\0", "reply cut\n"),
+    (b"", "reply ended\n"),
+    (
+        b"\0\0\0\x03\x81\0\x01\0\0\0\x03\x82\0\x01",
+        "1 welcome\n1 rejected short 0\n",
+    ),
+];
+
+#[test]
+fn other_replies_end_the_play(rt: HostRuntime) -> Result<(), Fail> {
+    for (replies, text) in &ENDED {
+        let (run, _) = ask(rt.alloc(), SCRIPT, replies, 3, &NONE)?;
+        if !run.stores(5, text, &STATE) {
+            return Err(Fail::new(format_args!("{text}")));
+        }
+    }
+    Ok(())
+}
+
+/// Whether a play of which a call of the net failed ended as it has to: one line where it couldn't dial, and nothing was stored; else whole
+/// lines, that of the fault, and the state was stored.
+fn is_faulted(run: &Run, call: u64) -> bool {
+    let text = run.text.as_slice();
+    if call == 0 {
+        return run.only_tells(8, "link fault\n");
+    }
+    run.status == 8
+        && text.ends_with(b"link fault\n")
+        && run.stored == 1
+        && run.file.as_slice() == STATE.as_slice()
+}
+
+/// The number of calls of the net: of the first that may fail and nothing is told of it.
+fn first_unfailing(alloc: Global) -> Result<u64, AllocError> {
+    let replies = answers(alloc, FRAMES)?;
+    for call in 0..100 {
+        let net = [call];
+        let failing = Failing { net: &net, ..NONE };
+        let (run, _) = ask(alloc, SCRIPT, &replies, 4096, &failing)?;
+        if !is_faulted(&run, call) {
+            return Ok(if run.tells(0, WHOLE) { call } else { 100 });
+        }
+    }
+    Ok(100)
+}
+
+#[test]
+fn each_call_of_the_net_fails_once(rt: HostRuntime) -> Result<(), Fail> {
+    let calls = first_unfailing(rt.alloc())?;
+    if !(10..100).contains(&calls) {
+        return Err(Fail::new(format_args!("call {calls}")));
+    }
+    Ok(())
+}
+
+/// The call of the files that stores, behind a start, a read of all and a read at the end of each of three files.
+const STORE: u64 = 9;
+
+/// Whether a file that can't be read, or a state that can't be stored, is told as it has to be, where this call of the files fails.
+fn is_told_of_files(alloc: Global, call: u64) -> Result<bool, AllocError> {
+    let replies = answers(alloc, FRAMES)?;
+    let files = [call];
+    let failing = Failing {
+        files: &files,
+        ..NONE
+    };
+    let (run, _) = ask(alloc, SCRIPT, &replies, 4096, &failing)?;
+    Ok(if call < STORE {
+        run.only_tells(8, "read fault\n")
+    } else {
+        run.tells(9, WHOLE)
+    })
+}
+
+#[test]
+fn each_call_of_the_files_fails_once(rt: HostRuntime) -> Result<(), Fail> {
+    for call in 0..=STORE {
+        if !is_told_of_files(rt.alloc(), call)? {
+            return Err(Fail::new(format_args!("call {call}")));
+        }
+    }
+    Ok(())
+}
+
+/// The lines before the write that fails.
+static BEFORE: [&str; 3] = ["", "1 welcome\n", "1 welcome\n1 done ()\n"];
+
+#[test]
+fn each_write_fails_once(rt: HostRuntime) -> Result<(), Fail> {
+    let alloc = rt.alloc();
+    let replies = answers(alloc, FRAMES)?;
+    for (write, text) in BEFORE.iter().enumerate() {
+        let writes = [write as u64];
+        let failing = Failing {
+            writes: &writes,
+            ..NONE
+        };
+        let (run, _) = ask(alloc, SCRIPT, &replies, 4096, &failing)?;
+        if !run.stores(9, text, &STATE) {
+            return Err(Fail::new(format_args!("{text}")));
+        }
+    }
+    Ok(())
+}
+
+/// An update's new state is stored.
+#[test]
+fn the_last_state_is_stored(rt: HostRuntime) -> Result<(), Fail> {
+    let alloc = rt.alloc();
+    let image = made(alloc, SWITCH, "make", "true")?.file;
+    let first = kept(alloc, SWITCH, &image)?.file;
+    let image = made(alloc, SWITCH, "make", "false")?.file;
+    let last = kept(alloc, SWITCH, &image)?.file;
+    let mut bytes = Vec::new(alloc);
+    bytes.push(answers(alloc, &[0, 0, 0, 0, 1, 1])?)?;
+    let peers = Peers {
+        bytes: &bytes,
+        most: 4096,
+        failing: &[],
+    };
+    let stage = staged(SWITCH, &first, b"open 1 0\ncall 1 flip 1 ()\ngo\nclose 1");
+    let words = ["ask", "p", "s", "4711", "q", "o"];
+    let (run, _) = run_on_net(alloc, &stage, &words, &peers, &[], (100, &[]))?;
+    if run.status == 0 && run.stored == 1 && run.file.as_slice() == last.as_slice() {
+        return Ok(());
+    }
+    Err(Fail::new(format_args!("{}", run.status)))
+}
+
+/// Words, a state, a script, and the line by which one of them is refused.
+static REFUSED: [(&str, &[u8], &[u8], &str); 8] = [
+    ("0", b"x", b"x", "number PORT"),
+    ("65536", b"x", b"x", "number PORT"),
+    ("1", b"x", b"x", "state 0"),
+    ("1", &STATE, b"x", "script 1"),
+    ("1", &STATE, b"\nopen 1 0\nopen 0 0\n", "script 3"),
+    ("1", &STATE, b"open 1 1025", "script 1"),
+    ("1", &STATE, b"call 1 make 1 ()", "script 1"),
+    ("1", &STATE, b"call 1 open 1 1", "script 1"),
+];
+
+#[test]
+fn words_states_and_scripts_are_refused(rt: HostRuntime) -> Result<(), Fail> {
+    let alloc = rt.alloc();
+    for (port, state, script, text) in &REFUSED {
+        let peers = Peers {
+            bytes: &[],
+            most: 1,
+            failing: &[],
+        };
+        let words = ["ask", "p", "s", *port, "q", "o"];
+        let stage = staged(FIRST, state, script);
+        let (run, _) = run_on_net(alloc, &stage, &words, &peers, &[], (100, &[]))?;
+        let line = format!(in alloc; "input refused: {text}\n")?;
+        if !run.only_tells(7, &line) {
+            return Err(Fail::new(format_args!("{text}")));
+        }
+    }
+    Ok(())
+}

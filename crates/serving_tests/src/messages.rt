@@ -1,0 +1,49 @@
+// Messages as bytes.
+use core_terms::Hash32;
+use digest_layer::Sha;
+use std::alloc::{AllocError, Global};
+
+/// The greatest number of bytes of a body.
+const MAX_BODY: usize = 16_777_216;
+
+/// Adds a message with a body of these parts.
+fn add(bytes: &mut Vec<u8>, head: &[u8], tail: &[u8]) -> Result<(), AllocError> {
+    let len = head.len().saturating_add(tail.len()).min(MAX_BODY);
+    bytes.extend_from_slice(&(len as u32).to_be_bytes())?;
+    bytes.extend_from_slice(head)?;
+    bytes.extend_from_slice(tail)
+}
+
+/// What a client of session 1 says: it greets at a state of the program, calls a role without an argument, lets it run for so many
+/// rounds, and leaves.
+pub fn conversation(
+    alloc: Global,
+    program: &[u8],
+    state: &[u8],
+    role: u8,
+    rounds: u32,
+) -> Result<Vec<u8>, AllocError> {
+    let mut bytes = Vec::new(alloc);
+    let mut greeting = Vec::from_slice(alloc, &Sha::of(program).0)?;
+    greeting.extend_from_slice(&[0, 0])?;
+    greeting.extend_from_slice(state)?;
+    add(&mut bytes, &[1, 0, 1], &greeting)?;
+    call_and_leave(&mut bytes, role, rounds)?;
+    Ok(bytes)
+}
+
+/// The messages behind the greeting, with fuel 1.
+fn call_and_leave(bytes: &mut Vec<u8>, role: u8, rounds: u32) -> Result<(), AllocError> {
+    add(bytes, &[2, 0, 1, 0, role, 0, 0, 0, 0, 0, 0, 0, 1], &[])?;
+    add(bytes, &[3, 0, 0], &rounds.to_be_bytes())?;
+    add(bytes, &[4, 0, 1], &[])
+}
+
+/// What a server answers to it, with a proof of these frames.
+pub fn answers(alloc: Global, frames: &[u8]) -> Result<Vec<u8>, AllocError> {
+    let mut bytes = Vec::new(alloc);
+    add(&mut bytes, &[0x81, 0, 1], &[])?;
+    add(&mut bytes, &[0x82, 0, 1], frames)?;
+    add(&mut bytes, &[0x85, 0, 1, 0], &[])?;
+    Ok(bytes)
+}

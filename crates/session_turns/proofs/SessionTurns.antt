@@ -1,0 +1,168 @@
+-- Turns of one session.
+use Rattle.std.proofs.Common.{◌≡◌, ℕ, suc, ◌<◌, ◌+◌, ◌*◌, List, [], ◌∷◌, ◌++◌, length, refl, sym, ap, ◌∙◌, subst, arith, length-append}
+use Rattle.std.proofs.Common.{Option, Some, None, Bool, true, false, not, is_some, nat_eq, nat_le}
+use Rattle.core_terms.specs.Formats.{Hash}
+use Rattle.core_terms.specs.Terms.{Program}
+use Rattle.core_terms.specs.Values.{Value}
+use Rattle.code_gen.specs.declared.code.Code.{Code}
+use Rattle.ideal_meaning.specs.Following.{after_frames}
+use Rattle.ideal_meaning.specs.Frames.{Frame, frame_bytes}
+use Rattle.ideal_meaning.specs.Headline.{call_of}
+use Rattle.mode_vm.specs.Meanings.{program_of}
+use Rattle.reuse_buffer.specs.Kept.{kept}
+use Rattle.session_meaning.specs.Calls.{RoleCall, calls_of, role_in}
+use Rattle.session_meaning.proofs.Turns.{extends_at}
+use Rattle.session_meaning.specs.Causes.{LongProof, refusal_cause}
+use Rattle.session_meaning.specs.Messages as message
+use Rattle.session_meaning.specs.Server as meant
+use Rattle.session_meaning.specs.Tables.{Numbered}
+use Rattle.value_store.specs.Nodes.{Node}
+use Rattle.value_store.specs.Standing.{Grows}
+use Rattle.value_store.specs.Stores.{nodes_in}
+use Rattle.session_turns.proofs.Turns.{running_stays}
+use Rattle.wire_form.specs.declared.message.Reply.TheVariants as reply
+use Rattle.session_turns.specs.RoleRuns.{IsRunOf}
+use Rattle.session_turns.specs.Sessions.{IsLeft, IsSession, IsTurned, Runs}
+use Rattle.session_turns.specs.Settling.{IsSettled}
+use Rattle.session_turns.specs.Sharing.{Shares}
+use Rattle.session_turns.specs.declared.session.Session.{Session}
+use Rattle.session_turns.specs.declared.session.SessionCall.{SessionCall}
+use Rattle.session_turns.specs.declared.settling.Settled.TheVariants.{Proved, Stale, TooLong}
+use Rattle.session_turns.specs.declared.shared.Shared.{Shared}
+
+-- the version of the first of them
+abbrev version_in : List (Numbered meant.Session) → ℕ
+version_in [] = 0
+version_in (x ∷ xs) = x.value.version
+
+-- A session that is left at the end of a run stands at a version that is there.
+module _ (hash : Hash) (P : Program) (number : ℕ) (s : meant.Session) (call : RoleCall) (frames : List Frame) (m : meant.Shared) (there : s.version < length m.versions) (left : meant.Session) where
+  abbrev IsBelow : meant.Turned → Type 0
+  IsBelow t = t.sessions ≡ meant.one_session number left → left.version < length t.shared.versions
+
+  committed_below : (v : Value) (last : Bool) → IsBelow (meant.commit_turn hash P last number s call frames v m)
+  committed_below v false e = absurd (cc (e))
+  committed_below v true e = let is = ap version_in e in let more = length-append m.versions (v ∷ []) in omega (arith, is, more)
+
+  pub below : (fits : Bool) (made : Option Value) → IsBelow (meant.frames_turn hash P fits made number s call frames m)
+  below false made e = absurd (cc (e))
+  below true None e = let is = ap version_in e in omega (arith, is, there)
+  below true (Some v) e = committed_below v (nat_eq (suc s.version) (length m.versions)) e
+
+module _ (hash : Hash) (code : Code) (slice : ℕ) {A : Type 0} (shared : Shared) (number : ℕ) where
+  -- a session whose run ended, by how it was settled
+  pub proved_turn : (s : meant.Session) (frames : List Frame) (t : meant.Turned) (session : Session A) (bytes : List ℕ) → Shares hash (program_of code) shared t.shared
+      → session.running ≡ None → ((left : meant.Session) → t.sessions ≡ meant.one_session number left → left.version < length t.shared.versions)
+      → bytes ≡ frame_bytes frames → session.ring ≡ kept s.kept (after_frames frames s.recent) → IsSettled number s frames (Proved session.version) t
+      → IsTurned hash code slice shared number (record { session = Some session; reply = Some (reply.Proof number bytes) }) t
+  proved_turn s frames t session bytes shares idle below told ring h =
+      let left : meant.Session = record { version = session.version; kept = s.kept; recent = after_frames frames s.recent; running = None } in
+      let stands : IsSession hash code slice (nodes_in shared.store) t.shared.versions session left = record {
+        at_version = refl;
+        there = below left h.0;
+        holds = ring;
+        runs = subst (λ o. Runs hash code slice (nodes_in shared.store) (meant.version_at t.shared.versions session.version) o None) (sym idle) tt;
+      } in
+      record {
+        shares = shares;
+        left = subst (λ xs. IsLeft hash code slice (nodes_in shared.store) t.shared.versions number (Some session) xs) (sym h.0) (refl, stands);
+        replies = ap (λ b. message.Proof number b ∷ []) told ∙ sym h.1;
+      }
+
+  pub stale_turn : (s : meant.Session) (frames : List Frame) (t : meant.Turned) (state : List ℕ) → Shares hash (program_of code) shared t.shared → IsSettled number s frames (Stale state) t
+      → IsTurned hash code slice {A = A} shared number (record { session = None; reply = Some (reply.Stale number state) }) t
+  stale_turn s frames t state shares h = record {
+    shares = shares;
+    left = subst (λ xs. IsLeft hash code slice {A = A} (nodes_in shared.store) t.shared.versions number None xs) (sym h.0) tt;
+    replies = sym h.1;
+  }
+
+  pub long_turn : (s : meant.Session) (frames : List Frame) (t : meant.Turned) (cause : ℕ) → cause ≡ refusal_cause LongProof → Shares hash (program_of code) shared t.shared
+      → IsSettled number s frames TooLong t
+      → IsTurned hash code slice {A = A} shared number (record { session = None; reply = Some (reply.Refused number cause) }) t
+  long_turn s frames t cause is shares h = record {
+    shares = shares;
+    left = subst (λ xs. IsLeft hash code slice {A = A} (nodes_in shared.store) t.shared.versions number None xs) (sym h.0) tt;
+    replies = ap (λ c. message.Refused number c ∷ []) is ∙ sym h.1;
+  }
+
+pub none_told : {B : Type 0} (o : Option B) (b : Bool) → is_some o ≡ not b → b ≡ true → o ≡ None
+none_told None b e t = refl
+none_told (Some x) true e t = absurd (cc (e))
+none_told (Some x) false e t = absurd (cc (t))
+
+one_more : (turns slice : ℕ) → turns * slice + slice ≡ suc turns * slice
+one_more turns slice = omega arith
+
+-- a session stands for the same one when nodes are put behind and versions are added
+pub session_stays : (hash : Hash) (code : Code) (slice : ℕ) (A : Type 0) (old new : List Node) (versions more : List Value) (session : Session A) (s : meant.Session)
+    → Grows old new → IsSession hash code slice old versions session s → IsSession hash code slice new (versions ++ more) session s
+session_stays hash code slice A old new versions more session s grows h =
+    let count = length-append versions more in
+    let there = h.there in
+    let same = extends_at versions (versions ++ more) s.version (more, refl) there in
+    record {
+      at_version = h.at_version;
+      there = omega (arith, count, there);
+      holds = h.holds;
+      runs = subst (λ state. Runs hash code slice new state session.running s.running) (sym same) (by session.running s.running h.runs);
+    }
+  where
+    by : (c : Option (SessionCall A)) (r : Option meant.Running)
+        → Runs hash code slice old (meant.version_at versions s.version) c r
+        → Runs hash code slice new (meant.version_at versions s.version) c r
+    by None None i = tt
+    by (Some c) (Some r) i =
+        let f = (role_in (program_of code) r.call.role).function in
+        let vs = call_of (meant.version_at versions s.version) r.call.argument in
+        ((running_stays hash code old new c.run f vs r.call.fuel (r.turns * slice) grows i.0.0, i.0.1), i.1)
+    by None (Some r) i = elim i [ ]
+    by (Some c) None i = elim i [ ]
+
+-- a session that stands for one of the definitions, over what is shared
+module _ (hash : Hash) (code : Code) (slice : ℕ) {A : Type 0} (shared : Shared) (m : meant.Shared) (session : Session A) (s : meant.Session)
+    (h : IsSession hash code slice (nodes_in shared.store) m.versions session s) (number : ℕ) where
+  abbrev state : Value
+  state = meant.version_at m.versions s.version
+
+  abbrev nodes : List Node
+  nodes = nodes_in shared.store
+
+  abbrev turn_by : Option meant.Running → meant.Turned
+  turn_by r = meant.turn_of hash (program_of code) (meant.last_turn slice) r number s m
+
+  abbrev IsCall : SessionCall A → meant.Running → Type 0
+  IsCall c r = IsRunOf hash code nodes c.run c.call state r.call (r.turns * slice) × (c.run.told ≡ None)
+
+  pub call_runs : (c : SessionCall A) → session.running ≡ Some c → (r : meant.Running) × (s.running ≡ Some r) × IsCall c r
+  call_runs c e = by s.running (subst (λ o. Runs hash code slice nodes state o s.running) e h.runs)
+    where
+      by : (o : Option meant.Running) → Runs hash code slice nodes state (Some c) o → (r : meant.Running) × (o ≡ Some r) × IsCall c r
+      by None i = elim i [ ]
+      by (Some r) i = (r, refl, i)
+
+  module _ (c : SessionCall A) (r : meant.Running) (runs : s.running ≡ Some r) where
+    abbrev ends : Bool
+    ends = nat_le (meant.last_turn slice (calls_of (program_of code) state r.call)) (suc r.turns)
+
+    turn_is : (b : Bool) → ends ≡ b → turn_by s.running ≡ meant.run_turn hash (program_of code) (meant.last_turn slice) b number s r state m
+    turn_is b e = ap turn_by runs ∙ ap (λ b. meant.run_turn hash (program_of code) (meant.last_turn slice) b number s r state m) e
+
+    -- its run ends in this turn
+    pub end_is : ends ≡ true → turn_by s.running ≡ meant.end_turn hash (program_of code) number s r.call state m
+    end_is e = turn_is true e
+
+    -- or goes on
+    pub on_turn : Shares hash (program_of code) shared m → ends ≡ false → (next : SessionCall A)
+        → IsRunOf hash code nodes next.run next.call state r.call (r.turns * slice + slice) → next.run.told ≡ None
+        → IsTurned hash code slice shared number (record { session = Some (record { version = session.version; ring = session.ring; running = Some next }); reply = None }) (turn_by s.running)
+    on_turn shares e next is goes =
+        let left = meant.with_run s r.call (suc r.turns) in
+        let stands : IsSession hash code slice nodes m.versions (record { version = session.version; ring = session.ring; running = Some next }) left = record {
+          at_version = h.at_version;
+          there = h.there;
+          holds = h.holds;
+          runs = (subst (λ n. IsRunOf hash code nodes next.run next.call state r.call n) (one_more r.turns slice) is, goes);
+        } in
+        subst (λ t. IsTurned hash code slice {A = A} shared number (record { session = Some (record { version = session.version; ring = session.ring; running = Some next }); reply = None }) t)
+        (sym (turn_is false e)) (record { shares = shares; left = (refl, stands); replies = refl })

@@ -1,0 +1,50 @@
+use Rattle.std.proofs.Common.{◌≡◌, ℕ, List, length, take, ◌++◌, sym, ap, ◌∙◌, subst}
+use Rattle.ideal_meaning.specs.Headline.{call_of}
+use Rattle.mode_vm.specs.Meanings.{program_of}
+use Rattle.reuse_buffer.specs.Kept.{Kept, kept}
+use Rattle.session_meaning.specs.Calls.{new_state, outcome_of, role_in}
+use Rattle.value_store.specs.Nodes.{AreSound, Node}
+use Rattle.value_store.specs.Overs.{own_nodes}
+use Rattle.value_store.specs.Stores.{nodes_in}
+use Rattle.session_turns.proofs.RunEnds.{made_so, made_there, made_within, run_over, tells_so}
+use Rattle.session_turns.proofs.running.Running.finish.Goals as goal
+
+pub returns-clause-ends : goal.returns-clause-ends
+returns-clause-ends g c s state call made h on ring =
+    let hash = g.H.Hash32.hash in
+    let P = program_of c.args.code.now in
+    let base = nodes_in c.args.base.now in
+    let run = c.args.self in
+    let size = ap (λ (k : Kept). k.size) ring in
+    let held = subst (λ (n : ℕ). c.args.ring ≡ kept n s.recent) (sym size) ring in
+    let told =
+    tells_so hash P state call s.kept c.args.ring.size s.recent c.in_ok-proof.proof.bytes.items c.in_ok-proof.proof.fresh c.in_ok-proof.proof.again c.in_ok-proof.ring size
+    (c.in_ok-proof.ensures (role_in P call.role).function (call_of state call.argument) call.fuel s.recent
+    (run_over hash c.args.code.now base run c.args.call state call made h c.in-Some.outcome c.in-Some.is _ c.on-over.ensures.nodes) held) in
+    let behind = c.off.ensures.nodes ∙ ap (λ (ns : List Node). ns ++ own_nodes c.off.result) c.on-over.ensures.lent in (
+      told.0,
+      told.1,
+      record {
+        on_version = on;
+        has_frames = c.len.ensures ∙ c.in_ok-proof.proof.bytes.ok.0 ∙ ap (λ (bytes : List ℕ). length bytes) told.0;
+        has_made =
+            made_so hash c.args.code.now base run c.args.call state call made h c.in-Some.outcome c.in-Some.is _ _ c.state_made-made.result c.on-over.ensures.nodes behind
+            (λ o is. c.state_made-made.ensures hash o is);
+        of_call = h.1;
+      },
+    )
+
+pub returns-clause-sound : goal.returns-clause-sound
+returns-clause-sound g c = subst (λ (ns : List Node). AreSound (ns ++ own_nodes c.off.result)) c.on-over.ensures.lent c.off.ensures.sound
+
+pub returns-clause-made : goal.returns-clause-made
+returns-clause-made g c =
+    let hash = g.H.Hash32.hash in
+    let P = program_of c.args.code.now in
+    let base = nodes_in c.args.base.now in
+    let h = c.requires.running in
+    let behind = c.off.ensures.nodes ∙ ap (λ (ns : List Node). ns ++ own_nodes c.off.result) c.on-over.ensures.lent in
+    made_within c.args.self.from base (own_nodes c.off.result) c.state_made-made.result h.3.0.within
+    (made_there hash P (take c.args.self.from base ++ own_nodes c.off.result) c.state_made-made.result (new_state P h.1 (outcome_of P h.0 h.1))
+    (made_so hash c.args.code.now base c.args.self c.args.call h.0 h.1 h.2 h.3 c.in-Some.outcome c.in-Some.is _ _ c.state_made-made.result c.on-over.ensures.nodes behind
+    (λ o is. c.state_made-made.ensures hash o is)))

@@ -1,0 +1,11 @@
+pub mod Rows
+pub mod Versions
+pub mod Refusals
+pub mod Sharing
+pub mod Settling
+pub mod Laws
+pub mod Granting
+pub mod Running
+pub mod RoleRuns
+pub mod Sessions
+pub mod Rounds

@@ -1,0 +1,29 @@
+-- Calls that run in turns, over a store that others put nodes behind.
+use Rattle.std.specs.Prelude.{ℕ, ◌≤◌, List, ◌++◌, length, take, Option, Some, None}
+use Rattle.core_terms.specs.Formats.{Hash}
+use Rattle.core_terms.specs.Values.{Values}
+use Rattle.core_terms.specs.declared.outcome.Outcome.{Outcome}
+use Rattle.code_gen.specs.declared.code.Code.{Code}
+use Rattle.prover_mode.specs.Turns.{HasRun, IsIdealOutcome, IsProving}
+use Rattle.prover_mode.specs.declared.turns.Proving.{Proving}
+use Rattle.value_store.specs.Nodes.{AreSound, Node}
+use Rattle.value_store.specs.Overs.{own_nodes}
+use Rattle.value_store.specs.declared.node.Ref.{Ref}
+use Rattle.session_turns.specs.declared.running.Running.{Running}
+
+-- the nodes of a call: the first ones of the store, with its own behind them
+abbrev pub nodes_of_call : {A : Type 0} → List Node → Running A → List Node
+nodes_of_call base run = take run.from base ++ own_nodes run.own
+
+module _ (hash : Hash) (code : Code) where
+  -- The call of function f on these values with fuel k stands behind so many calls of functions; or it has run, and the outcome is
+  -- the ideal one.
+  abbrev pub StandsAt : {A : Type 0} → List Node → Proving A → (f : ℕ) → Values → (k made : ℕ) → Option (Outcome Ref) → Type 0
+  StandsAt nodes proving f vs k made None = IsProving hash code nodes proving f vs k made
+  StandsAt nodes proving f vs k made (Some outcome) = HasRun hash code nodes proving f vs k × IsIdealOutcome hash code nodes f vs k outcome
+
+  -- So it is among its nodes.
+  pub record IsRunning {A : Type 0} (base : List Node) (run : Running A) (f : ℕ) (vs : Values) (k made : ℕ) : Type 0 where
+    pub within : run.from ≤ length base
+    pub sound : AreSound (nodes_of_call base run)
+    pub stands : StandsAt (nodes_of_call base run) run.proving f vs k made run.told

@@ -1,0 +1,23 @@
+-- What the sessions share in the code, and in the definitions.
+use Rattle.std.specs.Prelude.{◌≡◌}
+use Rattle.core_terms.specs.Formats.{Hash}
+use Rattle.core_terms.specs.Spelling.{spelling}
+use Rattle.core_terms.specs.Terms.{Program}
+use Rattle.session_meaning.specs.Calls.{RoleCall}
+use Rattle.session_meaning.specs.Server as meant
+use Rattle.value_store.specs.Stores.{nodes_in}
+use Rattle.session_turns.specs.Rows.{AreAlike}
+use Rattle.session_turns.specs.Versions.{AreVersions}
+use Rattle.session_turns.specs.declared.commit.Commit.{Commit}
+use Rattle.session_turns.specs.declared.shared.Shared.{Shared}
+
+-- The commit is this call: the number of its role, the spelling of its argument, and its fuel.
+pub record IsCommit (commit : Commit) (call : RoleCall) : Type 0 where
+  pub role : commit.role.0 ≡ call.role
+  pub argument : commit.argument ≡ spelling call.argument
+  pub fuel : commit.fuel ≡ call.fuel
+
+-- Among the prover's nodes in the store the versions stand for those of the definitions, and the commits are the same calls.
+pub record Shares (hash : Hash) (P : Program) (shared : Shared) (same : meant.Shared) : Type 0 where
+  pub versions : AreVersions hash P (nodes_in shared.store) shared.versions.items same.versions
+  pub commits : AreAlike IsCommit shared.commits.items same.commits

@@ -1,0 +1,127 @@
+// The end of a call that has run.
+ghost use Rattle.std.specs.Prelude.{◌≡◌, ℕ, true, ◌<◌, ◌≤◌, ◌+◌, ◌++◌, List, length, take, is_some, IfOk, IfSome};
+ghost use Rattle.core_terms.specs.Formats.{Hash};
+ghost use Rattle.core_terms.specs.Projection.{digest_at};
+ghost use Rattle.core_terms.specs.Terms.{function_at};
+ghost use Rattle.core_terms.specs.Types.{PairTy, Table, Ty};
+ghost use Rattle.core_terms.specs.Values.{PairV, Value};
+ghost use Rattle.ideal_meaning.specs.Frames.{frame_bytes};
+ghost use Rattle.ideal_meaning.specs.Following.{after_frames};
+ghost use Rattle.ideal_meaning.specs.Headline.{call_of};
+ghost use Rattle.ideal_meaning.specs.Ideal as ideal;
+ghost use Rattle.mode_vm.specs.IdealRuns.{IsOutcome};
+ghost use Rattle.mode_vm.specs.Meanings.{program_of};
+ghost use Rattle.reuse_buffer.specs.Kept.{kept};
+ghost use Rattle.session_meaning.specs.Calls as meant_calls;
+ghost use Rattle.session_meaning.specs.Calls.{RoleCall, frames_of, new_state, outcome_of, role_in};
+ghost use Rattle.session_meaning.specs.Server as meant;
+ghost use Rattle.value_store.specs.Nodes.{AreSound};
+ghost use Rattle.value_store.specs.Overs.{own_nodes};
+ghost use Rattle.value_store.specs.Standing.{Kind, ProverNodes, StandsFor};
+ghost use Rattle.value_store.specs.Stores.{nodes_in};
+ghost use Rattle.session_turns.specs.Settling.{IsMade};
+
+use crate::commit::Commit;
+use crate::running::Running;
+use crate::settling::RunEnd;
+use code_gen::Code;
+use core_terms::{Hash32, Outcome, RoleId, RoleKind};
+use reuse_buffer::Ring;
+use std::alloc::{AllocError, Global};
+use value_store::{Nodes, Over, Ref, Store, View};
+
+/// A call that has run, with its proof.
+#[derive(Drop)]
+pub struct Finished {
+    /// The bytes of the frames of its proof.
+    pub frames: Vec<u8>,
+    /// The ring behind them.
+    pub ring: Ring,
+    pub ended: RunEnd,
+}
+
+/// The node of the first component of a pair.
+fn first_component<N: Nodes>(store: &N, pair: Ref) -> Ref
+    requires { (kind : Kind) × (types : Table) × (a : Ty) × (b : Ty) × (v : Value) × StandsFor kind types (N.nodes store.now) pair.0 (PairTy a b) v }
+    ensures { (kind : Kind) (types : Table) (a b : Ty) (x y : Value) → StandsFor kind types (N.nodes store.now) pair.0 (PairTy a b) (PairV x y)
+        → StandsFor kind types (N.nodes store.now) result.0 a x }
+{
+    match store.view(pair) {
+        View::Pair(first, _) => first,
+        _ => unreachable!(),
+    }
+}
+
+/// The node of the state that a run of a role made; none where it made none.
+fn state_made<N: Nodes>(code: &Code, role: RoleId, store: &N, outcome: Outcome<Ref>) -> Option<Ref>
+    requires { let P = program_of code.now in (hash : Hash) × (o : ideal.Outcome)
+        × IsOutcome (ProverNodes (digest_at hash P)) P.types (N.nodes store.now) (function_at P (role_in P role.0).function).result outcome o }
+    ensures { let P = program_of code.now in (hash : Hash) (o : ideal.Outcome)
+        → IsOutcome (ProverNodes (digest_at hash P)) P.types (N.nodes store.now) (function_at P (role_in P role.0).function).result outcome o
+        → IsMade hash P (N.nodes store.now) result (meant_calls.state_made (role_in P role.0).kind o) }
+{
+    let Some(role) = code.program().roles().get(role.0) else {
+        return None;
+    };
+    match outcome {
+        Outcome::Done(value) => match role.kind {
+            RoleKind::Update => Some(first_component(store, value)),
+            RoleKind::Init | RoleKind::Query => None,
+        },
+        Outcome::Trapped(_) | Outcome::Out => None,
+    }
+}
+
+impl<H: Hash32> Running<H> {
+    ghost use Rattle.session_turns.specs.RoleRuns.{IsRunOf};
+    ghost use Rattle.session_turns.specs.Running.{IsRunning};
+    ghost use Rattle.session_turns.specs.Settling.{EndsSo};
+
+    /// The end of a call that has run in a session on this version, whose ring is lent for its proof. Where memory is wanting the ring is
+    /// dropped.
+    pub fn finish(
+        self,
+        alloc: Global,
+        code: &Code,
+        base: &Store,
+        ring: Ring,
+        version: usize,
+        call: Commit,
+    ) -> Result<Finished, AllocError>
+        requires has_run { is_some self.told ≡ true }
+        requires running { (state : Value) × (role_call : RoleCall) × (made : ℕ) × IsRunOf H.hash code.now (nodes_in base.now) self call state role_call made }
+        ensures ends { let P = program_of code.now in IfOk result (λ end. (s : meant.Session) (state : Value) (role_call : RoleCall) (made : ℕ)
+            → IsRunOf H.hash code.now (nodes_in base.now) self call state role_call made → version ≡ s.version → ring ≡ kept s.kept s.recent
+            → let frames = frames_of H.hash P s.kept s.recent state role_call in
+            (end.frames.items ≡ frame_bytes frames) × (end.ring ≡ kept s.kept (after_frames frames s.recent))
+            × EndsSo H.hash P (nodes_in base.now) end.ended s role_call frames (new_state P role_call (outcome_of P state role_call))) }
+        ensures version { IfOk result (λ end. end.ended.version ≡ version) }
+        ensures within { IfOk result (λ end. end.ended.from ≤ length (nodes_in base.now)) }
+        ensures sound { IfOk result (λ end. AreSound (take end.ended.from (nodes_in base.now) ++ own_nodes end.ended.own)) }
+        ensures made { IfOk result (λ end. IfSome end.ended.made (λ r. r.0 < end.ended.from + length (own_nodes end.ended.own))) }
+    {
+        let Running {
+            own,
+            from,
+            proving,
+            told,
+        } = self;
+        let Some(outcome) = told else { unreachable!() };
+        let over = Over::on(base, own, from);
+        let made = state_made(code, call.role, &over, outcome);
+        let (proof, ring) = proving.finish(alloc, code, &over, ring)?;
+        let ended = RunEnd {
+            version,
+            frames: proof.bytes.len(),
+            made,
+            own: over.off(),
+            from,
+            call,
+        };
+        Ok(Finished {
+            frames: proof.bytes,
+            ring,
+            ended,
+        })
+    }
+}
