@@ -1,8 +1,9 @@
 // Requests and replies as bytes on a link in memory.
-ghost use Rattle.std.specs.Prelude.{IsTrue};
+ghost use Rattle.std.specs.Prelude.{◌≡◌, IsTrue};
 ghost use Rattle.session_meaning.specs.Messages.{IsRequest};
 ghost use Rattle.wire_form.specs.MessageViews.{request_meant};
 
+use core_terms::Digest;
 use lam_outside::{MemLink, Plan};
 use std::alloc::{AllocError, Global};
 use wire_form::{Request, write_request};
@@ -15,23 +16,42 @@ pub fn link_with(alloc: Global, coming: Vec<u8>) -> MemLink {
     MemLink::new(alloc, coming, MOST, Plan::new(Vec::new(alloc)))
 }
 
-/// Whether a request is a message: no request of the tests is longer.
+/// Whether a request is a message: no request of the tests is longer. A field that is read is within the range of its type.
 fn is_message(request: &Request) -> bool
     ensures { IsTrue result → IsRequest (request_meant request.now) }
 {
     match request {
-        Request::Hello { session, state, .. } => *session > 0 && state.as_bytes().len() <= 65_536,
+        Request::Hello {
+            session,
+            program,
+            kept,
+            state,
+        } => {
+            let _kept = *kept;
+            *session > 0 && digest_bytes(program).len() == 32 && state.as_bytes().len() <= 65_536
+        }
         Request::Call {
             session,
+            role,
+            fuel,
             argument,
-            ..
-        } => *session > 0 && argument.as_bytes().len() <= 65_536,
+        } => {
+            let (_role, _fuel) = (*role, *fuel);
+            *session > 0 && argument.as_bytes().len() <= 65_536
+        }
         Request::Go { rounds } => {
             let _rounds = *rounds;
             true
         }
         Request::Bye { session } => *session > 0,
     }
+}
+
+/// The bytes of a digest.
+fn digest_bytes(digest: &Digest) -> &[u8]
+    ensures { result.now ≡ digest.now.0 }
+{
+    &digest.0
 }
 
 /// The bytes of a request.
