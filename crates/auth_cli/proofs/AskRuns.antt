@@ -11,15 +11,15 @@ use Rattle.command_words.specs.declared.command.Command.TheVariants.{Ask}
 use Rattle.lam_outside.specs.Told.{Contents, Names}
 use Rattle.script_play.proofs.Runs.{plays_tell_truth}
 use Rattle.session_meaning.proofs.ClientRun.{told_is_true}
-use Rattle.auth_cli.specs.Answer.{Answer, Asking, answer_with, unasked_answer, with_asking}
+use Rattle.file_commands.specs.Answer.{Answer, Asking, answer_with, unasked_answer, with_asking}
 use Rattle.auth_cli.specs.Asking.{EndsAsking, MeansAsking, TellsTrueOutcomes}
-use Rattle.auth_cli.specs.Ending.{Outside}
+use Rattle.file_commands.specs.Ending.{Outside}
 use Rattle.auth_cli.specs.OnlineRuns.{NetSeen}
 use Rattle.auth_cli.specs.PreparedClients.{asked_by}
-use Rattle.auth_cli.specs.Reaching.{IsReached}
+use Rattle.file_commands.specs.Reaching.{IsReached}
 use Rattle.auth_cli.specs.declared.asking.PreparedClient.{PreparedClient}
-use Rattle.auth_cli.specs.declared.status.Status.{Status}
-use Rattle.auth_cli.proofs.Words.{apart, reached_apart, text_at}
+use Rattle.file_commands.specs.declared.status.Status.{Status}
+use Rattle.file_commands.proofs.Words.{apart, reached_apart, text_at}
 
 -- what the words mean
 pub asking_apart : (words : List (Bor (List ℕ))) (files : Contents) (a : Asking) → length words ≡ 5

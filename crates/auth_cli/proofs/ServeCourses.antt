@@ -18,15 +18,15 @@ use Rattle.session_turns.specs.Versions.{IsVersion}
 use Rattle.session_turns.proofs.Rows.{alike_length}
 use Rattle.mode_vm.specs.Meanings.{program_of}
 use Rattle.value_store.specs.Stores.{nodes_in}
-use Rattle.auth_cli.specs.Answer.{Serving}
+use Rattle.file_commands.specs.Answer.{Serving}
 use Rattle.auth_cli.specs.NetFaults.{NetFaults}
-use Rattle.auth_cli.specs.ReadPrograms.{digested_of}
+use Rattle.file_commands.specs.ReadPrograms.{digested_of}
 use Rattle.auth_cli.specs.ServeSteps.{IsEndTold, TellsCourse}
 use Rattle.auth_cli.specs.OnlineRuns.{NetSeen}
 use Rattle.auth_cli.specs.Serving.{HasFaults, Served, WithoutMemory, count_lines, course_status, first_server, server_lines}
-use Rattle.auth_cli.specs.Telling.{TellsText}
-use Rattle.auth_cli.specs.declared.status.Status.{Status}
-use Rattle.auth_cli.specs.declared.status.Status.TheVariants as status
+use Rattle.file_commands.specs.Telling.{TellsText}
+use Rattle.file_commands.specs.declared.status.Status.{Status}
+use Rattle.file_commands.specs.declared.status.Status.TheVariants as status
 use Rattle.auth_cli.proofs.ServeGone.{IsLeft, lacking_left, left_gone, line_lacking, same_faults, served_left}
 use Rattle.auth_cli.proofs.ServeTexts.{course_told}
 

@@ -13,10 +13,10 @@ use Rattle.code_gen.specs.Programs.{program_in}
 use Rattle.serve_links.specs.ServedLinks.{AreCounted, AreMore, AreMoreInPart, AreMoreServed, AreServed, AreServedInPart, ServesLinks, StaysOn}
 use Rattle.serve_links.specs.declared.net.ServingEnd.{ServingEnd}
 use Rattle.serve_links.specs.declared.net.ServingEnd.TheVariants as end
-use Rattle.auth_cli.specs.Answer.{Serving}
-use Rattle.auth_cli.specs.FueledRoles.{DigestedProgram}
+use Rattle.file_commands.specs.Answer.{Serving}
+use Rattle.file_commands.specs.FueledRoles.{DigestedProgram}
 use Rattle.auth_cli.specs.NetFaults.{NetFaults}
-use Rattle.auth_cli.specs.ReadPrograms.{digested_of}
+use Rattle.file_commands.specs.ReadPrograms.{digested_of}
 use Rattle.auth_cli.specs.OnlineRuns.{NetSeen}
 use Rattle.auth_cli.specs.Serving.{AreMade, AreServedLacking, AreServedOn, Course, HasFaults, HasGone, HasMade, MakesLinks, NotListening, NotWritten, Served, WithoutMemory, first_server, listened_behind}
 

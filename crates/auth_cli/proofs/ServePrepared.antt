@@ -32,12 +32,12 @@ use Rattle.images.specs.declared.fault.SaveFault.{SaveFault}
 use Rattle.std.specs.declared.alloc.Global.{Global}
 use Rattle.value_store.specs.declared.store.Store.{Store}
 use Rattle.value_store.proofs.ProverNodes.{shown_ideal}
-use Rattle.auth_cli.specs.Answer.{Serving, state_image}
-use Rattle.auth_cli.specs.FueledRoles.{DigestedProgram}
+use Rattle.file_commands.specs.Answer.{Serving, state_image}
+use Rattle.file_commands.specs.FueledRoles.{DigestedProgram}
 use Rattle.auth_cli.specs.PreparedServers.{HoldsProgram}
 use Rattle.auth_cli.specs.ServeSteps.{IsServer}
 use Rattle.auth_cli.specs.Serving.{last_image, last_version}
-use Rattle.auth_cli.proofs.MarkedStates.{saved_by_types}
+use Rattle.file_commands.proofs.MarkedStates.{saved_by_types}
 
 -- the first server has a history, in which nothing was heard
 module _ {A : Type 0} (core : ServeCore A) (code : Code) (same : core.code ≡ code) (nodes : List Node) (sound : AreSound nodes) (root : Ref) (v : Value)

@@ -16,13 +16,13 @@ use Rattle.script_play.specs.declared.halt.Halt.TheVariants as halt
 use Rattle.serve_links.specs.ServedLinks.{bytes_on}
 use Rattle.session_meaning.specs.Client.{new_client}
 use Rattle.session_meaning.specs.Messages.{Messages, Reply, messages, reply_of}
-use Rattle.auth_cli.specs.Answer.{Answer, Asking, answer_with, with_asking}
-use Rattle.auth_cli.specs.Ending.{EndsAs, Outside}
+use Rattle.file_commands.specs.Answer.{Answer, Asking, answer_with, with_asking}
+use Rattle.file_commands.specs.Ending.{EndsAs, Outside}
 use Rattle.auth_cli.specs.NetFaults.{NetFaults}
 use Rattle.auth_cli.specs.OnlineRuns.{CountsBy, NetSeen}
-use Rattle.auth_cli.specs.Telling.{TellsText}
-use Rattle.auth_cli.specs.declared.status.Status.{Status}
-use Rattle.auth_cli.specs.declared.status.Status.TheVariants.{Done, Rejected, ReadFault, WriteFault, NoMemory}
+use Rattle.file_commands.specs.Telling.{TellsText}
+use Rattle.file_commands.specs.declared.status.Status.{Status}
+use Rattle.file_commands.specs.declared.status.Status.TheVariants.{Done, Rejected, ReadFault, WriteFault, NoMemory}
 
 -- PLAYS
 -- what playing the script does, where these replies come: a client without sessions is asked what the script's lines say

@@ -10,14 +10,14 @@ use Rattle.serve_core.specs.declared.server.ServeCore.{ServeCore}
 use Rattle.serve_links.specs.declared.net.ServingEnd.{ServingEnd}
 use Rattle.serve_links.specs.declared.net.ServingEnd.TheVariants as end
 use Rattle.session_meaning.specs.Server.{Server}
-use Rattle.auth_cli.specs.Answer.{Serving}
+use Rattle.file_commands.specs.Answer.{Serving}
 use Rattle.auth_cli.specs.OnlineRuns.{NetSeen}
 use Rattle.auth_cli.specs.Serving.{Course, IsListening, IsStoredBy, IsTooLong, LacksMemory, HasGone, NotListening, NotWritten, Served, Storage, WithoutMemory, course_lines, course_status, last_image, count_lines, storage_lines, storage_status}
 use Rattle.images.specs.declared.fault.SaveFault.{SaveFault}
 use Rattle.images.specs.declared.fault.SaveFault.TheVariants as save_fault
-use Rattle.auth_cli.specs.Telling.{TellsText}
-use Rattle.auth_cli.specs.declared.status.Status.{Status}
-use Rattle.auth_cli.specs.declared.status.Status.TheVariants.{NoMemory, WriteFault}
+use Rattle.file_commands.specs.Telling.{TellsText}
+use Rattle.file_commands.specs.declared.status.Status.{Status}
+use Rattle.file_commands.specs.declared.status.Status.TheVariants.{NoMemory, WriteFault}
 
 -- The core is this server, and has a version.
 pub record IsServer {A : Type 0} (core : ServeCore A) (server : Server) : Type 0 where

@@ -1,15 +1,14 @@
 // The image of the last version of a server, stored.
 ghost use Rattle.std.specs.Prelude.{◌≡◌};
-ghost use Rattle.auth_cli.specs.Answer.{Serving};
+ghost use Rattle.file_commands.specs.Answer.{Serving};
 ghost use Rattle.auth_cli.specs.PreparedServers.{HoldsProgram};
 ghost use Rattle.auth_cli.specs.ServeSteps.{IsServer, IsUnstoredTold, StoresLast};
 ghost use Rattle.auth_cli.specs.Serving.{last_image};
 ghost use Rattle.images.specs.Saves.{IsSaved};
 ghost use Rattle.session_meaning.specs.Server.{Server};
 
-use crate::report::tell;
-use crate::{Halt, Status};
 use digest_layer::Sha;
+use file_commands::{Halt, Status, tell};
 use images::{SaveFault, save_image};
 use lam_outside::{Failed, Files, Sink};
 use serve_core::ServeCore;

@@ -4,7 +4,8 @@
 mod host;
 mod net;
 
-use auth_cli::{Halt, run, tell};
+use auth_cli::run;
+use file_commands::{Halt, tell};
 use host::{HostFiles, HostSink};
 use net::HostNet;
 use std::env;

@@ -3,16 +3,16 @@ use Rattle.command_words.specs.Commands.{texts}
 use Rattle.command_words.specs.Invocations.{Invocation, invocation_of}
 use Rattle.command_words.specs.declared.command.Command.TheVariants.{Audit, Prove}
 use Rattle.command_words.proofs.Judging.{refused_exactly}
-use Rattle.auth_cli.specs.Answer.{answer}
-use Rattle.auth_cli.specs.AuditedCalls.{TellsAnAudit}
-use Rattle.auth_cli.specs.Ending.{IsOfFault}
-use Rattle.auth_cli.specs.TrueLines.{TellsOutcome}
+use Rattle.file_commands.specs.Answer.{answer}
+use Rattle.file_commands.specs.AuditedCalls.{TellsAnAudit}
+use Rattle.file_commands.specs.Ending.{IsOfFault}
+use Rattle.file_commands.specs.TrueLines.{TellsOutcome}
 use Rattle.auth_cli.proofs.AnsweredRuns.{audited_run, prove_tells, proved_run, split_tells}
 use Rattle.auth_cli.proofs.Answered.{answered, fault_line, memory_line, part_written, stored, stored_first}
 use Rattle.auth_cli.proofs.Called.{refused_code}
 use Rattle.auth_cli.proofs.NetRuns.{AreBelow, command_is_offline, reached_risen, run_asks, run_dials, run_fault, run_listens, run_offline, run_rose, run_serves, run_writes, true_run}
-use Rattle.auth_cli.proofs.Possible.{collision_alone, usage_alone}
-use Rattle.auth_cli.proofs.Reached.{read_fault_of_code}
+use Rattle.file_commands.proofs.Possible.{collision_alone, usage_alone}
+use Rattle.file_commands.proofs.Reached.{read_fault_of_code}
 use Rattle.auth_cli.proofs.top.run.Goals as goal
 
 pub returns-clause-ends : goal.returns-clause-ends
