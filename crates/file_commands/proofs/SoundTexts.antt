@@ -10,7 +10,7 @@ use Rattle.file_commands.specs.TextPrograms.{IsProgram, program_of_text, of_chec
 use Rattle.file_commands.proofs.TextFormats.{parsed_format}
 
 -- a tree that gives a program
-checked_is : (found : Checked) (P : Program) → of_checked found ≡ IsProgram P → found ≡ checking.IsProgram P
+pub checked_is : (found : Checked) (P : Program) → of_checked found ≡ IsProgram P → found ≡ checking.IsProgram P
 checked_is (checking.IsProgram Q) P e = ap checking.IsProgram (cc)
 checked_is (checking.FirstFault kind line column) P e = absurd (cc)
 

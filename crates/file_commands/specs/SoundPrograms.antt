@@ -3,7 +3,7 @@ use Rattle.std.specs.Prelude.{◌≡◌, ℕ, true, List}
 use Rattle.core_terms.specs.Terms.{Program}
 use Rattle.core_terms.specs.Typing.{is_typed, is_shaped}
 use Rattle.core_terms.specs.ProgramTrees.{program_format}
-use Rattle.file_commands.specs.TextPrograms.{TextProgram, IsProgram}
+use Rattle.file_commands.specs.TextPrograms.{TextProgram, IsProgram, program_of_text}
 use Rattle.file_commands.specs.declared.status.Status.{Status}
 use Rattle.file_commands.specs.declared.status.Status.TheVariants.{Done, Trap, OutOfFuel}
 
@@ -12,6 +12,10 @@ pub record IsSound (P : Program) : Type 0 where
   pub typed : is_typed P ≡ true
   pub shaped : is_shaped P ≡ true
   pub format : P.format ≡ program_format
+
+-- the program is that of a text
+abbrev pub IsOfText : Program → Type 0
+IsOfText P = (text : List ℕ) × (program_of_text text ≡ IsProgram P)
 
 -- by a reading of texts each program that a text gives is sound
 abbrev pub GivesSound : (List ℕ → TextProgram) → Type 0

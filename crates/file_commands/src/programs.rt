@@ -7,6 +7,7 @@ ghost use Rattle.file_commands.specs.Reaching.{FaultsAt};
 ghost use Rattle.file_commands.specs.Answer.{with_program_file};
 ghost use Rattle.file_commands.specs.Halting.{GoesOn, HaltCause};
 ghost use Rattle.file_commands.specs.ReadPrograms.{ReadsProgram, named_of};
+ghost use Rattle.file_commands.specs.SoundPrograms.{IsOfText};
 ghost use Rattle.file_commands.specs.TextPrograms.{constructor_names_of_text, program_of_text};
 
 use crate::Halt;
@@ -89,6 +90,7 @@ pub fn read_program_file<F: Files>(
     name: &str,
 ) -> Result<Program, Halt>
     ensures goes { ForSome (F.contents files.old) (λ told. GoesOn (with_program_file (told name.now)) named_of result) }
+    ensures text { IfOk result (λ program. IsOfText (meaning program)) }
     ensures asked { FaultsAt name.now (F.asked files.new) result }
     ensures cause { HaltCause (F.faults files.old) (F.faults files.new) result }
     ensures contents { F.contents files.new ≡ F.contents files.old }
