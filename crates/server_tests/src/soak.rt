@@ -11,6 +11,7 @@ use core_stage::programs::TREE;
 use core_stage::stage::{code_of, served, server};
 use std::alloc::{AllocError, Global};
 use std::test::Fail;
+use std::thread::Threads;
 
 /// What is fed to a server, what the model sends, and how many versions there are then.
 #[derive(Drop)]
@@ -46,9 +47,14 @@ fn taken(alloc: Global, requests: &Requests, model: &Model<'_>) -> Result<Course
 }
 
 /// How many versions there are behind a course, where the core sends what the model sends; else 0.
-fn versions_behind(alloc: Global, course: &Course, slice: u64) -> Result<usize, AllocError> {
+fn versions_behind<R: Threads + Sync>(
+    rt: &R,
+    alloc: Global,
+    course: &Course,
+    slice: u64,
+) -> Result<usize, AllocError> {
     let mut core = server(alloc, TREE, slice.max(1))?;
-    let told = served(alloc, &mut core, &course.fed, 4096)?;
+    let told = served(rt, alloc, &mut core, &course.fed, 4096)?;
     let versions = core.versions().len();
     let same = told.bytes == course.sent
         && !told.closing
@@ -71,6 +77,7 @@ fn is_the_model(alloc: Global, seed: u64, slice: u64) -> Result<bool, AllocError
 }
 
 #[test]
+<<<<<<< HEAD
 fn turns_of_one_call_are_as_in_the_model(rt: HostRuntime) -> Result<(), Fail> {
     assert!(rt; is_the_model(rt.alloc(), 1, 1)?);
     Ok(())
@@ -85,5 +92,16 @@ fn turns_of_seven_calls_are_as_in_the_model(rt: HostRuntime) -> Result<(), Fail>
 #[test]
 fn turns_of_a_million_calls_are_as_in_the_model(rt: HostRuntime) -> Result<(), Fail> {
     assert!(rt; is_the_model(rt.alloc(), 3, 1_000_000)?);
+=======
+fn the_core_sends_what_the_model_sends(rt: HostRuntime) -> Result<(), Fail> {
+    let code = code_of(rt.alloc(), TREE.text)?;
+    for (seed, slice) in [(1, 1), (2, 7), (3, 1_000_000)] {
+        let course = played(rt.alloc(), &code, seed, REQUESTS, slice)?;
+        let versions = versions_behind(&rt, rt.alloc(), &course, slice)?;
+        if versions < VERSIONS {
+            return Err(Fail::new(format_args!("{versions} versions, slice {slice}")));
+        }
+    }
+>>>>>>> cd7e400 (server_tests: two turns of a round meet)
     Ok(())
 }
