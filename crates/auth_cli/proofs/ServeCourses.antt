@@ -31,14 +31,14 @@ use Rattle.auth_cli.proofs.ServeGone.{IsLeft, lacking_left, left_gone, line_lack
 use Rattle.auth_cli.proofs.ServeTexts.{course_told}
 
 -- the lines of the core are those of the server that it is
-same_lines : {A : Type 0} (core : ServeCore A) (server : Server) → Serves sha256 core server → (fault : Bool)
+same_lines : {A G : Type 0} (core : ServeCore A G) (server : Server) → Serves sha256 core server → (fault : Bool)
     → count_lines (length core.shared.versions.items) (length core.shared.commits.items) fault ≡ server_lines server fault
 same_lines core server serves fault =
     ap₂ (λ versions commits. count_lines versions commits fault)
     (alike_length (IsVersion sha256 (program_of core.code) (nodes_in core.shared.store)) core.shared.versions.items server.shared.versions serves.shares.versions)
     (alike_length IsCommit core.shared.commits.items server.shared.commits serves.shares.commits)
 
-module _ {A : Type 0} (s : Serving) (net net' : NetSeen) (old core : ServeCore A) (ended : Status) (written between written' : Option (List ℕ)) (before mid now : ℕ)
+module _ {A G : Type 0} (s : Serving) (net net' : NetSeen) (old core : ServeCore A G) (ended : Status) (written between written' : Option (List ℕ)) (before mid now : ℕ)
     (some : 0 < length core.shared.versions.items) (listened : net'.listened ≡ Some s.port) (listens : net'.faults.listens ≡ net.faults.listens) (dials : net'.faults.dials ≡ net.faults.dials)
     (first : between ≡ append_known written (listening_line s.port)) (same : mid ≡ before) where
   abbrev Ends : Type 0

@@ -44,5 +44,5 @@ pub record IsPrepared (server : PreparedServer) (s : Serving) : Type 0 where
   pub served : HasServed sha256 server.core
 
 -- the core is one of the program that is served
-pub record HoldsProgram {A : Type 0} (s : Serving) (core : ServeCore A) : Type 0 where
+pub record HoldsProgram {A G : Type 0} (s : Serving) (core : ServeCore A G) : Type 0 where
   pub program : digested_of (program_in core.code) ≡ s.program

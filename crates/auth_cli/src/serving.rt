@@ -19,6 +19,7 @@ use lam_outside::Files;
 use printed_lines::lines::listening_line;
 use printed_lines::refusal::Argument;
 use serve_core::ServeCore;
+use session_turns::NoGate;
 use std::alloc::{AllocError, Global};
 
 /// The words of a serving.
@@ -52,7 +53,7 @@ struct Beginning {
 /// A server before its first connection.
 #[derive(Drop)]
 pub struct PreparedServer {
-    pub core: ServeCore<Sha>,
+    pub core: ServeCore<Sha, NoGate>,
     /// The port to which it will listen.
     pub port: u16,
     /// How many connections it will serve, one after another.
@@ -153,7 +154,7 @@ fn begin(alloc: Global, code: Code, beginning: Beginning) -> Result<PreparedServ
 {
     let Beginning { state, numbers } = beginning;
     let Loaded { store, root } = state;
-    let core = ServeCore::new(alloc, code, store, root, numbers.slice)?;
+    let core = ServeCore::new(alloc, code, store, root, numbers.slice, NoGate)?;
     let greeting = listening_line(alloc, numbers.port)?;
     Ok(PreparedServer {
         core,

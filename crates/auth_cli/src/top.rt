@@ -32,6 +32,7 @@ use file_commands::{
 };
 use lam_outside::{Files, Net, Sink};
 use std::alloc::Global;
+use std::thread::Threads;
 
 /// Runs the words of a command line, the program's name first, and answers the exit status.
 ///
@@ -106,8 +107,10 @@ use std::alloc::Global;
 /// the script, the proof; of `gen` the words, the name, the seed, the number of rounds, the number of pieces that are kept. A file is
 /// opened when all that stands before it is well-formed, so `read fault` comes only from a file that this order had reached. A file is
 /// stored before any line is written, but by `serve` and `ask`: they write their lines as they arise and store the last version, or the
-/// state told last, behind them, however they ended once they listened or dialled. They alone use the net, and wait for peers.
-pub fn run<F: Files, O: Sink, N: Net>(
+/// state told last, behind them, however they ended once they listened or dialled. They alone use the net, and wait for
+/// peers; `serve` alone starts threads, for the turns of a round.
+pub fn run<F: Files, O: Sink, N: Net, R: Threads + Sync>(
+    rt: &R,
     alloc: Global,
     words: &[&str],
     files: &mut F,
@@ -217,11 +220,12 @@ pub fn run<F: Files, O: Sink, N: Net>(
     ensures stored { IsOffline (invocation_of (texts words.now))
         → ForSome (F.contents files.old) (λ told. StoresSome (answer (texts words.now) told) (F.stores files.old) (F.stores files.new)) }
 {
-    ended(alloc, words, files, out, net).code()
+    ended(rt, alloc, words, files, out, net).code()
 }
 
 /// Judges the words, and carries out the command that they call.
-fn ended<F: Files, O: Sink, N: Net>(
+fn ended<F: Files, O: Sink, N: Net, R: Threads + Sync>(
+    rt: &R,
     alloc: Global,
     words: &[&str],
     files: &mut F,
@@ -237,14 +241,15 @@ fn ended<F: Files, O: Sink, N: Net>(
     ensures refused { invocation_of (texts words.now) ≡ None → IsOfRefused result }
 {
     match read(alloc, words) {
-        Ok(called) => carry_out(alloc, called.command, called.texts, files, out, net),
+        Ok(called) => carry_out(rt, alloc, called.command, called.texts, files, out, net),
         Err(WordsFault::Refused) => tell(alloc, out, Err(Halt::Usage)),
         Err(WordsFault::NoMemory) => tell(alloc, out, Err(Halt::NoMemory)),
     }
 }
 
 /// Carries out a command with as many texts as it has arguments.
-fn carry_out<F: Files, O: Sink, N: Net>(
+fn carry_out<F: Files, O: Sink, N: Net, R: Threads + Sync>(
+    rt: &R,
     alloc: Global,
     command: Command,
     words: &[&str],
@@ -261,8 +266,12 @@ fn carry_out<F: Files, O: Sink, N: Net>(
     ensures possible { MayAnswer command result }
 {
     match command {
+<<<<<<< HEAD
         Command::Serve => serve_command(alloc, words, files, out, net),
         Command::Ask => ask_command(alloc, words, files, out, net),
+=======
+        Command::Serve => serve_command(rt, alloc, words, files, out, net),
+>>>>>>> 6dc7e31 (auth_cli, lamauth: the top call is handed the leave to start threads)
         _ => carry_out_offline(alloc, command, words, files, out),
     }
 }
