@@ -266,12 +266,8 @@ fn carry_out<F: Files, O: Sink, N: Net, R: Threads + Sync>(
     ensures possible { MayAnswer command result }
 {
     match command {
-<<<<<<< HEAD
-        Command::Serve => serve_command(alloc, words, files, out, net),
-        Command::Ask => ask_command(alloc, words, files, out, net),
-=======
         Command::Serve => serve_command(rt, alloc, words, files, out, net),
->>>>>>> 6dc7e31 (auth_cli, lamauth: the top call is handed the leave to start threads)
+        Command::Ask => ask_command(alloc, words, files, out, net),
         _ => carry_out_offline(alloc, command, words, files, out),
     }
 }

@@ -200,16 +200,10 @@ pub enum Then {
 }
 
 /// Hears a message on a link, and sends the replies.
-<<<<<<< HEAD:crates/core_stage/src/stage.rt
-pub fn hear(
-    alloc: Global,
-    core: &mut ServeCore<Sha>,
-=======
-fn hear<G: Gate + Drop, R: Threads + Sync>(
+pub fn hear<G: Gate + Drop, R: Threads + Sync>(
     rt: &R,
     alloc: Global,
     core: &mut ServeCore<Sha, G>,
->>>>>>> cd7e400 (server_tests: two turns of a round meet):crates/server_tests/src/stage.rt
     link: &mut MemLink,
 ) -> Result<Then, AllocError>
     requires { (server : meant.Server) × Serves sha256 core.old server }

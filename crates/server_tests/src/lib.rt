@@ -6,15 +6,8 @@
 #[cfg(test)]
 mod limits;
 #[cfg(test)]
-<<<<<<< HEAD
-=======
 mod meeting;
 #[cfg(test)]
-mod notation;
-#[cfg(test)]
-mod programs;
-#[cfg(test)]
->>>>>>> cd7e400 (server_tests: two turns of a round meet)
 mod rows;
 #[cfg(test)]
 mod soak;

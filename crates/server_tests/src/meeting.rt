@@ -1,8 +1,8 @@
 // Turns of a round that run at once: two wait for one another at the gate.
 
-use crate::notation::bytes_of;
-use crate::programs::SPIN;
-use crate::stage::{served, server_from};
+use core_stage::notation::bytes_of;
+use core_stage::programs::SPIN;
+use core_stage::stage::{served, server_from};
 use core_terms::Hash32;
 use digest_layer::Sha;
 use session_turns::Gate;

@@ -70,38 +70,31 @@ const REQUESTS: u32 = 70_000;
 const VERSIONS: usize = 4_096;
 
 /// Whether the core sends what the model sends, for the requests of a seed, and there are as many versions as there may be.
-fn is_the_model(alloc: Global, seed: u64, slice: u64) -> Result<bool, AllocError> {
+fn is_the_model<R: Threads + Sync>(
+    rt: &R,
+    alloc: Global,
+    seed: u64,
+    slice: u64,
+) -> Result<bool, AllocError> {
     let code = code_of(alloc, TREE.text)?;
     let course = played(alloc, &code, seed, REQUESTS, slice)?;
-    Ok(versions_behind(alloc, &course, slice)? == VERSIONS)
+    Ok(versions_behind(rt, alloc, &course, slice)? == VERSIONS)
 }
 
 #[test]
-<<<<<<< HEAD
 fn turns_of_one_call_are_as_in_the_model(rt: HostRuntime) -> Result<(), Fail> {
-    assert!(rt; is_the_model(rt.alloc(), 1, 1)?);
+    assert!(rt; is_the_model(&rt, rt.alloc(), 1, 1)?);
     Ok(())
 }
 
 #[test]
 fn turns_of_seven_calls_are_as_in_the_model(rt: HostRuntime) -> Result<(), Fail> {
-    assert!(rt; is_the_model(rt.alloc(), 2, 7)?);
+    assert!(rt; is_the_model(&rt, rt.alloc(), 2, 7)?);
     Ok(())
 }
 
 #[test]
 fn turns_of_a_million_calls_are_as_in_the_model(rt: HostRuntime) -> Result<(), Fail> {
-    assert!(rt; is_the_model(rt.alloc(), 3, 1_000_000)?);
-=======
-fn the_core_sends_what_the_model_sends(rt: HostRuntime) -> Result<(), Fail> {
-    let code = code_of(rt.alloc(), TREE.text)?;
-    for (seed, slice) in [(1, 1), (2, 7), (3, 1_000_000)] {
-        let course = played(rt.alloc(), &code, seed, REQUESTS, slice)?;
-        let versions = versions_behind(&rt, rt.alloc(), &course, slice)?;
-        if versions < VERSIONS {
-            return Err(Fail::new(format_args!("{versions} versions, slice {slice}")));
-        }
-    }
->>>>>>> cd7e400 (server_tests: two turns of a round meet)
+    assert!(rt; is_the_model(&rt, rt.alloc(), 3, 1_000_000)?);
     Ok(())
 }

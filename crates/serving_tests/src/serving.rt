@@ -208,10 +208,7 @@ fn told<R: Threads + Sync>(rt: &R, alloc: Global, words: &str) -> Result<Run, Al
         failing: &[],
     };
     let (run, _) = run_on_net(
-<<<<<<< HEAD
-=======
         rt,
->>>>>>> 30b0fda (Tests of the top call: they hand on the leave to start threads)
         alloc,
         &staged(SWITCH, b"", b""),
         &words,
