@@ -1,5 +1,5 @@
 -- Lists that stand in a relation, one by one.
-use Rattle.std.proofs.Common.{◌≡◌, ℕ, zero, suc, ◌<◌, List, [], ◌∷◌, ◌++◌, length, drop, take, get_or, Result, Ok, Err, IfOk, OnErr, refl, ap, arith}
+use Rattle.std.proofs.Common.{◌≡◌, ℕ, zero, suc, ◌<◌, List, [], ◌∷◌, ◌++◌, length, drop, get_or, Result, Ok, Err, IfOk, OnErr, refl, ap, arith}
 use Rattle.session_turns.specs.Rows.{AreAlike}
 
 module _ {A B : Type 0} where

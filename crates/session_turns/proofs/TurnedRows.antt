@@ -1,5 +1,5 @@
 -- Rows of sessions as their turns are taken, each by itself.
-use Rattle.std.proofs.Common.{◌≡◌, ℕ, zero, suc, ◌*◌, ◌+◌, ◌<◌, List, [], ◌∷◌, ◌++◌, length, take, drop, Option, Some, None, Ok, IfOk, refl, sym, ap, ◌∙◌, subst, append-nil}
+use Rattle.std.proofs.Common.{◌≡◌, ℕ, ◌*◌, ◌<◌, List, [], ◌∷◌, ◌++◌, length, take, drop, Option, Some, None, refl, sym, ap, ◌∙◌, subst, append-nil}
 use Rattle.std.proofs.Math.Seq.{take-length}
 use Rattle.std.proofs.lemmas.List.{take-append-drop}
 use Rattle.core_terms.specs.Formats.{Hash}
@@ -21,7 +21,7 @@ use Rattle.session_turns.specs.Turning.{AllGoOn, AllTurned, CallRunsTo, GoesOn, 
 use Rattle.session_turns.specs.declared.session.Session.{Session}
 use Rattle.session_turns.specs.declared.session.SessionCall.{SessionCall}
 use Rattle.session_turns.specs.declared.shared.Shared.{Shared}
-use Rattle.session_turns.proofs.Rows.{alike_length, alike_more, if_ok}
+use Rattle.session_turns.proofs.Rows.{alike_more, if_ok}
 use Rattle.session_turns.proofs.Turns.{same_turn}
 
 module _ (hash : Hash) (code : Code) (base : List Node) {A : Type 0} where

@@ -1,11 +1,9 @@
 // Rounds of turns over sessions in a row.
-ghost use Rattle.std.specs.Prelude.{ℕ, ◌≡◌, ◌<◌, List, IfOk, OnErr};
-ghost use Rattle.std.specs.List.{list_any};
+ghost use Rattle.std.specs.Prelude.{ℕ, ◌<◌, List, IfOk, OnErr};
 ghost use Rattle.mode_vm.specs.Meanings.{program_of};
 ghost use Rattle.session_meaning.specs.Server as meant;
 ghost use Rattle.session_meaning.specs.Stopped.{RoundReaches, RoundsReach};
 ghost use Rattle.session_meaning.specs.Tables.{Numbered};
-ghost use Rattle.session_turns.specs.Rounds.{runs};
 
 use crate::gate::Gate;
 use crate::session::Session;
@@ -77,18 +75,11 @@ impl Shared {
     {
         let mut left = entries;
         for _ in 0..rounds {
-            if !any_runs(&left) {
+            if !turning::any_runs(&left) {
                 return Ok(left);
             }
             left = self.round::<H, G, R>(rt, alloc, code, left, units, gate, replies)?;
         }
         Ok(left)
     }
-}
-
-/// Whether a call of one of them runs.
-fn any_runs<H>(entries: &[Entry<Session<H>>]) -> bool
-    ensures { result ≡ list_any runs entries.now }
-{
-    entries.iter().any(|entry| entry.value.running.is_some())
 }

@@ -1,7 +1,9 @@
 // The turns of a round, at once.
-ghost use Rattle.std.specs.Prelude.{◌<◌};
+ghost use Rattle.std.specs.Prelude.{◌≡◌, ◌<◌};
+ghost use Rattle.std.specs.List.{list_any};
 ghost use Rattle.std.specs.Thread.{IsSync};
 ghost use Rattle.value_store.specs.Stores.{nodes_in};
+ghost use Rattle.session_turns.specs.Rounds.{runs};
 ghost use Rattle.session_turns.specs.Turning.{AllGoOn, AllTurned, GoesOn, IsTurnOf};
 
 use crate::gate::Gate;
@@ -30,7 +32,14 @@ pub fn round<H: Hash32, G: Gate, R: Threads + Sync>(
     take_turns(rt, code, base, &units, gate, entries);
 }
 
-/// The turns of a row of sessions, by halves.
+/// Whether a call of one of them runs.
+pub fn any_runs<H>(entries: &[Entry<Session<H>>]) -> bool
+    ensures { result ≡ list_any runs entries.now }
+{
+    entries.iter().any(|entry| entry.value.running.is_some())
+}
+
+/// The turns of a row of sessions, by halves: at once, where a call runs in both.
 fn take_turns<H: Hash32, G: Gate, R: Threads + Sync>(
     rt: &R,
     code: &Code,
@@ -48,21 +57,24 @@ fn take_turns<H: Hash32, G: Gate, R: Threads + Sync>(
         [entry] => take_turn(code, base, *units, gate, entry),
         _ => {
             let (front, back) = entries.split_at_mut(entries.len() / 2);
-            join_mut(
-                rt,
-                &mut ||
-                    requires go_on { AllGoOn H.hash code.now (nodes_in base.now) front.now }
-                    requires some { 0 < units.now }
-                    requires shared { IsSync R.row }
-                    ensures { AllTurned H.hash code.entry.now (nodes_in base.entry.now) units.entry.now front.entry.now front.exit.now }
-                { take_turns(rt, code, base, units, gate, front) },
-                &mut ||
-                    requires go_on { AllGoOn H.hash code.now (nodes_in base.now) back.now }
-                    requires some { 0 < units.now }
-                    requires shared { IsSync R.row }
-                    ensures { AllTurned H.hash code.entry.now (nodes_in base.entry.now) units.entry.now back.entry.now back.exit.now }
-                { take_turns(rt, code, base, units, gate, back) },
-            );
+            if any_runs(front) && any_runs(back) {
+                join_mut(
+                    rt,
+                    &mut ||
+                        requires go_on { AllGoOn H.hash code.now (nodes_in base.now) front.now }
+                        requires some { IsSync R.row × (0 < units.now) }
+                        ensures { AllTurned H.hash code.entry.now (nodes_in base.entry.now) units.entry.now front.entry.now front.exit.now }
+                    { take_turns(rt, code, base, units, gate, front) },
+                    &mut ||
+                        requires go_on { AllGoOn H.hash code.now (nodes_in base.now) back.now }
+                        requires some { IsSync R.row × (0 < units.now) }
+                        ensures { AllTurned H.hash code.entry.now (nodes_in base.entry.now) units.entry.now back.entry.now back.exit.now }
+                    { take_turns(rt, code, base, units, gate, back) },
+                );
+            } else {
+                take_turns(rt, code, base, units, gate, front);
+                take_turns(rt, code, base, units, gate, back);
+            }
         }
     }
 }

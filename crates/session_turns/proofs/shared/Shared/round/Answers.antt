@@ -1,5 +1,4 @@
-use Rattle.std.proofs.Common.{◌++◌, length, take, drop, sym, subst}
-use Rattle.mode_vm.specs.Meanings.{program_of}
+use Rattle.std.proofs.Common.{sym, subst}
 use Rattle.value_store.specs.Stores.{nodes_in}
 use Rattle.session_turns.specs.Ahead.{AreAhead}
 use Rattle.session_turns.specs.Turning.{AllGoOn, AllTurned, IsTurnOf}
