@@ -1,4 +1,7 @@
 // Turns of a round that run at once: two wait for one another at the gate.
+//
+// A `take_turns` that calls itself for one half after the other, in the place of `join_mut`, meets its contract. It fails here: the first
+// turn looks in vain.
 
 use core_stage::notation::bytes_of;
 use core_stage::programs::SPIN;
@@ -11,8 +14,8 @@ use std::sync::atomic::{AtomicBool, Ordering};
 use std::test::Fail;
 use std::thread::{self, Threads};
 
-/// How often a turn looks for the other one.
-const LOOKS: u32 = 100_000_000;
+/// How often a turn looks for the other one: for some seconds where it doesn't come.
+const LOOKS: u32 = 10_000_000;
 
 /// A turn: whether it came to the gate, and whether it saw the other one there.
 #[derive(Drop)]
