@@ -11,6 +11,7 @@ pub mod AskReading  -- `steps_in`, `read_script_file`
 pub mod AskLinks  -- `ask`: the link that was made, and the play on it
 pub mod AskCounted  -- `ask_command`: clauses `counts`, `possible`
 pub mod AskRuns  -- `ask_command`: clauses `ends`, `reached`
+pub mod AskTruths  -- `run`: clause `told_truth`
 pub mod ServeCounted  -- `serve_command`: clauses `counts`, `possible`
 pub mod Called  -- `ended`, `run`
 pub mod AnsweredCalls  -- `run`: what the steps of an answer went on with

@@ -8,8 +8,8 @@ ghost use Rattle.command_words.specs.Invocations.{Invocation, invocation_of};
 ghost use Rattle.command_words.specs.declared.command.Command.TheVariants.{Ask, Audit, Prove, Serve};
 ghost use Rattle.collision_audit.specs.Splits.{Split};
 ghost use Rattle.lam_outside.specs.Causes.{Rose};
-ghost use Rattle.file_commands.specs.Answer.{answer, answer_with};
-ghost use Rattle.auth_cli.specs.Asking.{IsAsk};
+ghost use Rattle.file_commands.specs.Answer.{Asking, answer, answer_with};
+ghost use Rattle.auth_cli.specs.Asking.{CallsAsk, IsAsk, TellsTrueOutcomes};
 ghost use Rattle.file_commands.specs.AuditedCalls.{CallsAudit, IsAudited, SplitsAt, TellsAnAudit};
 ghost use Rattle.file_commands.specs.Codes.{code};
 ghost use Rattle.file_commands.specs.Ending.{outside, EndsAs, IsOfFault, IsOfRefused, IsToldByCode, MayWrite, NoneRose, StoresSome, WritesPart, no_memory_text};
@@ -144,6 +144,11 @@ pub fn run<F: Files, O: Sink, N: Net, R: Threads + Sync>(
         let links = net_seen N.ended N.linked N.given N.left N.sent N.listened (net_faults N.faults N.listen_faults N.accept_faults N.dial_faults) in
         (called : Invocation) → invocation_of (texts words.now) ≡ Some called → called.command ≡ Ask
         → (status : Status) × (result ≡ code status) × IsAsk called.texts (seen files.old out.old) (seen files.new out.new) (links net.old) (links net.new) status }
+
+    // What `ask` tells is true, whoever serves and whatever replies come: on each state that a session's told updates leave, each outcome that it is told
+    // is the projection of the ideal one, up to the first proof that shows a collision at a named place.
+    ensures told_truth { (called : Invocation) → invocation_of (texts words.now) ≡ Some called → called.command ≡ Ask
+        → (asking : Asking) (name : List ℕ) → CallsAsk called.texts (F.contents files.old) asking name → TellsTrueOutcomes asking }
 
     // Where no count rose, status, lines and stored files are those of the defined answer, or memory was wanting.
     ensures answered { IsOffline (invocation_of (texts words.now)) → let seen = outside F.contents F.stores F.faults F.store_faults O.written O.faults in
