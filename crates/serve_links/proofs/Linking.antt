@@ -194,7 +194,7 @@ rose_at before now stop is cause = let Of : Halt → Type 0 = λ stop. HaltCause
 pub no_more : (hash : Hash) {A G : Type 0} (old now new : ServeCore A G) (server : Server) (port : ℕ) (links : Option (List Linked)) (after : List Linked) (faulted : Bool)
     (count connections accepts before accepts' : ℕ) → new ≡ now → count < connections → before ≡ accepts → Rose before accepts'
     → AreMoreServed hash old now server port links after faulted count → AreCounted hash old new server port links after connections true accepts accepts'
-no_more hash {A = A} old now new server port links after faulted count connections accepts before accepts' kept fewer same rose so_far =
+no_more hash {A = A} {G = G} old now new server port links after faulted count connections accepts before accepts' kept fewer same rose so_far =
     let OfCore : ServeCore A G → Type 0 = λ core. AreMoreServed hash old core server port links after faulted count in
     let From : ℕ → Type 0 = λ n. Rose n accepts' in
     record { faulted = faulted; count = count; served = subst OfCore (sym kept) so_far; number = inr (fewer, refl, subst From same rose) }
