@@ -13,7 +13,7 @@ use Rattle.file_commands.proofs.Words.{ends_apart, text_at}
 use Rattle.auth_cli.proofs.serve.serve_command.Goals as goal
 
 pub serve-requires : goal.serve-requires
-serve-requires g c = prepared_at c.in-Ok.server.value c.deref_mut.result.now c.deref_mut.ensures.value c.in-Ok.ensures.prepared
+serve-requires g c = (record { shared = c.type_bounds.sync-R.shared }, prepared_at c.in-Ok.server.value c.deref_mut.result.now c.deref_mut.ensures.value c.in-Ok.ensures.prepared)
 
 pub returns-in-Ok-clause-ends : goal.returns-in-Ok-clause-ends
 returns-in-Ok-clause-ends g c =
