@@ -5,12 +5,6 @@
 #[cfg(test)]
 mod limits;
 #[cfg(test)]
-mod notation;
-#[cfg(test)]
-mod programs;
-#[cfg(test)]
 mod rows;
 #[cfg(test)]
 mod soak;
-#[cfg(test)]
-mod stage;

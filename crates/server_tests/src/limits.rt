@@ -4,10 +4,10 @@ ghost use Rattle.session_meaning.specs.Server as meant;
 ghost use Rattle.sha2.specs.Sha256.{sha256};
 ghost use Rattle.serve_core.specs.Serving.{Serves};
 
-use crate::notation::bytes_of;
-use crate::programs::{BOOL, UNIT};
 use crate::rows::answers_all;
-use crate::stage::{served, server, server_from};
+use core_stage::notation::bytes_of;
+use core_stage::programs::{BOOL, UNIT};
+use core_stage::stage::{served, server, server_from};
 use core_terms::{Hash32, Piece};
 use digest_layer::Sha;
 use serve_core::{Heard, ServeCore};

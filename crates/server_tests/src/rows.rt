@@ -4,9 +4,9 @@ ghost use Rattle.session_meaning.specs.Server as meant;
 ghost use Rattle.sha2.specs.Sha256.{sha256};
 ghost use Rattle.serve_core.specs.Serving.{Serves};
 
-use crate::notation::bytes_of;
-use crate::programs::{BOOL, DEEP, PAIR, SPIN, UNIT};
-use crate::stage::{Stage, served, server};
+use core_stage::notation::bytes_of;
+use core_stage::programs::{BOOL, DEEP, PAIR, SPIN, UNIT};
+use core_stage::stage::{Stage, served, server};
 use core_terms::Digest;
 use digest_layer::Sha;
 use serve_core::ServeCore;

@@ -4,11 +4,11 @@ mod model;
 mod requests;
 mod trees;
 
-use crate::programs::TREE;
 use crate::soak::model::Model;
 use crate::soak::requests::Requests;
-use crate::stage::{code_of, served, server};
 use code_gen::Code;
+use core_stage::programs::TREE;
+use core_stage::stage::{code_of, served, server};
 use std::alloc::{AllocError, Global};
 use std::test::Fail;
 
@@ -58,20 +58,32 @@ fn versions_behind(alloc: Global, course: &Course, slice: u64) -> Result<usize, 
 }
 
 /// How many requests there are.
-const REQUESTS: u32 = 2_000;
+const REQUESTS: u32 = 70_000;
 
-/// How many versions there are at least behind them.
-const VERSIONS: usize = 70;
+/// How many versions there are behind them: as many as there may be.
+const VERSIONS: usize = 4_096;
+
+/// Whether the core sends what the model sends, for the requests of a seed, and there are as many versions as there may be.
+fn is_the_model(alloc: Global, seed: u64, slice: u64) -> Result<bool, AllocError> {
+    let code = code_of(alloc, TREE.text)?;
+    let course = played(alloc, &code, seed, REQUESTS, slice)?;
+    Ok(versions_behind(alloc, &course, slice)? == VERSIONS)
+}
 
 #[test]
-fn the_core_sends_what_the_model_sends(rt: HostRuntime) -> Result<(), Fail> {
-    let code = code_of(rt.alloc(), TREE.text)?;
-    for (seed, slice) in [(1, 1), (2, 7), (3, 1_000_000)] {
-        let course = played(rt.alloc(), &code, seed, REQUESTS, slice)?;
-        let versions = versions_behind(rt.alloc(), &course, slice)?;
-        if versions < VERSIONS {
-            return Err(Fail::new(format_args!("{versions} versions, slice {slice}")));
-        }
-    }
+fn turns_of_one_call_are_as_in_the_model(rt: HostRuntime) -> Result<(), Fail> {
+    assert!(rt; is_the_model(rt.alloc(), 1, 1)?);
+    Ok(())
+}
+
+#[test]
+fn turns_of_seven_calls_are_as_in_the_model(rt: HostRuntime) -> Result<(), Fail> {
+    assert!(rt; is_the_model(rt.alloc(), 2, 7)?);
+    Ok(())
+}
+
+#[test]
+fn turns_of_a_million_calls_are_as_in_the_model(rt: HostRuntime) -> Result<(), Fail> {
+    assert!(rt; is_the_model(rt.alloc(), 3, 1_000_000)?);
     Ok(())
 }

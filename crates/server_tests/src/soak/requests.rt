@@ -52,7 +52,7 @@ impl Requests {
         match self.below(20) {
             0..=6 => self.hello(model),
             7 => self.bye(model),
-            8..=14 => self.call(model),
+            8..=13 => self.call(model),
             _ => self.go(model),
         }
     }
@@ -69,13 +69,13 @@ impl Requests {
         model.session(place).unwrap_or(some)
     }
 
-    /// The number of a session that calls: half of the time of one that stands at the last version, so that it may commit.
+    /// The number of a session that calls: mostly of one that stands at the last version, so that it may commit.
     fn caller(&mut self, model: &Model<'_>) -> u16 {
         let some = self.session(model, 20);
-        if self.chance(2) {
-            return model.session_at_last().unwrap_or(some);
+        if self.chance(8) {
+            return some;
         }
-        some
+        model.session_at_last().unwrap_or(some)
     }
 
     /// Puts the length of a body, the kind and the session.

@@ -4,7 +4,7 @@ use Rattle.core_terms.specs.Values.{Value}
 use Rattle.session_turns.specs.Versions.{IsVersion}
 use Rattle.sha2.specs.Sha256.{sha256}
 use Rattle.value_store.specs.Stores.{nodes_in}
-use Rattle.server_tests.proofs.stage.server_from.Goals as goal
+use Rattle.core_stage.proofs.stage.server_from.Goals as goal
 
 pub server_at-requires-clause-version : goal.server_at-requires-clause-version
 server_at-requires-clause-version c =

@@ -1,4 +1,4 @@
-use Rattle.server_tests.proofs.stage.first_version.Goals as goal
+use Rattle.core_stage.proofs.stage.first_version.Goals as goal
 
 pub returns-in-Ok : goal.returns-in-Ok
 returns-in-Ok c =

@@ -182,7 +182,7 @@ fn send_all(alloc: Global, link: &mut MemLink, replies: &[Reply]) -> Result<(), 
 
 /// What became of a connection behind a message.
 #[derive(Clone, Copy)]
-enum Then {
+pub enum Then {
     /// It goes on.
     Goes,
     /// It ended.
@@ -192,7 +192,11 @@ enum Then {
 }
 
 /// Hears a message on a link, and sends the replies.
-fn hear(alloc: Global, core: &mut ServeCore<Sha>, link: &mut MemLink) -> Result<Then, AllocError>
+pub fn hear(
+    alloc: Global,
+    core: &mut ServeCore<Sha>,
+    link: &mut MemLink,
+) -> Result<Then, AllocError>
     requires { (server : meant.Server) × Serves sha256 core.old server }
     ensures { IfOk result (λ _. (server : meant.Server) × Serves sha256 core.new server) }
 {

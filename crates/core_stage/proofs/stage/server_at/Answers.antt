@@ -2,7 +2,7 @@ use Rattle.std.proofs.Common.{sym, subst}
 use Rattle.sha2.specs.Sha256.{sha256}
 use Rattle.session_meaning.specs.Server.{new_server}
 use Rattle.serve_core.specs.Serving.{Serves}
-use Rattle.server_tests.proofs.stage.server_at.Goals as goal
+use Rattle.core_stage.proofs.stage.server_at.Goals as goal
 
 pub returns : goal.returns
 returns c =
