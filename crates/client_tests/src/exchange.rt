@@ -19,10 +19,10 @@ use std::alloc::{AllocError, Global};
 use std::test::Fail;
 
 /// How many requests there are in a case.
-const STEPS: u32 = 200;
+const STEPS: u32 = 625;
 
 /// How many outcomes are told in a case at least.
-const OUTCOMES: usize = 20;
+const OUTCOMES: usize = 60;
 
 /// How many calls there are in a turn of the server.
 const SLICE: u64 = 20;
