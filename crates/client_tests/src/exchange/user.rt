@@ -231,10 +231,12 @@ impl User {
     fn take(&mut self, reply: Reply) -> Result<(), Trouble> {
         let session = session_of(&reply);
         let called = self.client.called(session);
-        match self.client.take_reply(reply) {
+        let told = self.client.take_reply(reply);
+        match &told {
             Ok(Told::Outcome(outcome)) => {
                 let updates = called.is_some_and(|role| matches!(role.kind, RoleKind::Update));
-                self.count(session, updates && matches!(outcome, Outcome::Done(_)));
+                let done = matches!(outcome, Outcome::Done(_));
+                self.count(session, updates && done);
             }
             Ok(_) => {}
             Err(AskFault::NoMemory) => return Err(Trouble::NoMemory),
