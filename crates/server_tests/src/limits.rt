@@ -134,7 +134,7 @@ fn fill(alloc: Global, core: &mut ServeCore<Sha>) -> Result<bool, AllocError>
 
 /// What is fed and sent on connections to a server with 4,096 versions, the last of which is false: an update is refused, behind all
 /// other causes, and a query is answered.
-const FULL: [(&[u8], &[u8]); 6] = [
+static FULL: [(&[u8], &[u8]); 6] = [
     (
         b"[01 0001 P 0000 F] [02 0001 0002 0000000000000001] [02 0001 0001 0000000000000001] G",
         b"[81 0001] [84 0001 09] [82 0001 00 00000001 00 00 00000001 00]",

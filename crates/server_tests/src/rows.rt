@@ -338,7 +338,7 @@ const TWO_PUTS: &[u8] =
     b"[01 0001 P 0000 T] [01 0002 P 0000 T] [02 0001 0001 0000000000000064 0000000000000003 01] [02 0002 0001 0000000000000064 0000000000000000 00]";
 
 /// The greatest number of calls in a turn, the rounds, and what is sent behind the welcomes.
-const PUTS: [(u64, &[u8], &[u8], usize); 17] = [
+static PUTS: [(u64, &[u8], &[u8], usize); 17] = [
     (1, b"G", b"", 1),
     (1, b"GG", b"[82 0002]", 2),
     (1, b"GGGG", b"[82 0002]", 2),
