@@ -1,46 +1,223 @@
-import sys,subprocess,os,re,time,json
-sys.path.insert(0,'/tmp/mut'); from list import M
-base='/work/mutate/crates/core_terms'
-out='/tmp/mut/results.jsonl'
-done=set()
-if os.path.exists(out):
-    for l in open(out): done.add(json.loads(l)['name'])
-# rows are read with the laws
-ans=f'{base}/proofs/laws/formats/Answers.antt'
-rows='''use Rattle.core_terms.specs.ValueRows.{greatest_int}
-use Rattle.core_terms.specs.ReadingRows.{bool_is_missing}
-use Rattle.core_terms.specs.TypingRows.{unit_has_its_type}
-use Rattle.core_terms.specs.RoleRows.{role_by_name}
-use Rattle.core_terms.specs.LimitRows.{a_hundred_expressions}
-use Rattle.core_terms.specs.FormatRows.{first_limit}
-use Rattle.core_terms.proofs.LimitRows.{limits_of_a_program}
-'''
-t=open(ans).read()
-if 'ValueRows' not in t: open(ans,'w').write(rows+t)
-lim=f'{base}/proofs/LimitRows.antt'
-t=open(lim).read()
-if '\npub limits_of_a_program' not in t: open(lim,'w').write(t.replace('\nlimits_of_a_program :','\npub limits_of_a_program :'))
-def run(words):
-    t0=time.time()
-    p=subprocess.run(['slot','rt','check',*words],cwd=base,stdout=subprocess.PIPE,stderr=subprocess.STDOUT,text=True)
-    return p.returncode,p.stdout,time.time()-t0
-names=[m[0] for m in M]; assert len(set(names))==len(names),[n for n in names if names.count(n)>1]
-only=['--only','core_terms::laws']
-if '--base' in sys.argv:
-    rc,o,s=run(only); print(rc,round(s)); print(o[-1500:]); sys.exit()
-for name,f,old,new in M:
-    if name in done: continue
-    if os.path.exists('/work/notes/STOP') or os.path.exists('/tmp/mut/STOP'): break
-    p=f'{base}/specs/{f}.antt'; text=open(p).read()
-    assert text.count(old)==1,name
-    try:
-        open(p,'w').write(text.replace(old,new))
-        rc,o,s=run(only)
-        r={'name':name,'file':f,'old':old,'new':new,'rc':rc,'s':round(s),'out':o[-4000:],'stage':'laws and rows'}
-        if rc==0:
-            rc2,o2,s2=run([])
-            r.update(rc2=rc2,out2=o2[-4000:],s2=round(s2))
-    finally:
-        open(p,'w').write(text)
-    open(out,'a').write(json.dumps(r)+'\n')
-    print(name,r['rc'],r.get('rc2'),r['s'],r.get('s2'),flush=True)
+#!/usr/bin/env python3
+"""Changes the definitions of a crate, one clause at a time, and tells what refuses each change.
+
+    tools/changed_definitions/run.py core_terms results.jsonl
+
+The changes stand in `of_CRATE.py`. Each is made in a clone of the repository as it is committed. A change is tried in turn over the crate's
+examples, which are the files of `specs/` and `proofs/` whose statements hold by computing; over its laws; and over the whole crate. The first
+of them that isn't proved refuses it. A function that the clone alone has stands for the examples: its proof reads their files.
+
+Each result is a line of a file, and a run goes on with what has no line there. So several runs may share the work: `--part 1/2` and
+`--part 2/2`, with one file of results. `--table` runs nothing, and prints what the file tells:
+
+- refused: a statement of the examples, a law, or a proof isn't proved, and is named.
+- let through: all is proved. Then either the change means the same, or a row is missing.
+- no change: what was changed can't be read, so nothing is known of it.
+"""
+import argparse
+import collections
+import contextlib
+import importlib
+import json
+import os
+import re
+import shlex
+import subprocess
+import sys
+import tempfile
+import time
+
+HERE = os.path.dirname(os.path.abspath(__file__))
+PLACE = re.compile(r"^(?:\./)?((?:specs|proofs|src)/\S+?):(\d+):\d+: (?!note|warning)(.*)", re.M)
+NAMED_PLACE = re.compile(r"\(in `([^`]+)`\)|in `([^`]+)`")
+ROW = re.compile(r"^(?:pub )?([\w-]+) :", re.M)
+
+Change = collections.namedtuple("Change", "name file texts")
+Checked = collections.namedtuple("Checked", "is_proved output seconds")
+
+
+def changes_of(crate):
+    """The changes of a crate, in their order."""
+    listed = importlib.import_module(f"of_{crate}").CHANGES
+    changes = [Change(name, file, list(zip(texts[::2], texts[1::2]))) for file, rows in listed.items() for name, *texts in rows]
+    twice = [name for name, count in collections.Counter(change.name for change in changes).items() if count > 1]
+    if twice:
+        sys.exit(f"two changes have one name: {', '.join(twice)}")
+    return changes
+
+
+class Clone:
+    """A clone of the repository in which a crate's definitions are changed and checked."""
+
+    def __init__(self, crate, folder, through):
+        self.crate, self.through = crate, through
+        self.root = os.path.join(folder, "clone")
+        self.folder = os.path.join(self.root, "crates", crate)
+        if os.path.exists(self.root):
+            self.git("checkout", "-q", ".")
+            self.git("pull", "-q")
+        else:
+            subprocess.run(["git", "clone", "-q", HERE.rsplit("/", 2)[0], self.root], check=True)
+        self.add_reader()
+
+    def git(self, *words):
+        subprocess.run(["git", *words], cwd=self.root, check=True)
+
+    def path(self, *names):
+        return os.path.join(self.folder, *names)
+
+    def read(self, *names):
+        with open(self.path(*names), encoding="utf-8") as file:
+            return file.read()
+
+    def write(self, text, *names):
+        os.makedirs(os.path.dirname(self.path(*names)), exist_ok=True)
+        with open(self.path(*names), "w", encoding="utf-8") as file:
+            file.write(text)
+
+    def examples(self):
+        """The files of statements that hold by computing, each with the name of one of these."""
+        for folder in ("specs", "proofs"):
+            for name in sorted(os.listdir(self.path(folder))):
+                text = self.read(folder, name) if name.endswith(".antt") else ""
+                rows = [row for row in ROW.findall(text) if f"pub {row} :" in text or folder == "proofs"]
+                if rows and (folder == "specs" or name.endswith("Rows.antt")):
+                    yield folder, name.removesuffix(".antt"), rows[0]
+
+    def add_reader(self):
+        """Adds the function whose proof reads the examples."""
+        uses = []
+        for folder, module, row in self.examples():
+            text = self.read(folder, f"{module}.antt")
+            if f"\npub {row} :" not in text:
+                self.write(text.replace(f"\n{row} :", f"\npub {row} :", 1), folder, f"{module}.antt")
+            uses.append(f"use Rattle.{self.crate}.{folder}.{module}.{{{row}}}\n")
+        goals = f"use Rattle.{self.crate}.proofs.examples.are_read.Goals as goal\n"
+        self.write("".join(uses) + f"use Rattle.std.specs.Prelude.{{refl}}\n{goals}\npub returns : goal.returns\nreturns c = refl\n", "proofs/examples/are_read/Answers.antt")
+        self.write("ghost use Rattle.std.specs.Prelude.{◌≡◌};\n\npub fn are_read()\n    ensures { 0 ≡ 0 }\n{}\n", "src/examples.rt")
+        lib = self.read("src/lib.rt")
+        if "pub mod examples;" not in lib:
+            self.write(lib.replace("pub mod ", "pub mod examples;\npub mod ", 1), "src/lib.rt")
+
+    @contextlib.contextmanager
+    def changed(self, change):
+        """The clone, in which the change is made."""
+        names = "specs", f"{change.file}.antt"
+        before = text = self.read(*names)
+        for old, new in change.texts:
+            if text.count(old) != 1:
+                sys.exit(f"{change.name}: {text.count(old)} times in {change.file}: {old}")
+            text = text.replace(old, new)
+        self.write(text, *names)
+        try:
+            yield
+        finally:
+            self.write(before, *names)
+
+    def check(self, words):
+        began = time.monotonic()
+        command = [*self.through, "rt", "check", "--jobs", "1", *words]
+        ran = subprocess.run(command, cwd=self.folder, stdout=subprocess.PIPE, stderr=subprocess.STDOUT, text=True, check=False)
+        return Checked(ran.returncode == 0, ran.stdout, time.monotonic() - began)
+
+    def refusers(self, output):
+        """The statements at which a check found a fault, as FILE.NAME."""
+        found = []
+        for file, line, message in PLACE.findall(output):
+            named = NAMED_PLACE.search(message)
+            name = (named.group(1) or named.group(2)) if named else self.name_at(file, int(line))
+            place = f"{os.path.splitext(file)[0]}.{name}".replace("/", ".")
+            if place not in found:
+                found.append(place)
+        return found
+
+    def name_at(self, file, line):
+        """The name of what is declared at a line or, if nothing is, before it."""
+        with contextlib.suppress(OSError):
+            for text in reversed(self.read(file).split("\n")[:line]):
+                declared = re.match(r"\s*(?:abbrev )?(?:pub )?(?:fn )?([\w-]+)(?: :|\()", text)
+                if declared:
+                    return declared.group(1)
+        return "?"
+
+
+def stages_of(crate):
+    return {"examples": ["--only", f"{crate}::examples"], "laws": ["--only", f"{crate}::laws"], "crate": []}
+
+
+def tried(clone, change, stages):
+    """What comes of a change: the stage that refuses it, with what isn't proved there."""
+    told = {"name": change.name, "file": change.file, "seconds": {}}
+    with clone.changed(change):
+        for stage, words in stages.items():
+            checked = clone.check(words)
+            told["seconds"][stage] = round(checked.seconds, 1)
+            if not checked.is_proved:
+                refusers = clone.refusers(checked.output)
+                own = [place for place in refusers if place.startswith(f"specs.{change.file}.")]
+                return {**told, "stage": "no change" if own else stage, "by": refusers, "output": checked.output[-3000:]}
+    return {**told, "stage": "let through", "by": [], "output": ""}
+
+
+def results_in(path):
+    """The results so far, by the names of their changes."""
+    if not os.path.exists(path):
+        return {}
+    with open(path, encoding="utf-8") as file:
+        return {told["name"]: told for told in map(json.loads, file)}
+
+
+def row_of(told):
+    """A result as a line of a table."""
+    definition, _, what = told["name"].partition(": ")
+    by = ", ".join(f"`{place}`" for place in told["by"][:3]) + (f" and {len(told['by']) - 3} more" if len(told["by"]) > 3 else "")
+    return f"| `{told['file']}` | `{definition}` | {what} | {told['stage']} | {by} |"
+
+
+def print_table(changes, results):
+    known = [results[change.name] for change in changes if change.name in results]
+    print("| file | definition | change | refused by | which |", "|---|---|---|---|---|", *map(row_of, known), sep="\n")
+    counts = collections.Counter(told["stage"] for told in known)
+    print(f"\n{len(known)} of {len(changes)} changes: {', '.join(f'{stage} {count}' for stage, count in counts.items())}")
+
+
+def part_of(words):
+    number, _, count = words.partition("/")
+    return int(number), int(count)
+
+
+def main():
+    parser = argparse.ArgumentParser(description=__doc__.split("\n", maxsplit=1)[0])
+    parser.add_argument("crate", help="the crate whose definitions are changed")
+    parser.add_argument("results", help="the file of results, a line for each change")
+    parser.add_argument("--table", action="store_true", help="run nothing, and print the results")
+    parser.add_argument("--part", type=part_of, default=(1, 1), metavar="I/N", help="every N-th change, from the I-th on")
+    parser.add_argument("--only", default="", metavar="WORD", help="the changes in whose names the word stands")
+    parser.add_argument("--stages", default="examples,laws,crate", help="what they are tried over, of examples, laws and crate")
+    parser.add_argument("--folder", help="where the clone stays for a later run; else it is temporary")
+    parser.add_argument("--through", type=shlex.split, default=[], metavar="COMMAND", help="the command that each check is run by")
+    options = parser.parse_args()
+    changes = changes_of(options.crate)
+    if options.table:
+        return print_table(changes, results_in(options.results))
+    number, count = options.part
+    stages = {stage: words for stage, words in stages_of(options.crate).items() if stage in options.stages.split(",")}
+    with tempfile.TemporaryDirectory() as temporary:
+        clone = Clone(options.crate, options.folder or temporary, options.through)
+        for stage, words in stages.items():
+            checked = clone.check(words)
+            print(f"unchanged: {stage} {'proved' if checked.is_proved else 'NOT PROVED'} in {checked.seconds:.0f} s", flush=True)
+            if not checked.is_proved:
+                sys.exit(checked.output)
+        for change in changes[number - 1 :: count]:
+            if options.only not in change.name or change.name in results_in(options.results):
+                continue
+            told = tried(clone, change, stages)
+            with open(options.results, "a", encoding="utf-8") as file:
+                file.write(json.dumps(told, ensure_ascii=False) + "\n")
+            print(row_of(told), told["seconds"], flush=True)
+    return None
+
+
+if __name__ == "__main__":
+    sys.exit(main())
