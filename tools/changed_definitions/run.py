@@ -7,8 +7,8 @@ The changes stand in `of_CRATE.py`. Each is made in a clone of the repository as
 examples, which are the files of `specs/` and `proofs/` whose statements hold by computing; over its laws; and over the whole crate. The first
 of them that isn't proved refuses it. A function that the clone alone has stands for the examples: its proof reads their files.
 
-Each result is a line of a file, and a run goes on with what has no line there. So several runs may share the work: `--part 1/2` and
-`--part 2/2`, with one file of results. `--table` runs nothing, and prints what the file tells:
+Each result is a line of a file, and a run goes on with what the file doesn't tell. So a first run may be over the examples alone, and several
+runs may share the work: `--part 1/2` and `--part 2/2`, with one file of results. `--table` runs nothing, and prints what the file tells:
 
 - refused: a statement of the examples, a law, or a proof isn't proved, and is named.
 - let through: all is proved. Then either the change means the same, or a row is missing.
@@ -30,6 +30,7 @@ import time
 HERE = os.path.dirname(os.path.abspath(__file__))
 PLACE = re.compile(r"^(?:\./)?((?:specs|proofs|src)/\S+?):(\d+):\d+: (?!note|warning)(.*)", re.M)
 NAMED_PLACE = re.compile(r"\(in `([^`]+)`\)|in `([^`]+)`")
+LET_THROUGH = "let through"
 ROW = re.compile(r"^(?:pub )?([\w-]+) :", re.M)
 
 Change = collections.namedtuple("Change", "name file texts")
@@ -145,33 +146,43 @@ def stages_of(crate):
     return {"examples": ["--only", f"{crate}::examples"], "laws": ["--only", f"{crate}::laws"], "crate": []}
 
 
-def tried(clone, change, stages):
-    """What comes of a change: the stage that refuses it, with what isn't proved there."""
-    told = {"name": change.name, "file": change.file, "seconds": {}}
+def tried(clone, change, stages, passed):
+    """What comes of a change that has passed these stages: the one that refuses it, with what isn't proved there."""
+    told = {"name": change.name, "file": change.file, "passed": list(passed), "seconds": {}}
     with clone.changed(change):
         for stage, words in stages.items():
+            if stage in passed:
+                continue
             checked = clone.check(words)
             told["seconds"][stage] = round(checked.seconds, 1)
             if not checked.is_proved:
                 refusers = clone.refusers(checked.output)
                 own = [place for place in refusers if place.startswith(f"specs.{change.file}.")]
                 return {**told, "stage": "no change" if own else stage, "by": refusers, "output": checked.output[-3000:]}
-    return {**told, "stage": "let through", "by": [], "output": ""}
+            told["passed"].append(stage)
+    return {**told, "stage": LET_THROUGH, "by": [], "output": ""}
 
 
 def results_in(path):
-    """The results so far, by the names of their changes."""
+    """The results so far, by the names of their changes: of each the last one."""
     if not os.path.exists(path):
         return {}
     with open(path, encoding="utf-8") as file:
         return {told["name"]: told for told in map(json.loads, file)}
 
 
+def passed_in(results, change, stages):
+    """The stages that a change has passed; none where nothing is left to try."""
+    told = results.get(change.name, {"stage": LET_THROUGH, "passed": []})
+    return told["passed"] if told["stage"] == LET_THROUGH and set(stages) - set(told["passed"]) else None
+
+
 def row_of(told):
     """A result as a line of a table."""
     definition, _, what = told["name"].partition(": ")
     by = ", ".join(f"`{place}`" for place in told["by"][:3]) + (f" and {len(told['by']) - 3} more" if len(told["by"]) > 3 else "")
-    return f"| `{told['file']}` | `{definition}` | {what} | {told['stage']} | {by} |"
+    stage = f"{LET_THROUGH} by {', '.join(told['passed'])}" if told["stage"] == LET_THROUGH else told["stage"]
+    return f"| `{told['file']}` | `{definition}` | {what} | {stage} | {by} |"
 
 
 def print_table(changes, results):
@@ -210,9 +221,10 @@ def main():
             if not checked.is_proved:
                 sys.exit(checked.output)
         for change in changes[number - 1 :: count]:
-            if options.only not in change.name or change.name in results_in(options.results):
+            passed = passed_in(results_in(options.results), change, stages)
+            if options.only not in change.name or passed is None:
                 continue
-            told = tried(clone, change, stages)
+            told = tried(clone, change, stages, passed)
             with open(options.results, "a", encoding="utf-8") as file:
                 file.write(json.dumps(told, ensure_ascii=False) + "\n")
             print(row_of(told), told["seconds"], flush=True)
