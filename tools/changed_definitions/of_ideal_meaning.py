@@ -138,6 +138,7 @@ CHANGES = {
         ("new_frame: a length of 3 bytes", "let len = from_be_bytes w32 (take 4 rest) in", "let len = from_be_bytes w32 (take 3 rest) in"),
         ("new_frame: of the limit too long", "(if nat_lt limit len then NoMore (LongBy len)", "(if nat_le limit len then NoMore (LongBy len)"),
         ("new_frame: of any length", "(if nat_lt limit len then NoMore (LongBy len)", "(if nat_lt (limit + len) len then NoMore (LongBy len)"),
+        ("new_frame: a length of 3 bytes is whole", "if nat_lt (length rest) 4 then NoMore IsCut", "if nat_lt (length rest) 3 then NoMore IsCut"),
         (
             "new_frame: cut before it is too long",
             "    else (if nat_lt limit len then NoMore (LongBy len)\n    else (if nat_lt (length rest) (4 + len) then NoMore IsCut\n",
