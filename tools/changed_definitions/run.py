@@ -95,7 +95,7 @@ class Clone:
             uses.append(f"use Rattle.{self.crate}.{folder}.{module}.{{{row}}}\n")
         goals = f"use Rattle.{self.crate}.proofs.examples.are_read.Goals as goal\n"
         self.write("".join(uses) + f"use Rattle.std.specs.Prelude.{{refl}}\n{goals}\npub returns : goal.returns\nreturns c = refl\n", "proofs/examples/are_read/Answers.antt")
-        self.write("ghost use Rattle.std.specs.Prelude.{◌≡◌};\n\npub fn are_read()\n    ensures { 0 ≡ 0 }\n{}\n", "src/examples.rt")
+        self.write("ghost use Rattle.std.specs.Prelude.{◌≡◌, true};\n\npub fn are_read()\n    ensures { true ≡ true }\n{}\n", "src/examples.rt")
         lib = self.read("src/lib.rt")
         if "pub mod examples;" not in lib:
             self.write(lib.replace("pub mod ", "pub mod examples;\npub mod ", 1), "src/lib.rt")
