@@ -37,6 +37,10 @@ Change = collections.namedtuple("Change", "name file texts")
 Checked = collections.namedtuple("Checked", "is_proved output seconds")
 
 
+def copy_name(number, module):
+    return f"Copy{number}{module}"
+
+
 def changes_of(crate):
     """The changes of a crate, in their order."""
     listed = importlib.import_module(f"of_{crate}").CHANGES
@@ -59,6 +63,7 @@ class Clone:
             self.git("pull", "-q")
         else:
             subprocess.run(["git", "clone", "-q", HERE.rsplit("/", 2)[0], self.root], check=True)
+        self.rows, self.used = list(self.examples()), {}
         self.add_reader()
 
     def git(self, *words):
@@ -88,11 +93,11 @@ class Clone:
     def add_reader(self):
         """Adds the function whose proof reads the examples."""
         uses = []
-        for folder, module, row in self.examples():
+        for folder, module, row in self.rows:
             text = self.read(folder, f"{module}.antt")
             if f"\npub {row} :" not in text:
                 self.write(text.replace(f"\n{row} :", f"\npub {row} :", 1), folder, f"{module}.antt")
-            uses.append(f"use Rattle.{self.crate}.{folder}.{module}.{{{row}}}\n")
+            uses.append(self.use_of(folder, module, row))
         goals = f"use Rattle.{self.crate}.proofs.examples.are_read.Goals as goal\n"
         self.write("".join(uses) + f"use Rattle.std.specs.Prelude.{{refl}}\n{goals}\npub returns : goal.returns\nreturns c = refl\n", "proofs/examples/are_read/Answers.antt")
         self.write("ghost use Rattle.std.specs.Prelude.{◌≡◌, true};\n\npub fn are_read()\n    ensures { true ≡ true }\n{}\n", "src/examples.rt")
@@ -100,16 +105,74 @@ class Clone:
         if "pub mod examples;" not in lib:
             self.write(lib.replace("pub mod ", "pub mod examples;\npub mod ", 1), "src/lib.rt")
 
+    def add_modules(self, modules):
+        """Adds modules, by their folders and names, and gives what puts the folders' lists back."""
+        lists = {folder: self.read(folder, "Lib.antt") for folder in ("specs", "proofs")}
+        for (folder, module), text in modules.items():
+            self.write(text, folder, f"{module}.antt")
+        for folder, text in lists.items():
+            added = "".join(f"pub mod {module}\n" for where, module in modules if where == folder)
+            self.write(text.rstrip("\n") + "\n" + added, folder, "Lib.antt")
+        return lists
+
     @contextlib.contextmanager
-    def changed(self, change):
-        """The clone, in which the change is made."""
-        names = "specs", f"{change.file}.antt"
-        before = text = self.read(*names)
+    def copied(self, changes):
+        """The clone, in which each change is made in a copy of its own of the modules that read it, where the examples read these too."""
+        names = ("proofs/examples/are_read", "Answers.antt")
+        reader, modules, uses = self.read(*names), {}, ""
+        for number, change in enumerate(changes):
+            copies = self.readers_of(("specs", change.file))
+            for folder, module in copies:
+                text = self.made(change) if (folder, module) == ("specs", change.file) else self.read(folder, f"{module}.antt")
+                modules[folder, copy_name(number, module)] = self.renamed(text, number, copies)
+            uses += "".join(use for folder, module, row in self.rows if (folder, module) in copies for use in [self.use_of(folder, copy_name(number, module), row)])
+        lists = self.add_modules(modules)
+        self.write(uses + reader, *names)
+        try:
+            yield
+        finally:
+            self.write(reader, *names)
+            for folder, text in lists.items():
+                self.write(text, folder, "Lib.antt")
+            for folder, module in modules:
+                os.remove(self.path(folder, f"{module}.antt"))
+
+    def renamed(self, text, number, copies):
+        """A module's text, where what was copied with it goes by the names of the copies."""
+        uses = re.compile(rf"\bRattle\.{self.crate}\.(specs|proofs)\.(\w+)")
+        return uses.sub(lambda found: f"Rattle.{self.crate}.{found[1]}.{copy_name(number, found[2]) if found.groups() in copies else found[2]}", text)
+
+    def uses_of(self, module):
+        """The modules of the crate that one reads, itself and through others."""
+        if module not in self.used:
+            text = self.read(module[0], f"{module[1]}.antt") if os.path.exists(self.path(module[0], f"{module[1]}.antt")) else ""
+            direct = set(re.findall(rf"\bRattle\.{self.crate}\.(specs|proofs)\.(\w+)", text))
+            self.used[module] = {module}.union(*(self.uses_of(other) for other in direct))
+        return self.used[module]
+
+    def readers_of(self, changed):
+        """The modules that read one, of those that the examples read."""
+        read = set().union(*(self.uses_of((folder, module)) for folder, module, _ in self.rows))
+        return {module for module in read if changed in self.uses_of(module)}
+
+    def use_of(self, folder, module, row):
+        return f"use Rattle.{self.crate}.{folder}.{module}.{{{row}}}\n"
+
+    def made(self, change):
+        """The text of a change's file, where it is made."""
+        text = self.read("specs", f"{change.file}.antt")
         for old, new in change.texts:
             if text.count(old) != 1:
                 sys.exit(f"{change.name}: {text.count(old)} times in {change.file}: {old}")
             text = text.replace(old, new)
-        self.write(text, *names)
+        return text
+
+    @contextlib.contextmanager
+    def changed(self, change):
+        """The clone, in which the change is made."""
+        names = "specs", f"{change.file}.antt"
+        before = self.read(*names)
+        self.write(self.made(change), *names)
         try:
             yield
         finally:
@@ -163,6 +226,21 @@ def tried(clone, change, stages, passed):
     return {**told, "stage": LET_THROUGH, "by": [], "output": ""}
 
 
+def tried_in_copies(clone, changes):
+    """What comes of changes that are tried over the examples, all in one check."""
+    with clone.copied(changes):
+        checked = clone.check(["--only", f"{clone.crate}::examples"])
+        refusers = clone.refusers(checked.output)
+    each = round(checked.seconds / len(changes), 1)
+    for number, change in enumerate(changes):
+        start = re.compile(rf"(specs|proofs)\.{copy_name(number, '')}(?=[A-Z])")
+        by = [start.sub(r"\1.", place) for place in refusers if start.match(place)]
+        own = any(place.startswith(f"specs.{change.file}.") for place in by)
+        stage = ("no change" if own else "examples") if by else LET_THROUGH
+        passed = [] if by else ["examples"]
+        yield {"name": change.name, "file": change.file, "passed": passed, "seconds": {"examples": each}, "stage": stage, "by": by, "output": checked.output[-3000:] if own else ""}
+
+
 def results_in(path):
     """The results so far, by the names of their changes: of each the last one."""
     if not os.path.exists(path):
@@ -192,6 +270,14 @@ def print_table(changes, results):
     print(f"\n{len(known)} of {len(changes)} changes: {', '.join(f'{stage} {count}' for stage, count in counts.items())}")
 
 
+def note(path, results):
+    """Adds results to a file, and tells them."""
+    for told in results:
+        with open(path, "a", encoding="utf-8") as file:
+            file.write(json.dumps(told, ensure_ascii=False) + "\n")
+        print(row_of(told), told["seconds"], flush=True)
+
+
 def part_of(words):
     number, _, count = words.partition("/")
     return int(number), int(count)
@@ -205,6 +291,7 @@ def main():
     parser.add_argument("--part", type=part_of, default=(1, 1), metavar="I/N", help="every N-th change, from the I-th on")
     parser.add_argument("--only", default="", metavar="WORD", help="the changes in whose names the word stands")
     parser.add_argument("--stages", default="examples,laws,crate", help="what they are tried over, of examples, laws and crate")
+    parser.add_argument("--copies", type=int, default=12, metavar="N", help="how many changes are tried over the examples in one check")
     parser.add_argument("--folder", help="where the clone stays for a later run; else it is temporary")
     parser.add_argument("--through", type=shlex.split, default=[], metavar="COMMAND", help="the command that each check is run by")
     options = parser.parse_args()
@@ -220,14 +307,15 @@ def main():
             print(f"unchanged: {stage} {'proved' if checked.is_proved else 'NOT PROVED'} in {checked.seconds:.0f} s", flush=True)
             if not checked.is_proved:
                 sys.exit(checked.output)
-        for change in changes[number - 1 :: count]:
+        mine = [change for change in changes[number - 1 :: count] if options.only in change.name]
+        if "examples" in stages:
+            left = [change for change in mine if passed_in(results_in(options.results), change, ["examples"]) is not None]
+            for first in range(0, len(left), options.copies):
+                note(options.results, tried_in_copies(clone, left[first : first + options.copies]))
+        for change in mine:
             passed = passed_in(results_in(options.results), change, stages)
-            if options.only not in change.name or passed is None:
-                continue
-            told = tried(clone, change, stages, passed)
-            with open(options.results, "a", encoding="utf-8") as file:
-                file.write(json.dumps(told, ensure_ascii=False) + "\n")
-            print(row_of(told), told["seconds"], flush=True)
+            if passed is not None:
+                note(options.results, [tried(clone, change, stages, passed)])
     return None
 
 
