@@ -54,8 +54,8 @@ def changes_of(crate):
 class Clone:
     """A clone of the repository in which a crate's definitions are changed and checked."""
 
-    def __init__(self, crate, folder, through):
-        self.crate, self.through = crate, through
+    def __init__(self, crate, folder, through, without=()):
+        self.crate, self.through, self.without = crate, through, without
         self.root = os.path.join(folder, "clone")
         self.folder = os.path.join(self.root, "crates", crate)
         if os.path.exists(self.root):
@@ -87,7 +87,8 @@ class Clone:
             for name in sorted(os.listdir(self.path(folder))):
                 text = self.read(folder, name) if name.endswith(".antt") else ""
                 rows = [row for row in ROW.findall(text) if f"pub {row} :" in text or folder == "proofs"]
-                if rows and (folder == "specs" or name.endswith("Rows.antt")):
+                is_read = name.removesuffix(".antt") not in self.without
+                if rows and is_read and (folder == "specs" or name.endswith("Rows.antt")):
                     yield folder, name.removesuffix(".antt"), rows[0]
 
     def add_reader(self):
@@ -138,7 +139,9 @@ class Clone:
                 os.remove(self.path(folder, f"{module}.antt"))
 
     def renamed(self, text, number, copies):
-        """A module's text, where what was copied with it goes by the names of the copies."""
+        """A module's text without the rows that are left out, where what was copied with it goes by the names of the copies."""
+        for row in self.without:
+            text = re.sub(rf"(?ms)^pub {row} :.*?(?:\n\n|\Z)", "", text)
         uses = re.compile(rf"\bRattle\.{self.crate}\.(specs|proofs)\.(\w+)")
         return uses.sub(lambda found: f"Rattle.{self.crate}.{found[1]}.{copy_name(number, found[2]) if found.groups() in copies else found[2]}", text)
 
@@ -292,6 +295,7 @@ def main():
     parser.add_argument("--only", default="", metavar="WORD", help="the changes in whose names the word stands")
     parser.add_argument("--stages", default="examples,laws,crate", help="what they are tried over, of examples, laws and crate")
     parser.add_argument("--copies", type=int, default=12, metavar="N", help="how many changes are tried over the examples in one check")
+    parser.add_argument("--without", type=lambda words: words.split(","), default=[], metavar="NAMES", help="files and rows that are left out of the copies")
     parser.add_argument("--folder", help="where the clone stays for a later run; else it is temporary")
     parser.add_argument("--through", type=shlex.split, default=[], metavar="COMMAND", help="the command that each check is run by")
     options = parser.parse_args()
@@ -301,7 +305,7 @@ def main():
     number, count = options.part
     stages = {stage: words for stage, words in stages_of(options.crate).items() if stage in options.stages.split(",")}
     with tempfile.TemporaryDirectory() as temporary:
-        clone = Clone(options.crate, options.folder or temporary, options.through)
+        clone = Clone(options.crate, options.folder or temporary, options.through, options.without)
         for stage, words in stages.items():
             checked = clone.check(words)
             print(f"unchanged: {stage} {'proved' if checked.is_proved else 'NOT PROVED'} in {checked.seconds:.0f} s", flush=True)
