@@ -185,6 +185,8 @@ class Clone:
         began = time.monotonic()
         command = [*self.through, "rt", "check", "--jobs", "1", *words]
         ran = subprocess.run(command, cwd=self.folder, stdout=subprocess.PIPE, stderr=subprocess.STDOUT, text=True, check=False)
+        if ran.returncode and not self.refusers(ran.stdout):
+            sys.exit(f"a check told nothing:\n{ran.stdout}")
         return Checked(ran.returncode == 0, ran.stdout, time.monotonic() - began)
 
     def refusers(self, output):
