@@ -4,8 +4,11 @@
     tools/changed_definitions/run.py core_terms results.jsonl
 
 The changes stand in `of_CRATE.py`. Each is made in a clone of the repository as it is committed. A change is tried in turn over the crate's
-examples, which are the files of `specs/` and `proofs/` whose statements hold by computing; over its laws; and over the whole crate. The first
-of them that isn't proved refuses it. A function that the clone alone has stands for the examples: its proof reads their files.
+examples, which are the files of `specs/` and `proofs/` whose statements hold by computing; over the lemmas that the proofs of its laws cite;
+and over the whole crate. The first of them that isn't proved refuses it.
+
+Examples and laws are read by the proof of a function that the clone alone has. Many changes are tried there in one check, each in copies of
+the modules that read what is changed.
 
 Each result is a line of a file, and a run goes on with what the file doesn't tell. So a first run may be over the examples alone, and several
 runs may share the work: `--part 1/2` and `--part 2/2`, with one file of results. `--table` runs nothing, and prints what the file tells:
@@ -63,7 +66,7 @@ class Clone:
             self.git("pull", "-q")
         else:
             subprocess.run(["git", "clone", "-q", HERE.rsplit("/", 2)[0], self.root], check=True)
-        self.rows, self.used = list(self.examples()), {}
+        self.statements, self.used = {"examples": list(self.examples()), "laws": list(self.laws())}, {}
         self.add_reader()
 
     def git(self, *words):
@@ -91,10 +94,16 @@ class Clone:
                 if rows and is_read and (folder == "specs" or name.endswith("Rows.antt")):
                     yield folder, name.removesuffix(".antt"), rows[0]
 
+    def laws(self):
+        """The files of the lemmas that the laws' proofs cite, each with the name of one of these."""
+        for law in sorted(os.listdir(self.path("proofs/laws"))):
+            text = self.read("proofs/laws", law, "Answers.antt")
+            yield from (("proofs", module, lemma) for module, lemma in re.findall(rf"use Rattle\.{self.crate}\.proofs\.(\w+)\.{{([^,}}]+)", text))
+
     def add_reader(self):
         """Adds the function whose proof reads the examples."""
         uses = []
-        for folder, module, row in self.rows:
+        for folder, module, row in self.statements["examples"]:
             text = self.read(folder, f"{module}.antt")
             if f"\npub {row} :" not in text:
                 self.write(text.replace(f"\n{row} :", f"\npub {row} :", 1), folder, f"{module}.antt")
@@ -117,20 +126,22 @@ class Clone:
         return lists
 
     @contextlib.contextmanager
-    def copied(self, changes):
-        """The clone, in which each change is made in a copy of its own of the modules that read it, where the examples read these too."""
+    def copied(self, changes, stage):
+        """The clone, in which each change is made in a copy of its own of the modules that read it, of those that are read in a stage; and
+        the changes that are read there."""
         names = ("proofs/examples/are_read", "Answers.antt")
-        reader, modules, uses = self.read(*names), {}, ""
+        reader, modules, uses, read = self.read(*names), {}, "", []
         for number, change in enumerate(changes):
-            copies = self.readers_of(("specs", change.file))
+            copies = self.readers_of(("specs", change.file), stage)
+            read += [change] if copies else []
             for folder, module in copies:
                 text = self.made(change) if (folder, module) == ("specs", change.file) else self.read(folder, f"{module}.antt")
                 modules[folder, copy_name(number, module)] = self.renamed(text, number, copies)
-            uses += "".join(use for folder, module, row in self.rows if (folder, module) in copies for use in [self.use_of(folder, copy_name(number, module), row)])
+            uses += "".join(self.use_of(folder, copy_name(number, module), name) for folder, module, name in self.statements[stage] if (folder, module) in copies)
         lists = self.add_modules(modules)
         self.write(uses + reader, *names)
         try:
-            yield
+            yield read
         finally:
             self.write(reader, *names)
             for folder, text in lists.items():
@@ -153,9 +164,9 @@ class Clone:
             self.used[module] = {module}.union(*(self.uses_of(other) for other in direct))
         return self.used[module]
 
-    def readers_of(self, changed):
-        """The modules that read one, of those that the examples read."""
-        read = set().union(*(self.uses_of((folder, module)) for folder, module, _ in self.rows))
+    def readers_of(self, changed, stage):
+        """The modules that read one, of those that are read in a stage."""
+        read = set().union(*(self.uses_of((folder, module)) for folder, module, _ in self.statements[stage]))
         return {module for module in read if changed in self.uses_of(module)}
 
     def use_of(self, folder, module, row):
@@ -210,40 +221,39 @@ class Clone:
         return "?"
 
 
-def stages_of(crate):
-    return {"examples": ["--only", f"{crate}::examples"], "laws": ["--only", f"{crate}::laws"], "crate": []}
-
-
-def tried(clone, change, stages, passed):
-    """What comes of a change that has passed these stages: the one that refuses it, with what isn't proved there."""
-    told = {"name": change.name, "file": change.file, "passed": list(passed), "seconds": {}}
-    with clone.changed(change):
-        for stage, words in stages.items():
-            if stage in passed:
-                continue
-            checked = clone.check(words)
-            told["seconds"][stage] = round(checked.seconds, 1)
-            if not checked.is_proved:
-                refusers = clone.refusers(checked.output)
-                own = [place for place in refusers if place.startswith(f"specs.{change.file}.")]
-                return {**told, "stage": "no change" if own else stage, "by": refusers, "output": checked.output[-3000:]}
-            told["passed"].append(stage)
-    return {**told, "stage": LET_THROUGH, "by": [], "output": ""}
-
-
-def tried_in_copies(clone, changes):
-    """What comes of changes that are tried over the examples, all in one check."""
-    with clone.copied(changes):
-        checked = clone.check(["--only", f"{clone.crate}::examples"])
-        refusers = clone.refusers(checked.output)
-    each = round(checked.seconds / len(changes), 1)
+def tried_in_copies(clone, changes, stage, results):
+    """What comes of changes that are tried over the examples or the laws, all in one check."""
+    refusers, each = [], 0
+    with clone.copied(changes, stage) as read:
+        if read:
+            checked = clone.check(["--only", f"{clone.crate}::examples"])
+            refusers, each = clone.refusers(checked.output), round(checked.seconds / len(read), 1)
     for number, change in enumerate(changes):
         start = re.compile(rf"(specs|proofs)\.{copy_name(number, '')}(?=[A-Z])")
         by = [start.sub(r"\1.", place) for place in refusers if start.match(place)]
-        own = any(place.startswith(f"specs.{change.file}.") for place in by)
-        stage = ("no change" if own else "examples") if by else LET_THROUGH
-        passed = [] if by else ["examples"]
-        yield {"name": change.name, "file": change.file, "passed": passed, "seconds": {"examples": each}, "stage": stage, "by": by, "output": checked.output[-3000:] if own else ""}
+        yield result_of(change, stage, by, each, results)
+
+
+def tried_over_crate(clone, change, results):
+    """What comes of a change that is tried over the whole crate."""
+    with clone.changed(change):
+        checked = clone.check([])
+        by = clone.refusers(checked.output) if not checked.is_proved else []
+    return result_of(change, "crate", by, round(checked.seconds, 1), results)
+
+
+def result_of(change, stage, by, seconds, results):
+    """A result as it is kept: the stage that refuses the change, by what isn't proved there; or those that it has passed."""
+    told = results.get(change.name, {"passed": [], "seconds": {}})
+    is_no_change = any(place.startswith(f"specs.{change.file}.") for place in by)
+    return {
+        "name": change.name,
+        "file": change.file,
+        "stage": "no change" if is_no_change else stage if by else LET_THROUGH,
+        "by": by,
+        "passed": told["passed"] + ([] if by else [stage]),
+        "seconds": {**told["seconds"], stage: seconds},
+    }
 
 
 def results_in(path):
@@ -254,10 +264,10 @@ def results_in(path):
         return {told["name"]: told for told in map(json.loads, file)}
 
 
-def passed_in(results, change, stages):
-    """The stages that a change has passed; none where nothing is left to try."""
+def is_left(results, change, stage):
+    """Whether a change is still to be tried in a stage."""
     told = results.get(change.name, {"stage": LET_THROUGH, "passed": []})
-    return told["passed"] if told["stage"] == LET_THROUGH and set(stages) - set(told["passed"]) else None
+    return told["stage"] == LET_THROUGH and stage not in told["passed"]
 
 
 def row_of(told):
@@ -305,23 +315,17 @@ def main():
     if options.table:
         return print_table(changes, results_in(options.results))
     number, count = options.part
-    stages = {stage: words for stage, words in stages_of(options.crate).items() if stage in options.stages.split(",")}
+    stages = options.stages.split(",")
     with tempfile.TemporaryDirectory() as temporary:
         clone = Clone(options.crate, options.folder or temporary, options.through, options.without)
-        for stage, words in stages.items():
-            checked = clone.check(words)
-            print(f"unchanged: {stage} {'proved' if checked.is_proved else 'NOT PROVED'} in {checked.seconds:.0f} s", flush=True)
-            if not checked.is_proved:
-                sys.exit(checked.output)
-        mine = [change for change in changes[number - 1 :: count] if options.only in change.name]
-        if "examples" in stages:
-            left = [change for change in mine if passed_in(results_in(options.results), change, ["examples"]) is not None]
+        changes = [change for change in changes[number - 1 :: count] if options.only in change.name]
+        for stage in [stage for stage in ("examples", "laws") if stage in stages]:
+            left = [change for change in changes if is_left(results_in(options.results), change, stage)]
             for first in range(0, len(left), options.copies):
-                note(options.results, tried_in_copies(clone, left[first : first + options.copies]))
-        for change in mine:
-            passed = passed_in(results_in(options.results), change, stages)
-            if passed is not None:
-                note(options.results, [tried(clone, change, stages, passed)])
+                note(options.results, tried_in_copies(clone, left[first : first + options.copies], stage, results_in(options.results)))
+        for change in changes if "crate" in stages else []:
+            if is_left(results_in(options.results), change, "crate"):
+                note(options.results, [tried_over_crate(clone, change, results_in(options.results))])
     return None
 
 
