@@ -4,6 +4,22 @@ By file of `specs/`: what is changed, the text that stands there once, and what 
 belong to the same change.
 """
 
+# the lemmas for the crates above that are read with the laws, by their files
+LEMMAS = {"TermViews": "expression-UnitLiteral"}
+
+# by file of `specs/`, the modules of the code that cite its definitions
+CODE = {
+    "AuthMarks": ["marks"],
+    "Faults": ["fault"],
+    "ProgramTrees": ["marks", "roles", "program_types", "program"],
+    "ProgramTypes": ["program_types"],
+    "Programs": ["types", "program_types"],
+    "RoleViews": ["roles", "program"],
+    "Roles": ["roles", "program"],
+    "TypeNames": ["program_types"],
+    "TypeTables": ["types", "marks"],
+}
+
 CHANGES = {
     "Types": [
         ("has_numbers: 257 types have numbers", "has_numbers types = nat_le (length types) 256", "has_numbers types = nat_le (length types) 257"),

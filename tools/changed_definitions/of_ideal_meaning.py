@@ -4,6 +4,8 @@ By file of `specs/`: what is changed, the text that stands there once, and what 
 belong to the same change.
 """
 
+LEMMAS, CODE = {}, {}
+
 CHANGES = {
     "Run": [
         ("then_run: an end loses its fuel", "then_run (Ends stop k w) go = Ends stop k w", "then_run (Ends stop k w) go = Ends stop zero w"),

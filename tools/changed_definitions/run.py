@@ -4,8 +4,8 @@
     tools/changed_definitions/run.py core_terms results.jsonl
 
 The changes stand in `of_CRATE.py`. Each is made in a clone of the repository as it is committed. A change is tried in turn over the crate's
-examples, which are the files of `specs/` and `proofs/` whose statements hold by computing; over the lemmas that the proofs of its laws cite;
-and over the whole crate. The first of them that isn't proved refuses it.
+examples, which are the files of `specs/` and `proofs/` whose statements hold by computing; over its laws, by the lemmas that their proofs
+cite; over the code that cites the definitions; and over the whole crate. The first of them that isn't proved refuses it.
 
 Examples and laws are read by the proof of a function that the clone alone has. Many changes are tried there in one check, each in copies of
 the modules that read what is changed.
@@ -44,9 +44,9 @@ def copy_name(number, module):
     return f"Copy{number}{module}"
 
 
-def changes_of(crate):
-    """The changes of a crate, in their order."""
-    listed = importlib.import_module(f"of_{crate}").CHANGES
+def changes_of(listed):
+    """The changes that a module lists, in their order."""
+    listed = listed.CHANGES
     changes = [Change(name, file, list(zip(texts[::2], texts[1::2]))) for file, rows in listed.items() for name, *texts in rows]
     twice = [name for name, count in collections.Counter(change.name for change in changes).items() if count > 1]
     if twice:
@@ -57,8 +57,8 @@ def changes_of(crate):
 class Clone:
     """A clone of the repository in which a crate's definitions are changed and checked."""
 
-    def __init__(self, crate, folder, through, without=()):
-        self.crate, self.through, self.without = crate, through, without
+    def __init__(self, crate, listed, folder, options):
+        self.crate, self.listed, self.through, self.without = crate, listed, options.through, options.without
         self.root = os.path.join(folder, "clone")
         self.folder = os.path.join(self.root, "crates", crate)
         if os.path.exists(self.root):
@@ -99,6 +99,7 @@ class Clone:
         for law in sorted(os.listdir(self.path("proofs/laws"))):
             text = self.read("proofs/laws", law, "Answers.antt")
             yield from (("proofs", module, lemma) for module, lemma in re.findall(rf"use Rattle\.{self.crate}\.proofs\.(\w+)\.{{([^,}}]+)", text))
+        yield from (("proofs", module, lemma) for module, lemma in self.listed.LEMMAS.items())
 
     def add_reader(self):
         """Adds the function whose proof reads the examples."""
@@ -234,12 +235,15 @@ def tried_in_copies(clone, changes, stage, results):
         yield result_of(change, stage, by, each, results)
 
 
-def tried_over_crate(clone, change, results):
-    """What comes of a change that is tried over the whole crate."""
-    with clone.changed(change):
-        checked = clone.check([])
-        by = clone.refusers(checked.output) if not checked.is_proved else []
-    return result_of(change, "crate", by, round(checked.seconds, 1), results)
+def tried_over_code(clone, change, stage, results):
+    """What comes of a change that is tried over the code that cites its file, or over the whole crate."""
+    by, seconds = [], 0
+    words = [word for module in clone.listed.CODE.get(change.file, []) for word in ("--only", f"{clone.crate}::{module}")]
+    if words or stage == "crate":
+        with clone.changed(change):
+            checked = clone.check(words if stage == "code" else [])
+            by, seconds = [] if checked.is_proved else clone.refusers(checked.output), round(checked.seconds, 1)
+    return result_of(change, stage, by, seconds, results)
 
 
 def result_of(change, stage, by, seconds, results):
@@ -305,27 +309,29 @@ def main():
     parser.add_argument("--table", action="store_true", help="run nothing, and print the results")
     parser.add_argument("--part", type=part_of, default=(1, 1), metavar="I/N", help="every N-th change, from the I-th on")
     parser.add_argument("--only", default="", metavar="WORD", help="the changes in whose names the word stands")
-    parser.add_argument("--stages", default="examples,laws,crate", help="what they are tried over, of examples, laws and crate")
+    parser.add_argument("--stages", default="examples,laws,code,crate", help="what they are tried over")
     parser.add_argument("--copies", type=int, default=12, metavar="N", help="how many changes are tried over the examples in one check")
     parser.add_argument("--without", type=lambda words: words.split(","), default=[], metavar="NAMES", help="files and rows that are left out of the copies")
     parser.add_argument("--folder", help="where the clone stays for a later run; else it is temporary")
     parser.add_argument("--through", type=shlex.split, default=[], metavar="COMMAND", help="the command that each check is run by")
     options = parser.parse_args()
-    changes = changes_of(options.crate)
+    listed = importlib.import_module(f"of_{options.crate}")
+    changes = changes_of(listed)
     if options.table:
         return print_table(changes, results_in(options.results))
     number, count = options.part
     stages = options.stages.split(",")
     with tempfile.TemporaryDirectory() as temporary:
-        clone = Clone(options.crate, options.folder or temporary, options.through, options.without)
+        clone = Clone(options.crate, listed, options.folder or temporary, options)
         changes = [change for change in changes[number - 1 :: count] if options.only in change.name]
         for stage in [stage for stage in ("examples", "laws") if stage in stages]:
             left = [change for change in changes if is_left(results_in(options.results), change, stage)]
             for first in range(0, len(left), options.copies):
                 note(options.results, tried_in_copies(clone, left[first : first + options.copies], stage, results_in(options.results)))
-        for change in changes if "crate" in stages else []:
-            if is_left(results_in(options.results), change, "crate"):
-                note(options.results, [tried_over_crate(clone, change, results_in(options.results))])
+        for stage in [stage for stage in ("code", "crate") if stage in stages]:
+            for change in changes:
+                if is_left(results_in(options.results), change, stage):
+                    note(options.results, [tried_over_code(clone, change, stage, results_in(options.results))])
     return None
 
 
