@@ -29,7 +29,8 @@ pub mod FoundRoles
 pub mod Limited
 pub mod RoleShapes
 pub mod Constructors
--- the definitions of limits, computed on cases
+-- the definitions of limits, of roles and of numbers of types, computed on cases
 mod LimitRows
+mod ShapeRows
 -- for the crates above: what terms stand for, by their forms
 pub mod TermViews

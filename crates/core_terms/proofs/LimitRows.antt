@@ -1,6 +1,6 @@
 -- Which values are within limits: of what is authenticated, of each of some values, and in a program's format. Which formats and names are
 -- none, and what the limits of a program come to in numbers.
-use Rattle.std.proofs.Common.{ℕ, ◌≤◌, ◌<◌, List, [], ◌∷◌, length, true, arith}
+use Rattle.std.proofs.Common.{◌≡◌, ℕ, ◌≤◌, ◌<◌, List, [], ◌∷◌, length, true, arith}
 use Rattle.std.specs.Prelude.{All, pos, replicate}
 use Rattle.core_terms.specs.Types.{Table, BoolTy, IntTy, TextTy, PairTy, NamedTy, AuthTy}
 use Rattle.core_terms.specs.Formats.{Format, IsFormat, first_format}
@@ -53,7 +53,8 @@ ten_bytes_do_not h = let k : 10 ≤ 9 = h.size_fits in absurd (omega (arith, k))
 nor_in_a_row : AllFit other_program (BoolTy ∷ TextTy ∷ []) (AndV (BoolV true) (AndV long NoV)) → ⊥
 nor_in_a_row h = let k : 44 ≤ 9 = h.1.0.size_fits in absurd (omega (arith, k))
 
--- no format: where a text literal is too long for a spelling, where a spelling is too long for a message, and where a ring's size has no field
+-- no format: where a text literal is too long for a spelling, where a spelling is too long for a message, where
+-- its magic isn't 4 bytes, and where a ring's size has no field
 abbrev of_limit : ℕ → Format
 of_limit limit = record { digest = λ hash t bytes. hash bytes; limit = limit; magic = replicate 4 0; most_kept = 0 }
 
@@ -62,6 +63,9 @@ too_short_a_limit h = let k : 65536 ≤ 65535 = h.limit_holds in absurd (omega (
 
 too_long_a_limit : IsFormat (of_limit 16777180) → ⊥
 too_long_a_limit h = let k : 16777217 ≤ 16777216 = h.message_fits in absurd (omega (arith, k))
+
+too_short_a_magic : IsFormat (record { digest = λ hash t bytes. hash bytes; limit = 65536; magic = replicate 3 0; most_kept = 0 }) → ⊥
+too_short_a_magic h = let k : 3 ≡ 4 = h.magic_length in absurd (omega (arith, k))
 
 too_great_a_ring : IsFormat (first_format 65536) → ⊥
 too_great_a_ring h = let k : 65536 < 65536 = h.kept_fits in absurd (omega (arith, k))

@@ -1,13 +1,18 @@
--- The first format, what a program's format says of digests and limits, ideal values, and which roles read the state. Each row holds by computing.
-use Rattle.std.specs.Prelude.{◌≡◌, ◌^◌, ℕ, List, [], ◌∷◌, codes, pos, true, replicate, refl}
+-- The first format, what a program's format says of digests and limits, ideal values, which roles read the state, and which faults are the
+-- same. Each row holds by computing.
+use Rattle.std.specs.Prelude.{◌≡◌, ◌^◌, ℕ, List, [], ◌∷◌, codes, pos, true, replicate, nat_eq, T, refl}
+use Rattle.std.proofs.Common.{subst}
 use Rattle.core_terms.specs.Types.{Ty, UnitTy, BoolTy, IntTy, TextTy, PairTy, NamedTy, AuthTy}
 use Rattle.core_terms.specs.Formats.{Format, Hash, first_format, message_limit}
 use Rattle.core_terms.specs.Values.{UnitV, BoolV, IntV, TextV, PairV, ConV, DigestV, NoV, AndV, IsIdeal}
 use Rattle.core_terms.specs.Reading.{Good, BadAt}
 use Rattle.core_terms.specs.Terms.{Inner, Init, Query, Update, Program}
 use Rattle.core_terms.specs.Roles.{ReadsState}
+use Rattle.core_terms.specs.Faults.{IsSameFault}
 use Rattle.core_terms.specs.Projection.{digest_at, projection, projections, read_at}
 use Rattle.core_terms.specs.ValueRows.{of_three, two_types}
+use Rattle.core_terms.specs.declared.fault.Fault.{Fault}
+use Rattle.core_terms.specs.declared.fault.Fault.TheVariants.{At, NoMemory}
 
 -- the first format
 pub first_magic : (most : ℕ) → (first_format most).magic ≡ codes "LAP1"
@@ -75,3 +80,19 @@ no_field_is_left_out h = h.1
 -- a query and an update read the state
 pub readers_of_the_state : ReadsState Query × ReadsState Update × (ReadsState Init → ⊥) × (ReadsState Inner → ⊥)
 readers_of_the_state = (tt, tt, (λ h. h), (λ h. h))
+
+-- faults: of the same kind at the same place, and the want of memory apart
+abbrev pub IsSame : Fault ℕ ℕ → Fault ℕ ℕ → Type 0
+IsSame = IsSameFault (λ k l. k ≡ l)
+
+pub same_fault : IsSame (At 5 1) (At 5 1)
+same_fault = (refl, refl)
+
+pub fault_at_another_place : IsSame (At 5 1) (At 5 2) → ⊥
+fault_at_another_place h = subst (λ n. T (nat_eq n 1)) h.1 tt
+
+pub fault_of_another_kind : IsSame (At 5 1) (At 6 1) → ⊥
+fault_of_another_kind h = subst (λ n. T (nat_eq n 5)) h.0 tt
+
+pub want_of_memory_is_no_fault : (IsSame (At 5 1) NoMemory → ⊥) × (IsSame NoMemory (At 5 1) → ⊥)
+want_of_memory_is_no_fault = ((λ h. h), (λ h. h))

@@ -24,4 +24,5 @@ pub mod TypingRows
 pub mod RoleRows
 pub mod LimitRows
 pub mod FormatRows
+pub mod TypeRows
 pub mod Faults

@@ -91,6 +91,16 @@ locals_of_forms = refl
 pub locals_of_turned_forms : map (locals_in two_constructors 0) (forms bind_two bind_one) ≡ 2 ∷ 2 ∷ 2 ∷ 2 ∷ 2 ∷ 2 ∷ 2 ∷ 2 ∷ 2 ∷ 2 ∷ 2 ∷ 2 ∷ 2 ∷ 2 ∷ 2 ∷ 3 ∷ 4 ∷ 2 ∷ []
 locals_of_turned_forms = refl
 
+-- so does a later arm, and what is matched
+abbrev pub bind_three : Expression
+bind_three = LetE UnitTy UnitE bind_two
+
+pub locals_of_a_later_arm : locals_in two_constructors 0 (MatchE 0 UnitE (AndArm UnitE (AndArm bind_three NoArm))) ≡ 3
+locals_of_a_later_arm = refl
+
+pub locals_of_what_is_matched : locals_in two_constructors 0 (MatchE 0 bind_three (AndArm UnitE (AndArm UnitE NoArm))) ≡ 3
+locals_of_what_is_matched = refl
+
 pub of_a_leaf : (expressions_in (LocalE 3) ≡ 1) × (levels_of (LocalE 3) ≡ 1) × (locals_in two_constructors 5 (LocalE 3) ≡ 5)
 of_a_leaf = (refl, refl, refl)
 

@@ -2,7 +2,7 @@
 use Rattle.std.specs.Prelude.{◌≡◌, ℕ, List, [], ◌∷◌, codes, true, false, Some, None, refl}
 use Rattle.core_terms.specs.Types.{Ty, UnitTy, BoolTy, IntTy, TextTy, PairTy, NamedTy, AuthTy, Table}
 use Rattle.core_terms.specs.Formats.{first_format}
-use Rattle.core_terms.specs.Terms.{UnitE, Inner, Init, Query, Update, Function, Kind, Program}
+use Rattle.core_terms.specs.Terms.{UnitE, Inner, Init, Query, Update, Function, Kind, Program, function_at}
 use Rattle.core_terms.specs.Roles.{argument_type, has_auth, init_type, program_roles, role_function, role_named}
 
 abbrev pub declared : List ℕ → Kind → List Ty → Ty → Function
@@ -42,6 +42,10 @@ inner_function_is_no_role = refl
 
 pub update_by_name : role_named five (codes "put") ≡ Some 4
 update_by_name = refl
+
+-- a number that no function has stands for an inner one
+pub no_such_function : function_at five 5 ≡ record { name = []; kind = Inner; parameters = []; result = UnitTy; body = UnitE }
+no_such_function = refl
 
 pub what_callers_pass : (init_type five 1 ≡ IntTy) × (argument_type five 3 ≡ TextTy) × (argument_type five 4 ≡ UnitTy)
 what_callers_pass = (refl, refl, refl)

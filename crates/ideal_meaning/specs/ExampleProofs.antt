@@ -4,17 +4,17 @@ use Rattle.std.specs.Prelude.{◌≡◌, ℕ, List, [], ◌∷◌, ◌++◌, len
 use Rattle.std.proofs.Common.{subst}
 use Rattle.std.specs.Str.{is_utf8, chars}
 use lib.Utf8.{encode}
-use Rattle.core_terms.specs.Types.{UnitTy, BoolTy, PairTy, AuthTy}
+use Rattle.core_terms.specs.Types.{UnitTy, BoolTy, IntTy, PairTy, AuthTy}
 use Rattle.core_terms.specs.Formats.{Hash, IsHash, first_format}
 use Rattle.core_terms.specs.Values.{UnitV, BoolV, IntV, TextV, PairV, DigestV}
 use Rattle.core_terms.specs.Spelling.{spelling}
 use Rattle.core_terms.specs.Projection.{digest_at}
-use Rattle.ideal_meaning.specs.Run.{Overflow}
+use Rattle.ideal_meaning.specs.Run.{Overflow, Ends, Rejects}
 use Rattle.ideal_meaning.specs.Ideal.{ideal, outcome, outcome_projection, Done, Trapped, Out, honest_pieces, bytes_of}
-use Rattle.ideal_meaning.specs.Frames.{offered, offered_pieces, proof_file}
-use Rattle.ideal_meaning.specs.Checked.{Short, Cut, BadKind, PieceLong, BadUse, WrongPiece, BadPiece, Header, Leftover, Verdict, BadState, BadArgument, Accepted, Rejected, verdict, IsSplitAt}
+use Rattle.ideal_meaning.specs.Frames.{NoMore, NoByte, offered, offered_pieces, proof_file}
+use Rattle.ideal_meaning.specs.Checked.{Short, Cut, BadKind, PieceLong, BadUse, WrongPiece, BadPiece, Header, Leftover, Verdict, BadState, BadArgument, Accepted, Rejected, before_all, checked, verdict, IsSplitAt}
 use Rattle.ideal_meaning.specs.Headline.{call_of}
-use Rattle.ideal_meaning.specs.Examples.{toy, unit_program, bool_program, two_bools_program, nested_program, text_program, pair_program}
+use Rattle.ideal_meaning.specs.Examples.{toy, unit_program, bool_program, two_bools_program, nested_program, text_program, spin_program, pair_program}
 
 -- a proof file of the first format: its magic, and the bytes behind that
 abbrev pub file : List ℕ → List ℕ
@@ -52,6 +52,10 @@ larger_ring_is_refused hash = refl
 -- the frame ends inside its length
 pub frame_is_cut : (hash : Hash) → on_open hash 1 (file (0 ∷ 0 ∷ 0 ∷ 0 ∷ 0 ∷ [])) ≡ Rejected (Cut 0)
 frame_is_cut hash = refl
+
+-- bytes of a length that isn't whole are no length
+pub cut_length_is_no_length : (hash : Hash) → on_open hash 1 (file (0 ∷ 0 ∷ 0 ∷ 255 ∷ 255 ∷ 255 ∷ [])) ≡ Rejected (Cut 0)
+cut_length_is_no_length hash = refl
 
 -- or inside its piece, or inside the number of a kept piece
 pub piece_is_cut : (hash : Hash) → on_open hash 1 (file (0 ∷ 0 ∷ 0 ∷ 0 ∷ 0 ∷ 0 ∷ 2 ∷ 5 ∷ [])) ≡ Rejected (Cut 0)
@@ -98,6 +102,18 @@ state_is_bad hash = refl
 pub argument_is_bad : (hash : Hash) → verdict hash unit_program UnitTy 1 (toy []) (1 ∷ []) 1 [] ≡ BadArgument 0
 argument_is_bad hash = refl
 
+-- the offset in either is told, where a later part is faulty
+pub second_part_of_the_state_is_bad : (hash : Hash) → verdict hash two_bools_program UnitTy 1 (toy []) [] 1 [] ≡ BadState 32
+second_part_of_the_state_is_bad hash = refl
+
+pub second_part_of_the_argument_is_bad : (hash : Hash) → verdict hash spin_program (PairTy IntTy BoolTy) 2 (toy []) (replicate 8 0 ++ 2 ∷ []) 1 [] ≡ BadArgument 8
+second_part_of_the_argument_is_bad hash = refl
+
+-- a rejected run keeps the fuel that is left
+pub rejection_keeps_its_fuel : (hash : Hash)
+    → checked hash unit_program 1 (call_of (DigestV []) UnitV) 7 (before_all 0 (NoMore NoByte)) ≡ Ends (Rejects (Short 0)) 6 (before_all 0 (NoMore NoByte))
+rejection_keeps_its_fuel hash = refl
+
 -- One piece asked for twice: with a ring of one it is used again, without a ring it is written again. Both files are accepted.
 abbrev pub twice_true : List (List ℕ)
 twice_true = (1 ∷ []) ∷ (1 ∷ []) ∷ []
@@ -113,6 +129,10 @@ used_piece_is_accepted = refl
 
 pub new_pieces_are_accepted : verdict toy bool_program UnitTy 1 (toy (1 ∷ [])) [] 1 (proof_file (first_format 1024) 0 twice_true) ≡ Accepted (Done (PairV (BoolV true) (BoolV true)))
 new_pieces_are_accepted = refl
+
+-- the number of a piece comes before the offset in it
+pub second_piece_is_no_spelling : verdict toy bool_program UnitTy 1 (toy (1 ∷ [])) [] 1 (file (0 ∷ 0 ∷ 0 ∷ 0 ∷ 0 ∷ 0 ∷ 1 ∷ 1 ∷ 0 ∷ 0 ∷ 0 ∷ 0 ∷ 2 ∷ 3 ∷ 2 ∷ [])) ≡ Rejected (BadPiece 1 0)
+second_piece_is_no_spelling = refl
 
 -- A piece that comes back behind another one: a ring of one has lost it, a ring of two has it at place 1.
 abbrev pub true_false_true : List (List ℕ)
@@ -188,3 +208,8 @@ garbled_piece_is_no_spelling = refl
 pub garbled_piece_splits : IsSplitAt (digest_at toy pair_program) (offered_pieces (offered 65536 (drop 6 garbled_file) 0 []))
     (honest_pieces toy pair_program 1 (call_of (PairV (BoolV true) (BoolV false)) UnitV) 1) 0
 garbled_piece_splits = (λ e. subst (λ bytes. T (bytes_eq bytes (3 ∷ 2 ∷ []))) e tt, refl)
+
+-- a piece that differs and has another digest splits nothing
+pub other_digest_splits_nothing : IsSplitAt (digest_at toy pair_program) ((0 ∷ 0 ∷ []) ∷ [])
+    (honest_pieces toy pair_program 1 (call_of (PairV (BoolV true) (BoolV false)) UnitV) 1) 0 → ⊥
+other_digest_splits_nothing h = subst (λ bytes. T (bytes_eq bytes (toy (0 ∷ 0 ∷ [])))) h.1 tt

@@ -6,7 +6,7 @@ use Rattle.core_terms.specs.Terms.{Expression, BoolE, IntE, TextE, LocalE, PairE
 use Rattle.core_terms.specs.declared.term.Arith.TheVariants.{Add, Sub, Mul, Div, Rem}
 use Rattle.core_terms.specs.declared.term.Compare.TheVariants.{Eq, Lt, Le}
 use Rattle.core_terms.specs.declared.term.TextCompare.TheVariants.{Eq as TEq, Lt as TLt}
-use Rattle.ideal_meaning.specs.Run.{Run, Gives, Ends, Traps, IsOut, Overflow, DivZero, TooBig}
+use Rattle.ideal_meaning.specs.Run.{Run, Gives, Ends, Traps, IsOut, Overflow, DivZero, TooBig, fuel_of}
 use Rattle.ideal_meaning.specs.Ideal.{Opened, ideal}
 use Rattle.ideal_meaning.specs.Examples.{values, function, program, arms_of, operands}
 use Rattle.ideal_meaning.specs.ExampleRuns.{alone}
@@ -197,6 +197,13 @@ inner_call_is_out = refl
 
 pub arguments_trap_before_the_call : ideal choices 5 NoV 1 ≡ Ends (Traps DivZero) 0 []
 arguments_trap_before_the_call = refl
+
+-- a run that traps keeps the fuel that is left
+pub trap_keeps_its_fuel : ideal choices 5 NoV 9 ≡ Ends (Traps DivZero) 8 []
+trap_keeps_its_fuel = refl
+
+pub fuel_of_a_trap : fuel_of (ideal choices 5 NoV 9) ≡ 8
+fuel_of_a_trap = refl
 
 pub locals_from_the_outermost : ideal choices 6 NoV 1 ≡ Gives (IntV (pos 5)) 0 []
 locals_from_the_outermost = refl

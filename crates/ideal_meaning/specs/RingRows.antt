@@ -6,6 +6,7 @@ use Rattle.core_terms.specs.Values.{BoolV, PairV}
 use Rattle.ideal_meaning.specs.Ideal.{Done}
 use Rattle.ideal_meaning.specs.Frames.{End, Offer, NoMore, Offers, UseIs, New, Use, offered, offered_pieces, honest_frames, frame_bytes, proof_file}
 use Rattle.ideal_meaning.specs.Checked.{BadUse, Leftover, Accepted, Rejected, Verdict, verdict}
+use Rattle.ideal_meaning.specs.Following.{after_bytes}
 use Rattle.ideal_meaning.specs.Examples.{toy, bool_program, two_bools_program}
 use Rattle.ideal_meaning.specs.ExampleProofs.{file}
 
@@ -56,6 +57,20 @@ place_and_held_are_told = refl
 -- pieces that came before are held too
 pub earlier_piece_is_used : offered_pieces (offered 65536 (frame_bytes (New a ∷ Use 1 ∷ [])) 2 (b ∷ a ∷ [])) ≡ a ∷ b ∷ []
 earlier_piece_is_used = refl
+
+-- The new pieces that bytes leave: those of the frames before the first that isn't whole or isn't allowed, and those that came before. Such
+-- is a USE that names none that is kept, a piece longer than the limit or cut, and another kind of frame.
+pub pieces_before_a_use_of_none : after_bytes 2 (frame_bytes (New a ∷ Use 1 ∷ New b ∷ Use 2 ∷ New a ∷ [])) 2 (b ∷ []) ≡ b ∷ a ∷ b ∷ []
+pieces_before_a_use_of_none = refl
+
+pub pieces_before_a_long_one : after_bytes 1 (frame_bytes (New b ∷ New a ∷ New b ∷ [])) 2 [] ≡ b ∷ []
+pieces_before_a_long_one = refl
+
+pub pieces_before_a_cut_one : after_bytes 9 (0 ∷ 0 ∷ 0 ∷ 0 ∷ 2 ∷ 5 ∷ []) 2 (b ∷ []) ≡ b ∷ []
+pieces_before_a_cut_one = refl
+
+pub pieces_before_another_kind : after_bytes 9 (2 ∷ frame_bytes (New a ∷ [])) 2 (b ∷ []) ≡ b ∷ []
+pieces_before_another_kind = refl
 
 -- The verdicts on opening one value twice, of which the second frame names a piece that isn't held; the place of the piece comes first.
 abbrev pub on_both : (ring : ℕ) → (second : List ℕ) → Verdict

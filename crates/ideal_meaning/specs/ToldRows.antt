@@ -1,8 +1,9 @@
 -- The causes and traps that the code tells: each by its own name, with its fields in their order.
 use Rattle.std.specs.Prelude.{◌≡◌, refl}
 use Rattle.core_terms.specs.declared.cause.Cause.TheVariants as cause
+use Rattle.core_terms.specs.declared.digest.Digest.{Digest}
 use Rattle.core_terms.specs.declared.outcome.Trap.TheVariants as trap
-use Rattle.ideal_meaning.specs.Checked.{Short, Cut, BadKind, PieceLong, BadUse, BadPiece, Header, Leftover}
+use Rattle.ideal_meaning.specs.Checked.{Short, Cut, BadKind, PieceLong, BadUse, WrongPiece, BadPiece, Header, Leftover}
 use Rattle.ideal_meaning.specs.Run.{Overflow, DivZero, TooBig, TooDeep}
 use Rattle.ideal_meaning.specs.Told.{cause_told, trap_told}
 
@@ -23,6 +24,9 @@ length_is_told = refl
 
 pub use_is_told : cause_told (cause.BadUse 3 5 4) ≡ BadUse 3 5 4
 use_is_told = refl
+
+pub digests_are_told : (want found : Digest) → cause_told (cause.WrongPiece 3 want found) ≡ WrongPiece 3 want.0 found.0
+digests_are_told want found = refl
 
 pub piece_is_told : cause_told (cause.BadPiece 3 8) ≡ BadPiece 3 8
 piece_is_told = refl
