@@ -3,7 +3,7 @@ use Rattle.std.specs.Prelude.{◌≡◌, ℕ, zero, suc, List, [], ◌∷◌, �
 use Rattle.std.specs.Str.{is_utf8, chars}
 use lib.Utf8.{encode}
 use Rattle.core_terms.specs.Types.{Ty, UnitTy, BoolTy, IntTy, TextTy, PairTy, NamedTy, AuthTy}
-use Rattle.core_terms.specs.Values.{Value, BoolV, IntV, PairV, ConV, DigestV, NoV, AndV}
+use Rattle.core_terms.specs.Values.{Value, BoolV, IntV, TextV, PairV, ConV, DigestV, NoV, AndV}
 use Rattle.core_terms.specs.Reading.{Good, BadAt, Read, read}
 use Rattle.core_terms.specs.ValueRows.{two_types}
 
@@ -71,6 +71,13 @@ bytes_at_the_limit = refl
 pub bools_are_read : read_small (PairTy BoolTy BoolTy) (0 ∷ 1 ∷ []) ≡ Good (PairV (BoolV false) (BoolV true)) [] 2
 bools_are_read = refl
 
+pub long_int_is_read : read_small IntTy (1 ∷ replicate 7 0) ≡ Good (IntV (pos 72057594037927936)) [] 8
+long_int_is_read = refl
+
+pub text_is_read_before_another : read_small (PairTy TextTy BoolTy) (0 ∷ 0 ∷ 0 ∷ 1 ∷ 0x61 ∷ 1 ∷ []) ≡ Good (PairV (TextV (0x61 ∷ [])) (BoolV true)) [] 6
+unfolding is_utf8 chars encode
+text_is_read_before_another = refl
+
 pub constructor_is_read : read_small (NamedTy 1) (1 ∷ 1 ∷ 0 ∷ 0 ∷ 0 ∷ 0 ∷ 0 ∷ 0 ∷ 1 ∷ 2 ∷ replicate 32 7)
     ≡ Good (ConV 1 (AndV (BoolV true) (AndV (IntV (pos 258)) (AndV (DigestV (replicate 32 7)) NoV)))) [] 42
 constructor_is_read = refl
@@ -93,3 +100,6 @@ level_513_is_refused = refl
 
 pub unit_on_level_513_is_refused : read_small (PairTy IntTy (nested 511 UnitTy)) (replicate 8 0 ++ replicate 511 0) ≡ BadAt 518
 unit_on_level_513_is_refused = refl
+
+pub level_513_is_refused_at_the_end : read_small (PairTy IntTy (nested 511 UnitTy)) (replicate 8 0 ++ replicate 510 0) ≡ BadAt 518
+level_513_is_refused_at_the_end = refl

@@ -52,6 +52,9 @@ text_is_utf8 = refl
 pub second_local : takes (LocalE 1) BoolTy ≡ true
 second_local = refl
 
+pub second_part_of_a_local : takes (LocalE 3) (PairTy IntTy BoolTy) ≡ false
+second_part_of_a_local = refl
+
 pub no_local : takes (LocalE 6) UnitTy ≡ false
 no_local = refl
 
