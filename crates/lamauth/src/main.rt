@@ -1,15 +1,12 @@
 //! `lamauth COMMAND ARGUMENTS`: the real files, standard output and links of this machine, handed to the top call.
 #![tactic(auto)]
 
-mod host;
 mod net;
 
 use auth_cli::run;
 use file_commands::{Halt, tell};
-use host::{HostFiles, HostSink};
+use host_files::{HostFiles, HostSink, words};
 use net::HostNet;
-use std::env;
-use std::io::ErrorKind;
 use std::process::ExitCode;
 use std::thread::Threads;
 
@@ -21,15 +18,6 @@ fn main(rt: HostRuntime) -> ExitCode {
     match status {
         Ok(status) => ExitCode::from(status),
         Err(halt) => ExitCode::from(tell(rt.alloc(), &mut HostSink::new(&rt), Err(halt)).code()),
-    }
-}
-
-/// The words of the command line. Where one of them isn't UTF-8, they call no command.
-fn words(rt: &HostRuntime) -> Result<Vec<String>, Halt> {
-    match env::args(rt) {
-        Ok(args) => Ok(args.collect(rt.alloc())?),
-        Err(error) if error.kind() == ErrorKind::OutOfMemory => Err(Halt::NoMemory),
-        Err(_) => Err(Halt::Usage),
     }
 }
 
@@ -49,7 +37,7 @@ fn run_words<R: Threads + Sync>(
 #[cfg(test)]
 mod tests {
     use super::run_words;
-    use crate::host::HostFiles;
+    use host_files::HostFiles;
     use lam_outside::Files;
     use std::alloc::{AllocError, Global};
     use std::fs;

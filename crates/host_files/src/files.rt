@@ -1,9 +1,9 @@
-// The real files and standard output. They tell nothing of what they hold: this is the trusted edge.
+// The real files. They tell nothing of what they hold: this is the trusted edge.
 ghost use Rattle.std.specs.Prelude.{◌≡◌, ℕ, None, refl};
 
-use lam_outside::{Failed, Files, Sink, Source};
+use lam_outside::{Failed, Files, Source};
 use std::fs::{self, File};
-use std::io::{self, Read, Write};
+use std::io::Read;
 
 /// The files of the machine.
 #[derive(Drop)]
@@ -95,43 +95,10 @@ impl Files for HostFiles<'_> {
     }
 }
 
-/// Standard output, unbuffered.
-#[derive(Drop)]
-pub struct HostSink<'a> {
-    rt: &'a HostRuntime,
-    faults: u64,
-}
-
-impl<'a> HostSink<'a> {
-    /// No call has failed.
-    pub fn new(rt: &'a HostRuntime) -> Self
-        ensures { result.faults ≡ 0 }
-    {
-        HostSink { rt, faults: 0 }
-    }
-}
-
-impl Sink for HostSink<'_> {
-    ghost written = { λ _. None };
-
-    ghost faults = { λ sink. sink.faults };
-
-    fn write(&mut self, piece: &[u8]) -> Result<usize, Failed> {
-        let taken = io::writer(self.rt).write(piece);
-        match taken {
-            Ok(count) if count > 0 || piece.is_empty() => Ok(count),
-            _ => {
-                self.faults = self.faults.saturating_add(1);
-                Err(Failed)
-            }
-        }
-    }
-}
-
 #[cfg(test)]
 mod tests {
-    use super::{HostFiles, HostSink};
-    use lam_outside::{Failed, Files, Sink, load_all};
+    use super::HostFiles;
+    use lam_outside::{Failed, Files, load_all};
     use std::fs;
     use std::test::Fail;
 
@@ -145,14 +112,6 @@ mod tests {
         let _ = fs::remove_file(&rt, name);
         assert!(rt; files.start(name) == Err(Failed));
         assert!(rt; files.store("/no such folder/file", b"abc") == Err(Failed));
-        Ok(())
-    }
-
-    #[test]
-    fn standard_output_takes_what_is_written(rt: HostRuntime) -> Result<(), Fail> {
-        let mut out = HostSink::new(&rt);
-        assert!(rt; out.write(b"") == Ok(0));
-        assert!(rt; out.write(b"done ()\n").is_ok_and(|count| count > 0));
         Ok(())
     }
 }
