@@ -401,6 +401,11 @@ fn answers<R: Threads + Sync>(
     Ok(told.bytes == bytes && told.closing == closes)
 }
 
+/// What is fed on one connection after another.
+fn connections<'a>(alloc: Global, fed: &'a [u8]) -> Result<Vec<&'a [u8]>, AllocError> {
+    fed.split(|byte| *byte == b'|').collect(alloc)
+}
+
 /// Whether a server sends, on one connection after another, what a row says.
 pub fn answers_all<R: Threads + Sync>(
     rt: &R,
@@ -415,7 +420,7 @@ pub fn answers_all<R: Threads + Sync>(
     ensures { IfOk result (λ _. (server : meant.Server) × Serves sha256 core.new server) }
 {
     let mut rest = sent;
-    for on_one in fed.split(|byte| *byte == b'|') {
+    for on_one in connections(alloc, fed)? {
         let (first, others) = match rest.iter().position(|byte| *byte == b'|') {
             Some(at) => (&rest[..at], &rest[at + 1..]),
             None => (rest, &rest[rest.len()..]),
