@@ -1,5 +1,4 @@
 // What `verify` and `audit` say of proofs, whoever made them.
-ghost use Rattle.std.specs.Prelude.{◌<◌};
 
 use crate::calls::{DEEP, DEEP_PROOF, TRAPS};
 use crate::sides::{Sides, made_sides};
@@ -61,11 +60,9 @@ fn misjudged<R: Threads + Sync>(
     call: &Call,
     rows: &[Row],
     most_read: usize,
-) -> Result<Option<usize>, AllocError>
-    requires { 0 < most_read }
-{
+) -> Result<Option<usize>, AllocError> {
     for (number, (proof, status, line)) in rows.iter().enumerate() {
-        if !made.are_told(rt, alloc, call, proof, most_read, (*status, line))? {
+        if !made.are_told(rt, alloc, call, proof, most_read.max(1), (*status, line))? {
             return Ok(Some(number));
         }
     }
