@@ -2,10 +2,10 @@
 //! and no other, is proved.
 #![tactic(auto)]
 
+mod command_line;
 mod files;
 mod output;
-mod words;
 
+pub use command_line::words;
 pub use files::HostFiles;
 pub use output::HostSink;
-pub use words::words;
