@@ -1,0 +1,21 @@
+-- The rows of `specs/RoleRows` hold.
+use Rattle.std.proofs.Common.{◌≡◌, false, true, refl, ap, ◌∙◌, arith, lit<}
+use Rattle.core_terms.specs.Types.{UnitTy, BoolTy, PairTy}
+use Rattle.core_terms.specs.Terms.{Query, Update, Function}
+use Rattle.definition_rows.specs.RoleRows.{RoleRows, giving_both}
+
+pub role_rows : RoleRows
+role_rows = record {
+  inner_is_no_role = λ f t answer h. let e : false ≡ true = h.entered in absurd (cc);
+  query_is_no_update = λ h.
+      let same : giving_both ≡ h.function = cc h.there in
+      let kinds : Query ≡ Update = ap (λ (g : Function). g.kind) same ∙ h.of_kind in
+      absurd (cc);
+  other_result_is_no_shape = λ h.
+      let same : giving_both ≡ h.1.function = cc h.1.there in
+      let given : PairTy BoolTy UnitTy ≡ h.0 = ap (λ (g : Function). g.result) same ∙ h.1.result in
+      let told : UnitTy ≡ h.0 = h.2 in
+      absurd (cc);
+  int_has_two_numbers = λ h. let k : 0 ≡ 2 = h 0 2 (lit< tt) (lit< tt) refl in absurd (omega (arith, k));
+  auth_has_a_number = λ h. h refl 1 refl;
+}

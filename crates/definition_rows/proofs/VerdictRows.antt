@@ -1,0 +1,15 @@
+-- The rows of `specs/VerdictRows` hold.
+use Rattle.std.specs.Prelude.{[], ◌∷◌, bytes_eq, T, refl}
+use Rattle.std.proofs.Common.{subst}
+use Rattle.ideal_meaning.specs.Examples.{toy}
+use Rattle.definition_rows.specs.VerdictRows.{VerdictRows}
+
+pub verdict_rows : VerdictRows
+verdict_rows = record {
+  cut_length_is_no_length = λ hash. refl;
+  second_part_of_the_state_is_bad = λ hash. refl;
+  second_part_of_the_argument_is_bad = λ hash. refl;
+  rejection_keeps_its_fuel = λ hash. refl;
+  second_piece_is_no_spelling = refl;
+  other_digest_splits_nothing = λ h. subst (λ bytes. T (bytes_eq bytes (toy (0 ∷ 0 ∷ [])))) h.1 tt;
+}

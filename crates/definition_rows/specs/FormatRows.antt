@@ -1,0 +1,11 @@
+-- What is no format (`Formats`).
+use Rattle.std.specs.Prelude.{ℕ, List, replicate}
+use Rattle.core_terms.specs.Formats.{Format, IsFormat}
+
+-- a format but for its magic
+abbrev pub with_magic : List ℕ → Format
+with_magic magic = record { digest = λ hash t bytes. hash bytes; limit = 65536; magic = magic; most_kept = 0 }
+
+pub record FormatRows : Type 0 where
+  -- its magic isn't 4 bytes
+  pub too_short_a_magic : IsFormat (with_magic (replicate 3 0)) → ⊥

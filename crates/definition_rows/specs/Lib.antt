@@ -1,0 +1,10 @@
+pub mod TypeRows
+pub mod FormatRows
+pub mod RoleRows
+pub mod TermRows
+pub mod SpellingRows
+pub mod FaultRows
+pub mod FuelRows
+pub mod VerdictRows
+pub mod PieceRows
+pub mod CauseRows

@@ -1,0 +1,34 @@
+//! Rows for the definitions of `core_terms` and `ideal_meaning`: what a definition gives at cases that no row beside it has.
+//!
+//! Both crates have rows of their own. Those here stand above them, so that a new row leaves proved what stands on these
+//! crates. `specs/` has them by what they are about, and `proofs/` has under the same name that they hold.
+#![tactic(auto)]
+
+ghost use Rattle.definition_rows.specs.CauseRows.{CauseRows};
+ghost use Rattle.definition_rows.specs.FaultRows.{FaultRows};
+ghost use Rattle.definition_rows.specs.FormatRows.{FormatRows};
+ghost use Rattle.definition_rows.specs.FuelRows.{FuelRows};
+ghost use Rattle.definition_rows.specs.PieceRows.{PieceRows};
+ghost use Rattle.definition_rows.specs.RoleRows.{RoleRows};
+ghost use Rattle.definition_rows.specs.SpellingRows.{SpellingRows};
+ghost use Rattle.definition_rows.specs.TermRows.{TermRows};
+ghost use Rattle.definition_rows.specs.TypeRows.{TypeRows};
+ghost use Rattle.definition_rows.specs.VerdictRows.{VerdictRows};
+
+/// The rows of `core_terms`: types, formats, roles, terms, spellings and faults.
+pub fn core_terms_rows()
+    ensures types { TypeRows }
+    ensures formats { FormatRows }
+    ensures roles { RoleRows }
+    ensures terms { TermRows }
+    ensures spellings { SpellingRows }
+    ensures faults { FaultRows }
+{}
+
+/// The rows of `ideal_meaning`: fuel, verdicts, pieces and causes.
+pub fn ideal_meaning_rows()
+    ensures fuel { FuelRows }
+    ensures verdicts { VerdictRows }
+    ensures pieces { PieceRows }
+    ensures causes { CauseRows }
+{}
