@@ -1,9 +1,13 @@
+-- rows of core_terms
 pub mod TypeRows
 pub mod FormatRows
+pub mod ValueRows
+pub mod SpellingRows
 pub mod RoleRows
 pub mod TermRows
-pub mod SpellingRows
+pub mod RuleRows
 pub mod FaultRows
+-- rows of ideal_meaning
 pub mod FuelRows
 pub mod VerdictRows
 pub mod PieceRows

@@ -10,18 +10,22 @@ ghost use Rattle.definition_rows.specs.FormatRows.{FormatRows};
 ghost use Rattle.definition_rows.specs.FuelRows.{FuelRows};
 ghost use Rattle.definition_rows.specs.PieceRows.{PieceRows};
 ghost use Rattle.definition_rows.specs.RoleRows.{RoleRows};
+ghost use Rattle.definition_rows.specs.RuleRows.{RuleRows};
 ghost use Rattle.definition_rows.specs.SpellingRows.{SpellingRows};
 ghost use Rattle.definition_rows.specs.TermRows.{TermRows};
 ghost use Rattle.definition_rows.specs.TypeRows.{TypeRows};
+ghost use Rattle.definition_rows.specs.ValueRows.{ValueRows};
 ghost use Rattle.definition_rows.specs.VerdictRows.{VerdictRows};
 
 /// The rows of `core_terms`: types, formats, roles, terms, spellings and faults.
 pub fn core_terms_rows()
     ensures types { TypeRows }
     ensures formats { FormatRows }
+    ensures values { ValueRows }
+    ensures spellings { SpellingRows }
     ensures roles { RoleRows }
     ensures terms { TermRows }
-    ensures spellings { SpellingRows }
+    ensures rules { RuleRows }
     ensures faults { FaultRows }
 {}
 
