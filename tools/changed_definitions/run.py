@@ -32,14 +32,12 @@ import tempfile
 import time
 
 HERE = os.path.dirname(os.path.abspath(__file__))
-ABOVE = "definition_rows"
-FROM_ABOVE = "Above"
+# the crate of further rows, and how their files are called in the clone
+ABOVE, FROM_ABOVE = "definition_rows", "Above"
+# the stages in which many changes are tried in one check
 IN_COPIES = ("examples", "rows", "laws")
 PLACE = re.compile(r"^(?:\./)?((?:specs|proofs|src)/\S+?):(\d+):\d+: (?!note|warning)(.*)", re.M)
-NAMED_ABOVE = "definition_rows"
-FROM_ABOVE = "Above"
-IN_COPIES = ("examples", "rows", "laws")
-PLACE = re.compile(r"\(in `([^`]+)`\)|in `([^`]+)`")
+NAMED_PLACE = re.compile(r"\(in `([^`]+)`\)|in `([^`]+)`")
 LET_THROUGH = "let through"
 ROW = re.compile(r"^(?:pub )?([\w-]+) :", re.M)
 
@@ -70,6 +68,7 @@ class Clone:
         self.folder = os.path.join(self.root, "crates", crate)
         if os.path.exists(self.root):
             self.git("checkout", "-q", ".")
+            self.git("clean", "-fdq")
             self.git("pull", "-q")
         else:
             subprocess.run(["git", "clone", "-q", HERE.rsplit("/", 2)[0], self.root], check=True)

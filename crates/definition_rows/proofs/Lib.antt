@@ -3,6 +3,8 @@ pub mod TypeRows
 pub mod FormatRows
 pub mod ValueRows
 pub mod SpellingRows
+pub mod TreeRows
+pub mod MarkRows
 pub mod RoleRows
 pub mod TermRows
 pub mod RuleRows

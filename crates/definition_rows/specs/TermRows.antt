@@ -1,7 +1,7 @@
 -- What no local of an expression is (`ProgramLimits`, `Typing`), and the function of a number that none has (`Terms`). Each equation holds by
 -- computing both sides.
 use Rattle.std.specs.Prelude.{◌≡◌, [], false}
-use Rattle.core_terms.specs.Types.{UnitTy, BoolTy, IntTy, PairTy}
+use Rattle.core_terms.specs.Types.{UnitTy, BoolTy, IntTy, PairTy, NamedTy}
 use Rattle.core_terms.specs.Terms.{Expression, UnitE, LocalE, LetE, MatchE, NoArm, AndArm, Inner, function_at}
 use Rattle.core_terms.specs.ProgramLimits.{locals_in}
 use Rattle.core_terms.specs.LimitRows.{bind_two, two_constructors}
@@ -17,5 +17,7 @@ pub record TermRows : Type 0 where
   pub locals_of_what_is_matched : locals_in two_constructors 0 (MatchE 0 bind_three (AndArm UnitE (AndArm UnitE NoArm))) ≡ 3
   -- a pair has both its types
   pub second_part_of_a_local : takes (LocalE 3) (PairTy IntTy BoolTy) ≡ false
+  -- named types are told apart by their numbers
+  pub local_of_another_named_type : takes (LocalE 5) (NamedTy 1) ≡ false
   -- a number that no function has stands for an inner one
   pub no_such_function : function_at five 5 ≡ record { name = []; kind = Inner; parameters = []; result = UnitTy; body = UnitE }

@@ -8,11 +8,13 @@ ghost use Rattle.definition_rows.specs.CauseRows.{CauseRows};
 ghost use Rattle.definition_rows.specs.FaultRows.{FaultRows};
 ghost use Rattle.definition_rows.specs.FormatRows.{FormatRows};
 ghost use Rattle.definition_rows.specs.FuelRows.{FuelRows};
+ghost use Rattle.definition_rows.specs.MarkRows.{MarkRows};
 ghost use Rattle.definition_rows.specs.PieceRows.{PieceRows};
 ghost use Rattle.definition_rows.specs.RoleRows.{RoleRows};
 ghost use Rattle.definition_rows.specs.RuleRows.{RuleRows};
 ghost use Rattle.definition_rows.specs.SpellingRows.{SpellingRows};
 ghost use Rattle.definition_rows.specs.TermRows.{TermRows};
+ghost use Rattle.definition_rows.specs.TreeRows.{TreeRows};
 ghost use Rattle.definition_rows.specs.TypeRows.{TypeRows};
 ghost use Rattle.definition_rows.specs.ValueRows.{ValueRows};
 ghost use Rattle.definition_rows.specs.VerdictRows.{VerdictRows};
@@ -23,6 +25,8 @@ pub fn core_terms_rows()
     ensures formats { FormatRows }
     ensures values { ValueRows }
     ensures spellings { SpellingRows }
+    ensures trees { TreeRows }
+    ensures marks { MarkRows }
     ensures roles { RoleRows }
     ensures terms { TermRows }
     ensures rules { RuleRows }

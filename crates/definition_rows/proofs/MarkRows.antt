@@ -1,0 +1,32 @@
+-- The rows of `specs/MarkRows` hold.
+use Rattle.std.proofs.Common.{◌≡◌, [], ◌∷◌, length, refl, ap, arith}
+use Rattle.core_terms.specs.Roles.{argument_place, is_entered}
+use Rattle.core_terms.specs.ProgramTrees.{kind_of}
+use Rattle.core_terms.specs.RoleViews.{HasArgument}
+use Rattle.core_terms.specs.declared.term.Function.{Function}
+use Rattle.core_terms.specs.declared.term.Kind.{Kind}
+use Rattle.core_terms.specs.declared.term.Kind.TheVariants.{Query}
+use Rattle.definition_rows.specs.MarkRows.{MarkRows}
+
+-- a query has its argument behind the state
+one_is_none : (f : Function) → f.kind ≡ Query → f.parameters.items ≡ record { 0 = 0 } ∷ [] → HasArgument f → ⊥
+one_is_none f query one h =
+    let place : argument_place (kind_of f.kind) ≡ 1 = ap (λ (k : Kind). argument_place (kind_of k)) query in
+    let count : length f.parameters.items ≡ 1 = ap length one in
+    absurd (omega (arith, h, place, count))
+
+pub mark_rows : MarkRows
+mark_rows = record {
+  first_part_is_marked = refl;
+  second_part_is_marked = refl;
+  no_part_is_marked = refl;
+  no_such_part_is_marked = refl;
+  auth_is_marked = refl;
+  named_type_is_marked = (refl, refl);
+  leaf_is_not_marked = refl;
+  each_kind_of_role = (refl, refl, refl);
+  types_of_a_role = refl;
+  numbers_of_a_role = (refl, refl, refl);
+  one_parameter_is_none = one_is_none;
+  roles_have_arguments = λ f query one h. one_is_none f query one (h 0 f refl (ap (λ (k : Kind). is_entered (kind_of k)) query));
+}

@@ -1,0 +1,33 @@
+-- The rows of `specs/TreeRows` hold.
+use Rattle.std.proofs.Common.{◌≡◌, List, [], ◌∷◌, ◌&&◌, nat_lt, map, lit<, refl, ap, ◌∙◌, subst}
+use Rattle.std.specs.Prelude.{All}
+use Rattle.core_terms.specs.Names.{IsName}
+use Rattle.core_terms.specs.Types.{UnitTy, BoolTy, IntTy, AuthTy}
+use Rattle.core_terms.specs.TypeTables.{type_at}
+use Rattle.core_terms.specs.ProgramTrees.{are_below, types_at}
+use Rattle.core_terms.specs.declared.types.TyId.{TyId}
+use Rattle.core_terms.specs.declared.term.Constructor.{Constructor}
+use Rattle.definition_rows.specs.TreeRows.{TreeRows}
+
+pub tree_rows : TreeRows
+tree_rows = record {
+  most_that_are_kept = (refl, refl);
+  operands_in_a_row = refl;
+  arms_by_tag = refl;
+  each_kind = (refl, refl, refl, refl);
+  types_of_a_function = λ f parameters result. (ap (types_at (UnitTy ∷ BoolTy ∷ IntTy ∷ [])) parameters, ap (type_at (UnitTy ∷ BoolTy ∷ IntTy ∷ [])) result);
+  name_of_a_function = λ types f. refl;
+  fields_of_a_type = λ declared constructor constructors fields.
+      let types = UnitTy ∷ AuthTy IntTy ∷ [] in
+      ap (λ (cs : List Constructor). map (λ (c : Constructor). types_at types c.fields.items) cs ∷ []) constructors
+      ∙ ap (λ (ids : List TyId). (types_at types ids ∷ []) ∷ []) fields;
+  names_of_constructors = λ first second constructor none one. ap (map (λ (c : Constructor). c.name)) one;
+  constructors_are_named = λ declared constructor one h.
+      let names : map (λ (c : Constructor). c.name) declared.constructors.items ≡ constructor.name ∷ [] = ap (map (λ (c : Constructor). c.name)) one in
+      let all : All IsName (map (λ (c : Constructor). c.name) declared.constructors.items) = h.constructors 0 [] (lit< tt) in
+      subst (All IsName) names all 0 [] (lit< tt);
+  type_of_a_state = (refl, refl);
+  type_of_a_state_alone = (refl, refl);
+  type_of_a_result = λ f none result. ap (λ (ids : List TyId). are_below 1 ids && nat_lt f.result.0 1) none ∙ ap (λ (id : TyId). nat_lt id.0 1) result;
+  program_without_functions = refl;
+}
