@@ -9,7 +9,7 @@ which the clone has copies in the crate itself; over its laws, by the lemmas tha
 definitions; and over the whole crate. The first of them that isn't proved refuses it.
 
 Examples, rows and laws are read by the proof of a function that the clone alone has. Many changes are tried there in one check, each in
-copies of the modules that read what is changed. `--again` tries once more over the rows what they let through, once there are new ones.
+copies of the modules that read what is changed. `--again` tries once more what the stages let through, as once there are new rows.
 
 Each result is a line of a file, and a run goes on with what the file doesn't tell. So a first run may be over the examples alone, and several
 runs may share the work: `--part 1/2` and `--part 2/2`, with one file of results. `--table` runs nothing, and prints what the file tells:
@@ -340,7 +340,7 @@ def main():
     parser.add_argument("--only", default="", metavar="WORD", help="the changes in whose names the word stands")
     parser.add_argument("--stages", default="examples,rows,laws,code,crate", help="what they are tried over")
     parser.add_argument("--copies", type=int, default=12, metavar="N", help="how many changes are tried in one check, each in copies")
-    parser.add_argument("--again", action="store_true", help="try again over the rows what they let through")
+    parser.add_argument("--again", action="store_true", help="try again what the stages let through, as with new rows")
     parser.add_argument("--without", type=lambda words: words.split(","), default=[], metavar="NAMES", help="files and rows that are left out of the copies")
     parser.add_argument("--folder", help="where the clone stays for a later run; else it is temporary")
     parser.add_argument("--through", type=shlex.split, default=[], metavar="COMMAND", help="the command that each check is run by")
@@ -355,7 +355,7 @@ def main():
         clone = Clone(options.crate, listed, options.folder or temporary, options)
         changes = [change for change in changes[number - 1 :: count] if options.only in change.name]
         for stage in [stage for stage in IN_COPIES if stage in stages]:
-            left = [change for change in changes if is_left(results_in(options.results), change, stage, options.again and stage == "rows")]
+            left = [change for change in changes if is_left(results_in(options.results), change, stage, options.again)]
             for first in range(0, len(left), options.copies):
                 note(options.results, tried_in_copies(clone, left[first : first + options.copies], stage, results_in(options.results)))
         for stage in [stage for stage in ("code", "crate") if stage in stages]:
