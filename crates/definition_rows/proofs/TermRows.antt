@@ -6,6 +6,7 @@ pub term_rows : TermRows
 term_rows = record {
   locals_of_a_later_arm = refl;
   locals_of_what_is_matched = refl;
+  locals_without_an_arm = refl;
   second_part_of_a_local = refl;
   local_of_another_named_type = refl;
   no_such_function = refl;

@@ -10,7 +10,7 @@ pub mod TermRows
 pub mod RuleRows
 pub mod FaultRows
 -- rows of ideal_meaning
-pub mod FuelRows
+pub mod EndRows
 pub mod VerdictRows
 pub mod PieceRows
 pub mod CauseRows

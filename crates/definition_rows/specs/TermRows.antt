@@ -3,7 +3,7 @@
 use Rattle.std.specs.Prelude.{◌≡◌, [], false}
 use Rattle.core_terms.specs.Types.{UnitTy, BoolTy, IntTy, PairTy, NamedTy}
 use Rattle.core_terms.specs.Terms.{Expression, UnitE, LocalE, LetE, MatchE, NoArm, AndArm, Inner, function_at}
-use Rattle.core_terms.specs.ProgramLimits.{locals_in}
+use Rattle.core_terms.specs.ProgramLimits.{locals_in, locals_in_arms}
 use Rattle.core_terms.specs.LimitRows.{bind_two, two_constructors}
 use Rattle.core_terms.specs.RoleRows.{five}
 use Rattle.core_terms.specs.TypingRows.{takes}
@@ -15,6 +15,7 @@ bind_three = LetE UnitTy UnitE bind_two
 pub record TermRows : Type 0 where
   pub locals_of_a_later_arm : locals_in two_constructors 0 (MatchE 0 UnitE (AndArm UnitE (AndArm bind_three NoArm))) ≡ 3
   pub locals_of_what_is_matched : locals_in two_constructors 0 (MatchE 0 bind_three (AndArm UnitE (AndArm UnitE NoArm))) ≡ 3
+  pub locals_without_an_arm : locals_in_arms two_constructors 5 [] NoArm ≡ 5
   -- a pair has both its types
   pub second_part_of_a_local : takes (LocalE 3) (PairTy IntTy BoolTy) ≡ false
   -- named types are told apart by their numbers

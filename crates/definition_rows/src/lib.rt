@@ -5,9 +5,9 @@
 #![tactic(auto)]
 
 ghost use Rattle.definition_rows.specs.CauseRows.{CauseRows};
+ghost use Rattle.definition_rows.specs.EndRows.{EndRows};
 ghost use Rattle.definition_rows.specs.FaultRows.{FaultRows};
 ghost use Rattle.definition_rows.specs.FormatRows.{FormatRows};
-ghost use Rattle.definition_rows.specs.FuelRows.{FuelRows};
 ghost use Rattle.definition_rows.specs.MarkRows.{MarkRows};
 ghost use Rattle.definition_rows.specs.PieceRows.{PieceRows};
 ghost use Rattle.definition_rows.specs.RoleRows.{RoleRows};
@@ -35,7 +35,7 @@ pub fn core_terms_rows()
 
 /// The rows of `ideal_meaning`: fuel, verdicts, pieces and causes.
 pub fn ideal_meaning_rows()
-    ensures fuel { FuelRows }
+    ensures ends { EndRows }
     ensures verdicts { VerdictRows }
     ensures pieces { PieceRows }
     ensures causes { CauseRows }

@@ -1,8 +1,8 @@
-use Rattle.definition_rows.proofs.FuelRows.{fuel_rows}
+use Rattle.definition_rows.proofs.EndRows.{end_rows}
 use Rattle.definition_rows.proofs.VerdictRows.{verdict_rows}
 use Rattle.definition_rows.proofs.PieceRows.{piece_rows}
 use Rattle.definition_rows.proofs.CauseRows.{cause_rows}
 use Rattle.definition_rows.proofs.ideal_meaning_rows.Goals as goal
 
 pub returns : goal.returns
-returns c = record { fuel = fuel_rows; verdicts = verdict_rows; pieces = piece_rows; causes = cause_rows }
+returns c = record { ends = end_rows; verdicts = verdict_rows; pieces = piece_rows; causes = cause_rows }
