@@ -1,8 +1,10 @@
 -- The rows of `specs/MarkRows` hold.
-use Rattle.std.proofs.Common.{◌≡◌, [], ◌∷◌, length, refl, ap, arith}
-use Rattle.core_terms.specs.Roles.{argument_place, is_entered}
-use Rattle.core_terms.specs.ProgramTrees.{kind_of}
+use Rattle.std.proofs.Common.{◌≡◌, List, [], ◌∷◌, length, map, false, true, refl, ap, ◌∙◌, arith}
+use Rattle.core_terms.specs.Types.{IntTy, NamedTy, AuthTy, Table}
+use Rattle.core_terms.specs.Roles.{argument_place, has_auth, is_entered}
+use Rattle.core_terms.specs.ProgramTrees.{kind_of, table_of, types_at}
 use Rattle.core_terms.specs.RoleViews.{HasArgument}
+use Rattle.core_terms.specs.declared.term.Constructor.{Constructor}
 use Rattle.core_terms.specs.declared.term.Function.{Function}
 use Rattle.core_terms.specs.declared.term.Kind.{Kind}
 use Rattle.core_terms.specs.declared.term.Kind.TheVariants.{Query}
@@ -24,6 +26,14 @@ mark_rows = record {
   auth_is_marked = refl;
   named_type_is_marked = (refl, refl);
   leaf_is_not_marked = refl;
+  field_is_opened = λ declared constructor constructors fields h.
+      let types = AuthTy IntTy ∷ NamedTy 0 ∷ [] in
+      let table : table_of types (declared ∷ []) ≡ ((AuthTy IntTy ∷ []) ∷ []) ∷ [] =
+      ap (λ (cs : List Constructor). map (λ (c : Constructor). types_at types c.fields.items) cs ∷ []) constructors
+      ∙ ap (λ (ids : List TyId). (types_at types ids ∷ []) ∷ []) fields in
+      let found : has_auth (table_of types (declared ∷ [])) (NamedTy 0) ≡ true = ap (λ (it : Table). has_auth it (NamedTy 0)) table in
+      let e : false ≡ true = h 1 ∙ found in
+      absurd (cc);
   each_kind_of_role = (refl, refl, refl);
   types_of_a_role = refl;
   numbers_of_a_role = (refl, refl, refl);

@@ -1,13 +1,22 @@
 -- The rows of `specs/TreeRows` hold.
-use Rattle.std.proofs.Common.{◌≡◌, List, [], ◌∷◌, ◌&&◌, nat_lt, map, lit<, refl, ap, ◌∙◌, subst}
+use Rattle.std.proofs.Common.{◌≡◌, List, [], ◌∷◌, ◌&&◌, nat_lt, map, lit<, refl, ap, ap₂, ◌∙◌, subst}
 use Rattle.std.specs.Prelude.{All}
 use Rattle.core_terms.specs.Names.{IsName}
 use Rattle.core_terms.specs.Types.{UnitTy, BoolTy, IntTy, AuthTy}
 use Rattle.core_terms.specs.TypeTables.{type_at}
-use Rattle.core_terms.specs.ProgramTrees.{are_below, types_at}
+use Rattle.core_terms.specs.ProgramTrees.{are_below, table_of, types_at}
 use Rattle.core_terms.specs.declared.types.TyId.{TyId}
 use Rattle.core_terms.specs.declared.term.Constructor.{Constructor}
+use Rattle.core_terms.specs.declared.term.NamedType.{NamedType}
 use Rattle.definition_rows.specs.TreeRows.{TreeRows}
+
+one_field : (declared : NamedType) (constructor : Constructor)
+    → declared.constructors.items ≡ constructor ∷ [] → constructor.fields.items ≡ record { 0 = 1 } ∷ []
+    → table_of (UnitTy ∷ AuthTy IntTy ∷ []) (declared ∷ []) ≡ ((AuthTy IntTy ∷ []) ∷ []) ∷ []
+one_field declared constructor constructors fields =
+    let types = UnitTy ∷ AuthTy IntTy ∷ [] in
+    ap (λ (cs : List Constructor). map (λ (c : Constructor). types_at types c.fields.items) cs ∷ []) constructors
+    ∙ ap (λ (ids : List TyId). (types_at types ids ∷ []) ∷ []) fields
 
 pub tree_rows : TreeRows
 tree_rows = record {
@@ -17,10 +26,8 @@ tree_rows = record {
   each_kind = (refl, refl, refl, refl);
   types_of_a_function = λ f parameters result. (ap (types_at (UnitTy ∷ BoolTy ∷ IntTy ∷ [])) parameters, ap (type_at (UnitTy ∷ BoolTy ∷ IntTy ∷ [])) result);
   name_of_a_function = λ types f. refl;
-  fields_of_a_type = λ declared constructor constructors fields.
-      let types = UnitTy ∷ AuthTy IntTy ∷ [] in
-      ap (λ (cs : List Constructor). map (λ (c : Constructor). types_at types c.fields.items) cs ∷ []) constructors
-      ∙ ap (λ (ids : List TyId). (types_at types ids ∷ []) ∷ []) fields;
+  fields_of_a_type = one_field;
+  fields_of_program_types = λ t declared constructor named constructors fields types. ap₂ table_of types named ∙ one_field declared constructor constructors fields;
   names_of_constructors = λ first second constructor none one. ap (map (λ (c : Constructor). c.name)) one;
   constructors_are_named = λ declared constructor one h.
       let names : map (λ (c : Constructor). c.name) declared.constructors.items ≡ constructor.name ∷ [] = ap (map (λ (c : Constructor). c.name)) one in

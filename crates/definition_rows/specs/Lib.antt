@@ -14,3 +14,4 @@ pub mod EndRows
 pub mod VerdictRows
 pub mod PieceRows
 pub mod CauseRows
+pub mod IntRows

@@ -1,12 +1,14 @@
 -- The marks of types (`AuthMarks`), and the roles of the code (`RoleViews`).
 use Rattle.std.specs.Prelude.{◌≡◌, [], ◌∷◌, codes, true, false}
-use Rattle.core_terms.specs.Types.{UnitTy, BoolTy, IntTy}
+use Rattle.core_terms.specs.Types.{UnitTy, BoolTy, IntTy, NamedTy, AuthTy}
 use Rattle.core_terms.specs.Terms as tree
-use Rattle.core_terms.specs.AuthMarks.{mark_of_form}
+use Rattle.core_terms.specs.AuthMarks.{AreAuthMarks, mark_of_form}
 use Rattle.core_terms.specs.RoleViews.{HasArgument, HaveArguments, has_role_below, role_kind_of, role_of}
 use Rattle.core_terms.specs.declared.types.TyForm.TheVariants.{IntForm, AuthForm, PairForm, NamedForm}
 use Rattle.core_terms.specs.declared.roles.Role.{Role}
 use Rattle.core_terms.specs.declared.roles.RoleKind.TheVariants.{Init, Query, Update}
+use Rattle.core_terms.specs.declared.term.Constructor.{Constructor}
+use Rattle.core_terms.specs.declared.term.NamedType.{NamedType}
 use Rattle.core_terms.specs.declared.term.Function.{Function}
 use Rattle.core_terms.specs.declared.term.Kind.TheVariants as kind
 
@@ -23,6 +25,10 @@ pub record MarkRows : Type 0 where
   pub auth_is_marked : mark_of_form (false ∷ []) [] (AuthForm (record { 0 = 0 })) ≡ true
   pub named_type_is_marked : (mark_of_form [] (false ∷ true ∷ []) (NamedForm (record { 0 = 1 })) ≡ true) × (mark_of_form [] (false ∷ true ∷ []) (NamedForm (record { 0 = 0 })) ≡ false)
   pub leaf_is_not_marked : mark_of_form (true ∷ []) (true ∷ []) IntForm ≡ false
+  -- a named type whose field is authenticated has to be marked
+  pub field_is_opened : (declared : NamedType) (constructor : Constructor)
+      → declared.constructors.items ≡ constructor ∷ [] → constructor.fields.items ≡ record { 0 = 0 } ∷ []
+      → AreAuthMarks (AuthTy IntTy ∷ NamedTy 0 ∷ []) (declared ∷ []) (true ∷ false ∷ []) → ⊥
   -- a role of the code is that of the definitions
   pub each_kind_of_role : (role_kind_of Init ≡ tree.Init) × (role_kind_of Query ≡ tree.Query) × (role_kind_of Update ≡ tree.Update)
   pub types_of_a_role : role_of (UnitTy ∷ BoolTy ∷ IntTy ∷ []) asked ≡ record { function = 3; name = codes "ask"; kind = tree.Query; argument = BoolTy; result = IntTy }

@@ -5,9 +5,11 @@ use Rattle.core_terms.specs.Names.{IsName}
 use Rattle.core_terms.specs.Terms.{UnitE, LocalE, NoE, AndE, NoArm, AndArm}
 use Rattle.core_terms.specs.Terms as tree
 use Rattle.core_terms.specs.ProgramTrees.{are_types_within, arms_in_a_row, function_of, has_types_below, in_a_row, is_within, kind_of, program_format, program_of, table_of}
+use Rattle.core_terms.specs.ProgramTypes.{named_table, types_by_number}
 use Rattle.core_terms.specs.Programs.{constructor_names}
 use Rattle.core_terms.specs.TypeNames.{AreNamed}
 use Rattle.core_terms.specs.declared.types.TyForm.TheVariants.{UnitForm, BoolForm}
+use Rattle.core_terms.specs.declared.program_types.Types.{Types}
 use Rattle.core_terms.specs.declared.term.Constructor.{Constructor}
 use Rattle.core_terms.specs.declared.term.Function.{Function}
 use Rattle.core_terms.specs.declared.term.Kind.TheVariants.{Inner, Init, Query, Update}
@@ -28,6 +30,9 @@ pub record TreeRows : Type 0 where
   pub fields_of_a_type : (declared : NamedType) (constructor : Constructor)
       → declared.constructors.items ≡ constructor ∷ [] → constructor.fields.items ≡ record { 0 = 1 } ∷ []
       → table_of (UnitTy ∷ AuthTy IntTy ∷ []) (declared ∷ []) ≡ (((AuthTy IntTy ∷ []) ∷ []) ∷ [])
+  pub fields_of_program_types : (t : Types) (declared : NamedType) (constructor : Constructor)
+      → t.named.items ≡ declared ∷ [] → declared.constructors.items ≡ constructor ∷ [] → constructor.fields.items ≡ record { 0 = 1 } ∷ []
+      → types_by_number t ≡ UnitTy ∷ AuthTy IntTy ∷ [] → named_table t ≡ (((AuthTy IntTy ∷ []) ∷ []) ∷ [])
   -- and is called what it is called, with names of its own for its constructors
   pub names_of_constructors : (first second : NamedType) (constructor : Constructor)
       → first.constructors.items ≡ [] → second.constructors.items ≡ constructor ∷ [] → constructor_names (first ∷ second ∷ []) 1 ≡ constructor.name ∷ []

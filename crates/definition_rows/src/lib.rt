@@ -8,6 +8,7 @@ ghost use Rattle.definition_rows.specs.CauseRows.{CauseRows};
 ghost use Rattle.definition_rows.specs.EndRows.{EndRows};
 ghost use Rattle.definition_rows.specs.FaultRows.{FaultRows};
 ghost use Rattle.definition_rows.specs.FormatRows.{FormatRows};
+ghost use Rattle.definition_rows.specs.IntRows.{IntRows};
 ghost use Rattle.definition_rows.specs.MarkRows.{MarkRows};
 ghost use Rattle.definition_rows.specs.PieceRows.{PieceRows};
 ghost use Rattle.definition_rows.specs.RoleRows.{RoleRows};
@@ -19,7 +20,7 @@ ghost use Rattle.definition_rows.specs.TypeRows.{TypeRows};
 ghost use Rattle.definition_rows.specs.ValueRows.{ValueRows};
 ghost use Rattle.definition_rows.specs.VerdictRows.{VerdictRows};
 
-/// The rows of `core_terms`: types, formats, roles, terms, spellings and faults.
+/// The rows of `core_terms`: types, formats, values and their spellings, programs of the code, marks and roles, terms and typing rules, faults.
 pub fn core_terms_rows()
     ensures types { TypeRows }
     ensures formats { FormatRows }
@@ -33,10 +34,11 @@ pub fn core_terms_rows()
     ensures faults { FaultRows }
 {}
 
-/// The rows of `ideal_meaning`: fuel, verdicts, pieces and causes.
+/// The rows of `ideal_meaning`: how runs end, verdicts, offered and new pieces, causes, ints and texts.
 pub fn ideal_meaning_rows()
     ensures ends { EndRows }
     ensures verdicts { VerdictRows }
     ensures pieces { PieceRows }
     ensures causes { CauseRows }
+    ensures ints { IntRows }
 {}
