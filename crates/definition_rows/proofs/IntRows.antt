@@ -1,5 +1,5 @@
 -- The rows of `specs/IntRows` hold.
-use Rattle.std.proofs.Common.{◌≡◌, inl, inr, ℕ, suc, ◌+◌, ◌<◌, List, [], ◌∷◌, length, pos, negsuc, refl, sym, ap, ◌∙◌, arith, lit<}
+use Rattle.std.proofs.Common.{◌≡◌, inl, inr, ℕ, suc, ◌+◌, ◌<◌, List, [], ◌∷◌, length, pos, refl, sym, ap, ◌∙◌, arith, lit<}
 use Rattle.std.specs.Int.Signed.{le_z_yes}
 use Rattle.std.proofs.lemmas.List.{append_cancel_left, length-append}
 use Rattle.ideal_meaning.specs.Operations.{ComesBefore}

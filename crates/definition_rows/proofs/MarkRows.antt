@@ -4,6 +4,7 @@ use Rattle.core_terms.specs.Types.{IntTy, NamedTy, AuthTy, Table}
 use Rattle.core_terms.specs.Roles.{argument_place, has_auth, is_entered}
 use Rattle.core_terms.specs.ProgramTrees.{kind_of, table_of, types_at}
 use Rattle.core_terms.specs.RoleViews.{HasArgument}
+use Rattle.core_terms.specs.declared.types.TyId.{TyId}
 use Rattle.core_terms.specs.declared.term.Constructor.{Constructor}
 use Rattle.core_terms.specs.declared.term.Function.{Function}
 use Rattle.core_terms.specs.declared.term.Kind.{Kind}
