@@ -6,6 +6,8 @@ pub end_rows : EndRows
 end_rows = record {
   trap_keeps_its_fuel = refl;
   fuel_of_a_trap = refl;
+  both_calls_are_made = refl;
+  second_call_is_out = refl;
   outcome_of_a_trap = refl;
   trap_is_its_projection = λ hash t trap. refl;
   out_is_its_projection = λ hash t. refl;

@@ -1,10 +1,10 @@
 -- How a run ends (`Run`, `Ideal`, `Agreement`, `Table`): the fuel that is left, the outcome, and where a new value is too big or too deep. Each
 -- equation holds by computing both sides.
 use Rattle.std.specs.Prelude.{◌≡◌, ℕ, List, [], ◌∷◌, true, pos, negsuc}
-use Rattle.core_terms.specs.Types.{Ty, UnitTy, BoolTy, IntTy, TextTy}
+use Rattle.core_terms.specs.Types.{Ty, UnitTy, BoolTy, IntTy, TextTy, PairTy}
 use Rattle.core_terms.specs.Formats.{Hash}
-use Rattle.core_terms.specs.Values.{Value, UnitV, BoolV, IntV, TextV, NoV}
-use Rattle.core_terms.specs.Terms.{Expression, BoolE, IntE, TextE, AuthE, PairE, ConE, CatE, Inner, Program}
+use Rattle.core_terms.specs.Values.{Value, UnitV, BoolV, IntV, TextV, PairV, NoV}
+use Rattle.core_terms.specs.Terms.{Expression, UnitE, BoolE, IntE, TextE, AuthE, PairE, ConE, CatE, CallE, NoE, Inner, Program}
 use Rattle.core_terms.specs.FormatRows.{other_format}
 use Rattle.core_terms.specs.ValueRows.{two_types}
 use Rattle.core_terms.specs.ReadingRows.{nested, nested_value}
@@ -27,10 +27,17 @@ of_two_types = program two_types UnitTy []
 abbrev pub in_nine_bytes : Expression → Run ⊥ (List Opened) Value
 in_nine_bytes e = ideal (record { format = other_format; types = two_types; state = UnitTy; functions = function [] Inner [] UnitTy e ∷ [] }) 0 NoV 1
 
+-- a function that calls another twice
+abbrev pub calling_twice : Program
+calling_twice = program [] UnitTy (function [] Inner [] UnitTy UnitE ∷ function [] Inner [] (PairTy UnitTy UnitTy) (PairE UnitTy UnitTy (CallE 0 NoE) (CallE 0 NoE)) ∷ [])
+
 pub record EndRows : Type 0 where
   -- a run that traps keeps the fuel that is left
   pub trap_keeps_its_fuel : ideal choices 5 NoV 9 ≡ Ends (Traps DivZero) 8 []
   pub fuel_of_a_trap : fuel_of (ideal choices 5 NoV 9) ≡ 8
+  -- each call takes a unit of fuel, and of three calls with two units the last one is out
+  pub both_calls_are_made : ideal calling_twice 1 NoV 3 ≡ Gives (PairV UnitV UnitV) 0 []
+  pub second_call_is_out : ideal calling_twice 1 NoV 2 ≡ Ends IsOut 0 []
   -- a trap and the want of fuel are outcomes, which are their own projections and the same in a checked run
   pub outcome_of_a_trap : outcome (ideal bool_program 3 (call_of (BoolV true) UnitV) 1) ≡ Trapped Overflow
   pub trap_is_its_projection : (hash : Hash) (t : Ty) (trap : Trap) → outcome_projection hash bool_program t (Trapped trap) ≡ Trapped trap
