@@ -15,4 +15,5 @@ piece_rows = record {
   pieces_before_a_cut_one = refl;
   pieces_before_a_cut_length = refl;
   pieces_before_another_kind = refl;
+  cut_number_is_none = refl;
 }

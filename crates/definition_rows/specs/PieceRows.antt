@@ -3,7 +3,7 @@
 -- computing both sides.
 use Rattle.std.specs.Prelude.{◌≡◌, [], ◌∷◌}
 use Rattle.ideal_meaning.specs.Frames.{NoByte, LongBy, NoMore, Offers, New, Use, offered, frame_bytes}
-use Rattle.ideal_meaning.specs.Following.{after_bytes, after_frames}
+use Rattle.ideal_meaning.specs.Following.{after_bytes, after_frames, after_use}
 use Rattle.ideal_meaning.specs.RingRows.{a, b}
 
 pub record PieceRows : Type 0 where
@@ -21,3 +21,5 @@ pub record PieceRows : Type 0 where
   pub pieces_before_a_cut_one : after_bytes 9 (0 ∷ 0 ∷ 0 ∷ 0 ∷ 2 ∷ 5 ∷ []) 2 (b ∷ []) ≡ b ∷ []
   pub pieces_before_a_cut_length : after_bytes 9 (0 ∷ 0 ∷ 0 ∷ 0 ∷ []) 2 (b ∷ []) ≡ b ∷ []
   pub pieces_before_another_kind : after_bytes 9 (2 ∷ frame_bytes (New a ∷ [])) 2 (b ∷ []) ≡ b ∷ []
+  -- a number of one byte is none, whatever would come behind it
+  pub cut_number_is_none : after_use 2 (b ∷ []) (0 ∷ []) (λ recent left. []) ≡ b ∷ []
