@@ -16,9 +16,14 @@ value_rows = record {
   no_int_beyond_the_greatest = λ h. let e : false ≡ true = h in absurd (cc);
   no_text_but_utf8 = λ h. let e : false ≡ true = is_utf8-from_IsUtf8 (0xFF ∷ []) h in absurd (cc);
   no_digest_of_31_bytes = λ h. let k : 31 ≡ 32 = h in absurd (omega (arith, k));
+  no_pair_of_other_parts = ((λ h. h.0), (λ h. h.1));
   nothing_below_a_digest = λ h. h;
   no_field_left_out = λ h. h.1;
   no_such_constructor = λ h. h;
+  no_ideal_int_beyond_the_greatest = λ h. let e : false ≡ true = h in absurd (cc);
+  no_ideal_text_but_utf8 = λ h. let e : false ≡ true = is_utf8-from_IsUtf8 (0xFF ∷ []) h in absurd (cc);
+  no_ideal_pair_of_other_parts = ((λ h. h.0), (λ h. h.1));
+  no_ideal_constructor_of_other_fields = λ h. h.1.0;
   size_of_no_text = refl;
   deepest_is_within = record { size_fits = omega arith; depth_fits = omega arith };
   deeper_is_not = λ h. let k : 513 ≤ 512 = h.depth_fits in absurd (omega (arith, k));

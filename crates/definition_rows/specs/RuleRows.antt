@@ -34,10 +34,13 @@ pub record RuleRows : Type 0 where
   pub no_int_beyond_the_greatest : Takes (IntE (pos 9223372036854775808)) IntTy → ⊥
   pub no_text_of_65533_bytes : Takes (TextE (replicate 65533 0x61)) TextTy → ⊥
   pub no_such_constructor : Takes (ConE 0 2 NoE) (NamedTy 0) → ⊥
+  pub no_unauth_of_an_int : Takes (UnauthE IntTy (LocalE 0)) IntTy → ⊥
+  pub no_other_branch_of_another_type : Takes (IfE (LocalE 1) (LocalE 0) (LocalE 2)) IntTy → ⊥
   pub field_too_few : Takes (ConE 0 1 (AndE (LocalE 0) NoE)) (NamedTy 0) → ⊥
   pub field_too_many : Takes (ConE 0 0 (AndE (LocalE 0) NoE)) (NamedTy 0) → ⊥
   pub arm_too_few : Takes (MatchE 0 (LocalE 5) (AndArm (LocalE 2) NoArm)) TextTy → ⊥
   pub arm_too_many : Takes (MatchE 0 (LocalE 5) (AndArm (LocalE 2) (AndArm (LocalE 7) (AndArm (LocalE 2) NoArm)))) TextTy → ⊥
+  pub argument_too_few : Takes (CallE 0 (AndE (LocalE 0) NoE)) TextTy → ⊥
   pub no_such_function : Takes (CallE 1 NoE) TextTy → ⊥
   -- a program's body has no locals but its parameters
   pub result_is_no_local : IsTyped of_no_local → ⊥
