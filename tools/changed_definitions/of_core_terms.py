@@ -675,6 +675,8 @@ CHANGES = {
             "are_below: at most",
             "are_below count ids = list_all (λ (id : TyId). nat_lt id.0 count) ids",
             "are_below count ids = list_all (λ (id : TyId). nat_lt id.0 (1 + count)) ids",
+            "{ℕ, Bool, ◌&&◌, List, [], ◌∷◌, length, map, nat_lt}",
+            "{ℕ, ◌+◌, Bool, ◌&&◌, List, [], ◌∷◌, length, map, nat_lt}",
         ),
         (
             "are_types_within: any state",
