@@ -11,6 +11,8 @@ pub mod RuleRows
 pub mod FaultRows
 -- rows of ideal_meaning
 pub mod EndRows
+pub mod HeadlineRows
+pub mod RingRows
 pub mod VerdictRows
 pub mod PieceRows
 pub mod CauseRows

@@ -1,8 +1,11 @@
 -- The rows of `specs/MarkRows` hold.
 use Rattle.std.proofs.Common.{◌≡◌, List, [], ◌∷◌, length, map, false, true, refl, ap, ◌∙◌, arith}
+use Rattle.std.specs.Prelude.{◌||◌}
+use Rattle.std.specs.List.{list_any}
 use Rattle.core_terms.specs.Types.{IntTy, NamedTy, AuthTy, Table}
 use Rattle.core_terms.specs.Roles.{argument_place, has_auth, is_entered}
 use Rattle.core_terms.specs.ProgramTrees.{kind_of, table_of, types_at}
+use Rattle.core_terms.specs.AuthMarks.{is_marked_field}
 use Rattle.core_terms.specs.RoleViews.{HasArgument}
 use Rattle.core_terms.specs.declared.types.TyId.{TyId}
 use Rattle.core_terms.specs.declared.term.Constructor.{Constructor}
@@ -27,6 +30,9 @@ mark_rows = record {
   auth_is_marked = refl;
   named_type_is_marked = (refl, refl);
   leaf_is_not_marked = refl;
+  marked_field_marks_a_type = λ declared constructor constructors fields.
+      ap (list_any (λ (c : Constructor). list_any (is_marked_field (false ∷ true ∷ [])) c.fields.items)) constructors
+      ∙ ap (λ (ids : List TyId). list_any (is_marked_field (false ∷ true ∷ [])) ids || false) fields;
   field_is_opened = λ declared constructor constructors fields h.
       let types = AuthTy IntTy ∷ NamedTy 0 ∷ [] in
       let table : table_of types (declared ∷ []) ≡ ((AuthTy IntTy ∷ []) ∷ []) ∷ [] =

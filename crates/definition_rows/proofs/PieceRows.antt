@@ -10,6 +10,7 @@ piece_rows = record {
   more_bytes_than_the_limit = refl;
   too_long_and_cut = refl;
   new_pieces_of_frames = refl;
+  pieces_to_the_end = refl;
   pieces_before_a_use_of_none = refl;
   pieces_before_a_long_one = refl;
   pieces_before_a_cut_one = refl;

@@ -1,6 +1,7 @@
 -- The rows of `specs/TreeRows` hold.
 use Rattle.std.proofs.Common.{◌≡◌, List, [], ◌∷◌, ◌&&◌, nat_lt, map, lit<, refl, ap, ap₂, ◌∙◌, subst}
-use Rattle.std.specs.Prelude.{All}
+use Rattle.std.specs.Prelude.{All, true}
+use Rattle.std.specs.List.{list_all}
 use Rattle.core_terms.specs.Names.{IsName}
 use Rattle.core_terms.specs.Types.{UnitTy, BoolTy, IntTy, AuthTy}
 use Rattle.core_terms.specs.TypeTables.{type_at}
@@ -33,8 +34,13 @@ tree_rows = record {
       let names : map (λ (c : Constructor). c.name) declared.constructors.items ≡ constructor.name ∷ [] = ap (map (λ (c : Constructor). c.name)) one in
       let all : All IsName (map (λ (c : Constructor). c.name) declared.constructors.items) = h.constructors 0 [] (lit< tt) in
       subst (All IsName) names all 0 [] (lit< tt);
+  type_is_named = λ declared h. h.types 0 [] (lit< tt);
   type_of_a_state = (refl, refl);
   type_of_a_state_alone = (refl, refl);
   type_of_a_result = λ f none result. ap (λ (ids : List TyId). are_below 1 ids && nat_lt f.result.0 1) none ∙ ap (λ (id : TyId). nat_lt id.0 1) result;
+  type_of_a_field = λ declared constructor constructors fields.
+      ap (list_all (λ (c : Constructor). are_below 1 c.fields.items)) constructors ∙ ap (λ (ids : List TyId). are_below 1 ids && true) fields;
+  state_of_program_types = λ t functions. refl;
+  types_alone_have_no_function = λ t. refl;
   program_without_functions = refl;
 }

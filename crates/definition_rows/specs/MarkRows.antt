@@ -2,7 +2,7 @@
 use Rattle.std.specs.Prelude.{◌≡◌, [], ◌∷◌, codes, true, false}
 use Rattle.core_terms.specs.Types.{UnitTy, BoolTy, IntTy, NamedTy, AuthTy}
 use Rattle.core_terms.specs.Terms as tree
-use Rattle.core_terms.specs.AuthMarks.{AreAuthMarks, mark_of_form}
+use Rattle.core_terms.specs.AuthMarks.{AreAuthMarks, is_marked_type, mark_of_form}
 use Rattle.core_terms.specs.RoleViews.{HasArgument, HaveArguments, has_role_below, role_kind_of, role_of}
 use Rattle.core_terms.specs.declared.types.TyForm.TheVariants.{IntForm, AuthForm, PairForm, NamedForm}
 use Rattle.core_terms.specs.declared.roles.Role.{Role}
@@ -25,6 +25,9 @@ pub record MarkRows : Type 0 where
   pub auth_is_marked : mark_of_form (false ∷ []) [] (AuthForm (record { 0 = 0 })) ≡ true
   pub named_type_is_marked : (mark_of_form [] (false ∷ true ∷ []) (NamedForm (record { 0 = 1 })) ≡ true) × (mark_of_form [] (false ∷ true ∷ []) (NamedForm (record { 0 = 0 })) ≡ false)
   pub leaf_is_not_marked : mark_of_form (true ∷ []) (true ∷ []) IntForm ≡ false
+  pub marked_field_marks_a_type : (declared : NamedType) (constructor : Constructor)
+      → declared.constructors.items ≡ constructor ∷ [] → constructor.fields.items ≡ record { 0 = 0 } ∷ record { 0 = 1 } ∷ []
+      → is_marked_type (false ∷ true ∷ []) declared ≡ true
   -- a named type whose field is authenticated has to be marked
   pub field_is_opened : (declared : NamedType) (constructor : Constructor)
       → declared.constructors.items ≡ constructor ∷ [] → constructor.fields.items ≡ record { 0 = 0 } ∷ []

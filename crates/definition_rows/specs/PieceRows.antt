@@ -16,6 +16,7 @@ pub record PieceRows : Type 0 where
   pub too_long_and_cut : offered 1 (0 ∷ 0 ∷ 0 ∷ 0 ∷ 2 ∷ []) 0 [] ≡ NoMore (LongBy 2)
   -- the new pieces of frames, the last one first
   pub new_pieces_of_frames : after_frames (New a ∷ Use 0 ∷ New b ∷ []) (a ∷ []) ≡ b ∷ a ∷ a ∷ []
+  pub pieces_to_the_end : after_bytes 9 (frame_bytes (New a ∷ Use 0 ∷ New b ∷ [])) 2 [] ≡ b ∷ a ∷ []
   pub pieces_before_a_use_of_none : after_bytes 2 (frame_bytes (New a ∷ Use 1 ∷ New b ∷ Use 2 ∷ New a ∷ [])) 2 (b ∷ []) ≡ b ∷ a ∷ b ∷ []
   pub pieces_before_a_long_one : after_bytes 1 (frame_bytes (New b ∷ New a ∷ New b ∷ [])) 2 [] ≡ b ∷ []
   pub pieces_before_a_cut_one : after_bytes 9 (0 ∷ 0 ∷ 0 ∷ 0 ∷ 2 ∷ 5 ∷ []) 2 (b ∷ []) ≡ b ∷ []

@@ -4,8 +4,9 @@ use Rattle.core_terms.specs.Types.{Ty, UnitTy, BoolTy, IntTy, AuthTy}
 use Rattle.core_terms.specs.Names.{IsName}
 use Rattle.core_terms.specs.Terms.{UnitE, LocalE, NoE, AndE, NoArm, AndArm}
 use Rattle.core_terms.specs.Terms as tree
-use Rattle.core_terms.specs.ProgramTrees.{are_types_within, arms_in_a_row, function_of, has_types_below, in_a_row, is_within, kind_of, program_format, program_of, table_of}
-use Rattle.core_terms.specs.ProgramTypes.{named_table, types_by_number}
+use Rattle.core_terms.specs.TypeTables.{type_at}
+use Rattle.core_terms.specs.ProgramTrees.{are_types_within, arms_in_a_row, function_of, has_fields_below, has_types_below, in_a_row, is_within, kind_of, program_format, program_of, table_of}
+use Rattle.core_terms.specs.ProgramTypes.{named_table, program_with, types_by_number, types_meaning}
 use Rattle.core_terms.specs.Programs.{constructor_names}
 use Rattle.core_terms.specs.TypeNames.{AreNamed}
 use Rattle.core_terms.specs.declared.types.TyForm.TheVariants.{UnitForm, BoolForm}
@@ -38,9 +39,14 @@ pub record TreeRows : Type 0 where
       → first.constructors.items ≡ [] → second.constructors.items ≡ constructor ∷ [] → constructor_names (first ∷ second ∷ []) 1 ≡ constructor.name ∷ []
   pub constructors_are_named : (declared : NamedType) (constructor : Constructor)
       → declared.constructors.items ≡ constructor ∷ [] → AreNamed (declared ∷ []) → IsName constructor.name
-  -- the state's type, and that of a result, are in the table
+  pub type_is_named : (declared : NamedType) → AreNamed (declared ∷ []) → IsName declared.name
+  -- the types of fields, the state's type, and that of a result, are in the table
   pub type_of_a_state : (is_within (UnitForm ∷ []) [] (record { 0 = 0 }) [] ≡ true) × (is_within (UnitForm ∷ []) [] (record { 0 = 1 }) [] ≡ false)
   pub type_of_a_state_alone : (are_types_within 1 [] (record { 0 = 0 }) ≡ true) × (are_types_within 1 [] (record { 0 = 1 }) ≡ false)
   pub type_of_a_result : (f : Function) → f.parameters.items ≡ [] → f.result ≡ record { 0 = 1 } → has_types_below 1 f ≡ false
+  pub type_of_a_field : (declared : NamedType) (constructor : Constructor)
+      → declared.constructors.items ≡ constructor ∷ [] → constructor.fields.items ≡ record { 0 = 1 } ∷ [] → has_fields_below 1 declared ≡ false
   -- a program has the state's type
+  pub state_of_program_types : (t : Types) (functions : List Function) → (program_with t functions).state ≡ type_at (types_by_number t) t.state
+  pub types_alone_have_no_function : (t : Types) → (types_meaning t).functions ≡ []
   pub program_without_functions : program_of (UnitForm ∷ BoolForm ∷ []) [] (record { 0 = 1 }) [] ≡ record { format = program_format; types = []; state = BoolTy; functions = [] }

@@ -8,9 +8,11 @@ ghost use Rattle.definition_rows.specs.CauseRows.{CauseRows};
 ghost use Rattle.definition_rows.specs.EndRows.{EndRows};
 ghost use Rattle.definition_rows.specs.FaultRows.{FaultRows};
 ghost use Rattle.definition_rows.specs.FormatRows.{FormatRows};
+ghost use Rattle.definition_rows.specs.HeadlineRows.{HeadlineRows};
 ghost use Rattle.definition_rows.specs.IntRows.{IntRows};
 ghost use Rattle.definition_rows.specs.MarkRows.{MarkRows};
 ghost use Rattle.definition_rows.specs.PieceRows.{PieceRows};
+ghost use Rattle.definition_rows.specs.RingRows.{RingRows};
 ghost use Rattle.definition_rows.specs.RoleRows.{RoleRows};
 ghost use Rattle.definition_rows.specs.RuleRows.{RuleRows};
 ghost use Rattle.definition_rows.specs.SpellingRows.{SpellingRows};
@@ -37,6 +39,8 @@ pub fn core_terms_rows()
 /// The rows of `ideal_meaning`: how runs end, verdicts, offered and new pieces, causes, ints and texts.
 pub fn ideal_meaning_rows()
     ensures ends { EndRows }
+    ensures headline { HeadlineRows }
+    ensures ring { RingRows }
     ensures verdicts { VerdictRows }
     ensures pieces { PieceRows }
     ensures causes { CauseRows }
