@@ -51,6 +51,7 @@ CHANGES = {
         ("first_format: most_kept + 1", "most_kept = most }", "most_kept = most + 1 }"),
         ("depth_limit: 513", "depth_limit = 512", "depth_limit = 513"),
         ("message_limit: one more", "message_limit = 16777216", "message_limit = 16777217"),
+        ("IsFormat: digests of 31 bytes", "(t : Ty) (bytes : List ℕ) → length (format.digest hash t bytes) ≡ 32", "(t : Ty) (bytes : List ℕ) → length (format.digest hash t bytes) ≡ 31"),
     ],
     "Names": [
         ("longest_name: 65", "longest_name = 64", "longest_name = 65"),
@@ -322,6 +323,7 @@ CHANGES = {
         ),
         ("HaveArms: the fields are no locals", "HasType (env ++ c) e t × HaveArms env cs arms t", "HasType env e t × HaveArms env cs arms t"),
         ("HaveArms: more are taken", "HaveArms env [] (AndArm e arms) t = ⊥", "HaveArms env [] (AndArm e arms) t = Unit {0}"),
+        ("function_at: the first one", "unwrap_or (slice_get P.functions f) no_function", "unwrap_or (slice_get P.functions 0) no_function"),
     ],
     "Typing": [
         (
@@ -457,6 +459,7 @@ CHANGES = {
             "  result = slice_index_or g.parameters (argument_place g.kind) UnitTy;\n",
         ),
         ("program_roles: numbered from 1", "program_roles P = roles_among 0 P.functions", "program_roles P = roles_among 1 P.functions"),
+        ("role_function: the number of the role", "role_function P n = option_map (λ (role : Role). role.function) (slice_get (program_roles P) n)", "role_function P n = option_map (λ (role : Role). n) (slice_get (program_roles P) n)"),
     ],
     "Projection": [
         (
@@ -611,6 +614,12 @@ CHANGES = {
             "  pub expressions : expressions_in_all P.functions ≤ most_expressions",
             "  pub expressions : Unit {0}",
         ),
+        ("IsFunctionWithin: any number of parameters", "  pub parameters : length g.parameters ≤ most_parameters\n", "  pub parameters : Unit {0}\n"),
+        ("IsFunctionWithin: any number of locals", "  pub locals : locals_in types (length g.parameters) g.body ≤ most_locals\n", "  pub locals : Unit {0}\n"),
+        ("IsFunctionWithin: any number of levels", "  pub levels : levels_of g.body ≤ most_levels\n", "  pub levels : Unit {0}\n"),
+        ("IsWithinLimits: any number of types", "  pub types : length P.types ≤ most_types\n", "  pub types : Unit {0}\n"),
+        ("IsWithinLimits: any number of constructors", "  pub constructors : All (λ constructors. length constructors ≤ most_constructors) P.types\n", "  pub constructors : Unit {0}\n"),
+        ("IsWithinLimits: fields of any type", "  pub field_types : All (All (All IsFlatType)) P.types\n", "  pub field_types : Unit {0}\n"),
     ],
     "ProgramTrees": [
         ("program_format: 1,023 kept", "program_format = first_format 1024", "program_format = first_format 1023"),
@@ -683,6 +692,10 @@ CHANGES = {
             "are_types_within count named state = nat_lt state.0 count && list_all (has_fields_below count) named",
             "are_types_within count named state = list_all (has_fields_below count) named",
         ),
+        ("has_fields_below: no field", "list_all (λ (constructor : Constructor). are_below count constructor.fields.items) declared", "list_all (λ (constructor : Constructor). are_below count []) declared"),
+        ("function_of: another kind", "  kind = kind_of f.kind;", "  kind = tree.Inner;"),
+        ("has_types_below: any parameters", "has_types_below count f = are_below count f.parameters.items && nat_lt f.result.0 count", "has_types_below count f = nat_lt f.result.0 count"),
+        ("program_of: no function", "functions = map (function_of types) functions }", "functions = [] }"),
     ],
     "TypeTables": [
         (
@@ -752,6 +765,7 @@ CHANGES = {
             "is_marked_field marks id = slice_index_or marks id.0 false",
             "is_marked_field marks id = slice_index_or marks id.0 true",
         ),
+        ("is_marked_type: no field", "list_any (is_marked_field marks) c.fields.items", "list_any (is_marked_field marks) []", "{◌≡◌, ℕ, ◌<◌, Bool, true, false, ◌||◌, List, slice_index_or}", "{◌≡◌, ℕ, ◌<◌, Bool, true, false, ◌||◌, List, [], slice_index_or}"),
     ],
     "RoleViews": [
         ("role_kind_of: a query is an update", "role_kind_of Query = tree.Query", "role_kind_of Query = tree.Update"),
@@ -775,6 +789,8 @@ CHANGES = {
             "ℕ, Bool, true, ◌&&◌",
             "ℕ, Bool, true, false, ◌&&◌",
         ),
+        ("role_of: the first function", "  function = role.function.0;", "  function = 0;"),
+        ("role_of: the argument is the result", "  argument = type_at types role.argument;", "  argument = type_at types role.result;"),
     ],
     "TypeNames": [
         (
@@ -782,9 +798,12 @@ CHANGES = {
             "pub constructors : All (All IsName) (all_constructor_names named)",
             "pub constructors : All IsName (type_names named)",
         ),
+        ("AreNamed: types of any name", "  pub types : All IsName (type_names named)\n", "  pub types : Unit {0}\n"),
     ],
     "ProgramTypes": [
         ("named_table: over no types", "named_table t = table_of (types_by_number t) t.named.items", "named_table t = table_of [] t.named.items"),
+        ("program_with: no function", "program_with t functions = program_of t.table.forms.keys t.named.items t.state functions", "program_with t functions = program_of t.table.forms.keys t.named.items t.state []"),
+        ("program_with: no named type", "program_with t functions = program_of t.table.forms.keys t.named.items t.state functions", "program_with t functions = program_of t.table.forms.keys [] t.state functions"),
     ],
     "Programs": [
         ("constructor_names: of the first type", "(slice_get named number)) []", "(slice_get named 0)) []"),

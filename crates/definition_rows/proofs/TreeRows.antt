@@ -5,7 +5,7 @@ use Rattle.std.specs.List.{list_all}
 use Rattle.core_terms.specs.Names.{IsName}
 use Rattle.core_terms.specs.Types.{UnitTy, BoolTy, IntTy, AuthTy}
 use Rattle.core_terms.specs.TypeTables.{type_at}
-use Rattle.core_terms.specs.ProgramTrees.{are_below, table_of, types_at}
+use Rattle.core_terms.specs.ProgramTrees.{are_below, kind_of, table_of, types_at}
 use Rattle.core_terms.specs.declared.types.TyId.{TyId}
 use Rattle.core_terms.specs.declared.term.Constructor.{Constructor}
 use Rattle.core_terms.specs.declared.term.NamedType.{NamedType}
@@ -26,6 +26,7 @@ tree_rows = record {
   arms_by_tag = refl;
   each_kind = (refl, refl, refl, refl);
   types_of_a_function = λ f parameters result. (ap (types_at (UnitTy ∷ BoolTy ∷ IntTy ∷ [])) parameters, ap (type_at (UnitTy ∷ BoolTy ∷ IntTy ∷ [])) result);
+  kind_of_a_function = λ types f query. ap kind_of query;
   name_of_a_function = λ types f. refl;
   fields_of_a_type = one_field;
   fields_of_program_types = λ t declared constructor named constructors fields types. ap₂ table_of types named ∙ one_field declared constructor constructors fields;
@@ -37,10 +38,13 @@ tree_rows = record {
   type_is_named = λ declared h. h.types 0 [] (lit< tt);
   type_of_a_state = (refl, refl);
   type_of_a_state_alone = (refl, refl);
+  type_of_a_parameter = λ f one. ap (λ (ids : List TyId). are_below 1 ids && nat_lt f.result.0 1) one;
   type_of_a_result = λ f none result. ap (λ (ids : List TyId). are_below 1 ids && nat_lt f.result.0 1) none ∙ ap (λ (id : TyId). nat_lt id.0 1) result;
   type_of_a_field = λ declared constructor constructors fields.
       ap (list_all (λ (c : Constructor). are_below 1 c.fields.items)) constructors ∙ ap (λ (ids : List TyId). are_below 1 ids && true) fields;
   state_of_program_types = λ t functions. refl;
+  types_of_program_types = λ t functions. refl;
+  functions_of_program_types = λ t functions. refl;
   types_alone_have_no_function = λ t. refl;
   program_without_functions = refl;
 }

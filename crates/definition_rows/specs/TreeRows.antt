@@ -1,5 +1,5 @@
 -- What a program of the code stands for (`ProgramTrees`, `ProgramTypes`, `Programs`, `TypeNames`).
-use Rattle.std.specs.Prelude.{◌≡◌, List, [], ◌∷◌, true, false}
+use Rattle.std.specs.Prelude.{◌≡◌, List, [], ◌∷◌, true, false, map}
 use Rattle.core_terms.specs.Types.{Ty, UnitTy, BoolTy, IntTy, AuthTy}
 use Rattle.core_terms.specs.Names.{IsName}
 use Rattle.core_terms.specs.Terms.{UnitE, LocalE, NoE, AndE, NoArm, AndArm}
@@ -26,6 +26,7 @@ pub record TreeRows : Type 0 where
   -- a function has its name, and the types with the numbers of its parameters and of its result
   pub types_of_a_function : (f : Function) → f.parameters.items ≡ record { 0 = 1 } ∷ [] → f.result ≡ record { 0 = 2 }
       → ((function_of (UnitTy ∷ BoolTy ∷ IntTy ∷ []) f).parameters ≡ BoolTy ∷ []) × ((function_of (UnitTy ∷ BoolTy ∷ IntTy ∷ []) f).result ≡ IntTy)
+  pub kind_of_a_function : (types : List Ty) (f : Function) → f.kind ≡ Query → (function_of types f).kind ≡ tree.Query
   pub name_of_a_function : (types : List Ty) (f : Function) → (function_of types f).name ≡ f.name
   -- a named type has the types of its constructors' fields
   pub fields_of_a_type : (declared : NamedType) (constructor : Constructor)
@@ -43,10 +44,13 @@ pub record TreeRows : Type 0 where
   -- the types of fields, the state's type, and that of a result, are in the table
   pub type_of_a_state : (is_within (UnitForm ∷ []) [] (record { 0 = 0 }) [] ≡ true) × (is_within (UnitForm ∷ []) [] (record { 0 = 1 }) [] ≡ false)
   pub type_of_a_state_alone : (are_types_within 1 [] (record { 0 = 0 }) ≡ true) × (are_types_within 1 [] (record { 0 = 1 }) ≡ false)
+  pub type_of_a_parameter : (f : Function) → f.parameters.items ≡ record { 0 = 1 } ∷ [] → has_types_below 1 f ≡ false
   pub type_of_a_result : (f : Function) → f.parameters.items ≡ [] → f.result ≡ record { 0 = 1 } → has_types_below 1 f ≡ false
   pub type_of_a_field : (declared : NamedType) (constructor : Constructor)
       → declared.constructors.items ≡ constructor ∷ [] → constructor.fields.items ≡ record { 0 = 1 } ∷ [] → has_fields_below 1 declared ≡ false
-  -- a program has the state's type
+  -- a program has the state's type, the named types, and each function
   pub state_of_program_types : (t : Types) (functions : List Function) → (program_with t functions).state ≡ type_at (types_by_number t) t.state
+  pub types_of_program_types : (t : Types) (functions : List Function) → (program_with t functions).types ≡ named_table t
+  pub functions_of_program_types : (t : Types) (functions : List Function) → (program_with t functions).functions ≡ map (function_of (types_by_number t)) functions
   pub types_alone_have_no_function : (t : Types) → (types_meaning t).functions ≡ []
   pub program_without_functions : program_of (UnitForm ∷ BoolForm ∷ []) [] (record { 0 = 1 }) [] ≡ record { format = program_format; types = []; state = BoolTy; functions = [] }
