@@ -1,9 +1,9 @@
 -- The rows of `specs/HeadlineRows` hold.
-use Rattle.std.proofs.Common.{◌≡◌, inl, inr, zero, suc, List, [], ◌∷◌, length, bytes_eq, T, refl, ap, subst, arith}
+use Rattle.std.proofs.Common.{◌≡◌, inl, inr, zero, suc, [], ◌∷◌, length, bytes_eq, T, refl, ap, subst, arith}
 use Rattle.core_terms.specs.Types.{UnitTy}
 use Rattle.core_terms.specs.Values.{UnitV}
 use Rattle.ideal_meaning.specs.Run.{Overflow}
-use Rattle.ideal_meaning.specs.Ideal.{Outcome, Done, Trapped}
+use Rattle.ideal_meaning.specs.Ideal.{Done, Trapped}
 use Rattle.ideal_meaning.specs.Headline.{TrueOrSplit, call_of}
 use Rattle.ideal_meaning.specs.Examples.{toy, unit_program}
 use Rattle.definition_rows.specs.HeadlineRows.{HeadlineRows}

@@ -1,8 +1,8 @@
 -- The rows of `specs/RingRows` hold.
-use Rattle.std.proofs.Common.{◌≡◌, ◌≤◌, ◌<◌, ◌+◌, ℕ, suc, List, [], ◌∷◌, ◌++◌, length, refl, ap, ◌∙◌, arith, lit<}
+use Rattle.std.proofs.Common.{◌≡◌, ◌≤◌, ◌<◌, ◌+◌, ℕ, suc, [], ◌∷◌, length, refl, ap, ◌∙◌, arith, lit<}
 use Rattle.std.proofs.lemmas.List.{length-append}
 use Rattle.ideal_meaning.specs.Frames.{NoByte, NoMore, Offers, UseIs, New, Use}
-use Rattle.ideal_meaning.specs.Ring.{IsFrameOf, IsKthLast, OffersFrames}
+use Rattle.ideal_meaning.specs.Ring.{IsKthLast, OffersFrames}
 use Rattle.ideal_meaning.specs.RingRows.{a, b}
 use Rattle.definition_rows.specs.RingRows.{RingRows}
 
