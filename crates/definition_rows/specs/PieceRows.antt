@@ -1,6 +1,6 @@
--- The pieces that bytes offer (`Frames`), and the new pieces that they leave (`Following`): those of the frames before the first that isn't whole or isn't allowed, and those that came
--- before. Such is a USE that names none that is kept, a piece longer than the limit or cut, and another kind of frame. Each equation holds by
--- computing both sides.
+-- The pieces that bytes offer (`Frames`), and the new pieces that they leave (`Following`): those of the frames before the first that isn't
+-- whole or isn't allowed, and those that came before. Such is a USE that names none that is kept, a piece longer than the limit or cut, and
+-- another kind of frame. Each equation holds by computing both sides.
 use Rattle.std.specs.Prelude.{◌≡◌, [], ◌∷◌}
 use Rattle.ideal_meaning.specs.Frames.{NoByte, LongBy, NoMore, Offers, New, Use, offered, frame_bytes}
 use Rattle.ideal_meaning.specs.Following.{after_bytes, after_frames, after_use}

@@ -45,7 +45,7 @@ pub record RoleRows : Type 0 where
   -- that query is no update, and no role with another result than its function's
   pub query_is_no_update : IsRole of_one 0 Update UnitTy UnitTy → ⊥
   pub other_result_is_no_shape : HasRoleShape of_one (record { function = 0; name = []; kind = Query; argument = UnitTy; result = UnitTy }) → ⊥
-  -- a type that stands twice among these, and one that stands there
+  -- a type that stands twice has no one number, a form that is there isn't added again, and a type that is there has a number
   pub int_has_two_numbers : HasOneNumber (IntTy ∷ BoolTy ∷ IntTy ∷ []) → ⊥
   pub second_time_is_none : IsWithForm (IntForm ∷ []) IntForm (IntForm ∷ IntForm ∷ []) → ⊥
   pub auth_has_a_number : HasNoNumber (IntTy ∷ AuthTy IntTy ∷ []) (AuthForm (record { 0 = 0 })) → ⊥

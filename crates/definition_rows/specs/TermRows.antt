@@ -1,5 +1,5 @@
--- What no local of an expression is (`ProgramLimits`, `Typing`), and the function of a number that none has (`Terms`). Each equation holds by
--- computing both sides.
+-- The locals of an expression (`ProgramLimits`), types that a local has not (`Typing`), and the function of a number that none has (`Terms`).
+-- Each equation holds by computing both sides.
 use Rattle.std.specs.Prelude.{◌≡◌, [], false}
 use Rattle.core_terms.specs.Types.{UnitTy, BoolTy, IntTy, PairTy, NamedTy}
 use Rattle.core_terms.specs.Terms.{Expression, UnitE, LocalE, LetE, MatchE, NoArm, AndArm, Inner, function_at}

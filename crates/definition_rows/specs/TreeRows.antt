@@ -35,7 +35,7 @@ pub record TreeRows : Type 0 where
   pub fields_of_program_types : (t : Types) (declared : NamedType) (constructor : Constructor)
       → t.named.items ≡ declared ∷ [] → declared.constructors.items ≡ constructor ∷ [] → constructor.fields.items ≡ record { 0 = 1 } ∷ []
       → types_by_number t ≡ UnitTy ∷ AuthTy IntTy ∷ [] → named_table t ≡ (((AuthTy IntTy ∷ []) ∷ []) ∷ [])
-  -- and is called what it is called, with names of its own for its constructors
+  -- and names: its own, and those of its constructors
   pub names_of_constructors : (first second : NamedType) (constructor : Constructor)
       → first.constructors.items ≡ [] → second.constructors.items ≡ constructor ∷ [] → constructor_names (first ∷ second ∷ []) 1 ≡ constructor.name ∷ []
   pub constructors_are_named : (declared : NamedType) (constructor : Constructor)

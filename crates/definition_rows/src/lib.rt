@@ -36,7 +36,7 @@ pub fn core_terms_rows()
     ensures faults { FaultRows }
 {}
 
-/// The rows of `ideal_meaning`: how runs end, verdicts, offered and new pieces, causes, ints and texts.
+/// The rows of `ideal_meaning`: how runs end, the words of the headline and of the ring, verdicts, offered and new pieces, causes, ints and texts.
 pub fn ideal_meaning_rows()
     ensures ends { EndRows }
     ensures headline { HeadlineRows }
