@@ -37,7 +37,7 @@ ABOVE, FROM_ABOVE = "definition_rows", "Above"
 # the stages in which many changes are tried in one check
 IN_COPIES = ("examples", "rows", "laws")
 PLACE = re.compile(r"^(?:\./)?((?:specs|proofs|src)/\S+?):(\d+):\d+: (?!note|warning)(.*)", re.M)
-NAMED_PLACE = re.compile(r"\(in `([^`]+)`\)|in `([^`]+)`")
+NAMED_PLACE = re.compile(r"\(in `([^`]+)`\)|in `([\w-]+)`")
 LET_THROUGH = "let through"
 ROW = re.compile(r"^(?:pub )?([\w-]+) :", re.M)
 
