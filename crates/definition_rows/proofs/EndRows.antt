@@ -6,6 +6,7 @@ pub end_rows : EndRows
 end_rows = record {
   trap_keeps_its_fuel = refl;
   fuel_of_a_trap = refl;
+  fuel_of_a_value = refl;
   both_calls_are_made = refl;
   second_call_is_out = refl;
   outcome_of_a_trap = refl;

@@ -26,6 +26,12 @@ int_rows = record {
   other_quotient = λ h. let k : pos 5 ≡ pos 7 = h.sum in absurd (cc);
   minus_seven_by_two = record { sum = refl; below = lit< tt; not_negative = λ h. absurd h.le; not_positive = λ h. le_z_yes tt };
   minus_seven_by_two_from_below = λ h. (h.not_positive (le_z_yes tt)).le;
+  exact_int = ((λ h. refl), (λ beyond. absurd (beyond (le_z_yes tt, le_z_yes tt))));
+  exact_int_does_not_trap = λ h. let e = h.0 (le_z_yes tt, le_z_yes tt) in absurd (cc);
+  no_int_traps = λ h. let e = h.1 (λ is. is.1.le) in absurd (cc);
+  fact_is_not_false = λ h. let e = h.0 refl in absurd (cc);
+  other_is_not_true = λ h. let e = h.1 (λ same. absurd (cc)) in absurd (cc);
+  operands_in_order = refl;
   front_comes_before = (1 ∷ [], 2, [], refl, inl refl);
   smaller_byte_comes_before = (1 ∷ [], 2, [], refl, inr (1, 9 ∷ [], refl, lit< tt));
   no_text_before_itself = none_before_itself;

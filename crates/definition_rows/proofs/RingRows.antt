@@ -26,6 +26,12 @@ no_use (within, beyond) =
     let e : NoMore NoByte ≡ Offers used.0 used.1 used.2 = used.4 in
     absurd (cc)
 
+not_used : OffersFrames 1 [] (New a ∷ Use 0 ∷ []) (Offers a 3 (NoMore (UseIs 0 0))) → ⊥
+not_used (left, more, is, behind) =
+    let used = behind.0 (lit< tt) in
+    let e : more ≡ Offers used.0 used.1 used.2 = used.4 in
+    absurd (cc)
+
 pub ring_rows : RingRows
 ring_rows = record {
   last_is_0 = (a ∷ [], [], refl, refl);
@@ -35,6 +41,9 @@ ring_rows = record {
   no_piece_beyond_the_limit = λ h. let k : 2 ≤ 1 = h.0 in absurd (omega (arith, k));
   no_later_piece_beyond_the_limit = λ h. let k : 2 ≤ 1 = h.1.1.0 in absurd (omega (arith, k));
   no_number_of_three_bytes = λ h. let k : 65536 < 65536 = h.0 in absurd (omega (arith, k));
+  no_frame_can_be_written = tt;
+  new_piece_and_used_again = (3, Offers a 0 (NoMore NoByte), refl, ((λ below. (a, 0, NoMore NoByte, ([], [], refl, refl), refl, tt)), (λ beyond. let k : 1 ≤ 0 = beyond in absurd (omega (arith, k)))));
+  another_piece_is_not_used = not_used;
   new_piece_is_offered = no_new;
   used_piece_is_offered = no_use;
   use_of_none_is_refused = λ h. let e : NoMore NoByte ≡ NoMore (UseIs 0 0) = h.1 (omega arith) in absurd (cc);

@@ -10,6 +10,7 @@ verdict_rows = record {
   second_part_of_the_state_is_bad = λ hash. refl;
   second_part_of_the_argument_is_bad = λ hash. refl;
   rejection_keeps_its_fuel = λ hash. refl;
+  second_piece_is_short = refl;
   second_piece_is_no_spelling = refl;
   offset_in_a_state = λ hash. refl;
   offset_in_an_argument = λ hash. refl;

@@ -35,6 +35,7 @@ pub record EndRows : Type 0 where
   -- a run that traps keeps the fuel that is left
   pub trap_keeps_its_fuel : ideal choices 5 NoV 9 ≡ Ends (Traps DivZero) 8 []
   pub fuel_of_a_trap : fuel_of (ideal choices 5 NoV 9) ≡ 8
+  pub fuel_of_a_value : fuel_of (ideal choices 6 NoV 9) ≡ 8
   -- each call takes a unit of fuel, and of three calls with two units the last one is out
   pub both_calls_are_made : ideal calling_twice 1 NoV 3 ≡ Gives (PairV UnitV UnitV) 0 []
   pub second_call_is_out : ideal calling_twice 1 NoV 2 ≡ Ends IsOut 0 []

@@ -9,6 +9,7 @@ IsSame = IsSameFault (λ k l. k ≡ l)
 
 pub record FaultRows : Type 0 where
   pub same_fault : IsSame (At 5 1) (At 5 1)
+  pub want_of_memory_is_the_same : IsSame NoMemory NoMemory
   pub fault_at_another_place : IsSame (At 5 1) (At 5 2) → ⊥
   pub fault_of_another_kind : IsSame (At 5 1) (At 6 1) → ⊥
   pub want_of_memory_is_no_fault : (IsSame (At 5 1) NoMemory → ⊥) × (IsSame NoMemory (At 5 1) → ⊥)

@@ -1,7 +1,7 @@
 -- The words in which the ring of kept pieces is told (`Ring`): which piece is the k-th last, which frames can be written, what they offer,
 -- and which frame is that of a piece.
 use Rattle.std.specs.Prelude.{◌≡◌, [], ◌∷◌}
-use Rattle.ideal_meaning.specs.Frames.{NoByte, NoMore, New, Use}
+use Rattle.ideal_meaning.specs.Frames.{NoByte, UseIs, NoMore, Offers, New, Use}
 use Rattle.ideal_meaning.specs.Ring.{AreFramesOf, CanBeWritten, IsFrameOf, IsKthLast, OffersFrames, new_in}
 use Rattle.ideal_meaning.specs.RingRows.{a, b}
 
@@ -15,6 +15,10 @@ pub record RingRows : Type 0 where
   pub no_piece_beyond_the_limit : CanBeWritten 1 (New a ∷ []) → ⊥
   pub no_later_piece_beyond_the_limit : CanBeWritten 1 (New b ∷ Use 0 ∷ New a ∷ []) → ⊥
   pub no_number_of_three_bytes : CanBeWritten 9 (Use 65536 ∷ []) → ⊥
+  pub no_frame_can_be_written : CanBeWritten 0 []
+  -- what is offered is the piece of NEW, which a USE names then
+  pub new_piece_and_used_again : OffersFrames 1 [] (New a ∷ Use 0 ∷ []) (Offers a 3 (Offers a 0 (NoMore NoByte)))
+  pub another_piece_is_not_used : OffersFrames 1 [] (New a ∷ Use 0 ∷ []) (Offers a 3 (NoMore (UseIs 0 0))) → ⊥
   -- where the end is offered: no piece of NEW, none of USE, and not the refusal of a USE that names none
   pub new_piece_is_offered : OffersFrames 1 [] (New a ∷ []) (NoMore NoByte) → ⊥
   pub used_piece_is_offered : OffersFrames 1 (a ∷ []) (Use 0 ∷ []) (NoMore NoByte) → ⊥

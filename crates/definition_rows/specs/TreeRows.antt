@@ -5,12 +5,13 @@ use Rattle.core_terms.specs.Names.{IsName}
 use Rattle.core_terms.specs.Terms.{UnitE, LocalE, NoE, AndE, NoArm, AndArm}
 use Rattle.core_terms.specs.Terms as tree
 use Rattle.core_terms.specs.TypeTables.{type_at}
-use Rattle.core_terms.specs.ProgramTrees.{are_types_within, arms_in_a_row, function_of, has_fields_below, has_types_below, in_a_row, is_within, kind_of, program_format, program_of, table_of}
+use Rattle.core_terms.specs.ProgramTrees.{are_types_within, arms_in_a_row, expression_of, function_of, has_fields_below, has_types_below, in_a_row, is_role, is_within, kind_of, program_format, program_of, table_of}
 use Rattle.core_terms.specs.ProgramTypes.{named_table, program_with, types_by_number, types_meaning}
-use Rattle.core_terms.specs.Programs.{constructor_names}
+use Rattle.core_terms.specs.Programs.{constructor_names, meaning, types_of}
 use Rattle.core_terms.specs.TypeNames.{AreNamed}
 use Rattle.core_terms.specs.declared.types.TyForm.TheVariants.{UnitForm, BoolForm}
 use Rattle.core_terms.specs.declared.program_types.Types.{Types}
+use Rattle.core_terms.specs.declared.program.Program.{Program}
 use Rattle.core_terms.specs.declared.term.Constructor.{Constructor}
 use Rattle.core_terms.specs.declared.term.Function.{Function}
 use Rattle.core_terms.specs.declared.term.Kind.TheVariants.{Inner, Init, Query, Update}
@@ -27,6 +28,8 @@ pub record TreeRows : Type 0 where
   pub types_of_a_function : (f : Function) → f.parameters.items ≡ record { 0 = 1 } ∷ [] → f.result ≡ record { 0 = 2 }
       → ((function_of (UnitTy ∷ BoolTy ∷ IntTy ∷ []) f).parameters ≡ BoolTy ∷ []) × ((function_of (UnitTy ∷ BoolTy ∷ IntTy ∷ []) f).result ≡ IntTy)
   pub kind_of_a_function : (types : List Ty) (f : Function) → f.kind ≡ Query → (function_of types f).kind ≡ tree.Query
+  pub body_of_a_function : (types : List Ty) (f : Function) → (function_of types f).body ≡ expression_of types f.body
+  pub inner_function_is_no_role : (f : Function) → f.kind ≡ Inner → is_role f ≡ false
   pub name_of_a_function : (types : List Ty) (f : Function) → (function_of types f).name ≡ f.name
   -- a named type has the types of its constructors' fields
   pub fields_of_a_type : (declared : NamedType) (constructor : Constructor)
@@ -43,6 +46,8 @@ pub record TreeRows : Type 0 where
   pub type_is_named : (declared : NamedType) → AreNamed (declared ∷ []) → IsName declared.name
   -- the types of fields, the state's type, and that of a result, are in the table
   pub type_of_a_state : (is_within (UnitForm ∷ []) [] (record { 0 = 0 }) [] ≡ true) × (is_within (UnitForm ∷ []) [] (record { 0 = 1 }) [] ≡ false)
+  pub type_of_a_field_in_a_program : (declared : NamedType) → has_fields_below 1 declared ≡ false → is_within (UnitForm ∷ []) (declared ∷ []) (record { 0 = 0 }) [] ≡ false
+  pub type_in_a_function_of_a_program : (f : Function) → has_types_below 1 f ≡ false → is_within (UnitForm ∷ []) [] (record { 0 = 0 }) (f ∷ []) ≡ false
   pub type_of_a_state_alone : (are_types_within 1 [] (record { 0 = 0 }) ≡ true) × (are_types_within 1 [] (record { 0 = 1 }) ≡ false)
   pub type_of_a_parameter : (f : Function) → f.parameters.items ≡ record { 0 = 1 } ∷ [] → has_types_below 1 f ≡ false
   pub type_of_a_result : (f : Function) → f.parameters.items ≡ [] → f.result ≡ record { 0 = 1 } → has_types_below 1 f ≡ false
@@ -52,5 +57,6 @@ pub record TreeRows : Type 0 where
   pub state_of_program_types : (t : Types) (functions : List Function) → (program_with t functions).state ≡ type_at (types_by_number t) t.state
   pub types_of_program_types : (t : Types) (functions : List Function) → (program_with t functions).types ≡ named_table t
   pub functions_of_program_types : (t : Types) (functions : List Function) → (program_with t functions).functions ≡ map (function_of (types_by_number t)) functions
+  pub functions_of_a_program : (p : Program) → (meaning p).functions ≡ map (function_of (types_of p)) p.functions.items
   pub types_alone_have_no_function : (t : Types) → (types_meaning t).functions ≡ []
   pub program_without_functions : program_of (UnitForm ∷ BoolForm ∷ []) [] (record { 0 = 1 }) [] ≡ record { format = program_format; types = []; state = BoolTy; functions = [] }

@@ -32,6 +32,8 @@ pub record VerdictRows : Type 0 where
   -- a rejected run keeps the fuel that is left
   pub rejection_keeps_its_fuel : (hash : Hash)
       → checked hash unit_program 1 (call_of (DigestV []) UnitV) 7 (before_all 0 (NoMore NoByte)) ≡ Ends (Rejects (Short 0)) 6 (before_all 0 (NoMore NoByte))
+  -- the number of the piece that is wanting is told
+  pub second_piece_is_short : verdict toy bool_program UnitTy 1 (toy (1 ∷ [])) [] 1 (file (0 ∷ 0 ∷ 0 ∷ 0 ∷ 0 ∷ 0 ∷ 1 ∷ 1 ∷ [])) ≡ Rejected (Short 1)
   -- the number of a piece comes before the offset in it
   pub second_piece_is_no_spelling : verdict toy bool_program UnitTy 1 (toy (1 ∷ [])) [] 1 (file (0 ∷ 0 ∷ 0 ∷ 0 ∷ 0 ∷ 0 ∷ 1 ∷ 1 ∷ 0 ∷ 0 ∷ 0 ∷ 0 ∷ 2 ∷ 3 ∷ 2 ∷ [])) ≡ Rejected (BadPiece 1 0)
   -- the same of frames alone, which use the pieces that came before
