@@ -62,7 +62,7 @@ CHANGES = {
         (
             "HasType: any fields",
             "OnFields (fields_at P.types number tag) (λ ts. HaveTypes env xs ts)",
-            "OnFields (fields_at P.types number tag) (λ ts. HaveTypes env NoE [])",
+            "OnFields (fields_at P.types number tag) (λ ts. Unit {0})",
         ),
         (
             "HasType: arithmetic on texts",
