@@ -3,10 +3,10 @@
 
     tools/changed_definitions/run.py core_terms results.jsonl
 
-The changes stand in `of_CRATE.py` and the files that it names. Each is made in a clone of the repository as it is committed. A change is tried in turn over the crate's
-examples, which are the files of `specs/` and `proofs/` whose statements hold by computing; over its rows in the crate `definition_rows`, of
-which the clone has copies in the crate itself; over its laws, by the lemmas that their proofs cite; over the code that cites the
-definitions; and over the whole crate. The first of them that isn't proved refuses it.
+The changes stand in `of_CRATE.py` and the files that it names. Each is made in a clone of the repository as it is committed. A change is tried
+in turn over the crate's examples, which are the files of `specs/` and `proofs/` whose statements hold by computing; over its rows in the
+crate `definition_rows`, of which the clone has copies in the crate itself; over its laws, by the lemmas that their proofs cite; over the code
+that cites the definitions; and over the whole crate. The first of them that isn't proved refuses it.
 
 Examples, rows and laws are read by the proof of a function that the clone alone has. Many changes are tried there in one check, each in
 copies of the modules that read what is changed. `--again` tries once more what the stages let through, as once there are new rows.
