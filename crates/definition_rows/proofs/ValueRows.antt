@@ -28,6 +28,7 @@ value_rows = record {
   no_ideal_value_of_another_form = λ h. h;
   no_ideal_constructor_of_other_fields = λ h. h.1.0;
   size_of_no_text = refl;
+  projection_of_a_field_too_many = refl;
   deepest_is_within = record { size_fits = omega arith; depth_fits = omega arith };
   deeper_is_not = λ h. let k : 513 ≤ 512 = h.depth_fits in absurd (omega (arith, k));
   spelling_of_unit = refl;

@@ -3,8 +3,8 @@ use Rattle.std.specs.Prelude.{◌≡◌, [], ◌∷◌, true, pos, replicate}
 use Rattle.core_terms.specs.Types.{UnitTy, BoolTy, IntTy, TextTy, PairTy, NamedTy, AuthTy}
 use Rattle.core_terms.specs.Formats.{IsHash}
 use Rattle.core_terms.specs.Values.{UnitV, BoolV, IntV, TextV, PairV, ConV, DigestV, NoV, AndV, AreIdeal, AreShallow, IsIdeal, IsShallow, IsWithin, size}
-use Rattle.core_terms.specs.Spelling.{AreBytes, Spells, spelling}
-use Rattle.core_terms.specs.ValueRows.{of_three, two_types}
+use Rattle.core_terms.specs.Spelling.{AreBytes, Spells, shallow, spelling}
+use Rattle.core_terms.specs.ValueRows.{marks, of_three, two_types}
 use Rattle.core_terms.specs.ReadingRows.{nested, nested_value}
 
 pub record ValueRows : Type 0 where
@@ -32,8 +32,9 @@ pub record ValueRows : Type 0 where
   pub no_ideal_pair_of_other_parts : (IsIdeal [] (PairTy BoolTy IntTy) (PairV (IntV (pos 5)) (IntV (pos 5))) → ⊥) × (IsIdeal [] (PairTy BoolTy IntTy) (PairV (BoolV true) (BoolV true)) → ⊥)
   pub no_ideal_value_of_another_form : IsIdeal [] BoolTy UnitV → ⊥
   pub no_ideal_constructor_of_other_fields : IsIdeal two_types (NamedTy 1) (ConV 1 (AndV (BoolV true) (AndV (BoolV true) (AndV (TextV []) NoV)))) → ⊥
-  -- what has not the type has no size
+  -- what has not the type has no size, and is its own projection
   pub size_of_no_text : size [] TextTy UnitV ≡ 0
+  pub projection_of_a_field_too_many : shallow marks two_types (NamedTy 1) (ConV 0 (AndV (BoolV true) NoV)) ≡ ConV 0 (AndV (BoolV true) NoV)
   -- a value of depth 512 is within the limits, and none of 513
   pub deepest_is_within : IsWithin 65536 two_types (nested 511 BoolTy) (nested_value 511 (BoolV true))
   pub deeper_is_not : IsWithin 65536 two_types (nested 512 BoolTy) (nested_value 512 (BoolV true)) → ⊥
