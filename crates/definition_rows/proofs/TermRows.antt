@@ -8,6 +8,7 @@ term_rows = record {
   locals_of_what_is_matched = refl;
   locals_of_a_constructor_without_fields = refl;
   locals_without_an_arm = refl;
+  levels_without_an_arm = refl;
   second_part_of_a_local = refl;
   unit_is_no_bool = refl;
   bool_is_no_unit = refl;

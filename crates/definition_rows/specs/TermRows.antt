@@ -1,4 +1,4 @@
--- The locals of an expression (`ProgramLimits`), types that a local has not (`Typing`), and the function of a number that none has (`Terms`).
+-- The locals and levels of an expression (`ProgramLimits`), types that a local has not (`Typing`), and the function of a number that none has (`Terms`).
 -- Each equation holds by computing both sides.
 use Rattle.std.specs.Prelude.{◌≡◌, [], true, false}
 use Rattle.core_terms.specs.Types.{UnitTy, BoolTy, IntTy, TextTy, PairTy, NamedTy, AuthTy}
@@ -6,7 +6,7 @@ use Rattle.core_terms.specs.Terms.{Expression, UnitE, BoolE, LocalE, PairE, SndE
 use Rattle.core_terms.specs.declared.term.Arith.TheVariants.{Rem}
 use Rattle.core_terms.specs.declared.term.Compare.TheVariants.{Lt}
 use Rattle.core_terms.specs.declared.term.TextCompare.TheVariants.{Lt as TLt}
-use Rattle.core_terms.specs.ProgramLimits.{locals_in, locals_in_arms}
+use Rattle.core_terms.specs.ProgramLimits.{levels_of_arms, locals_in, locals_in_arms}
 use Rattle.core_terms.specs.LimitRows.{bind_two, two_constructors}
 use Rattle.core_terms.specs.RoleRows.{five}
 use Rattle.core_terms.specs.TypingRows.{takes}
@@ -20,6 +20,7 @@ pub record TermRows : Type 0 where
   pub locals_of_what_is_matched : locals_in two_constructors 0 (MatchE 0 bind_three (AndArm UnitE (AndArm UnitE NoArm))) ≡ 3
   pub locals_of_a_constructor_without_fields : locals_in two_constructors 5 (ConE 0 0 NoE) ≡ 5
   pub locals_without_an_arm : locals_in_arms two_constructors 5 [] NoArm ≡ 5
+  pub levels_without_an_arm : levels_of_arms NoArm ≡ 0
   -- a pair has both its types
   pub second_part_of_a_local : takes (LocalE 3) (PairTy IntTy BoolTy) ≡ false
   -- nor has an expression another type, or such a type where a part has another one
