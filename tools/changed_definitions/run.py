@@ -3,12 +3,13 @@
 
     tools/changed_definitions/run.py core_terms results.jsonl
 
-The changes stand in `of_CRATE.py`. Each is made in a clone of the repository as it is committed. A change is tried in turn over the crate's
-examples, which are the files of `specs/` and `proofs/` whose statements hold by computing; over its laws, by the lemmas that their proofs
-cite; over the code that cites the definitions; and over the whole crate. The first of them that isn't proved refuses it.
+The changes stand in `of_CRATE.py` and the files that it names. Each is made in a clone of the repository as it is committed. A change is tried
+in turn over the crate's examples, which are the files of `specs/` and `proofs/` whose statements hold by computing; over its rows in the
+crate `definition_rows`, of which the clone has copies in the crate itself; over its laws, by the lemmas that their proofs cite; over the code
+that cites the definitions; and over the whole crate. The first of them that isn't proved refuses it.
 
-Examples and laws are read by the proof of a function that the clone alone has. Many changes are tried there in one check, each in copies of
-the modules that read what is changed.
+Examples, rows and laws are read by the proof of a function that the clone alone has. Many changes are tried there in one check, each in
+copies of the modules that read what is changed. `--again` tries once more what the stages let through, as once there are new rows.
 
 Each result is a line of a file, and a run goes on with what the file doesn't tell. So a first run may be over the examples alone, and several
 runs may share the work: `--part 1/2` and `--part 2/2`, with one file of results. `--table` runs nothing, and prints what the file tells:
@@ -31,8 +32,12 @@ import tempfile
 import time
 
 HERE = os.path.dirname(os.path.abspath(__file__))
+# the crate of further rows, and how their files are called in the clone
+ABOVE, FROM_ABOVE = "definition_rows", "Above"
+# the stages in which many changes are tried in one check
+IN_COPIES = ("examples", "rows", "laws")
 PLACE = re.compile(r"^(?:\./)?((?:specs|proofs|src)/\S+?):(\d+):\d+: (?!note|warning)(.*)", re.M)
-NAMED_PLACE = re.compile(r"\(in `([^`]+)`\)|in `([^`]+)`")
+NAMED_PLACE = re.compile(r"\(in `([^`]+)`\)|in `([\w-]+)`")
 LET_THROUGH = "let through"
 ROW = re.compile(r"^(?:pub )?([\w-]+) :", re.M)
 
@@ -63,10 +68,15 @@ class Clone:
         self.folder = os.path.join(self.root, "crates", crate)
         if os.path.exists(self.root):
             self.git("checkout", "-q", ".")
+            self.git("clean", "-fdq")
             self.git("pull", "-q")
         else:
             subprocess.run(["git", "clone", "-q", HERE.rsplit("/", 2)[0], self.root], check=True)
-        self.statements, self.used = {"examples": list(self.examples()), "laws": list(self.laws())}, {}
+        self.add_rows()
+        examples = list(self.examples())
+        self.statements, self.used = {"examples": [it for it in examples if not it[1].startswith(FROM_ABOVE)]}, {}
+        self.statements["rows"] = [it for it in examples if it[1].startswith(FROM_ABOVE)]
+        self.statements["laws"] = list(self.laws())
         self.add_reader()
 
     def git(self, *words):
@@ -83,6 +93,18 @@ class Clone:
         os.makedirs(os.path.dirname(self.path(*names)), exist_ok=True)
         with open(self.path(*names), "w", encoding="utf-8") as file:
             file.write(text)
+
+    def add_rows(self):
+        """Adds copies of the rows above, of those that speak of this crate and of none above it."""
+        above, modules = os.path.join(self.root, "crates", ABOVE), {}
+        for name in sorted(os.listdir(os.path.join(above, "specs"))):
+            texts = {}
+            for folder in ("specs", "proofs"):
+                with open(os.path.join(above, folder, name), encoding="utf-8") as file:
+                    texts[folder] = re.sub(rf"\bRattle\.{ABOVE}\.(specs|proofs)\.(\w+)", rf"Rattle.{self.crate}.\1.{FROM_ABOVE}\2", file.read())
+            if name != "Lib.antt" and ("Rattle.ideal_meaning." in "".join(texts.values())) == (self.crate == "ideal_meaning"):
+                modules.update({(folder, FROM_ABOVE + name.removesuffix(".antt")): text for folder, text in texts.items()})
+        self.add_modules(modules)
 
     def examples(self):
         """The files of statements that hold by computing, each with the name of one of these."""
@@ -104,7 +126,7 @@ class Clone:
     def add_reader(self):
         """Adds the function whose proof reads the examples."""
         uses = []
-        for folder, module, row in self.statements["examples"]:
+        for folder, module, row in self.statements["examples"] + self.statements["rows"]:
             text = self.read(folder, f"{module}.antt")
             if f"\npub {row} :" not in text:
                 self.write(text.replace(f"\n{row} :", f"\npub {row} :", 1), folder, f"{module}.antt")
@@ -206,11 +228,18 @@ class Clone:
         found = []
         for file, line, message in PLACE.findall(output):
             named = NAMED_PLACE.search(message)
-            name = (named.group(1) or named.group(2)) if named else self.name_at(file, int(line))
+            name = self.row_at(file, int(line)) or ((named.group(1) or named.group(2)) if named else self.name_at(file, int(line)))
             place = f"{os.path.splitext(file)[0]}.{name}".replace("/", ".")
             if place not in found:
                 found.append(place)
         return found
+
+    def row_at(self, file, line):
+        """The name of the row that is proved at a line, where it is a field of a record."""
+        with contextlib.suppress(OSError, IndexError):
+            proved = re.match(r"  ([\w-]+) = ", self.read(file).split("\n")[line - 1])
+            return proved and file.endswith("Rows.antt") and proved.group(1)
+        return None
 
     def name_at(self, file, line):
         """The name of what is declared at a line or, if nothing is, before it."""
@@ -223,14 +252,14 @@ class Clone:
 
 
 def tried_in_copies(clone, changes, stage, results):
-    """What comes of changes that are tried over the examples or the laws, all in one check."""
+    """What comes of changes that are tried over the examples, the rows or the laws, all in one check."""
     refusers, each = [], 0
     with clone.copied(changes, stage) as read:
         if read:
             checked = clone.check(["--only", f"{clone.crate}::examples"])
             refusers, each = clone.refusers(checked.output), round(checked.seconds / len(read), 1)
     for number, change in enumerate(changes):
-        start = re.compile(rf"(specs|proofs)\.{copy_name(number, '')}(?=[A-Z])")
+        start = re.compile(rf"(specs|proofs)\.{copy_name(number, '')}(?=[A-Z])({FROM_ABOVE})?")
         by = [start.sub(r"\1.", place) for place in refusers if start.match(place)]
         yield result_of(change, stage, by, each, results)
 
@@ -255,7 +284,7 @@ def result_of(change, stage, by, seconds, results):
         "file": change.file,
         "stage": "no change" if is_no_change else stage if by else LET_THROUGH,
         "by": by,
-        "passed": told["passed"] + ([] if by else [stage]),
+        "passed": [passed for passed in told["passed"] if passed != stage] + ([] if by else [stage]),
         "seconds": {**told["seconds"], stage: seconds},
     }
 
@@ -268,10 +297,10 @@ def results_in(path):
         return {told["name"]: told for told in map(json.loads, file)}
 
 
-def is_left(results, change, stage):
-    """Whether a change is still to be tried in a stage."""
+def is_left(results, change, stage, is_again=False):
+    """Whether a change is still to be tried in a stage, or is to be tried again there."""
     told = results.get(change.name, {"stage": LET_THROUGH, "passed": []})
-    return told["stage"] == LET_THROUGH and stage not in told["passed"]
+    return told["stage"] == LET_THROUGH and (is_again or stage not in told["passed"])
 
 
 def row_of(told):
@@ -309,8 +338,9 @@ def main():
     parser.add_argument("--table", action="store_true", help="run nothing, and print the results")
     parser.add_argument("--part", type=part_of, default=(1, 1), metavar="I/N", help="every N-th change, from the I-th on")
     parser.add_argument("--only", default="", metavar="WORD", help="the changes in whose names the word stands")
-    parser.add_argument("--stages", default="examples,laws,code,crate", help="what they are tried over")
-    parser.add_argument("--copies", type=int, default=12, metavar="N", help="how many changes are tried over the examples in one check")
+    parser.add_argument("--stages", default="examples,rows,laws,code,crate", help="what they are tried over")
+    parser.add_argument("--copies", type=int, default=12, metavar="N", help="how many changes are tried in one check, each in copies")
+    parser.add_argument("--again", action="store_true", help="try again what the stages let through, as with new rows")
     parser.add_argument("--without", type=lambda words: words.split(","), default=[], metavar="NAMES", help="files and rows that are left out of the copies")
     parser.add_argument("--folder", help="where the clone stays for a later run; else it is temporary")
     parser.add_argument("--through", type=shlex.split, default=[], metavar="COMMAND", help="the command that each check is run by")
@@ -324,8 +354,8 @@ def main():
     with tempfile.TemporaryDirectory() as temporary:
         clone = Clone(options.crate, listed, options.folder or temporary, options)
         changes = [change for change in changes[number - 1 :: count] if options.only in change.name]
-        for stage in [stage for stage in ("examples", "laws") if stage in stages]:
-            left = [change for change in changes if is_left(results_in(options.results), change, stage)]
+        for stage in [stage for stage in IN_COPIES if stage in stages]:
+            left = [change for change in changes if is_left(results_in(options.results), change, stage, options.again)]
             for first in range(0, len(left), options.copies):
                 note(options.results, tried_in_copies(clone, left[first : first + options.copies], stage, results_in(options.results)))
         for stage in [stage for stage in ("code", "crate") if stage in stages]:
