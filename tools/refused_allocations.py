@@ -54,8 +54,8 @@ __attribute__((destructor)) static void end(void) {
 }
 
 static int refuses(void) {
-    calls++;
-    if (calls < first || calls > last) return 0;
+    unsigned long call = __atomic_add_fetch(&calls, 1, __ATOMIC_SEQ_CST);
+    if (call < first || call > last) return 0;
     errno = ENOMEM;
     return 1;
 }

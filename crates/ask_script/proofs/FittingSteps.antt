@@ -15,9 +15,30 @@ use Rattle.ask_script.specs.Scripts.{Fits, UserStep, Opens, Calls, Goes, Closes,
 use Rattle.ask_script.proofs.Sessions.{session_fits}
 
 -- what is asked for under a condition, is asked for without one
-asked : {A : Type 0} (t : Bool) (o : Option A) (x : A) → (if t then o else None) ≡ Some x → o ≡ Some x
+pub asked : {A : Type 0} (t : Bool) (o : Option A) (x : A) → (if t then o else None) ≡ Some x → o ≡ Some x
 asked true o x e = e
 asked false o x e = absurd (cc)
+
+-- what holds of the step of each line, holds of all steps of a script
+module _ (P : Program) (names : ConstructorNames) (Q : UserStep → Type 0) (each : (line : List ℕ) (step : UserStep) → step_in P names line ≡ Some step → Q step) where
+  then_has : (number : ℕ) (o : Option UserStep) (script : Script) (steps : List UserStep) → ((step : UserStep) → o ≡ Some step → Q step)
+      → ((later : List UserStep) → script ≡ Steps later → All Q later) → then_script P names number o script ≡ Steps steps → All Q steps
+  then_has number None script steps one others e = absurd (cc)
+  then_has number (Some step) (FaultyLine later) steps one others e = absurd (cc)
+  then_has number (Some step) (Steps later) steps one others e =
+      let same : step ∷ later ≡ steps = cc in
+      subst (All Q) same (All-cons Q step later (one step refl) (others later refl))
+
+  pub script_has : (number : ℕ) (lines : List (List ℕ)) (steps : List UserStep) → script_from P names number lines ≡ Steps steps → All Q steps
+  script_has number [] steps e = let same : [] ≡ steps = cc in subst (All Q) same (All-nil Q)
+  script_has number (line ∷ lines) steps e = by (λ later is. script_has (suc number) lines later is) (is_blank_line line) e
+    where
+      by : ((later : List UserStep) → script_from P names (suc number) lines ≡ Steps later → All Q later) → (t : Bool)
+          → (if t then script_from P names (suc number) lines else then_script P names number (step_in P names line) (script_from P names (suc number) lines)) ≡ Steps steps
+          → All Q steps
+      by others true e = others steps e
+      by others false e =
+          then_has number (step_in P names line) (script_from P names (suc number) lines) steps (λ step is. each line step is) others e
 
 module _ (P : Program) where
   role_fits : (name : List ℕ) (n : ℕ) → role_called P name ≡ Some n → reads_state (role_in P n).kind ≡ true
@@ -79,24 +100,8 @@ module _ (P : Program) where
     line_fits : (line : List ℕ) (step : UserStep) → step_in P names line ≡ Some step → Fits P step
     line_fits line step e = form_fits (words_of line) step (asked (is_utf8 line) (form_of P names (words_of line)) step e)
 
-    then_fits : (number : ℕ) (o : Option UserStep) (script : Script) (steps : List UserStep) → ((step : UserStep) → o ≡ Some step → Fits P step)
-        → ((later : List UserStep) → script ≡ Steps later → All (Fits P) later) → then_script P names number o script ≡ Steps steps → All (Fits P) steps
-    then_fits number None script steps one others e = absurd (cc)
-    then_fits number (Some step) (FaultyLine later) steps one others e = absurd (cc)
-    then_fits number (Some step) (Steps later) steps one others e =
-        let same : step ∷ later ≡ steps = cc in
-        subst (All (Fits P)) same (All-cons (Fits P) step later (one step refl) (others later refl))
-
     pub script_fits : (number : ℕ) (lines : List (List ℕ)) (steps : List UserStep) → script_from P names number lines ≡ Steps steps → All (Fits P) steps
-    script_fits number [] steps e = let same : [] ≡ steps = cc in subst (All (Fits P)) same (All-nil (Fits P))
-    script_fits number (line ∷ lines) steps e = by (λ later is. script_fits (suc number) lines later is) (is_blank_line line) e
-      where
-        by : ((later : List UserStep) → script_from P names (suc number) lines ≡ Steps later → All (Fits P) later) → (t : Bool)
-            → (if t then script_from P names (suc number) lines else then_script P names number (step_in P names line) (script_from P names (suc number) lines)) ≡ Steps steps
-            → All (Fits P) steps
-        by others true e = others steps e
-        by others false e =
-            then_fits number (step_in P names line) (script_from P names (suc number) lines) steps (λ step is. line_fits line step is) others e
+    script_fits = script_has P names (Fits P) line_fits
 
 -- what holds of what all elements give, by the elements
 pub of_elements : {A B : Type 0} (Q : B → Type 0) (f : A → B) (xs : List A) → All Q (map f xs) → All (λ x. Q (f x)) xs

@@ -1,3 +1,4 @@
 pub mod ScriptAnswers
+pub mod ScriptLaws
 pub mod ScriptRows
 pub mod Scripts

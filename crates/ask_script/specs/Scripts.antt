@@ -6,7 +6,7 @@ use Rattle.std.specs.Str.{is_utf8}
 use lib.Dec.{eqb}
 use Rattle.core_terms.specs.Terms.{Program}
 use Rattle.core_terms.specs.Roles.{Role, program_roles}
-use Rattle.core_terms.specs.Spelling.{spelling}
+use Rattle.core_terms.specs.Spelling.{AreBytes, spelling}
 use Rattle.session_meaning.specs.Calls.{reads_state, role_in}
 use Rattle.printed_syntax.specs.Literals.{ConstructorNames, Literal, IsValue, FirstFault, literal_in}
 use Rattle.number_words.specs.Numbers.{number_within}
@@ -125,3 +125,8 @@ Fits P (Opens session kept) = (1 ≤ session) × (session ≤ most_session) × (
 Fits P (Calls session role fuel argument) = (1 ≤ session) × (session ≤ most_session) × (reads_state (role_in P role).kind ≡ true) × (fuel ≤ most_fuel)
 Fits P Goes = Unit {0}
 Fits P (Closes session) = (1 ≤ session) × (session ≤ most_session)
+
+-- the argument of a step that calls is of bytes
+abbrev pub HasByteArgument : UserStep → Type 0
+HasByteArgument (Calls session role fuel argument) = AreBytes argument
+HasByteArgument step = Unit {0}

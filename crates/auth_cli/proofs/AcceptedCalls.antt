@@ -16,15 +16,15 @@ use Rattle.ideal_meaning.specs.Ideal.{ideal, outcome, outcome_projection}
 use Rattle.ideal_meaning.proofs.Companion.{companion}
 use Rattle.printed_syntax.specs.LiteralLaws.{IsLiteralValue}
 use Rattle.printed_syntax.proofs.LiteralsReadBack.{literals_are_read_back}
-use Rattle.auth_cli.specs.Answer.{image_read, role_verdict, state_projection}
-use Rattle.auth_cli.specs.IdealCalls.{IdealCall, call_pieces, call_proof, called_program, projected_outcome}
-use Rattle.auth_cli.specs.NamedCalls.{NamesInputs, NamesRole}
-use Rattle.auth_cli.specs.ProvedCalls.{IsAcceptedCall}
-use Rattle.auth_cli.specs.RoleCalls.{named_literal, outcome_called, type_passed}
-use Rattle.auth_cli.specs.declared.roles.Callee.TheVariants.{OfState}
+use Rattle.file_commands.specs.Answer.{image_read, role_verdict, state_projection}
+use Rattle.file_commands.specs.IdealCalls.{IdealCall, call_pieces, call_proof, called_program, projected_outcome}
+use Rattle.file_commands.specs.NamedCalls.{NamesInputs, NamesRole}
+use Rattle.file_commands.specs.ProvedCalls.{IsAcceptedCall}
+use Rattle.file_commands.specs.RoleCalls.{named_literal, outcome_called, type_passed}
+use Rattle.file_commands.specs.declared.roles.Callee.TheVariants.{OfState}
 use Rattle.images.proofs.ImageRoots.{IsKept, root_is_kept}
-use Rattle.auth_cli.proofs.OnProofs.{passed_behind}
-use Rattle.auth_cli.proofs.SoundRoles.{IsReader, named_reader}
+use Rattle.file_commands.proofs.OnProofs.{passed_behind}
+use Rattle.file_commands.proofs.SoundRoles.{IsReader, named_reader}
 
 -- A call of a role that reads a state, on an ideal state and an ideal argument within the limits; nothing is authenticated in the argument.
 pub record IsMeant (call : IdealCall) : Type 0 where

@@ -6,12 +6,12 @@ use Rattle.std.specs.Prelude.{codes}
 use Rattle.std.specs.Option.{ForSome}
 use Rattle.lam_outside.specs.Causes.{Rose}
 use Rattle.lam_outside.specs.Told.{AddsStores, Contents, Stores}
-use Rattle.auth_cli.specs.Answer.{Answer}
-use Rattle.auth_cli.specs.Codes.{code}
-use Rattle.auth_cli.specs.Ending.{EndsAnswered, EndsAs, IsToldAs, IsToldByCode, MayWrite, NoneRose, Outside, StoresSome, WritesPart, lines_of, no_memory_text}
-use Rattle.auth_cli.specs.declared.status.Status.{Status}
-use Rattle.auth_cli.specs.declared.status.Status.TheVariants as status
-use Rattle.auth_cli.proofs.Known.{append_none}
+use Rattle.file_commands.specs.Answer.{Answer}
+use Rattle.file_commands.specs.Codes.{code}
+use Rattle.file_commands.specs.Ending.{EndsAnswered, EndsAs, IsToldAs, IsToldByCode, MayWrite, NoneRose, Outside, StoresSome, WritesPart, lines_of, no_memory_text}
+use Rattle.file_commands.specs.declared.status.Status.{Status}
+use Rattle.file_commands.specs.declared.status.Status.TheVariants as status
+use Rattle.file_commands.proofs.Known.{append_none}
 
 by_code : (found : Option Answer) (old new : Outside) (ended : Status) → IsToldAs found old new ended → IsToldByCode found old new (code ended)
 by_code None old new ended told = told

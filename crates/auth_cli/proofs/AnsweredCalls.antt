@@ -19,21 +19,21 @@ use Rattle.printed_lines.specs.declared.refusal.Argument.{Argument}
 use Rattle.printed_lines.specs.declared.refusal.Argument.TheVariants as named
 use Rattle.printed_lines.specs.declared.refusal.InputFault.{InputFault}
 use Rattle.printed_lines.specs.declared.refusal.InputFault.TheVariants.{RoleKind, TooLong}
-use Rattle.auth_cli.specs.Answer.{Answer, RoleCall, answer_with, audited_answer, call_audit_answer, command_answer, image_read, input_refused, judged_answer, max_file, max_program, callee_of, proof_answer, proved_answer, state_read, verified_answer}
-use Rattle.auth_cli.specs.Answer.{with_bytes, with_file, with_fuel, with_fueled_role, with_ideal_call, with_image, with_kept, with_program_file, with_text, with_literal, with_number, with_passed, with_program, with_role_at, with_role_call, with_root, with_state, with_state_read}
-use Rattle.auth_cli.specs.Arguments.{fuel_of}
+use Rattle.file_commands.specs.Answer.{Answer, RoleCall, answer_with, audited_answer, call_audit_answer, command_answer, image_read, input_refused, judged_answer, max_file, max_program, callee_of, proof_answer, proved_answer, state_read, verified_answer}
+use Rattle.file_commands.specs.Answer.{with_bytes, with_file, with_fuel, with_fueled_role, with_ideal_call, with_image, with_kept, with_program_file, with_text, with_literal, with_number, with_passed, with_program, with_role_at, with_role_call, with_root, with_state, with_state_read}
+use Rattle.file_commands.specs.Arguments.{fuel_of}
 use Rattle.number_words.specs.Numbers.{number_within}
-use Rattle.auth_cli.specs.AuditedCalls.{CallsAudit, TellsAnAudit}
-use Rattle.auth_cli.specs.Codes.{code}
-use Rattle.auth_cli.specs.FueledRoles.{DigestedProgram, FueledRole, NamedProgram}
-use Rattle.auth_cli.specs.IdealCalls.{IdealCall}
-use Rattle.auth_cli.specs.NamedCalls.{KeepsProgram, NamesInputs, NamesRole, named_program}
-use Rattle.auth_cli.specs.ProvedCalls.{CallsProve}
-use Rattle.auth_cli.specs.RoleCalls.{is_called, passed_literal, program_called}
-use Rattle.auth_cli.specs.TextPrograms.{TextProgram, IsProgram, IsRefused, constructor_names_of_text, program_of_text}
-use Rattle.auth_cli.specs.TrueLines.{TellsOutcome}
-use Rattle.auth_cli.specs.declared.roles.Callee.{Callee}
-use Rattle.auth_cli.specs.declared.roles.Callee.TheVariants.{OfState}
+use Rattle.file_commands.specs.AuditedCalls.{CallsAudit, TellsAnAudit}
+use Rattle.file_commands.specs.Codes.{code}
+use Rattle.file_commands.specs.FueledRoles.{DigestedProgram, FueledRole, NamedProgram}
+use Rattle.file_commands.specs.IdealCalls.{IdealCall}
+use Rattle.file_commands.specs.NamedCalls.{KeepsProgram, NamesInputs, NamesRole, named_program}
+use Rattle.file_commands.specs.ProvedCalls.{CallsProve}
+use Rattle.file_commands.specs.RoleCalls.{is_called, passed_literal, program_called}
+use Rattle.file_commands.specs.TextPrograms.{TextProgram, IsProgram, IsRefused, constructor_names_of_text, program_of_text}
+use Rattle.file_commands.specs.TrueLines.{TellsOutcome}
+use Rattle.file_commands.specs.declared.roles.Callee.{Callee}
+use Rattle.file_commands.specs.declared.roles.Callee.TheVariants.{OfState}
 
 -- the numbers of refusals and faults are none of an outcome, of a rejection or of a collision
 pub no_outcome : (n : ℕ) → 4 < n → TellsOutcome n → ⊥

@@ -4,14 +4,14 @@ use Rattle.command_words.specs.declared.command.Command.TheVariants.{Ask}
 use Rattle.lam_outside.specs.Causes.{Rose}
 use Rattle.lam_outside.specs.Told.{Contents}
 use Rattle.script_play.specs.declared.halt.Halt.TheVariants as halt
-use Rattle.auth_cli.specs.Answer.{Answer, Asking}
+use Rattle.file_commands.specs.Answer.{Answer, Asking}
 use Rattle.auth_cli.specs.Asking.{AskCounts, EndsAsking, EndsPlay, FailsToDial, IsEndTold, PlayEnd, PlayFaults, PlayWrites}
-use Rattle.auth_cli.specs.Ending.{EndsAs, Outside}
+use Rattle.file_commands.specs.Ending.{EndsAs, Outside}
 use Rattle.auth_cli.specs.NetFaults.{NetFaults, NetRose}
 use Rattle.auth_cli.specs.OnlineRuns.{CountsBy, NetSeen}
-use Rattle.auth_cli.specs.Statuses.{MayAnswer}
-use Rattle.auth_cli.specs.declared.status.Status.{Status}
-use Rattle.auth_cli.specs.declared.status.Status.TheVariants as status
+use Rattle.file_commands.specs.Statuses.{MayAnswer}
+use Rattle.file_commands.specs.declared.status.Status.{Status}
+use Rattle.file_commands.specs.declared.status.Status.TheVariants as status
 use Rattle.auth_cli.proofs.ServeCounted.{unserved_by}
 
 -- a run that doesn't come to dial

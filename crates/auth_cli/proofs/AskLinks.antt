@@ -14,13 +14,13 @@ use Rattle.serve_links.proofs.Linking.{from_nothing, told}
 use Rattle.session_meaning.specs.Client.{Client}
 use Rattle.session_meaning.specs.Messages.{messages, reply_of}
 use Rattle.wire_form.specs.MovedBytes.{Moves}
-use Rattle.auth_cli.specs.Answer.{Asking}
+use Rattle.file_commands.specs.Answer.{Asking}
 use Rattle.auth_cli.specs.AskSteps.{IsPlayedFrom, PlayLinks}
 use Rattle.auth_cli.specs.Asking.{IsPlayedOn, PlayEnd, PlayFaults, PlayWrites, asked_play}
-use Rattle.auth_cli.specs.Telling.{TellsText}
-use Rattle.auth_cli.specs.declared.status.Status.{Status}
-use Rattle.auth_cli.specs.declared.status.Status.TheVariants.{ReadFault}
-use Rattle.auth_cli.proofs.Known.{append_twice}
+use Rattle.file_commands.specs.Telling.{TellsText}
+use Rattle.file_commands.specs.declared.status.Status.{Status}
+use Rattle.file_commands.specs.declared.status.Status.TheVariants.{ReadFault}
+use Rattle.file_commands.proofs.Known.{append_twice}
 use Rattle.auth_cli.proofs.ServeGone.{counts_as, same_faults}
 
 module _ (P : Program) (names : ConstructorNames) (left' : Option (List ℕ)) (w w' : World) (p : Play) where

@@ -9,12 +9,12 @@ use Rattle.ask_script.specs.Scripts.{Script, UserStep, script_of}
 use Rattle.ask_script.specs.declared.script.ScriptFault.{ScriptFault}
 use Rattle.ask_script.specs.declared.script.ScriptFault.TheVariants as script_fault
 use Rattle.ask_script.specs.declared.step.Step.{Step}
-use Rattle.auth_cli.specs.Answer.{Answer, script_read, with_script, with_steps}
-use Rattle.auth_cli.specs.Halting.{GoesOn, InHand, of_script_fault}
-use Rattle.auth_cli.specs.ReadPrograms.{named_of}
-use Rattle.auth_cli.specs.declared.report.Halt.{Halt}
-use Rattle.auth_cli.specs.declared.report.Halt.TheVariants.{Usage, Refused, ReadFault, NoMemory}
-use Rattle.auth_cli.proofs.Steps.{halts_behind}
+use Rattle.file_commands.specs.Answer.{Answer, script_read, with_script, with_steps}
+use Rattle.file_commands.specs.Halting.{GoesOn, InHand, of_script_fault}
+use Rattle.file_commands.specs.ReadPrograms.{named_of}
+use Rattle.file_commands.specs.declared.report.Halt.{Halt}
+use Rattle.file_commands.specs.declared.report.Halt.TheVariants.{Usage, Refused, ReadFault, NoMemory}
+use Rattle.file_commands.proofs.Steps.{halts_behind}
 
 module _ (p : Program) (text : List ℕ) where
   abbrev script : Script

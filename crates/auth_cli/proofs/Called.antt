@@ -2,15 +2,15 @@
 use Rattle.std.proofs.Common.{◌≡◌, ◌⊎◌, inl, inr, ℕ, List, Option, Some, None, Err, refl, sym, ◌∙◌, subst}
 use Rattle.command_words.specs.Invocations.{Invocation, invocation_of}
 use Rattle.lam_outside.specs.Told.{Contents, Names}
-use Rattle.auth_cli.specs.Answer.{answer, called_answer, command_answer}
-use Rattle.auth_cli.specs.Codes.{code}
-use Rattle.auth_cli.specs.Ending.{EndsAs, IsOfRefused, Outside}
-use Rattle.auth_cli.specs.Reaching.{IsReached}
-use Rattle.auth_cli.specs.Statuses.{MayAnswer}
-use Rattle.auth_cli.specs.Telling.{Tells}
-use Rattle.auth_cli.specs.declared.report.Halt.TheVariants.{Usage, NoMemory}
-use Rattle.auth_cli.specs.declared.status.Status.{Status}
-use Rattle.auth_cli.specs.declared.status.Status.TheVariants as status
+use Rattle.file_commands.specs.Answer.{answer, called_answer, command_answer}
+use Rattle.file_commands.specs.Codes.{code}
+use Rattle.file_commands.specs.Ending.{EndsAs, IsOfRefused, Outside}
+use Rattle.file_commands.specs.Reaching.{IsReached}
+use Rattle.file_commands.specs.Statuses.{MayAnswer}
+use Rattle.file_commands.specs.Telling.{Tells}
+use Rattle.file_commands.specs.declared.report.Halt.TheVariants.{Usage, NoMemory}
+use Rattle.file_commands.specs.declared.status.Status.{Status}
+use Rattle.file_commands.specs.declared.status.Status.TheVariants as status
 
 -- words that call a command aren't refused
 pub none_refused : (words : List (List ℕ)) (called : Invocation) (status : Status) → invocation_of words ≡ Some called → invocation_of words ≡ None → IsOfRefused status

@@ -1,10 +1,4 @@
 -- Each file of lemmas, and the functions whose proofs cite it.
-pub mod Steps  -- the readers (`read_..`, `load_..`) and finders (`find_..`): steps put together
-pub mod Reached  -- `load`, the finders and the commands: the file of a read fault
-pub mod Words  -- the commands and `carry_out`: the words behind a command
-pub mod Possible  -- the commands and `run`: the statuses that may be answered
-pub mod Ends  -- `check_command`, `ideal_command`, `audit_command`, `ended`
-pub mod EndsStored  -- `init_command`, `step_command`, `shallow_command`, `prove_command`, `verify_command`
 pub mod ServeReading  -- `read_beginning`
 pub mod ServePrepared  -- `begin`, `last_image`
 pub mod ServeGone  -- `listen_and_serve`
@@ -17,30 +11,10 @@ pub mod AskReading  -- `steps_in`, `read_script_file`
 pub mod AskLinks  -- `ask`: the link that was made, and the play on it
 pub mod AskCounted  -- `ask_command`: clauses `counts`, `possible`
 pub mod AskRuns  -- `ask_command`: clauses `ends`, `reached`
+pub mod AskTruths  -- `run`: clause `told_truth`
 pub mod ServeCounted  -- `serve_command`: clauses `counts`, `possible`
-pub mod LineSteps  -- `gen_command`, `find_sums`, `read_numbers`, `generate`, `workload_of`, `put_role`, `get_role`
-pub mod Workloads  -- `find_sums`, `generate`, `run_and_tell`, `sums_report`
-pub mod WorkloadRoles  -- `put_role`, `get_role`
-pub mod Known  -- `write_all`
-pub mod RolesByName  -- `run`: clause `headline`
-pub mod RoleShapes  -- `role_named`, `read_ideal_call`, `run_call`, `make_proof`, `audit_call`, `state_made`
-pub mod PutArguments  -- `put_argument`
-pub mod StatesRead  -- `judge_state`, `read_passed`
-pub mod TextNames  -- `read_program`
-pub mod MarkedStates  -- `load_state`, `spell_state`, `value_line`, `role_output`
-pub mod StateOutputs  -- `spell_state`
-pub mod EndedRuns  -- `read_ideal_call`, `run_init`, `run_call`
-pub mod RoleReports  -- `value_line`, `role_report`, `state_made`
-pub mod StoredOutputs  -- `role_output`
-pub mod RoleSteps  -- `call_init`, `call_role` and the finders on them
-pub mod JudgedRoles  -- `find_judgement`, `judge_proof`, `outcome_output`, `new_state`; `outcome_report`
-pub mod NewStates  -- `state_spelling`
-pub mod JudgedAudits  -- `audit_named`, `audit_started`
-pub mod HeldCalls  -- `make_proof`, `audit_call`
-pub mod ProofOutputs  -- `make_proof`
 pub mod Called  -- `ended`, `run`
 pub mod AnsweredCalls  -- `run`: what the steps of an answer went on with
-pub mod GoingOn  -- `run`, the law `shallow_stores_the_clients_state`: that they go on
 pub mod AcceptedCalls  -- `run`: clauses `companion`, `audited`
 pub mod VerifiedCalls  -- `run`: clause `companion`
 pub mod TrueAudits  -- `run`: clause `audited`
@@ -48,10 +22,4 @@ pub mod AuditedRuns  -- `run`: clauses `audited`, `split`
 pub mod AnsweredRuns  -- `run`: clauses `companion`, `proves`, `audited`, `split`
 pub mod Answered  -- `run`: by the number of its status
 pub mod NetRuns  -- `carry_out`, `ended`, `run`: words that may call a command on the net
-pub mod SoundRoles  -- `find_judgement`; `run`: clauses `companion`, `audited`, `headline`
 pub mod TrueLine  -- `run`: clause `headline`
-pub mod SoundTexts  -- the law `programs_are_sound`
-pub mod TextFormats  -- the law `programs_are_sound`
-pub mod OnProofs  -- `run`; the law `verdicts_are_on_proofs`
-pub mod NamedConstructors  -- the law `constructors_are_named`
-pub mod ClientStates  -- the law `shallow_stores_the_clients_state`

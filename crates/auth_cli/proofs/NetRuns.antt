@@ -6,18 +6,18 @@ use Rattle.command_words.specs.declared.command.Command.{Command}
 use Rattle.command_words.specs.declared.command.Command.TheVariants.{Check, Init, Ideal, Step, Shallow, Prove, Verify, Audit, Library, Gen, Serve, Ask}
 use Rattle.lam_outside.specs.Causes.{Rose}
 use Rattle.lam_outside.specs.Told.{Contents, Names}
-use Rattle.auth_cli.specs.Answer.{Answer, answer, answer_with, called_answer, usage_answer}
+use Rattle.file_commands.specs.Answer.{Answer, answer, answer_with, called_answer, usage_answer}
 use Rattle.auth_cli.specs.Asking.{AskCounts, IsAsk}
-use Rattle.auth_cli.specs.Codes.{code}
-use Rattle.auth_cli.specs.Ending.{EndsAs, Outside}
+use Rattle.file_commands.specs.Codes.{code}
+use Rattle.file_commands.specs.Ending.{EndsAs, Outside}
 use Rattle.auth_cli.specs.NetFaults.{NetFaults, NetRose}
 use Rattle.auth_cli.specs.NetRuns.{CallsNoDial, CallsNoListen, DialsNone, EndsCommand, EndsRun, IsOffline, IsReadFaultAt, ListensToNone, UsesNoNet}
-use Rattle.auth_cli.specs.Reaching.{IsReached, ReachedAt}
+use Rattle.file_commands.specs.Reaching.{IsReached, ReachedAt}
 use Rattle.auth_cli.specs.OnlineRuns.{CountsBy, NetSeen}
 use Rattle.auth_cli.specs.Serving.{IsServe, ServeCounts}
-use Rattle.auth_cli.specs.TrueLines.{IsTrueLine}
-use Rattle.auth_cli.specs.declared.status.Status.{Status}
-use Rattle.auth_cli.specs.declared.status.Status.TheVariants as status
+use Rattle.file_commands.specs.TrueLines.{IsTrueLine}
+use Rattle.file_commands.specs.declared.status.Status.{Status}
+use Rattle.file_commands.specs.declared.status.Status.TheVariants as status
 use Rattle.auth_cli.proofs.Answered.{fault_rose, fault_told, no_rise, none_rose, write_told}
 use Rattle.auth_cli.proofs.TrueLine.{true_line}
 

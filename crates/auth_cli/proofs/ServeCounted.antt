@@ -3,14 +3,14 @@ use Rattle.std.proofs.Common.{◌≡◌, ◌⊎◌, inl, inr, ℕ, List, Bool, t
 use Rattle.command_words.specs.declared.command.Command.TheVariants.{Serve}
 use Rattle.lam_outside.specs.Causes.{Rose}
 use Rattle.lam_outside.specs.Told.{Contents, Stores}
-use Rattle.auth_cli.specs.Answer.{Answer, Serving}
-use Rattle.auth_cli.specs.Ending.{EndsAnswered, EndsAs, Outside}
+use Rattle.file_commands.specs.Answer.{Answer, Serving}
+use Rattle.file_commands.specs.Ending.{EndsAnswered, EndsAs, Outside}
 use Rattle.auth_cli.specs.NetFaults.{NetFaults, NetRose}
 use Rattle.auth_cli.specs.OnlineRuns.{CountsBy, NetSeen}
 use Rattle.auth_cli.specs.Serving.{Course, EndsServing, HasFaults, IsListening, IsStored, IsStoredBy, IsTooLong, LacksMemory, NotListening, NotWritten, ServeCounts, Served, Storage, StoreFails, TellsPart, TellsWhole, WithoutMemory, course_status, storage_status}
-use Rattle.auth_cli.specs.Statuses.{MayAnswer}
-use Rattle.auth_cli.specs.declared.status.Status.{Status}
-use Rattle.auth_cli.specs.declared.status.Status.TheVariants as status
+use Rattle.file_commands.specs.Statuses.{MayAnswer}
+use Rattle.file_commands.specs.declared.status.Status.{Status}
+use Rattle.file_commands.specs.declared.status.Status.TheVariants as status
 
 -- ---- a run that doesn't come to listen
 

@@ -18,27 +18,27 @@ use Rattle.session_turns.specs.Versions.{IsVersion}
 use Rattle.session_turns.proofs.Rows.{alike_length}
 use Rattle.mode_vm.specs.Meanings.{program_of}
 use Rattle.value_store.specs.Stores.{nodes_in}
-use Rattle.auth_cli.specs.Answer.{Serving}
+use Rattle.file_commands.specs.Answer.{Serving}
 use Rattle.auth_cli.specs.NetFaults.{NetFaults}
-use Rattle.auth_cli.specs.ReadPrograms.{digested_of}
+use Rattle.file_commands.specs.ReadPrograms.{digested_of}
 use Rattle.auth_cli.specs.ServeSteps.{IsEndTold, TellsCourse}
 use Rattle.auth_cli.specs.OnlineRuns.{NetSeen}
 use Rattle.auth_cli.specs.Serving.{HasFaults, Served, WithoutMemory, count_lines, course_status, first_server, server_lines}
-use Rattle.auth_cli.specs.Telling.{TellsText}
-use Rattle.auth_cli.specs.declared.status.Status.{Status}
-use Rattle.auth_cli.specs.declared.status.Status.TheVariants as status
+use Rattle.file_commands.specs.Telling.{TellsText}
+use Rattle.file_commands.specs.declared.status.Status.{Status}
+use Rattle.file_commands.specs.declared.status.Status.TheVariants as status
 use Rattle.auth_cli.proofs.ServeGone.{IsLeft, lacking_left, left_gone, line_lacking, same_faults, served_left}
 use Rattle.auth_cli.proofs.ServeTexts.{course_told}
 
 -- the lines of the core are those of the server that it is
-same_lines : {A : Type 0} (core : ServeCore A) (server : Server) → Serves sha256 core server → (fault : Bool)
+same_lines : {A G : Type 0} (core : ServeCore A G) (server : Server) → Serves sha256 core server → (fault : Bool)
     → count_lines (length core.shared.versions.items) (length core.shared.commits.items) fault ≡ server_lines server fault
 same_lines core server serves fault =
     ap₂ (λ versions commits. count_lines versions commits fault)
     (alike_length (IsVersion sha256 (program_of core.code) (nodes_in core.shared.store)) core.shared.versions.items server.shared.versions serves.shares.versions)
     (alike_length IsCommit core.shared.commits.items server.shared.commits serves.shares.commits)
 
-module _ {A : Type 0} (s : Serving) (net net' : NetSeen) (old core : ServeCore A) (ended : Status) (written between written' : Option (List ℕ)) (before mid now : ℕ)
+module _ {A G : Type 0} (s : Serving) (net net' : NetSeen) (old core : ServeCore A G) (ended : Status) (written between written' : Option (List ℕ)) (before mid now : ℕ)
     (some : 0 < length core.shared.versions.items) (listened : net'.listened ≡ Some s.port) (listens : net'.faults.listens ≡ net.faults.listens) (dials : net'.faults.dials ≡ net.faults.dials)
     (first : between ≡ append_known written (listening_line s.port)) (same : mid ≡ before) where
   abbrev Ends : Type 0

@@ -13,10 +13,10 @@ use Rattle.code_gen.specs.Programs.{program_in}
 use Rattle.serve_links.specs.ServedLinks.{AreCounted, AreMore, AreMoreInPart, AreMoreServed, AreServed, AreServedInPart, ServesLinks, StaysOn}
 use Rattle.serve_links.specs.declared.net.ServingEnd.{ServingEnd}
 use Rattle.serve_links.specs.declared.net.ServingEnd.TheVariants as end
-use Rattle.auth_cli.specs.Answer.{Serving}
-use Rattle.auth_cli.specs.FueledRoles.{DigestedProgram}
+use Rattle.file_commands.specs.Answer.{Serving}
+use Rattle.file_commands.specs.FueledRoles.{DigestedProgram}
 use Rattle.auth_cli.specs.NetFaults.{NetFaults}
-use Rattle.auth_cli.specs.ReadPrograms.{digested_of}
+use Rattle.file_commands.specs.ReadPrograms.{digested_of}
 use Rattle.auth_cli.specs.OnlineRuns.{NetSeen}
 use Rattle.auth_cli.specs.Serving.{AreMade, AreServedLacking, AreServedOn, Course, HasFaults, HasGone, HasMade, MakesLinks, NotListening, NotWritten, Served, WithoutMemory, first_server, listened_behind}
 
@@ -73,12 +73,12 @@ module _ (s : Serving) (net net' : NetSeen) (links : net'.links ≡ net.links) w
 -- ---- links were served
 
 -- The core is a server that is left by a course.
-pub record IsLeft (s : Serving) (course : Course) (links links' : Option (List Linked)) (accepts accepts' : ℕ) {A : Type 0} (core : ServeCore A) : Type 0 where
+pub record IsLeft (s : Serving) (course : Course) (links links' : Option (List Linked)) (accepts accepts' : ℕ) {A G : Type 0} (core : ServeCore A G) : Type 0 where
   pub server : Server
   pub made : ForSome links' (λ after. HasMade s course links after accepts accepts' server)
   pub serves : Serves sha256 core server
 
-module _ {A : Type 0} (s : Serving) (old core : ServeCore A) (port connections : ℕ) (program : digested_of (program_in old.code) ≡ s.program) (slice : old.slice ≡ s.slice) (at : port ≡ s.port)
+module _ {A G : Type 0} (s : Serving) (old core : ServeCore A G) (port connections : ℕ) (program : digested_of (program_in old.code) ≡ s.program) (slice : old.slice ≡ s.slice) (at : port ≡ s.port)
     (most : connections ≡ s.links) (links links' : Option (List Linked)) (accepts accepts' : ℕ) where
   abbrev Left : Course → Type 0
   Left course = IsLeft s course links links' accepts accepts' core
@@ -155,7 +155,7 @@ module _ {A : Type 0} (s : Serving) (old core : ServeCore A) (port connections :
       by (Some after) told = part_left after told (serves after told)
 
 -- where memory is wanting for the line behind all of them
-pub line_lacking : {A : Type 0} (s : Serving) (fault : Bool) (links links' : Option (List Linked)) (accepts accepts' : ℕ) (core : ServeCore A) (left : IsLeft s (Served fault) links links' accepts accepts' core)
+pub line_lacking : {A G : Type 0} (s : Serving) (fault : Bool) (links links' : Option (List Linked)) (accepts accepts' : ℕ) (core : ServeCore A G) (left : IsLeft s (Served fault) links links' accepts accepts' core)
     → IsLeft s WithoutMemory links links' accepts accepts' core
 line_lacking s fault links links' accepts accepts' core left = record {
   server = left.server;
@@ -175,6 +175,6 @@ line_lacking s fault links links' accepts accepts' core left = record {
     within made some (inr (few, is, rose)) = omega (arith, few)
 
 -- what was listened to and the counts stand so behind it
-pub left_gone : {A : Type 0} (s : Serving) (course : Course) (net net' : NetSeen) (core : ServeCore A) (left : IsLeft s course net.links net'.links net.faults.accepts net'.faults.accepts core)
+pub left_gone : {A G : Type 0} (s : Serving) (course : Course) (net net' : NetSeen) (core : ServeCore A G) (left : IsLeft s course net.links net'.links net.faults.accepts net'.faults.accepts core)
     → net'.listened ≡ listened_behind s course net.listened → HasFaults course net.faults net'.faults → HasGone s net net' course left.server
 left_gone s course net net' core left listened faults = record { links = left.made; listened = listened; faults = faults }

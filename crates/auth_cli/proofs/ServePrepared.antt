@@ -32,15 +32,15 @@ use Rattle.images.specs.declared.fault.SaveFault.{SaveFault}
 use Rattle.std.specs.declared.alloc.Global.{Global}
 use Rattle.value_store.specs.declared.store.Store.{Store}
 use Rattle.value_store.proofs.ProverNodes.{shown_ideal}
-use Rattle.auth_cli.specs.Answer.{Serving, state_image}
-use Rattle.auth_cli.specs.FueledRoles.{DigestedProgram}
+use Rattle.file_commands.specs.Answer.{Serving, state_image}
+use Rattle.file_commands.specs.FueledRoles.{DigestedProgram}
 use Rattle.auth_cli.specs.PreparedServers.{HoldsProgram}
 use Rattle.auth_cli.specs.ServeSteps.{IsServer}
 use Rattle.auth_cli.specs.Serving.{last_image, last_version}
-use Rattle.auth_cli.proofs.MarkedStates.{saved_by_types}
+use Rattle.file_commands.proofs.MarkedStates.{saved_by_types}
 
 -- the first server has a history, in which nothing was heard
-module _ {A : Type 0} (core : ServeCore A) (code : Code) (same : core.code ≡ code) (nodes : List Node) (sound : AreSound nodes) (root : Ref) (v : Value)
+module _ {A G : Type 0} (core : ServeCore A G) (code : Code) (same : core.code ≡ code) (nodes : List Node) (sound : AreSound nodes) (root : Ref) (v : Value)
     (stands : IsVersion sha256 (program_of code) nodes root v) where
   abbrev P : Program
   P = program_of code
@@ -67,7 +67,7 @@ module _ {A : Type 0} (core : ServeCore A) (code : Code) (same : core.code ≡ c
   }
 
 -- the node of the last version stands for it
-module _ {A : Type 0} (core : ServeCore A) (server : Server) (serves : Serves sha256 core server) (some : 0 < length core.shared.versions.items) where
+module _ {A G : Type 0} (core : ServeCore A G) (server : Server) (serves : Serves sha256 core server) (some : 0 < length core.shared.versions.items) where
   abbrev refs : List Ref
   refs = core.shared.versions.items
 
@@ -83,12 +83,12 @@ module _ {A : Type 0} (core : ServeCore A) (server : Server) (serves : Serves sh
       (alike_get Stands (length refs - 1) refs server.shared.versions none UnitV serves.shares.versions (omega (arith, some)))
 
 -- the first server has a version
-pub first_version : {A : Type 0} (core : ServeCore A) (v : Value) → Serves sha256 core (new_server v) → 0 < length core.shared.versions.items
+pub first_version : {A G : Type 0} (core : ServeCore A G) (v : Value) → Serves sha256 core (new_server v) → 0 < length core.shared.versions.items
 first_version core v serves =
     let one = alike_length (IsVersion sha256 (program_of core.code) (nodes_in core.shared.store)) core.shared.versions.items (v ∷ []) serves.shares.versions in omega (arith, one)
 
 -- the node of the last version is that of a state, and its image that of the last version
-module _ {A : Type 0} (s : Serving) (core : ServeCore A) (server : Server) (holds : HoldsProgram s core) (is : IsServer core server) (types : Types) (same : types ≡ (program_in core.code).types) where
+module _ {A G : Type 0} (s : Serving) (core : ServeCore A G) (server : Server) (holds : HoldsProgram s core) (is : IsServer core server) (types : Types) (same : types ≡ (program_in core.code).types) where
   abbrev p : Held
   p = program_in core.code
 

@@ -4,14 +4,14 @@ use Rattle.core_terms.specs.Programs.{meaning}
 use Rattle.core_terms.specs.Values.{Value}
 use Rattle.core_terms.specs.declared.program.Program.{Program}
 use Rattle.images.specs.declared.load.Loaded.{Loaded}
-use Rattle.auth_cli.specs.Answer.{Answer, Serving, ServingNumbers, serving_of, with_image_file}
-use Rattle.auth_cli.specs.Halting.{GoesOnFor, HaltsAs}
+use Rattle.file_commands.specs.Answer.{Answer, Serving, ServingNumbers, serving_of, with_image_file}
+use Rattle.file_commands.specs.Halting.{GoesOnFor, HaltsAs}
 use Rattle.auth_cli.specs.PreparedServers.{BeginsWith}
-use Rattle.auth_cli.specs.ReadPrograms.{digested_of}
-use Rattle.auth_cli.specs.StoredStates.{IsStoredState}
-use Rattle.auth_cli.specs.declared.report.Halt.{Halt}
+use Rattle.file_commands.specs.ReadPrograms.{digested_of}
+use Rattle.file_commands.specs.StoredStates.{IsStoredState}
+use Rattle.file_commands.specs.declared.report.Halt.{Halt}
 use Rattle.auth_cli.specs.declared.serving.Beginning.{Beginning}
-use Rattle.auth_cli.proofs.Steps.{halts_behind}
+use Rattle.file_commands.proofs.Steps.{halts_behind}
 
 -- an image that is refused behind numbers that are in order halts both
 pub image_halts : (p q : Program) → q ≡ p → (first : (ServingNumbers → Option Answer) → Option Answer) (numbers : ServingNumbers) (file : Option (List ℕ))

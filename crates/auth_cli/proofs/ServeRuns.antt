@@ -6,18 +6,18 @@ use Rattle.command_words.specs.Commands.{texts}
 use Rattle.command_words.specs.declared.command.Command.TheVariants.{Serve}
 use Rattle.lam_outside.specs.Told.{Contents, Names, Stores}
 use Rattle.printed_lines.specs.declared.refusal.Refusal.TheVariants as refusal
-use Rattle.auth_cli.specs.Answer.{Answer, Serving, answer_with, unserved_answer, with_serving}
-use Rattle.auth_cli.specs.Ending.{Outside}
-use Rattle.auth_cli.specs.Halting.{MayHalt}
-use Rattle.auth_cli.specs.Reaching.{HaltsAtReached, IsReached}
+use Rattle.file_commands.specs.Answer.{Answer, Serving, answer_with, unserved_answer, with_serving}
+use Rattle.file_commands.specs.Ending.{Outside}
+use Rattle.file_commands.specs.Halting.{MayHalt}
+use Rattle.file_commands.specs.Reaching.{HaltsAtReached, IsReached}
 use Rattle.auth_cli.specs.PreparedServers.{IsPrepared}
 use Rattle.auth_cli.specs.OnlineRuns.{NetSeen}
 use Rattle.auth_cli.specs.Serving.{EndsServing, MeansServing}
 use Rattle.auth_cli.specs.declared.serving.PreparedServer.{PreparedServer}
-use Rattle.auth_cli.specs.declared.report.Halt.{Halt}
-use Rattle.auth_cli.specs.declared.report.Halt.TheVariants.{Usage, Refused, ReadFault, NoMemory}
-use Rattle.auth_cli.specs.declared.status.Status.{Status}
-use Rattle.auth_cli.proofs.Words.{apart, reached_apart, text_at}
+use Rattle.file_commands.specs.declared.report.Halt.{Halt}
+use Rattle.file_commands.specs.declared.report.Halt.TheVariants.{Usage, Refused, ReadFault, NoMemory}
+use Rattle.file_commands.specs.declared.status.Status.{Status}
+use Rattle.file_commands.proofs.Words.{apart, reached_apart, text_at}
 
 abbrev seen_as : Option Contents → Option Stores → Option (List ℕ) → (reads store_faults writes : ℕ) → Outside
 seen_as contents stores written reads store_faults writes =

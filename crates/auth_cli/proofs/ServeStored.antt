@@ -7,15 +7,15 @@ use Rattle.images.specs.Saves.{IsSaved}
 use Rattle.images.specs.declared.fault.SaveFault.{SaveFault}
 use Rattle.images.specs.declared.fault.SaveFault.TheVariants as save_fault
 use Rattle.session_meaning.specs.Server.{Server}
-use Rattle.auth_cli.specs.Answer.{Serving}
-use Rattle.auth_cli.specs.Halting.{of_save_fault}
+use Rattle.file_commands.specs.Answer.{Serving}
+use Rattle.file_commands.specs.Halting.{of_save_fault}
 use Rattle.auth_cli.specs.ServeSteps.{IsUnstoredTold, StoresLast}
 use Rattle.auth_cli.specs.Serving.{IsTooLong, LacksMemory, last_image}
-use Rattle.auth_cli.specs.Telling.{Tells, TellsText}
-use Rattle.auth_cli.specs.declared.report.Halt.{Halt}
-use Rattle.auth_cli.specs.declared.status.Status.{Status}
-use Rattle.auth_cli.specs.declared.status.Status.TheVariants as status
-use Rattle.auth_cli.proofs.Ends.{adds_none}
+use Rattle.file_commands.specs.Telling.{Tells, TellsText}
+use Rattle.file_commands.specs.declared.report.Halt.{Halt}
+use Rattle.file_commands.specs.declared.status.Status.{Status}
+use Rattle.file_commands.specs.declared.status.Status.TheVariants as status
+use Rattle.file_commands.proofs.Ends.{adds_none}
 
 -- a line alone
 line_alone : (ended : Status) (old new : Option (List ℕ)) (before now : ℕ) (meant : Status) (line : List ℕ) → TellsText meant line ended old new before now

@@ -5,14 +5,14 @@ use Rattle.std.specs.Io.KnownBytes.{append_known}
 use Rattle.std.proofs.lemmas.List.Folds.{concat-append}
 use Rattle.lam_outside.specs.Causes.{Rose}
 use Rattle.session_meaning.specs.Server.{Server}
-use Rattle.auth_cli.specs.Answer.{Serving}
-use Rattle.auth_cli.specs.Ending.{Outside, WritesPart}
+use Rattle.file_commands.specs.Answer.{Serving}
+use Rattle.file_commands.specs.Ending.{Outside, WritesPart}
 use Rattle.auth_cli.specs.ServeSteps.{IsCourseTold, IsStorageTold}
 use Rattle.auth_cli.specs.Serving.{Course, IsListening, IsStored, IsTooLong, LacksMemory, Storage, StoreFails, TellsPart, TellsWhole, course_lines, course_status, serving_text, storage_lines, storage_status}
-use Rattle.auth_cli.specs.Telling.{TellsText}
-use Rattle.auth_cli.specs.declared.status.Status.{Status}
-use Rattle.auth_cli.specs.declared.status.Status.TheVariants.{WriteFault}
-use Rattle.auth_cli.proofs.Known.{append_none, append_twice}
+use Rattle.file_commands.specs.Telling.{TellsText}
+use Rattle.file_commands.specs.declared.status.Status.{Status}
+use Rattle.file_commands.specs.declared.status.Status.TheVariants.{WriteFault}
+use Rattle.file_commands.proofs.Known.{append_none, append_twice}
 
 -- a front of a text is one of the text with more behind it
 front_more : (n : ℕ) (a b : List ℕ) → (m : ℕ) × (take n a ≡ take m (a ++ b))

@@ -3,7 +3,7 @@ use Rattle.std.proofs.Common.{inl, inr, ℕ, true, false, List, sym, subst}
 use Rattle.sha2.specs.Sha256.{sha256}
 use Rattle.session_meaning.specs.Server.{Server as TheServer, last_turn}
 use Rattle.serve_links.specs.LinkLaws.{KeepsHistory, LinksKeepHistory, PartsKeepHistory}
-use Rattle.auth_cli.specs.Answer.{Serving as TheServing}
+use Rattle.file_commands.specs.Answer.{Serving as TheServing}
 use Rattle.auth_cli.specs.ServedHistories.{VersionsAreServed}
 use Rattle.auth_cli.specs.Serving.{NotListening, NotWritten, Served, WithoutMemory, first_server}
 

@@ -16,11 +16,11 @@ use Rattle.collision_audit.specs.Splits.{offered_in, split_of}
 use Rattle.collision_audit.proofs.AuditHeadline.{agreement_is_true, collides, judges}
 use Rattle.collision_audit.proofs.FirstSplits.{no_split_is_found, split_is_found}
 use Rattle.collision_audit.proofs.OnProof.{verdict_is_on_proof}
-use Rattle.auth_cli.specs.Answer.{role_verdict, state_projection}
-use Rattle.auth_cli.specs.AuditedCalls.{SplitsAt, SplitsNowhere}
-use Rattle.auth_cli.specs.IdealCalls.{IdealCall, call_audit, call_pieces, called_program, projected_outcome}
-use Rattle.auth_cli.specs.ProvedCalls.{client_call}
-use Rattle.auth_cli.specs.RoleCalls.{outcome_called}
+use Rattle.file_commands.specs.Answer.{role_verdict, state_projection}
+use Rattle.file_commands.specs.AuditedCalls.{SplitsAt, SplitsNowhere}
+use Rattle.file_commands.specs.IdealCalls.{IdealCall, call_audit, call_pieces, called_program, projected_outcome}
+use Rattle.file_commands.specs.ProvedCalls.{client_call}
+use Rattle.file_commands.specs.RoleCalls.{outcome_called}
 use Rattle.auth_cli.proofs.AcceptedCalls.{IsMeant, own_projection}
 
 -- what the audit of a proof of the call comes to is so

@@ -13,20 +13,20 @@ use Rattle.core_terms.specs.Terms.{Program}
 use Rattle.core_terms.specs.Values.{Value}
 use Rattle.ideal_meaning.specs.Ideal.{Outcome}
 use Rattle.ideal_meaning.specs.Checked.{Verdict, BadState, BadArgument, Rejected, Accepted}
-use Rattle.auth_cli.specs.Answer.{Answer, RoleCall, accepted_answer, answer, answer_with, called_answer, callee_of, judged_answer, role_verdict, verdict_answer, verified_answer}
-use Rattle.auth_cli.specs.Arguments.{fuel_of}
-use Rattle.auth_cli.specs.Codes.{code}
-use Rattle.auth_cli.specs.Ending.{Outside, EndsAs, IsToldAs}
-use Rattle.auth_cli.specs.FueledRoles.{FueledRole, NamedProgram}
-use Rattle.auth_cli.specs.NamedCalls.{NamesRole, named_program}
-use Rattle.auth_cli.specs.RoleCalls.{passed_literal, program_called}
-use Rattle.auth_cli.specs.TextPrograms.{IsProgram, program_of_text}
-use Rattle.auth_cli.specs.TrueLines.{CallsVerify, IsTrueLine, TellsOutcome, words_of}
-use Rattle.auth_cli.specs.declared.roles.Callee.{Callee}
-use Rattle.auth_cli.specs.declared.status.Status.{Status}
+use Rattle.file_commands.specs.Answer.{Answer, RoleCall, accepted_answer, answer, answer_with, called_answer, callee_of, judged_answer, role_verdict, verdict_answer, verified_answer}
+use Rattle.file_commands.specs.Arguments.{fuel_of}
+use Rattle.file_commands.specs.Codes.{code}
+use Rattle.file_commands.specs.Ending.{Outside, EndsAs, IsToldAs}
+use Rattle.file_commands.specs.FueledRoles.{FueledRole, NamedProgram}
+use Rattle.file_commands.specs.NamedCalls.{NamesRole, named_program}
+use Rattle.file_commands.specs.RoleCalls.{passed_literal, program_called}
+use Rattle.file_commands.specs.TextPrograms.{IsProgram, program_of_text}
+use Rattle.file_commands.specs.TrueLines.{CallsVerify, IsTrueLine, TellsOutcome, words_of}
+use Rattle.file_commands.specs.declared.roles.Callee.{Callee}
+use Rattle.file_commands.specs.declared.status.Status.{Status}
 use Rattle.auth_cli.proofs.AnsweredCalls.{no_outcome, verify_means}
 use Rattle.auth_cli.proofs.AnsweredRuns.{some_told, told}
-use Rattle.auth_cli.proofs.SoundRoles.{callee_reads, named_reader, reader_headline}
+use Rattle.file_commands.proofs.SoundRoles.{callee_reads, named_reader, reader_headline}
 
 -- words and files name one role
 module _ (callee : Callee) (program role fuel : List ℕ) (files : Contents) (named : FueledRole) (names : NamesRole callee program role fuel files named)

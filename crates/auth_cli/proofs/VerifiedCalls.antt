@@ -11,16 +11,16 @@ use Rattle.core_terms.specs.Terms.{Program}
 use Rattle.core_terms.specs.Values.{Value, IsIdeal}
 use Rattle.core_terms.proofs.LawProofs.{projection_is_read_back, projection_keeps_limits, size_is_length}
 use Rattle.printed_lines.specs.declared.refusal.Argument.TheVariants as named
-use Rattle.auth_cli.specs.Answer.{Answer, RoleCall, accepted_answer, callee_of, max_file, state_projection, state_read, verdict_answer, verified_answer}
-use Rattle.auth_cli.specs.Answer.{with_bytes, with_fueled_role, with_literal, with_passed, with_role_call, with_state, with_state_read}
-use Rattle.auth_cli.specs.FueledRoles.{FueledRole}
-use Rattle.auth_cli.specs.IdealCalls.{IdealCall, called_program}
-use Rattle.auth_cli.specs.NamedCalls.{NamesInputs, NamesRole}
-use Rattle.auth_cli.specs.ProvedCalls.{IsAcceptedCall, IsVerified, client_call}
-use Rattle.auth_cli.specs.declared.roles.Callee.TheVariants.{OfState}
+use Rattle.file_commands.specs.Answer.{Answer, RoleCall, accepted_answer, callee_of, max_file, state_projection, state_read, verdict_answer, verified_answer}
+use Rattle.file_commands.specs.Answer.{with_bytes, with_fueled_role, with_literal, with_passed, with_role_call, with_state, with_state_read}
+use Rattle.file_commands.specs.FueledRoles.{FueledRole}
+use Rattle.file_commands.specs.IdealCalls.{IdealCall, called_program}
+use Rattle.file_commands.specs.NamedCalls.{NamesInputs, NamesRole}
+use Rattle.file_commands.specs.ProvedCalls.{IsAcceptedCall, IsVerified, client_call}
+use Rattle.file_commands.specs.declared.roles.Callee.TheVariants.{OfState}
 use Rattle.auth_cli.proofs.AcceptedCalls.{IsMeant}
-use Rattle.auth_cli.proofs.GoingOn.{file_goes, fueled_goes, program_goes}
-use Rattle.auth_cli.proofs.StateOutputs.{is_shallow}
+use Rattle.file_commands.proofs.GoingOn.{file_goes, fueled_goes, program_goes}
+use Rattle.file_commands.proofs.StateOutputs.{is_shallow}
 
 -- the spelling of a projected state is read, and short enough for a file
 abbrev state_bytes : Program → Value → List ℕ

@@ -4,10 +4,10 @@ use Rattle.lam_outside.specs.Causes.{Rose}
 use Rattle.script_play.specs.Playing.{PlaysAs, world}
 use Rattle.script_play.specs.declared.halt.Halt.TheVariants as halt
 use Rattle.session_meaning.specs.Messages.{messages, reply_of}
-use Rattle.auth_cli.specs.Answer.{Asking}
+use Rattle.file_commands.specs.Answer.{Asking}
 use Rattle.auth_cli.specs.Asking.{IsEndTold, IsStateStored, PlayEnd, PlayWrites, asked_play}
-use Rattle.auth_cli.specs.Ending.{Outside}
-use Rattle.auth_cli.specs.declared.status.Status.{Status}
+use Rattle.file_commands.specs.Ending.{Outside}
+use Rattle.file_commands.specs.declared.status.Status.{Status}
 
 -- The play was played on a link on which these bytes come, as far as its end says.
 abbrev pub IsPlayedFrom : Asking → PlayEnd → (left left' sent sent' written written' last : Option (List ℕ)) → Type 0

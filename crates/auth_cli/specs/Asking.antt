@@ -3,6 +3,7 @@
 use Rattle.std.specs.Prelude.{◌≡◌, ◌⊎◌, ℕ, List, [], ◌∷◌, ◌++◌, codes, Option, Some, None, unwrap_or, Result, Ok, Err}
 use Rattle.std.specs.Option.{ForSome}
 use Rattle.sha2.specs.Sha256.{sha256}
+use Rattle.ask_script.specs.Scripts.{Steps, UserStep, script_of}
 use Rattle.command_words.specs.declared.command.Command.TheVariants.{Ask}
 use Rattle.lam_outside.specs.Causes.{Rose}
 use Rattle.lam_outside.specs.Links.{Linked}
@@ -16,13 +17,15 @@ use Rattle.script_play.specs.declared.halt.Halt.TheVariants as halt
 use Rattle.serve_links.specs.ServedLinks.{bytes_on}
 use Rattle.session_meaning.specs.Client.{new_client}
 use Rattle.session_meaning.specs.Messages.{Messages, Reply, messages, reply_of}
-use Rattle.auth_cli.specs.Answer.{Answer, Asking, answer_with, with_asking}
-use Rattle.auth_cli.specs.Ending.{EndsAs, Outside}
+use Rattle.file_commands.specs.Answer.{Answer, Asking, answer_with, with_asking}
+use Rattle.file_commands.specs.Ending.{EndsAs, Outside}
+use Rattle.file_commands.specs.FueledRoles.{NamedProgram}
 use Rattle.auth_cli.specs.NetFaults.{NetFaults}
 use Rattle.auth_cli.specs.OnlineRuns.{CountsBy, NetSeen}
-use Rattle.auth_cli.specs.Telling.{TellsText}
-use Rattle.auth_cli.specs.declared.status.Status.{Status}
-use Rattle.auth_cli.specs.declared.status.Status.TheVariants.{Done, Rejected, ReadFault, WriteFault, NoMemory}
+use Rattle.file_commands.specs.SoundPrograms.{IsOfText}
+use Rattle.file_commands.specs.Telling.{TellsText}
+use Rattle.file_commands.specs.declared.status.Status.{Status}
+use Rattle.file_commands.specs.declared.status.Status.TheVariants.{Done, Rejected, ReadFault, WriteFault, NoMemory}
 
 -- PLAYS
 -- what playing the script does, where these replies come: a client without sessions is asked what the script's lines say
@@ -120,13 +123,27 @@ MeansAsking (program ∷ state ∷ port ∷ script ∷ out ∷ []) files a name 
     (name ≡ out) × ((go : Asking → Option Answer) → with_asking program state port script files go ≡ go a)
 MeansAsking texts files a name = ⊥
 
+-- the steps are those of a script for the program
+abbrev pub IsOfScript : NamedProgram → List UserStep → Type 0
+IsOfScript p steps = (script : List ℕ) × (script_of p.digested.program p.names script ≡ Steps steps)
+
+-- What is asked is of texts, whatever the files tell: the program is that of a text, and the steps are those of a script for it.
+pub record IsOfTexts (a : Asking) : Type 0 where
+  pub program : IsOfText a.program.digested.program
+  pub script : IsOfScript a.program a.steps
+
+-- The texts behind the command call for this to be asked, and for the state told last to be stored under this name: it is what they and the files
+-- mean, where the contents are told.
+pub record CallsAsk (texts : List (List ℕ)) (contents : Option Contents) (a : Asking) (name : List ℕ) : Type 0 where
+  pub means : ForSome contents (λ files. MeansAsking texts files a name)
+  pub of_texts : IsOfTexts a
+
 -- a run that came to dial
 pub record IsAsking (texts : List (List ℕ)) (old new : Outside) (net net' : NetSeen) (status : Status) : Type 0 where
   pub asking : Asking
   pub name : List ℕ
-  pub means : ForSome old.contents (λ files. MeansAsking texts files asking name)
+  pub calls : CallsAsk texts old.contents asking name
   pub ends : EndsAsking asking name old new net net' status
-  pub truth : TellsTrueOutcomes asking
 
 -- A run of `ask` with these texts behind the command: it ended as one does that answers without a link, and left the net as it was; or it came
 -- to dial.

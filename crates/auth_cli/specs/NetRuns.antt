@@ -4,14 +4,14 @@ use Rattle.command_words.specs.Invocations.{Invocation}
 use Rattle.command_words.specs.declared.command.Command.{Command}
 use Rattle.command_words.specs.declared.command.Command.TheVariants.{Ask, Serve}
 use Rattle.lam_outside.specs.Told.{Contents, Names}
-use Rattle.auth_cli.specs.Answer.{Answer, answer_with, usage_answer}
-use Rattle.auth_cli.specs.Ending.{EndsAs, Outside}
-use Rattle.auth_cli.specs.Reaching.{IsReached}
+use Rattle.file_commands.specs.Answer.{Answer, answer_with, usage_answer}
+use Rattle.file_commands.specs.Ending.{EndsAs, Outside}
+use Rattle.file_commands.specs.Reaching.{IsReached}
 use Rattle.auth_cli.specs.Asking.{AskCounts, IsAsk}
 use Rattle.auth_cli.specs.OnlineRuns.{NetSeen}
 use Rattle.auth_cli.specs.Serving.{IsServe, ServeCounts}
-use Rattle.auth_cli.specs.declared.status.Status.{Status}
-use Rattle.auth_cli.specs.declared.status.Status.TheVariants.{ReadFault}
+use Rattle.file_commands.specs.declared.status.Status.{Status}
+use Rattle.file_commands.specs.declared.status.Status.TheVariants.{ReadFault}
 
 -- the command uses no net
 abbrev pub UsesNoNet : Command → Type 0

@@ -2,10 +2,10 @@
 use Rattle.std.specs.Prelude.{◌≡◌, ◌⊎◌, ℕ, List, Option}
 use Rattle.lam_outside.specs.Causes.{Rose}
 use Rattle.lam_outside.specs.Links.{Linked, links_so_far}
-use Rattle.auth_cli.specs.Ending.{Outside}
+use Rattle.file_commands.specs.Ending.{Outside}
 use Rattle.auth_cli.specs.NetFaults.{NetFaults, NetRose}
-use Rattle.auth_cli.specs.declared.status.Status.{Status}
-use Rattle.auth_cli.specs.declared.status.Status.TheVariants.{ReadFault, WriteFault, NoMemory}
+use Rattle.file_commands.specs.declared.status.Status.{Status}
+use Rattle.file_commands.specs.declared.status.Status.TheVariants.{ReadFault, WriteFault, NoMemory}
 
 -- what a net tells: the links so far, in order, and the port that is listened to; and its counts of faults
 pub record NetSeen : Type 0 where

@@ -9,8 +9,8 @@ use Rattle.session_meaning.specs.Client.{new_client}
 use Rattle.ask_core.specs.Sessions.{StandsFor}
 use Rattle.ask_script.specs.ScriptAnswers.{step_meant}
 use Rattle.ask_script.specs.Scripts.{Fits}
-use Rattle.auth_cli.specs.Answer.{Asking}
-use Rattle.auth_cli.specs.ReadPrograms.{named_of}
+use Rattle.file_commands.specs.Answer.{Asking}
+use Rattle.file_commands.specs.ReadPrograms.{named_of}
 use Rattle.auth_cli.specs.declared.asking.AskInputs.{AskInputs}
 use Rattle.auth_cli.specs.declared.asking.PreparedClient.{PreparedClient}
 

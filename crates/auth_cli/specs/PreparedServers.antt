@@ -10,10 +10,10 @@ use Rattle.serve_core.specs.Serving.{Serves}
 use Rattle.serve_core.specs.declared.server.ServeCore.{ServeCore}
 use Rattle.serve_links.specs.Histories.{HasServed}
 use Rattle.session_meaning.specs.Server.{new_server}
-use Rattle.auth_cli.specs.Answer.{Answer, Serving, ServingNumbers, serving_of, with_image_file, with_serving_numbers}
-use Rattle.auth_cli.specs.FueledRoles.{DigestedProgram}
-use Rattle.auth_cli.specs.ReadPrograms.{digested_of}
-use Rattle.auth_cli.specs.StoredStates.{IsStoredState}
+use Rattle.file_commands.specs.Answer.{Answer, Serving, ServingNumbers, serving_of, with_image_file, with_serving_numbers}
+use Rattle.file_commands.specs.FueledRoles.{DigestedProgram}
+use Rattle.file_commands.specs.ReadPrograms.{digested_of}
+use Rattle.file_commands.specs.StoredStates.{IsStoredState}
 use Rattle.auth_cli.specs.declared.serving.Beginning.{Beginning}
 use Rattle.auth_cli.specs.declared.serving.Numbers.{Numbers}
 use Rattle.auth_cli.specs.declared.serving.PreparedServer.{PreparedServer}
@@ -44,5 +44,5 @@ pub record IsPrepared (server : PreparedServer) (s : Serving) : Type 0 where
   pub served : HasServed sha256 server.core
 
 -- the core is one of the program that is served
-pub record HoldsProgram {A : Type 0} (s : Serving) (core : ServeCore A) : Type 0 where
+pub record HoldsProgram {A G : Type 0} (s : Serving) (core : ServeCore A G) : Type 0 where
   pub program : digested_of (program_in core.code) ≡ s.program

@@ -10,17 +10,17 @@ use Rattle.serve_core.specs.declared.server.ServeCore.{ServeCore}
 use Rattle.serve_links.specs.declared.net.ServingEnd.{ServingEnd}
 use Rattle.serve_links.specs.declared.net.ServingEnd.TheVariants as end
 use Rattle.session_meaning.specs.Server.{Server}
-use Rattle.auth_cli.specs.Answer.{Serving}
+use Rattle.file_commands.specs.Answer.{Serving}
 use Rattle.auth_cli.specs.OnlineRuns.{NetSeen}
 use Rattle.auth_cli.specs.Serving.{Course, IsListening, IsStoredBy, IsTooLong, LacksMemory, HasGone, NotListening, NotWritten, Served, Storage, WithoutMemory, course_lines, course_status, last_image, count_lines, storage_lines, storage_status}
 use Rattle.images.specs.declared.fault.SaveFault.{SaveFault}
 use Rattle.images.specs.declared.fault.SaveFault.TheVariants as save_fault
-use Rattle.auth_cli.specs.Telling.{TellsText}
-use Rattle.auth_cli.specs.declared.status.Status.{Status}
-use Rattle.auth_cli.specs.declared.status.Status.TheVariants.{NoMemory, WriteFault}
+use Rattle.file_commands.specs.Telling.{TellsText}
+use Rattle.file_commands.specs.declared.status.Status.{Status}
+use Rattle.file_commands.specs.declared.status.Status.TheVariants.{NoMemory, WriteFault}
 
 -- The core is this server, and has a version.
-pub record IsServer {A : Type 0} (core : ServeCore A) (server : Server) : Type 0 where
+pub record IsServer {A G : Type 0} (core : ServeCore A G) (server : Server) : Type 0 where
   pub serves : Serves sha256 core server
   pub some : 0 < length core.shared.versions.items
 
@@ -31,7 +31,7 @@ IsCourseTold s course server told old new before now =
     ⊎ ((told ≡ WriteFault) × ((n : ℕ) × (new ≡ append_known old (take n (concat (course_lines s course server))))) × Rose before now)
 
 -- The serving went some course, which was told, and the core is the server that is left.
-pub record TellsCourse {A : Type 0} (s : Serving) (net net' : NetSeen) (core : ServeCore A) (told : Status) (old new : Option (List ℕ)) (before now : ℕ) : Type 0 where
+pub record TellsCourse {A G : Type 0} (s : Serving) (net net' : NetSeen) (core : ServeCore A G) (told : Status) (old new : Option (List ℕ)) (before now : ℕ) : Type 0 where
   pub course : Course
   pub server : Server
   pub gone : HasGone s net net' course server

@@ -3,7 +3,7 @@ use Rattle.std.specs.Prelude.{ℕ, List}
 use Rattle.lam_outside.specs.Links.{Linked}
 use Rattle.session_meaning.specs.Server.{Server}
 use Rattle.session_meaning.specs.ServerLaws.{IsHistory}
-use Rattle.auth_cli.specs.Answer.{Serving}
+use Rattle.file_commands.specs.Answer.{Serving}
 use Rattle.auth_cli.specs.Serving.{Course, MakesLinks}
 
 -- Whatever course a serving takes, and whatever comes on its links: each version that the server has in the end, but the first, is what the ideal

@@ -16,12 +16,12 @@ use Rattle.printed_lines.specs.declared.refusal.InputFault.TheVariants.{TooLong}
 use Rattle.printed_lines.specs.declared.refusal.Refusal.TheVariants as refusal
 use Rattle.serve_links.specs.ServedLinks.{AreServed, AreServedInPart}
 use Rattle.session_meaning.specs.Server.{Server, last_turn, new_server, version_at}
-use Rattle.auth_cli.specs.Answer.{Answer, Serving, answer_with, max_file, state_image, with_serving}
-use Rattle.auth_cli.specs.Ending.{Outside, EndsAs, WritesPart}
+use Rattle.file_commands.specs.Answer.{Answer, Serving, answer_with, max_file, state_image, with_serving}
+use Rattle.file_commands.specs.Ending.{Outside, EndsAs, WritesPart}
 use Rattle.auth_cli.specs.NetFaults.{NetFaults}
 use Rattle.auth_cli.specs.OnlineRuns.{CountsBy, NetSeen}
-use Rattle.auth_cli.specs.declared.status.Status.{Status}
-use Rattle.auth_cli.specs.declared.status.Status.TheVariants.{Done, InputRefused, ReadFault, WriteFault, NoMemory}
+use Rattle.file_commands.specs.declared.status.Status.{Status}
+use Rattle.file_commands.specs.declared.status.Status.TheVariants.{Done, InputRefused, ReadFault, WriteFault, NoMemory}
 
 -- LINKS
 -- the server before its first connection

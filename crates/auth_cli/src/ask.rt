@@ -3,20 +3,19 @@ ghost use Rattle.std.specs.Prelude.{◌≡◌, ◌⊎◌, IfOk, length, unwrap_o
 ghost use Rattle.wire_form.specs.MovedBytes.{Moves};
 ghost use Rattle.command_words.specs.Commands.{texts};
 ghost use Rattle.command_words.specs.declared.command.Command.TheVariants.{Ask};
-ghost use Rattle.auth_cli.specs.Answer.{answer_with};
+ghost use Rattle.file_commands.specs.Answer.{answer_with};
 ghost use Rattle.auth_cli.specs.AskSteps.{PlaysAndStores};
 ghost use Rattle.auth_cli.specs.Asking.{AskCounts, EndsAsking, IsAsk, IsEndTold, IsStateStored};
-ghost use Rattle.auth_cli.specs.Ending.{outside};
+ghost use Rattle.file_commands.specs.Ending.{outside};
 ghost use Rattle.auth_cli.specs.NetFaults.{net_faults};
 ghost use Rattle.auth_cli.specs.OnlineRuns.{net_seen};
 ghost use Rattle.auth_cli.specs.PreparedClients.{IsReady, asked_by};
-ghost use Rattle.auth_cli.specs.Reaching.{IsReached};
-ghost use Rattle.auth_cli.specs.Statuses.{MayAnswer};
+ghost use Rattle.file_commands.specs.Reaching.{IsReached};
+ghost use Rattle.file_commands.specs.Statuses.{MayAnswer};
 
 use crate::asking::{AskWords, PreparedClient, read_asking};
-use crate::report::{NO_MEMORY, tell, tell_text};
-use crate::{Halt, Status};
 use core_terms::Spelling;
+use file_commands::{Halt, NO_MEMORY, Status, tell, tell_text};
 use lam_outside::{Failed, Files, Net, Sink};
 use printed_lines::lines::link_fault_line;
 use script_play::{Halt as PlayHalt, play};

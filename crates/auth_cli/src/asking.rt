@@ -6,23 +6,20 @@ ghost use Rattle.code_gen.specs.Programs.{program_in};
 ghost use Rattle.core_terms.specs.Programs.{meaning};
 ghost use Rattle.ask_script.specs.ScriptAnswers.{step_meant};
 ghost use Rattle.ask_script.specs.Scripts.{Fits};
-ghost use Rattle.auth_cli.specs.Answer.{unasked_answer, with_asked, with_asking, with_script, with_script_file};
-ghost use Rattle.auth_cli.specs.Halting.{GoesOn, HaltCause, InHand};
+ghost use Rattle.file_commands.specs.Answer.{unasked_answer, with_asked, with_asking, with_script, with_script_file};
+ghost use Rattle.auth_cli.specs.Asking.{IsOfScript, IsOfTexts};
+ghost use Rattle.file_commands.specs.Halting.{GoesOn, HaltCause, InHand};
 ghost use Rattle.auth_cli.specs.PreparedClients.{FitProgram, IsReady, asked_by, asked_with};
-ghost use Rattle.auth_cli.specs.ReadPrograms.{named_of};
-ghost use Rattle.auth_cli.specs.Reaching.{FaultsAt, FaultsAtReached};
+ghost use Rattle.file_commands.specs.ReadPrograms.{named_of};
+ghost use Rattle.file_commands.specs.Reaching.{FaultsAt, FaultsAtReached};
 
-use crate::Halt;
-use crate::arguments::positive_named;
-use crate::calls::{MAX_FILE, read_state_file};
-use crate::machine_calls::read_code;
-use crate::report::load;
 use crate::serving::MOST_PORT;
 use ask_core::AskCore;
 use ask_script::{Step, read_script};
 use code_gen::Code;
 use core_terms::Program;
 use digest_layer::Sha;
+use file_commands::{Halt, MAX_FILE, load, positive_named, read_code, read_state_file};
 use lam_outside::Files;
 use printed_lines::refusal::Argument;
 use std::alloc::Global;
@@ -66,6 +63,7 @@ pub fn read_asking<F: Files>(
     ensures goes { let words = words.now in ForSome (F.contents files.old) (λ told. GoesOn
         (with_asking words.program.now words.state.now words.port.now words.script.now told) asked_by result) }
     ensures ready { IfOk result IsReady }
+    ensures of_texts { IfOk result (λ client. IsOfTexts (asked_by client)) }
     ensures reached { let words = words.now in FaultsAtReached (unasked_answer words.program.now words.state.now words.port.now words.script.now)
         (F.contents files.old) (F.asked files.new) result }
     ensures cause { HaltCause (F.faults files.old) (F.faults files.new) result }
@@ -90,6 +88,7 @@ fn read_inputs<F: Files>(
     ensures goes { let words = words.now in let p = program.now in ForSome (F.contents files.old) (λ told. GoesOn
         (with_asked (named_of p) words.state.now words.port.now words.script.now told) (asked_with p) result) }
     ensures fits { IfOk result (FitProgram program.now) }
+    ensures script { IfOk result (λ inputs. IsOfScript (named_of program.now) (map step_meant inputs.steps.items)) }
     ensures reached { let words = words.now in let p = named_of program.now in FaultsAtReached
         (λ told. with_asked p words.state.now words.port.now words.script.now told (λ asking. None)) (F.contents files.old) (F.asked files.new) result }
     ensures cause { HaltCause (F.faults files.old) (F.faults files.new) result }
@@ -117,6 +116,7 @@ fn read_script_file<F: Files>(
     ensures goes { ForSome (F.contents files.old) (λ told.
         GoesOn (with_script_file (named_of program.now) (told name.now)) (λ steps. map step_meant steps.items) result) }
     ensures fits { IfOk result (λ steps. All (λ step. Fits (meaning program.now) (step_meant step)) steps.items) }
+    ensures script { IfOk result (λ steps. IsOfScript (named_of program.now) (map step_meant steps.items)) }
     ensures asked { FaultsAt name.now (F.asked files.new) result }
     ensures cause { HaltCause (F.faults files.old) (F.faults files.new) result }
     ensures contents { F.contents files.new ≡ F.contents files.old }
@@ -131,6 +131,7 @@ fn read_script_file<F: Files>(
 fn steps_in(alloc: Global, program: &Program, text: &[u8]) -> Result<Vec<Step>, Halt>
     ensures goes { InHand (GoesOn (with_script (named_of program.now) text.now) (λ steps. map step_meant steps.items)) result }
     ensures fits { IfOk result (λ steps. All (λ step. Fits (meaning program.now) (step_meant step)) steps.items) }
+    ensures script { IfOk result (λ steps. IsOfScript (named_of program.now) (map step_meant steps.items)) }
 {
     Ok(read_script(alloc, program, text)?)
 }

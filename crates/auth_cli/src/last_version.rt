@@ -1,18 +1,18 @@
 // The image of the last version of a server, stored.
 ghost use Rattle.std.specs.Prelude.{◌≡◌};
-ghost use Rattle.auth_cli.specs.Answer.{Serving};
+ghost use Rattle.file_commands.specs.Answer.{Serving};
 ghost use Rattle.auth_cli.specs.PreparedServers.{HoldsProgram};
 ghost use Rattle.auth_cli.specs.ServeSteps.{IsServer, IsUnstoredTold, StoresLast};
 ghost use Rattle.auth_cli.specs.Serving.{last_image};
 ghost use Rattle.images.specs.Saves.{IsSaved};
 ghost use Rattle.session_meaning.specs.Server.{Server};
 
-use crate::report::tell;
-use crate::{Halt, Status};
 use digest_layer::Sha;
+use file_commands::{Halt, Status, tell};
 use images::{SaveFault, save_image};
 use lam_outside::{Failed, Files, Sink};
 use serve_core::ServeCore;
+use session_turns::NoGate;
 use std::alloc::Global;
 
 /// Stores the image of the last version under a name, behind lines that left this status.
@@ -20,7 +20,7 @@ use std::alloc::Global;
 /// Where it can't be stored, that is told in a line only where nothing else went wrong before.
 pub fn store_last<F: Files, O: Sink>(
     alloc: Global,
-    core: &ServeCore<Sha>,
+    core: &ServeCore<Sha, NoGate>,
     name: &str,
     files: &mut F,
     out: &mut O,
@@ -43,7 +43,7 @@ pub fn store_last<F: Files, O: Sink>(
 }
 
 /// The image of the last version.
-fn last_image(alloc: Global, core: &ServeCore<Sha>) -> Result<Vec<u8>, SaveFault>
+fn last_image(alloc: Global, core: &ServeCore<Sha, NoGate>) -> Result<Vec<u8>, SaveFault>
     requires { (s : Serving) × (server : Server) × HoldsProgram s core.now × IsServer core.now server }
     ensures { (s : Serving) (server : Server) → HoldsProgram s core.now → IsServer core.now server → IsSaved (last_image s server) result }
 {

@@ -1,50 +1,14 @@
-//! The commands of lambda-auth, over the files and the sink that they are handed.
+//! The commands of lambda-auth on the net, over the files, the sink and the net that they are handed; and the top call of all commands.
 #![tactic(auto)]
 
-mod arguments;
 mod ask;
 mod asking;
-mod audit_proof;
-mod calls;
-mod check_program;
-mod gen_workload;
-mod ideal_call;
-mod ideal_calls;
-mod init_state;
 mod last_version;
 pub mod laws;
-mod library_text;
-mod machine_calls;
-mod outcomes;
-mod programs;
-mod prove_call;
-mod prover_marking;
-mod report;
-mod role_outcomes;
-mod roles;
 mod serve;
 mod serving;
-mod shallow_state;
-mod status;
-mod step_state;
-mod stored_states;
-mod storing;
 mod top;
-mod verify_call;
-mod workload_roles;
 
 pub use ask::ask_command;
-pub use audit_proof::audit_command;
-pub use check_program::check_command;
-pub use gen_workload::gen_command;
-pub use ideal_call::ideal_command;
-pub use init_state::init_command;
-pub use library_text::library_command;
-pub use prove_call::prove_command;
-pub use report::{Ending, Halt, Output, Report, tell};
 pub use serve::serve_command;
-pub use shallow_state::shallow_command;
-pub use status::Status;
-pub use step_state::step_command;
 pub use top::run;
-pub use verify_call::verify_command;

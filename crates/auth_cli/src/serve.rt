@@ -4,30 +4,32 @@ ghost use Rattle.std.specs.List.{concat};
 ghost use Rattle.command_words.specs.Commands.{texts};
 ghost use Rattle.command_words.specs.declared.command.Command.TheVariants.{Serve};
 ghost use Rattle.serve_links.specs.Histories.{HasSameCode};
-ghost use Rattle.auth_cli.specs.Answer.{Serving, answer_with};
-ghost use Rattle.auth_cli.specs.Ending.{outside};
+ghost use Rattle.file_commands.specs.Answer.{Serving, answer_with};
+ghost use Rattle.file_commands.specs.Ending.{outside};
 ghost use Rattle.auth_cli.specs.NetFaults.{net_faults};
 ghost use Rattle.auth_cli.specs.PreparedServers.{IsPrepared};
-ghost use Rattle.auth_cli.specs.Reaching.{IsReached};
+ghost use Rattle.file_commands.specs.Reaching.{IsReached};
 ghost use Rattle.auth_cli.specs.ServeSteps.{IsEndTold, TellsCourse};
 ghost use Rattle.auth_cli.specs.Serving.{EndsServing, IsServe, ServeCounts, Served, count_lines, course_status, fault_lines};
 ghost use Rattle.auth_cli.specs.OnlineRuns.{net_seen};
-ghost use Rattle.auth_cli.specs.Statuses.{MayAnswer};
+ghost use Rattle.file_commands.specs.Statuses.{MayAnswer};
 
 use crate::last_version::store_last;
-use crate::report::{NO_MEMORY, tell, tell_text, write_all};
 use crate::serving::{PreparedServer, ServeWords, read_serving};
-use crate::{Halt, Status};
 use digest_layer::Sha;
+use file_commands::{Halt, NO_MEMORY, Status, tell, tell_text, write_all};
 use lam_outside::{Failed, Files, Net, Sink};
 use printed_lines::lines::{link_fault_line, versions_line};
 use serve_core::ServeCore;
 use serve_links::{ServingEnd, serve_links};
+use session_turns::NoGate;
 use std::alloc::{AllocError, Global};
+use std::thread::Threads;
 
 /// Serves connections, one after another, and stores the image of the last version of the state. The words behind the command are
 /// `P IMG PORT CONNS SLICE OUT`.
-pub fn serve_command<F: Files, O: Sink, N: Net>(
+pub fn serve_command<F: Files, O: Sink, N: Net, R: Threads + Sync>(
+    rt: &R,
     alloc: Global,
     words: &[&str],
     files: &mut F,
@@ -55,13 +57,14 @@ pub fn serve_command<F: Files, O: Sink, N: Net>(
         slice,
     };
     match read_serving(alloc, &words, files) {
-        Ok(mut server) => serve(alloc, &mut server, name, files, out, net),
+        Ok(mut server) => serve(rt, alloc, &mut server, name, files, out, net),
         Err(halt) => tell(alloc, out, Err(halt)),
     }
 }
 
 /// Serves, and then stores the last version under a name.
-fn serve<F: Files, O: Sink, N: Net>(
+fn serve<F: Files, O: Sink, N: Net, R: Threads + Sync>(
+    rt: &R,
     alloc: Global,
     server: &mut PreparedServer,
     name: &str,
@@ -75,12 +78,13 @@ fn serve<F: Files, O: Sink, N: Net>(
         (s : Serving) → IsPrepared server.old s → EndsServing s name.now (seen files.old out.old) (seen files.new out.new) (links net.old) (links net.new) result }
     ensures asked { F.asked files.new ≡ F.asked files.old }
 {
-    let told = listen_and_serve(alloc, server, out, net);
+    let told = listen_and_serve(rt, alloc, server, out, net);
     store_last(alloc, &server.core, name, files, out, told)
 }
 
 /// Listens, serves the connections, and tells both. The status so far.
-fn listen_and_serve<O: Sink, N: Net>(
+fn listen_and_serve<O: Sink, N: Net, R: Threads + Sync>(
+    rt: &R,
     alloc: Global,
     server: &mut PreparedServer,
     out: &mut O,
@@ -95,7 +99,7 @@ fn listen_and_serve<O: Sink, N: Net>(
     match net.listen(server.port) {
         Ok(()) => match write_all(out, &server.greeting) {
             Ok(()) => {
-                let end = serve_links(alloc, &mut server.core, net, server.connections);
+                let end = serve_links(rt, alloc, &mut server.core, net, server.connections);
                 tell_end(alloc, &server.core, out, end)
             }
             Err(Failed) => Status::WriteFault,
@@ -106,7 +110,12 @@ fn listen_and_serve<O: Sink, N: Net>(
 
 /// Tells how the serving of connections ended: how many versions and commits there are, and that a link failed; or that memory was
 /// wanting, also for these lines.
-fn tell_end<O: Sink>(alloc: Global, core: &ServeCore<Sha>, out: &mut O, end: ServingEnd) -> Status
+fn tell_end<O: Sink>(
+    alloc: Global,
+    core: &ServeCore<Sha, NoGate>,
+    out: &mut O,
+    end: ServingEnd,
+) -> Status
     ensures { IsEndTold (length core.now.shared.versions.items) (length core.now.shared.commits.items) end result (O.written out.old) (O.written out.new) (O.faults out.old) (O.faults out.new) }
 {
     match end {
@@ -130,7 +139,11 @@ fn end_status(link_fault: bool) -> Status
 }
 
 /// The line of the versions and the commits, and that of a link that failed.
-fn end_text(alloc: Global, core: &ServeCore<Sha>, link_fault: bool) -> Result<Vec<u8>, AllocError>
+fn end_text(
+    alloc: Global,
+    core: &ServeCore<Sha, NoGate>,
+    link_fault: bool,
+) -> Result<Vec<u8>, AllocError>
     ensures { IfOk result (λ text. text.items ≡ concat (count_lines (length core.now.shared.versions.items) (length core.now.shared.commits.items) link_fault)) }
 {
     let mut text = versions_line(alloc, core.versions().len(), core.commits().len())?;

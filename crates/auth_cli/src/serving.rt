@@ -4,24 +4,22 @@ ghost use Rattle.std.specs.Option.{ForSome};
 ghost use Rattle.code_gen.specs.Programs.{program_in};
 ghost use Rattle.core_terms.specs.Programs.{meaning};
 ghost use Rattle.core_terms.specs.Values.{Value};
-ghost use Rattle.auth_cli.specs.Answer.{Serving, serving_of, unserved_answer, with_serving, with_serving_numbers};
-ghost use Rattle.auth_cli.specs.Halting.{GoesOn, GoesOnFor, HaltCause, InHand};
-ghost use Rattle.auth_cli.specs.Reaching.{FaultsAtReached};
-ghost use Rattle.auth_cli.specs.ReadPrograms.{digested_of};
+ghost use Rattle.file_commands.specs.Answer.{Serving, serving_of, unserved_answer, with_serving, with_serving_numbers};
+ghost use Rattle.file_commands.specs.Halting.{GoesOn, GoesOnFor, HaltCause, InHand};
+ghost use Rattle.file_commands.specs.Reaching.{FaultsAtReached};
+ghost use Rattle.file_commands.specs.ReadPrograms.{digested_of};
 ghost use Rattle.auth_cli.specs.PreparedServers.{BeginsWith, IsPrepared, numbers_of, with_beginning};
-ghost use Rattle.auth_cli.specs.StoredStates.{IsStoredState};
+ghost use Rattle.file_commands.specs.StoredStates.{IsStoredState};
 
-use crate::Halt;
-use crate::arguments::positive_named;
-use crate::machine_calls::read_code;
-use crate::stored_states::load_image_file;
 use code_gen::Code;
 use digest_layer::Sha;
+use file_commands::{Halt, load_image_file, positive_named, read_code};
 use images::Loaded;
 use lam_outside::Files;
 use printed_lines::lines::listening_line;
 use printed_lines::refusal::Argument;
 use serve_core::ServeCore;
+use session_turns::NoGate;
 use std::alloc::{AllocError, Global};
 
 /// The words of a serving.
@@ -55,7 +53,7 @@ struct Beginning {
 /// A server before its first connection.
 #[derive(Drop)]
 pub struct PreparedServer {
-    pub core: ServeCore<Sha>,
+    pub core: ServeCore<Sha, NoGate>,
     /// The port to which it will listen.
     pub port: u16,
     /// How many connections it will serve, one after another.
@@ -156,7 +154,7 @@ fn begin(alloc: Global, code: Code, beginning: Beginning) -> Result<PreparedServ
 {
     let Beginning { state, numbers } = beginning;
     let Loaded { store, root } = state;
-    let core = ServeCore::new(alloc, code, store, root, numbers.slice)?;
+    let core = ServeCore::new(alloc, code, store, root, numbers.slice, NoGate)?;
     let greeting = listening_line(alloc, numbers.port)?;
     Ok(PreparedServer {
         core,

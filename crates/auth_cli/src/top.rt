@@ -8,31 +8,31 @@ ghost use Rattle.command_words.specs.Invocations.{Invocation, invocation_of};
 ghost use Rattle.command_words.specs.declared.command.Command.TheVariants.{Ask, Audit, Prove, Serve};
 ghost use Rattle.collision_audit.specs.Splits.{Split};
 ghost use Rattle.lam_outside.specs.Causes.{Rose};
-ghost use Rattle.auth_cli.specs.Answer.{answer, answer_with};
-ghost use Rattle.auth_cli.specs.Asking.{IsAsk};
-ghost use Rattle.auth_cli.specs.AuditedCalls.{CallsAudit, IsAudited, SplitsAt, TellsAnAudit};
-ghost use Rattle.auth_cli.specs.Codes.{code};
-ghost use Rattle.auth_cli.specs.Ending.{outside, EndsAs, IsOfFault, IsOfRefused, IsToldByCode, MayWrite, NoneRose, StoresSome, WritesPart, no_memory_text};
-ghost use Rattle.auth_cli.specs.IdealCalls.{IdealCall};
+ghost use Rattle.file_commands.specs.Answer.{Asking, answer, answer_with};
+ghost use Rattle.auth_cli.specs.Asking.{CallsAsk, IsAsk, TellsTrueOutcomes};
+ghost use Rattle.file_commands.specs.AuditedCalls.{CallsAudit, IsAudited, SplitsAt, TellsAnAudit};
+ghost use Rattle.file_commands.specs.Codes.{code};
+ghost use Rattle.file_commands.specs.Ending.{outside, EndsAs, IsOfFault, IsOfRefused, IsToldByCode, MayWrite, NoneRose, StoresSome, WritesPart, no_memory_text};
+ghost use Rattle.file_commands.specs.IdealCalls.{IdealCall};
 ghost use Rattle.auth_cli.specs.NetFaults.{NetRose, net_faults};
 ghost use Rattle.auth_cli.specs.NetRuns.{CallsNoDial, CallsNoListen, EndsCommand, EndsRun, IsOffline, IsReadFaultAt, UsesNoNet};
 ghost use Rattle.auth_cli.specs.OnlineRuns.{net_seen};
-ghost use Rattle.auth_cli.specs.ProvedCalls.{CallsProve, IsProved};
-ghost use Rattle.auth_cli.specs.Reaching.{IsReached, ReachedAt};
+ghost use Rattle.file_commands.specs.ProvedCalls.{CallsProve, IsProved};
+ghost use Rattle.file_commands.specs.Reaching.{IsReached, ReachedAt};
 ghost use Rattle.auth_cli.specs.Serving.{IsServe};
-ghost use Rattle.auth_cli.specs.Statuses.{MayAnswer};
-ghost use Rattle.auth_cli.specs.TrueLines.{IsTrueLine, TellsOutcome};
-ghost use Rattle.auth_cli.specs.declared.status.Status.{Status};
+ghost use Rattle.file_commands.specs.Statuses.{MayAnswer};
+ghost use Rattle.file_commands.specs.TrueLines.{IsTrueLine, TellsOutcome};
+ghost use Rattle.file_commands.specs.declared.status.Status.{Status};
 
-use crate::report::tell;
-use crate::{
-    Halt, Status, ask_command, audit_command, check_command, gen_command, ideal_command,
-    init_command, library_command, prove_command, serve_command, shallow_command, step_command,
-    verify_command,
-};
+use crate::{ask_command, serve_command};
 use command_words::{Command, WordsFault, read};
+use file_commands::{
+    Halt, Status, audit_command, check_command, gen_command, ideal_command, init_command,
+    library_command, prove_command, shallow_command, step_command, tell, verify_command,
+};
 use lam_outside::{Files, Net, Sink};
 use std::alloc::Global;
+use std::thread::Threads;
 
 /// Runs the words of a command line, the program's name first, and answers the exit status.
 ///
@@ -49,13 +49,17 @@ use std::alloc::Global;
 /// | 0, 3, 4 | `proof new A used U bytes B` | `prove`, behind the outcome's line: the proof has A pieces of its own, names U again, and the file that is stored has B bytes |
 /// | 0, 7, 8, 10 | `listening PORT` | `serve`, as soon as it listens; other lines follow |
 /// | 0, 7, 8, 10 | `versions V commits C` | `serve`, behind its last connection: it has so many versions of the state, and commits that made them |
+/// | 0, 5, 8, 10 | `S welcome`, `S done VALUE`, `S trap NAME`, `S out of fuel`, `S stale`, `S refused CODE`, `S closed` | `ask`: what session S is told; other lines may follow |
+/// | 0, 5, 8, 10 | `S out of turn` | `ask`: the script asks what session S can't do as it stands; other lines may follow |
 /// | 2 | `usage: lamauth COMMAND ARGUMENTS` | the words call no command |
 /// | 3 | `trap NAME` | the outcome is this trap: `overflow`, `divzero`, `toobig`, `toodeep` |
 /// | 4 | `out of fuel` | the outcome is the want of fuel |
 /// | 0, 3, 4 | `agrees ` and such a line | `audit`: the proof is accepted with this outcome, which is the projection of the ideal one |
 /// | 5 | `rejected CAUSE` | the proof is rejected, for the cause below; in `audit` it shows no collision |
+/// | 5 | `S rejected CAUSE` | `ask`, as the last line: the proof of a call of session S is rejected |
+/// | 5 | `bad reply S stranger`, `bad reply S wrong KIND`, `server closed CODE`, `bad message KIND OFFSET`, `message too long BYTES`, `reply cut`, `reply ended` | `ask`, as the last line: another reply came than one that is waited for, or none |
 /// | 6 | `program refused: KIND LINE COLUMN` | the text is no program: its first fault |
-/// | 7 | `input refused: too long ARGUMENT` | the file that `P`, `STATE` or `IMG` names is too long, or the image for `OUT` would be |
+/// | 7 | `input refused: too long ARGUMENT` | the file that `P`, `STATE`, `IMG` or `SCRIPT` names is too long, or the image for `OUT` would be |
 /// | 7 | `input refused: library unknown` | the library has no program of this name |
 /// | 7 | `input refused: role unknown` | the program has no role of this name |
 /// | 7 | `input refused: role kind` | the role is not of the kind that the command calls: an init for `init`, an update for `step` and for `verify` with `OUT`, else a query or an update |
@@ -76,8 +80,9 @@ use std::alloc::Global;
 /// | 7 | `input refused: image root` | the last record hasn't the type of the state, or there is none |
 /// | 7 | `input refused: image leftover BYTES` | so many bytes stand behind the last record |
 /// | 7 | `input refused: argument KIND OFFSET` | the argument is no literal of its type: the first fault |
+/// | 7 | `input refused: script LINE` | the line of the script with this number, from 1, asks for nothing: the first such line |
 /// | 8 | `read fault` | a file could not be read |
-/// | 8 | `link fault` | `serve`: it could not listen; or, as the last line, a link or an accept failed |
+/// | 8 | `link fault` | `serve`: it could not listen; `ask`: it could not dial; or, as the last line, a link or an accept failed |
 /// | 9 | a part of a line | the sink failed, or a file could not be stored |
 /// | 10 | `no memory` | memory was wanting |
 /// | 11 | `collision PLACE OFFERED HONEST` | `audit`: the first offered piece that differs from the honest one has its digest: the place, and both pieces in lower-case hexadecimal digits, one without bytes as `-` |
@@ -99,11 +104,13 @@ use std::alloc::Global;
 /// The program's text has at most 262,144 bytes, each other file at most 67,108,864, but that a proof that is judged may
 /// have any length. What is refused first in this order ends the run: the words, the program, the role, the fuel, the number of
 /// pieces that are kept, the port, the number of connections, the number of calls in a turn, the state or the image, the argument,
-/// the proof; of `gen` the words, the name, the seed, the number of rounds, the number of pieces that are kept. A file is opened when
-/// all that stands before it is well-formed, so `read fault` comes only from a file that this order had reached. A file is stored
-/// before any line is written, but by `serve`, which writes its lines as they arise and stores the last version behind them, however
-/// it ended. `serve` alone uses the net, and waits for peers.
-pub fn run<F: Files, O: Sink, N: Net>(
+/// the script, the proof; of `gen` the words, the name, the seed, the number of rounds, the number of pieces that are kept. A file is
+/// opened when all that stands before it is well-formed, so `read fault` comes only from a file that this order had reached. A file is
+/// stored before any line is written, but by `serve` and `ask`: they write their lines as they arise and store the last version, or the
+/// state told last, behind them, however they ended once they listened or dialled. They alone use the net, and wait for
+/// peers; `serve` alone starts threads, for the turns of a round.
+pub fn run<F: Files, O: Sink, N: Net, R: Threads + Sync>(
+    rt: &R,
     alloc: Global,
     words: &[&str],
     files: &mut F,
@@ -137,6 +144,11 @@ pub fn run<F: Files, O: Sink, N: Net>(
         let links = net_seen N.ended N.linked N.given N.left N.sent N.listened (net_faults N.faults N.listen_faults N.accept_faults N.dial_faults) in
         (called : Invocation) → invocation_of (texts words.now) ≡ Some called → called.command ≡ Ask
         → (status : Status) × (result ≡ code status) × IsAsk called.texts (seen files.old out.old) (seen files.new out.new) (links net.old) (links net.new) status }
+
+    // What `ask` tells is true, whoever serves and whatever replies come: on each state that a session's told updates leave, each outcome that it is told
+    // is the projection of the ideal one, up to the first proof that shows a collision at a named place.
+    ensures told_truth { (called : Invocation) → invocation_of (texts words.now) ≡ Some called → called.command ≡ Ask
+        → (asking : Asking) (name : List ℕ) → CallsAsk called.texts (F.contents files.old) asking name → TellsTrueOutcomes asking }
 
     // Where no count rose, status, lines and stored files are those of the defined answer, or memory was wanting.
     ensures answered { IsOffline (invocation_of (texts words.now)) → let seen = outside F.contents F.stores F.faults F.store_faults O.written O.faults in
@@ -201,7 +213,7 @@ pub fn run<F: Files, O: Sink, N: Net>(
     ensures write_part { IsOffline (invocation_of (texts words.now)) → result ≡ 9 → ForSome (F.contents files.old) (λ told.
         (text : List ℕ) × MayWrite (answer (texts words.now) told) text × WritesPart (O.written out.old) (O.written out.new) text) }
 
-    // Stored before any line, but by `serve`: where a file could not be stored, nothing was written.
+    // Stored before any line, but by `serve` and `ask`: where a file could not be stored, nothing was written.
     ensures stored_first { IsOffline (invocation_of (texts words.now)) → Rose (F.store_faults files.old) (F.store_faults files.new)
         → O.written out.new ≡ O.written out.old }
 
@@ -213,11 +225,12 @@ pub fn run<F: Files, O: Sink, N: Net>(
     ensures stored { IsOffline (invocation_of (texts words.now))
         → ForSome (F.contents files.old) (λ told. StoresSome (answer (texts words.now) told) (F.stores files.old) (F.stores files.new)) }
 {
-    ended(alloc, words, files, out, net).code()
+    ended(rt, alloc, words, files, out, net).code()
 }
 
 /// Judges the words, and carries out the command that they call.
-fn ended<F: Files, O: Sink, N: Net>(
+fn ended<F: Files, O: Sink, N: Net, R: Threads + Sync>(
+    rt: &R,
     alloc: Global,
     words: &[&str],
     files: &mut F,
@@ -233,14 +246,15 @@ fn ended<F: Files, O: Sink, N: Net>(
     ensures refused { invocation_of (texts words.now) ≡ None → IsOfRefused result }
 {
     match read(alloc, words) {
-        Ok(called) => carry_out(alloc, called.command, called.texts, files, out, net),
+        Ok(called) => carry_out(rt, alloc, called.command, called.texts, files, out, net),
         Err(WordsFault::Refused) => tell(alloc, out, Err(Halt::Usage)),
         Err(WordsFault::NoMemory) => tell(alloc, out, Err(Halt::NoMemory)),
     }
 }
 
 /// Carries out a command with as many texts as it has arguments.
-fn carry_out<F: Files, O: Sink, N: Net>(
+fn carry_out<F: Files, O: Sink, N: Net, R: Threads + Sync>(
+    rt: &R,
     alloc: Global,
     command: Command,
     words: &[&str],
@@ -257,7 +271,7 @@ fn carry_out<F: Files, O: Sink, N: Net>(
     ensures possible { MayAnswer command result }
 {
     match command {
-        Command::Serve => serve_command(alloc, words, files, out, net),
+        Command::Serve => serve_command(rt, alloc, words, files, out, net),
         Command::Ask => ask_command(alloc, words, files, out, net),
         _ => carry_out_offline(alloc, command, words, files, out),
     }

@@ -6,6 +6,7 @@ use crate::stage::{Stage, files, net, sink, staged};
 use auth_cli::run;
 use lam_outside::{MemFiles, MemNet, MemSink};
 use std::alloc::{AllocError, Global};
+use std::thread::Threads;
 
 /// What a run told, how many files it stored, and the name and the bytes of the last one.
 #[derive(Drop)]
@@ -65,7 +66,8 @@ fn told(alloc: Global, status: u8, files: &MemFiles, out: &MemSink) -> Result<Ru
 pub type Writes<'a> = (usize, &'a [u64]);
 
 /// Runs these words behind the program's name, where these calls of the files fail.
-pub fn run_failing(
+pub fn run_failing<R: Threads + Sync>(
+    rt: &R,
     alloc: Global,
     stage: &Stage,
     words: &[&str],
@@ -76,7 +78,7 @@ pub fn run_failing(
     requires written { 0 < writes.0 }
 {
     let mut net = net(alloc, &[], 1, &[])?;
-    run_over(alloc, stage, words, &mut net, failing, writes)
+    run_over(rt, alloc, stage, words, &mut net, failing, writes)
 }
 
 /// What comes on the links of a net, how much of it moves at once, and which calls of the net fail.
@@ -88,7 +90,8 @@ pub struct Peers<'a> {
 }
 
 /// Runs these words behind the program's name over a net, where these calls of the files fail; and what was sent on its last link.
-pub fn run_on_net(
+pub fn run_on_net<R: Threads + Sync>(
+    rt: &R,
     alloc: Global,
     stage: &Stage,
     words: &[&str],
@@ -101,12 +104,13 @@ pub fn run_on_net(
     requires moved { 0 < peers.now.most }
 {
     let mut net = net(alloc, peers.bytes, peers.most, peers.failing)?;
-    let run = run_over(alloc, stage, words, &mut net, failing, writes)?;
+    let run = run_over(rt, alloc, stage, words, &mut net, failing, writes)?;
     Ok((run, net.sent().to_vec(alloc)?))
 }
 
 /// The same over this net.
-fn run_over(
+fn run_over<R: Threads + Sync>(
+    rt: &R,
     alloc: Global,
     stage: &Stage,
     words: &[&str],
@@ -125,32 +129,48 @@ fn run_over(
     let words = with_name(alloc, words)?;
     let mut out = sink(alloc, most, failing_writes)?;
     let mut files = files(alloc, stage, failing)?;
-    let status = run(alloc, &words, &mut files, &mut out, net);
+    let status = run(rt, alloc, &words, &mut files, &mut out, net);
     told(alloc, status, &files, &out)
 }
 
 /// Runs these words behind the program's name.
-pub fn run_words(alloc: Global, stage: &Stage, words: &[&str]) -> Result<Run, AllocError>
+pub fn run_words<R: Threads + Sync>(
+    rt: &R,
+    alloc: Global,
+    stage: &Stage,
+    words: &[&str],
+) -> Result<Run, AllocError>
     requires { 0 < stage.now.most_read }
 {
-    run_failing(alloc, stage, words, &[], (100, &[]))
+    run_failing(rt, alloc, stage, words, &[], (100, &[]))
 }
 
 /// Runs `check` of a program.
-pub fn check(alloc: Global, program: &[u8]) -> Result<Run, AllocError> {
-    run_words(alloc, &staged(program, &[], &[]), &["check", "p"])
+pub fn check<R: Threads + Sync>(rt: &R, alloc: Global, program: &[u8]) -> Result<Run, AllocError> {
+    run_words(rt, alloc, &staged(program, &[], &[]), &["check", "p"])
 }
 
 /// Runs a role of `init` on a literal.
-pub fn made(alloc: Global, program: &[u8], role: &str, literal: &str) -> Result<Run, AllocError> {
+pub fn made<R: Threads + Sync>(
+    rt: &R,
+    alloc: Global,
+    program: &[u8],
+    role: &str,
+    literal: &str,
+) -> Result<Run, AllocError> {
     let words = ["init", "p", role, literal, "1000", "o"];
-    run_words(alloc, &staged(program, &[], &[]), &words)
+    run_words(rt, alloc, &staged(program, &[], &[]), &words)
 }
 
 /// Runs `shallow` on an image.
-pub fn kept(alloc: Global, program: &[u8], image: &[u8]) -> Result<Run, AllocError> {
+pub fn kept<R: Threads + Sync>(
+    rt: &R,
+    alloc: Global,
+    program: &[u8],
+    image: &[u8],
+) -> Result<Run, AllocError> {
     let words = ["shallow", "p", "q", "o"];
-    run_words(alloc, &staged(program, &[], image), &words)
+    run_words(rt, alloc, &staged(program, &[], image), &words)
 }
 
 /// The words of a call.
@@ -171,7 +191,8 @@ pub fn opening(fuel: &str) -> Call<'_> {
 }
 
 /// Runs `prove` of a call on an image, where so many pieces are kept.
-pub fn proved(
+pub fn proved<R: Threads + Sync>(
+    rt: &R,
     alloc: Global,
     program: &[u8],
     image: &[u8],
@@ -188,11 +209,12 @@ pub fn proved(
         number,
         "o",
     ];
-    run_words(alloc, &staged(program, &[], image), &words)
+    run_words(rt, alloc, &staged(program, &[], image), &words)
 }
 
 /// Runs `verify` of a proof of a call.
-pub fn verified(
+pub fn verified<R: Threads + Sync>(
+    rt: &R,
     alloc: Global,
     program: &[u8],
     state: &[u8],
@@ -200,5 +222,5 @@ pub fn verified(
     call: &Call,
 ) -> Result<Run, AllocError> {
     let words = ["verify", "p", call.role, "s", call.argument, call.fuel, "q"];
-    run_words(alloc, &staged(program, state, proof), &words)
+    run_words(rt, alloc, &staged(program, state, proof), &words)
 }

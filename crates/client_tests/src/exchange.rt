@@ -15,8 +15,10 @@ use crate::wire::link_with;
 use core_stage::stage::{Then, code_of, hear, server_from};
 use digest_layer::Sha;
 use serve_core::ServeCore;
+use session_turns::NoGate;
 use std::alloc::{AllocError, Global};
 use std::test::Fail;
+use std::thread::Threads;
 
 /// How many requests there are in a case.
 const STEPS: u32 = 625;
@@ -48,25 +50,35 @@ static CASES: [(Library, u16); 16] = [
 ];
 
 /// What the server sends for a request.
-fn replied(alloc: Global, core: &mut ServeCore<Sha>, asked: Vec<u8>) -> Result<Vec<u8>, Trouble>
+fn replied<R: Threads + Sync>(
+    rt: &R,
+    alloc: Global,
+    core: &mut ServeCore<Sha, NoGate>,
+    asked: Vec<u8>,
+) -> Result<Vec<u8>, Trouble>
     requires { (server : meant.Server) × Serves sha256 core.old server }
     ensures { IfOk result (λ _. (server : meant.Server) × Serves sha256 core.new server) }
 {
     let mut link = link_with(alloc, asked);
-    match hear(alloc, core, &mut link)? {
+    match hear(rt, alloc, core, &mut link)? {
         Then::Goes => Ok(Vec::from_slice(alloc, link.sent())?),
         Then::Ended | Then::Closed => Err(Trouble::NoMessage),
     }
 }
 
 /// A request and its replies, which are taken then or later.
-fn step(alloc: Global, core: &mut ServeCore<Sha>, user: &mut User) -> Result<(), Trouble>
+fn step<R: Threads + Sync>(
+    rt: &R,
+    alloc: Global,
+    core: &mut ServeCore<Sha, NoGate>,
+    user: &mut User,
+) -> Result<(), Trouble>
     requires { (server : meant.Server) × Serves sha256 core.old server }
     ensures { IfOk result (λ _. (server : meant.Server) × Serves sha256 core.new server) }
 {
     let asked = user.ask()?;
     if !asked.is_empty() {
-        let replies = replied(alloc, core, asked)?;
+        let replies = replied(rt, alloc, core, asked)?;
         user.comes(&replies)?;
         user.learn(core)?;
     }
@@ -91,11 +103,16 @@ impl From<AllocError> for Finding {
 }
 
 /// So many requests.
-fn steps(alloc: Global, core: &mut ServeCore<Sha>, user: &mut User) -> Result<(), Finding>
+fn steps<R: Threads + Sync>(
+    rt: &R,
+    alloc: Global,
+    core: &mut ServeCore<Sha, NoGate>,
+    user: &mut User,
+) -> Result<(), Finding>
     requires { (server : meant.Server) × Serves sha256 core.old server }
 {
     for step_number in 0..STEPS {
-        if let Err(trouble) = step(alloc, core, user) {
+        if let Err(trouble) = step(rt, alloc, core, user) {
             let step = step_number;
             return Err(Finding { step, trouble });
         }
@@ -104,21 +121,21 @@ fn steps(alloc: Global, core: &mut ServeCore<Sha>, user: &mut User) -> Result<()
 }
 
 /// A server of the first version of a program.
-fn first_server(alloc: Global, library: Library) -> Result<Box<ServeCore<Sha>>, AllocError>
+fn first_server(alloc: Global, library: Library) -> Result<Box<ServeCore<Sha, NoGate>>, AllocError>
     ensures { IfOk result (λ core. (server : meant.Server) × Serves sha256 core.value server) }
 {
     let Records { count, bytes } = library.first_version(alloc)?;
-    server_from(alloc, library.text(), count, &bytes, SLICE)
+    server_from(alloc, library.text(), count, &bytes, SLICE, NoGate)
 }
 
 /// The replies that are left are taken, and enough was told.
-fn told_all(core: &ServeCore<Sha>, user: &mut User) -> Result<(), Trouble> {
+fn told_all(core: &ServeCore<Sha, NoGate>, user: &mut User) -> Result<(), Trouble> {
     user.take_all()?;
     user.is_told(core, OUTCOMES)
 }
 
 /// The same, behind the last request.
-fn ends(core: &ServeCore<Sha>, user: &mut User) -> Result<(), Finding> {
+fn ends(core: &ServeCore<Sha, NoGate>, user: &mut User) -> Result<(), Finding> {
     match told_all(core, user) {
         Ok(()) => Ok(()),
         Err(trouble) => Err(Finding {
@@ -129,12 +146,17 @@ fn ends(core: &ServeCore<Sha>, user: &mut User) -> Result<(), Finding> {
 }
 
 /// The exchange of a case.
-fn exchange(alloc: Global, library: Library, kept: u16) -> Result<(), Finding> {
+fn exchange<R: Threads + Sync>(
+    rt: &R,
+    alloc: Global,
+    library: Library,
+    kept: u16,
+) -> Result<(), Finding> {
     let code = code_of(alloc, library.text())?;
     let mut user = User::new(alloc, code, u64::from(kept), kept)?;
     let mut core = first_server(alloc, library)?;
     user.learn(&core)?;
-    steps(alloc, &mut core, &mut user)?;
+    steps(rt, alloc, &mut core, &mut user)?;
     ends(&core, &mut user)
 }
 
@@ -152,7 +174,7 @@ fn trouble_word(trouble: Trouble) -> &'static str {
 #[test]
 fn both_cores_agree(rt: HostRuntime) -> Result<(), Fail> {
     for (case, (library, kept)) in CASES.iter().enumerate() {
-        if let Err(finding) = exchange(rt.alloc(), *library, *kept) {
+        if let Err(finding) = exchange(&rt, rt.alloc(), *library, *kept) {
             let step = finding.step;
             let word = trouble_word(finding.trouble);
             return Err(Fail::new(format_args!("case {case}, request {step}: {word}")));

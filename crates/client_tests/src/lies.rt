@@ -11,6 +11,7 @@ use core_terms::Hash32;
 use digest_layer::Sha;
 use std::alloc::{AllocError, Global};
 use std::test::Fail;
+use std::thread::Threads;
 
 /// What a client asks.
 struct Conversation {
@@ -72,10 +73,14 @@ struct HonestRun {
     told: Told,
 }
 
-fn honest_run(alloc: Global, conversation: &Conversation) -> Result<HonestRun, AllocError> {
+fn honest_run<R: Threads + Sync>(
+    rt: &R,
+    alloc: Global,
+    conversation: &Conversation,
+) -> Result<HonestRun, AllocError> {
     let asked = bytes_of(alloc, conversation.asked, &Sha::of(conversation.of.text))?;
     let mut core = server(alloc, conversation.of, 1_000)?;
-    let replies = served(alloc, &mut core, &asked, 4096)?.bytes;
+    let replies = served(rt, alloc, &mut core, &asked, 4096)?.bytes;
     let told = told_of(alloc, conversation.of, &asked, &replies)?;
     Ok(HonestRun {
         asked,
@@ -217,9 +222,13 @@ enum Finding {
 }
 
 /// What is found of a conversation; none where no lie tells what isn't true.
-fn found(alloc: Global, conversation: &Conversation) -> Result<Option<Finding>, AllocError> {
+fn found<R: Threads + Sync>(
+    rt: &R,
+    alloc: Global,
+    conversation: &Conversation,
+) -> Result<Option<Finding>, AllocError> {
     let of = conversation.of;
-    let honest = honest_run(alloc, conversation)?;
+    let honest = honest_run(rt, alloc, conversation)?;
     let whole = honest.told.whole && honest.told.sent == honest.asked;
     if !whole || honest.told.count != conversation.outcomes {
         return Ok(Some(Finding::NotTold(honest.told.count)));
@@ -257,7 +266,7 @@ fn untrue_bytes(alloc: Global, of: Stage, honest: &HonestRun) -> Result<Option<u
 #[test]
 fn lies_tell_nothing_untrue(rt: HostRuntime) -> Result<(), Fail> {
     for (number, conversation) in [ON_TREE, ON_BOOL].iter().enumerate() {
-        let (word, place) = match found(rt.alloc(), conversation)? {
+        let (word, place) = match found(&rt, rt.alloc(), conversation)? {
             None => continue,
             Some(Finding::NotTold(count)) => ("outcomes", count),
             Some(Finding::OfReply(reply)) => ("reply", reply),

@@ -19,8 +19,10 @@ use digest_layer::Sha;
 use images::{Loaded, load_image};
 use lam_outside::{MemLink, Plan};
 use serve_core::{Heard, ServeCore};
+use session_turns::{Gate, NoGate};
 use shallow_codec::put_digested;
 use std::alloc::{AllocError, Global};
+use std::thread::Threads;
 use value_store::{Marker, Ref, Store};
 use wire_form::{ReadStop, Reply, read_request, write_reply};
 
@@ -98,45 +100,51 @@ fn first_version(alloc: Global, program: &Program, bytes: &[u8]) -> Result<Loade
     }
 }
 
-/// A server with this code and first version.
-fn server_at(
+/// A server with this code, first version and gate.
+fn server_at<G: Gate + Drop>(
     alloc: Global,
     code: Code,
     first: Loaded,
     slice: u64,
-) -> Result<Box<ServeCore<Sha>>, AllocError>
+    gate: G,
+) -> Result<Box<ServeCore<Sha, G>>, AllocError>
     requires some { 0 < slice }
     requires version { (v : Value) × IsVersion sha256 (program_of code) (nodes_in first.store) first.root v }
     ensures { IfOk result (λ core. (server : meant.Server) × Serves sha256 core.value server) }
 {
     let Loaded { store, root } = first;
-    let core = ServeCore::new(alloc, code, store, root, slice)?;
+    let core = ServeCore::new(alloc, code, store, root, slice, gate)?;
     Ok(Box::new(alloc, core)?)
 }
 
-/// A server of a program from the records of an image.
-pub fn server_from(
+/// A server of a program from the records of an image, behind a gate.
+pub fn server_from<G: Gate + Drop>(
     alloc: Global,
     text: &[u8],
     count: u32,
     records: &[u8],
     slice: u64,
-) -> Result<Box<ServeCore<Sha>>, AllocError>
+    gate: G,
+) -> Result<Box<ServeCore<Sha, G>>, AllocError>
     requires { 0 < slice }
     ensures { IfOk result (λ core. (server : meant.Server) × Serves sha256 core.value server) }
 {
     let code = code_of(alloc, text)?;
     let bytes = image(alloc, code.program().text_digest(), count, records)?;
     let first = first_version(alloc, code.program(), &bytes)?;
-    server_at(alloc, code, first, slice)
+    server_at(alloc, code, first, slice, gate)
 }
 
-/// A server of a program.
-pub fn server(alloc: Global, stage: Stage, slice: u64) -> Result<Box<ServeCore<Sha>>, AllocError>
+/// A server of a program, without a gate.
+pub fn server(
+    alloc: Global,
+    stage: Stage,
+    slice: u64,
+) -> Result<Box<ServeCore<Sha, NoGate>>, AllocError>
     requires { 0 < slice }
     ensures { IfOk result (λ core. (server : meant.Server) × Serves sha256 core.value server) }
 {
-    server_from(alloc, stage.text, stage.count, stage.records, slice)
+    server_from(alloc, stage.text, stage.count, stage.records, slice, NoGate)
 }
 
 /// What is heard on a link.
@@ -192,9 +200,10 @@ pub enum Then {
 }
 
 /// Hears a message on a link, and sends the replies.
-pub fn hear(
+pub fn hear<G: Gate + Drop, R: Threads + Sync>(
+    rt: &R,
     alloc: Global,
-    core: &mut ServeCore<Sha>,
+    core: &mut ServeCore<Sha, G>,
     link: &mut MemLink,
 ) -> Result<Then, AllocError>
     requires { (server : meant.Server) × Serves sha256 core.old server }
@@ -202,7 +211,7 @@ pub fn hear(
 {
     let heard = heard(alloc, link)?;
     let ends = matches!(&heard, Heard::End);
-    let replies = core.handle(heard)?;
+    let replies = core.handle(rt, heard)?;
     send_all(alloc, link, &replies.list)?;
     Ok(if replies.closing {
         Then::Closed
@@ -221,9 +230,10 @@ pub struct Sent {
 }
 
 /// Serves one connection on which these bytes come, and then the end.
-pub fn served(
+pub fn served<G: Gate + Drop, R: Threads + Sync>(
+    rt: &R,
     alloc: Global,
-    core: &mut ServeCore<Sha>,
+    core: &mut ServeCore<Sha, G>,
     fed: &[u8],
     most: usize,
 ) -> Result<Sent, AllocError>
@@ -234,7 +244,7 @@ pub fn served(
     let plan = Plan::new(Vec::new(alloc));
     let mut link = MemLink::new(alloc, Vec::from_slice(alloc, fed)?, most, plan);
     for _ in 0..=fed.len() {
-        let closing = match hear(alloc, core, &mut link)? {
+        let closing = match hear(rt, alloc, core, &mut link)? {
             Then::Goes => continue,
             Then::Ended => false,
             Then::Closed => true,

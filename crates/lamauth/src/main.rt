@@ -1,19 +1,18 @@
 //! `lamauth COMMAND ARGUMENTS`: the real files, standard output and links of this machine, handed to the top call.
 #![tactic(auto)]
 
-mod host;
 mod net;
 
-use auth_cli::{Halt, run, tell};
-use host::{HostFiles, HostSink};
+use auth_cli::run;
+use file_commands::{Halt, tell};
+use host_files::{HostFiles, HostSink, words};
 use net::HostNet;
-use std::env;
-use std::io::ErrorKind;
 use std::process::ExitCode;
+use std::thread::Threads;
 
 fn main(rt: HostRuntime) -> ExitCode {
     let status = match words(&rt) {
-        Ok(words) => run_words(&rt, &words),
+        Ok(words) => run_words(&rt, &rt, &words),
         Err(halt) => Err(halt),
     };
     match status {
@@ -22,27 +21,23 @@ fn main(rt: HostRuntime) -> ExitCode {
     }
 }
 
-/// The words of the command line. Where one of them isn't UTF-8, they call no command.
-fn words(rt: &HostRuntime) -> Result<Vec<String>, Halt> {
-    match env::args(rt) {
-        Ok(args) => Ok(args.collect(rt.alloc())?),
-        Err(error) if error.kind() == ErrorKind::OutOfMemory => Err(Halt::NoMemory),
-        Err(_) => Err(Halt::Usage),
-    }
-}
-
-fn run_words(rt: &HostRuntime, words: &[String]) -> Result<u8, Halt> {
+/// Runs the top call on these words, which may start threads.
+fn run_words<R: Threads + Sync>(
+    threads: &R,
+    rt: &HostRuntime,
+    words: &[String],
+) -> Result<u8, Halt> {
     let words: Vec<&str> = words.iter().map(|word| word.as_str()).collect(rt.alloc())?;
     let mut files = HostFiles::new(rt);
     let mut out = HostSink::new(rt);
     let mut net = HostNet::new(rt);
-    Ok(run(rt.alloc(), &words, &mut files, &mut out, &mut net))
+    Ok(run(threads, rt.alloc(), &words, &mut files, &mut out, &mut net))
 }
 
 #[cfg(test)]
 mod tests {
     use super::run_words;
-    use crate::host::HostFiles;
+    use host_files::HostFiles;
     use lam_outside::Files;
     use std::alloc::{AllocError, Global};
     use std::fs;
@@ -63,10 +58,10 @@ mod tests {
         let text =
             b"state int; init make(x: int): int = x; query more(s: int, x: int): int = add(s, x);";
         assert!(rt; HostFiles::new(&rt).store(name, text).is_ok());
-        let checked = run_words(&rt, &words(alloc, &["lamauth", "check", name])?);
+        let checked = run_words(&rt, &rt, &words(alloc, &["lamauth", "check", name])?);
         assert!(rt; checked.is_ok_and(|status| status == 0));
         let _ = fs::remove_file(&rt, name);
-        let missing = run_words(&rt, &words(alloc, &["lamauth", "check", name])?);
+        let missing = run_words(&rt, &rt, &words(alloc, &["lamauth", "check", name])?);
         assert!(rt; missing.is_ok_and(|status| status == 8));
         Ok(())
     }

@@ -13,7 +13,7 @@ type Row = (
 );
 
 /// A name has at most 64 bytes. A text has at most 65,532, counted by what it stands for. A list is as long as the program's text allows.
-const ROWS: [Row; 19] = [
+static ROWS: [Row; 19] = [
     (b"type ", b"n", 64, b" = A;", None),
     (
         b"type ",

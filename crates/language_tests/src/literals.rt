@@ -193,7 +193,7 @@ type Parts = (
 
 /// A value has at most 512 levels, a spelling at most 65,536 bytes. The level is told before the token is judged, a lexical fault and the
 /// end of the text before the level, and a fault that stands in the text before its size.
-const LONG: [(&str, Parts, Answer); 8] = [
+static LONG: [(&str, Parts, Answer); 8] = [
     (
         "chain",
         ("", "More(", 511, "End", ")"),

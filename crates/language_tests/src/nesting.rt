@@ -9,7 +9,7 @@ use std::test::Fail;
 type Form = (&'static [u8], &'static [u8], u8);
 
 /// Each place of an expression where another one stands.
-const EXPRESSIONS: [Form; 17] = [
+static EXPRESSIONS: [Form; 17] = [
     (b"(", b", x)", 1),
     (b"(x, ", b")", 1),
     (b"not(", b")", 4),
@@ -37,7 +37,7 @@ const TYPES: [Form; 3] = [
 ];
 
 /// What stands before a type, a type, and what stands behind it.
-const WRITTEN_TYPES: [[&[u8]; 3]; 4] = [
+static WRITTEN_TYPES: [[&[u8]; 3]; 4] = [
     [b"state ", b"t", b";"],
     [b"type t = A(int, ", b"bool", b");"],
     [b"fun f(x: ", b"unit", b"): t = x;"],
@@ -115,7 +115,7 @@ fn types_are_nested_in_100_levels(rt: HostRuntime) -> Result<(), Fail> {
 }
 
 /// What stands on level 101, where no token that begins an expression is allowed. Another one is told apart from these.
-const INNERMOST: [(&[u8], SyntaxKind); 12] = [
+static INNERMOST: [(&[u8], SyntaxKind); 12] = [
     (b"()", SyntaxKind::TooNested),
     (b"5", SyntaxKind::TooNested),
     (b"\"\"", SyntaxKind::TooNested),

@@ -8,7 +8,7 @@ use std::test::Fail;
 type Row = (&'static [u8], &'static [u8]);
 
 /// Each declaration stands on a line. Words that would join stand apart, and a `(` stands at the name or the operation before it alone.
-const TEXTS: [Row; 13] = [
+static TEXTS: [Row; 13] = [
     // declarations and types
     (b"", b""),
     (b"# nothing but a comment", b""),
@@ -93,7 +93,7 @@ fn is_printed_from(alloc: Global, text: &[u8], beginning: &[u8]) -> Result<bool,
 }
 
 /// Programs of some size, and what they are printed as at their beginning.
-const PROGRAMS: [(&[u8], &[u8]); 2] = [
+static PROGRAMS: [(&[u8], &[u8]); 2] = [
     (BST, BST_BEGINNING),
     (
         MERKLE,

@@ -6,7 +6,7 @@ use std::alloc::{AllocError, Global};
 use std::test::Fail;
 
 /// Programs, large and small.
-const PROGRAMS: [&[u8]; 16] = [
+static PROGRAMS: [&[u8]; 16] = [
     BST,
     MERKLE,
     LOG,
@@ -87,7 +87,7 @@ fn count_of_auths(program: &Program) -> usize {
 
 /// The beginning of a function, and in how many types an `auth` stands where 90 lets each bind a pair of the last one, from the parameter
 /// on.
-const LONG: [(&[u8], usize); 2] = [
+static LONG: [(&[u8], usize); 2] = [
     (b"type item = Only; state unit; fun f(x: item): int =\n", 0),
     (
         b"type item = Only; state unit; fun f(x: auth item): int =\n",
@@ -119,7 +119,7 @@ const KINDS: &[u8] =
     b"state unit; fun same(x: unit): unit = x; init make(x: unit): unit = x; query look(s: unit, x: unit): unit = x; update put(s: unit, x: unit): (unit, unit) = (s, x);";
 
 /// Its roles: their kinds, the numbers of their functions and their names.
-const ROLES: [(RoleKind, usize, &str); 3] = [
+static ROLES: [(RoleKind, usize, &str); 3] = [
     (RoleKind::Init, 1, "make"),
     (RoleKind::Query, 2, "look"),
     (RoleKind::Update, 3, "put"),

@@ -26,7 +26,7 @@ const ROLE: &[u8] = b"init g(x: int): int = x;";
 
 /// A beginning, how many parts there are, each with a name of its own, and an end, with the first fault. A program has at most 256 types and 1,024 functions,
 /// a type at most 255 constructors.
-const NUMBERED: [(&[u8], usize, Part, &[u8], Option<Misfit>); 8] = [
+static NUMBERED: [(&[u8], usize, Part, &[u8], Option<Misfit>); 8] = [
     (b"state unit;\n", 256, TYPE, b"", None),
     (
         b"state unit;\n",
@@ -101,7 +101,7 @@ const EIGHT: &[u8] = b"match x with | A(a, b, c, d, e, f, g, h) ->\n";
 
 /// Patterns one in the other around an expression. There are at most 255 locals; the bound part comes before the name, and what one arm
 /// binds is gone in the next part.
-const LOCALS: [(usize, &[u8], Option<Misfit>); 5] = [
+static LOCALS: [(usize, &[u8], Option<Misfit>); 5] = [
     (31, b"0", None),
     (
         31,
@@ -133,7 +133,7 @@ fn there_are_255_locals_at_most(rt: HostRuntime) -> Result<(), Fail> {
 
 /// What stands behind 90 lets, each of which binds a pair of the last one. Written out, the type of the last would have 2 to the power of
 /// 90 parts.
-const PAIRS: [(&[u8], Option<Misfit>); 3] = [
+static PAIRS: [(&[u8], Option<Misfit>); 3] = [
     (
         b"if true then 0 else let y = if true then x else x in 1;",
         None,

@@ -28,7 +28,7 @@ fn files(alloc: Global, most_read: usize, failing: &[u64]) -> Result<MemFiles, A
 }
 
 /// A name of a file, how many bytes it may have, and what is loaded.
-const LOADS: [(&str, usize, Result<&[u8], Load>); 4] = [
+static LOADS: [(&str, usize, Result<&[u8], Load>); 4] = [
     ("state", 9, Ok(b"the newer")),
     ("state", 8, Err(Load::TooLong)),
     ("proof", 0, Ok(b"")),

@@ -85,7 +85,7 @@ fn an_endless_program_is_too_long(rt: HostRuntime) -> Result<(), Fail> {
     let mut out = sink(alloc, 100, &[])?;
     let mut net = net(alloc, &[], 1, &[])?;
     let words = ["lamauth", "verify", "p", "open", "s", "()", "1", "q"];
-    assert!(rt; run(alloc, &words, &mut Endless::new(), &mut out, &mut net) == 7);
+    assert!(rt; run(&rt, alloc, &words, &mut Endless::new(), &mut out, &mut net) == 7);
     assert!(rt; out.bytes() == b"input refused: too long P\n".as_slice());
     Ok(())
 }

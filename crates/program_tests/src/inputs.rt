@@ -4,6 +4,7 @@ use cli_stage::stage::{HEADER, PROOF, STATE, staged};
 use program_texts::{FIRST, SUM};
 use std::alloc::{AllocError, Global};
 use std::test::Fail;
+use std::thread::Threads;
 
 /// The role and the fuel, and the line.
 static ROLES: [[&str; 3]; 12] = [
@@ -37,7 +38,7 @@ fn roles_and_numbers_are_refused(rt: HostRuntime) -> Result<(), Fail> {
             argument: "()",
             fuel,
         };
-        if !verified(rt.alloc(), FIRST, &STATE, PROOF, &call)?.only_tells(7, line) {
+        if !verified(&rt, rt.alloc(), FIRST, &STATE, PROOF, &call)?.only_tells(7, line) {
             return Err(Fail::new(format_args!("{role} {fuel}")));
         }
     }
@@ -69,16 +70,22 @@ static STATES: [(&str, &[u8], &str); 16] = [
 ];
 
 /// Whether a state of this type is refused with this line.
-fn is_refused(alloc: Global, ty: &str, state: &[u8], line: &str) -> Result<bool, AllocError> {
+fn is_refused<R: Threads + Sync>(
+    rt: &R,
+    alloc: Global,
+    ty: &str,
+    state: &[u8],
+    line: &str,
+) -> Result<bool, AllocError> {
     let text = format!(in alloc; "state {ty}; query open(s: {ty}, x: unit): unit = x;")?;
-    let run = verified(alloc, text.as_bytes(), state, HEADER, &opening("1"))?;
+    let run = verified(rt, alloc, text.as_bytes(), state, HEADER, &opening("1"))?;
     Ok(run.only_tells(7, line))
 }
 
 #[test]
 fn states_are_refused(rt: HostRuntime) -> Result<(), Fail> {
     for (ty, state, line) in &STATES {
-        if !is_refused(rt.alloc(), ty, state, line)? {
+        if !is_refused(&rt, rt.alloc(), ty, state, line)? {
             return Err(Fail::new(format_args!("{ty} {line}")));
         }
     }
@@ -112,7 +119,7 @@ fn programs_and_states_have_a_greatest_length(rt: HostRuntime) -> Result<(), Fai
             argument: "1",
             fuel: "1",
         };
-        if !verified(rt.alloc(), &program, &state, HEADER, &call)?.only_tells(*status, line) {
+        if !verified(&rt, rt.alloc(), &program, &state, HEADER, &call)?.only_tells(*status, line) {
             return Err(Fail::new(*line));
         }
     }
@@ -196,20 +203,26 @@ static LITERALS: [(&str, &str, &str); 44] = [
 ];
 
 /// What is told where a text is the argument of a query at a type.
-fn is_no_argument(alloc: Global, ty: &str, literal: &str, line: &str) -> Result<bool, AllocError> {
+fn is_no_argument<R: Threads + Sync>(
+    rt: &R,
+    alloc: Global,
+    ty: &str,
+    literal: &str,
+    line: &str,
+) -> Result<bool, AllocError> {
     let text = format!(in alloc; "state unit; query q(s: unit, x: {ty}): {ty} = x;")?;
     let call = Call {
         role: "q",
         argument: literal,
         fuel: "1",
     };
-    Ok(verified(alloc, text.as_bytes(), b"", HEADER, &call)?.only_tells(7, line))
+    Ok(verified(rt, alloc, text.as_bytes(), b"", HEADER, &call)?.only_tells(7, line))
 }
 
 #[test]
 fn literals_are_refused_at_their_first_fault(rt: HostRuntime) -> Result<(), Fail> {
     for (ty, literal, line) in &LITERALS {
-        if !is_no_argument(rt.alloc(), ty, literal, line)? {
+        if !is_no_argument(&rt, rt.alloc(), ty, literal, line)? {
             return Err(Fail::new(format_args!("{ty} {literal}")));
         }
     }
@@ -239,7 +252,7 @@ fn a_literal_text_has_a_greatest_length(rt: HostRuntime) -> Result<(), Fail> {
             argument: &literal,
             fuel: "1",
         };
-        if !verified(rt.alloc(), text, b"", HEADER, &call)?.only_tells(status, line) {
+        if !verified(&rt, rt.alloc(), text, b"", HEADER, &call)?.only_tells(status, line) {
             return Err(Fail::new(line));
         }
     }
@@ -317,7 +330,7 @@ static ORDER: [(&[u8], &[u8], &[&str], u8, &str); 9] = [
 #[test]
 fn the_first_refusal_is_told(rt: HostRuntime) -> Result<(), Fail> {
     for (program, state, words, status, line) in &ORDER {
-        let run = run_words(rt.alloc(), &staged(program, state, PROOF), words)?;
+        let run = run_words(&rt, rt.alloc(), &staged(program, state, PROOF), words)?;
         if !run.only_tells(*status, line) {
             return Err(Fail::new(*line));
         }

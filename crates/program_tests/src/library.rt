@@ -16,11 +16,11 @@ const PROGRAMS: [(&str, &[u8]); 4] = [
 fn programs_are_told(rt: HostRuntime) -> Result<(), Fail> {
     for (name, text) in PROGRAMS {
         let stage = staged(text, b"", HEADER);
-        let told = run_words(rt.alloc(), &stage, &["library", name])?;
+        let told = run_words(&rt, rt.alloc(), &stage, &["library", name])?;
         if told.status != 0 || told.text.as_slice() != text || told.stored != 0 {
             return Err(Fail::new(name));
         }
-        if run_words(rt.alloc(), &stage, &["check", "p"])?.status != 0 {
+        if run_words(&rt, rt.alloc(), &stage, &["check", "p"])?.status != 0 {
             return Err(Fail::new(name));
         }
     }
@@ -31,7 +31,7 @@ fn programs_are_told(rt: HostRuntime) -> Result<(), Fail> {
 fn other_names_are_unknown(rt: HostRuntime) -> Result<(), Fail> {
     let stage = staged(BST, b"", HEADER);
     for name in ["p", "Bst", "bs", "bst ", "treap"] {
-        let told = run_words(rt.alloc(), &stage, &["library", name])?;
+        let told = run_words(&rt, rt.alloc(), &stage, &["library", name])?;
         if !told.only_tells(7, "input refused: library unknown\n") {
             return Err(Fail::new(name));
         }
@@ -70,7 +70,7 @@ state #6e340b9cffb37a989ca544e6bb780a2c78901d3fb33738768511a30617afa01d
 fn workloads_are_told(rt: HostRuntime) -> Result<(), Fail> {
     let stage = staged(BST, b"", HEADER);
     for (words, text) in &TOLD {
-        let told = run_words(rt.alloc(), &stage, words)?;
+        let told = run_words(&rt, rt.alloc(), &stage, words)?;
         if told.status != 0 || !told.text.starts_with(text.as_bytes()) || told.stored != 0 {
             return Err(Fail::new(*text));
         }
@@ -83,8 +83,8 @@ fn workloads_are_the_same_again(rt: HostRuntime) -> Result<(), Fail> {
     let stage = staged(BST, b"", HEADER);
     for (name, _) in PROGRAMS {
         let words = ["gen", name, "1", "30", "16"];
-        let one = run_words(rt.alloc(), &stage, &words)?;
-        let again = run_words(rt.alloc(), &stage, &words)?;
+        let one = run_words(&rt, rt.alloc(), &stage, &words)?;
+        let again = run_words(&rt, rt.alloc(), &stage, &words)?;
         let begins = one.text.starts_with(b"calls 60 done 60 new ");
         if one.status != 0 || !begins || one.text.as_slice() != again.text.as_slice() {
             return Err(Fail::new(name));
@@ -112,7 +112,7 @@ fn words_of_workloads_are_refused(rt: HostRuntime) -> Result<(), Fail> {
     let stage = staged(BST, b"", HEADER);
     for (words, fault) in &UNTOLD {
         let line = format!(in rt.alloc(); "input refused: {fault}\n")?;
-        if !run_words(rt.alloc(), &stage, words)?.only_tells(7, line.as_str()) {
+        if !run_words(&rt, rt.alloc(), &stage, words)?.only_tells(7, line.as_str()) {
             return Err(Fail::new(*fault));
         }
     }

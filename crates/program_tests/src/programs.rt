@@ -3,6 +3,7 @@ use cli_stage::runs::check;
 use program_texts::{BST, FIRST, LOG, MERKLE, SUM};
 use std::alloc::{AllocError, Global};
 use std::test::Fail;
+use std::thread::Threads;
 
 /// A text and the line that `check` tells of it.
 type Row = (&'static [u8], &'static str);
@@ -343,9 +344,14 @@ const PROGRAMS: [Row; 6] = [
 ];
 
 /// The number of the first row, from 0, of which `check` tells another line, or another status.
-fn wrong_row(alloc: Global, status: u8, rows: &[Row]) -> Result<Option<usize>, AllocError> {
+fn wrong_row<R: Threads + Sync>(
+    rt: &R,
+    alloc: Global,
+    status: u8,
+    rows: &[Row],
+) -> Result<Option<usize>, AllocError> {
     for (number, (text, line)) in rows.iter().enumerate() {
-        if !check(alloc, text)?.only_tells(status, line) {
+        if !check(rt, alloc, text)?.only_tells(status, line) {
             return Ok(Some(number));
         }
     }
@@ -362,7 +368,7 @@ static TABLES: [(&str, u8, &[Row]); 3] = [
 #[test]
 fn texts_are_told(rt: HostRuntime) -> Result<(), Fail> {
     for (table, status, rows) in &TABLES {
-        if let Some(number) = wrong_row(rt.alloc(), *status, rows)? {
+        if let Some(number) = wrong_row(&rt, rt.alloc(), *status, rows)? {
             return Err(Fail::new(format_args!("{table}: row {number}")));
         }
     }
@@ -483,7 +489,7 @@ pub fn repeated(
 fn long_texts_are_told(rt: HostRuntime) -> Result<(), Fail> {
     for (beginning, part, count, end, status, line) in &LONG {
         let text = repeated(rt.alloc(), beginning, part, *count, end)?;
-        if !check(rt.alloc(), &text)?.only_tells(*status, line) {
+        if !check(&rt, rt.alloc(), &text)?.only_tells(*status, line) {
             return Err(Fail::new(*line));
         }
     }
@@ -503,9 +509,9 @@ fn with_functions(alloc: Global, count: usize) -> Result<Vec<u8>, AllocError> {
 #[test]
 fn functions_have_a_greatest_number(rt: HostRuntime) -> Result<(), Fail> {
     let alloc = rt.alloc();
-    let most = check(alloc, &with_functions(alloc, 1024)?)?;
+    let most = check(&rt, alloc, &with_functions(alloc, 1024)?)?;
     assert!(rt; most.status == 0);
-    let more = check(alloc, &with_functions(alloc, 1025)?)?;
+    let more = check(&rt, alloc, &with_functions(alloc, 1025)?)?;
     assert!(rt; more.only_tells(6, "program refused: Limit-functions 1026 7\n"));
     Ok(())
 }

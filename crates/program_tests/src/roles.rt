@@ -5,6 +5,7 @@ use cli_stage::stage::staged;
 use program_texts::{BST, MERKLE, SWITCH};
 use std::alloc::{AllocError, Global};
 use std::test::Fail;
+use std::thread::Threads;
 
 /// A command that calls a role.
 #[derive(Clone, Copy)]
@@ -18,7 +19,8 @@ enum Calls {
 type Row = (Calls, [&'static str; 3], u8, &'static str);
 
 /// Runs a command, on the state with this image.
-fn called(
+fn called<R: Threads + Sync>(
+    rt: &R,
     alloc: Global,
     program: &[u8],
     image: &[u8],
@@ -28,11 +30,16 @@ fn called(
     let [role, argument, fuel] = call;
     let stage = staged(program, b"", image);
     match command {
-        Calls::Init => run_words(alloc, &stage, &["init", "p", role, argument, fuel, "o"]),
-        Calls::Ideal => run_words(alloc, &stage, &["ideal", "p", role, "q", argument, fuel]),
+        Calls::Init => run_words(rt, alloc, &stage, &["init", "p", role, argument, fuel, "o"]),
+        Calls::Ideal => run_words(
+            rt,
+            alloc,
+            &stage,
+            &["ideal", "p", role, "q", argument, fuel],
+        ),
         Calls::Step => {
             let words = ["step", "p", role, "q", argument, fuel, "o"];
-            run_words(alloc, &stage, &words)
+            run_words(rt, alloc, &stage, &words)
         }
     }
 }
@@ -45,10 +52,15 @@ fn stored_as_due(run: &Run, command: Calls) -> bool {
 
 /// Runs the commands one after another, each on the last state that was stored. The number of the first row, from 0, that is told
 /// otherwise.
-fn wrong_row(alloc: Global, program: &[u8], rows: &[Row]) -> Result<Option<usize>, AllocError> {
+fn wrong_row<R: Threads + Sync>(
+    rt: &R,
+    alloc: Global,
+    program: &[u8],
+    rows: &[Row],
+) -> Result<Option<usize>, AllocError> {
     let mut image = Vec::new(alloc);
     for (number, (command, call, status, line)) in rows.iter().enumerate() {
-        let run = called(alloc, program, &image, *command, call)?;
+        let run = called(rt, alloc, program, &image, *command, call)?;
         if !run.tells(*status, line) || !stored_as_due(&run, *command) {
             return Ok(Some(number));
         }
@@ -181,7 +193,7 @@ static TABLES: [(&str, &[u8], &[Row]); 5] = [
 #[test]
 fn calls_of_roles_are_told(rt: HostRuntime) -> Result<(), Fail> {
     for (table, program, rows) in &TABLES {
-        if let Some(number) = wrong_row(rt.alloc(), program, rows)? {
+        if let Some(number) = wrong_row(&rt, rt.alloc(), program, rows)? {
             return Err(Fail::new(format_args!("{table}: row {number}")));
         }
     }
@@ -217,13 +229,20 @@ const MADE: [(&[u8], [&str; 3], &str, &[u8]); 2] = [
 fn the_state_that_is_made_is_stored(rt: HostRuntime) -> Result<(), Fail> {
     let alloc = rt.alloc();
     for (program, call, line, image) in &MADE {
-        let run = called(alloc, program, b"", Calls::Init, call)?;
+        let run = called(&rt, alloc, program, b"", Calls::Init, call)?;
         if !run.stores(0, line, image) {
             return Err(Fail::new(*line));
         }
     }
     // of 2^30 leaves that are one node it has one record
-    let long = called(alloc, MERKLE, b"", Calls::Init, &["make", "(30, 7)", "63"])?;
+    let long = called(
+        &rt,
+        alloc,
+        MERKLE,
+        b"",
+        Calls::Init,
+        &["make", "(30, 7)", "63"],
+    )?;
     assert!(rt; long.file.len() == 590);
     Ok(())
 }
@@ -240,9 +259,9 @@ fn a_value_has_a_greatest_size(rt: HostRuntime) -> Result<(), Fail> {
     let alloc = rt.alloc();
     for (pairs, status, line) in &PAIRS {
         let program = repeated(alloc, PAIRING, b"let a = (a, a) in ", *pairs, b"();")?;
-        let state = called(alloc, &program, b"", Calls::Init, &["make", "()", "1"])?;
+        let state = called(&rt, alloc, &program, b"", Calls::Init, &["make", "()", "1"])?;
         let call = ["pairs", "1", "1"];
-        let run = called(alloc, &program, &state.file, Calls::Ideal, &call)?;
+        let run = called(&rt, alloc, &program, &state.file, Calls::Ideal, &call)?;
         if !run.only_tells(*status, line) {
             return Err(Fail::new(*line));
         }
@@ -358,7 +377,7 @@ static REFUSED: [(&[&str], u8, &str); 22] = [
 fn calls_of_roles_are_refused_for_the_first_fault(rt: HostRuntime) -> Result<(), Fail> {
     let stage = staged(BST, b"abc", EMPTY);
     for (number, (words, status, line)) in REFUSED.iter().enumerate() {
-        let run = run_words(rt.alloc(), &stage, words)?;
+        let run = run_words(&rt, rt.alloc(), &stage, words)?;
         if !run.only_tells(*status, line) {
             return Err(Fail::new(format_args!("row {number}: {line}")));
         }

@@ -58,7 +58,7 @@ const INTS: &[u8] = b"state int; init make(x: int): int = x;";
 fn an_init_is_refused_or_out_of_fuel(rt: HostRuntime) -> Result<(), Fail> {
     for (program, [role, argument, fuel], status, line) in &UNMADE {
         let words = ["init", "p", role, argument, fuel, "o"];
-        let run = run_words(rt.alloc(), &staged(program, b"", b""), &words)?;
+        let run = run_words(&rt, rt.alloc(), &staged(program, b"", b""), &words)?;
         if !run.only_tells(*status, line) {
             return Err(Fail::new(*line));
         }
@@ -70,7 +70,7 @@ fn an_init_is_refused_or_out_of_fuel(rt: HostRuntime) -> Result<(), Fail> {
 fn an_init_stores_the_image_of_its_state(rt: HostRuntime) -> Result<(), Fail> {
     let alloc = rt.alloc();
     let line = "done #e3b0c44298fc1c149afbf4c8996fb92427ae41e4649b934ca495991b7852b855\n";
-    assert!(rt; made(alloc, FIRST, "make", "()")?.stores(0, line, FIRST_IMAGE));
+    assert!(rt; made(&rt, alloc, FIRST, "make", "()")?.stores(0, line, FIRST_IMAGE));
     Ok(())
 }
 
@@ -122,7 +122,7 @@ const KEPT: [(&[u8], &[u8], &str, &[u8]); 4] = [
 #[test]
 fn a_state_is_stored_as_its_projection(rt: HostRuntime) -> Result<(), Fail> {
     for (program, image, line, file) in &KEPT {
-        if !kept(rt.alloc(), program, image)?.stores(0, line, file) {
+        if !kept(&rt, rt.alloc(), program, image)?.stores(0, line, file) {
             return Err(Fail::new(*line));
         }
     }
@@ -252,7 +252,7 @@ static REFUSED: [(&[u8], &[u8], &[u8], &str); 20] = [
 fn images_are_refused_for_their_first_fault(rt: HostRuntime) -> Result<(), Fail> {
     for (number, (program, head, behind, line)) in REFUSED.iter().enumerate() {
         let image = repeated(rt.alloc(), head, b"", 0, behind)?;
-        if !kept(rt.alloc(), program, &image)?.only_tells(7, line) {
+        if !kept(&rt, rt.alloc(), program, &image)?.only_tells(7, line) {
             return Err(Fail::new(format_args!("row {number}: {line}")));
         }
     }
@@ -281,9 +281,9 @@ fn chain(alloc: Global, records: u32) -> Result<Vec<u8>, AllocError> {
 
 #[test]
 fn a_state_may_be_512_levels_deep(rt: HostRuntime) -> Result<(), Fail> {
-    let run = kept(rt.alloc(), CHAIN, &chain(rt.alloc(), 512)?)?;
+    let run = kept(&rt, rt.alloc(), CHAIN, &chain(rt.alloc(), 512)?)?;
     assert!(rt; run.status == 0 && run.file.len() == 512);
-    let run = kept(rt.alloc(), CHAIN, &chain(rt.alloc(), 513)?)?;
+    let run = kept(&rt, rt.alloc(), CHAIN, &chain(rt.alloc(), 513)?)?;
     assert!(rt; run.only_tells(7, "input refused: image too deep 512\n"));
     Ok(())
 }
@@ -327,7 +327,7 @@ const LONG: [(&[u8], &[u8], usize, &[u8], &str); 2] = [
 fn a_part_beyond_the_limit_is_too_big(rt: HostRuntime) -> Result<(), Fail> {
     for (program, front, letters, behind, line) in &LONG {
         let image = repeated(rt.alloc(), front, b"a", *letters, behind)?;
-        if !kept(rt.alloc(), program, &image)?.only_tells(7, line) {
+        if !kept(&rt, rt.alloc(), program, &image)?.only_tells(7, line) {
             return Err(Fail::new(*line));
         }
     }

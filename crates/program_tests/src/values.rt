@@ -3,6 +3,7 @@ use cli_stage::runs::{Call, opening, verified};
 use cli_stage::stage::HEADER;
 use std::alloc::{AllocError, Global};
 use std::test::Fail;
+use std::thread::Threads;
 
 /// States at their types, and how they are printed.
 static STATES: [(&str, &[u8], &str); 17] = [
@@ -50,16 +51,22 @@ static STATES: [(&str, &[u8], &str); 17] = [
 ];
 
 /// Whether a state of a type is printed so.
-fn is_printed(alloc: Global, ty: &str, state: &[u8], line: &str) -> Result<bool, AllocError> {
+fn is_printed<R: Threads + Sync>(
+    rt: &R,
+    alloc: Global,
+    ty: &str,
+    state: &[u8],
+    line: &str,
+) -> Result<bool, AllocError> {
     let text = format!(in alloc; "state {ty}; query open(s: {ty}, x: unit): {ty} = s;")?;
-    let run = verified(alloc, text.as_bytes(), state, HEADER, &opening("1"))?;
+    let run = verified(rt, alloc, text.as_bytes(), state, HEADER, &opening("1"))?;
     Ok(run.only_tells(0, line))
 }
 
 #[test]
 fn states_are_printed(rt: HostRuntime) -> Result<(), Fail> {
     for (ty, state, line) in &STATES {
-        if !is_printed(rt.alloc(), ty, state, line)? {
+        if !is_printed(&rt, rt.alloc(), ty, state, line)? {
             return Err(Fail::new(format_args!("{ty} {line}")));
         }
     }
@@ -94,20 +101,26 @@ static LITERALS: [(&str, &str, &str); 11] = [
 ];
 
 /// Whether this line is told of a query that gives its argument, at a literal of a type.
-fn is_given(alloc: Global, ty: &str, literal: &str, line: &str) -> Result<bool, AllocError> {
+fn is_given<R: Threads + Sync>(
+    rt: &R,
+    alloc: Global,
+    ty: &str,
+    literal: &str,
+    line: &str,
+) -> Result<bool, AllocError> {
     let text = format!(in alloc; "state unit; query q(s: unit, x: {ty}): {ty} = x;")?;
     let call = Call {
         role: "q",
         argument: literal,
         fuel: "1",
     };
-    Ok(verified(alloc, text.as_bytes(), b"", HEADER, &call)?.only_tells(0, line))
+    Ok(verified(rt, alloc, text.as_bytes(), b"", HEADER, &call)?.only_tells(0, line))
 }
 
 #[test]
 fn arguments_are_printed(rt: HostRuntime) -> Result<(), Fail> {
     for (ty, literal, line) in &LITERALS {
-        if !is_given(rt.alloc(), ty, literal, line)? {
+        if !is_given(&rt, rt.alloc(), ty, literal, line)? {
             return Err(Fail::new(format_args!("{ty} {literal}")));
         }
     }
@@ -132,18 +145,24 @@ static PIECES: [(&str, u8, &str); 4] = [
 ];
 
 /// Whether the piece is told so where it is opened at a type.
-fn is_opened(alloc: Global, ty: &str, status: u8, line: &str) -> Result<bool, AllocError> {
+fn is_opened<R: Threads + Sync>(
+    rt: &R,
+    alloc: Global,
+    ty: &str,
+    status: u8,
+    line: &str,
+) -> Result<bool, AllocError> {
     let text = format!(in alloc;
         "state auth {ty}; query open(s: auth {ty}, x: unit): {ty} = unauth(s);"
     )?;
-    let run = verified(alloc, text.as_bytes(), &FIVE, PIECE, &opening("1"))?;
+    let run = verified(rt, alloc, text.as_bytes(), &FIVE, PIECE, &opening("1"))?;
     Ok(run.only_tells(status, line))
 }
 
 #[test]
 fn pieces_are_read_at_their_type(rt: HostRuntime) -> Result<(), Fail> {
     for (ty, status, line) in &PIECES {
-        if !is_opened(rt.alloc(), ty, *status, line)? {
+        if !is_opened(&rt, rt.alloc(), ty, *status, line)? {
             return Err(Fail::new(format_args!("{ty} {line}")));
         }
     }

@@ -51,7 +51,7 @@ fn words_are_refused(rt: HostRuntime) -> Result<(), Fail> {
     let two = [0, 0, 0, 0, 0, 0, 0, 2];
     let stage = staged(SUM, &two, HEADER);
     for (number, words) in REFUSED.iter().enumerate() {
-        if !run_words(rt.alloc(), &stage, words)?.only_tells(2, USAGE) {
+        if !run_words(&rt, rt.alloc(), &stage, words)?.only_tells(2, USAGE) {
             return Err(Fail::new(format_args!("row {number}")));
         }
     }
@@ -81,7 +81,7 @@ fn words_are_taken(rt: HostRuntime) -> Result<(), Fail> {
     let two = [0, 0, 0, 0, 0, 0, 0, 2];
     let stage = staged(SUM, &two, HEADER);
     for (words, status, line) in &TAKEN {
-        if !run_words(rt.alloc(), &stage, words)?.only_tells(*status, line) {
+        if !run_words(&rt, rt.alloc(), &stage, words)?.only_tells(*status, line) {
             return Err(Fail::new(*line));
         }
     }

@@ -5,6 +5,7 @@ use cli_stage::stage::{Stage, staged};
 use program_texts::{BST, LOG, MERKLE, SWITCH, TWO};
 use std::alloc::{AllocError, Global};
 use std::test::Fail;
+use std::thread::Threads;
 
 /// A role, the argument, the fuel and how many pieces are kept; the status, the outcome, and how many pieces of the proof are new, how many
 /// are used again, and its bytes.
@@ -221,25 +222,37 @@ static DISTANCES: [(&str, &str, [u64; 3]); 16] = [
 ];
 
 /// Whether `ideal` tells this of a call.
-fn is_ideal(
+fn is_ideal<R: Threads + Sync>(
+    rt: &R,
     alloc: Global,
     sides: &Sides,
     call: &Call,
     (status, line): (u8, &str),
 ) -> Result<bool, AllocError> {
     let words = ["ideal", "p", call.role, "q", call.argument, call.fuel];
-    let run = run_words(alloc, &staged(sides.program, b"", &sides.image), &words)?;
+    let run = run_words(rt, alloc, &staged(sides.program, b"", &sides.image), &words)?;
     Ok(run.only_tells(status, line))
 }
 
 /// Runs `step` of a call on the owner's files.
-fn run_step(alloc: Global, sides: &Sides, call: &Call) -> Result<Run, AllocError> {
+fn run_step<R: Threads + Sync>(
+    rt: &R,
+    alloc: Global,
+    sides: &Sides,
+    call: &Call,
+) -> Result<Run, AllocError> {
     let words = ["step", "p", call.role, "q", call.argument, call.fuel, "o"];
-    run_words(alloc, &staged(sides.program, b"", &sides.image), &words)
+    run_words(rt, alloc, &staged(sides.program, b"", &sides.image), &words)
 }
 
 /// Runs `verify` of a proof of a call on the client's files, with a name for the new state.
-fn run_verify(alloc: Global, sides: &Sides, call: &Call, proof: &[u8]) -> Result<Run, AllocError> {
+fn run_verify<R: Threads + Sync>(
+    rt: &R,
+    alloc: Global,
+    sides: &Sides,
+    call: &Call,
+    proof: &[u8],
+) -> Result<Run, AllocError> {
     let words = [
         "verify",
         "p",
@@ -250,41 +263,53 @@ fn run_verify(alloc: Global, sides: &Sides, call: &Call, proof: &[u8]) -> Result
         "q",
         "o",
     ];
-    run_words(alloc, &staged(sides.program, &sides.state, proof), &words)
+    run_words(
+        rt,
+        alloc,
+        &staged(sides.program, &sides.state, proof),
+        &words,
+    )
 }
 
 /// What both sides have of a new state. None where `verify` stored something else than the projection of what `step` stored.
-fn next_sides<'a>(
+fn next_sides<'a, R: Threads + Sync>(
+    rt: &R,
     alloc: Global,
     program: &'a [u8],
     image: Vec<u8>,
     verified: &[u8],
 ) -> Result<Option<Sides<'a>>, AllocError> {
-    let next = sides_of(alloc, program, image)?;
+    let next = sides_of(rt, alloc, program, image)?;
     let is_kept = verified == next.state.as_slice();
     Ok(is_kept.then_some(next))
 }
 
 /// What both sides have behind a call: of an update that gives a value the new state. None where `step` and `verify` don't agree.
-fn behind<'a>(
+fn behind<'a, R: Threads + Sync>(
+    rt: &R,
     alloc: Global,
     sides: Sides<'a>,
     call: &Call,
     proof: &[u8],
 ) -> Result<Option<Sides<'a>>, AllocError> {
-    let stepped = run_step(alloc, &sides, call)?;
-    let verified = run_verify(alloc, &sides, call, proof)?;
+    let stepped = run_step(rt, alloc, &sides, call)?;
+    let verified = run_verify(rt, alloc, &sides, call, proof)?;
     if stepped.stored != verified.stored || stepped.text.as_slice() != verified.text.as_slice() {
         return Ok(None);
     }
     if stepped.stored == 0 {
         return Ok(Some(sides));
     }
-    next_sides(alloc, sides.program, stepped.file, &verified.file)
+    next_sides(rt, alloc, sides.program, stepped.file, &verified.file)
 }
 
 /// The proof that `prove` stores of a row's call, where it tells the row.
-fn stored_proof(alloc: Global, sides: &Sides, row: Row) -> Result<Option<Vec<u8>>, AllocError> {
+fn stored_proof<R: Threads + Sync>(
+    rt: &R,
+    alloc: Global,
+    sides: &Sides,
+    row: Row,
+) -> Result<Option<Vec<u8>>, AllocError> {
     let ([role, argument, fuel, number], status, outcome, [new, used, bytes]) = row;
     let call = Call {
         role,
@@ -292,13 +317,19 @@ fn stored_proof(alloc: Global, sides: &Sides, row: Row) -> Result<Option<Vec<u8>
         fuel,
     };
     let text = format!(in alloc; "{outcome}\nproof new {new} used {used} bytes {bytes}\n")?;
-    let run = proved(alloc, sides.program, &sides.image, &call, number)?;
+    let run = proved(rt, alloc, sides.program, &sides.image, &call, number)?;
     let is_told = run.tells(status, &text) && run.stored == 1;
     Ok(is_told.then_some(run.file))
 }
 
 /// Whether a row is told by `ideal`, and, of this proof, by `verify` and `audit`.
-fn is_told(alloc: Global, sides: &Sides, row: Row, proof: &[u8]) -> Result<bool, AllocError> {
+fn is_told<R: Threads + Sync>(
+    rt: &R,
+    alloc: Global,
+    sides: &Sides,
+    row: Row,
+    proof: &[u8],
+) -> Result<bool, AllocError> {
     let ([role, argument, fuel, _], status, outcome, _) = row;
     let call = Call {
         role,
@@ -307,39 +338,54 @@ fn is_told(alloc: Global, sides: &Sides, row: Row, proof: &[u8]) -> Result<bool,
     };
     let line = format!(in alloc; "{outcome}\n")?;
     Ok(
-        is_ideal(alloc, sides, &call, (status, &line))?
-            && sides.are_told(alloc, &call, proof, 4096, (status, &line))?,
+        is_ideal(rt, alloc, sides, &call, (status, &line))?
+            && sides.are_told(rt, alloc, &call, proof, 4096, (status, &line))?,
     )
 }
 
 /// The proof of a call, where its row is told by `ideal`, `prove`, `verify` and `audit`.
-fn told_proof(alloc: Global, sides: &Sides, row: Row) -> Result<Option<Vec<u8>>, AllocError> {
-    let Some(proof) = stored_proof(alloc, sides, row)? else {
+fn told_proof<R: Threads + Sync>(
+    rt: &R,
+    alloc: Global,
+    sides: &Sides,
+    row: Row,
+) -> Result<Option<Vec<u8>>, AllocError> {
+    let Some(proof) = stored_proof(rt, alloc, sides, row)? else {
         return Ok(None);
     };
-    let are_told = is_told(alloc, sides, row, &proof)?;
+    let are_told = is_told(rt, alloc, sides, row, &proof)?;
     Ok(are_told.then_some(proof))
 }
 
 /// The same with what both sides have behind the call.
-fn gone_on<'a>(alloc: Global, sides: Sides<'a>, row: Row) -> Result<Option<Sides<'a>>, AllocError> {
+fn gone_on<'a, R: Threads + Sync>(
+    rt: &R,
+    alloc: Global,
+    sides: Sides<'a>,
+    row: Row,
+) -> Result<Option<Sides<'a>>, AllocError> {
     let [role, argument, fuel, _] = row.0;
     let call = Call {
         role,
         argument,
         fuel,
     };
-    match told_proof(alloc, &sides, row)? {
-        Some(proof) => behind(alloc, sides, &call, &proof),
+    match told_proof(rt, alloc, &sides, row)? {
+        Some(proof) => behind(rt, alloc, sides, &call, &proof),
         None => Ok(None),
     }
 }
 
 /// The number of the first row, from 0, that is told otherwise, where each call goes on from the state that the one before left.
-fn wrong_row(alloc: Global, made: Sides, rows: &[Row]) -> Result<Option<usize>, AllocError> {
+fn wrong_row<R: Threads + Sync>(
+    rt: &R,
+    alloc: Global,
+    made: Sides,
+    rows: &[Row],
+) -> Result<Option<usize>, AllocError> {
     let mut sides = made;
     for (number, row) in rows.iter().enumerate() {
-        match gone_on(alloc, sides, *row)? {
+        match gone_on(rt, alloc, sides, *row)? {
             Some(next) => sides = next,
             None => return Ok(Some(number)),
         }
@@ -367,16 +413,20 @@ static TABLES: [Table; 8] = [
 ];
 
 /// The number of the first row of a table, from 0, that is told otherwise.
-fn wrong_row_of(alloc: Global, table: &Table) -> Result<Option<usize>, AllocError> {
+fn wrong_row_of<R: Threads + Sync>(
+    rt: &R,
+    alloc: Global,
+    table: &Table,
+) -> Result<Option<usize>, AllocError> {
     let (_, program, [role, literal], rows) = *table;
-    let made = made_sides(alloc, program, role, literal)?;
-    wrong_row(alloc, made, rows)
+    let made = made_sides(rt, alloc, program, role, literal)?;
+    wrong_row(rt, alloc, made, rows)
 }
 
 #[test]
 fn what_is_proved_is_told_alike(rt: HostRuntime) -> Result<(), Fail> {
     for table in &TABLES {
-        if let Some(number) = wrong_row_of(rt.alloc(), table)? {
+        if let Some(number) = wrong_row_of(&rt, rt.alloc(), table)? {
             return Err(Fail::new(format_args!("{}: row {number}", table.0)));
         }
     }
@@ -385,10 +435,10 @@ fn what_is_proved_is_told_alike(rt: HostRuntime) -> Result<(), Fail> {
 
 #[test]
 fn a_piece_is_named_as_long_as_it_is_kept(rt: HostRuntime) -> Result<(), Fail> {
-    let made = made_sides(rt.alloc(), AGAIN, "make", "()")?;
+    let made = made_sides(&rt, rt.alloc(), AGAIN, "make", "()")?;
     for (others, number, proof) in &DISTANCES {
         let row = (["again", others, "2000", number], 0, "done 0", *proof);
-        if told_proof(rt.alloc(), &made, row)?.is_none() {
+        if told_proof(&rt, rt.alloc(), &made, row)?.is_none() {
             return Err(Fail::new(format_args!("{others} with {number}")));
         }
     }
@@ -412,9 +462,9 @@ const TEXT: &[u8] =
 #[test]
 fn the_longest_piece_is_proved(rt: HostRuntime) -> Result<(), Fail> {
     let alloc = rt.alloc();
-    let made = made_sides(alloc, TEXT, "make", &letters(alloc, 65_532)?)?;
+    let made = made_sides(&rt, alloc, TEXT, "make", &letters(alloc, 65_532)?)?;
     let row = (["size", "()", "1", "16"], 0, "done 65532", [1, 0, 65_547]);
-    assert!(rt; told_proof(alloc, &made, row)?.is_some());
+    assert!(rt; told_proof(&rt, alloc, &made, row)?.is_some());
     Ok(())
 }
 
@@ -465,22 +515,22 @@ static FILES: [File; 6] = [
 ];
 
 /// Whether `prove` stores the proof of a row.
-fn is_stored(alloc: Global, row: &File) -> Result<bool, AllocError> {
+fn is_stored<R: Threads + Sync>(rt: &R, alloc: Global, row: &File) -> Result<bool, AllocError> {
     let (program, literal, [role, kept], proof) = *row;
-    let image = made(alloc, program, "make", literal)?.file;
+    let image = made(rt, alloc, program, "make", literal)?.file;
     let call = Call {
         role,
         argument: "()",
         fuel: "1",
     };
-    let run = proved(alloc, program, &image, &call, kept)?;
+    let run = proved(rt, alloc, program, &image, &call, kept)?;
     Ok(run.status == 0 && run.file.as_slice() == proof)
 }
 
 #[test]
 fn proofs_have_these_bytes(rt: HostRuntime) -> Result<(), Fail> {
     for (number, row) in FILES.iter().enumerate() {
-        if !is_stored(rt.alloc(), row)? {
+        if !is_stored(&rt, rt.alloc(), row)? {
             return Err(Fail::new(format_args!("row {number}")));
         }
     }
@@ -513,7 +563,8 @@ static OPENED: [(&str, &str, &str, u64); 6] = [
 ];
 
 /// Whether a literal of a type is opened with this outcome, by a proof of so many bytes.
-fn is_opened(
+fn is_opened<R: Threads + Sync>(
+    rt: &R,
     alloc: Global,
     ty: &str,
     literal: &str,
@@ -523,15 +574,15 @@ fn is_opened(
     let program = format!(in alloc;
         "type list = None | More(int, list); state auth {ty}; init make(x: {ty}): auth {ty} = auth(x); query open(s: auth {ty}, x: unit): {ty} = unauth(s);"
     )?;
-    let made = made_sides(alloc, program.as_bytes(), "make", literal)?;
+    let made = made_sides(rt, alloc, program.as_bytes(), "make", literal)?;
     let row = (["open", "()", "1", "0"], 0, outcome, [1, 0, bytes]);
-    Ok(told_proof(alloc, &made, row)?.is_some())
+    Ok(told_proof(rt, alloc, &made, row)?.is_some())
 }
 
 #[test]
 fn values_of_each_type_are_opened(rt: HostRuntime) -> Result<(), Fail> {
     for (ty, literal, outcome, bytes) in &OPENED {
-        if !is_opened(rt.alloc(), ty, literal, outcome, *bytes)? {
+        if !is_opened(&rt, rt.alloc(), ty, literal, outcome, *bytes)? {
             return Err(Fail::new(format_args!("{ty} {literal}")));
         }
     }

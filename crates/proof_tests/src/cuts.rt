@@ -8,6 +8,7 @@ use cli_stage::stage::{PROOF, STATE};
 use program_texts::{FIRST, SWITCH, TWO};
 use std::alloc::{AllocError, Global};
 use std::test::Fail;
+use std::thread::Threads;
 
 /// From how many bytes on a file is told so: the status and the line.
 type Told = (usize, u8, &'static str);
@@ -103,7 +104,8 @@ static PROOFS: [Proofs; 4] = [
 ];
 
 /// To how many bytes a file is cut whose cut is told otherwise of this call, where one read gives so many bytes at most.
-fn first_misjudged(
+fn first_misjudged<R: Threads + Sync>(
+    rt: &R,
     alloc: Global,
     made: &Sides,
     call: &Call,
@@ -115,7 +117,7 @@ fn first_misjudged(
 {
     for bytes in 0..=file.len() {
         let cut = file.get(..bytes).unwrap_or_default();
-        if !made.are_told(alloc, call, cut, most_read, told_of(told, bytes))? {
+        if !made.are_told(rt, alloc, call, cut, most_read, told_of(told, bytes))? {
             return Ok(Some(bytes));
         }
     }
@@ -123,23 +125,28 @@ fn first_misjudged(
 }
 
 /// To how many bytes a proof is cut whose cut is told otherwise, where one read gives so many bytes at most.
-fn misjudged(alloc: Global, row: &Proofs, most_read: usize) -> Result<Option<usize>, AllocError> {
+fn misjudged<R: Threads + Sync>(
+    rt: &R,
+    alloc: Global,
+    row: &Proofs,
+    most_read: usize,
+) -> Result<Option<usize>, AllocError> {
     let (program, literal, role, proof, told) = *row;
-    let made = made_sides(alloc, program, "make", literal)?;
+    let made = made_sides(rt, alloc, program, "make", literal)?;
     let file = longer(alloc, proof)?;
     let call = Call {
         role,
         argument: "()",
         fuel: "1",
     };
-    first_misjudged(alloc, &made, &call, &file, told, most_read.max(1))
+    first_misjudged(rt, alloc, &made, &call, &file, told, most_read.max(1))
 }
 
 #[test]
 fn a_proof_is_cut(rt: HostRuntime) -> Result<(), Fail> {
     for (number, row) in PROOFS.iter().enumerate() {
         for most_read in [4096, 1, 2, 3, 7] {
-            if let Some(bytes) = misjudged(rt.alloc(), row, most_read)? {
+            if let Some(bytes) = misjudged(&rt, rt.alloc(), row, most_read)? {
                 return Err(Fail::new(format_args!("row {number} at {bytes} by {most_read}")));
             }
         }
@@ -159,7 +166,7 @@ fn a_state_is_cut(rt: HostRuntime) -> Result<(), Fail> {
     for bytes in 0..=file.len() {
         let cut = file.get(..bytes).unwrap_or_default();
         let (status, line) = told_of(&STATES, bytes);
-        if !verified(rt.alloc(), FIRST, cut, PROOF, &opening("1"))?.only_tells(status, line) {
+        if !verified(&rt, rt.alloc(), FIRST, cut, PROOF, &opening("1"))?.only_tells(status, line) {
             return Err(Fail::new(format_args!("{bytes}")));
         }
     }
@@ -209,7 +216,8 @@ fn line_of(alloc: Global, line: &str, bytes: usize) -> Result<String, AllocError
 }
 
 /// Whether this is told of an image. What is told is stored.
-fn is_told(
+fn is_told<R: Threads + Sync>(
+    rt: &R,
     alloc: Global,
     program: &[u8],
     image: &[u8],
@@ -217,12 +225,13 @@ fn is_told(
 ) -> Result<bool, AllocError> {
     let (status, line) = told;
     let line = line_of(alloc, line, image.len())?;
-    let run = kept(alloc, program, image)?;
+    let run = kept(rt, alloc, program, image)?;
     Ok(run.tells(status, &line) && (run.stored == 1) == (status == 0))
 }
 
 /// To how many bytes a file is cut whose cut is told otherwise as an image of this program.
-fn first_misread(
+fn first_misread<R: Threads + Sync>(
+    rt: &R,
     alloc: Global,
     program: &[u8],
     file: &[u8],
@@ -230,7 +239,7 @@ fn first_misread(
 ) -> Result<Option<usize>, AllocError> {
     for bytes in 0..=file.len() {
         let cut = file.get(..bytes).unwrap_or_default();
-        if !is_told(alloc, program, cut, told_of(told, bytes))? {
+        if !is_told(rt, alloc, program, cut, told_of(told, bytes))? {
             return Ok(Some(bytes));
         }
     }
@@ -238,17 +247,21 @@ fn first_misread(
 }
 
 /// To how many bytes an image is cut whose cut is told otherwise.
-fn misread(alloc: Global, row: &Images) -> Result<Option<usize>, AllocError> {
+fn misread<R: Threads + Sync>(
+    rt: &R,
+    alloc: Global,
+    row: &Images,
+) -> Result<Option<usize>, AllocError> {
     let (program, literal, told) = *row;
-    let image = made(alloc, program, "make", literal)?.file;
+    let image = made(rt, alloc, program, "make", literal)?.file;
     let file = longer(alloc, &image)?;
-    first_misread(alloc, program, &file, told)
+    first_misread(rt, alloc, program, &file, told)
 }
 
 #[test]
 fn an_image_is_cut(rt: HostRuntime) -> Result<(), Fail> {
     for (number, row) in IMAGES.iter().enumerate() {
-        if let Some(bytes) = misread(rt.alloc(), row)? {
+        if let Some(bytes) = misread(&rt, rt.alloc(), row)? {
             return Err(Fail::new(format_args!("row {number} at {bytes}")));
         }
     }

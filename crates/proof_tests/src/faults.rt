@@ -7,6 +7,7 @@ use cli_stage::stage::{PROOF, Stage};
 use program_texts::{FIRST, SWITCH};
 use std::alloc::{AllocError, Global};
 use std::test::Fail;
+use std::thread::Threads;
 
 /// The proof of one new piece, the byte 1, and that of the same piece twice.
 const ONE: &[u8] = b"LAP1\0\0\0\0\0\0\x01\x01";
@@ -44,13 +45,18 @@ static ROWS: [Row; 13] = [
 ];
 
 /// What both sides have of the state of a row.
-fn sides_of_row(alloc: Global, row: &Row) -> Result<Sides<'static>, AllocError> {
+fn sides_of_row<R: Threads + Sync>(
+    rt: &R,
+    alloc: Global,
+    row: &Row,
+) -> Result<Sides<'static>, AllocError> {
     let (program, literal) = row.0;
-    made_sides(alloc, program, "make", literal)
+    made_sides(rt, alloc, program, "make", literal)
 }
 
 /// A run of a row's words, where these calls of the files fail, and these writes, of so many bytes each.
-fn run_row(
+fn run_row<R: Threads + Sync>(
+    rt: &R,
     alloc: Global,
     row: &Row,
     sides: &Sides,
@@ -60,7 +66,7 @@ fn run_row(
     requires { 0 < writes.0 }
 {
     let words: Vec<&str> = row.1.split(' ').collect(alloc)?;
-    run_failing(alloc, &stage_of(row, sides), &words, failing, writes)
+    run_failing(rt, alloc, &stage_of(row, sides), &words, failing, writes)
 }
 
 /// The files of a command: beside a proof what a client keeps, or what the owner has, else the image alone.
@@ -97,26 +103,28 @@ fn ends_as_due(row: &Row, call: u64, run: &Run, whole: &Run) -> bool {
 }
 
 /// Whether a run in which this call of the files fails ends as it has to.
-fn is_read_as_due(
+fn is_read_as_due<R: Threads + Sync>(
+    rt: &R,
     alloc: Global,
     row: &Row,
     sides: &Sides,
     call: u64,
     whole: &Run,
 ) -> Result<bool, AllocError> {
-    let run = run_row(alloc, row, sides, &[call], (100, &[]))?;
+    let run = run_row(rt, alloc, row, sides, &[call], (100, &[]))?;
     Ok(ends_as_due(row, call, &run, whole))
 }
 
 /// The number of the first call of the files, from 0, whose failure is told otherwise, beside a run in which none fails.
-fn first_misread(
+fn first_misread<R: Threads + Sync>(
+    rt: &R,
     alloc: Global,
     row: &Row,
     sides: &Sides,
     whole: &Run,
 ) -> Result<Option<u64>, AllocError> {
     for call in 0..row.3[1].saturating_add(2) {
-        if !is_read_as_due(alloc, row, sides, call, whole)? {
+        if !is_read_as_due(rt, alloc, row, sides, call, whole)? {
             return Ok(Some(call));
         }
     }
@@ -124,16 +132,16 @@ fn first_misread(
 }
 
 /// The number of the first call of the files, from 0, whose failure is told otherwise.
-fn misread(alloc: Global, row: &Row) -> Result<Option<u64>, AllocError> {
-    let sides = sides_of_row(alloc, row)?;
-    let whole = run_row(alloc, row, &sides, &[], (100, &[]))?;
-    first_misread(alloc, row, &sides, &whole)
+fn misread<R: Threads + Sync>(rt: &R, alloc: Global, row: &Row) -> Result<Option<u64>, AllocError> {
+    let sides = sides_of_row(rt, alloc, row)?;
+    let whole = run_row(rt, alloc, row, &sides, &[], (100, &[]))?;
+    first_misread(rt, alloc, row, &sides, &whole)
 }
 
 #[test]
 fn each_call_of_the_files_fails_once(rt: HostRuntime) -> Result<(), Fail> {
     for (number, row) in ROWS.iter().enumerate() {
-        if let Some(call) = misread(rt.alloc(), row)? {
+        if let Some(call) = misread(&rt, rt.alloc(), row)? {
             return Err(Fail::new(format_args!("row {number} at call {call}")));
         }
     }
@@ -142,7 +150,8 @@ fn each_call_of_the_files_fails_once(rt: HostRuntime) -> Result<(), Fail> {
 
 /// Whether a run in which this write fails, and each takes so many bytes, ends with what the writes before it took; what is stored is
 /// stored before.
-fn is_written_as_due(
+fn is_written_as_due<R: Threads + Sync>(
+    rt: &R,
     alloc: Global,
     row: &Row,
     sides: &Sides,
@@ -152,7 +161,7 @@ fn is_written_as_due(
 ) -> Result<bool, AllocError>
     requires { 0 < most }
 {
-    let run = run_row(alloc, row, sides, &[], (most, &[write as u64]))?;
+    let run = run_row(rt, alloc, row, sides, &[], (most, &[write as u64]))?;
     let written = whole
         .text
         .get(..write.saturating_mul(most))
@@ -162,7 +171,8 @@ fn is_written_as_due(
 
 /// The number of the first write, from 0, whose failure ends a run otherwise, where each takes so many bytes, beside a run in which none
 /// fails.
-fn first_miswritten(
+fn first_miswritten<R: Threads + Sync>(
+    rt: &R,
     alloc: Global,
     row: &Row,
     sides: &Sides,
@@ -172,7 +182,7 @@ fn first_miswritten(
     requires { 0 < most }
 {
     for (write, _) in whole.text.chunks(most).enumerate() {
-        if !is_written_as_due(alloc, row, sides, most, write, whole)? {
+        if !is_written_as_due(rt, alloc, row, sides, most, write, whole)? {
             return Ok(Some(write));
         }
     }
@@ -180,7 +190,8 @@ fn first_miswritten(
 }
 
 /// The number of the first write, from 0, whose failure ends a run otherwise, where each takes so many bytes.
-fn miswritten(
+fn miswritten<R: Threads + Sync>(
+    rt: &R,
     alloc: Global,
     row: &Row,
     sides: &Sides,
@@ -188,18 +199,19 @@ fn miswritten(
 ) -> Result<Option<usize>, AllocError>
     requires { 0 < most }
 {
-    let whole = run_row(alloc, row, sides, &[], (most, &[]))?;
-    first_miswritten(alloc, row, sides, most, &whole)
+    let whole = run_row(rt, alloc, row, sides, &[], (most, &[]))?;
+    first_miswritten(rt, alloc, row, sides, most, &whole)
 }
 
 /// The same by writes of several sizes, with the size.
-fn miswritten_by(
+fn miswritten_by<R: Threads + Sync>(
+    rt: &R,
     alloc: Global,
     row: &Row,
     sides: &Sides,
 ) -> Result<Option<(usize, usize)>, AllocError> {
     for most in [1, 2, 7, 100] {
-        if let Some(write) = miswritten(alloc, row, sides, most.max(1))? {
+        if let Some(write) = miswritten(rt, alloc, row, sides, most.max(1))? {
             return Ok(Some((write, most)));
         }
     }
@@ -209,8 +221,8 @@ fn miswritten_by(
 #[test]
 fn each_write_fails_once(rt: HostRuntime) -> Result<(), Fail> {
     for (number, row) in ROWS.iter().enumerate() {
-        let sides = sides_of_row(rt.alloc(), row)?;
-        if let Some((write, most)) = miswritten_by(rt.alloc(), row, &sides)? {
+        let sides = sides_of_row(&rt, rt.alloc(), row)?;
+        if let Some((write, most)) = miswritten_by(&rt, rt.alloc(), row, &sides)? {
             return Err(Fail::new(format_args!("row {number} at write {write} of {most}")));
         }
     }

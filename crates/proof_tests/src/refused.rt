@@ -6,6 +6,7 @@ use cli_stage::stage::{Stage, staged};
 use program_texts::{FIRST, MERKLE};
 use std::alloc::{AllocError, Global};
 use std::test::Fail;
+use std::thread::Threads;
 
 /// A program, a role, an image, an argument, the fuel, and how many pieces are kept or a proof. The file `p` has the program of a list, `q`
 /// the image of a list of two ints, and `s` the image of a state of another program; there is no file `r`.
@@ -78,7 +79,8 @@ static OTHERS: [(&str, Words, u8, &str); 9] = [
 const PROGRAM: &str = "program refused: Expected 1 1";
 
 /// Whether a command tells this.
-fn is_told(
+fn is_told<R: Threads + Sync>(
+    rt: &R,
     alloc: Global,
     stage: &Stage,
     command: &str,
@@ -94,11 +96,12 @@ fn is_told(
     if command == "prove" {
         all.push("o")?;
     }
-    Ok(run_words(alloc, stage, &all)?.only_tells(status, line))
+    Ok(run_words(rt, alloc, stage, &all)?.only_tells(status, line))
 }
 
 /// The number of the first row, from 0, whose words a command doesn't refuse with their fault.
-fn misjudged(
+fn misjudged<R: Threads + Sync>(
+    rt: &R,
     alloc: Global,
     stage: &Stage,
     command: &str,
@@ -108,7 +111,7 @@ fn misjudged(
 {
     for (number, (words, fault)) in rows.iter().enumerate() {
         let line = format!(in alloc; "input refused: {fault}\n")?;
-        if !is_told(alloc, stage, command, *words, (7, &line))? {
+        if !is_told(rt, alloc, stage, command, *words, (7, &line))? {
             return Ok(Some(number));
         }
     }
@@ -116,12 +119,16 @@ fn misjudged(
 }
 
 /// The number of the first row of `OTHERS`, from 0, that is told otherwise.
-fn mistold(alloc: Global, stage: &Stage) -> Result<Option<usize>, AllocError>
+fn mistold<R: Threads + Sync>(
+    rt: &R,
+    alloc: Global,
+    stage: &Stage,
+) -> Result<Option<usize>, AllocError>
     requires { 0 < stage.now.most_read }
 {
     for (number, (command, words, status, line)) in OTHERS.iter().enumerate() {
         let line = format!(in alloc; "{line}\n")?;
-        if !is_told(alloc, stage, command, *words, (*status, &line))? {
+        if !is_told(rt, alloc, stage, command, *words, (*status, &line))? {
             return Ok(Some(number));
         }
     }
@@ -131,24 +138,25 @@ fn mistold(alloc: Global, stage: &Stage) -> Result<Option<usize>, AllocError>
 #[test]
 fn the_first_fault_is_told(rt: HostRuntime) -> Result<(), Fail> {
     let alloc = rt.alloc();
-    let image = made(alloc, MERKLE, "make", "(1, 5)")?.file;
-    let other = made(alloc, FIRST, "make", "()")?.file;
+    let image = made(&rt, alloc, MERKLE, "make", "(1, 5)")?.file;
+    let other = made(&rt, alloc, FIRST, "make", "()")?.file;
     let stage = staged(MERKLE, &other, &image);
-    match first_misjudged(alloc, &stage)? {
+    match first_misjudged(&rt, alloc, &stage)? {
         (None, None, None) => Ok(()),
         rows => Err(Fail::new(format_args!("{rows:?}"))),
     }
 }
 
 /// The numbers of the first rows of each table, from 0, that are told otherwise.
-fn first_misjudged(
+fn first_misjudged<R: Threads + Sync>(
+    rt: &R,
     alloc: Global,
     stage: &Stage,
 ) -> Result<(Option<usize>, Option<usize>, Option<usize>), AllocError>
     requires { 0 < stage.now.most_read }
 {
-    let prove = misjudged(alloc, stage, "prove", &PROVE)?;
-    let audit = misjudged(alloc, stage, "audit", &AUDIT)?;
-    let others = mistold(alloc, stage)?;
+    let prove = misjudged(rt, alloc, stage, "prove", &PROVE)?;
+    let audit = misjudged(rt, alloc, stage, "audit", &AUDIT)?;
+    let others = mistold(rt, alloc, stage)?;
     Ok((prove, audit, others))
 }

@@ -4,6 +4,7 @@ ghost use Rattle.std.specs.Prelude.{◌<◌};
 use cli_stage::runs::{Call, kept, made, run_words};
 use cli_stage::stage::Stage;
 use std::alloc::{AllocError, Global};
+use std::thread::Threads;
 
 /// A program, the image of a state, which its owner has, and the spelling of its projection, which a client keeps.
 #[derive(Drop)]
@@ -14,23 +15,25 @@ pub struct Sides<'a> {
 }
 
 /// What both have of a state that is made by this role of a literal.
-pub fn made_sides<'a>(
+pub fn made_sides<'a, R: Threads + Sync>(
+    rt: &R,
     alloc: Global,
     program: &'a [u8],
     role: &str,
     literal: &str,
 ) -> Result<Sides<'a>, AllocError> {
-    let image = made(alloc, program, role, literal)?.file;
-    sides_of(alloc, program, image)
+    let image = made(rt, alloc, program, role, literal)?.file;
+    sides_of(rt, alloc, program, image)
 }
 
 /// What both have of the state with this image.
-pub fn sides_of<'a>(
+pub fn sides_of<'a, R: Threads + Sync>(
+    rt: &R,
     alloc: Global,
     program: &'a [u8],
     image: Vec<u8>,
 ) -> Result<Sides<'a>, AllocError> {
-    let state = kept(alloc, program, &image)?.file;
+    let state = kept(rt, alloc, program, &image)?.file;
     Ok(Sides {
         program,
         image,
@@ -54,8 +57,9 @@ impl<'a> Sides<'a> {
     }
 
     /// Whether `verify` tells this of a proof of a call and stores nothing, and so does `audit`, where an outcome is agreed on.
-    pub fn are_told(
+    pub fn are_told<R: Threads + Sync>(
         &self,
+        rt: &R,
         alloc: Global,
         call: &Call,
         proof: &[u8],
@@ -68,8 +72,9 @@ impl<'a> Sides<'a> {
         let agreed = if status == 5 { "" } else { "agrees " };
         let audit_line = format!(in alloc; "{agreed}{line}")?;
         Ok(
-            self.is_told(alloc, "verify", call, proof, most_read, told)?
+            self.is_told(rt, alloc, "verify", call, proof, most_read, told)?
                 && self.is_told(
+                    rt,
                     alloc,
                     "audit",
                     call,
@@ -81,8 +86,9 @@ impl<'a> Sides<'a> {
     }
 
     /// Whether this command tells this of a proof of a call, of which one read gives so many bytes at most, and stores nothing.
-    fn is_told(
+    fn is_told<R: Threads + Sync>(
         &self,
+        rt: &R,
         alloc: Global,
         command: &str,
         call: &Call,
@@ -95,6 +101,6 @@ impl<'a> Sides<'a> {
         let (status, line) = told;
         let words = [command, "p", call.role, "s", call.argument, call.fuel, "q"];
         let stage = self.stage(command == "audit", proof, most_read);
-        Ok(run_words(alloc, &stage, &words)?.only_tells(status, line))
+        Ok(run_words(rt, alloc, &stage, &words)?.only_tells(status, line))
     }
 }

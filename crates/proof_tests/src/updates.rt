@@ -23,9 +23,9 @@ fn the_new_state_is_stored_where_it_is_named(rt: HostRuntime) -> Result<(), Fail
     let stage = staged(SWITCH, &YES, ONE);
     let line = "done (#6e340b9cffb37a989ca544e6bb780a2c78901d3fb33738768511a30617afa01d, true)\n";
     let alone = ["verify", "p", "flip", "s", "()", "1", "q"];
-    assert!(rt; run_words(rt.alloc(), &stage, &alone)?.only_tells(0, line));
+    assert!(rt; run_words(&rt, rt.alloc(), &stage, &alone)?.only_tells(0, line));
     let named = ["verify", "p", "flip", "s", "()", "1", "q", "o"];
-    assert!(rt; run_words(rt.alloc(), &stage, &named)?.stores(0, line, &NO));
+    assert!(rt; run_words(&rt, rt.alloc(), &stage, &named)?.stores(0, line, &NO));
     Ok(())
 }
 
@@ -42,7 +42,7 @@ static UNSTORED: [(&str, &str, &[u8], u8, &str); 5] = [
 fn no_state_is_stored_where_none_is_made(rt: HostRuntime) -> Result<(), Fail> {
     for (role, fuel, proof, status, line) in &UNSTORED {
         let words = ["verify", "p", role, "s", "()", fuel, "q", "o"];
-        let run = run_words(rt.alloc(), &staged(SWITCH, &YES, proof), &words)?;
+        let run = run_words(&rt, rt.alloc(), &staged(SWITCH, &YES, proof), &words)?;
         if !run.only_tells(*status, line) {
             return Err(Fail::new(format_args!("{role} {line}")));
         }
@@ -56,7 +56,7 @@ const FULL: &[u8] = b"\x7f\xff\xff\xff\xff\xff\xff\xff**************************
 #[test]
 fn no_state_is_stored_of_a_full_log(rt: HostRuntime) -> Result<(), Fail> {
     let words = ["verify", "p", "append", "s", "\"\"", "1", "q", "o"];
-    let run = run_words(rt.alloc(), &staged(LOG, FULL, HEADER), &words)?;
+    let run = run_words(&rt, rt.alloc(), &staged(LOG, FULL, HEADER), &words)?;
     assert!(rt; run.only_tells(3, "trap overflow\n"));
     Ok(())
 }
@@ -81,7 +81,7 @@ fn constructors_are_told_by_their_names(rt: HostRuntime) -> Result<(), Fail> {
             argument,
             fuel: "1",
         };
-        if !verified(rt.alloc(), COLORS, state, HEADER, &call)?.only_tells(*status, line) {
+        if !verified(&rt, rt.alloc(), COLORS, state, HEADER, &call)?.only_tells(*status, line) {
             return Err(Fail::new(*line));
         }
     }

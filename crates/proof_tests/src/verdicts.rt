@@ -1,5 +1,4 @@
 // What `verify` and `audit` say of proofs, whoever made them.
-ghost use Rattle.std.specs.Prelude.{◌<◌};
 
 use crate::calls::{DEEP, DEEP_PROOF, TRAPS};
 use crate::sides::{Sides, made_sides};
@@ -8,6 +7,7 @@ use cli_stage::stage::PROOF;
 use program_texts::{FIRST, SWITCH, TWO};
 use std::alloc::{AllocError, Global};
 use std::test::Fail;
+use std::thread::Threads;
 
 /// A proof, and the status and the line.
 type Row = (&'static [u8], u8, &'static str);
@@ -53,17 +53,16 @@ static UNFUELED: [Row; 3] = [
 ];
 
 /// The number of the first proof of a call, from 0, that is judged otherwise where one read gives so many bytes at most.
-fn misjudged(
+fn misjudged<R: Threads + Sync>(
+    rt: &R,
     alloc: Global,
     made: &Sides,
     call: &Call,
     rows: &[Row],
     most_read: usize,
-) -> Result<Option<usize>, AllocError>
-    requires { 0 < most_read }
-{
+) -> Result<Option<usize>, AllocError> {
     for (number, (proof, status, line)) in rows.iter().enumerate() {
-        if !made.are_told(alloc, call, proof, most_read, (*status, line))? {
+        if !made.are_told(rt, alloc, call, proof, most_read.max(1), (*status, line))? {
             return Ok(Some(number));
         }
     }
@@ -73,10 +72,10 @@ fn misjudged(
 #[test]
 fn proofs_are_judged_by_reads_of_any_size(rt: HostRuntime) -> Result<(), Fail> {
     let alloc = rt.alloc();
-    let made = made_sides(alloc, FIRST, "make", "()")?;
+    let made = made_sides(&rt, alloc, FIRST, "make", "()")?;
     for most_read in [4096, 1, 2, 3, 7] {
-        let fueled = misjudged(alloc, &made, &opening("1"), &PROOFS, most_read)?;
-        let unfueled = misjudged(alloc, &made, &opening("0"), &UNFUELED, most_read)?;
+        let fueled = misjudged(&rt, alloc, &made, &opening("1"), &PROOFS, most_read)?;
+        let unfueled = misjudged(&rt, alloc, &made, &opening("0"), &UNFUELED, most_read)?;
         if (fueled, unfueled) != (None, None) {
             return Err(Fail::new(format_args!("{fueled:?} {unfueled:?} by {most_read}")));
         }
@@ -194,21 +193,25 @@ static TABLES: [Table; 5] = [
 ];
 
 /// The number of the first proof of a table, from 0, that is judged otherwise.
-fn misjudged_of(alloc: Global, table: &Table) -> Result<Option<usize>, AllocError> {
+fn misjudged_of<R: Threads + Sync>(
+    rt: &R,
+    alloc: Global,
+    table: &Table,
+) -> Result<Option<usize>, AllocError> {
     let (program, literal, [role, argument], rows) = *table;
-    let made = made_sides(alloc, program, "make", literal)?;
+    let made = made_sides(rt, alloc, program, "make", literal)?;
     let call = Call {
         role,
         argument,
         fuel: "1",
     };
-    misjudged(alloc, &made, &call, rows, 4096)
+    misjudged(rt, alloc, &made, &call, rows, 4096)
 }
 
 #[test]
 fn proofs_of_calls_are_judged(rt: HostRuntime) -> Result<(), Fail> {
     for table in &TABLES {
-        if let Some(number) = misjudged_of(rt.alloc(), table)? {
+        if let Some(number) = misjudged_of(&rt, rt.alloc(), table)? {
             return Err(Fail::new(format_args!("{}: row {number}", table.2[0])));
         }
     }
@@ -228,7 +231,7 @@ static LAYERS: [(usize, &str, u8, &str); 2] = [
 
 #[test]
 fn nested_states_are_opened(rt: HostRuntime) -> Result<(), Fail> {
-    let made = made_sides(rt.alloc(), DEEP, "make", "()")?;
+    let made = made_sides(&rt, rt.alloc(), DEEP, "make", "()")?;
     for (length, role, status, line) in &LAYERS {
         let front = DEEP_PROOF.get(..*length).unwrap_or_default();
         let call = Call {
@@ -236,7 +239,7 @@ fn nested_states_are_opened(rt: HostRuntime) -> Result<(), Fail> {
             argument: " ( ) # the argument",
             fuel: "1",
         };
-        if !made.are_told(rt.alloc(), &call, front, 4096, (*status, line))? {
+        if !made.are_told(&rt, rt.alloc(), &call, front, 4096, (*status, line))? {
             return Err(Fail::new(*line));
         }
     }
@@ -261,10 +264,10 @@ fn with_bytes_left(alloc: Global, left: usize) -> Result<Vec<u8>, AllocError> {
 
 #[test]
 fn many_bytes_left_are_told_up_to_a_limit(rt: HostRuntime) -> Result<(), Fail> {
-    let made = made_sides(rt.alloc(), FIRST, "make", "()")?;
+    let made = made_sides(&rt, rt.alloc(), FIRST, "make", "()")?;
     for (left, line) in &LEFT {
         let proof = with_bytes_left(rt.alloc(), *left)?;
-        if !made.are_told(rt.alloc(), &opening("1"), &proof, 4096, (5, line))? {
+        if !made.are_told(&rt, rt.alloc(), &opening("1"), &proof, 4096, (5, line))? {
             return Err(Fail::new(format_args!("{left}")));
         }
     }

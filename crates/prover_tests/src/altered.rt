@@ -92,7 +92,7 @@ fn four(alloc: Global, code: &Code) -> Result<Vec<u8>, AllocError> {
 /// What is altered, the cause in words, and how many bytes are left.
 type Row = (Change, &'static str, usize);
 
-const ROWS: [Row; 15] = [
+static ROWS: [Row; 15] = [
     (Change::Byte(0, b'X'), "header", 50),
     (Change::Byte(4, 8), "header", 50),
     (Change::Cut(5), "header", 0),

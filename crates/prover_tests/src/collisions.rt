@@ -67,7 +67,7 @@ impl Told {
 }
 
 /// The fuel and a proof, and what an audit of it tells.
-const AUDITS: [(u64, &[u8], Told); 20] = [
+static AUDITS: [(u64, &[u8], Told); 20] = [
     // a false answer that is accepted: the first piece that differs is shown
     (
         1,

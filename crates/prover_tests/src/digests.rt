@@ -7,7 +7,7 @@ use std::test::Fail;
 const ABC: &[u8; 64] = b"ba7816bf8f01cfea414140de5dae2223b00361a396177a9cb410ff61f20015ad";
 
 /// Bytes and the text of their digest, from FIPS 180-4's examples, and `sha256sum`.
-const KNOWN: [(&[u8], &[u8; 64]); 4] = [
+static KNOWN: [(&[u8], &[u8; 64]); 4] = [
     (b"abc", ABC),
     (
         b"",
@@ -34,7 +34,7 @@ fn known_digests(rt: HostRuntime) -> Result<(), Fail> {
 }
 
 /// Bytes and the XOR of all of them.
-const TOYS: [(&[u8], u8); 4] = [
+static TOYS: [(&[u8], u8); 4] = [
     (b"\x03\x02", 1),
     (b"\x01\x00", 1),
     (b"\xff\x0f", 0xf0),

@@ -1,10 +1,13 @@
 // Copies of values.
-ghost use Rattle.std.specs.Prelude.{◌≡◌, IfOk};
+ghost use Rattle.std.specs.Prelude.{◌≡◌, ℕ, List, IfOk};
 ghost use Rattle.core_terms.specs.Texts.{bytes_of};
-ghost use Rattle.core_terms.specs.Values.{AndV, NoV, PairV};
+ghost use Rattle.core_terms.specs.Values.{AndV, NoV, PairV, TextV};
+ghost use Rattle.ideal_meaning.specs.Ideal.{Opened};
 ghost use Rattle.ideal_meaning.specs.Run as meant;
 ghost use Rattle.reference_run.specs.PlainValues.{plain_of, plains_of};
+ghost use Rattle.reference_run.specs.Telling.{Tells};
 
+use crate::stop::Stop;
 use crate::values::{Plain, pair_of};
 use core_terms::{LocalId, Text};
 use std::alloc::{AllocError, Global};
@@ -51,19 +54,26 @@ fn all_copied(values: &[Plain], alloc: Global) -> Result<Vec<Plain>, AllocError>
 }
 
 /// A copy of a text.
-pub(crate) fn copied_text(text: &Text, alloc: Global) -> Result<Text, AllocError>
+fn copied_text(text: &Text, alloc: Global) -> Result<Text, AllocError>
     ensures { IfOk result (λ copy. bytes_of copy ≡ bytes_of text.now) }
 {
     let bytes = text.as_bytes().to_vec(alloc)?;
     Ok(Text::new(bytes))
 }
 
+/// The value of a text literal.
+pub(crate) fn literal(text: &Text, alloc: Global) -> Result<Plain, Stop>
+    ensures { (k : ℕ) (seen : List Opened) → Tells plain_of k result (meant.Gives (TextV (bytes_of text.now)) k seen) }
+{
+    Ok(Plain::TextValue(copied_text(text, alloc)?))
+}
+
 /// A copy of the value of a local; of one that isn't there it is `()`, as in the definitions.
-pub(crate) fn local(locals: &[Plain], id: LocalId, alloc: Global) -> Result<Plain, AllocError>
-    ensures { IfOk result (λ value. plain_of value ≡ meant.local (plains_of locals.now) id.0) }
+pub(crate) fn local(locals: &[Plain], id: LocalId, alloc: Global) -> Result<Plain, Stop>
+    ensures { (k : ℕ) (seen : List Opened) → Tells plain_of k result (meant.Gives (meant.local (plains_of locals.now) id.0) k seen) }
 {
     match locals.get(id.0) {
-        Some(value) => copied(value, alloc),
+        Some(value) => Ok(copied(value, alloc)?),
         None => Ok(Plain::UnitValue),
     }
 }

@@ -6,7 +6,7 @@ ghost use Rattle.reference_run.specs.Evaluations.{ArmEvaluates, BothEvaluate, Ca
 ghost use Rattle.reference_run.specs.PlainValues.{plain_of, plains_of};
 ghost use Rattle.reference_run.specs.Telling.{pair_values, row_values};
 
-use crate::copies::{copied_text, local, with_local, with_locals};
+use crate::copies::{literal, local, with_local, with_locals};
 use crate::ints::{arith, compare};
 use crate::measures::{new_constructor, new_pair};
 use crate::operations::{first, negation, second};
@@ -49,8 +49,8 @@ impl Evaluator<'_> {
             Term::UnitLiteral => Ok(Plain::UnitValue),
             Term::BoolLiteral(value) => Ok(Plain::BoolValue(*value)),
             Term::IntLiteral(value) => Ok(Plain::IntValue(*value)),
-            Term::TextLiteral(text) => Ok(Plain::TextValue(copied_text(text, self.alloc)?)),
-            Term::Local(id) => Ok(local(locals, *id, self.alloc)?),
+            Term::TextLiteral(text) => literal(text, self.alloc),
+            Term::Local(id) => local(locals, *id, self.alloc),
             Term::Pair(a, b, x, y) => {
                 let operands = self.both(x, y, locals, fuel);
                 new_pair(self.program, (*a, *b), operands, self.alloc)

@@ -1,21 +1,30 @@
 -- A play comes of events of the client: for the law `plays_tell_truth`.
 use Rattle.std.proofs.Common.{◌≡◌, ◌⊎◌, inl, inr, ℕ, Bool, true, false, List, [], ◌∷◌, ◌++◌, refl, sym, ap, ◌∙◌, subst}
+use Rattle.std.specs.List.{All, AllByRecursion}
+use Rattle.std.proofs.lemmas.List.Elements.{All-head, All-tail}
 use Rattle.core_terms.specs.Formats.{Hash}
 use Rattle.core_terms.specs.Terms.{Program}
 use Rattle.session_meaning.specs.Client as client
 use Rattle.session_meaning.specs.Client.{Answer, Client, Event, Taken, new_client, take_event, waits}
-use Rattle.session_meaning.specs.ClientLaws.{ToldIsTrue}
+use Rattle.session_meaning.specs.ClientLaws.{HasBytes, ToldIsTrue}
 use Rattle.session_meaning.specs.Messages.{Go, Messages, NoMore, Then, Reply}
+use Rattle.session_meaning.proofs.FineServer.{all_more}
 use Rattle.ask_core.specs.Sessions.{some_calls, some_waits}
-use Rattle.ask_script.specs.Scripts.{UserStep, Opens, Calls, Goes, Closes}
+use Rattle.ask_script.specs.Scripts.{HasByteArgument, UserStep, Opens, Calls, Goes, Closes}
 use Rattle.script_play.specs.PlayRuns.{Follows, IsOfNone, PlaysTellTruth, client_behind, deed_of, line_deed}
 use Rattle.script_play.specs.Plays.{Deed, Sends, Stops, Play, asked_play, asks, behind, ends, goes_behind, hears, if_goes, if_waiting, lets_run, most_rounds, play, play_step, rests, take_replies, then_play, told_of}
 
+-- what holds of all, holds of those behind some
+all_behind : {A : Type 0} (Q : A → Type 0) (before behind : List A) → AllByRecursion Q (before ++ behind) → AllByRecursion Q behind
+all_behind Q [] behind all = all
+all_behind Q (x ∷ before) behind all = all_behind Q before behind all.1
+
 module _ (hash : Hash) (P : Program) (own : List ℕ) where
-  -- The deeds of a play come of events, which leave its client.
+  -- The deeds of a play come of events, which leave its client, and whose arguments are of bytes.
   record IsRun (c : Client) (p : Play) : Type 0 where
     events : List Event
     follows : Follows hash P own c p.deeds events p.client
+    bytes : AllByRecursion HasBytes events
 
   -- deeds behind others
   follows_more : (c : Client) (a b : List Deed) (es fs : List Event) (mid last : Client) → Follows hash P own c a es mid → Follows hash P own mid b fs last
@@ -33,10 +42,10 @@ module _ (hash : Hash) (P : Program) (own : List ℕ) where
 
   -- nothing is done
   rests_run : (c : Client) (ms : Messages Reply) → IsRun c (rests c ms)
-  rests_run c ms = record { events = []; follows = (refl, refl) }
+  rests_run c ms = record { events = []; follows = (refl, refl); bytes = tt }
 
   ends_run : (c : Client) (ms : Messages Reply) → IsRun c (ends c ms)
-  ends_run c ms = record { events = []; follows = (refl, refl) }
+  ends_run c ms = record { events = []; follows = (refl, refl); bytes = tt }
 
   goes_run : (goes : Bool) (c : Client) (ms : Messages Reply) (more : Client → Messages Reply → Play) → IsRun c (more c ms) → IsRun c (if_goes goes c ms more)
   goes_run true c ms more run = run
@@ -44,11 +53,11 @@ module _ (hash : Hash) (P : Program) (own : List ℕ) where
 
   -- a deed that comes of no event, and one that comes of an event, before a play
   none_run : (c : Client) (d : Deed) (p : Play) → IsOfNone d → IsRun c p → IsRun c (behind (d ∷ []) p)
-  none_run c d p none run = record { events = run.events; follows = inl (none, run.follows) }
+  none_run c d p none run = record { events = run.events; follows = inl (none, run.follows); bytes = run.bytes }
 
-  event_run : (c : Client) (e : Event) (d : Deed) (p : Play) → d ≡ deed_of P c e (take_event hash P own c e).answer → IsRun (take_event hash P own c e).client p
+  event_run : (c : Client) (e : Event) (d : Deed) (p : Play) → HasBytes e → d ≡ deed_of P c e (take_event hash P own c e).answer → IsRun (take_event hash P own c e).client p
       → IsRun c (behind (d ∷ []) p)
-  event_run c e d p is run = record { events = e ∷ run.events; follows = inr (e, run.events, refl, is, run.follows) }
+  event_run c e d p has is run = record { events = e ∷ run.events; follows = inr (e, run.events, refl, is, run.follows); bytes = (has, run.bytes) }
 
   -- REPLIES
 
@@ -65,28 +74,28 @@ module _ (hash : Hash) (P : Program) (own : List ℕ) where
 
       by : (w : Bool) → ((c : Client) → IsRun c (take_replies hash P own waiting c more)) → IsRun c (if_waiting w c (Then reply more) (λ c. behind (told_of hash P own c reply ∷ [])
           (if_goes (goes_behind (hears hash P own c reply).answer) (hears hash P own c reply).client more (λ c ms. take_replies hash P own waiting c more))))
-      by true later = event_run c (client.Hears reply) (told_of hash P own c reply) (if_goes (goes_behind heard.answer) heard.client more (λ c ms. take_replies hash P own waiting c more)) refl
+      by true later = event_run c (client.Hears reply) (told_of hash P own c reply) (if_goes (goes_behind heard.answer) heard.client more (λ c ms. take_replies hash P own waiting c more)) tt refl
           (goes_run (goes_behind heard.answer) heard.client more (λ c ms. take_replies hash P own waiting c more) (later heard.client))
       by false later = rests_run c (Then reply more)
 
   -- LINES
 
   -- what the client answers to a line is sent or told
-  asks_run : (c : Client) (e : Event) (session : ℕ) (ms : Messages Reply) (more : Client → Messages Reply → Play)
+  asks_run : (c : Client) (e : Event) (session : ℕ) (ms : Messages Reply) (more : Client → Messages Reply → Play) → HasBytes e
       → line_deed session (take_event hash P own c e).answer ≡ deed_of P c e (take_event hash P own c e).answer
       → IsRun (take_event hash P own c e).client (more (take_event hash P own c e).client ms)
       → IsRun c (asked_play (take_event hash P own c e) session ms more)
-  asks_run c e session ms more is run = by (take_event hash P own c e).answer is
+  asks_run c e session ms more has is run = by (take_event hash P own c e).answer is
     where
       later : Client
       later = (take_event hash P own c e).client
 
       told : (answer : Answer) → line_deed session answer ≡ deed_of P c e (take_event hash P own c e).answer
           → IsRun c (behind (line_deed session answer ∷ []) (if_goes (goes_behind answer) later ms rests))
-      told answer is = event_run c e (line_deed session answer) (if_goes (goes_behind answer) later ms rests) is (goes_run (goes_behind answer) later ms rests (rests_run later ms))
+      told answer is = event_run c e (line_deed session answer) (if_goes (goes_behind answer) later ms rests) has is (goes_run (goes_behind answer) later ms rests (rests_run later ms))
 
       by : (answer : Answer) → line_deed session answer ≡ deed_of P c e (take_event hash P own c e).answer → IsRun c (asks answer later session ms more)
-      by (client.Sends request) is = event_run c e (Sends request) (more later ms) is run
+      by (client.Sends request) is = event_run c e (Sends request) (more later ms) has is run
       by client.TellsWelcome is = told client.TellsWelcome is
       by client.TellsEnded is = told client.TellsEnded is
       by (client.Tells o) is = told (client.Tells o) is
@@ -107,16 +116,16 @@ module _ (hash : Hash) (P : Program) (own : List ℕ) where
   lets_run_so true c ms = none_run c (Sends (Go most_rounds)) (take_replies hash P own some_waits c ms) tt (replies_run some_waits ms c)
   lets_run_so false c ms = replies_run some_waits ms c
 
-  step_run : (state : List ℕ) (step : UserStep) (c : Client) (ms : Messages Reply) → IsRun c (play_step hash P own state step c ms)
-  step_run state (Opens session kept) c ms =
-      asks_run c (client.Hellos session kept state) session ms (take_replies hash P own (λ c. waits c session)) refl
+  step_run : (state : List ℕ) (step : UserStep) (c : Client) (ms : Messages Reply) → HasByteArgument step → IsRun c (play_step hash P own state step c ms)
+  step_run state (Opens session kept) c ms has =
+      asks_run c (client.Hellos session kept state) session ms (take_replies hash P own (λ c. waits c session)) tt refl
       (replies_run (λ c. waits c session) ms (take_event hash P own c (client.Hellos session kept state)).client)
-  step_run state (Calls session role fuel argument) c ms =
-      asks_run c (client.Calls session role fuel argument) session ms rests refl (rests_run (take_event hash P own c (client.Calls session role fuel argument)).client ms)
-  step_run state (Closes session) c ms =
-      asks_run c (client.Byes session) session ms (take_replies hash P own (λ c. waits c session)) refl
+  step_run state (Calls session role fuel argument) c ms has =
+      asks_run c (client.Calls session role fuel argument) session ms rests has refl (rests_run (take_event hash P own c (client.Calls session role fuel argument)).client ms)
+  step_run state (Closes session) c ms has =
+      asks_run c (client.Byes session) session ms (take_replies hash P own (λ c. waits c session)) tt refl
       (replies_run (λ c. waits c session) ms (take_event hash P own c (client.Byes session)).client)
-  step_run state Goes c ms = lets_run_so (some_calls c) c ms
+  step_run state Goes c ms has = lets_run_so (some_calls c) c ms
 
   -- one play behind another
   then_run : (c : Client) (p : Play) (more : Client → Messages Reply → Play) → IsRun c p → ((c : Client) (ms : Messages Reply) → IsRun c (more c ms)) → IsRun c (then_play p more)
@@ -126,20 +135,24 @@ module _ (hash : Hash) (P : Program) (own : List ℕ) where
       record {
         events = first.events ++ run.events;
         follows = follows_more c p.deeds next.deeds first.events run.events p.client next.client first.follows run.follows;
+        bytes = all_more HasBytes first.events run.events first.bytes run.bytes;
       }
 
-  play_run : (state : List ℕ) (steps : List UserStep) (c : Client) (ms : Messages Reply) → IsRun c (play hash P own state steps c ms)
-  play_run state [] c ms = rests_run c ms
-  play_run state (step ∷ steps) c ms =
-      then_run c (play_step hash P own state step c ms) (play hash P own state steps) (step_run state step c ms) (play_run state steps)
+  play_run : (state : List ℕ) (steps : List UserStep) → All HasByteArgument steps → (c : Client) (ms : Messages Reply) → IsRun c (play hash P own state steps c ms)
+  play_run state [] have c ms = rests_run c ms
+  play_run state (step ∷ steps) have c ms =
+      then_run c (play_step hash P own state step c ms) (play hash P own state steps) (step_run state step c ms (All-head HasByteArgument step steps have))
+      (play_run state steps (All-tail HasByteArgument step steps have))
 
 -- what the client of any events is told is true
 pub plays_tell_truth : ToldIsTrue → PlaysTellTruth
-plays_tell_truth told hash is_hash P format typed shaped own state steps ms =
-    let run = play_run hash P own state steps new_client ms in
+plays_tell_truth told hash is_hash P format typed shaped own state steps have ms =
+    let run = play_run hash P own state steps have new_client ms in
     record {
       events = run.events;
       client = (play hash P own state steps new_client ms).client;
       follows = run.follows;
-      truth = λ before later is session known begins v ideal spelled bytes. told hash is_hash P format typed shaped own (client_behind hash P own new_client before) session known begins v ideal spelled later bytes;
+      truth = λ before later is session known begins v ideal spelled.
+          told hash is_hash P format typed shaped own (client_behind hash P own new_client before) session known begins v ideal spelled later
+          (all_behind HasBytes before later (subst (AllByRecursion HasBytes) is run.bytes));
     }

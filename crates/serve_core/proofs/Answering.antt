@@ -33,7 +33,7 @@ use Rattle.serve_core.specs.declared.heard.Replies.{Replies}
 use Rattle.serve_core.specs.declared.server.ServeCore.{ServeCore}
 use Rattle.serve_core.proofs.Steps.{IsBeside, ascend_rows, none_also, none_removed, refused_step, rows_ascend, with_sessions}
 
-module _ (hash : Hash) {A : Type 0} (core : ServeCore A) (server : meant.Server) (h : Serves hash core server) where
+module _ (hash : Hash) {A G : Type 0} (core : ServeCore A G) (server : meant.Server) (h : Serves hash core server) where
   abbrev P : Program
   P = program_of core.code
 
@@ -44,21 +44,21 @@ module _ (hash : Hash) {A : Type 0} (core : ServeCore A) (server : meant.Server)
   Is = IsSession hash core.code core.slice (nodes_in core.shared.store) server.shared.versions
 
   -- one session is put or taken, and a reply is told
-  pub one_put : (new : ServeCore A) (number : ℕ) (session : Session A) (s : meant.Session) → IsBeside hash core new
+  pub one_put : (new : ServeCore A G) (number : ℕ) (session : Session A) (s : meant.Session) → IsBeside hash core new
       → rows_of new.sessions ≡ put number session (rows_of core.sessions) → Is session s
       → Serves hash new (record server { sessions = put number s server.sessions })
   one_put new number session s same rows is =
       with_sessions hash core new server (put number s server.sessions) same h
       (subst (λ xs. AreRows Is xs (put number s server.sessions)) (sym rows) (put_related Is number session s (rows_of core.sessions) server.sessions is h.sessions))
 
-  pub one_taken : (new : ServeCore A) (number : ℕ) → IsBeside hash core new → rows_of new.sessions ≡ remove number (rows_of core.sessions)
+  pub one_taken : (new : ServeCore A G) (number : ℕ) → IsBeside hash core new → rows_of new.sessions ≡ remove number (rows_of core.sessions)
       → Serves hash new (record server { sessions = remove number server.sessions })
   one_taken new number same rows =
       with_sessions hash core new server (remove number server.sessions) same h
       (subst (λ xs. AreRows Is xs (remove number server.sessions)) (sym rows) (remove_related Is number (rows_of core.sessions) server.sessions h.sessions))
 
   -- a greeting is welcomed
-  pub welcomed : (own : List ℕ) (new : ServeCore A) (number n version : ℕ) (program state : List ℕ) (session : Session A) (replies : Replies) → IsBeside hash core new
+  pub welcomed : (own : List ℕ) (new : ServeCore A G) (number n version : ℕ) (program state : List ℕ) (session : Session A) (replies : Replies) → IsBeside hash core new
       → meant.hello_test hash P own ending server number program n state ≡ Ok version → rows_of new.sessions ≡ put number session (rows_of core.sessions)
       → session.version ≡ version → session.ring ≡ kept n [] → session.running ≡ None → replies.list.items ≡ reply.Welcome number ∷ [] → replies.closing ≡ false
       → HandlesAs hash new replies (meant.hello_step (meant.hello_test hash P own ending server number program n state) server number n)
@@ -75,7 +75,7 @@ module _ (hash : Hash) {A : Type 0} (core : ServeCore A) (server : meant.Server)
       (record { serves = one_put new number session (meant.new_session version n) same rows is; list = ap (map reply_meant) told; closing = stays })
 
   -- a session has left
-  pub left : (new : ServeCore A) (number : ℕ) (s : meant.Session) (replies : Replies) → IsBeside hash core new → find number server.sessions ≡ Some s
+  pub left : (new : ServeCore A G) (number : ℕ) (s : meant.Session) (replies : Replies) → IsBeside hash core new → find number server.sessions ≡ Some s
       → rows_of new.sessions ≡ remove number (rows_of core.sessions) → replies.list.items ≡ reply.Closed number 0 ∷ [] → replies.closing ≡ false
       → HandlesAs hash new replies (meant.bye_step (find number server.sessions) server number)
   left new number s replies same found rows told stays =
@@ -83,7 +83,7 @@ module _ (hash : Hash) {A : Type 0} (core : ServeCore A) (server : meant.Server)
       (record { serves = one_taken new number same rows; list = ap (map reply_meant) told; closing = stays })
 
   -- there is none
-  pub not_there : (new : ServeCore A) (number : ℕ) (replies : Replies) → IsBeside hash core new → rows_of new.sessions ≡ remove number (rows_of core.sessions)
+  pub not_there : (new : ServeCore A G) (number : ℕ) (replies : Replies) → IsBeside hash core new → rows_of new.sessions ≡ remove number (rows_of core.sessions)
       → find number (rows_of core.sessions) ≡ None → IsRefusal number (Refused NoSession) replies
       → HandlesAs hash new replies (meant.bye_step (find number server.sessions) server number)
   not_there new number replies same rows none told =
@@ -115,7 +115,7 @@ module _ (hash : Hash) {A : Type 0} (core : ServeCore A) (server : meant.Server)
     pub still_in_order : Ascend 0 server.sessions → Ascend 0 (rows_in entries)
     still_in_order up = rows_ascend Left 0 (rows_in entries) (turned n).sessions are (rounds_in_order hash P ending 0 n server.sessions server.shared up)
 
-    pub gone_on : (new : ServeCore A) (replies : Replies) → new.shared ≡ shared → new.code ≡ core.code → new.slice ≡ core.slice → new.heard ≡ core.heard
+    pub gone_on : (new : ServeCore A G) (replies : Replies) → new.shared ≡ shared → new.code ≡ core.code → new.slice ≡ core.slice → new.heard ≡ core.heard
         → rows_of new.sessions ≡ rows_in entries → before ≡ [] → replies.list.items ≡ behind → replies.closing ≡ false
         → HandlesAs hash new replies (meant.go_step server (turned n))
     gone_on new replies same code slice heard rows none told stays =

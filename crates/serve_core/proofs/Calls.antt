@@ -88,7 +88,7 @@ module _ (hash : Hash) (code : Code) (slice : ℕ) {A : Type 0} (nodes : List No
   -- a session in which a call has begun to run
   pub begins : (versions : List Value) (old : Session A) (new : SessionCall A) (s : meant.Session) (call : RoleCall) → IsSession hash code slice nodes versions old s
       → IsRunning hash code nodes new.run (role_in (program_of code) call.role).function (call_of (meant.version_at versions s.version) call.argument) new.call.fuel 0
-      → new.run.told ≡ None → IsCommit new.call call
+      → new.run.last ≡ Ok None → IsCommit new.call call
       → IsSession hash code slice nodes versions (record { version = old.version; ring = old.ring; running = Some new }) (meant.with_run s call 0)
   begins versions old new s call h runs waits is =
       let f = (role_in (program_of code) call.role).function in

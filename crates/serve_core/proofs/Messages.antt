@@ -27,7 +27,7 @@ each (r ∷ rs) h = (h.0, each rs h.1)
 -- those to what is heard after all that was heard before, from the start on
 pub replies_sent : (hash : Hash) → IsHash hash → (P : Program) → IsFormat P.format → IsTyped P → is_shaped P ≡ true → (own : List ℕ) (ending : ℕ → ℕ) (first : Value)
     → IsIdeal P.types P.state first → Fits P P.state first → AuthWithin P.format.limit P.types P.state first
-    → (before : List meant.Heard) → AllByRecursion IsHeard before → (heard : Heard) → IsHeard (heard_meant heard) → {A : Type 0} (core : ServeCore A) (replies : Replies)
+    → (before : List meant.Heard) → AllByRecursion IsHeard before → (heard : Heard) → IsHeard (heard_meant heard) → {A G : Type 0} (core : ServeCore A G) (replies : Replies)
     → HandlesAs hash core replies (meant.handle hash P own ending (meant.server_after hash P own ending (meant.new_server first) before) (heard_meant heard))
     → AreMessages replies.list.items
 replies_sent hash is_hash P format typed shaped own ending first ideal fits within before were heard is core replies h =

@@ -118,19 +118,19 @@ module _ {A E : Type 0} where
   err_then X Y f (Ok a) h = tt
   err_then X Y f (Err e) h = f h
 
-module _ (hash : Hash) {A : Type 0} where
-  abbrev pub Rows : ServeCore A → List Value → List (Numbered (Session A)) → List (Numbered meant.Session) → Type 0
+module _ (hash : Hash) {A G : Type 0} where
+  abbrev pub Rows : ServeCore A G → List Value → List (Numbered (Session A)) → List (Numbered meant.Session) → Type 0
   Rows core versions xs ys = AreRows (IsSession hash core.code core.slice (nodes_in core.shared.store) versions) xs ys
 
   -- the same but for the sessions
-  pub record IsBeside (core new : ServeCore A) : Type 0 where
+  pub record IsBeside (core new : ServeCore A G) : Type 0 where
     pub shared : new.shared ≡ core.shared
     pub code : new.code ≡ core.code
     pub slice : new.slice ≡ core.slice
     pub heard : new.heard ≡ core.heard
 
   -- the core with other sessions
-  pub with_sessions : (core new : ServeCore A) (server : meant.Server) (ss : List (Numbered meant.Session)) → IsBeside core new → Serves hash core server
+  pub with_sessions : (core new : ServeCore A G) (server : meant.Server) (ss : List (Numbered meant.Session)) → IsBeside core new → Serves hash core server
       → Rows core server.shared.versions (rows_of new.sessions) ss → Serves hash new (record server { sessions = ss })
   with_sessions core new server ss same h rows = record {
     shares =
@@ -144,7 +144,7 @@ module _ (hash : Hash) {A : Type 0} where
   }
 
   -- the core with so many messages more
-  pub with_heard : (core new : ServeCore A) (server : meant.Server) (n : ℕ) → new.shared ≡ core.shared → new.code ≡ core.code → new.slice ≡ core.slice
+  pub with_heard : (core new : ServeCore A G) (server : meant.Server) (n : ℕ) → new.shared ≡ core.shared → new.code ≡ core.code → new.slice ≡ core.slice
       → new.sessions ≡ core.sessions → new.heard ≡ n → Serves hash core server → Serves hash new (record server { heard = n })
   with_heard core new server n shared code slice sessions heard h =
       let rows = subst (λ t. Rows core server.shared.versions (rows_of t) server.sessions) (sym sessions) h.sessions in
@@ -159,7 +159,7 @@ module _ (hash : Hash) {A : Type 0} where
       }
 
   -- the core without sessions, before its next connection
-  pub without_sessions : (new : ServeCore A) (m : meant.Shared) → Shares hash (program_of new.code) new.shared m → rows_of new.sessions ≡ [] → new.heard ≡ 0
+  pub without_sessions : (new : ServeCore A G) (m : meant.Shared) → Shares hash (program_of new.code) new.shared m → rows_of new.sessions ≡ [] → new.heard ≡ 0
       → Serves hash new (record { shared = m; heard = 0; sessions = [] })
   without_sessions new m shares none heard = record {
     shares = shares;
@@ -168,7 +168,7 @@ module _ (hash : Hash) {A : Type 0} where
   }
 
   -- a request is refused, and nothing changes
-  pub refused_step : (core new : ServeCore A) (server : meant.Server) (number : ℕ) (replies : Replies) (refusal : Refusal) → IsBeside core new → rows_of new.sessions ≡ rows_of core.sessions
+  pub refused_step : (core new : ServeCore A G) (server : meant.Server) (number : ℕ) (replies : Replies) (refusal : Refusal) → IsBeside core new → rows_of new.sessions ≡ rows_of core.sessions
       → Serves hash core server → IsRefusal number (Refused refusal) replies → HandlesAs hash new replies (meant.refusal_step server number (refusal_meant refusal))
   refused_step core new server number replies refusal same rows h told = record {
     serves = with_sessions core new server server.sessions same h (subst (λ xs. Rows core server.shared.versions xs server.sessions) (sym rows) h.sessions);
@@ -177,7 +177,7 @@ module _ (hash : Hash) {A : Type 0} where
   }
 
   -- where a test denies it
-  pub denied : (core new : ServeCore A) (server : meant.Server) (number : ℕ) (replies : Replies) (denial : Denial) {B : Type 0}
+  pub denied : (core new : ServeCore A G) (server : meant.Server) (number : ℕ) (replies : Replies) (denial : Denial) {B : Type 0}
       (step : Result B cause.Refusal → meant.Step) (tested : Result B cause.Refusal) → IsBeside core new → rows_of new.sessions ≡ rows_of core.sessions → ((refusal : cause.Refusal) → step (Err refusal) ≡ meant.refusal_step server number refusal)
       → Serves hash core server → IsDenied denial tested → IsRefusal number denial replies → HandlesAs hash new replies (step tested)
   denied core new server number replies (Refused refusal) step tested same rows is h denies told =

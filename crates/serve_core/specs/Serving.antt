@@ -22,13 +22,13 @@ heard_meant heard.End = meant.HearsEnd
 
 -- The core is this server: its versions and commits, the number of messages that were heard, and its sessions by number, each over
 -- what is shared.
-pub record Serves (hash : Hash) {A : Type 0} (core : ServeCore A) (server : meant.Server) : Type 0 where
+pub record Serves (hash : Hash) {A G : Type 0} (core : ServeCore A G) (server : meant.Server) : Type 0 where
   pub shares : Shares hash (program_of core.code) core.shared server.shared
   pub heard : core.heard ≡ server.heard
   pub sessions : AreRows (IsSession hash core.code core.slice (nodes_in core.shared.store) server.shared.versions) (rows_of core.sessions) server.sessions
 
 -- A step of the machine: the core is the server behind it, and answers its replies.
-pub record HandlesAs (hash : Hash) {A : Type 0} (core : ServeCore A) (replies : Replies) (step : meant.Step) : Type 0 where
+pub record HandlesAs (hash : Hash) {A G : Type 0} (core : ServeCore A G) (replies : Replies) (step : meant.Step) : Type 0 where
   pub serves : Serves hash core step.server
   pub list : map reply_meant replies.list.items ≡ step.replies
   pub closing : replies.closing ≡ step.closing

@@ -17,20 +17,25 @@ use crate::server::ServeCore;
 use core_terms::{Digest, Hash32, Piece, RoleId};
 use reuse_buffer::Ring;
 use session_tables::Table;
-use session_turns::{Commit, Denial, Granted, Refusal, Room, Running, Session, SessionCall};
+use session_turns::{Commit, Denial, Gate, Granted, Refusal, Room, Running, Session, SessionCall};
 use std::alloc::{AllocError, Global};
 use std::mem;
+use std::thread::Threads;
 use wire_form::{Reply, Request};
 
 /// The number of the cause in a message: the session was asked to end.
 const LEFT: u8 = 0;
 
-impl<H: Hash32> ServeCore<H> {
+impl<H: Hash32, G: Gate + Drop> ServeCore<H, G> {
     ghost use Rattle.serve_core.specs.Requests.{IsAdmitted};
     ghost use Rattle.serve_core.specs.Serving.{HandlesAs, Serves};
 
     /// A request that counts.
-    pub(crate) fn request(&mut self, request: Request) -> Result<Replies, AllocError>
+    pub(crate) fn request<R: Threads + Sync>(
+        &mut self,
+        rt: &R,
+        request: Request,
+    ) -> Result<Replies, AllocError>
         requires serves { (server : meant.Server) × Serves H.hash self.old server }
         ensures answered { let P = program_of self.old.code in let own = (program_in self.old.code).text_digest.0 in
             IfOk result (λ replies. (server : meant.Server) → Serves H.hash self.old server
@@ -54,7 +59,7 @@ impl<H: Hash32> ServeCore<H> {
                 fuel,
                 argument,
             } => self.call(session, role, fuel, argument),
-            Request::Go { rounds } => self.go(rounds),
+            Request::Go { rounds } => self.go(rt, rounds),
             Request::Bye { session } => self.bye(session),
         }
     }
@@ -177,7 +182,7 @@ impl<H: Hash32> ServeCore<H> {
     }
 
     /// So many rounds of turns.
-    fn go(&mut self, rounds: u32) -> Result<Replies, AllocError>
+    fn go<R: Threads + Sync>(&mut self, rt: &R, rounds: u32) -> Result<Replies, AllocError>
         requires serves { (server : meant.Server) × Serves H.hash self.old server }
         ensures answered { let P = program_of self.old.code in IfOk result (λ replies. (server : meant.Server) → Serves H.hash self.old server
             → HandlesAs H.hash self.new replies (meant.go_step server (meant.rounds H.hash P (meant.last_turn self.old.slice) rounds server.sessions server.shared))) }
@@ -189,8 +194,8 @@ impl<H: Hash32> ServeCore<H> {
     {
         let entries = mem::replace(&mut self.sessions, Table::new(self.alloc)).into_entries();
         let mut list = Vec::new(self.alloc);
-        let left = self.shared.rounds::<H>(
-            self.alloc, &self.code, entries, rounds, self.slice, &mut list,
+        let left = self.shared.rounds::<H, G, R>(
+            rt, self.alloc, &self.code, entries, rounds, self.slice, &self.gate, &mut list,
         )?;
         self.sessions = Table::from_entries(left);
         Ok(Replies {

@@ -15,8 +15,9 @@ use crate::heard::{Heard, Replies};
 use code_gen::Code;
 use core_terms::Hash32;
 use session_tables::Table;
-use session_turns::{Commit, Refusal, Session, Shared};
+use session_turns::{Commit, Gate, Refusal, Session, Shared};
 use std::alloc::{AllocError, Global};
+use std::thread::Threads;
 use value_store::{Ref, Store};
 use wire_form::Reply;
 
@@ -28,7 +29,7 @@ const MANY_MESSAGES: u8 = 1;
 
 /// The server of a program: versions of its state with the commits that made them, and the sessions of a connection.
 #[derive(Drop)]
-pub struct ServeCore<H> {
+pub struct ServeCore<H, G> {
     pub(crate) alloc: Global,
     pub(crate) code: Code,
     /// The greatest number of calls of functions in a turn.
@@ -37,13 +38,16 @@ pub struct ServeCore<H> {
     /// The number of messages on this connection.
     pub(crate) heard: u32,
     pub(crate) sessions: Table<Session<H>>,
+    /// What each turn passes first.
+    pub(crate) gate: G,
     ghost some: { 0 < slice },
 }
 
-impl<H: Hash32> ServeCore<H> {
+impl<H: Hash32, G: Gate + Drop> ServeCore<H, G> {
     ghost use Rattle.serve_core.specs.Serving.{HandlesAs, Serves, heard_meant};
 
-    /// A server whose first version is this node, before its first connection. A turn makes at most `slice` calls of functions, 1 at least.
+    /// A server whose first version is this node, before its first connection. A turn makes at most `slice` calls of functions, 1 at least,
+    /// and passes the gate first.
     ///
     /// # Errors
     ///
@@ -54,6 +58,7 @@ impl<H: Hash32> ServeCore<H> {
         store: Store,
         root: Ref,
         slice: u64,
+        gate: G,
     ) -> Result<Self, AllocError>
         requires { 0 < slice }
         ensures serves { let P = program_of code in IfOk result (λ core. (v : Value) → IsVersion H.hash P (nodes_in store) root v → Serves H.hash core (meant.new_server v)) }
@@ -67,16 +72,17 @@ impl<H: Hash32> ServeCore<H> {
             shared: Shared::new(alloc, store, root)?,
             heard: 0,
             sessions: Table::new(alloc),
+            gate,
         })
     }
 
-    /// Hears a message, and answers it.
+    /// Hears a message, and answers it. The turns of a round run at once on threads; the answer is that of one thread.
     ///
     /// # Errors
     ///
     /// `AllocError` where memory is wanting: all sessions are ended, and the versions and the commits are those after some of the turns of
     /// this message, in order.
-    pub fn handle(&mut self, heard: Heard) -> Result<Replies, AllocError>
+    pub fn handle<R: Threads + Sync>(&mut self, rt: &R, heard: Heard) -> Result<Replies, AllocError>
         requires serves { (server : meant.Server) × Serves H.hash self.old server }
         ensures handled { let P = program_of self.old.code in let own = (program_in self.old.code).text_digest.0 in
             IfOk result (λ replies. (server : meant.Server) → Serves H.hash self.old server
@@ -86,7 +92,7 @@ impl<H: Hash32> ServeCore<H> {
         ensures code { self.new.code ≡ self.old.code }
         ensures slice { self.new.slice ≡ self.old.slice }
     {
-        let answer = self.answer(heard);
+        let answer = self.answer(rt, heard);
         if answer.is_err() {
             self.end_sessions();
         }
@@ -94,7 +100,7 @@ impl<H: Hash32> ServeCore<H> {
     }
 
     /// The answer to a message. Where memory is wanting, what is shared is as behind some of the turns of this message.
-    fn answer(&mut self, heard: Heard) -> Result<Replies, AllocError>
+    fn answer<R: Threads + Sync>(&mut self, rt: &R, heard: Heard) -> Result<Replies, AllocError>
         requires serves { (server : meant.Server) × Serves H.hash self.old server }
         ensures handled { let P = program_of self.old.code in let own = (program_in self.old.code).text_digest.0 in
             IfOk result (λ replies. (server : meant.Server) → Serves H.hash self.old server
@@ -113,7 +119,7 @@ impl<H: Hash32> ServeCore<H> {
                     });
                 }
                 self.heard += 1;
-                self.request(request)
+                self.request(rt, request)
             }
             Heard::Bad => {
                 if self.heard >= MAX_MESSAGES {

@@ -20,7 +20,7 @@ pub append_nothing : (w : Option (List ℕ)) → append_known w [] ≡ w
 append_nothing None = refl
 append_nothing (Some xs) = ap Some (append-nil xs)
 
-module _ (hash : Hash) {A : Type 0} (old new : ServeCore A) (server : Server) (sent sent' : Option (List ℕ)) where
+module _ (hash : Hash) {A G : Type 0} (old new : ServeCore A G) (server : Server) (sent sent' : Option (List ℕ)) where
   -- a message was read and answered
   message_served : (bytes : List ℕ) (left' : Option (List ℕ)) (m : meant.Heard) (closing : Bool) → ComesNext bytes left' m
       → Answers hash old new server sent sent' m (Ok closing) → ServesMessage hash old new server sent sent' bytes left' (Ok (asks m && not closing))
@@ -86,7 +86,7 @@ module _ (hash : Hash) {A : Type 0} (old new : ServeCore A) (server : Server) (s
       }
 
 -- The link told the same before the answer, and the message was read of it: the message was served, or the connection broke off.
-module _ (hash : Hash) {A : Type 0} (old new : ServeCore A) (server : Server) (sent0 sent1 sent2 : Option (List ℕ)) (bytes : List ℕ) (left1 left2 : Option (List ℕ)) (m : meant.Heard) where
+module _ (hash : Hash) {A G : Type 0} (old new : ServeCore A G) (server : Server) (sent0 sent1 sent2 : Option (List ℕ)) (bytes : List ℕ) (left1 left2 : Option (List ℕ)) (m : meant.Heard) where
   pub served_on : (closing b on : Bool) → on ≡ b && not closing → sent1 ≡ sent0 → left2 ≡ left1 → ComesNext bytes left1 m → asks m ≡ b
       → Answers hash old new server sent1 sent2 m (Ok closing) → ServesMessage hash old new server sent0 sent2 bytes left2 (Ok on)
   served_on closing b on test same left next is answers =
@@ -103,7 +103,7 @@ module _ (hash : Hash) {A : Type 0} (old new : ServeCore A) (server : Server) (s
       message_broken hash old new server sent0 sent2 bytes left2 m stop result handed (subst OfLeft (sym left) next) (subst OfSent same answers)
 
 -- nothing was read
-pub unread : (hash : Hash) {A : Type 0} (core : ServeCore A) (server : Server) (sent sent' : Option (List ℕ)) (bytes : List ℕ) (left' : Option (List ℕ)) (stop : Halt)
+pub unread : (hash : Hash) {A G : Type 0} (core : ServeCore A G) (server : Server) (sent sent' : Option (List ℕ)) (bytes : List ℕ) (left' : Option (List ℕ)) (stop : Halt)
     (result : Result Bool Halt) → IsErrAnd result (λ e. e ≡ stop) → sent' ≡ sent → Serves hash core server → ServesMessage hash core core server sent sent' bytes left' result
 unread hash core server sent sent' bytes left' stop (Ok on) handed same serves = absurd handed
 unread hash core server sent sent' bytes left' stop (Err halt.LinkFault) handed same serves = record {
@@ -122,7 +122,7 @@ unread hash core server sent sent' bytes left' stop (Err halt.NoMemory) handed s
 }
 
 -- What is left of the core is a server with a history, unless memory was wanting.
-module _ (hash : Hash) {A : Type 0} (old new : ServeCore A) (same : HasSameCode old new) (h : HasServed hash old) (sent sent' : Option (List ℕ)) (m : meant.Heard) (is : IsHeard m) where
+module _ (hash : Hash) {A G : Type 0} (old new : ServeCore A G) (same : HasSameCode old new) (h : HasServed hash old) (sent sent' : Option (List ℕ)) (m : meant.Heard) (is : IsHeard m) where
   pub stays_open : (closing : Bool) → Answers hash old new h.server sent sent' m (Ok closing) → HasServed hash new
   stays_open closing answers = served_more hash old new same h.server m h.history is answers.2
 

@@ -49,7 +49,7 @@ from_nothing first (Some bytes) more all none is =
     let e : Some all ≡ Some more = is ∙ ap (λ w. append_known w more) none in cc
 from_nothing first None more all none is = absurd (let clash : Some all ≡ None = is ∙ ap (λ w. append_known w more) none in cc)
 
-module _ (hash : Hash) {A : Type 0} (old new : ServeCore A) (server : Server) (port : ℕ) where
+module _ (hash : Hash) {A G : Type 0} (old new : ServeCore A G) (server : Server) (port : ℕ) where
   -- A link was made and served.
   pub one_served : (links ended1 ended2 : Option (List Linked)) (port1 port2 : Option ℕ) (given0 sent0 given1 left1 sent1 given2 left2 sent2 : Option (List ℕ))
       (end : ConnectionEnd) (after : List Linked) → IsMade port links ended1 port1 given0 sent0 given1 sent1 → ended2 ≡ ended1 → port2 ≡ port1
@@ -107,7 +107,7 @@ ports_more : (port : ℕ) (links : List Linked) (link : Linked) → AllByRecursi
 ports_more port [] link all at = (at, tt)
 ports_more port (first ∷ links) link all at = (all.0, ports_more port links link all.1 at)
 
-module _ (hash : Hash) {A : Type 0} (old now new : ServeCore A) (same : HasSameCode old now) (server : Server) (port : ℕ) where
+module _ (hash : Hash) {A G : Type 0} (old now new : ServeCore A G) (same : HasSameCode old now) (server : Server) (port : ℕ) where
   abbrev IsServedBy : Code → ℕ → Server → Linked → ConnectionEnd → Server → Type 0
   IsServedBy code slice = IsServedOn hash (program_of code) (program_in code).text_digest.0 (last_turn slice)
 
@@ -182,7 +182,7 @@ module _ (hash : Hash) {A : Type 0} (old now new : ServeCore A) (same : HasSameC
       }
 
 -- what the next link's result says, where it is known
-pub next_at : (hash : Hash) {A : Type 0} (old new : ServeCore A) (server : Server) (port : ℕ) (links links' : Option (List Linked)) (r known : Result Bool Halt) → r ≡ known
+pub next_at : (hash : Hash) {A G : Type 0} (old new : ServeCore A G) (server : Server) (port : ℕ) (links links' : Option (List Linked)) (r known : Result Bool Halt) → r ≡ known
     → ServesNext hash old new server port links links' r → ServesNext hash old new server port links links' known
 next_at hash old new server port links links' r known is serves =
     let Of : Result Bool Halt → Type 0 = λ r. ServesNext hash old new server port links links' r in subst Of is serves
@@ -191,11 +191,11 @@ pub rose_at : (before now : ℕ) (stop : Halt) → stop ≡ halt.LinkFault → H
 rose_at before now stop is cause = let Of : Halt → Type 0 = λ stop. HaltCause {T = Bool} before now (Err stop) in subst Of is cause
 
 -- No link was accepted: those so far are all.
-pub no_more : (hash : Hash) {A : Type 0} (old now new : ServeCore A) (server : Server) (port : ℕ) (links : Option (List Linked)) (after : List Linked) (faulted : Bool)
+pub no_more : (hash : Hash) {A G : Type 0} (old now new : ServeCore A G) (server : Server) (port : ℕ) (links : Option (List Linked)) (after : List Linked) (faulted : Bool)
     (count connections accepts before accepts' : ℕ) → new ≡ now → count < connections → before ≡ accepts → Rose before accepts'
     → AreMoreServed hash old now server port links after faulted count → AreCounted hash old new server port links after connections true accepts accepts'
-no_more hash {A = A} old now new server port links after faulted count connections accepts before accepts' kept fewer same rose so_far =
-    let OfCore : ServeCore A → Type 0 = λ core. AreMoreServed hash old core server port links after faulted count in
+no_more hash {A = A} {G = G} old now new server port links after faulted count connections accepts before accepts' kept fewer same rose so_far =
+    let OfCore : ServeCore A G → Type 0 = λ core. AreMoreServed hash old core server port links after faulted count in
     let From : ℕ → Type 0 = λ n. Rose n accepts' in
     record { faulted = faulted; count = count; served = subst OfCore (sym kept) so_far; number = inr (fewer, refl, subst From same rose) }
 

@@ -79,9 +79,9 @@ replies_fit hash is_hash code own ending server m h is =
     subst Fit (sym h.is)
     (replies_are_messages hash is_hash (program_of code) (is_format p) (is_typed p) p.shaped own ending h.first h.ideal h.fits h.deep h.before h.messages m is)
 
-module _ (hash : Hash) {A : Type 0} where
+module _ (hash : Hash) {A G : Type 0} where
   -- a core of the same code serves a server with a history
-  pub has_served : (old new : ServeCore A) → HasSameCode old new → (server : Server)
+  pub has_served : (old new : ServeCore A G) → HasSameCode old new → (server : Server)
       → HasHistory hash (program_served old) (own_digest old) (turns_of old) server → Serves hash new server → HasServed hash new
   has_served old new same server h serves =
       let OfCode : Code → Type 0 = λ code. HasHistory hash (program_of code) (program_in code).text_digest.0 (last_turn old.slice) server in
@@ -89,7 +89,7 @@ module _ (hash : Hash) {A : Type 0} where
       record { server = server; history = subst OfSlice (sym same.slice) (subst OfCode (sym same.code) h); serves = serves }
 
   -- it does so behind a message that it heard
-  pub served_more : (old new : ServeCore A) → HasSameCode old new → (server : Server) (m : Heard)
+  pub served_more : (old new : ServeCore A G) → HasSameCode old new → (server : Server) (m : Heard)
       → HasHistory hash (program_served old) (own_digest old) (turns_of old) server → IsHeard m → Serves hash new (step_of hash old server m).server → HasServed hash new
   served_more old new same server m h is serves =
       has_served old new same (step_of hash old server m).server (history_more hash (program_served old) (own_digest old) (turns_of old) server m h is) serves

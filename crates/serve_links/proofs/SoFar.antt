@@ -35,10 +35,10 @@ module _ (hash : Hash) where
   abbrev IsServedBy : Code → ℕ → Server → (bytes sent : List ℕ) → ConnectionEnd → (behind : Server) → Type 0
   IsServedBy code slice = IsServed hash (program_of code) (program_in code).text_digest.0 (last_turn slice)
 
-module _ (hash : Hash) {A : Type 0} where
+module _ (hash : Hash) {A G : Type 0} where
   -- A core served this server as the bytes began to come, and serves one now that goes on with those that are left: whatever that
   -- one sends then was sent on the whole connection, behind what was sent by now.
-  pub record IsSoFar (old now : ServeCore A) (server : Server) (sent sent' : Option (List ℕ)) (bytes : List ℕ) (left' : Option (List ℕ)) : Type 0 where
+  pub record IsSoFar (old now : ServeCore A G) (server : Server) (sent sent' : Option (List ℕ)) (bytes : List ℕ) (left' : Option (List ℕ)) : Type 0 where
     pub out : List ℕ
     pub rest : List ℕ
     pub current : Server
@@ -49,25 +49,25 @@ module _ (hash : Hash) {A : Type 0} where
         → IsServedBy hash old.code old.slice server bytes (out ++ more) end last
 
   -- what a message's result says, where it is known
-  pub served_at : (old new : ServeCore A) (server : Server) (sent sent' : Option (List ℕ)) (bytes : List ℕ) (left' : Option (List ℕ)) (r known : Result Bool Halt) → r ≡ known
+  pub served_at : (old new : ServeCore A G) (server : Server) (sent sent' : Option (List ℕ)) (bytes : List ℕ) (left' : Option (List ℕ)) (r known : Result Bool Halt) → r ≡ known
       → ServesMessage hash old new server sent sent' bytes left' r → ServesMessage hash old new server sent sent' bytes left' known
   served_at old new server sent sent' bytes left' r known is served =
       let Of : Result Bool Halt → Type 0 = λ r. ServesMessage hash old new server sent sent' bytes left' r in subst Of is served
 
   -- a core that heard an end at a fault
-  pub stays_at_end : (old new : ServeCore A) → HasSameCode old new → HasServed hash old
+  pub stays_at_end : (old new : ServeCore A G) → HasSameCode old new → HasServed hash old
       → ((server : Server) → Serves hash old server → Serves hash new (step_of hash old server HearsEnd).server) → (end : ConnectionEnd) → StaysServer hash new end
   stays_at_end old new same h ended Over = served_more hash old new same h.server HearsEnd h.history tt (ended h.server h.serves)
   stays_at_end old new same h ended LinkFault = served_more hash old new same h.server HearsEnd h.history tt (ended h.server h.serves)
   stays_at_end old new same h ended NoMemory = ((step_of hash old h.server HearsEnd).server, ended h.server h.serves)
 
-  pub stays_halted_fault : (core : ServeCore A) (stop : Halt) → stop ≡ halt.LinkFault → StaysServing {T = Bool} hash core (Err stop) → HasServed hash core
+  pub stays_halted_fault : (core : ServeCore A G) (stop : Halt) → stop ≡ halt.LinkFault → StaysServing {T = Bool} hash core (Err stop) → HasServed hash core
   stays_halted_fault core stop is stays = let Of : Halt → Type 0 = λ stop. StaysServing {T = Bool} hash core (Err stop) in subst Of is stays
 
-  pub code_more : (old now new : ServeCore A) → HasSameCode old now → HasSameCode now new → HasSameCode old new
+  pub code_more : (old now new : ServeCore A G) → HasSameCode old now → HasSameCode now new → HasSameCode old new
   code_more old now new first more = record { code = more.code ∙ first.code; slice = more.slice ∙ first.slice }
 
-  pub at_first : (core : ServeCore A) (server : Server) (sent : Option (List ℕ)) (bytes : List ℕ) (left : Option (List ℕ)) → left ≡ Some bytes → Serves hash core server
+  pub at_first : (core : ServeCore A G) (server : Server) (sent : Option (List ℕ)) (bytes : List ℕ) (left : Option (List ℕ)) → left ≡ Some bytes → Serves hash core server
       → IsSoFar core core server sent sent bytes left
   at_first core server sent bytes left told serves = record {
     out = [];
@@ -79,7 +79,7 @@ module _ (hash : Hash) {A : Type 0} where
     behind = λ more end last served. served;
   }
 
-  module _ (old now : ServeCore A) (same : HasSameCode old now) where
+  module _ (old now : ServeCore A G) (same : HasSameCode old now) where
     -- what is said of the core now is said of the one at first
     abbrev of_code : (P : Code → ℕ → Type 0) → P now.code now.slice → P old.code old.slice
     of_code P is =
@@ -92,7 +92,7 @@ module _ (hash : Hash) {A : Type 0} where
       sent_behind more sends = sends ∙ ap (λ w. append_known w more) so_far.sends ∙ append_twice sent so_far.out more
 
       -- one message more
-      pub one_more : (new : ServeCore A) (left'' : Option (List ℕ)) → GoesOn hash now new so_far.current sent' sent'' so_far.rest left''
+      pub one_more : (new : ServeCore A G) (left'' : Option (List ℕ)) → GoesOn hash now new so_far.current sent' sent'' so_far.rest left''
           → IsSoFar old new server sent sent'' bytes left''
       one_more new left'' on = record {
         out = so_far.out ++ bytes_of (step_of hash now so_far.current (Hears on.request)).replies;
@@ -120,7 +120,7 @@ module _ (hash : Hash) {A : Type 0} where
               subst OfSlice (sym same.slice) (subst OfCode (sym same.code) is)
 
       -- the connection ends at the next message
-      pub ends_now : (new : ServeCore A) (end : ConnectionEnd) → Ends hash now new so_far.current sent' sent'' so_far.rest end
+      pub ends_now : (new : ServeCore A G) (end : ConnectionEnd) → Ends hash now new so_far.current sent' sent'' so_far.rest end
           → Ends hash old new server sent sent'' bytes end
       ends_now new end ended = record {
         out = so_far.out ++ ended.out;
@@ -131,7 +131,7 @@ module _ (hash : Hash) {A : Type 0} where
       }
 
       -- it broke off, and the server heard the end
-      pub breaks_now : (broken ended : ServeCore A) (end : ConnectionEnd) → IsBroken end → (off : BreaksOff hash now broken so_far.current sent' sent'' so_far.rest)
+      pub breaks_now : (broken ended : ServeCore A G) (end : ConnectionEnd) → IsBroken end → (off : BreaksOff hash now broken so_far.current sent' sent'' so_far.rest)
           → Serves hash ended (left_by_end hash (program_served now) (own_digest now) (turns_of now) so_far.current off.heard)
           → Ends hash old ended server sent sent'' bytes end
       breaks_now broken ended end is off serves = ends_now ended end (record {

@@ -16,7 +16,7 @@ EndCause before now LinkFault = Rose before now
 EndCause before now NoMemory = (now ≡ before) ⊎ Rose before now
 
 -- The core goes on as a server with a history. Where memory was wanting it is a server still.
-abbrev pub StaysServer : Hash → {A : Type 0} → ServeCore A → ConnectionEnd → Type 0
+abbrev pub StaysServer : Hash → {A G : Type 0} → ServeCore A G → ConnectionEnd → Type 0
 StaysServer hash core Over = HasServed hash core
 StaysServer hash core LinkFault = HasServed hash core
 StaysServer hash core NoMemory = (server : Server) × Serves hash core server

@@ -50,7 +50,7 @@ halt_of write.LinkFault = halt.LinkFault
 halt_of write.NoMemory = halt.NoMemory
 
 -- The core goes on as a server with a history, unless memory was wanting: then it is a server still.
-abbrev pub StaysServing : {A T : Type 0} → Hash → ServeCore A → Result T Halt → Type 0
+abbrev pub StaysServing : {A G T : Type 0} → Hash → ServeCore A G → Result T Halt → Type 0
 StaysServing hash core (Ok done) = HasServed hash core
 StaysServing hash core (Err halt.LinkFault) = HasServed hash core
 StaysServing hash core (Err halt.NoMemory) = (server : Server) × Serves hash core server
@@ -62,7 +62,7 @@ CountsMessage before now (Ok false) = ⊤
 CountsMessage before now (Err stopped) = ⊤
 
 -- A core served this server, and what was sent grew.
-module _ (hash : Hash) {A : Type 0} (old new : ServeCore A) (server : Server) (sent sent' : Option (List ℕ)) where
+module _ (hash : Hash) {A G : Type 0} (old new : ServeCore A G) (server : Server) (sent sent' : Option (List ℕ)) where
   -- The message was handled, and a front of the replies to it was sent.
   abbrev pub AnswersPart : meant.Heard → Type 0
   AnswersPart m =

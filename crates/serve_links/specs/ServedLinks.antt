@@ -64,7 +64,7 @@ pub record AreMore (port : ℕ) (links : Option (List Linked)) (after : List Lin
   pub at_port : AllByRecursion (λ (link : Linked). link.port ≡ port) more
 
 -- A core served a server, on a net that listens to a port.
-module _ (hash : Hash) {A : Type 0} (old new : ServeCore A) (server : Server) (port : ℕ) where
+module _ (hash : Hash) {A G : Type 0} (old new : ServeCore A G) (server : Server) (port : ℕ) where
   -- Where the links are told, there is one more, to this port, and it was served.
   pub record IsOneServed (links : Option (List Linked)) (after : List Linked) (end : ConnectionEnd) : Type 0 where
     pub before : List Linked
@@ -122,7 +122,7 @@ module _ (hash : Hash) {A : Type 0} (old new : ServeCore A) (server : Server) (p
   ServesLinks links links' connections accepts accepts' NoMemory = (after : List Linked) → links' ≡ Some after → AreMoreInPart links after connections
 
 -- The core goes on as a server with a history. Where memory was wanting it is a server still.
-abbrev pub StaysOn : Hash → {A : Type 0} → ServeCore A → ServingEnd → Type 0
+abbrev pub StaysOn : Hash → {A G : Type 0} → ServeCore A G → ServingEnd → Type 0
 StaysOn hash core (Served link_fault) = HasServed hash core
 StaysOn hash core NoMemory = (server : Server) × Serves hash core server
 

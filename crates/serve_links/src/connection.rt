@@ -13,7 +13,9 @@ use crate::message::serve_message;
 use core_terms::Hash32;
 use lam_outside::Link;
 use serve_core::{Heard, ServeCore};
+use session_turns::Gate;
 use std::alloc::Global;
+use std::thread::Threads;
 
 /// How a connection ended.
 #[derive(Clone, Copy)]
@@ -32,9 +34,10 @@ pub enum ConnectionEnd {
 /// What is sent is what the server replies to the messages of the bytes that come. At a link fault the server hears an end, so
 /// that its sessions are ended; of the replies to the last message a front may have been sent. Where memory was wanting the core
 /// is still a server, and the same may have been sent.
-pub fn serve_link<H: Hash32, L: Link>(
+pub fn serve_link<H: Hash32, G: Gate + Drop, L: Link, R: Threads + Sync>(
+    rt: &R,
     alloc: Global,
-    core: &mut ServeCore<H>,
+    core: &mut ServeCore<H, G>,
     link: &mut L,
 ) -> ConnectionEnd
     requires { HasServed H.hash core.old }
@@ -47,23 +50,26 @@ pub fn serve_link<H: Hash32, L: Link>(
     ensures cause { EndCause (L.faults link.old) (L.faults link.new) result }
 {
     loop {
-        match serve_message(alloc, core, link) {
+        match serve_message(rt, alloc, core, link) {
             Ok(true) => {}
             Ok(false) => return ConnectionEnd::Over,
-            Err(Halt::LinkFault) => return end_at_fault(core),
+            Err(Halt::LinkFault) => return end_at_fault(rt, core),
             Err(Halt::NoMemory) => return ConnectionEnd::NoMemory,
         }
     }
 }
 
 /// Lets the server hear the end of a connection whose link failed.
-fn end_at_fault<H: Hash32>(core: &mut ServeCore<H>) -> ConnectionEnd
+fn end_at_fault<H: Hash32, G: Gate + Drop, R: Threads + Sync>(
+    rt: &R,
+    core: &mut ServeCore<H, G>,
+) -> ConnectionEnd
     requires { HasServed H.hash core.old }
     ensures broken { IsBroken result }
     ensures ended { (server : Server) → Serves H.hash core.old server → Serves H.hash core.new (step_of H.hash core.old server HearsEnd).server }
     ensures code { HasSameCode core.old core.new }
 {
-    match core.handle(Heard::End) {
+    match core.handle(rt, Heard::End) {
         Ok(_) => ConnectionEnd::LinkFault,
         Err(_) => ConnectionEnd::NoMemory,
     }

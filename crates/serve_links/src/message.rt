@@ -13,7 +13,9 @@ use crate::sending::send_replies;
 use core_terms::Hash32;
 use lam_outside::Link;
 use serve_core::{Heard, ServeCore};
+use session_turns::Gate;
 use std::alloc::Global;
+use std::thread::Threads;
 use wire_form::{ReadStop, read_request};
 
 /// What the server hears next on a link.
@@ -37,9 +39,10 @@ fn next_heard<L: Link>(alloc: Global, link: &mut L) -> Result<Heard, Halt>
 }
 
 /// Lets the core hear a message, and sends the replies to it. Whether the core closes the connection.
-fn answer<H: Hash32, L: Link>(
+fn answer<H: Hash32, G: Gate + Drop, L: Link, R: Threads + Sync>(
+    rt: &R,
     alloc: Global,
-    core: &mut ServeCore<H>,
+    core: &mut ServeCore<H, G>,
     link: &mut L,
     heard: Heard,
 ) -> Result<bool, Halt>
@@ -52,7 +55,7 @@ fn answer<H: Hash32, L: Link>(
     ensures beyond { L.beyond link.new ≡ L.beyond link.old }
     ensures cause { HaltCause (L.faults link.old) (L.faults link.new) result }
 {
-    let replies = core.handle(heard)?;
+    let replies = core.handle(rt, heard)?;
     send_replies(alloc, link, &replies.list)?;
     Ok(replies.closing)
 }
@@ -68,9 +71,10 @@ fn is_request(heard: &Heard) -> bool
 }
 
 /// Serves the next message of a connection. Whether the connection goes on.
-pub fn serve_message<H: Hash32, L: Link>(
+pub fn serve_message<H: Hash32, G: Gate + Drop, L: Link, R: Threads + Sync>(
+    rt: &R,
     alloc: Global,
-    core: &mut ServeCore<H>,
+    core: &mut ServeCore<H, G>,
     link: &mut L,
 ) -> Result<bool, Halt>
     requires { HasServed H.hash core.old }
@@ -85,6 +89,6 @@ pub fn serve_message<H: Hash32, L: Link>(
 {
     let heard = next_heard(alloc, link)?;
     let asks = is_request(&heard);
-    let closing = answer(alloc, core, link, heard)?;
+    let closing = answer(rt, alloc, core, link, heard)?;
     Ok(asks && !closing)
 }

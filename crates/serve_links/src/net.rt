@@ -13,7 +13,9 @@ use crate::halt::Halt;
 use core_terms::Hash32;
 use lam_outside::Net;
 use serve_core::ServeCore;
+use session_turns::Gate;
 use std::alloc::Global;
+use std::thread::Threads;
 
 /// How the serving of a net ended.
 #[derive(Clone, Copy)]
@@ -31,9 +33,10 @@ pub enum ServingEnd {
 ///
 /// A link fault ends its connection, and the next link is accepted; a failed accept ends the serving. Where memory is wanting the
 /// server is one still, but no link is accepted further.
-pub fn serve_links<H: Hash32, N: Net>(
+pub fn serve_links<H: Hash32, G: Gate + Drop, N: Net, R: Threads + Sync>(
+    rt: &R,
     alloc: Global,
-    core: &mut ServeCore<H>,
+    core: &mut ServeCore<H, G>,
     net: &mut N,
     connections: u16,
 ) -> ServingEnd
@@ -53,7 +56,7 @@ pub fn serve_links<H: Hash32, N: Net>(
 {
     let mut link_fault = false;
     for _ in 0..connections {
-        match serve_next(alloc, core, net) {
+        match serve_next(rt, alloc, core, net) {
             Ok(faulted) => {
                 if faulted {
                     link_fault = true;
@@ -69,9 +72,10 @@ pub fn serve_links<H: Hash32, N: Net>(
 /// Accepts the next link, and serves it. Whether it ended in a link fault.
 ///
 /// `LinkFault` where the accept failed: its count of faults rose, and nothing else changed. `NoMemory` where memory was wanting.
-fn serve_next<H: Hash32, N: Net>(
+fn serve_next<H: Hash32, G: Gate + Drop, N: Net, R: Threads + Sync>(
+    rt: &R,
     alloc: Global,
-    core: &mut ServeCore<H>,
+    core: &mut ServeCore<H, G>,
     net: &mut N,
 ) -> Result<bool, Halt>
     requires { HasServed H.hash core.old }
@@ -88,7 +92,7 @@ fn serve_next<H: Hash32, N: Net>(
     ensures cause { LinkCause (N.faults net.old) (N.faults net.new) result }
 {
     net.accept()?;
-    match serve_link(alloc, core, net) {
+    match serve_link(rt, alloc, core, net) {
         ConnectionEnd::Over => Ok(false),
         ConnectionEnd::LinkFault => Ok(true),
         ConnectionEnd::NoMemory => Err(Halt::NoMemory),

@@ -11,8 +11,10 @@ use core_stage::stage::{served, server, server_from};
 use core_terms::{Hash32, Piece};
 use digest_layer::Sha;
 use serve_core::{Heard, ServeCore};
+use session_turns::NoGate;
 use std::alloc::{AllocError, Global};
 use std::test::Fail;
+use std::thread::Threads;
 use wire_form::{Reply, Request};
 
 /// A text, which `opened` opens as often as it is told.
@@ -81,18 +83,23 @@ fn put_pieces(alloc: Global, bytes: &mut Vec<u8>) -> Result<(), AllocError> {
 }
 
 /// Whether this is sent where the text is opened so often, in a turn.
-fn opens(alloc: Global, count: i64, sent: &[u8]) -> Result<bool, AllocError> {
+fn opens<R: Threads + Sync>(
+    rt: &R,
+    alloc: Global,
+    count: i64,
+    sent: &[u8],
+) -> Result<bool, AllocError> {
     let records = text_records(alloc)?;
-    let mut core = server_from(alloc, TEXT, 2, &records, 1_000)?;
+    let mut core = server_from(alloc, TEXT, 2, &records, 1_000, NoGate)?;
     let fed = openings(alloc, count)?;
-    let told = served(alloc, &mut core, &fed, 1_000_000)?;
+    let told = served(rt, alloc, &mut core, &fed, 1_000_000)?;
     Ok(told.bytes.as_slice() == sent && !told.closing)
 }
 
 #[test]
 fn a_proof_of_255_great_pieces_is_sent(rt: HostRuntime) -> Result<(), Fail> {
     let sent = sent_of_255(rt.alloc())?;
-    assert!(rt; opens(rt.alloc(), 255, &sent)?);
+    assert!(rt; opens(&rt, rt.alloc(), 255, &sent)?);
     Ok(())
 }
 
@@ -101,7 +108,7 @@ const SENT_OF_256: &[u8] = b"\0\0\0\x03\x81\0\x01\0\0\0\x04\x84\0\x01\x0d\0\0\0\
 
 #[test]
 fn a_proof_of_256_great_pieces_is_refused(rt: HostRuntime) -> Result<(), Fail> {
-    assert!(rt; opens(rt.alloc(), 256, SENT_OF_256)?);
+    assert!(rt; opens(&rt, rt.alloc(), 256, SENT_OF_256)?);
     Ok(())
 }
 
@@ -123,18 +130,22 @@ fn flips(alloc: Global) -> Result<(Vec<u8>, Vec<u8>), AllocError> {
 }
 
 /// Makes as many versions as there may be; whether what is sent is what is to be.
-fn fill(alloc: Global, core: &mut ServeCore<Sha>) -> Result<bool, AllocError>
+fn fill<R: Threads + Sync>(
+    rt: &R,
+    alloc: Global,
+    core: &mut ServeCore<Sha, NoGate>,
+) -> Result<bool, AllocError>
     requires { (server : meant.Server) × Serves sha256 core.old server }
     ensures { IfOk result (λ _. (server : meant.Server) × Serves sha256 core.new server) }
 {
     let (fed, sent) = flips(alloc)?;
-    let told = served(alloc, core, &fed, 4096)?;
+    let told = served(rt, alloc, core, &fed, 4096)?;
     Ok(told.bytes == sent && core.versions().len() == MOST_VERSIONS)
 }
 
 /// What is fed and sent on connections to a server with 4,096 versions, the last of which is false: an update is refused, behind all
 /// other causes, and a query is answered.
-const FULL: [(&[u8], &[u8]); 6] = [
+static FULL: [(&[u8], &[u8]); 6] = [
     (
         b"[01 0001 P 0000 F] [02 0001 0002 0000000000000001] [02 0001 0001 0000000000000001] G",
         b"[81 0001] [84 0001 09] [82 0001 00 00000001 00 00 00000001 00]",
@@ -160,13 +171,13 @@ const FULL: [(&[u8], &[u8]); 6] = [
 ];
 
 /// The number of the first row that a server with 4,096 versions doesn't meet; that of no row where there are not as many.
-fn unmet_when_full(alloc: Global) -> Result<Option<usize>, AllocError> {
+fn unmet_when_full<R: Threads + Sync>(rt: &R, alloc: Global) -> Result<Option<usize>, AllocError> {
     let mut core = server(alloc, BOOL, 1)?;
-    if !fill(alloc, &mut core)? {
+    if !fill(rt, alloc, &mut core)? {
         return Ok(Some(FULL.len()));
     }
     for (number, (fed, sent)) in FULL.iter().enumerate() {
-        if !answers_all(alloc, &mut core, fed, sent, 7)? {
+        if !answers_all(rt, alloc, &mut core, fed, sent, 7)? {
             return Ok(Some(number));
         }
     }
@@ -175,7 +186,7 @@ fn unmet_when_full(alloc: Global) -> Result<Option<usize>, AllocError> {
 
 #[test]
 fn versions_are_limited(rt: HostRuntime) -> Result<(), Fail> {
-    match unmet_when_full(rt.alloc())? {
+    match unmet_when_full(&rt, rt.alloc())? {
         Some(number) => Err(Fail::new(format_args!("row {number}"))),
         None => Ok(()),
     }
@@ -199,12 +210,20 @@ fn cheap(alloc: Global, number: u32) -> Request {
 }
 
 /// Hears so many messages, none of which ends the connection; whether none does.
-fn goes_on(alloc: Global, core: &mut ServeCore<Sha>, count: u32) -> Result<bool, AllocError>
+fn goes_on<R: Threads + Sync>(
+    rt: &R,
+    alloc: Global,
+    core: &mut ServeCore<Sha, NoGate>,
+    count: u32,
+) -> Result<bool, AllocError>
     requires { (server : meant.Server) × Serves sha256 core.old server }
     ensures { IfOk result (λ _. (server : meant.Server) × Serves sha256 core.new server) }
 {
     for number in 0..count {
-        if core.handle(Heard::Request(cheap(alloc, number)))?.closing {
+        if core
+            .handle(rt, Heard::Request(cheap(alloc, number)))?
+            .closing
+        {
             return Ok(false);
         }
     }
@@ -212,11 +231,15 @@ fn goes_on(alloc: Global, core: &mut ServeCore<Sha>, count: u32) -> Result<bool,
 }
 
 /// Whether a message is one too many: the connection is closed for this alone.
-fn is_too_many(core: &mut ServeCore<Sha>, heard: Heard) -> Result<bool, AllocError>
+fn is_too_many<R: Threads + Sync>(
+    rt: &R,
+    core: &mut ServeCore<Sha, NoGate>,
+    heard: Heard,
+) -> Result<bool, AllocError>
     requires { (server : meant.Server) × Serves sha256 core.old server }
     ensures { IfOk result (λ _. (server : meant.Server) × Serves sha256 core.new server) }
 {
-    let replies = core.handle(heard)?;
+    let replies = core.handle(rt, heard)?;
     let told = matches!(
         replies.list.as_slice(),
         [Reply::Closed {
@@ -229,19 +252,23 @@ fn is_too_many(core: &mut ServeCore<Sha>, heard: Heard) -> Result<bool, AllocErr
 
 /// Whether a message behind a million is one too many, also where it is none; the next is then the first of a connection. An end is
 /// no message.
-fn are_counted(alloc: Global, core: &mut ServeCore<Sha>) -> Result<bool, AllocError>
+fn are_counted<R: Threads + Sync>(
+    rt: &R,
+    alloc: Global,
+    core: &mut ServeCore<Sha, NoGate>,
+) -> Result<bool, AllocError>
     requires { (server : meant.Server) × Serves sha256 core.old server }
     ensures { IfOk result (λ _. (server : meant.Server) × Serves sha256 core.new server) }
 {
-    let first = goes_on(alloc, core, MOST_MESSAGES)?
-        && is_too_many(core, Heard::Request(cheap(alloc, 1)))?;
-    let second = goes_on(alloc, core, MOST_MESSAGES)? && is_too_many(core, Heard::Bad)?;
+    let first = goes_on(rt, alloc, core, MOST_MESSAGES)?
+        && is_too_many(rt, core, Heard::Request(cheap(alloc, 1)))?;
+    let second = goes_on(rt, alloc, core, MOST_MESSAGES)? && is_too_many(rt, core, Heard::Bad)?;
     Ok(first && second)
 }
 
 #[test]
 fn messages_are_limited(rt: HostRuntime) -> Result<(), Fail> {
     let mut core = server(rt.alloc(), UNIT, 1)?;
-    assert!(rt; are_counted(rt.alloc(), &mut core)?);
+    assert!(rt; are_counted(&rt, rt.alloc(), &mut core)?);
     Ok(())
 }

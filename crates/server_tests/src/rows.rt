@@ -10,8 +10,10 @@ use core_stage::stage::{Stage, served, server};
 use core_terms::Digest;
 use digest_layer::Sha;
 use serve_core::ServeCore;
+use session_turns::NoGate;
 use std::alloc::{AllocError, Global};
 use std::test::Fail;
+use std::thread::Threads;
 
 /// The greatest number of calls in a turn, what is fed, what is sent, and how many versions there are behind it.
 ///
@@ -338,7 +340,7 @@ const TWO_PUTS: &[u8] =
     b"[01 0001 P 0000 T] [01 0002 P 0000 T] [02 0001 0001 0000000000000064 0000000000000003 01] [02 0002 0001 0000000000000064 0000000000000000 00]";
 
 /// The greatest number of calls in a turn, the rounds, and what is sent behind the welcomes.
-const PUTS: [(u64, &[u8], &[u8], usize); 17] = [
+static PUTS: [(u64, &[u8], &[u8], usize); 17] = [
     (1, b"G", b"", 1),
     (1, b"GG", b"[82 0002]", 2),
     (1, b"GGGG", b"[82 0002]", 2),
@@ -380,9 +382,10 @@ fn connection(alloc: Global, text: &[u8], program: &Digest) -> Result<(Vec<u8>, 
 }
 
 /// Whether a server sends on a connection what the text says for what the other text says, by so many bytes a call.
-fn answers(
+fn answers<R: Threads + Sync>(
+    rt: &R,
     alloc: Global,
-    core: &mut ServeCore<Sha>,
+    core: &mut ServeCore<Sha, NoGate>,
     fed: &[u8],
     sent: &[u8],
     most: usize,
@@ -394,14 +397,20 @@ fn answers(
     let program = *core.code().program().text_digest();
     let fed = bytes_of(alloc, fed, &program)?;
     let (bytes, closes) = connection(alloc, sent, &program)?;
-    let told = served(alloc, core, &fed, most)?;
+    let told = served(rt, alloc, core, &fed, most)?;
     Ok(told.bytes == bytes && told.closing == closes)
 }
 
+/// What is fed on one connection after another.
+fn connections<'a>(alloc: Global, fed: &'a [u8]) -> Result<Vec<&'a [u8]>, AllocError> {
+    fed.split(|byte| *byte == b'|').collect(alloc)
+}
+
 /// Whether a server sends, on one connection after another, what a row says.
-pub fn answers_all(
+pub fn answers_all<R: Threads + Sync>(
+    rt: &R,
     alloc: Global,
-    core: &mut ServeCore<Sha>,
+    core: &mut ServeCore<Sha, NoGate>,
     fed: &[u8],
     sent: &[u8],
     most: usize,
@@ -411,12 +420,12 @@ pub fn answers_all(
     ensures { IfOk result (λ _. (server : meant.Server) × Serves sha256 core.new server) }
 {
     let mut rest = sent;
-    for on_one in fed.split(|byte| *byte == b'|') {
+    for on_one in connections(alloc, fed)? {
         let (first, others) = match rest.iter().position(|byte| *byte == b'|') {
             Some(at) => (&rest[..at], &rest[at + 1..]),
             None => (rest, &rest[rest.len()..]),
         };
-        if !answers(alloc, core, on_one, first.trim_ascii(), most)? {
+        if !answers(rt, alloc, core, on_one, first.trim_ascii(), most)? {
             return Ok(false);
         }
         rest = others;
@@ -425,21 +434,33 @@ pub fn answers_all(
 }
 
 /// Whether a server answers as a row says, and has as many versions then, and one commit for each but the first.
-fn is_met(alloc: Global, of: Stage, row: &Row, most: usize) -> Result<bool, AllocError>
+fn is_met<R: Threads + Sync>(
+    rt: &R,
+    alloc: Global,
+    of: Stage,
+    row: &Row,
+    most: usize,
+) -> Result<bool, AllocError>
     requires { 0 < most }
 {
     let mut core = server(alloc, of, row.0.max(1))?;
-    let met = answers_all(alloc, &mut core, row.1, row.2, most)?;
+    let met = answers_all(rt, alloc, &mut core, row.1, row.2, most)?;
     let versions = core.versions().len();
     Ok(met && versions == row.3 && core.commits().len() == versions.saturating_sub(1))
 }
 
 /// The number of the first row of a table that isn't met, by so many bytes a call.
-fn unmet(alloc: Global, of: Stage, rows: &[Row], most: usize) -> Result<Option<usize>, AllocError>
+fn unmet<R: Threads + Sync>(
+    rt: &R,
+    alloc: Global,
+    of: Stage,
+    rows: &[Row],
+    most: usize,
+) -> Result<Option<usize>, AllocError>
     requires { 0 < most }
 {
     for (number, row) in rows.iter().enumerate() {
-        if !is_met(alloc, of, row, most)? {
+        if !is_met(rt, alloc, of, row, most)? {
             return Ok(Some(number));
         }
     }
@@ -456,7 +477,7 @@ fn rows_are_met(rt: HostRuntime) -> Result<(), Fail> {
     ];
     for (table, (of, rows)) in tables.iter().enumerate() {
         for most in [1, 7, 4096] {
-            if let Some(number) = unmet(rt.alloc(), *of, rows, most)? {
+            if let Some(number) = unmet(&rt, rt.alloc(), *of, rows, most)? {
                 return Err(Fail::new(format_args!("table {table}, row {number}, by {most}")));
             }
         }
@@ -465,21 +486,25 @@ fn rows_are_met(rt: HostRuntime) -> Result<(), Fail> {
 }
 
 /// Whether two puts are answered as a row says.
-fn puts_are_met(alloc: Global, row: (u64, &[u8], &[u8], usize)) -> Result<bool, AllocError> {
+fn puts_are_met<R: Threads + Sync>(
+    rt: &R,
+    alloc: Global,
+    row: (u64, &[u8], &[u8], usize),
+) -> Result<bool, AllocError> {
     let (slice, rounds, replies, versions) = row;
     let mut core = server(alloc, SPIN, slice.max(1))?;
     let mut fed = Vec::from_slice(alloc, TWO_PUTS)?;
     fed.extend_from_slice(rounds)?;
     let mut sent = Vec::from_slice(alloc, b"[81 0001] [81 0002] ")?;
     sent.extend_from_slice(replies)?;
-    let met = answers(alloc, &mut core, &fed, &sent, 4096)?;
+    let met = answers(rt, alloc, &mut core, &fed, &sent, 4096)?;
     Ok(met && core.versions().len() == versions && core.commits().len() + 1 == versions)
 }
 
 #[test]
 fn updates_race_by_turns(rt: HostRuntime) -> Result<(), Fail> {
     for (number, row) in PUTS.iter().enumerate() {
-        if !puts_are_met(rt.alloc(), *row)? {
+        if !puts_are_met(&rt, rt.alloc(), *row)? {
             return Err(Fail::new(format_args!("row {number}")));
         }
     }

@@ -11,6 +11,7 @@ use core_stage::programs::TREE;
 use core_stage::stage::{code_of, served, server};
 use std::alloc::{AllocError, Global};
 use std::test::Fail;
+use std::thread::Threads;
 
 /// What is fed to a server, what the model sends, and how many versions there are then.
 #[derive(Drop)]
@@ -46,9 +47,14 @@ fn taken(alloc: Global, requests: &Requests, model: &Model<'_>) -> Result<Course
 }
 
 /// How many versions there are behind a course, where the core sends what the model sends; else 0.
-fn versions_behind(alloc: Global, course: &Course, slice: u64) -> Result<usize, AllocError> {
+fn versions_behind<R: Threads + Sync>(
+    rt: &R,
+    alloc: Global,
+    course: &Course,
+    slice: u64,
+) -> Result<usize, AllocError> {
     let mut core = server(alloc, TREE, slice.max(1))?;
-    let told = served(alloc, &mut core, &course.fed, 4096)?;
+    let told = served(rt, alloc, &mut core, &course.fed, 4096)?;
     let versions = core.versions().len();
     let same = told.bytes == course.sent
         && !told.closing
@@ -64,26 +70,31 @@ const REQUESTS: u32 = 70_000;
 const VERSIONS: usize = 4_096;
 
 /// Whether the core sends what the model sends, for the requests of a seed, and there are as many versions as there may be.
-fn is_the_model(alloc: Global, seed: u64, slice: u64) -> Result<bool, AllocError> {
+fn is_the_model<R: Threads + Sync>(
+    rt: &R,
+    alloc: Global,
+    seed: u64,
+    slice: u64,
+) -> Result<bool, AllocError> {
     let code = code_of(alloc, TREE.text)?;
     let course = played(alloc, &code, seed, REQUESTS, slice)?;
-    Ok(versions_behind(alloc, &course, slice)? == VERSIONS)
+    Ok(versions_behind(rt, alloc, &course, slice)? == VERSIONS)
 }
 
 #[test]
 fn turns_of_one_call_are_as_in_the_model(rt: HostRuntime) -> Result<(), Fail> {
-    assert!(rt; is_the_model(rt.alloc(), 1, 1)?);
+    assert!(rt; is_the_model(&rt, rt.alloc(), 1, 1)?);
     Ok(())
 }
 
 #[test]
 fn turns_of_seven_calls_are_as_in_the_model(rt: HostRuntime) -> Result<(), Fail> {
-    assert!(rt; is_the_model(rt.alloc(), 2, 7)?);
+    assert!(rt; is_the_model(&rt, rt.alloc(), 2, 7)?);
     Ok(())
 }
 
 #[test]
 fn turns_of_a_million_calls_are_as_in_the_model(rt: HostRuntime) -> Result<(), Fail> {
-    assert!(rt; is_the_model(rt.alloc(), 3, 1_000_000)?);
+    assert!(rt; is_the_model(&rt, rt.alloc(), 3, 1_000_000)?);
     Ok(())
 }

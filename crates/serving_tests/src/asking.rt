@@ -7,6 +7,7 @@ use cli_stage::stage::{STATE, staged};
 use program_texts::{FIRST, SWITCH};
 use std::alloc::{AllocError, Global};
 use std::test::Fail;
+use std::thread::Threads;
 
 /// A script that opens a session, calls once and closes.
 const SCRIPT: &[u8] = b"open 1 0\ncall 1 open 1 ()\ngo\nclose 1\n";
@@ -27,7 +28,8 @@ static NONE: Failing<'static> = Failing {
 };
 
 /// Asks a server that replies so, where so many bytes move at once.
-fn ask(
+fn ask<R: Threads + Sync>(
+    rt: &R,
     alloc: Global,
     script: &[u8],
     replies: &[u8],
@@ -46,6 +48,7 @@ fn ask(
     let stage = staged(FIRST, &STATE, script);
     let words = ["ask", "p", "s", "4711", "q", "o"];
     run_on_net(
+        rt,
         alloc,
         &stage,
         &words,
@@ -65,11 +68,11 @@ const WHOLE: &str = "1 welcome\n1 done ()\n1 closed\n";
 static SIZES: [usize; 5] = [1, 2, 3, 7, 4096];
 
 /// Whether all is told, stored and sent, where so many bytes move at once.
-fn is_whole(alloc: Global, most: usize) -> Result<bool, AllocError>
+fn is_whole<R: Threads + Sync>(rt: &R, alloc: Global, most: usize) -> Result<bool, AllocError>
     requires { 0 < most }
 {
     let replies = answers(alloc, FRAMES)?;
-    let (run, sent) = ask(alloc, SCRIPT, &replies, most, &NONE)?;
+    let (run, sent) = ask(rt, alloc, SCRIPT, &replies, most, &NONE)?;
     let said = conversation(alloc, FIRST, &STATE, 1, u32::MAX)?;
     Ok(run.stores(0, WHOLE, &STATE) && sent.as_slice() == said.as_slice())
 }
@@ -77,7 +80,7 @@ fn is_whole(alloc: Global, most: usize) -> Result<bool, AllocError>
 #[test]
 fn a_script_is_played(rt: HostRuntime) -> Result<(), Fail> {
     for most in &SIZES {
-        if !is_whole(rt.alloc(), (*most).max(1))? {
+        if !is_whole(&rt, rt.alloc(), (*most).max(1))? {
             return Err(Fail::new(format_args!("{most} at once")));
         }
     }
@@ -103,7 +106,7 @@ static ENDED: [(&[u8], &str); 9] = [
 #[test]
 fn other_replies_end_the_play(rt: HostRuntime) -> Result<(), Fail> {
     for (replies, text) in &ENDED {
-        let (run, _) = ask(rt.alloc(), SCRIPT, replies, 3, &NONE)?;
+        let (run, _) = ask(&rt, rt.alloc(), SCRIPT, replies, 3, &NONE)?;
         if !run.stores(5, text, &STATE) {
             return Err(Fail::new(format_args!("{text}")));
         }
@@ -125,12 +128,12 @@ fn is_faulted(run: &Run, call: u64) -> bool {
 }
 
 /// The number of calls of the net: of the first that may fail and nothing is told of it.
-fn first_unfailing(alloc: Global) -> Result<u64, AllocError> {
+fn first_unfailing<R: Threads + Sync>(rt: &R, alloc: Global) -> Result<u64, AllocError> {
     let replies = answers(alloc, FRAMES)?;
     for call in 0..100 {
         let net = [call];
         let failing = Failing { net: &net, ..NONE };
-        let (run, _) = ask(alloc, SCRIPT, &replies, 4096, &failing)?;
+        let (run, _) = ask(rt, alloc, SCRIPT, &replies, 4096, &failing)?;
         if !is_faulted(&run, call) {
             return Ok(if run.tells(0, WHOLE) { call } else { 100 });
         }
@@ -140,7 +143,7 @@ fn first_unfailing(alloc: Global) -> Result<u64, AllocError> {
 
 #[test]
 fn each_call_of_the_net_fails_once(rt: HostRuntime) -> Result<(), Fail> {
-    let calls = first_unfailing(rt.alloc())?;
+    let calls = first_unfailing(&rt, rt.alloc())?;
     if !(10..100).contains(&calls) {
         return Err(Fail::new(format_args!("call {calls}")));
     }
@@ -151,14 +154,18 @@ fn each_call_of_the_net_fails_once(rt: HostRuntime) -> Result<(), Fail> {
 const STORE: u64 = 9;
 
 /// Whether a file that can't be read, or a state that can't be stored, is told as it has to be, where this call of the files fails.
-fn is_told_of_files(alloc: Global, call: u64) -> Result<bool, AllocError> {
+fn is_told_of_files<R: Threads + Sync>(
+    rt: &R,
+    alloc: Global,
+    call: u64,
+) -> Result<bool, AllocError> {
     let replies = answers(alloc, FRAMES)?;
     let files = [call];
     let failing = Failing {
         files: &files,
         ..NONE
     };
-    let (run, _) = ask(alloc, SCRIPT, &replies, 4096, &failing)?;
+    let (run, _) = ask(rt, alloc, SCRIPT, &replies, 4096, &failing)?;
     Ok(if call < STORE {
         run.only_tells(8, "read fault\n")
     } else {
@@ -169,7 +176,7 @@ fn is_told_of_files(alloc: Global, call: u64) -> Result<bool, AllocError> {
 #[test]
 fn each_call_of_the_files_fails_once(rt: HostRuntime) -> Result<(), Fail> {
     for call in 0..=STORE {
-        if !is_told_of_files(rt.alloc(), call)? {
+        if !is_told_of_files(&rt, rt.alloc(), call)? {
             return Err(Fail::new(format_args!("call {call}")));
         }
     }
@@ -189,7 +196,7 @@ fn each_write_fails_once(rt: HostRuntime) -> Result<(), Fail> {
             writes: &writes,
             ..NONE
         };
-        let (run, _) = ask(alloc, SCRIPT, &replies, 4096, &failing)?;
+        let (run, _) = ask(&rt, alloc, SCRIPT, &replies, 4096, &failing)?;
         if !run.stores(9, text, &STATE) {
             return Err(Fail::new(format_args!("{text}")));
         }
@@ -201,10 +208,10 @@ fn each_write_fails_once(rt: HostRuntime) -> Result<(), Fail> {
 #[test]
 fn the_last_state_is_stored(rt: HostRuntime) -> Result<(), Fail> {
     let alloc = rt.alloc();
-    let image = made(alloc, SWITCH, "make", "true")?.file;
-    let first = kept(alloc, SWITCH, &image)?.file;
-    let image = made(alloc, SWITCH, "make", "false")?.file;
-    let last = kept(alloc, SWITCH, &image)?.file;
+    let image = made(&rt, alloc, SWITCH, "make", "true")?.file;
+    let first = kept(&rt, alloc, SWITCH, &image)?.file;
+    let image = made(&rt, alloc, SWITCH, "make", "false")?.file;
+    let last = kept(&rt, alloc, SWITCH, &image)?.file;
     let mut bytes = Vec::new(alloc);
     bytes.push(answers(alloc, &[0, 0, 0, 0, 1, 1])?)?;
     let peers = Peers {
@@ -214,7 +221,7 @@ fn the_last_state_is_stored(rt: HostRuntime) -> Result<(), Fail> {
     };
     let stage = staged(SWITCH, &first, b"open 1 0\ncall 1 flip 1 ()\ngo\nclose 1");
     let words = ["ask", "p", "s", "4711", "q", "o"];
-    let (run, _) = run_on_net(alloc, &stage, &words, &peers, &[], (100, &[]))?;
+    let (run, _) = run_on_net(&rt, alloc, &stage, &words, &peers, &[], (100, &[]))?;
     if run.status == 0 && run.stored == 1 && run.file.as_slice() == last.as_slice() {
         return Ok(());
     }
@@ -244,7 +251,7 @@ fn words_states_and_scripts_are_refused(rt: HostRuntime) -> Result<(), Fail> {
         };
         let words = ["ask", "p", "s", *port, "q", "o"];
         let stage = staged(FIRST, state, script);
-        let (run, _) = run_on_net(alloc, &stage, &words, &peers, &[], (100, &[]))?;
+        let (run, _) = run_on_net(&rt, alloc, &stage, &words, &peers, &[], (100, &[]))?;
         let line = format!(in alloc; "input refused: {text}\n")?;
         if !run.only_tells(7, &line) {
             return Err(Fail::new(format_args!("{text}")));

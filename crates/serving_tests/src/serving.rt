@@ -7,6 +7,7 @@ use cli_stage::stage::staged;
 use program_texts::SWITCH;
 use std::alloc::{AllocError, Global};
 use std::test::Fail;
+use std::thread::Threads;
 
 /// The roles of the program, by their numbers.
 const BOTH: u8 = 1;
@@ -21,16 +22,20 @@ struct Version {
 }
 
 /// The state that is made of a literal.
-fn state_made(alloc: Global, literal: &str) -> Result<Version, AllocError> {
-    let image = made(alloc, SWITCH, "make", literal)?.file;
-    let state = kept(alloc, SWITCH, &image)?.file;
+fn state_made<R: Threads + Sync>(
+    rt: &R,
+    alloc: Global,
+    literal: &str,
+) -> Result<Version, AllocError> {
+    let image = made(rt, alloc, SWITCH, "make", literal)?.file;
+    let state = kept(rt, alloc, SWITCH, &image)?.file;
     Ok(Version { image, state })
 }
 
 /// What comes on the two links of a serving from `true` on: on the first the state is flipped, and on the second the new one is looked at.
-fn peers(alloc: Global) -> Result<Vec<Vec<u8>>, AllocError> {
-    let first = state_made(alloc, "true")?;
-    let second = state_made(alloc, "false")?;
+fn peers<R: Threads + Sync>(rt: &R, alloc: Global) -> Result<Vec<Vec<u8>>, AllocError> {
+    let first = state_made(rt, alloc, "true")?;
+    let second = state_made(rt, alloc, "false")?;
     let mut all = Vec::new(alloc);
     all.push(conversation(alloc, SWITCH, &first.state, FLIP, 1)?)?;
     all.push(conversation(alloc, SWITCH, &second.state, BOTH, 1)?)?;
@@ -38,7 +43,8 @@ fn peers(alloc: Global) -> Result<Vec<Vec<u8>>, AllocError> {
 }
 
 /// Serves two connections from `true` on, where these calls of the net, of the files and of the output fail.
-fn serve(
+fn serve<R: Threads + Sync>(
+    rt: &R,
     alloc: Global,
     most: usize,
     net: &[u64],
@@ -47,17 +53,18 @@ fn serve(
 ) -> Result<(Run, Vec<u8>), AllocError>
     requires { 0 < most }
 {
-    let bytes = peers(alloc)?;
+    let bytes = peers(rt, alloc)?;
     let peers = Peers {
         bytes: &bytes,
         most,
         failing: net,
     };
-    serve_peers(alloc, &peers, files, (100, writes))
+    serve_peers(rt, alloc, &peers, files, (100, writes))
 }
 
 /// The same of these peers.
-fn serve_peers(
+fn serve_peers<R: Threads + Sync>(
+    rt: &R,
     alloc: Global,
     peers: &Peers,
     files: &[u64],
@@ -66,10 +73,10 @@ fn serve_peers(
     requires moved { 0 < peers.now.most }
     requires written { 0 < writes.0 }
 {
-    let image = made(alloc, SWITCH, "make", "true")?.file;
+    let image = made(rt, alloc, SWITCH, "make", "true")?.file;
     let stage = staged(SWITCH, b"", &image);
     let words = ["serve", "p", "q", "4711", "2", "1", "o"];
-    run_on_net(alloc, &stage, &words, peers, files, writes)
+    run_on_net(rt, alloc, &stage, &words, peers, files, writes)
 }
 
 /// All that is told where nothing fails.
@@ -79,19 +86,19 @@ const WHOLE: &str = "listening 4711\nversions 2 commits 1\n";
 static SIZES: [usize; 5] = [1, 2, 3, 7, 4096];
 
 /// Whether all is told, stored and sent, where so many bytes move at once.
-fn is_whole(alloc: Global, most: usize) -> Result<bool, AllocError>
+fn is_whole<R: Threads + Sync>(rt: &R, alloc: Global, most: usize) -> Result<bool, AllocError>
     requires { 0 < most }
 {
-    let last = state_made(alloc, "false")?;
+    let last = state_made(rt, alloc, "false")?;
     let proof = answers(alloc, &[0, 0, 0, 0, 1, 0, 0, 0, 0, 0, 1, 0])?;
-    let (run, sent) = serve(alloc, most, &[], &[], &[])?;
+    let (run, sent) = serve(rt, alloc, most, &[], &[], &[])?;
     Ok(run.stores(0, WHOLE, &last.image) && sent.as_slice() == proof.as_slice())
 }
 
 #[test]
 fn versions_go_on_from_link_to_link(rt: HostRuntime) -> Result<(), Fail> {
     for most in &SIZES {
-        if !is_whole(rt.alloc(), (*most).max(1))? {
+        if !is_whole(&rt, rt.alloc(), (*most).max(1))? {
             return Err(Fail::new(format_args!("{most} at once")));
         }
     }
@@ -111,9 +118,9 @@ fn is_faulted(run: &Run, call: u64) -> bool {
 }
 
 /// The number of calls of the net: of the first that may fail and nothing is told of it.
-fn first_unfailing(alloc: Global) -> Result<u64, AllocError> {
+fn first_unfailing<R: Threads + Sync>(rt: &R, alloc: Global) -> Result<u64, AllocError> {
     for call in 0..100 {
-        let (run, _) = serve(alloc, 4096, &[call], &[], &[])?;
+        let (run, _) = serve(rt, alloc, 4096, &[call], &[], &[])?;
         if !is_faulted(&run, call) {
             return Ok(if run.tells(0, WHOLE) { call } else { 100 });
         }
@@ -123,7 +130,7 @@ fn first_unfailing(alloc: Global) -> Result<u64, AllocError> {
 
 #[test]
 fn each_call_of_the_net_fails_once(rt: HostRuntime) -> Result<(), Fail> {
-    let calls = first_unfailing(rt.alloc())?;
+    let calls = first_unfailing(&rt, rt.alloc())?;
     if !(10..100).contains(&calls) {
         return Err(Fail::new(format_args!("call {calls}")));
     }
@@ -134,8 +141,12 @@ fn each_call_of_the_net_fails_once(rt: HostRuntime) -> Result<(), Fail> {
 const STORE: u64 = 6;
 
 /// Whether a file that can't be read, or a version that can't be stored, is told as it has to be, where this call of the files fails.
-fn is_told_of_files(alloc: Global, call: u64) -> Result<bool, AllocError> {
-    let (run, _) = serve(alloc, 4096, &[], &[call], &[])?;
+fn is_told_of_files<R: Threads + Sync>(
+    rt: &R,
+    alloc: Global,
+    call: u64,
+) -> Result<bool, AllocError> {
+    let (run, _) = serve(rt, alloc, 4096, &[], &[call], &[])?;
     Ok(if call < STORE {
         run.only_tells(8, "read fault\n")
     } else {
@@ -146,7 +157,7 @@ fn is_told_of_files(alloc: Global, call: u64) -> Result<bool, AllocError> {
 #[test]
 fn each_call_of_the_files_fails_once(rt: HostRuntime) -> Result<(), Fail> {
     for call in 0..=STORE {
-        if !is_told_of_files(rt.alloc(), call)? {
+        if !is_told_of_files(&rt, rt.alloc(), call)? {
             return Err(Fail::new(format_args!("call {call}")));
         }
     }
@@ -154,18 +165,23 @@ fn each_call_of_the_files_fails_once(rt: HostRuntime) -> Result<(), Fail> {
 }
 
 /// Whether these lines alone stand before the write that fails, and a version is stored all the same.
-fn is_told_before(alloc: Global, write: u64, text: &str) -> Result<bool, AllocError> {
-    let (run, _) = serve(alloc, 4096, &[], &[], &[write])?;
+fn is_told_before<R: Threads + Sync>(
+    rt: &R,
+    alloc: Global,
+    write: u64,
+    text: &str,
+) -> Result<bool, AllocError> {
+    let (run, _) = serve(rt, alloc, 4096, &[], &[], &[write])?;
     Ok(run.tells(9, text) && run.stored == 1)
 }
 
 #[test]
 fn each_write_fails_once(rt: HostRuntime) -> Result<(), Fail> {
     let alloc = rt.alloc();
-    if !is_told_before(alloc, 0, "")? {
+    if !is_told_before(&rt, alloc, 0, "")? {
         return Err(Fail::new(format_args!("the first line")));
     }
-    if !is_told_before(alloc, 1, "listening 4711\n")? {
+    if !is_told_before(&rt, alloc, 1, "listening 4711\n")? {
         return Err(Fail::new(format_args!("the last line")));
     }
     Ok(())
@@ -184,7 +200,7 @@ static REFUSED: [(&str, &str); 8] = [
 ];
 
 /// What is told to words over a net on which nothing comes.
-fn told(alloc: Global, words: &str) -> Result<Run, AllocError> {
+fn told<R: Threads + Sync>(rt: &R, alloc: Global, words: &str) -> Result<Run, AllocError> {
     let words: Vec<&str> = words.split(' ').collect(alloc)?;
     let peers = Peers {
         bytes: &[],
@@ -192,6 +208,7 @@ fn told(alloc: Global, words: &str) -> Result<Run, AllocError> {
         failing: &[],
     };
     let (run, _) = run_on_net(
+        rt,
         alloc,
         &staged(SWITCH, b"", b""),
         &words,
@@ -205,7 +222,7 @@ fn told(alloc: Global, words: &str) -> Result<Run, AllocError> {
 #[test]
 fn numbers_and_images_are_refused(rt: HostRuntime) -> Result<(), Fail> {
     for (words, line) in &REFUSED {
-        if !told(rt.alloc(), words)?.only_tells(7, line) {
+        if !told(&rt, rt.alloc(), words)?.only_tells(7, line) {
             return Err(Fail::new(format_args!("{words}")));
         }
     }

@@ -17,9 +17,11 @@ pub mod Granting
 pub mod Turns
 -- state_made, finish: the state that a run made, and its frames
 pub mod RunEnds
--- end_turn, turn: turns of one session; and that a session stays as the store and the versions grow
+-- end_turn, settle: turns of one session; and that a session stays as the store and the versions grow
 pub mod SessionTurns
--- turn, round: a turn of a session under its number; the turns of a round so far
+-- take_turns, round: rows of sessions as their turns are taken, each by itself
+pub mod TurnedRows
+-- settle_turn, settle_turns: a turn of a session under its number; the turns of a round so far
 pub mod RoundSoFar
 -- rounds: the rounds so far
 pub mod RoundsSoFar

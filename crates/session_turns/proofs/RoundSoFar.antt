@@ -15,6 +15,7 @@ use Rattle.session_tables.specs.declared.table.Entry.{Entry}
 use Rattle.value_store.specs.Stores.{nodes_in}
 use Rattle.wire_form.specs.MessageViews.{reply_meant}
 use Rattle.wire_form.specs.declared.message.Reply.{Reply}
+use Rattle.session_turns.specs.Ahead.{AreAhead, IsAhead, IsNumberedAhead}
 use Rattle.session_turns.specs.Rounds.{AreSessions, IsNumbered, IsRound, entries_of}
 use Rattle.session_turns.specs.Sessions.{IsLeft, IsSession, IsTurned, replies_told}
 use Rattle.session_turns.specs.Sharing.{Shares}
@@ -22,7 +23,7 @@ use Rattle.session_turns.specs.declared.session.Session.{Session}
 use Rattle.session_turns.specs.declared.session.Turned.{Turned}
 use Rattle.session_turns.specs.declared.shared.Shared.{Shared}
 use Rattle.session_turns.proofs.Rows.{alike_kept, alike_more}
-use Rattle.session_turns.proofs.SessionTurns.{session_stays}
+use Rattle.session_turns.proofs.SessionTurns.{ahead_stays, session_stays}
 
 -- the session under its number
 abbrev pub entered : {A : Type 0} → ℕ → Option (Session A) → Option (Entry (Session A))
@@ -93,7 +94,7 @@ module _ (hash : Hash) (code : Code) (slice : ℕ) {A : Type 0} where
         replies = ap (map reply_meant) (sym replied) ∙ told before turned.reply ∙ ap (λ l. map reply_meant before ++ l) h.replies;
       })
 
-  -- the sessions stay as others take turns
+  -- the sessions stay as others are settled
   row_stays : (old new : Shared) (vs ws : List Value) (entries : List (Entry (Session A))) (xs : List (Numbered meant.Session)) → Grows (nodes_in old.store) (nodes_in new.store)
       → Extends vs ws → AreSessions hash code slice old vs entries xs → AreSessions hash code slice new ws entries xs
   row_stays old new vs ws entries xs grows more h = alike_kept (IsNumbered hash code slice old vs) (IsNumbered hash code slice new ws) stays entries xs h
@@ -102,22 +103,34 @@ module _ (hash : Hash) (code : Code) (slice : ℕ) {A : Type 0} where
       stays entry x i = record {
         number = i.number;
         session = subst (λ l. IsSession hash code slice (nodes_in new.store) l entry.value x.value) (sym more.1)
-            (session_stays hash code slice A (nodes_in old.store) (nodes_in new.store) vs more.0 entry.value x.value grows i.session);
+            (session_stays hash code slice (nodes_in old.store) (nodes_in new.store) vs more.0 entry.value x.value grows i.session);
       }
 
-  -- In a round of turns of xs over m: those of some of them are made, and those of the rest are still to come.
+  -- and those whose turns aren't settled yet
+  ahead_row_stays : (old new : Shared) (vs ws : List Value) (entries : List (Entry (Session A))) (xs : List (Numbered meant.Session)) → Grows (nodes_in old.store) (nodes_in new.store)
+      → Extends vs ws → AreAhead hash code slice old vs entries xs → AreAhead hash code slice new ws entries xs
+  ahead_row_stays old new vs ws entries xs grows more h = alike_kept (IsNumberedAhead hash code slice old vs) (IsNumberedAhead hash code slice new ws) stays entries xs h
+    where
+      stays : (entry : Entry (Session A)) (x : Numbered meant.Session) → IsNumberedAhead hash code slice old vs entry x → IsNumberedAhead hash code slice new ws entry x
+      stays entry x i = record {
+        number = i.number;
+        session = subst (λ l. IsAhead hash code slice (nodes_in new.store) l entry.value x.value) (sym more.1)
+            (ahead_stays hash code slice (nodes_in old.store) (nodes_in new.store) vs more.0 entry.value x.value grows i.session);
+      }
+
+  -- As the turns of xs over m are settled: those of some of them are, and those of the rest are still to come.
   pub record IsSofar (m : meant.Shared) (xs : List (Numbered meant.Session)) (shared : Shared) (entries kept : List (Entry (Session A))) (old new : List Reply) : Type 0 where
     pub sofar : meant.Turned
     pub rest : List (Numbered meant.Session)
     pub shares : Shares hash (program_of code) shared sofar.shared
     pub are_kept : AreSessions hash code slice shared sofar.shared.versions kept sofar.sessions
-    pub stand : AreSessions hash code slice shared sofar.shared.versions entries rest
+    pub stand : AreAhead hash code slice shared sofar.shared.versions entries rest
     pub are_told : map reply_meant new ≡ map reply_meant old ++ sofar.replies
     pub whole : joined sofar (round hash code slice rest sofar.shared) ≡ round hash code slice xs m
     pub reached : (r : meant.Shared) → Reaches hash code slice rest sofar.shared r → Reaches hash code slice xs m r
 
   pub begins : (shared : Shared) (entries : List (Entry (Session A))) (old : List Reply) (m : meant.Shared) (xs : List (Numbered meant.Session))
-      → Shares hash (program_of code) shared m → AreSessions hash code slice shared m.versions entries xs → IsSofar m xs shared entries [] old old
+      → Shares hash (program_of code) shared m → AreAhead hash code slice shared m.versions entries xs → IsSofar m xs shared entries [] old old
   begins shared entries old m xs h r = record {
     sofar = record { sessions = []; shared = m; replies = [] };
     rest = xs;
@@ -136,13 +149,13 @@ module _ (hash : Hash) (code : Code) (slice : ℕ) {A : Type 0} where
       pub x : Numbered meant.Session
       pub ys : List (Numbered meant.Session)
       pub is : h.rest ≡ x ∷ ys
-      pub this : IsNumbered hash code slice shared h.sofar.shared.versions entry x
-      pub others : AreSessions hash code slice shared h.sofar.shared.versions entries ys
+      pub this : IsNumberedAhead hash code slice shared h.sofar.shared.versions entry x
+      pub others : AreAhead hash code slice shared h.sofar.shared.versions entries ys
 
     pub next : IsNext
     next = by h.rest refl h.stand
       where
-        by : (rest : List (Numbered meant.Session)) → h.rest ≡ rest → AreSessions hash code slice shared h.sofar.shared.versions (entry ∷ entries) rest → IsNext
+        by : (rest : List (Numbered meant.Session)) → h.rest ≡ rest → AreAhead hash code slice shared h.sofar.shared.versions (entry ∷ entries) rest → IsNext
         by [] e r = elim r [ ]
         by (x ∷ ys) e r = record { x = x; ys = ys; is = e; this = r.0; others = r.1 }
 
@@ -159,7 +172,7 @@ module _ (hash : Hash) (code : Code) (slice : ℕ) {A : Type 0} where
           rest = ys;
           shares = q.shares;
           are_kept = alike_more (IsNumbered hash code slice after t.shared.versions) kept (entries_of left) h.sofar.sessions t.sessions stay q.left;
-          stand = row_stays shared after h.sofar.shared.versions t.shared.versions entries ys grows more next.others;
+          stand = ahead_row_stays shared after h.sofar.shared.versions t.shared.versions entries ys grows more next.others;
           are_told = q.replies ∙ ap (λ l. l ++ t.replies) h.are_told ∙ append_assoc (map reply_meant old) h.sofar.replies t.replies;
           whole = sym (round_step hash (program_of code) (meant.last_turn slice) h.sofar x ys)
               ∙ subst (λ l. joined h.sofar (round hash code slice l h.sofar.shared) ≡ round hash code slice xs m) next.is h.whole;
@@ -178,7 +191,7 @@ module _ (hash : Hash) (code : Code) (slice : ℕ) {A : Type 0} where
       → IsSofar m xs shared entries kept old new → IsRound hash code slice shared kept old new (round hash code slice xs m)
   ends m xs shared [] kept old new e h = by h.rest h.stand h.whole
     where
-      by : (rest : List (Numbered meant.Session)) → AreSessions hash code slice {A = A} shared h.sofar.shared.versions [] rest → joined h.sofar (round hash code slice rest h.sofar.shared) ≡ round hash code slice xs m
+      by : (rest : List (Numbered meant.Session)) → AreAhead hash code slice {A = A} shared h.sofar.shared.versions [] rest → joined h.sofar (round hash code slice rest h.sofar.shared) ≡ round hash code slice xs m
           → IsRound hash code slice shared kept old new (round hash code slice xs m)
       by (x ∷ ys) r w = elim r [ ]
       by [] r w =

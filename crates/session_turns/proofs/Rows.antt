@@ -1,5 +1,5 @@
 -- Lists that stand in a relation, one by one.
-use Rattle.std.proofs.Common.{◌≡◌, ℕ, zero, suc, ◌<◌, List, [], ◌∷◌, ◌++◌, length, drop, get_or, Result, Ok, Err, IfOk, refl, ap, arith}
+use Rattle.std.proofs.Common.{◌≡◌, ℕ, zero, suc, ◌<◌, List, [], ◌∷◌, ◌++◌, length, drop, get_or, Result, Ok, Err, IfOk, OnErr, refl, ap, arith}
 use Rattle.session_turns.specs.Rows.{AreAlike}
 
 module _ {A B : Type 0} where
@@ -43,3 +43,8 @@ module _ {A B : Type 0} where
 pub if_ok : {A E : Type 0} (P Q : A → Type 0) → ((a : A) → P a → Q a) → (r : Result A E) → IfOk r P → IfOk r Q
 if_ok P Q f (Ok a) h = f a h
 if_ok P Q f (Err e) h = h
+
+-- and so of a failure
+pub if_err : {A E : Type 0} (r : Result A E) (X Y : Type 0) → (X → Y) → OnErr r X → OnErr r Y
+if_err (Ok a) X Y f h = tt
+if_err (Err e) X Y f h = f h

@@ -1,5 +1,5 @@
 -- How a call that has run ends.
-use Rattle.std.proofs.Common.{◌≡◌, ◌⊎◌, inl, inr, ℕ, ◌<◌, ◌≤◌, ◌+◌, List, map, length, take, ◌++◌, Option, Some, None, slice_get, IfSome, sym, ap, ◌∙◌, subst, arith}
+use Rattle.std.proofs.Common.{◌≡◌, ◌⊎◌, inl, inr, ℕ, ◌<◌, ◌≤◌, ◌+◌, List, map, length, take, ◌++◌, Option, Some, None, Ok, slice_get, IfSome, sym, ap, ◌∙◌, subst, arith}
 use Rattle.std.proofs.lemmas.List.{length-append, length-take}
 use Rattle.std.specs.List.{All}
 use Rattle.core_terms.specs.Formats.{Hash}
@@ -99,7 +99,7 @@ made_within from base own (Some r) within h =
 
 -- a call of a role that has run, with its outcome
 module _ (hash : Hash) (code : Code) {A : Type 0} (base : List Node) (run : Running A) (commit : Commit)
-    (state : Value) (call : RoleCall) (made : ℕ) (h : IsRunOf hash code base run commit state call made) (outcome : Outcome Ref) (e : run.told ≡ Some outcome) where
+    (state : Value) (call : RoleCall) (made : ℕ) (h : IsRunOf hash code base run commit state call made) (outcome : Outcome Ref) (e : run.last ≡ Ok (Some outcome)) where
   abbrev Q : tree.Program
   Q = program_of code
 
@@ -110,7 +110,7 @@ module _ (hash : Hash) (code : Code) {A : Type 0} (base : List Node) (run : Runn
   vs = call_of state call.argument
 
   has_run : HasRun hash code (nodes_of_call base run) run.proving f vs call.fuel × IsIdealOutcome hash code (nodes_of_call base run) f vs call.fuel outcome
-  has_run = subst (λ told. StandsAt hash code (nodes_of_call base run) run.proving f vs call.fuel made told) e h.0.stands
+  has_run = subst (λ last. StandsAt hash code (nodes_of_call base run) run.proving f vs call.fuel made last) e h.0.stands
 
   pub run_over : (over : List Node) → over ≡ nodes_of_call base run → HasRun hash code over run.proving f vs call.fuel
   run_over over is = subst (λ nodes. HasRun hash code nodes run.proving f vs call.fuel) (sym is) has_run.0

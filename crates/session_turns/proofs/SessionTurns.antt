@@ -1,9 +1,10 @@
 -- Turns of one session.
 use Rattle.std.proofs.Common.{◌≡◌, ℕ, suc, ◌<◌, ◌+◌, ◌*◌, List, [], ◌∷◌, ◌++◌, length, refl, sym, ap, ◌∙◌, subst, arith, length-append}
-use Rattle.std.proofs.Common.{Option, Some, None, Bool, true, false, not, is_some, nat_eq, nat_le}
+use Rattle.std.proofs.Common.{Option, Some, None, Ok, IfOk, Bool, true, false, not, is_some, nat_eq, nat_le}
 use Rattle.core_terms.specs.Formats.{Hash}
 use Rattle.core_terms.specs.Terms.{Program}
 use Rattle.core_terms.specs.Values.{Value}
+use Rattle.core_terms.specs.declared.outcome.Outcome.{Outcome}
 use Rattle.code_gen.specs.declared.code.Code.{Code}
 use Rattle.ideal_meaning.specs.Following.{after_frames}
 use Rattle.ideal_meaning.specs.Frames.{Frame, frame_bytes}
@@ -19,8 +20,11 @@ use Rattle.session_meaning.specs.Tables.{Numbered}
 use Rattle.value_store.specs.Nodes.{Node}
 use Rattle.value_store.specs.Standing.{Grows}
 use Rattle.value_store.specs.Stores.{nodes_in}
+use Rattle.value_store.specs.declared.node.Ref.{Ref}
+use Rattle.session_turns.proofs.Rows.{if_ok}
 use Rattle.session_turns.proofs.Turns.{running_stays}
 use Rattle.wire_form.specs.declared.message.Reply.TheVariants as reply
+use Rattle.session_turns.specs.Ahead.{IsAhead, RunsAhead}
 use Rattle.session_turns.specs.RoleRuns.{IsRunOf}
 use Rattle.session_turns.specs.Sessions.{IsLeft, IsSession, IsTurned, Runs}
 use Rattle.session_turns.specs.Settling.{IsSettled}
@@ -94,34 +98,53 @@ none_told (Some x) false e t = absurd (cc (t))
 one_more : (turns slice : ℕ) → turns * slice + slice ≡ suc turns * slice
 one_more turns slice = omega arith
 
--- a session stands for the same one when nodes are put behind and versions are added
-pub session_stays : (hash : Hash) (code : Code) (slice : ℕ) (A : Type 0) (old new : List Node) (versions more : List Value) (session : Session A) (s : meant.Session)
-    → Grows old new → IsSession hash code slice old versions session s → IsSession hash code slice new (versions ++ more) session s
-session_stays hash code slice A old new versions more session s grows h =
-    let count = length-append versions more in
-    let there = h.there in
-    let same = extends_at versions (versions ++ more) s.version (more, refl) there in
-    record {
-      at_version = h.at_version;
-      there = omega (arith, count, there);
-      holds = h.holds;
-      runs = subst (λ state. Runs hash code slice new state session.running s.running) (sym same) (by session.running s.running h.runs);
-    }
-  where
-    by : (c : Option (SessionCall A)) (r : Option meant.Running)
-        → Runs hash code slice old (meant.version_at versions s.version) c r
-        → Runs hash code slice new (meant.version_at versions s.version) c r
-    by None None i = tt
-    by (Some c) (Some r) i =
-        let f = (role_in (program_of code) r.call.role).function in
-        let vs = call_of (meant.version_at versions s.version) r.call.argument in
-        ((running_stays hash code old new c.run f vs r.call.fuel (r.turns * slice) grows i.0.0, i.0.1), i.1)
-    by None (Some r) i = elim i [ ]
-    by (Some c) None i = elim i [ ]
+-- A session stands for the same one, and one whose call is a turn ahead does, when nodes are put behind and versions are added.
+module _ (hash : Hash) (code : Code) (slice : ℕ) {A : Type 0} (old new : List Node) (versions more : List Value) (session : Session A) (s : meant.Session) (grows : Grows old new) where
+  abbrev state_then : Value
+  state_then = meant.version_at versions s.version
 
--- a session that stands for one of the definitions, over what is shared
+  state_stays : s.version < length versions → meant.version_at (versions ++ more) s.version ≡ state_then
+  state_stays there = extends_at versions (versions ++ more) s.version (more, refl) there
+
+  still_there : s.version < length versions → s.version < length (versions ++ more)
+  still_there there = let count = length-append versions more in omega (arith, count, there)
+
+  run_stays : (c : SessionCall A) (call : RoleCall) (made : ℕ) → IsRunOf hash code old c.run c.call state_then call made → IsRunOf hash code new c.run c.call state_then call made
+  run_stays c call made i = (running_stays hash code old new c.run (role_in (program_of code) call.role).function (call_of state_then call.argument) call.fuel made grows i.0, i.1)
+
+  pub session_stays : IsSession hash code slice old versions session s → IsSession hash code slice new (versions ++ more) session s
+  session_stays h =
+      record {
+        at_version = h.at_version;
+        there = still_there h.there;
+        holds = h.holds;
+        runs = subst (λ state. Runs hash code slice new state session.running s.running) (sym (state_stays h.there)) (by session.running s.running h.runs);
+      }
+    where
+      by : (c : Option (SessionCall A)) (r : Option meant.Running) → Runs hash code slice old state_then c r → Runs hash code slice new state_then c r
+      by None None i = tt
+      by (Some c) (Some r) i = (run_stays c r.call (r.turns * slice) i.0, i.1)
+      by None (Some r) i = elim i [ ]
+      by (Some c) None i = elim i [ ]
+
+  pub ahead_stays : IsAhead hash code slice old versions session s → IsAhead hash code slice new (versions ++ more) session s
+  ahead_stays h =
+      record {
+        at_version = h.at_version;
+        there = still_there h.there;
+        holds = h.holds;
+        runs = subst (λ state. RunsAhead hash code slice new state session.running s.running) (sym (state_stays h.there)) (by session.running s.running h.runs);
+      }
+    where
+      by : (c : Option (SessionCall A)) (r : Option meant.Running) → RunsAhead hash code slice old state_then c r → RunsAhead hash code slice new state_then c r
+      by None None i = tt
+      by (Some c) (Some r) i = if_ok _ _ (λ told j. (run_stays c r.call (r.turns * slice + slice) j.0, j.1)) c.run.last i
+      by None (Some r) i = elim i [ ]
+      by (Some c) None i = elim i [ ]
+
+-- A session whose call is a turn ahead, over what is shared: what its turn comes to.
 module _ (hash : Hash) (code : Code) (slice : ℕ) {A : Type 0} (shared : Shared) (m : meant.Shared) (session : Session A) (s : meant.Session)
-    (h : IsSession hash code slice (nodes_in shared.store) m.versions session s) (number : ℕ) where
+    (h : IsAhead hash code slice (nodes_in shared.store) m.versions session s) (number : ℕ) where
   abbrev state : Value
   state = meant.version_at m.versions s.version
 
@@ -131,38 +154,66 @@ module _ (hash : Hash) (code : Code) (slice : ℕ) {A : Type 0} (shared : Shared
   abbrev turn_by : Option meant.Running → meant.Turned
   turn_by r = meant.turn_of hash (program_of code) (meant.last_turn slice) r number s m
 
-  abbrev IsCall : SessionCall A → meant.Running → Type 0
-  IsCall c r = IsRunOf hash code nodes c.run c.call state r.call (r.turns * slice) × (c.run.told ≡ None)
+  abbrev ends_in : meant.Running → Bool
+  ends_in r = nat_le (meant.last_turn slice (calls_of (program_of code) state r.call)) (suc r.turns)
 
-  pub call_runs : (c : SessionCall A) → session.running ≡ Some c → (r : meant.Running) × (s.running ≡ Some r) × IsCall c r
-  call_runs c e = by s.running (subst (λ o. Runs hash code slice nodes state o s.running) e h.runs)
+  -- no call runs
+  pub idle_turn : Shares hash (program_of code) shared m → session.running ≡ None
+      → IsTurned hash code slice {A = A} shared number (record { session = Some (record { version = session.version; ring = session.ring; running = None }); reply = None }) (turn_by s.running)
+  idle_turn shares e = by s.running refl (subst (λ o. RunsAhead hash code slice nodes state o s.running) e h.runs)
     where
-      by : (o : Option meant.Running) → Runs hash code slice nodes state (Some c) o → (r : meant.Running) × (o ≡ Some r) × IsCall c r
-      by None i = elim i [ ]
-      by (Some r) i = (r, refl, i)
+      by : (o : Option meant.Running) → s.running ≡ o → RunsAhead hash code slice {A = A} nodes state None o
+          → IsTurned hash code slice {A = A} shared number (record { session = Some (record { version = session.version; ring = session.ring; running = None }); reply = None }) (turn_by o)
+      by None idle i = record {
+        shares = shares;
+        left = (
+          refl,
+          record {
+            at_version = h.at_version;
+            there = h.there;
+            holds = h.holds;
+            runs = subst (λ o. Runs hash code slice {A = A} nodes state None o) (sym idle) tt;
+          },
+        );
+        replies = refl;
+      }
+      by (Some r) idle i = elim i [ ]
 
-  module _ (c : SessionCall A) (r : meant.Running) (runs : s.running ≡ Some r) where
-    abbrev ends : Bool
-    ends = nat_le (meant.last_turn slice (calls_of (program_of code) state r.call)) (suc r.turns)
+  -- a call runs, and its turn came to this
+  module _ (c : SessionCall A) (e : session.running ≡ Some c) (told : Option (Outcome Ref)) (last : c.run.last ≡ Ok told) where
+    pub record IsFurther : Type 0 where
+      pub r : meant.Running
+      pub runs : s.running ≡ Some r
+      pub run : IsRunOf hash code nodes c.run c.call state r.call (r.turns * slice + slice)
+      pub ends : is_some told ≡ ends_in r
 
-    turn_is : (b : Bool) → ends ≡ b → turn_by s.running ≡ meant.run_turn hash (program_of code) (meant.last_turn slice) b number s r state m
-    turn_is b e = ap turn_by runs ∙ ap (λ b. meant.run_turn hash (program_of code) (meant.last_turn slice) b number s r state m) e
+    pub further : IsFurther
+    further = by s.running refl (subst (λ o. RunsAhead hash code slice nodes state o s.running) e h.runs)
+      where
+        by : (o : Option meant.Running) → s.running ≡ o → RunsAhead hash code slice nodes state (Some c) o → IsFurther
+        by None is i = elim i [ ]
+        by (Some r) is i =
+            let j = subst (λ last. IfOk last (λ told. IsRunOf hash code nodes c.run c.call state r.call (r.turns * slice + slice) × (is_some told ≡ ends_in r))) last i in
+            record { r = r; runs = is; run = j.0; ends = j.1 }
+
+    turn_is : (b : Bool) → is_some told ≡ b → turn_by s.running ≡ meant.run_turn hash (program_of code) (meant.last_turn slice) b number s further.r state m
+    turn_is b t = ap turn_by further.runs ∙ ap (λ b. meant.run_turn hash (program_of code) (meant.last_turn slice) b number s further.r state m) (sym further.ends ∙ t)
 
     -- its run ends in this turn
-    pub end_is : ends ≡ true → turn_by s.running ≡ meant.end_turn hash (program_of code) number s r.call state m
-    end_is e = turn_is true e
+    pub end_is : is_some told ≡ true → turn_by s.running ≡ meant.end_turn hash (program_of code) number s further.r.call state m
+    end_is t = turn_is true t
 
     -- or goes on
-    pub on_turn : Shares hash (program_of code) shared m → ends ≡ false → (next : SessionCall A)
-        → IsRunOf hash code nodes next.run next.call state r.call (r.turns * slice + slice) → next.run.told ≡ None
-        → IsTurned hash code slice shared number (record { session = Some (record { version = session.version; ring = session.ring; running = Some next }); reply = None }) (turn_by s.running)
-    on_turn shares e next is goes =
+    pub on_turn : Shares hash (program_of code) shared m → told ≡ None
+        → IsTurned hash code slice {A = A} shared number (record { session = Some (record { version = session.version; ring = session.ring; running = Some c }); reply = None }) (turn_by s.running)
+    on_turn shares none =
+        let r = further.r in
         let left = meant.with_run s r.call (suc r.turns) in
-        let stands : IsSession hash code slice nodes m.versions (record { version = session.version; ring = session.ring; running = Some next }) left = record {
+        let stands : IsSession hash code slice nodes m.versions (record { version = session.version; ring = session.ring; running = Some c }) left = record {
           at_version = h.at_version;
           there = h.there;
           holds = h.holds;
-          runs = (subst (λ n. IsRunOf hash code nodes next.run next.call state r.call n) (one_more r.turns slice) is, goes);
+          runs = (subst (λ n. IsRunOf hash code nodes c.run c.call state r.call n) (one_more r.turns slice) further.run, last ∙ ap Ok none);
         } in
-        subst (λ t. IsTurned hash code slice {A = A} shared number (record { session = Some (record { version = session.version; ring = session.ring; running = Some next }); reply = None }) t)
-        (sym (turn_is false e)) (record { shares = shares; left = (refl, stands); replies = refl })
+        subst (λ t. IsTurned hash code slice {A = A} shared number (record { session = Some (record { version = session.version; ring = session.ring; running = Some c }); reply = None }) t)
+        (sym (turn_is false (ap is_some none))) (record { shares = shares; left = (refl, stands); replies = refl })

@@ -1,8 +1,9 @@
 -- The turns of a call over a store that is lent.
-use Rattle.std.proofs.Common.{◌≡◌, ℕ, suc, ◌+◌, ◌*◌, ◌<◌, ◌≤◌, List, ◌++◌, take, length, Option, Some, None, Bool, true, false, is_some, nat_le, refl, sym, ap, ◌∙◌, subst, arith, leb-true, le-leb}
+use Rattle.std.proofs.Common.{◌≡◌, ℕ, suc, ◌+◌, ◌*◌, ◌<◌, ◌≤◌, List, ◌++◌, take, length, Option, Some, None, Result, Ok, Err, IfOk, Bool, true, false, is_some, nat_le, refl, sym, ap, ◌∙◌, subst, arith, leb-true, le-leb}
 use Rattle.std.proofs.Math.Seq.{take-length}
 use Rattle.std.proofs.lemmas.Bool.{leb-false}
 use Rattle.std.proofs.lemmas.List.{length-take}
+use Rattle.std.specs.declared.alloc.AllocError.{AllocError}
 use Rattle.core_terms.specs.Formats.{Hash}
 use Rattle.core_terms.specs.Projection.{digest_at}
 use Rattle.core_terms.specs.Values.{Value, Values}
@@ -69,22 +70,24 @@ running_stays hash code old new run f vs k made grows h =
     record {
       within = long old new grows run.from h.within;
       sound = subst (λ nodes. AreSound nodes) same h.sound;
-      stands = subst (λ nodes. StandsAt hash code nodes run.proving f vs k made run.told) same h.stands;
+      stands = subst (λ nodes. StandsAt hash code nodes run.proving f vs k made run.last) same h.stands;
     }
 
 module _ (hash : Hash) (code : Code) where
   -- where a turn ends
-  ended_so : {A : Type 0} (nodes : List Node) (proving : Proving A) (f : ℕ) (vs : Values) (k made : ℕ) (told : Option (Outcome Ref)) → TurnEnds hash code nodes proving f vs k made told
-      → StandsAt hash code nodes proving f vs k made told × (is_some told ≡ nat_le (calls_made (program_of code) f vs k) made)
-  ended_so nodes proving f vs k made None h = (h.0, sym (not_most (calls_made (program_of code) f vs k) made h.1))
-  ended_so nodes proving f vs k made (Some outcome) h = ((h.0, h.2), sym (le-leb (calls_made (program_of code) f vs k) made h.1))
+  ended_so : {A : Type 0} (nodes : List Node) (proving : Proving A) (f : ℕ) (vs : Values) (k made : ℕ) (last : Result (Option (Outcome Ref)) AllocError)
+      → IfOk last (λ told. TurnEnds hash code nodes proving f vs k made told)
+      → StandsAt hash code nodes proving f vs k made last × IfOk last (λ told. is_some told ≡ nat_le (calls_made (program_of code) f vs k) made)
+  ended_so nodes proving f vs k made (Ok None) h = (h.0, sym (not_most (calls_made (program_of code) f vs k) made h.1))
+  ended_so nodes proving f vs k made (Ok (Some outcome)) h = ((h.0, h.2), sym (le-leb (calls_made (program_of code) f vs k) made h.1))
+  ended_so nodes proving f vs k made (Err e) h = (tt, tt)
 
   -- a granted call before its first turn
   pub begun : {A : Type 0} (base : List Node) (granted : Granted) (role : ℕ) (s a : Value) (version : Ref) (proving : Proving A) (fuel : ℕ)
       → HoldsCall hash (program_of code) base granted role a → IsVersion hash (program_of code) base version s
       → ((nodes : List Node) (s a : Value) → IsCalledOn hash (program_of code) granted.function.0 nodes version granted.argument s a
       → IsProving hash code nodes proving granted.function.0 (call_of s a) fuel 0)
-      → IsRunning hash code base (record { own = granted.own; from = granted.from; proving = proving; told = None }) (role_in (program_of code) role).function (call_of s a) fuel 0
+      → IsRunning hash code base (record { own = granted.own; from = granted.from; proving = proving; last = Ok None }) (role_in (program_of code) role).function (call_of s a) fuel 0
   begun base granted role s a version proving fuel h is go =
       let P = program_of code in
       let kind = ProverNodes (digest_at hash P) in
@@ -102,19 +105,19 @@ module _ (hash : Hash) (code : Code) where
             (go nodes s a (record { state_stands = stands; argument_stands = h.stands }));
       }
 
-  module _ (base : List Node) {A : Type 0} (before : Running A) (goes_on : before.told ≡ None) (f : ℕ) (vs : Values) (k made : ℕ) (h : IsRunning hash code base before f vs k made) where
+  module _ (base : List Node) {A : Type 0} (before : Running A) (goes_on : before.last ≡ Ok None) (f : ℕ) (vs : Values) (k made : ℕ) (h : IsRunning hash code base before f vs k made) where
     pub proving_there : (nodes : List Node) → nodes ≡ nodes_of_call base before → IsProving hash code nodes before.proving f vs k made
     proving_there nodes is =
         subst (λ ns. IsProving hash code ns before.proving f vs k made) (sym is)
-        (subst (λ told. StandsAt hash code (nodes_of_call base before) before.proving f vs k made told) goes_on h.stands)
+        (subst (λ last. StandsAt hash code (nodes_of_call base before) before.proving f vs k made last) goes_on h.stands)
 
-    pub turned : (units : ℕ) (own : Own) (proving : Proving A) (told : Option (Outcome Ref)) (nodes lent : List Node) → nodes ≡ lent ++ own_nodes own
-        → lent ≡ take before.from base → AreSound (lent ++ own_nodes own) → TurnEnds hash code nodes proving f vs k (made + units) told
-        → IsRunning hash code base (record { own = own; from = before.from; proving = proving; told = told }) f vs k (made + units)
-        × (is_some told ≡ nat_le (calls_made (program_of code) f vs k) (made + units))
-    turned units own proving told nodes lent is first sound ends =
+    pub turned : (units : ℕ) (own : Own) (proving : Proving A) (last : Result (Option (Outcome Ref)) AllocError) (nodes lent : List Node) → nodes ≡ lent ++ own_nodes own
+        → lent ≡ take before.from base → AreSound (lent ++ own_nodes own) → IfOk last (λ told. TurnEnds hash code nodes proving f vs k (made + units) told)
+        → IsRunning hash code base (record { own = own; from = before.from; proving = proving; last = last }) f vs k (made + units)
+        × IfOk last (λ told. is_some told ≡ nat_le (calls_made (program_of code) f vs k) (made + units))
+    turned units own proving last nodes lent is first sound ends =
         let same = is ∙ ap (λ ns. ns ++ own_nodes own) first in
         let stands =
-        ended_so (take before.from base ++ own_nodes own) proving f vs k (made + units) told
-        (subst (λ ns. TurnEnds hash code ns proving f vs k (made + units) told) same ends) in
+        ended_so (take before.from base ++ own_nodes own) proving f vs k (made + units) last
+        (subst (λ ns. IfOk last (λ told. TurnEnds hash code ns proving f vs k (made + units) told)) same ends) in
         (record { within = h.within; sound = subst (λ ns. AreSound (ns ++ own_nodes own)) first sound; stands = stands.0 }, stands.1)

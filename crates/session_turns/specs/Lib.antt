@@ -8,4 +8,6 @@ pub mod Granting
 pub mod Running
 pub mod RoleRuns
 pub mod Sessions
+pub mod Turning
+pub mod Ahead
 pub mod Rounds

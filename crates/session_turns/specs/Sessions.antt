@@ -1,5 +1,5 @@
 -- What a session of the code stands for, and what a turn leaves of it.
-use Rattle.std.specs.Prelude.{◌≡◌, ℕ, ◌<◌, ◌*◌, List, [], ◌∷◌, Option, Some, None, length}
+use Rattle.std.specs.Prelude.{◌≡◌, ℕ, ◌<◌, ◌*◌, List, [], ◌∷◌, Option, Some, None, Ok, length}
 use Rattle.core_terms.specs.Formats.{Hash}
 use Rattle.core_terms.specs.Values.{Value}
 use Rattle.code_gen.specs.declared.code.Code.{Code}
@@ -28,7 +28,7 @@ replies_told (Some reply) = reply_meant reply ∷ []
 module _ (hash : Hash) (code : Code) (slice : ℕ) where
   -- The call that runs is this one, on this state, and has taken its turns whole: it hasn't come to its end. Or none runs.
   abbrev pub Runs : {A : Type 0} → List Node → (state : Value) → Option (SessionCall A) → Option meant.Running → Type 0
-  Runs nodes state (Some c) (Some r) = IsRunOf hash code nodes c.run c.call state r.call (r.turns * slice) × (c.run.told ≡ None)
+  Runs nodes state (Some c) (Some r) = IsRunOf hash code nodes c.run c.call state r.call (r.turns * slice) × (c.run.last ≡ Ok None)
   Runs nodes state None None = Unit {0}
   Runs nodes state c r = ⊥
 

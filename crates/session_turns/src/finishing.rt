@@ -1,5 +1,6 @@
 // The end of a call that has run.
-ghost use Rattle.std.specs.Prelude.{◌≡◌, ℕ, true, ◌<◌, ◌≤◌, ◌+◌, ◌++◌, List, length, take, is_some, IfOk, IfSome};
+ghost use Rattle.std.specs.Prelude.{◌≡◌, ℕ, ◌<◌, ◌≤◌, ◌+◌, ◌++◌, List, length, take, Ok, Some, IfOk, IfSome};
+ghost use Rattle.core_terms.specs.declared.outcome.Outcome.{Outcome};
 ghost use Rattle.core_terms.specs.Formats.{Hash};
 ghost use Rattle.core_terms.specs.Projection.{digest_at};
 ghost use Rattle.core_terms.specs.Terms.{function_at};
@@ -19,6 +20,7 @@ ghost use Rattle.value_store.specs.Nodes.{AreSound};
 ghost use Rattle.value_store.specs.Overs.{own_nodes};
 ghost use Rattle.value_store.specs.Standing.{Kind, ProverNodes, StandsFor};
 ghost use Rattle.value_store.specs.Stores.{nodes_in};
+ghost use Rattle.value_store.specs.declared.node.Ref.{Ref};
 ghost use Rattle.session_turns.specs.Settling.{IsMade};
 
 use crate::commit::Commit;
@@ -88,7 +90,7 @@ impl<H: Hash32> Running<H> {
         version: usize,
         call: Commit,
     ) -> Result<Finished, AllocError>
-        requires has_run { is_some self.told ≡ true }
+        requires has_run { (outcome : Outcome Ref) × (self.last ≡ Ok (Some outcome)) }
         requires running { (state : Value) × (role_call : RoleCall) × (made : ℕ) × IsRunOf H.hash code.now (nodes_in base.now) self call state role_call made }
         ensures ends { let P = program_of code.now in IfOk result (λ end. (s : meant.Session) (state : Value) (role_call : RoleCall) (made : ℕ)
             → IsRunOf H.hash code.now (nodes_in base.now) self call state role_call made → version ≡ s.version → ring ≡ kept s.kept s.recent
@@ -104,9 +106,11 @@ impl<H: Hash32> Running<H> {
             own,
             from,
             proving,
-            told,
+            last,
         } = self;
-        let Some(outcome) = told else { unreachable!() };
+        let Ok(Some(outcome)) = last else {
+            unreachable!()
+        };
         let over = Over::on(base, own, from);
         let made = state_made(code, call.role, &over, outcome);
         let (proof, ring) = proving.finish(alloc, code, &over, ring)?;

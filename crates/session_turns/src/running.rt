@@ -1,12 +1,10 @@
 // Calls that run in turns.
-ghost use Rattle.std.specs.Prelude.{◌≡◌, ◌<◌, ◌≤◌, ◌+◌, ◌*◌, ◌^◌, ℕ, suc, List, length, None, IfOk, is_some, nat_le};
+ghost use Rattle.std.specs.Prelude.{◌≡◌, ◌<◌, ◌≤◌, ◌^◌, ℕ, List, length, None, Ok, IfOk};
 ghost use Rattle.core_terms.specs.Values.{Value, Values};
 ghost use Rattle.ideal_meaning.specs.Headline.{call_of};
 ghost use Rattle.mode_vm.specs.Meanings.{program_of};
 ghost use Rattle.mode_vm.specs.StateCalls.{TakesState};
-ghost use Rattle.prover_mode.specs.Turns.{calls_made};
-ghost use Rattle.session_meaning.specs.Calls.{RoleCall, calls_of, role_in};
-ghost use Rattle.session_meaning.specs.Server.{last_turn};
+ghost use Rattle.session_meaning.specs.Calls.{role_in};
 ghost use Rattle.value_store.specs.Nodes.{Node};
 ghost use Rattle.value_store.specs.Stores.{nodes_in};
 
@@ -24,13 +22,14 @@ pub struct Running<H> {
     pub own: Own,
     pub from: usize,
     pub proving: Proving<H>,
-    /// What it came to, with the node of its value, if it has run.
-    pub told: Option<Outcome<Ref>>,
+    /// What its last turn came to: the outcome with the node of its value if it has run, or memory was wanting. `Ok(None)` before the
+    /// first turn.
+    pub last: Result<Option<Outcome<Ref>>, AllocError>,
 }
 
 impl<H: Hash32> Running<H> {
     ghost use Rattle.session_turns.specs.Granting.{HoldsCall};
-    ghost use Rattle.session_turns.specs.Running.{IsRunning};
+    ghost use Rattle.session_turns.specs.Running.{IsRunning, RunsTo};
     ghost use Rattle.session_turns.specs.Versions.{IsVersion};
 
     /// A granted call before its first turn, on a version, with this much fuel (at most 10^12). Answers `AllocError` where memory is
@@ -47,7 +46,7 @@ impl<H: Hash32> Running<H> {
         requires fuel_fits { fuel ≤ 10 ^ 12 }
         ensures starts { let P = program_of code.now in IfOk result (λ run. (base : List Node) (role : ℕ) (s a : Value) → HoldsCall H.hash P base granted role a
             → IsVersion H.hash P base version s → IsRunning H.hash code.now base run (role_in P role).function (call_of s a) fuel 0) }
-        ensures goes_on { IfOk result (λ run. run.told ≡ None) }
+        ensures goes_on { IfOk result (λ run. run.last ≡ Ok None) }
     {
         let Granted {
             function,
@@ -60,36 +59,31 @@ impl<H: Hash32> Running<H> {
             own,
             from,
             proving,
-            told: None,
+            last: Ok(None),
         })
     }
 
-    /// One turn of a call that hasn't run: so many calls of functions more (1 at least), or those up to its end. Where memory is
-    /// wanting the call is dropped.
-    pub fn turn(self, code: &Code, base: &Store, units: u64) -> Result<Running<H>, AllocError>
+    /// One turn of a call that hasn't run: so many calls of functions more (1 at least), or those up to its end. Where memory was
+    /// wanting the call can't go on.
+    pub fn turn(self, code: &Code, base: &Store, units: u64) -> Running<H>
         requires running { (f : ℕ) × (vs : Values) × (k : ℕ) × (made : ℕ) × IsRunning H.hash code.now (nodes_in base.now) self f vs k made }
-        requires goes_on { self.told ≡ None }
+        requires goes_on { self.last ≡ Ok None }
         requires some { 0 < units }
-        ensures runs { IfOk result (λ run. (f : ℕ) (vs : Values) (k made : ℕ) → IsRunning H.hash code.now (nodes_in base.now) self f vs k made
-            → IsRunning H.hash code.now (nodes_in base.now) run f vs k (made + units)
-            × (is_some run.told ≡ nat_le (calls_made (program_of code.now) f vs k) (made + units))) }
-        ensures ends { let P = program_of code.now in IfOk result (λ run. (state : Value) (call : RoleCall) (turns : ℕ)
-            → IsRunning H.hash code.now (nodes_in base.now) self (role_in P call.role).function (call_of state call.argument) call.fuel (turns * units)
-            → is_some run.told ≡ nat_le (last_turn units (calls_of P state call)) (suc turns)) }
+        ensures { RunsTo H.hash code.now (nodes_in base.now) units self result }
     {
         let Running {
             own,
             from,
             mut proving,
-            told: _,
+            last: _,
         } = self;
         let mut over = Over::on(base, own, from);
-        let told = proving.turn(code, &mut over, units)?;
-        Ok(Running {
+        let last = proving.turn(code, &mut over, units);
+        Running {
             own: over.off(),
             from,
             proving,
-            told,
-        })
+            last,
+        }
     }
 }

@@ -114,25 +114,23 @@ impl Shared {
 }
 
 impl<H: Hash32> Session<H> {
-    ghost use Rattle.session_turns.specs.Sessions.{IsSession, IsTurned};
+    ghost use Rattle.session_turns.specs.Ahead.{IsAhead};
+    ghost use Rattle.session_turns.specs.Sessions.{IsTurned};
 
-    /// A turn of the session with this number: where a call of it runs, so many calls of functions more (1 at least), or those up to its end,
-    /// which is settled. Where memory is wanting the session is dropped; the versions and the commits stay, though nodes may have been
-    /// put behind.
-    pub fn turn(
+    /// Settles the turn that was taken in the session with this number: a call that has run ends, and one that goes on stays. Where memory
+    /// is wanting, or was in the turn, the session is dropped; the versions and the commits stay, though nodes may have been put behind.
+    pub fn settle(
         self,
         shared: &mut Shared,
         alloc: Global,
         code: &Code,
         number: u16,
-        units: u64,
     ) -> Result<Turned<H>, AllocError>
-        requires shares { (m : meant.Shared) × (s : meant.Session) × Shares H.hash (program_of code.now) shared.old m
-            × IsSession H.hash code.now units (nodes_in shared.old.store) m.versions self s }
-        requires some { 0 < units }
-        ensures turned { let P = program_of code.now in IfOk result (λ turned. (m : meant.Shared) (s : meant.Session) → Shares H.hash P shared.old m
-            → IsSession H.hash code.now units (nodes_in shared.old.store) m.versions self s
-            → IsTurned H.hash code.now units shared.new number turned (meant.turn H.hash P (meant.last_turn units) number s m)) }
+        requires { (slice : ℕ) × (m : meant.Shared) × (s : meant.Session) × Shares H.hash (program_of code.now) shared.old m
+            × IsAhead H.hash code.now slice (nodes_in shared.old.store) m.versions self s }
+        ensures turned { let P = program_of code.now in IfOk result (λ turned. (slice : ℕ) (m : meant.Shared) (s : meant.Session) → Shares H.hash P shared.old m
+            → IsAhead H.hash code.now slice (nodes_in shared.old.store) m.versions self s
+            → IsTurned H.hash code.now slice shared.new number turned (meant.turn H.hash P (meant.last_turn slice) number s m)) }
         ensures refused { OnErr result ((hash : Hash) (P : Program) (m : meant.Shared) → Shares hash P shared.old m → Shares hash P shared.new m) }
         ensures grows { Grows (nodes_in shared.old.store) (nodes_in shared.new.store) }
     {
@@ -152,8 +150,8 @@ impl<H: Hash32> Session<H> {
                 reply: None,
             });
         };
-        let run = run.turn(code, &shared.store, units)?;
-        if run.told.is_none() {
+        let told = run.last?;
+        if told.is_none() {
             let session = Session {
                 version,
                 ring,

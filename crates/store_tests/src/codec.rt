@@ -99,7 +99,7 @@ const MINUS_ONE: &[u8] = b"\xff\xff\xff\xff\xff\xff\xff\xff\0\0\0\x02\xc3\xa9";
 
 /// The text of a program, the first bytes of a spelling, how often which byte stands behind them, the last ones, and the offset at which
 /// this is refused. A value has at most 512 levels, a spelling at most 65,536 bytes.
-const ROWS: [(&[u8], &[u8], (usize, u8), &[u8], Option<u32>); 12] = [
+static ROWS: [(&[u8], &[u8], (usize, u8), &[u8], Option<u32>); 12] = [
     (CHAINS, b"", (511, 1), b"\0", None),
     (CHAINS, b"", (511, 1), b"\x02", Some(511)),
     (CHAINS, b"", (512, 1), b"\0", Some(512)),
@@ -186,7 +186,7 @@ fn many_units(alloc: Global, levels: usize) -> Result<(Program, TyId), AllocErro
 
 /// The levels of pairs around a unit, bytes, and the offset at which they are refused. Such values are spelled by nothing: they are read
 /// by their type, however many units there are.
-const UNITS: [(usize, &[u8], Option<u32>); 4] = [
+static UNITS: [(usize, &[u8], Option<u32>); 4] = [
     (90, b"", None),
     (90, b"\0", Some(0)),
     (511, b"", None),

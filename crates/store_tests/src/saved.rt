@@ -33,7 +33,7 @@ const DOT: Records = (
 );
 
 /// A program, the records of an image, and those that are saved for its state.
-const SAVED: [(&[u8], Records, Records); 7] = [
+static SAVED: [(&[u8], Records, Records); 7] = [
     (PAIR, TRUE_TRUE, TRUE_TRUE),
     // equal parts are saved once
     (

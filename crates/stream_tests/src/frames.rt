@@ -13,7 +13,7 @@ const MAGIC: [u8; 4] = *b"LAP1";
 const LIMIT: usize = 65_536;
 
 /// Frames, and what a reader answers at each, with the piece in hand.
-const FRAMES: [(&[u8], Result<Frame, FrameEnd>, &[u8]); 11] = [
+static FRAMES: [(&[u8], Result<Frame, FrameEnd>, &[u8]); 11] = [
     (b"\x00\x00\x00\x00\x00", Ok(Frame::New), b""),
     (b"\x00\x00\x00\x00\x03abc", Ok(Frame::New), b"abc"),
     (
@@ -148,7 +148,7 @@ fn a_length_is_judged_before_the_piece_comes(rt: HostRuntime) -> Result<(), Fail
 }
 
 /// Bytes, how many pieces may be kept, and what a reader answers at the header.
-const HEADERS: [(&[u8], u16, Result<u16, HeadEnd>); 9] = [
+static HEADERS: [(&[u8], u16, Result<u16, HeadEnd>); 9] = [
     (b"LAP1\x00\x00", 0, Ok(0)),
     (b"LAP1\x04\x00", 1024, Ok(1024)),
     (b"LAP1\x04\x01", 1024, Err(HeadEnd::Header)),
@@ -190,7 +190,7 @@ enum Ending {
 }
 
 /// Frames, how many pieces are kept, the pieces offered one behind the other with a dot behind each, and how they end.
-const OFFERS: [(&[u8], u16, &[u8], Ending); 6] = [
+static OFFERS: [(&[u8], u16, &[u8], Ending); 6] = [
     (
         b"\x00\x00\x00\x00\x01a\x00\x00\x00\x00\x01b\x01\x00\x01",
         2,

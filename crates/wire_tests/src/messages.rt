@@ -28,7 +28,7 @@ enum Want {
 }
 
 /// One message of each kind, as who sends it writes it.
-pub const MESSAGES: [(Sender, &[u8]); 9] = [
+pub static MESSAGES: [(Sender, &[u8]); 9] = [
     (
         Sender::Client,
         b"\x00\x00\x00\x27\x01\x00\x01\x07\x07\x07\x07\x07\x07\x07\x07\x07\x07\x07\x07\x07\x07\x07\x07\x07\x07\x07\x07\x07\x07\x07\x07\x07\x07\x07\x07\x07\x07\x07\x07\x04\x00ab",
@@ -50,7 +50,7 @@ pub const MESSAGES: [(Sender, &[u8]); 9] = [
 ];
 
 /// Bodies at the borders of each field, and what a read of them answers.
-const BODIES: [(Sender, &[u8], Want); 38] = [
+static BODIES: [(Sender, &[u8], Want); 38] = [
     (Sender::Client, b"", Want::Bad(0, 0)),
     (Sender::Client, b"\x00\x00\x01", Want::Bad(0, 0)),
     (Sender::Client, b"\x05\x00\x01", Want::Bad(5, 0)),

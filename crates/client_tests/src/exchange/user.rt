@@ -10,6 +10,7 @@ use code_gen::Code;
 use core_terms::{Outcome, RoleKind};
 use digest_layer::Sha;
 use serve_core::ServeCore;
+use session_turns::NoGate;
 use std::alloc::{AllocError, Global};
 use std::mem;
 use wire_form::{ReadStop, Reply, Request, read_reply};
@@ -195,7 +196,7 @@ impl User {
     }
 
     /// Learns the versions that the server made.
-    pub fn learn(&mut self, core: &ServeCore<Sha>) -> Result<(), AllocError> {
+    pub fn learn(&mut self, core: &ServeCore<Sha, NoGate>) -> Result<(), AllocError> {
         for version in core.versions().iter().skip(self.versions.len()) {
             let spelling = spelling_of(self.alloc, core.store(), *version)?;
             self.versions.push(spelling)?;
@@ -269,7 +270,7 @@ impl User {
     }
 
     /// At the end many calls were told, and of updates as many as were committed.
-    pub fn is_told(&self, core: &ServeCore<Sha>, least: usize) -> Result<(), Trouble> {
+    pub fn is_told(&self, core: &ServeCore<Sha, NoGate>, least: usize) -> Result<(), Trouble> {
         let enough = self.outcomes >= least && self.commits >= least / 10;
         if enough && core.commits().len() == self.commits {
             Ok(())

@@ -1,14 +1,14 @@
 use Rattle.std.proofs.Common.{None, Err, inl, inr, refl, ◌∙◌}
 use Rattle.command_words.specs.declared.command.Command.TheVariants.{Ask}
-use Rattle.auth_cli.specs.Answer.{unasked_answer}
+use Rattle.file_commands.specs.Answer.{unasked_answer}
 use Rattle.auth_cli.specs.PreparedClients.{asked_by}
-use Rattle.auth_cli.specs.declared.report.Report.{Report}
+use Rattle.file_commands.specs.declared.report.Report.{Report}
 use Rattle.auth_cli.proofs.AskCounted.{asking_counted, asking_possible, asking_reads, unasked_counted}
-use Rattle.auth_cli.proofs.AskRuns.{asked_from, asked_truth, asking_apart, unasked_apart}
-use Rattle.auth_cli.proofs.Ends.{ends_as, judging}
-use Rattle.auth_cli.proofs.Possible.{found_possible, told_possible}
+use Rattle.auth_cli.proofs.AskRuns.{asked_from, asking_apart, unasked_apart}
+use Rattle.file_commands.proofs.Ends.{ends_as, judging}
+use Rattle.file_commands.proofs.Possible.{found_possible, told_possible}
 use Rattle.auth_cli.proofs.ServeRuns.{halted_at, same_seen}
-use Rattle.auth_cli.proofs.Words.{ends_apart, text_at}
+use Rattle.file_commands.proofs.Words.{ends_apart, text_at}
 use Rattle.auth_cli.proofs.ask.ask_command.Goals as goal
 
 pub returns-in-Ok-clause-ends : goal.returns-in-Ok-clause-ends
@@ -19,9 +19,8 @@ returns-in-Ok-clause-ends g c =
     inr (record {
       asking = asking;
       name = text_at words 4;
-      means = λ files known. asking_apart words files asking c.requires (read.goes files known);
+      calls = record { means = λ files known. asking_apart words files asking c.requires (read.goes files known); of_texts = read.of_texts };
       ends = asked_from asking (text_at words 4) _ _ _ _ _ c.ask.result (same_seen _ _ _ _ _ _ _ _ _ _ read.contents read.stores read.cause read.store_faults) c.ask.ensures.ends;
-      truth = asked_truth c.in-Ok.client;
     })
 
 pub returns-in-Ok-clause-counts : goal.returns-in-Ok-clause-counts

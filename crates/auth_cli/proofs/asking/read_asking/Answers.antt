@@ -1,14 +1,15 @@
 use Rattle.std.proofs.Common.{None, Err, ap, sym, subst, ◌∙◌}
 use Rattle.std.proofs.lemmas.Result.{err_from_is_err_and}
 use Rattle.code_gen.specs.Programs.{program_in}
-use Rattle.auth_cli.specs.Answer.{unasked_answer, with_asked, with_program_file}
+use Rattle.file_commands.specs.Answer.{unasked_answer, with_asked, with_program_file}
+use Rattle.auth_cli.specs.Asking.{IsOfTexts}
 use Rattle.auth_cli.specs.PreparedClients.{FitProgram, asked_by}
-use Rattle.auth_cli.specs.ReadPrograms.{named_of}
-use Rattle.auth_cli.specs.Reaching.{without}
+use Rattle.file_commands.specs.ReadPrograms.{named_of}
+use Rattle.file_commands.specs.Reaching.{without}
 use Rattle.auth_cli.specs.declared.asking.AskInputs.{AskInputs}
-use Rattle.auth_cli.proofs.Reached.{faults_reached, is_missing}
-use Rattle.auth_cli.proofs.RoleSteps.{program_reached}
-use Rattle.auth_cli.proofs.Steps.{halts_behind, halts_first}
+use Rattle.file_commands.proofs.Reached.{faults_reached, is_missing}
+use Rattle.file_commands.proofs.RoleSteps.{program_reached}
+use Rattle.file_commands.proofs.Steps.{halts_behind, halts_first}
 use Rattle.auth_cli.proofs.asking.read_asking.Goals as goal
 
 pub returns-in_err-code-clause-goes : goal.returns-in_err-code-clause-goes
@@ -36,6 +37,11 @@ returns-in-Ok-clause-goes g c = λ told known go.
     let inputs = rw c.program.ensures at c.in-Ok.ensures.goes in
     c.in_ok-code.ensures.goes told known (λ p. with_asked p words.state.now words.port.now words.script.now told go)
     ∙ (inputs told (c.in_ok-code.ensures.contents ∙ known) go ∙ ap go (sym c.prepare.ensures.asks))
+
+pub returns-in-Ok-clause-of_texts : goal.returns-in-Ok-clause-of_texts
+returns-in-Ok-clause-of_texts g c =
+    let script = rw c.program.ensures at c.in-Ok.ensures.script in
+    subst IsOfTexts (sym c.prepare.ensures.asks) (record { program = c.in_ok-code.ensures.text; script = script })
 
 pub returns-in-Err-clause-goes : goal.returns-in-Err-clause-goes
 returns-in-Err-clause-goes g c = λ told known go.

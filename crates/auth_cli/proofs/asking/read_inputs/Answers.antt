@@ -3,14 +3,14 @@ use Rattle.std.proofs.lemmas.Result.{err_from_is_err_and}
 use Rattle.core_terms.specs.Programs.{meaning}
 use Rattle.lam_outside.specs.Told.{Contents}
 use Rattle.printed_lines.specs.declared.refusal.Argument.TheVariants.{Port}
-use Rattle.auth_cli.specs.Answer.{Answer, Asking, with_asked, with_number, with_script_file, with_state_file}
-use Rattle.auth_cli.specs.Arguments.{most_port, positive_within}
-use Rattle.auth_cli.specs.FueledRoles.{NamedProgram}
+use Rattle.file_commands.specs.Answer.{Answer, Asking, with_asked, with_number, with_script_file, with_state_file}
+use Rattle.file_commands.specs.Arguments.{most_port, positive_within}
+use Rattle.file_commands.specs.FueledRoles.{NamedProgram}
 use Rattle.auth_cli.specs.PreparedClients.{asked_with}
-use Rattle.auth_cli.specs.ReadPrograms.{named_of}
-use Rattle.auth_cli.specs.Reaching.{without}
-use Rattle.auth_cli.proofs.Reached.{behind, faults_reached, hand_reached, is_missing}
-use Rattle.auth_cli.proofs.Steps.{halted, halts_behind, halts_first, hand_halts}
+use Rattle.file_commands.specs.ReadPrograms.{named_of}
+use Rattle.file_commands.specs.Reaching.{without}
+use Rattle.file_commands.proofs.Reached.{behind, faults_reached, hand_reached, is_missing}
+use Rattle.file_commands.proofs.Steps.{halted, halts_behind, halts_first, hand_halts}
 use Rattle.auth_cli.proofs.asking.read_inputs.Goals as goal
 
 -- what stands behind the port, and what behind the state

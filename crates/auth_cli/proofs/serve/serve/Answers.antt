@@ -1,6 +1,6 @@
 use Rattle.std.proofs.Common.{ap, ◌∙◌}
 use Rattle.code_gen.specs.Programs.{program_in}
-use Rattle.auth_cli.specs.ReadPrograms.{digested_of}
+use Rattle.file_commands.specs.ReadPrograms.{digested_of}
 use Rattle.auth_cli.proofs.ServeTexts.{serving_told}
 use Rattle.auth_cli.proofs.serve.serve.Goals as goal
 

@@ -1,19 +1,19 @@
 use Rattle.std.proofs.Common.{None, Err, inl, inr, refl, sym, subst, ◌∙◌}
 use Rattle.command_words.specs.Commands.{texts}
 use Rattle.command_words.specs.declared.command.Command.TheVariants.{Serve}
-use Rattle.auth_cli.specs.Answer.{unserved_answer}
+use Rattle.file_commands.specs.Answer.{unserved_answer}
 use Rattle.auth_cli.specs.PreparedServers.{IsPrepared}
 use Rattle.auth_cli.specs.Serving.{MeansServing}
-use Rattle.auth_cli.specs.declared.report.Report.{Report}
-use Rattle.auth_cli.proofs.Ends.{ends_as, judging}
-use Rattle.auth_cli.proofs.Possible.{found_possible, told_possible}
+use Rattle.file_commands.specs.declared.report.Report.{Report}
+use Rattle.file_commands.proofs.Ends.{ends_as, judging}
+use Rattle.file_commands.proofs.Possible.{found_possible, told_possible}
 use Rattle.auth_cli.proofs.ServeCounted.{serving_counted, serving_possible, unserved_counted}
 use Rattle.auth_cli.proofs.ServeRuns.{both, either_apart, from_seen, halted_at, means_apart, prepared_at, same_seen}
-use Rattle.auth_cli.proofs.Words.{ends_apart, text_at}
+use Rattle.file_commands.proofs.Words.{ends_apart, text_at}
 use Rattle.auth_cli.proofs.serve.serve_command.Goals as goal
 
 pub serve-requires : goal.serve-requires
-serve-requires g c = prepared_at c.in-Ok.server.value c.deref_mut.result.now c.deref_mut.ensures.value c.in-Ok.ensures.prepared
+serve-requires g c = (record { shared = c.type_bounds.sync-R.shared }, prepared_at c.in-Ok.server.value c.deref_mut.result.now c.deref_mut.ensures.value c.in-Ok.ensures.prepared)
 
 pub returns-in-Ok-clause-ends : goal.returns-in-Ok-clause-ends
 returns-in-Ok-clause-ends g c =

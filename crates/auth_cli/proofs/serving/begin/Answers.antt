@@ -1,7 +1,7 @@
 use Rattle.std.proofs.Common.{refl, ap, sym}
 use Rattle.code_gen.specs.Programs.{program_in}
 use Rattle.value_store.specs.Stores.{nodes_in}
-use Rattle.auth_cli.specs.ReadPrograms.{digested_of}
+use Rattle.file_commands.specs.ReadPrograms.{digested_of}
 use Rattle.auth_cli.proofs.ServePrepared.{first_served, first_version}
 use Rattle.auth_cli.proofs.serving.begin.Goals as goal
 

@@ -1,8 +1,8 @@
 use Rattle.std.proofs.Common.{sym, subst}
 use Rattle.code_gen.specs.Programs.{program_in}
-use Rattle.auth_cli.specs.Answer.{serving_of}
+use Rattle.file_commands.specs.Answer.{serving_of}
 use Rattle.auth_cli.specs.PreparedServers.{IsPrepared, numbers_of}
-use Rattle.auth_cli.specs.ReadPrograms.{digested_of}
+use Rattle.file_commands.specs.ReadPrograms.{digested_of}
 use Rattle.auth_cli.proofs.serving.prepare.Goals as goal
 
 pub returns : goal.returns

@@ -4,14 +4,14 @@ use Rattle.code_gen.specs.Programs.{program_in}
 use Rattle.core_terms.specs.Programs.{meaning}
 use Rattle.core_terms.specs.Values.{Value}
 use Rattle.core_terms.specs.declared.program.Program.{Program}
-use Rattle.auth_cli.specs.StoredStates.{IsStoredState}
-use Rattle.auth_cli.specs.Answer.{Answer, Serving, serving_of, with_image_file, with_serving_numbers}
+use Rattle.file_commands.specs.StoredStates.{IsStoredState}
+use Rattle.file_commands.specs.Answer.{Answer, Serving, serving_of, with_image_file, with_serving_numbers}
 use Rattle.auth_cli.specs.PreparedServers.{BeginsWith, numbers_of, with_beginning}
-use Rattle.auth_cli.specs.ReadPrograms.{digested_of}
-use Rattle.auth_cli.specs.Reaching.{without}
-use Rattle.auth_cli.proofs.Reached.{faults_reached, hand_reached, is_missing}
+use Rattle.file_commands.specs.ReadPrograms.{digested_of}
+use Rattle.file_commands.specs.Reaching.{without}
+use Rattle.file_commands.proofs.Reached.{faults_reached, hand_reached, is_missing}
 use Rattle.auth_cli.proofs.ServeReading.{image_halts}
-use Rattle.auth_cli.proofs.Steps.{hand_halts, halts_first_for}
+use Rattle.file_commands.proofs.Steps.{hand_halts, halts_first_for}
 use Rattle.auth_cli.proofs.serving.read_beginning.Goals as goal
 
 pub returns-in_err-numbers-clause-goes : goal.returns-in_err-numbers-clause-goes

@@ -1,10 +1,10 @@
 use Rattle.std.proofs.Common.{ℕ, List, Option, ◌∙◌}
 use Rattle.std.proofs.lemmas.Result.{err_from_is_err_and}
 use Rattle.printed_lines.specs.declared.refusal.Argument.TheVariants.{Connections, Port, Slice}
-use Rattle.auth_cli.specs.Answer.{Answer, ServingNumbers, with_number, with_serving_numbers}
-use Rattle.auth_cli.specs.Arguments.{most_links, most_port, most_slice, positive_within}
+use Rattle.file_commands.specs.Answer.{Answer, ServingNumbers, with_number, with_serving_numbers}
+use Rattle.file_commands.specs.Arguments.{most_links, most_port, most_slice, positive_within}
 use Rattle.auth_cli.specs.PreparedServers.{numbers_of}
-use Rattle.auth_cli.proofs.LineSteps.{first_halts, goes_as}
+use Rattle.file_commands.proofs.LineSteps.{first_halts, goes_as}
 use Rattle.auth_cli.proofs.serving.read_numbers.Goals as goal
 
 -- the steps

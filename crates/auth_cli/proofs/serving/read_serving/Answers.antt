@@ -1,14 +1,14 @@
 use Rattle.std.proofs.Common.{None, Err, ap, sym, subst, ◌∙◌}
 use Rattle.std.proofs.lemmas.Result.{err_from_is_err_and}
 use Rattle.code_gen.specs.Programs.{program_in}
-use Rattle.auth_cli.specs.Answer.{Answer, Serving, unserved_answer, with_program_file}
+use Rattle.file_commands.specs.Answer.{Answer, Serving, unserved_answer, with_program_file}
 use Rattle.auth_cli.specs.PreparedServers.{IsPrepared, with_beginning}
-use Rattle.auth_cli.specs.ReadPrograms.{digested_of, named_of}
-use Rattle.auth_cli.specs.Reaching.{without}
+use Rattle.file_commands.specs.ReadPrograms.{digested_of, named_of}
+use Rattle.file_commands.specs.Reaching.{without}
 use Rattle.auth_cli.specs.declared.serving.Beginning.{Beginning}
-use Rattle.auth_cli.proofs.Reached.{faults_reached, is_missing}
-use Rattle.auth_cli.proofs.RoleSteps.{program_reached}
-use Rattle.auth_cli.proofs.Steps.{halts_behind, halts_first_for}
+use Rattle.file_commands.proofs.Reached.{faults_reached, is_missing}
+use Rattle.file_commands.proofs.RoleSteps.{program_reached}
+use Rattle.file_commands.proofs.Steps.{halts_behind, halts_first_for}
 use Rattle.auth_cli.proofs.serving.read_serving.Goals as goal
 
 pub returns-in_err-code-clause-goes : goal.returns-in_err-code-clause-goes

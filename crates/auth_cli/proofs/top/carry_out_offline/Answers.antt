@@ -1,8 +1,8 @@
 use Rattle.std.proofs.Common.{None, Err, refl, sym, subst}
 use Rattle.command_words.specs.Commands.{IsOfCommand, texts}
 use Rattle.command_words.specs.declared.command.Command.TheVariants.{Check, Init, Ideal, Step, Shallow, Prove, Verify, Audit, Library, Gen}
-use Rattle.auth_cli.specs.Statuses.{MayAnswer}
-use Rattle.auth_cli.proofs.Words.{counted, ends_known, reached_known, within}
+use Rattle.file_commands.specs.Statuses.{MayAnswer}
+use Rattle.file_commands.proofs.Words.{counted, ends_known, reached_known, within}
 use Rattle.auth_cli.proofs.top.carry_out_offline.Goals as goal
 
 pub check_command-requires : goal.check_command-requires

@@ -1,14 +1,14 @@
 use Rattle.std.proofs.Common.{Err, Some, refl, subst}
 use Rattle.command_words.specs.Commands.{texts}
 use Rattle.command_words.specs.Invocations.{invocation_of, invoked}
-use Rattle.auth_cli.specs.Answer.{answer, command_answer, usage_answer}
+use Rattle.file_commands.specs.Answer.{answer, command_answer, usage_answer}
 use Rattle.auth_cli.specs.NetRuns.{IsOffline}
-use Rattle.auth_cli.specs.declared.report.Halt.TheVariants.{NoMemory, Usage}
+use Rattle.file_commands.specs.declared.report.Halt.TheVariants.{NoMemory, Usage}
 use Rattle.auth_cli.proofs.Called.{memory_told, none_called, none_refused, possible_called, reached_called, usage_told}
-use Rattle.auth_cli.proofs.Ends.{ends_as, usage_ends}
+use Rattle.file_commands.proofs.Ends.{ends_as, usage_ends}
 use Rattle.auth_cli.proofs.NetRuns.{reached_by, reached_offline, run_called, run_memory, run_refused}
-use Rattle.auth_cli.proofs.Possible.{memory_possible}
-use Rattle.auth_cli.proofs.Reached.{refused_reached}
+use Rattle.file_commands.proofs.Possible.{memory_possible}
+use Rattle.file_commands.proofs.Reached.{refused_reached}
 use Rattle.auth_cli.proofs.top.ended.Goals as goal
 
 pub returns-in-Ok-clause-ends : goal.returns-in-Ok-clause-ends

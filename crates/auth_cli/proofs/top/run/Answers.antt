@@ -3,16 +3,17 @@ use Rattle.command_words.specs.Commands.{texts}
 use Rattle.command_words.specs.Invocations.{Invocation, invocation_of}
 use Rattle.command_words.specs.declared.command.Command.TheVariants.{Audit, Prove}
 use Rattle.command_words.proofs.Judging.{refused_exactly}
-use Rattle.auth_cli.specs.Answer.{answer}
-use Rattle.auth_cli.specs.AuditedCalls.{TellsAnAudit}
-use Rattle.auth_cli.specs.Ending.{IsOfFault}
-use Rattle.auth_cli.specs.TrueLines.{TellsOutcome}
+use Rattle.file_commands.specs.Answer.{answer}
+use Rattle.file_commands.specs.AuditedCalls.{TellsAnAudit}
+use Rattle.file_commands.specs.Ending.{IsOfFault}
+use Rattle.file_commands.specs.TrueLines.{TellsOutcome}
 use Rattle.auth_cli.proofs.AnsweredRuns.{audited_run, prove_tells, proved_run, split_tells}
 use Rattle.auth_cli.proofs.Answered.{answered, fault_line, memory_line, part_written, stored, stored_first}
+use Rattle.auth_cli.proofs.AskTruths.{texts_truth}
 use Rattle.auth_cli.proofs.Called.{refused_code}
 use Rattle.auth_cli.proofs.NetRuns.{AreBelow, command_is_offline, reached_risen, run_asks, run_dials, run_fault, run_listens, run_offline, run_rose, run_serves, run_writes, true_run}
-use Rattle.auth_cli.proofs.Possible.{collision_alone, usage_alone}
-use Rattle.auth_cli.proofs.Reached.{read_fault_of_code}
+use Rattle.file_commands.proofs.Possible.{collision_alone, usage_alone}
+use Rattle.file_commands.proofs.Reached.{read_fault_of_code}
 use Rattle.auth_cli.proofs.top.run.Goals as goal
 
 pub returns-clause-ends : goal.returns-clause-ends
@@ -23,6 +24,9 @@ returns-clause-serves g c = λ called is serve. (c.ended.result, c.code.ensures,
 
 pub returns-clause-asks : goal.returns-clause-asks
 returns-clause-asks g c = λ called is ask. (c.ended.result, c.code.ensures, run_asks (invocation_of (texts c.args.words.now)) called _ _ _ _ c.ended.result is ask c.ended.ensures.ends)
+
+pub returns-clause-told_truth : goal.returns-clause-told_truth
+returns-clause-told_truth g c = λ called is ask asking name calls. texts_truth asking calls.of_texts
 
 pub returns-clause-headline : goal.returns-clause-headline
 returns-clause-headline g c = rw c.code.ensures (true_run (texts c.args.words.now) _ _ _ _ c.ended.result c.ended.ensures.ends)

@@ -1,4 +1,4 @@
 use Rattle.core_stage.proofs.stage.hear.Goals as goal
 
 pub returns : goal.returns
-returns c = let s = c.requires in (_, (c.in_ok-replies.ensures.handled s.0 s.1).serves)
+returns g c = let s = c.requires in (_, (c.in_ok-replies.ensures.handled s.0 s.1).serves)

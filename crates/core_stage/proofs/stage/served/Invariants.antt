@@ -4,4 +4,4 @@ use Rattle.serve_core.specs.Serving.{Serves}
 use Rattle.core_stage.proofs.stage.served.Given as goal
 
 abbrev pub invariant-loop : goal.invariant-loop
-invariant-loop l = (server : meant.Server) × Serves sha256 l.core server
+invariant-loop g l = (server : meant.Server) × Serves sha256 l.core server

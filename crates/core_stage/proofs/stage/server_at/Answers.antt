@@ -5,6 +5,6 @@ use Rattle.serve_core.specs.Serving.{Serves}
 use Rattle.core_stage.proofs.stage.server_at.Goals as goal
 
 pub returns : goal.returns
-returns c =
+returns g c =
     let v = c.requires.version in
     (new_server v.0, subst (λ core. Serves sha256 core (new_server v.0)) (sym c.in_ok-new.ensures.ok) (c.in_ok-core.ensures.serves v.0 v.1))

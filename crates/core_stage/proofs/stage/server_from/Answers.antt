@@ -7,6 +7,6 @@ use Rattle.value_store.specs.Stores.{nodes_in}
 use Rattle.core_stage.proofs.stage.server_from.Goals as goal
 
 pub server_at-requires-clause-version : goal.server_at-requires-clause-version
-server_at-requires-clause-version c =
+server_at-requires-clause-version g c = λ lifetimes outlives.
     let first = c.in_ok-first.first in
     subst (λ p. (v : Value) × IsVersion sha256 (meaning p) (nodes_in first.store) first.root v) c.program-2.ensures c.in_ok-first.ensures

@@ -4,4 +4,4 @@ use Rattle.serve_core.specs.Serving.{Serves}
 use Rattle.server_tests.proofs.rows.answers_all.Given as goal
 
 abbrev pub invariant-loop-on_one : goal.invariant-loop-on_one
-invariant-loop-on_one l = (server : meant.Server) × Serves sha256 l.core server
+invariant-loop-on_one g l = (server : meant.Server) × Serves sha256 l.core server

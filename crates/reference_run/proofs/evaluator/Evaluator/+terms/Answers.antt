@@ -3,7 +3,7 @@ use Rattle.std.proofs.Common.{◌≡◌, ◌≤◌, ◌+◌, ◌∷◌, ◌∙�
 use Rattle.std.proofs.lemmas.List.{drop_more}
 use Rattle.core_terms.specs.Programs.{types_of}
 use Rattle.core_terms.specs.ProgramTrees.{arms_in_a_row, in_a_row}
-use Rattle.core_terms.specs.Values.{IntV, TextV}
+use Rattle.core_terms.specs.Values.{IntV}
 use Rattle.core_terms.specs.declared.term.Term.TheViews.{size-Term}
 use Rattle.core_terms.proofs.TermViews.{expression-UnitLiteral, expression-BoolLiteral, expression-IntLiteral, expression-TextLiteral, expression-Local, expression-Pair, expression-Fst, expression-Snd, expression-Not, expression-Len, expression-Auth, expression-Unauth, expression-Constructor, expression-Arith, expression-Compare, expression-TextCompare, expression-Cat, expression-Let, expression-If, expression-Match, expression-Call}
 use Rattle.ideal_meaning.specs.Ideal.{ideal_mode}
@@ -21,7 +21,7 @@ use Rattle.reference_run.proofs.Locals.{found, past}
 use Rattle.reference_run.proofs.PassedInts.{kept}
 use Rattle.reference_run.proofs.Rows.{ahead, ahead_none, join_none, joined, none_left, one_ahead}
 use Rattle.reference_run.proofs.Steps.{as_term, one_part, row_parts, two_parts}
-use Rattle.reference_run.proofs.ValueViews.{plain-BoolValue, plain-IntValue, plain-TextValue, plain-UnitValue}
+use Rattle.reference_run.proofs.ValueViews.{plain-BoolValue, plain-IntValue, plain-UnitValue}
 use Rattle.reference_run.proofs.Weights.{less_fuel, next_call}
 use Rattle.reference_run.proofs.evaluator.Evaluator.+terms.Goals as goal
 
@@ -55,45 +55,19 @@ eval-returns-in-IntLiteral-clause-value t c = λ whole nesting seen h.
     let is = ap (expression e) c.in-IntLiteral.is ∙ expression-IntLiteral T c.in-IntLiteral.value in
     (seen, ap (λ E. eval P nesting E env k seen) is ∙ ap (λ v. Gives v k seen) (sym (plain-IntValue _ ∙ ap IntV (kept c.in-IntLiteral.value (omega arith)))))
 
-pub eval-returns-in_ok-copied_text-in-TextLiteral-clause-value : goal.eval-returns-in_ok-copied_text-in-TextLiteral-clause-value
-eval-returns-in_ok-copied_text-in-TextLiteral-clause-value t c = λ whole nesting seen h.
+pub eval-returns-in-TextLiteral-clause-value : goal.eval-returns-in-TextLiteral-clause-value
+eval-returns-in-TextLiteral-clause-value t c = λ whole nesting seen h.
     let e = c.args.self.now in
-    let T = types_of e.program.now in
-    let P = program_of e in
-    let env = plains_of c.args.locals.now in
     let k = c.args.fuel.now in
-    let text = c.in-TextLiteral.text in
-    let is = ap (expression e) c.in-TextLiteral.is ∙ expression-TextLiteral T text in
-    let copy = c.in_ok-copied_text-in-TextLiteral.field-0 in
-    (seen, ap (λ E. eval P nesting E env k seen) is ∙ ap (λ v. Gives v k seen) (sym (plain-TextValue copy ∙ ap TextV c.in_ok-copied_text-in-TextLiteral.ensures)))
+    let is = ap (expression e) c.in-TextLiteral.is ∙ expression-TextLiteral (types_of e.program.now) c.in-TextLiteral.text in
+    as_term e (plains_of c.args.locals.now) nesting k k seen c.literal.result c.args.term.now _ is (c.literal.ensures k seen)
 
-pub eval-returns-in_err-copied_text-in-TextLiteral-clause-value : goal.eval-returns-in_err-copied_text-in-TextLiteral-clause-value
-eval-returns-in_err-copied_text-in-TextLiteral-clause-value t c = λ whole nesting seen h.
+pub eval-returns-in-Local-clause-value : goal.eval-returns-in-Local-clause-value
+eval-returns-in-Local-clause-value t c = λ whole nesting seen h.
     let e = c.args.self.now in
-    let T = types_of e.program.now in
-    let P = program_of e in
-    let env = plains_of c.args.locals.now in
     let k = c.args.fuel.now in
-    handed_on plain_of k c.from_residual.result _ (eval P nesting (expression e c.args.term.now) env k seen) c.from_residual.ensures.1 tt
-
-pub eval-returns-in_err-local-in-Local-clause-value : goal.eval-returns-in_err-local-in-Local-clause-value
-eval-returns-in_err-local-in-Local-clause-value t c = λ whole nesting seen h.
-    let e = c.args.self.now in
-    let T = types_of e.program.now in
-    let P = program_of e in
-    let env = plains_of c.args.locals.now in
-    let k = c.args.fuel.now in
-    handed_on plain_of k c.from_residual-in_err-local-in-Local.result _ (eval P nesting (expression e c.args.term.now) env k seen) c.from_residual-in_err-local-in-Local.ensures.1 tt
-
-pub eval-returns-in_ok-local-in-Local-clause-value : goal.eval-returns-in_ok-local-in-Local-clause-value
-eval-returns-in_ok-local-in-Local-clause-value t c = λ whole nesting seen h.
-    let e = c.args.self.now in
-    let T = types_of e.program.now in
-    let P = program_of e in
-    let env = plains_of c.args.locals.now in
-    let k = c.args.fuel.now in
-    let is = ap (expression e) c.in-Local.is ∙ expression-Local T c.in-Local.id in
-    (seen, ap (λ E. eval P nesting E env k seen) is ∙ ap (λ v. Gives v k seen) (sym c.in_ok-local-in-Local.ensures))
+    let is = ap (expression e) c.in-Local.is ∙ expression-Local (types_of e.program.now) c.in-Local.id in
+    as_term e (plains_of c.args.locals.now) nesting k k seen c.local.result c.args.term.now _ is (c.local.ensures k seen)
 
 pub eval-returns-in-Fst-clause-value : goal.eval-returns-in-Fst-clause-value
 eval-returns-in-Fst-clause-value t c = λ whole nesting seen h.

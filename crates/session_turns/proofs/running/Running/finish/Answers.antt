@@ -1,4 +1,4 @@
-use Rattle.std.proofs.Common.{◌≡◌, ℕ, List, length, take, ◌++◌, sym, ap, ◌∙◌, subst}
+use Rattle.std.proofs.Common.{rules, ◌≡◌, ℕ, List, length, take, ◌++◌, Some, Ok, sym, ap, ◌∙◌, subst}
 use Rattle.ideal_meaning.specs.Headline.{call_of}
 use Rattle.mode_vm.specs.Meanings.{program_of}
 use Rattle.reuse_buffer.specs.Kept.{Kept, kept}
@@ -11,6 +11,7 @@ use Rattle.session_turns.proofs.running.Running.finish.Goals as goal
 
 pub returns-clause-ends : goal.returns-clause-ends
 returns-clause-ends g c s state call made h on ring =
+    let ran : c.args.self.last ≡ Ok (Some c.in-Ok-Some.outcome) = search rules in
     let hash = g.H.Hash32.hash in
     let P = program_of c.args.code.now in
     let base = nodes_in c.args.base.now in
@@ -20,7 +21,7 @@ returns-clause-ends g c s state call made h on ring =
     let told =
     tells_so hash P state call s.kept c.args.ring.size s.recent c.in_ok-proof.proof.bytes.items c.in_ok-proof.proof.fresh c.in_ok-proof.proof.again c.in_ok-proof.ring size
     (c.in_ok-proof.ensures (role_in P call.role).function (call_of state call.argument) call.fuel s.recent
-    (run_over hash c.args.code.now base run c.args.call state call made h c.in-Some.outcome c.in-Some.is _ c.on-over.ensures.nodes) held) in
+    (run_over hash c.args.code.now base run c.args.call state call made h c.in-Ok-Some.outcome ran _ c.on-over.ensures.nodes) held) in
     let behind = c.off.ensures.nodes ∙ ap (λ (ns : List Node). ns ++ own_nodes c.off.result) c.on-over.ensures.lent in (
       told.0,
       told.1,
@@ -28,7 +29,7 @@ returns-clause-ends g c s state call made h on ring =
         on_version = on;
         has_frames = c.len.ensures ∙ c.in_ok-proof.proof.bytes.ok.0 ∙ ap (λ (bytes : List ℕ). length bytes) told.0;
         has_made =
-            made_so hash c.args.code.now base run c.args.call state call made h c.in-Some.outcome c.in-Some.is _ _ c.state_made-made.result c.on-over.ensures.nodes behind
+            made_so hash c.args.code.now base run c.args.call state call made h c.in-Ok-Some.outcome ran _ _ c.state_made-made.result c.on-over.ensures.nodes behind
             (λ o is. c.state_made-made.ensures hash o is);
         of_call = h.1;
       },
@@ -39,6 +40,7 @@ returns-clause-sound g c = subst (λ (ns : List Node). AreSound (ns ++ own_nodes
 
 pub returns-clause-made : goal.returns-clause-made
 returns-clause-made g c =
+    let ran : c.args.self.last ≡ Ok (Some c.in-Ok-Some.outcome) = search rules in
     let hash = g.H.Hash32.hash in
     let P = program_of c.args.code.now in
     let base = nodes_in c.args.base.now in
@@ -46,5 +48,5 @@ returns-clause-made g c =
     let behind = c.off.ensures.nodes ∙ ap (λ (ns : List Node). ns ++ own_nodes c.off.result) c.on-over.ensures.lent in
     made_within c.args.self.from base (own_nodes c.off.result) c.state_made-made.result h.3.0.within
     (made_there hash P (take c.args.self.from base ++ own_nodes c.off.result) c.state_made-made.result (new_state P h.1 (outcome_of P h.0 h.1))
-    (made_so hash c.args.code.now base c.args.self c.args.call h.0 h.1 h.2 h.3 c.in-Some.outcome c.in-Some.is _ _ c.state_made-made.result c.on-over.ensures.nodes behind
+    (made_so hash c.args.code.now base c.args.self c.args.call h.0 h.1 h.2 h.3 c.in-Ok-Some.outcome ran _ _ c.state_made-made.result c.on-over.ensures.nodes behind
     (λ o is. c.state_made-made.ensures hash o is)))

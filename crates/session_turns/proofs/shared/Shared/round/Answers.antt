@@ -1,107 +1,57 @@
-use Rattle.std.proofs.Common.{◌++◌, [], length, sym, ap, ◌∙◌, subst, append-nil, arith}
-use Rattle.std.specs.Vec.Iter.{into_iter_items, into_iter_len}
-use Rattle.mode_vm.specs.Meanings.{program_of}
-use Rattle.session_meaning.specs.Server as meant
-use Rattle.session_turns.specs.Rounds.{entries_of}
-use Rattle.session_turns.proofs.RoundSoFar.{IsSofar, at_once, begins, ends, goes_on, next, none_left, on_err, one_taken, stops}
+use Rattle.std.proofs.Common.{sym, subst}
+use Rattle.value_store.specs.Stores.{nodes_in}
+use Rattle.session_turns.specs.Ahead.{AreAhead}
+use Rattle.session_turns.specs.Turning.{AllGoOn, AllTurned, IsTurnOf}
+use Rattle.session_turns.proofs.Rows.{alike_length, if_err, if_ok}
+use Rattle.session_turns.proofs.TurnedRows.{all_ahead, all_go_on, all_written}
 use Rattle.session_turns.proofs.shared.Shared.round.Goals as goal
 
-pub loop-entry-init : goal.loop-entry-init
-loop-entry-init g c =
-    let gives = c.into_iter-entry-iterator.ensures.into_iter_gives in
-    record {
-      counts = let n = gives.1 in let same = ap length gives.0 in let ok = c.args.entries.ok in omega (arith, n, same, ok);
-      sofar = λ m xs shares are. rw c.new-left.ensures.items (subst (λ l. IsSofar g.H.Hash32.hash c.args.code.now c.args.units m xs c.args.self.now l [] c.args.replies.now.items c.args.replies.now.items) (sym gives.0)
-          (begins g.H.Hash32.hash c.args.code.now c.args.units c.args.self.now c.args.entries.items c.args.replies.now.items m xs shares are));
-    }
+pub round-requires-clause-go_on : goal.round-requires-clause-go_on
+round-requires-clause-go_on g c κs within =
+    let hash = g.H.Hash32.hash in
+    let code = c.args.code.now in
+    let shared = c.args.self.now in
+    subst (λ l. AllGoOn hash code (nodes_in shared.store) l) (sym c.as_mut_slice.ensures.value)
+    (all_go_on hash code c.args.units shared c.requires.shares.0.versions c.args.entries.items c.requires.shares.1 c.requires.shares.3)
 
-pub turn-requires-clause-shares : goal.turn-requires-clause-shares
-turn-requires-clause-shares g c κs within =
+pub settle_turns-requires-after_bounds : goal.settle_turns-requires-after_bounds
+settle_turns-requires-after_bounds g c κs within =
+    let hash = g.H.Hash32.hash in
+    let code = c.args.code.now in
+    let units = c.args.units in
+    let shared = c.args.self.now in
     let m = c.requires.shares.0 in
     let xs = c.requires.shares.1 in
-    let shares = c.requires.shares.2 in
-    let are = c.requires.shares.3 in
-    let hash = g.H.Hash32.hash in
-    let code = c.args.code.now in
-    let units = c.args.units in
-    let loop = c.loop-entry in
-    let rest = into_iter_items c.next.new.self in
-    let old = c.args.replies.now.items in
-    let h = subst (λ l. IsSofar hash code units m xs loop.self l loop.left.items old loop.replies.items) c.in-Some.ensures.steps.0 (loop.invariant.sofar m xs shares are) in
-    let n = next hash code units m xs loop.self c.in-Some.entry rest loop.left.items old loop.replies.items h in
-    (h.sofar.shared, n.x, h.shares, n.this)
-
-pub returns-in_err-entry-clause-refused : goal.returns-in_err-entry-clause-refused
-returns-in_err-entry-clause-refused g c =
-    on_err c.from_residual.result _ (λ m xs shares are.
-    let hash = g.H.Hash32.hash in
-    let code = c.args.code.now in
-    let units = c.args.units in
-    let loop = c.loop-entry in
-    let rest = into_iter_items c.next.new.self in
-    let old = c.args.replies.now.items in
-    let h = subst (λ l. IsSofar hash code units m xs loop.self l loop.left.items old loop.replies.items) c.in-Some.ensures.steps.0 (loop.invariant.sofar m xs shares are) in
-    let n = next hash code units m xs loop.self c.in-Some.entry rest loop.left.items old loop.replies.items h in
-    let r = c.in_err-entry.ensures.refused h.sofar.shared n.x h.shares n.this in
-    (r.0, stops hash code units m xs loop.self c.in-Some.entry rest loop.left.items old loop.replies.items h r.0 r.1, r.2))
-
-pub loop-entry-preserved-in-Continue-branch-3 : goal.loop-entry-preserved-in-Continue-branch-3
-loop-entry-preserved-in-Continue-branch-3 g c =
-    record {
-      counts = one_taken (into_iter_items c.loop-entry.entry-iterator) (into_iter_items c.next.new.self) c.in-Some.entry (into_iter_len c.loop-entry.entry-iterator) (into_iter_len c.next.new.self)
-          c.in-Some.ensures.steps.0 c.in-Some.ensures.steps.1 c.loop-entry.invariant.counts;
-      sofar = λ m xs shares are.
-          let hash = g.H.Hash32.hash in
-          let code = c.args.code.now in
-          let units = c.args.units in
-          let loop = c.loop-entry in
-          let rest = into_iter_items c.next.new.self in
-          let old = c.args.replies.now.items in
-          let h = subst (λ l. IsSofar hash code units m xs loop.self l loop.left.items old loop.replies.items) c.in-Some.ensures.steps.0 (loop.invariant.sofar m xs shares are) in
-          let n = next hash code units m xs loop.self c.in-Some.entry rest loop.left.items old loop.replies.items h in
-          let q = c.in_ok-entry.ensures.turned h.sofar.shared n.x h.shares n.this in
-          let on = goes_on hash code units m xs loop.self c.in-Some.entry rest loop.left.items old loop.replies.items h c.turn.new.self c.turn.new.replies.items c.in_ok-entry.field-0 c.turn.ensures.grows q in
-          subst (λ l. IsSofar hash code units m xs c.turn.new.self rest l old c.turn.new.replies.items)
-          (ap (λ o. loop.left.items ++ entries_of o) c.in-Some-2.is ∙ sym c.in_ok-push.ensures.items) on;
-    }
-
-pub returns-in_err-push-clause-refused : goal.returns-in_err-push-clause-refused
-returns-in_err-push-clause-refused g c =
-    on_err c.from_residual-in_err-push.result _ (λ m xs shares are.
-    let hash = g.H.Hash32.hash in
-    let code = c.args.code.now in
-    let units = c.args.units in
-    let loop = c.loop-entry in
-    let rest = into_iter_items c.next.new.self in
-    let old = c.args.replies.now.items in
-    let h = subst (λ l. IsSofar hash code units m xs loop.self l loop.left.items old loop.replies.items) c.in-Some.ensures.steps.0 (loop.invariant.sofar m xs shares are) in
-    let n = next hash code units m xs loop.self c.in-Some.entry rest loop.left.items old loop.replies.items h in
-    let q = c.in_ok-entry.ensures.turned h.sofar.shared n.x h.shares n.this in
-    let on = goes_on hash code units m xs loop.self c.in-Some.entry rest loop.left.items old loop.replies.items h c.turn.new.self c.turn.new.replies.items c.in_ok-entry.field-0 c.turn.ensures.grows q in
-    (on.sofar.shared, on.reached on.sofar.shared (at_once hash (program_of code) (meant.last_turn units) on.rest on.sofar.shared), on.shares))
-
-pub loop-entry-preserved : goal.loop-entry-preserved
-loop-entry-preserved g c =
-    record {
-      counts = one_taken (into_iter_items c.loop-entry.entry-iterator) (into_iter_items c.next.new.self) c.in-Some.entry (into_iter_len c.loop-entry.entry-iterator) (into_iter_len c.next.new.self)
-          c.in-Some.ensures.steps.0 c.in-Some.ensures.steps.1 c.loop-entry.invariant.counts;
-      sofar = λ m xs shares are.
-          let hash = g.H.Hash32.hash in
-          let code = c.args.code.now in
-          let units = c.args.units in
-          let loop = c.loop-entry in
-          let rest = into_iter_items c.next.new.self in
-          let old = c.args.replies.now.items in
-          let h = subst (λ l. IsSofar hash code units m xs loop.self l loop.left.items old loop.replies.items) c.in-Some.ensures.steps.0 (loop.invariant.sofar m xs shares are) in
-          let n = next hash code units m xs loop.self c.in-Some.entry rest loop.left.items old loop.replies.items h in
-          let q = c.in_ok-entry.ensures.turned h.sofar.shared n.x h.shares n.this in
-          let on = goes_on hash code units m xs loop.self c.in-Some.entry rest loop.left.items old loop.replies.items h c.turn.new.self c.turn.new.replies.items c.in_ok-entry.field-0 c.turn.ensures.grows q in
-          subst (λ l. IsSofar hash code units m xs c.turn.new.self rest l old c.turn.new.replies.items)
-          (ap (λ o. loop.left.items ++ entries_of o) c.in_default.is ∙ append-nil loop.left.items) on;
-    }
+    let old = c.args.entries.items in
+    let new = c.round.new.entries in
+    let turned = subst (λ l. AllTurned hash code (nodes_in shared.store) units l new) c.as_mut_slice.ensures.value c.round.ensures in
+    let written = all_written c.args.entries.len old new c.args.entries.ok.0 (alike_length (IsTurnOf hash code (nodes_in shared.store) units) old new turned) in
+    (units, m, xs, c.requires.shares.2, subst (λ l. AreAhead hash code units shared m.versions l xs) (sym written) (all_ahead hash code units shared m.versions c.requires.some old new xs c.requires.shares.3 turned))
 
 pub returns-clause-turned : goal.returns-clause-turned
-returns-clause-turned g c m xs shares are =
-    let loop = c.loop-entry in
-    ends g.H.Hash32.hash c.args.code.now c.args.units m xs loop.self (into_iter_items loop.entry-iterator) loop.left.items c.args.replies.now.items loop.replies.items
-    (none_left (into_iter_items loop.entry-iterator) (into_iter_len loop.entry-iterator) c.in-None.ensures.steps.0 loop.invariant.counts) (loop.invariant.sofar m xs shares are)
+returns-clause-turned g c =
+    if_ok _ _ (λ left f m xs shares are.
+    let hash = g.H.Hash32.hash in
+    let code = c.args.code.now in
+    let units = c.args.units in
+    let shared = c.args.self.now in
+    let old = c.args.entries.items in
+    let new = c.round.new.entries in
+    let turned = subst (λ l. AllTurned hash code (nodes_in shared.store) units l new) c.as_mut_slice.ensures.value c.round.ensures in
+    let written = all_written c.args.entries.len old new c.args.entries.ok.0 (alike_length (IsTurnOf hash code (nodes_in shared.store) units) old new turned) in
+    f units m xs shares (subst (λ l. AreAhead hash code units shared m.versions l xs) (sym written) (all_ahead hash code units shared m.versions c.requires.some old new xs are turned)))
+    c.settle_turns.result c.settle_turns.ensures.turned
+
+pub returns-clause-refused : goal.returns-clause-refused
+returns-clause-refused g c =
+    if_err c.settle_turns.result _ _ (λ f m xs shares are.
+    let hash = g.H.Hash32.hash in
+    let code = c.args.code.now in
+    let units = c.args.units in
+    let shared = c.args.self.now in
+    let old = c.args.entries.items in
+    let new = c.round.new.entries in
+    let turned = subst (λ l. AllTurned hash code (nodes_in shared.store) units l new) c.as_mut_slice.ensures.value c.round.ensures in
+    let written = all_written c.args.entries.len old new c.args.entries.ok.0 (alike_length (IsTurnOf hash code (nodes_in shared.store) units) old new turned) in
+    f units m xs shares (subst (λ l. AreAhead hash code units shared m.versions l xs) (sym written) (all_ahead hash code units shared m.versions c.requires.some old new xs are turned)))
+    c.settle_turns.ensures.refused

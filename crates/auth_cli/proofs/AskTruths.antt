@@ -1,0 +1,54 @@
+-- What is told of an asking of texts is true: for `run`, clause `told_truth`.
+use Rattle.std.proofs.Common.{◌≡◌, ℕ, ◌<◌, ◌≤◌, ◌^◌, true, List, length, nat_le, sym, subst, le-leb, lit<}
+use Rattle.sha2.specs.Sha256.{sha256}
+use Rattle.sha2.proofs.Facts256.{length-sha256}
+use Rattle.core_terms.specs.Formats.{Format, IsFormat}
+use Rattle.core_terms.specs.ProgramLimits.{most_constructors}
+use Rattle.core_terms.specs.Terms.{Program}
+use Rattle.core_terms.specs.Types.{Ty, has_tags}
+use Rattle.core_terms.proofs.LawProofs.{first_format_is_format, typing_test_is_exact}
+use Rattle.core_terms.proofs.Limited.{all_pass}
+use Rattle.auth_syntax.specs.Parsing.{Parsed, Tree, FirstFault, parsed}
+use Rattle.auth_syntax.specs.Syntax as syntax
+use Rattle.auth_types.specs.Checking.{Checking, Sound, FaultAt}
+use Rattle.auth_types.specs.CheckedPrograms.{all_passes, as_checked, checked}
+use Rattle.auth_types.specs.CheckedPrograms as checking
+use Rattle.auth_types.proofs.SoundPrograms.{checked_is_within_limits}
+use Rattle.ask_script.proofs.ByteArguments.{arguments_are_bytes}
+use Rattle.script_play.proofs.Runs.{plays_tell_truth}
+use Rattle.session_meaning.proofs.ClientRun.{told_is_true}
+use Rattle.file_commands.specs.Answer.{Asking}
+use Rattle.auth_cli.specs.Asking.{IsOfTexts, TellsTrueOutcomes}
+use Rattle.file_commands.specs.TextPrograms.{IsProgram, of_parsed, program_of_text}
+use Rattle.file_commands.proofs.SoundTexts.{checked_is, text_is_sound}
+
+-- each constructor of a program that is given has a tag of one byte
+passed : (found : Checking Program) (P : Program) → as_checked found ≡ checking.IsProgram P → found ≡ Sound P
+passed (Sound Q) P e = cc
+passed (FaultAt kind at) P e = absurd (cc)
+
+tree_tags : (program : syntax.Program) (P : Program) → checked program ≡ checking.IsProgram P → has_tags P.types ≡ true
+unfolding checked
+tree_tags program P e =
+    let limits = checked_is_within_limits program P (passed (all_passes program) P e) in
+    all_pass (λ (constructors : List (List Ty)). length constructors ≤ most_constructors)
+    (λ (constructors : List (List Ty)). nat_le (length constructors) 255) (λ constructors few. le-leb (length constructors) 255 few) P.types limits.constructors
+
+parsed_tags : (found : Parsed) (P : Program) → of_parsed found ≡ IsProgram P → has_tags P.types ≡ true
+parsed_tags (Tree program) P e = tree_tags program P (checked_is (checked program) P e)
+parsed_tags (FirstFault kind at) P e = absurd (cc)
+
+text_tags : (text : List ℕ) (P : Program) → program_of_text text ≡ IsProgram P → has_tags P.types ≡ true
+unfolding program_of_text
+text_tags text P e = parsed_tags (parsed text) P e
+
+-- whatever replies come
+pub texts_truth : (a : Asking) → IsOfTexts a → TellsTrueOutcomes a
+texts_truth a texts = λ ms.
+    let P = a.program.digested.program in
+    let sound = text_is_sound texts.program.0 P texts.program.1 in
+    let format : IsFormat P.format = subst IsFormat (sym sound.format) (first_format_is_format 1024 (lit< tt)) in
+    let fits : P.format.limit < 2 ^ 32 = format.limit_fits in
+    let tags = text_tags texts.program.0 P texts.program.1 in
+    plays_tell_truth told_is_true sha256 length-sha256 P format ((typing_test_is_exact P).0 sound.typed) sound.shaped a.program.digested.digest a.state a.steps
+    (arguments_are_bytes P fits tags a.program.names texts.script.0 a.steps texts.script.1) ms

@@ -1,6 +1,0 @@
-use Rattle.auth_syntax.specs.Trees.{program_of}
-use Rattle.auth_cli.proofs.TextNames.{names_of_text}
-use Rattle.auth_cli.proofs.programs.read_program.Goals as goal
-
-pub returns-clause-names : goal.returns-clause-names
-returns-clause-names c = names_of_text _ c.args.text.now (program_of c.in_ok-ast.ast) c.in_ok-ast.ensures.answer c.in_ok-check.ensures.constructors

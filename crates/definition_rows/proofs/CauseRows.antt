@@ -1,0 +1,8 @@
+-- The rows of `specs/CauseRows` hold.
+use Rattle.std.specs.Prelude.{refl}
+use Rattle.definition_rows.specs.CauseRows.{CauseRows}
+
+pub cause_rows : CauseRows
+cause_rows = record {
+  digests_are_told = λ want found. refl;
+}

@@ -1,0 +1,20 @@
+-- What `shallow` stores for a client of `prove`: each step of its work goes on.
+use Rattle.std.proofs.Common.{Option, Some, refl, ◌∙◌}
+use Rattle.core_terms.specs.Values.{Value}
+use Rattle.file_commands.specs.Answer.{Answer, state_answer, with_image_file}
+use Rattle.file_commands.specs.FueledRoles.{NamedProgram}
+use Rattle.file_commands.specs.ShallowLaws.{ShallowStoresTheClientsState}
+use Rattle.file_commands.proofs.GoingOn.{program_goes, state_goes}
+
+pub stores_the_clients_state : ShallowStoresTheClientsState
+stores_the_clients_state invocation files call n proof calls program image out later program_is image_is =
+    let p = call.role.program in
+    let told : NamedProgram → Value → Option Answer = λ p v. Some (state_answer p v out) in
+    record {
+      answer = state_answer p call.state out;
+      answered =
+          program_goes (files calls.program_name) (later program) p calls.role.program_file (λ p. with_image_file p.digested (later image) (told p)) program_is
+          ∙ state_goes (files calls.image_name) (later image) p.digested call.state calls.inputs.image_file (told p) image_is;
+      done = refl;
+      stored = refl;
+    }

@@ -1,0 +1,51 @@
+-- What stands for the arguments of a role that is run, and what is gone on with.
+use Rattle.std.proofs.Common.{◌≡◌, ℕ, List, [], ◌∷◌, Option, sym, ap, ◌∙◌, subst}
+use Rattle.core_terms.specs.Programs.{meaning, types_of}
+use Rattle.core_terms.specs.RoleViews.{role_kind_of}
+use Rattle.core_terms.specs.Terms.{function_at}
+use Rattle.core_terms.specs.TypeTables.{type_at}
+use Rattle.core_terms.specs.Values.{AndV, NoV, Value}
+use Rattle.core_terms.specs.declared.program.Program.{Program}
+use Rattle.value_store.specs.Nodes.{Node}
+use Rattle.value_store.specs.Standing.{AllStandFor, StandsFor}
+use Rattle.value_store.specs.Stores.{nodes_in}
+use Rattle.file_commands.specs.Answer.{Answer, with_literal, with_passed}
+use Rattle.file_commands.specs.CallsInStores.{HoldsCall}
+use Rattle.file_commands.specs.IdealCalls as meant
+use Rattle.file_commands.specs.IdealCalls.{values_called}
+use Rattle.file_commands.specs.ReadPrograms.{named_of}
+use Rattle.file_commands.specs.RoleCalls.{named_literal}
+use Rattle.file_commands.specs.RolesCalled.{CallsOnStates, IsCalled, prover_nodes, role_of}
+use Rattle.file_commands.specs.declared.ideal_calls.IdealCall.{IdealCall}
+use Rattle.file_commands.specs.declared.roles.CalledRole.{CalledRole}
+use Rattle.file_commands.specs.declared.roles.Callee.{Callee}
+use Rattle.file_commands.specs.declared.roles.Callee.TheVariants.{Init}
+use Rattle.file_commands.proofs.RoleShapes.{calls_reads, init_alone, init_takes, passed_is, reader_takes}
+
+-- the value of a literal was put as the argument, by this program
+abbrev pub IsPut : CalledRole → (text : List ℕ) → List Node → ℕ → Program → Type 0
+IsPut called text nodes r p =
+    (v : Value) × ((go : Value → Option Answer) → with_literal (named_literal (named_of p) (type_at (types_of p) called.argument) text) go ≡ go v)
+    × StandsFor (prover_nodes p) (meaning p).types nodes r (type_at (types_of p) called.argument) v
+
+-- it is what is gone on with
+pub passed_goes : (callee : Callee) (p : Program) (called : CalledRole) → IsCalled callee p called → (text : List ℕ) (nodes : List Node) (r : ℕ) (put : IsPut called text nodes r p)
+    → (go : Value → Option Answer) → with_passed (role_of p called) text go ≡ go put.0
+passed_goes callee p called is text nodes r put go = ap (λ t. with_literal (named_literal (named_of p) t text) go) (passed_is callee p called is) ∙ put.1 go
+
+-- the state and the argument of a call that is held
+pub call_stands : (callee : Callee) (p : Program) (held : IdealCall) (call : meant.IdealCall) → CallsOnStates callee → HoldsCall callee p held call
+    → AllStandFor (prover_nodes p) (meaning p).types (nodes_in held.store) (held.state.0 ∷ held.argument.0 ∷ []) (function_at (meaning p) held.called.function.0).parameters (values_called call)
+call_stands callee p held call calls h =
+    let called = held.called in
+    let is = h.called in
+    let reads = calls_reads callee (role_kind_of called.kind) calls is.called in
+    subst (λ ts. AllStandFor (prover_nodes p) (meaning p).types (nodes_in held.store) (held.state.0 ∷ held.argument.0 ∷ []) ts (values_called call))
+    (sym (reader_takes (meaning p) called.function.0 (role_kind_of called.kind) (type_at (types_of p) called.argument) is.answer is.shape reads)) (h.state, (h.argument, tt))
+
+pub init_stands : (p : Program) (called : CalledRole) (is : IsCalled Init p called) (text : List ℕ) (nodes : List Node) (r : ℕ) (put : IsPut called text nodes r p)
+    → AllStandFor (prover_nodes p) (meaning p).types nodes (r ∷ []) (function_at (meaning p) called.function.0).parameters (AndV put.0 NoV)
+init_stands p called is text nodes r put =
+    let kind = role_kind_of called.kind in
+    subst (λ ts. AllStandFor (prover_nodes p) (meaning p).types nodes (r ∷ []) ts (AndV put.0 NoV))
+    (sym (init_takes (meaning p) called.function.0 kind (type_at (types_of p) called.argument) is.answer is.shape (init_alone kind is.called))) (put.2, tt)

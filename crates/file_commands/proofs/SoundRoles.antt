@@ -1,0 +1,94 @@
+-- Roles of sound programs that read a state, and the headline of a call of one.
+use Rattle.std.proofs.Common.{◌≡◌, ℕ, ◌<◌, true, List, [], drop, length, Some, Option, None, slice_index_or, refl, sym, ap, subst, lit<}
+use Rattle.sha2.specs.Sha256.{sha256}
+use Rattle.sha2.proofs.Facts256.{length-sha256}
+use Rattle.lam_outside.specs.Told.{Contents}
+use Rattle.core_terms.specs.Formats.{IsFormat}
+use Rattle.core_terms.specs.Types.{Ty, UnitTy}
+use Rattle.core_terms.specs.Values.{Value, IsIdeal}
+use Rattle.core_terms.specs.Spelling.{spelling}
+use Rattle.core_terms.specs.Terms.{Kind, Inner, Init, Query, Update, Program, IsTyped, function_at}
+use Rattle.core_terms.specs.Roles.{IsRole, ReadsState, argument_type, is_entered, role_result}
+use Rattle.core_terms.specs.Projection.{projection}
+use Rattle.core_terms.proofs.CodePrograms.{there}
+use Rattle.core_terms.proofs.LawProofs.{typing_test_is_exact, shape_test_is_exact, first_format_is_format}
+use Rattle.ideal_meaning.specs.Ideal.{Outcome}
+use Rattle.ideal_meaning.specs.Checked.{Accepted}
+use Rattle.ideal_meaning.specs.Frames.{offered, offered_pieces, header}
+use Rattle.ideal_meaning.specs.Headline.{TrueOrSplit, call_of}
+use Rattle.ideal_meaning.proofs.Headline.{headline}
+use Rattle.ideal_meaning.proofs.RoleCalls.{parameters_are, result_is}
+use Rattle.file_commands.specs.Answer.{callee_of, role_verdict}
+use Rattle.file_commands.specs.FueledRoles.{FueledRole}
+use Rattle.file_commands.specs.NamedCalls.{NamesRole}
+use Rattle.file_commands.specs.RoleCalls.{kind_called, program_called, result_called}
+use Rattle.file_commands.specs.RolesCalled.{CallsOnStates}
+use Rattle.file_commands.specs.SoundPrograms.{IsSound}
+use Rattle.file_commands.specs.declared.roles.Callee.{Callee}
+use Rattle.file_commands.proofs.RoleShapes.{calls_reads}
+use Rattle.file_commands.proofs.RolesByName.{role_within}
+use Rattle.file_commands.proofs.SoundTexts.{text_is_sound}
+
+-- the roles that `verify` calls read a state
+pub callee_reads : (out : Option (List ℕ)) → CallsOnStates (callee_of out)
+callee_reads None = tt
+callee_reads (Some out) = tt
+
+reader_entered : (kind : Kind) → ReadsState kind → is_entered kind ≡ true
+reader_entered Query reads = refl
+reader_entered Update reads = refl
+reader_entered Init reads = absurd reads
+reader_entered Inner reads = absurd reads
+
+-- Function f is a role of a sound program, and reads a state: it takes the state and an argument.
+pub record IsReader (P : Program) (f : ℕ) : Type 0 where
+  pub typed : IsTyped P
+  pub format : IsFormat P.format
+  pub reads : ReadsState (function_at P f).kind
+  pub answer : Ty
+  pub role : IsRole P f (function_at P f).kind (argument_type P f) answer
+  pub result : (function_at P f).result ≡ role_result (function_at P f).kind P.state answer
+
+reader : (P : Program) (f : ℕ) → IsSound P → f < length P.functions → ReadsState (function_at P f).kind → IsReader P f
+reader P f sound within reads =
+    let g = function_at P f in
+    let found = (shape_test_is_exact P).0 sound.shaped f g (there P f within) (reader_entered g.kind reads) in
+    let own : argument_type P f ≡ found.0 = ap (λ ts. slice_index_or ts 1 UnitTy) (parameters_are P f g.kind found.0 found.1 found.2 reads) in
+    record {
+      typed = (typing_test_is_exact P).0 sound.typed;
+      format = subst IsFormat (sym sound.format) (first_format_is_format 1024 (lit< tt));
+      reads = reads;
+      answer = found.1;
+      role = subst (λ t. IsRole P f g.kind t found.1) (sym own) found.2;
+      result = result_is P f g.kind found.0 found.1 found.2;
+    }
+
+-- a role that the words name is one, where the command calls roles on states
+pub named_reader : (callee : Callee) → CallsOnStates callee → (program role fuel : List ℕ) (files : Contents) (r : FueledRole)
+    → NamesRole callee program role fuel files r
+    → IsReader (program_called r) r.role
+named_reader callee on_states program role fuel files r names =
+    let P = program_called r in
+    reader P r.role (text_is_sound names.program_file.text P names.program_file.program) (role_within P role r.role names.role)
+    (calls_reads callee (kind_called r) on_states names.called)
+
+-- what is accepted of a call is true, or there is a split
+pub reader_headline : (r : FueledRole) (state argument : Value) (proof : List ℕ) (o : Outcome) → IsReader (program_called r) r.role
+    → IsIdeal (program_called r).types (program_called r).state state → IsIdeal (program_called r).types (argument_type (program_called r) r.role) argument
+    → role_verdict (record {
+      role = r;
+      state = spelling (projection sha256 (program_called r) (program_called r).state state);
+      argument = spelling (projection sha256 (program_called r) (argument_type (program_called r) r.role) argument);
+    }) proof ≡ Accepted o
+    → (n : ℕ) × (header (program_called r).format proof ≡ Some n)
+    × TrueOrSplit sha256 (program_called r) r.role (result_called r) (call_of state argument) r.fuel
+    (offered_pieces (offered (program_called r).format.limit (drop 6 proof) n [])) o
+unfolding role_verdict
+reader_headline r state argument proof o reader ideal_state ideal_argument accepted =
+    let P = program_called r in
+    let f = r.role in
+    let said =
+    headline sha256 length-sha256 P reader.format reader.typed f (function_at P f).kind (argument_type P f) reader.answer reader.role reader.reads state
+    argument ideal_state ideal_argument r.fuel proof o accepted in
+    let pieces = offered_pieces (offered P.format.limit (drop 6 proof) said.0 []) in
+    (said.0, said.1, subst (λ t. TrueOrSplit sha256 P f t (call_of state argument) r.fuel pieces o) (sym reader.result) said.2)

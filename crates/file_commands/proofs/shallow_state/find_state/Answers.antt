@@ -1,0 +1,58 @@
+use Rattle.std.proofs.Common.{Some, ◌∙◌}
+use Rattle.std.proofs.lemmas.Result.{err_from_is_err_and}
+use Rattle.file_commands.specs.Answer.{state_answer, with_image_file}
+use Rattle.file_commands.specs.ReadPrograms.{named_of}
+use Rattle.file_commands.proofs.Steps.{halts_behind, output_halt}
+use Rattle.std.proofs.Common.{ap, refl, ℕ, List, Option}
+use Rattle.lam_outside.specs.Told.{Contents}
+use Rattle.file_commands.specs.Answer.{Answer, spelled_answer, with_program_file}
+use Rattle.file_commands.specs.FueledRoles.{NamedProgram}
+use Rattle.file_commands.specs.Reaching.{without}
+use Rattle.file_commands.proofs.Reached.{behind, faults_reached, is_missing}
+use Rattle.file_commands.proofs.shallow_state.find_state.Goals as goal
+
+pub returns-in_err-program-clause-finds : goal.returns-in_err-program-clause-finds
+returns-in_err-program-clause-finds g c = λ name told known.
+    let err = err_from_is_err_and c.from_residual.result c.from_residual.ensures.1 in
+    output_halt name _ c.from_residual.result _ (cc)
+    (c.in_err-program.ensures.goes told known (λ p. with_image_file p.digested (told c.args.image.now) (λ v. Some (state_answer p v name))))
+
+pub returns-in_err-state-clause-finds : goal.returns-in_err-state-clause-finds
+returns-in_err-state-clause-finds g c = λ name told known.
+    let err = err_from_is_err_and c.from_residual-in_err-state.result c.from_residual-in_err-state.ensures.1 in
+    output_halt name _ c.from_residual-in_err-state.result _ (cc)
+    (halts_behind _ _ _
+    (c.in_ok-program.ensures.goes told known (λ p. with_image_file p.digested (told c.args.image.now) (λ v. Some (state_answer p v name))))
+    (c.in_err-state.ensures.goes told (c.in_ok-program.ensures.contents ∙ known) (λ v. Some (state_answer (named_of c.in_ok-program.program) v name))))
+
+pub returns-clause-finds : goal.returns-clause-finds
+returns-clause-finds g c = λ name told known.
+    let state = c.in_ok-state.ensures.goes told (c.in_ok-program.ensures.contents ∙ known) in (
+      state_answer (named_of c.in_ok-program.program) state.0 name,
+      c.in_ok-program.ensures.goes told known (λ p. with_image_file p.digested (told c.args.image.now) (λ v. Some (state_answer p v name)))
+          ∙ state.1 (λ v. Some (state_answer (named_of c.in_ok-program.program) v name)),
+      c.in_ok-spell_state.ensures.output name state.0 state.2,
+    )
+
+-- what stands behind the program
+abbrev behind_program : (image name : List ℕ) → Contents → NamedProgram → Option Answer
+behind_program image name files p = with_image_file p.digested (files image) (λ v. Some (state_answer p v name))
+
+pub returns-in_err-program-clause-reached : goal.returns-in_err-program-clause-reached
+returns-in_err-program-clause-reached g c = λ name.
+    let program = c.args.program.now in
+    let image = c.args.image.now in
+    let err = err_from_is_err_and c.from_residual.result c.from_residual.ensures.1 in
+    faults_reached (spelled_answer program image name) program _ _ _ c.from_residual.result (cc)
+    (λ files known. ap (λ file. with_program_file file (behind_program image name (without program files))) (is_missing program files)) c.in_err-program.ensures.asked
+
+pub returns-in_err-state-clause-reached : goal.returns-in_err-state-clause-reached
+returns-in_err-state-clause-reached g c = λ name.
+    let program = c.args.program.now in
+    let image = c.args.image.now in
+    let p = named_of c.in_ok-program.program in
+    let err = err_from_is_err_and c.from_residual-in_err-state.result c.from_residual-in_err-state.ensures.1 in
+    faults_reached (spelled_answer program image name) image _ _ _ c.from_residual-in_err-state.result (cc)
+    (λ files known. behind with_program_file program image files p (behind_program image name (without image files)) refl (c.in_ok-program.ensures.goes files known)
+    (ap (λ file. with_image_file p.digested file (λ v. Some (state_answer p v name))) (is_missing image files)))
+    c.in_err-state.ensures.asked

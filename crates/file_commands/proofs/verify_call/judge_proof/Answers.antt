@@ -1,0 +1,22 @@
+use Rattle.code_gen.specs.Programs.{program_in}
+use Rattle.core_terms.specs.Programs.{meaning}
+use Rattle.core_terms.specs.declared.outcome.Outcome.{Outcome}
+use Rattle.core_terms.specs.declared.byte_string.ByteString.{ByteString as Spelling}
+use Rattle.file_commands.specs.Answer.{accepted_answer, role_verdict}
+use Rattle.file_commands.specs.RolesCalled.{role_of}
+use Rattle.file_commands.specs.RolesJudged.{call_of, name_of}
+use Rattle.file_commands.proofs.JudgedRoles.{verdict_found, verdict_judges}
+use Rattle.file_commands.proofs.verify_call.judge_proof.Goals as goal
+
+pub verdict_of-requires : goal.verdict_of-requires
+verdict_of-requires g c = (c.args.callee, c.requires.reads, c.requires.called)
+
+pub returns-in_err-outcome-clause-finds : goal.returns-in_err-outcome-clause-finds
+returns-in_err-outcome-clause-finds g c = λ out is bytes told.
+    let p = program_in c.args.code.now in
+    let call = c.args.call.now in
+    verdict_found (accepted_answer (role_of p call.called) out) (meaning p) call.called.function.0 (role_verdict (call_of p call) bytes) c.in_err-outcome.field-0.0 (name_of out) c.from_residual.result
+    c.from_residual.ensures.1 (c.in_err-outcome.ensures.verdict bytes told)
+
+pub returns-in_err-outcome-clause-cause : goal.returns-in_err-outcome-clause-cause
+returns-in_err-outcome-clause-cause g c = verdict_judges (Outcome Spelling) _ _ c.in_err-outcome.field-0.0 c.from_residual.result c.from_residual.ensures.1 c.in_err-outcome.ensures.cause

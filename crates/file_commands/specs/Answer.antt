@@ -1,0 +1,580 @@
+-- What a run answers: its status, the lines that it writes and the files that it stores.
+use Rattle.std.specs.Prelude.{ℕ, List, [], ◌∷◌, ◌++◌, length, map, Bool, true, false, bytes_eq, nat_le, codes, Option, Some, None, if◌then◌else◌}
+use Rattle.sha2.specs.Sha256.{sha256}
+use Rattle.command_words.specs.Invocations.{Invocation, invocation_of}
+use Rattle.command_words.specs.declared.command.Command.{Command}
+use Rattle.command_words.specs.declared.command.Command.TheVariants.{Check, Init, Ideal, Step, Shallow, Prove, Verify, Audit, Library, Gen, Serve, Ask}
+use Rattle.ads_library.specs.Texts.{library_text}
+use Rattle.lam_outside.specs.Told.{Contents, Stores}
+use Rattle.core_terms.specs.ProgramTrees.{program_format}
+use Rattle.core_terms.specs.Types.{Ty, IntTy, PairTy}
+use Rattle.core_terms.specs.Values.{Value, NoV, AndV}
+use Rattle.core_terms.specs.Reading.{Read, Good, BadAt}
+use Rattle.core_terms.specs.Terms.{Kind, Query, Update, Program, function_at}
+use Rattle.core_terms.specs.Roles.{role_named, argument_type}
+use Rattle.core_terms.specs.Spelling.{spelling}
+use Rattle.core_terms.specs.Projection.{projection, read_at}
+use Rattle.printed_syntax.specs.Literals.{Literal, IsValue, FirstFault}
+use Rattle.printed_syntax.specs.declared.fault.LiteralKind.TheVariants.{Mismatch}
+use Rattle.ideal_meaning.specs.Ideal as ideal
+use Rattle.ideal_meaning.specs.Checked as checked
+use Rattle.ideal_meaning.specs.Checked.{verdict}
+use Rattle.images.specs.Images as images
+use Rattle.images.specs.SavedImages.{saved_image}
+use Rattle.printed_lines.specs.Lines.{agrees_line, calls_line, collision_line, named_done_line, ok_line, out_line, refusal_line, rejected_line, state_line, trap_line}
+use Rattle.printed_lines.specs.declared.refusal.Argument.{Argument}
+use Rattle.printed_lines.specs.declared.refusal.Argument.TheVariants as named
+use Rattle.printed_lines.specs.declared.refusal.ImageKind.{ImageKind}
+use Rattle.printed_lines.specs.declared.refusal.ImageKind.TheVariants as kind
+use Rattle.printed_lines.specs.declared.refusal.InputFault.{InputFault}
+use Rattle.printed_lines.specs.declared.refusal.InputFault.TheVariants.{TooLong, LibraryUnknown, RoleUnknown, RoleKind, Number, State, Literal as BadLiteral, Image as BadImage, Script as BadScript}
+use Rattle.printed_lines.specs.declared.refusal.Refusal.{Refusal}
+use Rattle.printed_lines.specs.declared.refusal.Refusal.TheVariants as refusal
+use Rattle.ask_script.specs.Scripts.{Script, Steps, FaultyLine, UserStep, script_of}
+use Rattle.collision_audit.specs.Audits.{Collides, Judges}
+use Rattle.collision_audit.specs.Audits as audits
+use Rattle.workloads.specs.Workloads.{after_rounds, no_calls}
+use Rattle.workloads.specs.declared.tally.Tally.{Tally}
+use Rattle.workloads.specs.declared.workload.Workload.{Workload}
+use Rattle.file_commands.specs.Arguments.{fuel_of, most_links, most_port, most_rounds, most_seed, most_slice, positive_within}
+use Rattle.number_words.specs.Numbers.{number_within}
+use Rattle.file_commands.specs.FueledRoles.{DigestedProgram, FueledRole, NamedProgram}
+use Rattle.file_commands.specs.IdealCalls.{IdealCall, call_audit, call_proof, call_proof_line, ended_call, projected_outcome}
+use Rattle.file_commands.specs.RoleCalls.{EndedRole, ended_with, is_called, kind_called, passed_literal, program_called, projection_called, result_called, state_made}
+use Rattle.file_commands.specs.TextPrograms.{TextProgram, IsProgram, IsRefused, constructor_names_of_text, program_of_text}
+use Rattle.file_commands.specs.declared.roles.Callee.{Callee}
+use Rattle.file_commands.specs.declared.roles.Callee.TheVariants as callee
+use Rattle.file_commands.specs.declared.status.Status.{Status}
+use Rattle.file_commands.specs.declared.status.Status.TheVariants.{Done, Usage, Trap, OutOfFuel, Rejected, ProgramRefused, InputRefused, Collision}
+
+-- what a run answers
+pub record Answer : Type 0 where
+  pub status : Status
+  pub lines : List (List ℕ)
+  pub stored : Stores
+
+-- one line, and nothing stored
+abbrev pub says : Status → List ℕ → Answer
+says status line = record { status = status; lines = line ∷ []; stored = [] }
+
+-- what is answered to words that call no command
+abbrev pub usage_answer : Answer
+usage_answer = says Usage (codes "usage: lamauth COMMAND ARGUMENTS\n")
+
+-- what is answered to what is refused: a text that is no program, an input, or a proof
+abbrev pub refusal_status : Refusal → Status
+refusal_status (refusal.Program kind line column) = ProgramRefused
+refusal_status (refusal.Input fault) = InputRefused
+refusal_status (refusal.Proof cause) = Rejected
+
+abbrev pub refused : Refusal → Answer
+refused what = says (refusal_status what) (refusal_line what)
+
+abbrev pub input_refused : InputFault → Answer
+input_refused fault = refused (refusal.Input fault)
+
+-- What is answered for a verdict, where this is answered for the outcome that is accepted. Of a call whose state was read, and whose
+-- argument is the spelling of a literal's value, it is one on the proof: `VerdictLaws.antt` says that the other two don't come.
+abbrev pub verdict_answer : (ideal.Outcome → Answer) → checked.Verdict → Answer
+verdict_answer told (checked.BadState offset) = input_refused (State offset)
+verdict_answer told (checked.BadArgument offset) = input_refused (BadLiteral Mismatch offset)
+verdict_answer told (checked.Rejected cause) = says Rejected (rejected_line cause)
+verdict_answer told (checked.Accepted o) = told o
+
+-- the longest text of a program, and the longest of all other files
+abbrev pub max_program : ℕ
+max_program = 262144
+
+abbrev pub max_file : ℕ
+max_file = 67108864
+
+-- Goes on with the bytes of the file that an argument names. There is no answer where the file isn't there: that is a fault of
+-- the outside.
+abbrev pub with_file : ℕ → Argument → Option (List ℕ) → (List ℕ → Option Answer) → Option Answer
+with_file most word None go = None
+with_file most word (Some bytes) go = if nat_le (length bytes) most then go bytes else Some (input_refused (TooLong word))
+
+-- the same of a file that may have any length
+abbrev pub with_bytes : Option (List ℕ) → (List ℕ → Option Answer) → Option Answer
+with_bytes None go = None
+with_bytes (Some bytes) go = go bytes
+
+-- goes on with the program that a text with this digest is
+abbrev pub with_program : List ℕ → TextProgram → (DigestedProgram → Option Answer) → Option Answer
+with_program digest (IsProgram P) go = go (record { program = P; digest = digest })
+with_program digest (IsRefused kind line column) go = Some (refused (refusal.Program kind line column))
+
+-- goes on with the program that a text is, and with that in a file
+abbrev pub with_text : List ℕ → (NamedProgram → Option Answer) → Option Answer
+with_text text go =
+    with_program (sha256 text) (program_of_text text) (λ p. go (record { digested = p; names = constructor_names_of_text text }))
+
+abbrev pub with_program_file : Option (List ℕ) → (NamedProgram → Option Answer) → Option Answer
+with_program_file file go = with_file max_program named.Program file (λ text. with_text text go)
+
+-- goes on with the number that an argument tells
+abbrev pub with_number : Argument → Option ℕ → (ℕ → Option Answer) → Option Answer
+with_number word None go = Some (input_refused (Number word))
+with_number word (Some n) go = go n
+
+abbrev pub with_fuel : List ℕ → (ℕ → Option Answer) → Option Answer
+with_fuel text go = with_number named.Fuel (fuel_of text) go
+
+-- goes on with bytes that were read as a state
+abbrev pub with_state_read : Read Value → List ℕ → (List ℕ → Option Answer) → Option Answer
+with_state_read (Good v rest place) bytes go = go bytes
+with_state_read (BadAt offset) bytes go = Some (input_refused (State offset))
+
+-- bytes read at the type of the state
+unfoldable pub state_read : Program → List ℕ → Read Value
+state_read P bytes = read_at P P.state bytes
+
+-- goes on with the spelling of a state, and with that in a file
+abbrev pub with_state : Program → List ℕ → (List ℕ → Option Answer) → Option Answer
+with_state P bytes go = with_state_read (state_read P bytes) bytes go
+
+abbrev pub with_state_file : Program → Option (List ℕ) → (List ℕ → Option Answer) → Option Answer
+with_state_file P file go = with_file max_file named.State file (λ bytes. with_state P bytes go)
+
+-- goes on with the value of a literal
+abbrev pub with_literal : Literal → (Value → Option Answer) → Option Answer
+with_literal (IsValue v) go = go v
+with_literal (FirstFault kind offset) go = Some (input_refused (BadLiteral kind offset))
+
+-- why the bytes of an image are refused
+abbrev pub image_kind : images.ImageFault → ImageKind
+image_kind images.Magic = kind.Magic
+image_kind images.OtherProgram = kind.OtherProgram
+image_kind images.RootType = kind.RootType
+image_kind (images.Cut bytes) = kind.Cut bytes
+image_kind (images.Leftover bytes) = kind.Leftover bytes
+image_kind (images.BadRecord number) = kind.BadRecord number
+image_kind (images.TooBig number) = kind.TooBig number
+image_kind (images.TooDeep number) = kind.TooDeep number
+
+-- goes on with the ideal state that an image keeps
+abbrev pub with_root : images.Image → (Value → Option Answer) → Option Answer
+with_root (images.Root v) go = go v
+with_root (images.Refused fault) go = Some (input_refused (BadImage (image_kind fault)))
+
+-- bytes as an image of a program
+unfoldable pub image_read : DigestedProgram → List ℕ → images.Image
+image_read p bytes = images.image_of p.program p.digest bytes
+
+-- goes on with the ideal state in an image, and with that in a file
+abbrev pub with_image : DigestedProgram → List ℕ → (Value → Option Answer) → Option Answer
+with_image p bytes go = with_root (image_read p bytes) go
+
+abbrev pub with_image_file : DigestedProgram → Option (List ℕ) → (Value → Option Answer) → Option Answer
+with_image_file p file go = with_file max_file named.Image file (λ bytes. with_image p bytes go)
+
+-- `check P`: the digest of the program's text
+abbrev pub checked_answer : List ℕ → Contents → Option Answer
+checked_answer program files = with_program_file (files program) (λ p. Some (says Done (ok_line p.digested.digest)))
+
+-- the projection of an ideal state: a digest stands for what is authenticated
+unfoldable pub state_projection : Program → Value → Value
+state_projection P v = projection sha256 P P.state v
+
+-- the line of the projection of an ideal state: its value, with the names of its constructors
+abbrev pub projected_line : NamedProgram → Value → List ℕ
+projected_line p v = let P = p.digested.program in state_line P.types p.names P.state (state_projection P v)
+
+-- what is answered for an ideal state whose projection is told, and its spelling stored under a name
+abbrev pub state_answer : NamedProgram → Value → List ℕ → Answer
+state_answer p v name =
+    record { status = Done; lines = projected_line p v ∷ []; stored = (name, spelling (state_projection p.digested.program v)) ∷ [] }
+
+-- `shallow P IMG OUT`: the projection of the state that an image keeps
+abbrev pub spelled_answer : (program image out : List ℕ) → Contents → Option Answer
+spelled_answer program image out files =
+    with_program_file (files program) (λ p. with_image_file p.digested (files image) (λ v. Some (state_answer p v out)))
+
+-- goes on with the role of this number, where it is one that the command calls
+abbrev pub with_role_at : Callee → Program → Option ℕ → (ℕ → Option Answer) → Option Answer
+with_role_at callee P None go = Some (input_refused RoleUnknown)
+with_role_at callee P (Some f) go = if is_called callee (function_at P f).kind then go f else Some (input_refused RoleKind)
+
+abbrev pub with_role : Callee → Program → List ℕ → (ℕ → Option Answer) → Option Answer
+with_role callee P name go = with_role_at callee P (role_named P name) go
+
+-- goes on with the role of this name, and then with the fuel
+abbrev pub with_fueled_role : Callee → NamedProgram → (role fuel : List ℕ) → (FueledRole → Option Answer) → Option Answer
+with_fueled_role callee p role fuel go =
+    with_role callee p.digested.program role (λ f.
+    with_fuel fuel (λ k.
+    go (record { program = p; role = f; fuel = k })))
+
+-- goes on with the value of what is passed to a role
+abbrev pub with_passed : FueledRole → List ℕ → (Value → Option Answer) → Option Answer
+with_passed r text go = with_literal (passed_literal r text) go
+
+-- a call of a query or an update, with the spellings of its state and argument
+pub record RoleCall : Type 0 where
+  pub role : FueledRole
+  pub state : List ℕ
+  pub argument : List ℕ
+
+-- goes on with the call of a role on the state that a file spells, and then on what is passed to it
+abbrev pub with_role_call : FueledRole → (state argument : List ℕ) → Contents → (RoleCall → Option Answer) → Option Answer
+with_role_call r state argument files go =
+    with_state_file (program_called r) (files state) (λ s.
+    with_passed r argument (λ a.
+    go (record { role = r; state = s; argument = spelling a })))
+
+-- the verdict on a proof of a call
+unfoldable pub role_verdict : RoleCall → List ℕ → checked.Verdict
+role_verdict call proof =
+    let r = call.role in
+    let P = program_called r in
+    verdict sha256 P (argument_type P r.role) r.role call.state call.argument r.fuel proof
+
+-- goes on with an init that was called, and how it ended: the role, the fuel and the argument in this order
+abbrev pub with_ended_init : NamedProgram → (role argument fuel : List ℕ) → (EndedRole → Option Answer) → Option Answer
+with_ended_init p role argument fuel go =
+    with_fueled_role callee.Init p role fuel (λ r.
+    with_passed r argument (λ a.
+    go (ended_with r (AndV a NoV))))
+
+-- goes on with the call of a role on the ideal state that an image keeps, and then on what is passed to it
+abbrev pub with_ideal_call : FueledRole → (image argument : List ℕ) → Contents → (IdealCall → Option Answer) → Option Answer
+with_ideal_call r image argument files go =
+    with_image_file r.program.digested (files image) (λ s.
+    with_passed r argument (λ a.
+    go (record { role = r; state = s; argument = a })))
+
+-- the same of a role that a command calls, and how the call ended
+abbrev pub with_ended_call : Callee → NamedProgram → (role image argument fuel : List ℕ) → Contents → (EndedRole → Option Answer) → Option Answer
+with_ended_call callee p role image argument fuel files go =
+    with_fueled_role callee p role fuel (λ r.
+    with_ideal_call r image argument files (λ call.
+    go (ended_call call)))
+
+-- what is answered for an outcome in projection: its value, with the names of its constructors
+abbrev pub shallow_told : FueledRole → ideal.Outcome → Answer
+shallow_told r (ideal.Done v) = says Done (named_done_line (program_called r).types r.program.names (result_called r) v)
+shallow_told r (ideal.Trapped trap) = says Trap (trap_line trap)
+shallow_told r ideal.Out = says OutOfFuel out_line
+
+-- what is answered for a role that was called: of a value its projection
+abbrev pub outcome_told : FueledRole → ideal.Outcome → Answer
+outcome_told r (ideal.Done v) = shallow_told r (ideal.Done (projection_called r v))
+outcome_told r (ideal.Trapped trap) = shallow_told r (ideal.Trapped trap)
+outcome_told r ideal.Out = shallow_told r ideal.Out
+
+abbrev pub role_answer : EndedRole → Answer
+role_answer ended = outcome_told ended.role ended.outcome
+
+-- the image of a state
+unfoldable pub state_image : DigestedProgram → Value → List ℕ
+state_image p v = saved_image p.program p.digest v
+
+-- the same answer with the image of a state stored under a name, where it isn't too long to be stored
+abbrev pub storing : DigestedProgram → Value → List ℕ → Answer → Answer
+storing p state name a =
+    let image = state_image p state in
+    if nat_le (length image) max_file then record a { stored = (name, image) ∷ [] } else input_refused (TooLong named.Out)
+
+-- what is answered where the state that was made is stored
+abbrev pub outcome_stored : FueledRole → ideal.Outcome → List ℕ → Answer
+outcome_stored r (ideal.Done v) name = storing r.program.digested (state_made (kind_called r) v) name (outcome_told r (ideal.Done v))
+outcome_stored r o name = outcome_told r o
+
+abbrev pub storing_answer : EndedRole → List ℕ → Answer
+storing_answer ended name = outcome_stored ended.role ended.outcome name
+
+-- `init P ROLE ARG FUEL OUT`: the state that an init makes
+abbrev pub initial_answer : (program role argument fuel out : List ℕ) → Contents → Option Answer
+initial_answer program role argument fuel out files =
+    with_program_file (files program) (λ p.
+    with_ended_init p role argument fuel (λ ended. Some (storing_answer ended out)))
+
+-- `ideal P ROLE IMG ARG FUEL`: how a query or an update ends on the state that an image keeps
+abbrev pub ideal_answer : (program role image argument fuel : List ℕ) → Contents → Option Answer
+ideal_answer program role image argument fuel files =
+    with_program_file (files program) (λ p.
+    with_ended_call callee.OfState p role image argument fuel files (λ ended. Some (role_answer ended)))
+
+-- `step P ROLE IMG ARG FUEL OUT`: the same of an update, whose new state is stored
+abbrev pub stepped_answer : (program role image argument fuel out : List ℕ) → Contents → Option Answer
+stepped_answer program role image argument fuel out files =
+    with_program_file (files program) (λ p.
+    with_ended_call callee.Update p role image argument fuel files (λ ended. Some (storing_answer ended out)))
+
+-- which roles `verify` calls: updates alone, where a name is given for the new state
+abbrev pub callee_of : Option (List ℕ) → Callee
+callee_of None = callee.OfState
+callee_of (Some out) = callee.Update
+
+-- what is stored of an outcome in projection: the spelling of the new state, where a name is given for it
+abbrev pub spelling_stored : FueledRole → Option (List ℕ) → ideal.Outcome → Stores
+spelling_stored r (Some name) (ideal.Done v) = (name, spelling (state_made (kind_called r) v)) ∷ []
+spelling_stored r out o = []
+
+-- what is answered for an outcome that is accepted
+abbrev pub accepted_answer : FueledRole → Option (List ℕ) → ideal.Outcome → Answer
+accepted_answer r out o = record (shallow_told r o) { stored = spelling_stored r out o }
+
+-- what is answered for a proof of a call
+abbrev pub verified_answer : Option (List ℕ) → RoleCall → List ℕ → Answer
+verified_answer out call proof = verdict_answer (accepted_answer call.role out) (role_verdict call proof)
+
+-- `verify P ROLE STATE ARG FUEL PROOF [OUT]`: the verdict on a proof file, which is opened when all else is well-formed
+abbrev pub judged_answer : (program role state argument fuel proof : List ℕ) → (out : Option (List ℕ)) → Contents → Option Answer
+judged_answer program role state argument fuel proof out files =
+    with_program_file (files program) (λ p.
+    with_fueled_role (callee_of out) p role fuel (λ r.
+    with_role_call r state argument files (λ call.
+    with_bytes (files proof) (λ bytes. Some (verified_answer out call bytes)))))
+
+-- goes on with the number of pieces that a proof asks to be kept
+abbrev pub with_kept : Program → List ℕ → (ℕ → Option Answer) → Option Answer
+with_kept P text go = with_number named.Number (number_within P.format.most_kept text) go
+
+-- What is answered for a call and the number of pieces that are kept: the line of its outcome and that of its proof, with the proof
+-- stored under a name, however the call ends.
+abbrev pub proof_answer : IdealCall → ℕ → List ℕ → Answer
+proof_answer call n name =
+    let told = shallow_told call.role (projected_outcome call) in
+    record { status = told.status; lines = told.lines ++ call_proof_line call n ∷ []; stored = (name, call_proof call n) ∷ [] }
+
+-- `prove P ROLE IMG ARG FUEL N OUT`: the proof of a call. The numbers are judged before the image is read.
+abbrev pub proved_answer : (program role image argument fuel kept out : List ℕ) → Contents → Option Answer
+proved_answer program role image argument fuel kept out files =
+    with_program_file (files program) (λ p.
+    with_fueled_role callee.OfState p role fuel (λ r.
+    with_kept (program_called r) kept (λ n.
+    with_ideal_call r image argument files (λ call. Some (proof_answer call n out)))))
+
+-- the same answer of an audit that agrees on it
+abbrev pub agreeing : Answer → Answer
+agreeing a = record a { lines = map agrees_line a.lines }
+
+-- What is answered for what an audit of a call of a role comes to: a collision, or what is answered for its verdict, with agreement on
+-- its outcome. The verdict is one on the proof, since the state and the argument are ideal values within the limits.
+abbrev pub audit_told : FueledRole → audits.Audit → Answer
+audit_told r (Collides split) = says Collision (collision_line split.place split.offered split.honest)
+audit_told r (Judges v) = verdict_answer (λ o. agreeing (shallow_told r o)) v
+
+abbrev pub call_audit_answer : IdealCall → List ℕ → Answer
+call_audit_answer call proof = audit_told call.role (call_audit call proof)
+
+-- `audit P ROLE IMG ARG FUEL PROOF`: the audit of a proof file of any length, which is opened when all else is well-formed
+abbrev pub audited_answer : (program role image argument fuel proof : List ℕ) → Contents → Option Answer
+audited_answer program role image argument fuel proof files =
+    with_program_file (files program) (λ p.
+    with_fueled_role callee.OfState p role fuel (λ r.
+    with_ideal_call r image argument files (λ call.
+    with_bytes (files proof) (λ bytes. Some (call_audit_answer call bytes)))))
+
+-- goes on with the text of a program of the library
+abbrev pub with_source : Option (List ℕ) → (List ℕ → Option Answer) → Option Answer
+with_source None go = Some (input_refused LibraryUnknown)
+with_source (Some text) go = go text
+
+-- `library NAME`: the text of this program of the library, unchanged
+abbrev pub library_answer : (name : List ℕ) → Contents → Option Answer
+library_answer name files = with_source (library_text name) (λ text. Some (says Done text))
+
+-- the numbers of a workload: the seed, how many rounds it has, and how many pieces each proof asks to be kept
+pub record WorkloadNumbers : Type 0 where
+  pub seed : ℕ
+  pub rounds : ℕ
+  pub kept : ℕ
+
+abbrev pub with_numbers : (seed count kept : List ℕ) → (WorkloadNumbers → Option Answer) → Option Answer
+with_numbers seed count kept go =
+    with_number named.Seed (number_within most_seed seed) (λ x.
+    with_number named.Count (number_within most_rounds count) (λ rounds.
+    with_number named.Number (number_within program_format.most_kept kept) (λ n.
+    go (record { seed = x; rounds = rounds; kept = n }))))
+
+-- what a workload gets by: an int; and what it puts: two of them, the key and the value
+abbrev pub is_key : Ty → Bool
+is_key IntTy = true
+is_key t = false
+
+abbrev pub is_entry : Ty → Bool
+is_entry (PairTy a b) = if is_key a then is_key b else false
+is_entry t = false
+
+-- a workload puts by an update on an entry, and gets by a query on a key
+abbrev pub is_put : Kind → Ty → Bool
+is_put Update t = is_entry t
+is_put kind t = false
+
+abbrev pub is_get : Kind → Ty → Bool
+is_get Query t = is_key t
+is_get kind t = false
+
+-- goes on with the query or the update of this name, where its kind and the type of its argument pass the test
+abbrev pub with_shape : (Kind → Ty → Bool) → Program → ℕ → (ℕ → Option Answer) → Option Answer
+with_shape test P f go = if test (function_at P f).kind (argument_type P f) then go f else Some (input_refused RoleKind)
+
+abbrev pub with_shaped_role : (Kind → Ty → Bool) → Program → List ℕ → (ℕ → Option Answer) → Option Answer
+with_shaped_role test P name go = with_role callee.OfState P name (λ f. with_shape test P f go)
+
+-- how many keys a workload on a program of the library has, by its name
+abbrev pub keys_of : List ℕ → ℕ
+keys_of name = if bytes_eq name (codes "merkle") then 1024 else 1000000
+
+-- goes on with what a workload calls: the update `put` and the query `get`
+abbrev pub with_workload : Program → (name : List ℕ) → (kept : ℕ) → (Workload → Option Answer) → Option Answer
+with_workload P name n go =
+    with_shaped_role is_put P (codes "put") (λ put.
+    with_shaped_role is_get P (codes "get") (λ get.
+    go (record { put = record { 0 = put }; get = record { 0 = get }; keys = keys_of name; kept = n })))
+
+-- the init that makes the first state of a workload, and what is passed to it: of `merkle` the depth of the tree and the value of each leaf
+abbrev pub first_role : List ℕ → List ℕ
+first_role name = if bytes_eq name (codes "merkle") then codes "make" else codes "empty"
+
+abbrev pub first_argument : List ℕ → List ℕ
+first_argument name = if bytes_eq name (codes "merkle") then codes "(10, 0)" else codes "()"
+
+abbrev pub with_first : NamedProgram → (name : List ℕ) → (EndedRole → Option Answer) → Option Answer
+with_first p name go = with_ended_init p (first_role name) (first_argument name) (codes "1000000") go
+
+-- goes on with the state that was made, and tells an outcome without one
+abbrev pub with_outcome : FueledRole → ideal.Outcome → (Value → Option Answer) → Option Answer
+with_outcome r (ideal.Done v) go = go (state_made (kind_called r) v)
+with_outcome r (ideal.Trapped trap) go = Some (outcome_told r (ideal.Trapped trap))
+with_outcome r ideal.Out go = Some (outcome_told r ideal.Out)
+
+-- what is answered for the sums over the calls of a workload, and for its last state
+abbrev pub sums_answer : NamedProgram → Tally → Value → Answer
+sums_answer p t s = record {
+  status = Done;
+  lines = calls_line t.calls t.done t.fresh t.again t.bytes ∷ projected_line p s ∷ [];
+  stored = [];
+}
+
+-- the same for a workload from a state on
+abbrev pub workload_answer : NamedProgram → WorkloadNumbers → Workload → Value → Answer
+workload_answer p numbers w s =
+    let last = after_rounds sha256 p.digested.program w numbers.rounds numbers.seed s no_calls in
+    sums_answer p last.0 last.1
+
+-- what is answered for a workload on a program of the library
+abbrev pub generated_by : NamedProgram → (name : List ℕ) → WorkloadNumbers → Option Answer
+generated_by p name numbers =
+    with_workload p.digested.program name numbers.kept (λ w.
+    with_first p name (λ ended.
+    with_outcome ended.role ended.outcome (λ s. Some (workload_answer p numbers w s))))
+
+-- `gen NAME SEED COUNT N`: a workload of COUNT rounds, each a put and a get, on the program of the library. The numbers are judged before
+-- its text is read.
+abbrev pub generated_answer : (name seed count kept : List ℕ) → Contents → Option Answer
+generated_answer name seed count kept files =
+    with_source (library_text name) (λ text.
+    with_numbers seed count kept (λ numbers.
+    with_text text (λ p. generated_by p name numbers)))
+
+-- the numbers of a serving: the port that is listened to, the number of links that are served, and the greatest number of calls of functions in
+-- a turn
+pub record ServingNumbers : Type 0 where
+  pub port : ℕ
+  pub links : ℕ
+  pub slice : ℕ
+
+abbrev pub with_serving_numbers : (port links slice : List ℕ) → (ServingNumbers → Option Answer) → Option Answer
+with_serving_numbers port links slice go =
+    with_number named.Port (positive_within most_port port) (λ n.
+    with_number named.Connections (positive_within most_links links) (λ m.
+    with_number named.Slice (positive_within most_slice slice) (λ k.
+    go (record { port = n; links = m; slice = k }))))
+
+-- what is served: a program, from this state on, and by these numbers
+pub record Serving : Type 0 where
+  pub program : DigestedProgram
+  pub state : Value
+  pub port : ℕ
+  pub links : ℕ
+  pub slice : ℕ
+
+abbrev pub serving_of : DigestedProgram → ServingNumbers → Value → Serving
+serving_of p numbers v = record { program = p; state = v; port = numbers.port; links = numbers.links; slice = numbers.slice }
+
+-- Goes on with what the words and the files mean to serve: the program's file, the numbers from left to right, and then the image are judged.
+abbrev pub with_serving : (program image port links slice : List ℕ) → Contents → (Serving → Option Answer) → Option Answer
+with_serving program image port links slice files go =
+    with_program_file (files program) (λ p.
+    with_serving_numbers port links slice (λ numbers.
+    with_image_file p.digested (files image) (λ v. go (serving_of p.digested numbers v))))
+
+-- What `serve P IMG PORT CONNS SLICE OUT` answers where it never comes to listen. How it ends from there on depends on the links, and stands in
+-- `Serving.antt`.
+abbrev pub unserved_answer : (program image port links slice : List ℕ) → Contents → Option Answer
+unserved_answer program image port links slice files = with_serving program image port links slice files (λ serving. None)
+
+-- bytes as a script for a program
+unfoldable pub script_read : NamedProgram → List ℕ → Script
+script_read p text = script_of p.digested.program p.names text
+
+-- goes on with the steps of a script, and with those of the script in a file
+abbrev pub with_steps : Script → (List UserStep → Option Answer) → Option Answer
+with_steps (Steps steps) go = go steps
+with_steps (FaultyLine number) go = Some (input_refused (BadScript number))
+
+abbrev pub with_script : NamedProgram → List ℕ → (List UserStep → Option Answer) → Option Answer
+with_script p text go = with_steps (script_read p text) go
+
+abbrev pub with_script_file : NamedProgram → Option (List ℕ) → (List UserStep → Option Answer) → Option Answer
+with_script_file p file go = with_file max_file named.Script file (λ text. with_script p text go)
+
+-- what is asked of a server: a program, the spelling of the state at which sessions are opened, the port that is dialled, and the steps of the
+-- script
+pub record Asking : Type 0 where
+  pub program : NamedProgram
+  pub state : List ℕ
+  pub port : ℕ
+  pub steps : List UserStep
+
+-- Goes on with what is asked about a program: the port, the state and the script are judged in this order.
+abbrev pub with_asked : NamedProgram → (state port script : List ℕ) → Contents → (Asking → Option Answer) → Option Answer
+with_asked p state port script files go =
+    with_number named.Port (positive_within most_port port) (λ n.
+    with_state_file p.digested.program (files state) (λ bytes.
+    with_script_file p (files script) (λ steps.
+    go (record { program = p; state = bytes; port = n; steps = steps }))))
+
+-- the same, where the program's file is judged before
+abbrev pub with_asking : (program state port script : List ℕ) → Contents → (Asking → Option Answer) → Option Answer
+with_asking program state port script files go = with_program_file (files program) (λ p. with_asked p state port script files go)
+
+-- What `ask P STATE PORT SCRIPT OUT` answers where it never comes to dial. How it ends from there on depends on the link, and stands in
+-- `Asking.antt`.
+abbrev pub unasked_answer : (program state port script : List ℕ) → Contents → Option Answer
+unasked_answer program state port script files = with_asking program state port script files (λ asking. None)
+
+-- What is answered to a command with the texts of its arguments: `check P`, `init P ROLE ARG FUEL OUT`, `ideal P ROLE IMG ARG FUEL`,
+-- `step P ROLE IMG ARG FUEL OUT`, `shallow P IMG OUT`, `prove P ROLE IMG ARG FUEL N OUT`, `verify P ROLE STATE ARG FUEL PROOF`, or this with `OUT` behind it, `audit P ROLE IMG ARG FUEL PROOF`,
+-- `library NAME`, `gen NAME SEED COUNT N`, `serve P IMG PORT CONNS SLICE OUT` as long as it doesn't listen, and `ask P STATE PORT SCRIPT OUT` as
+-- long as it doesn't dial. No command is called with more texts or fewer.
+abbrev pub answer_with : Command → List (List ℕ) → Contents → Option Answer
+answer_with Check (program ∷ []) = checked_answer program
+answer_with Init (program ∷ role ∷ argument ∷ fuel ∷ out ∷ []) = initial_answer program role argument fuel out
+answer_with Ideal (program ∷ role ∷ image ∷ argument ∷ fuel ∷ []) = ideal_answer program role image argument fuel
+answer_with Step (program ∷ role ∷ image ∷ argument ∷ fuel ∷ out ∷ []) = stepped_answer program role image argument fuel out
+answer_with Shallow (program ∷ image ∷ out ∷ []) = spelled_answer program image out
+answer_with Prove (program ∷ role ∷ image ∷ argument ∷ fuel ∷ kept ∷ out ∷ []) = proved_answer program role image argument fuel kept out
+answer_with Verify (program ∷ role ∷ state ∷ argument ∷ fuel ∷ proof ∷ []) = judged_answer program role state argument fuel proof None
+answer_with Verify (program ∷ role ∷ state ∷ argument ∷ fuel ∷ proof ∷ out ∷ []) = judged_answer program role state argument fuel proof (Some out)
+answer_with Audit (program ∷ role ∷ image ∷ argument ∷ fuel ∷ proof ∷ []) = audited_answer program role image argument fuel proof
+answer_with Library (name ∷ []) = library_answer name
+answer_with Gen (name ∷ seed ∷ count ∷ kept ∷ []) = generated_answer name seed count kept
+answer_with Serve (program ∷ image ∷ port ∷ links ∷ slice ∷ out ∷ []) = unserved_answer program image port links slice
+answer_with Ask (program ∷ state ∷ port ∷ script ∷ out ∷ []) = unasked_answer program state port script
+answer_with command texts = λ files. None
+
+abbrev pub command_answer : Invocation → Contents → Option Answer
+command_answer invocation = answer_with invocation.command invocation.texts
+
+-- what is answered to words that call it, or that call no command
+abbrev pub called_answer : Option Invocation → Contents → Option Answer
+called_answer None = λ files. Some usage_answer
+called_answer (Some invocation) = command_answer invocation
+
+-- by the words of the command line, the program's name first, and the contents of the files
+unfoldable pub answer : List (List ℕ) → Contents → Option Answer
+answer words = called_answer (invocation_of words)

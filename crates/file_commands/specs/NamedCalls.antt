@@ -1,0 +1,47 @@
+-- What the words of a command line name: a role, and a call of it on an ideal state.
+use Rattle.std.specs.Prelude.{◌≡◌, ◌≤◌, ℕ, List, true, length, Option, Some}
+use Rattle.sha2.specs.Sha256.{sha256}
+use Rattle.lam_outside.specs.Told.{Contents}
+use Rattle.core_terms.specs.Roles.{role_named}
+use Rattle.core_terms.specs.Terms.{Program}
+use Rattle.core_terms.specs.Values.{Value}
+use Rattle.printed_syntax.specs.Literals.{IsValue}
+use Rattle.images.specs.Images.{Root}
+use Rattle.file_commands.specs.Answer.{image_read, max_file, max_program}
+use Rattle.file_commands.specs.Arguments.{fuel_of}
+use Rattle.file_commands.specs.FueledRoles.{DigestedProgram, FueledRole, NamedProgram}
+use Rattle.file_commands.specs.IdealCalls.{IdealCall}
+use Rattle.file_commands.specs.RoleCalls.{is_called, kind_called, passed_literal, program_called}
+use Rattle.file_commands.specs.TextPrograms.{IsProgram, constructor_names_of_text, program_of_text}
+use Rattle.file_commands.specs.declared.roles.Callee.{Callee}
+
+-- a program with the digest of its text and the names of its constructors
+abbrev pub named_program : List ℕ → Program → NamedProgram
+named_program text P = record { digested = record { program = P; digest = sha256 text }; names = constructor_names_of_text text }
+
+-- a file with the text of this program
+pub record KeepsProgram (file : Option (List ℕ)) (p : NamedProgram) : Type 0 where
+  pub text : List ℕ
+  pub there : file ≡ Some text
+  pub fits : length text ≤ max_program
+  pub program : program_of_text text ≡ IsProgram p.digested.program
+  pub named : p ≡ named_program text p.digested.program
+
+-- the role of this name of the program in the file, of a kind that the command calls, with the fuel that the text tells
+pub record NamesRole (callee : Callee) (program_name role_name fuel_text : List ℕ) (files : Contents) (r : FueledRole) : Type 0 where
+  pub program_file : KeepsProgram (files program_name) r.program
+  pub role : role_named (program_called r) role_name ≡ Some r.role
+  pub called : is_called callee (kind_called r) ≡ true
+  pub fuel : fuel_of fuel_text ≡ Some r.fuel
+
+-- a file with an image of the program whose root is this state
+pub record KeepsState (file : Option (List ℕ)) (p : DigestedProgram) (state : Value) : Type 0 where
+  pub image : List ℕ
+  pub there : file ≡ Some image
+  pub fits : length image ≤ max_file
+  pub root : image_read p image ≡ Root state
+
+-- the state of the call is that of the image in the file, and its argument is what the text is a literal of
+pub record NamesInputs (image_name argument_text : List ℕ) (files : Contents) (call : IdealCall) : Type 0 where
+  pub image_file : KeepsState (files image_name) call.role.program.digested call.state
+  pub argument : passed_literal call.role argument_text ≡ IsValue call.argument

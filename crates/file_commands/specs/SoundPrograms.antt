@@ -1,0 +1,29 @@
+-- The programs of texts are well-typed.
+use Rattle.std.specs.Prelude.{◌≡◌, ℕ, true, List}
+use Rattle.core_terms.specs.Terms.{Program}
+use Rattle.core_terms.specs.Typing.{is_typed, is_shaped}
+use Rattle.core_terms.specs.ProgramTrees.{program_format}
+use Rattle.file_commands.specs.TextPrograms.{TextProgram, IsProgram, program_of_text}
+use Rattle.file_commands.specs.declared.status.Status.{Status}
+use Rattle.file_commands.specs.declared.status.Status.TheVariants.{Done, Trap, OutOfFuel}
+
+-- the program is well-typed, its roles have their shapes, and its format is that of every program
+pub record IsSound (P : Program) : Type 0 where
+  pub typed : is_typed P ≡ true
+  pub shaped : is_shaped P ≡ true
+  pub format : P.format ≡ program_format
+
+-- the program is that of a text
+abbrev pub IsOfText : Program → Type 0
+IsOfText P = (text : List ℕ) × (program_of_text text ≡ IsProgram P)
+
+-- by a reading of texts each program that a text gives is sound
+abbrev pub GivesSound : (List ℕ → TextProgram) → Type 0
+GivesSound reading = (text : List ℕ) (P : Program) → reading text ≡ IsProgram P → IsSound P
+
+-- the status is that of an outcome, or of a command that was carried out
+abbrev pub IsOutcome : Status → Type 0
+IsOutcome Done = Unit {0}
+IsOutcome Trap = Unit {0}
+IsOutcome OutOfFuel = Unit {0}
+IsOutcome other = ⊥

@@ -1,0 +1,44 @@
+-- The statuses that a command may answer, whatever the files hold.
+use Rattle.std.specs.Prelude.{◌≡◌}
+use Rattle.command_words.specs.declared.command.Command.{Command}
+use Rattle.command_words.specs.declared.command.Command.TheVariants.{Check, Shallow, Verify, Audit, Library, Gen, Serve, Ask}
+use Rattle.file_commands.specs.declared.status.Status.{Status}
+use Rattle.file_commands.specs.declared.status.Status.TheVariants.{Usage, Trap, OutOfFuel, Rejected, ProgramRefused, ReadFault, Collision}
+
+-- the command answers by the outcome of a function, which may trap or find no fuel
+abbrev pub RunsAFunction : Command → Type 0
+RunsAFunction Check = ⊥
+RunsAFunction Shallow = ⊥
+RunsAFunction Library = ⊥
+RunsAFunction Serve = ⊥
+RunsAFunction Ask = ⊥
+RunsAFunction command = Unit {0}
+
+-- the command judges a proof, or a server's replies, which it may reject
+abbrev pub JudgesAProof : Command → Type 0
+JudgesAProof Verify = Unit {0}
+JudgesAProof Audit = Unit {0}
+JudgesAProof Ask = Unit {0}
+JudgesAProof command = ⊥
+
+-- the command reads files, and the text of a program
+abbrev pub ReadsFiles : Command → Type 0
+ReadsFiles Library = ⊥
+ReadsFiles Gen = ⊥
+ReadsFiles command = Unit {0}
+
+abbrev pub ReadsAProgram : Command → Type 0
+ReadsAProgram Library = ⊥
+ReadsAProgram command = Unit {0}
+
+-- None answers as to words that call no command, and an audit alone answers that there is a collision. Each may find a value or an
+-- acceptance, refuse an input, and fail for want of the sink or of memory.
+abbrev pub MayAnswer : Command → Status → Type 0
+MayAnswer command Usage = ⊥
+MayAnswer command Trap = RunsAFunction command
+MayAnswer command OutOfFuel = RunsAFunction command
+MayAnswer command Rejected = JudgesAProof command
+MayAnswer command ProgramRefused = ReadsAProgram command
+MayAnswer command ReadFault = ReadsFiles command
+MayAnswer command Collision = command ≡ Audit
+MayAnswer command other = Unit {0}

@@ -1,0 +1,46 @@
+//! The commands of lambda-auth that read and store files alone, over the files and the sink that they are handed; and what those on the
+//! net share with them.
+#![tactic(auto)]
+
+mod arguments;
+mod audit_proof;
+mod calls;
+mod check_program;
+mod gen_workload;
+mod ideal_call;
+mod ideal_calls;
+mod init_state;
+pub mod laws;
+mod library_text;
+mod machine_calls;
+mod outcomes;
+mod programs;
+mod prove_call;
+mod prover_marking;
+mod report;
+mod role_outcomes;
+mod roles;
+mod shallow_state;
+mod status;
+mod step_state;
+mod stored_states;
+mod storing;
+mod verify_call;
+mod workload_roles;
+
+pub use arguments::positive_named;
+pub use audit_proof::audit_command;
+pub use calls::{MAX_FILE, read_state_file};
+pub use check_program::check_command;
+pub use gen_workload::gen_command;
+pub use ideal_call::ideal_command;
+pub use init_state::init_command;
+pub use library_text::library_command;
+pub use machine_calls::read_code;
+pub use prove_call::prove_command;
+pub use report::{Ending, Halt, NO_MEMORY, Output, Report, load, tell, tell_text, write_all};
+pub use shallow_state::shallow_command;
+pub use status::Status;
+pub use step_state::step_command;
+pub use stored_states::load_image_file;
+pub use verify_call::verify_command;

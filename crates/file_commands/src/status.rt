@@ -1,0 +1,52 @@
+// How a run ends.
+ghost use Rattle.std.specs.Prelude.{◌≡◌};
+
+/// How a run ends.
+#[derive(Clone, Copy)]
+pub enum Status {
+    /// The outcome has a value, or the program is accepted.
+    Done,
+    /// The words call no command.
+    Usage,
+    /// The outcome is a trap.
+    Trap,
+    /// The outcome is the want of fuel.
+    OutOfFuel,
+    /// The proof is rejected.
+    Rejected,
+    /// The text is no program.
+    ProgramRefused,
+    /// A file is too long, or a role, number, state or argument is refused.
+    InputRefused,
+    /// A file could not be read, or a link, an `accept` or a `listen` failed.
+    ReadFault,
+    /// The sink failed, or a file could not be stored.
+    WriteFault,
+    /// Memory was wanting.
+    NoMemory,
+    /// The proof shows a collision of the hash.
+    Collision,
+}
+
+impl Status {
+    ghost use Rattle.file_commands.specs.Codes.{code};
+
+    /// The exit status of the process.
+    pub fn code(self) -> u8
+        ensures { result ≡ code self }
+    {
+        match self {
+            Status::Done => 0,
+            Status::Usage => 2,
+            Status::Trap => 3,
+            Status::OutOfFuel => 4,
+            Status::Rejected => 5,
+            Status::ProgramRefused => 6,
+            Status::InputRefused => 7,
+            Status::ReadFault => 8,
+            Status::WriteFault => 9,
+            Status::NoMemory => 10,
+            Status::Collision => 11,
+        }
+    }
+}

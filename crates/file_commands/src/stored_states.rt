@@ -1,0 +1,50 @@
+// Ideal states, from images.
+ghost use Rattle.std.specs.Prelude.{◌≡◌, IfOk};
+ghost use Rattle.std.specs.Option.{ForSome};
+ghost use Rattle.core_terms.specs.Programs.{meaning};
+ghost use Rattle.core_terms.specs.Values.{Value};
+ghost use Rattle.file_commands.specs.Reaching.{FaultsAt};
+ghost use Rattle.file_commands.specs.Answer.{with_image, with_image_file};
+ghost use Rattle.file_commands.specs.Halting.{GoesOnFor, HaltCause, InHand};
+ghost use Rattle.file_commands.specs.ReadPrograms.{digested_of};
+ghost use Rattle.file_commands.specs.StoredStates.{IsStoredState};
+
+use crate::Halt;
+use crate::calls::MAX_FILE;
+use crate::prover_marking::ProverMarker;
+use crate::report::load;
+use core_terms::Program;
+use images::{Loaded, load_image};
+use lam_outside::Files;
+use printed_lines::refusal::Argument;
+use std::alloc::Global;
+
+/// The ideal state in a file with an image of the program, over the prover's nodes.
+pub fn load_image_file<F: Files>(
+    alloc: Global,
+    files: &mut F,
+    program: &Program,
+    name: &str,
+) -> Result<Loaded, Halt>
+    ensures goes { ForSome (F.contents files.old) (λ told. GoesOnFor (with_image_file (digested_of program.now) (told name.now)) (IsStoredState (meaning program.now)) result) }
+    ensures stands { IfOk result (λ loaded. (v : Value) × IsStoredState (meaning program.now) loaded v) }
+    ensures asked { FaultsAt name.now (F.asked files.new) result }
+    ensures cause { HaltCause (F.faults files.old) (F.faults files.new) result }
+    ensures contents { F.contents files.new ≡ F.contents files.old }
+    ensures stores { F.stores files.new ≡ F.stores files.old }
+    ensures store_faults { F.store_faults files.new ≡ F.store_faults files.old }
+{
+    let image = load(alloc, files, Argument::Image, name, MAX_FILE)?;
+    load_state(alloc, program, &image)
+}
+
+/// The ideal state in an image of the program, over the prover's nodes.
+fn load_state(alloc: Global, program: &Program, bytes: &[u8]) -> Result<Loaded, Halt>
+    ensures goes { InHand (GoesOnFor (with_image (digested_of program.now) bytes.now) (IsStoredState (meaning program.now))) result }
+    ensures stands { IfOk result (λ loaded. (v : Value) × IsStoredState (meaning program.now) loaded v) }
+{
+    let mut marker = ProverMarker::new(alloc);
+    let types = program.types();
+    let digest = program.text_digest();
+    Ok(load_image(alloc, types, digest, &mut marker, bytes)?)
+}

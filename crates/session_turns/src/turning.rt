@@ -1,0 +1,99 @@
+// The turns of a round, at once.
+ghost use Rattle.std.specs.Prelude.{◌≡◌, ◌<◌};
+ghost use Rattle.std.specs.List.{list_any};
+ghost use Rattle.std.specs.Thread.{IsSync};
+ghost use Rattle.value_store.specs.Stores.{nodes_in};
+ghost use Rattle.session_turns.specs.Rounds.{runs};
+ghost use Rattle.session_turns.specs.Turning.{AllGoOn, AllTurned, GoesOn, IsTurnOf};
+
+use crate::gate::Gate;
+use crate::session::{Session, SessionCall};
+use code_gen::Code;
+use core_terms::Hash32;
+use session_tables::Entry;
+use std::thread::{Threads, join_mut};
+use value_store::Store;
+
+/// A turn of the call of each session in which one runs, at once on threads: so many calls of functions more (1 at least), or those up to
+/// its end. Each runs on its own nodes over the base, which nobody changes, and passes the gate first. Each session is left as its own
+/// turn alone leaves it, on any number of threads; none is settled.
+pub fn round<H: Hash32, G: Gate, R: Threads + Sync>(
+    rt: &R,
+    code: &Code,
+    base: &Store,
+    entries: &mut [Entry<Session<H>>],
+    units: u64,
+    gate: &G,
+)
+    requires go_on { AllGoOn H.hash code.now (nodes_in base.now) entries.old }
+    requires some { 0 < units }
+    ensures { AllTurned H.hash code.now (nodes_in base.now) units entries.old entries.new }
+{
+    take_turns(rt, code, base, &units, gate, entries);
+}
+
+/// Whether a call of one of them runs.
+pub fn any_runs<H>(entries: &[Entry<Session<H>>]) -> bool
+    ensures { result ≡ list_any runs entries.now }
+{
+    entries.iter().any(|entry| entry.value.running.is_some())
+}
+
+/// The turns of a row of sessions, by halves: at once, where a call runs in both.
+fn take_turns<H: Hash32, G: Gate, R: Threads + Sync>(
+    rt: &R,
+    code: &Code,
+    base: &Store,
+    units: &u64,
+    gate: &G,
+    entries: &mut [Entry<Session<H>>],
+)
+    requires go_on { AllGoOn H.hash code.now (nodes_in base.now) entries.old }
+    requires some { 0 < units.now }
+    ensures { AllTurned H.hash code.now (nodes_in base.now) units.now entries.old entries.new }
+{
+    match entries {
+        [] => {}
+        [entry] => take_turn(code, base, *units, gate, entry),
+        _ => {
+            let (front, back) = entries.split_at_mut(entries.len() / 2);
+            if any_runs(front) && any_runs(back) {
+                join_mut(
+                    rt,
+                    &mut ||
+                        requires go_on { AllGoOn H.hash code.now (nodes_in base.now) front.now }
+                        requires some { IsSync R.row × (0 < units.now) }
+                        ensures { AllTurned H.hash code.entry.now (nodes_in base.entry.now) units.entry.now front.entry.now front.exit.now }
+                    { take_turns(rt, code, base, units, gate, front) },
+                    &mut ||
+                        requires go_on { AllGoOn H.hash code.now (nodes_in base.now) back.now }
+                        requires some { IsSync R.row × (0 < units.now) }
+                        ensures { AllTurned H.hash code.entry.now (nodes_in base.entry.now) units.entry.now back.entry.now back.exit.now }
+                    { take_turns(rt, code, base, units, gate, back) },
+                );
+            } else {
+                take_turns(rt, code, base, units, gate, front);
+                take_turns(rt, code, base, units, gate, back);
+            }
+        }
+    }
+}
+
+/// The turn of a session, if a call of it runs.
+fn take_turn<H: Hash32, G: Gate>(
+    code: &Code,
+    base: &Store,
+    units: u64,
+    gate: &G,
+    entry: &mut Entry<Session<H>>,
+)
+    requires goes_on { GoesOn H.hash code.now (nodes_in base.now) entry.old.value.running }
+    requires some { 0 < units }
+    ensures { IsTurnOf H.hash code.now (nodes_in base.now) units entry.old entry.new }
+{
+    if let Some(SessionCall { run, call }) = entry.value.running.take() {
+        gate.pass(entry.number);
+        let run = run.turn(code, base, units);
+        entry.value.running = Some(SessionCall { run, call });
+    }
+}
