@@ -14,6 +14,10 @@ use session_tables::Entry;
 use std::thread::{Threads, join_mut};
 use value_store::Store;
 
+/// Where more calls run than so many, a thread takes the turns of several: to start one takes as long as some hundred calls of functions.
+/// Halves may differ by one call, so there are at most twice as many threads, less one.
+const SHARES: usize = 8;
+
 /// A turn of the call of each session in which one runs, at once on threads: so many calls of functions more (1 at least), or those up to
 /// its end. Each runs on its own nodes over the base, which nobody changes, and passes the gate first. Each session is left as its own
 /// turn alone leaves it, on any number of threads; none is settled.
@@ -29,7 +33,8 @@ pub fn round<H: Hash32, G: Gate, R: Threads + Sync>(
     requires some { 0 < units }
     ensures { AllTurned H.hash code.now (nodes_in base.now) units entries.old entries.new }
 {
-    take_turns(rt, code, base, &units, gate, entries);
+    let few = calls_in(entries) / SHARES;
+    take_turns(rt, code, base, &units, gate, &few, entries);
 }
 
 /// Whether a call of one of them runs.
@@ -39,13 +44,22 @@ pub fn any_runs<H>(entries: &[Entry<Session<H>>]) -> bool
     entries.iter().any(|entry| entry.value.running.is_some())
 }
 
-/// The turns of a row of sessions, by halves: at once, where a call runs in both.
+/// In how many of them a call runs.
+fn calls_in<H>(entries: &[Entry<Session<H>>]) -> usize {
+    entries
+        .iter()
+        .filter(|entry| entry.value.running.is_some())
+        .count()
+}
+
+/// The turns of a row of sessions, by halves: at once, where a call runs in both, and in more than a few together.
 fn take_turns<H: Hash32, G: Gate, R: Threads + Sync>(
     rt: &R,
     code: &Code,
     base: &Store,
     units: &u64,
     gate: &G,
+    few: &usize,
     entries: &mut [Entry<Session<H>>],
 )
     requires go_on { AllGoOn H.hash code.now (nodes_in base.now) entries.old }
@@ -56,24 +70,25 @@ fn take_turns<H: Hash32, G: Gate, R: Threads + Sync>(
         [] => {}
         [entry] => take_turn(code, base, *units, gate, entry),
         _ => {
+            let are_many = calls_in(entries) > *few;
             let (front, back) = entries.split_at_mut(entries.len() / 2);
-            if any_runs(front) && any_runs(back) {
+            if are_many && any_runs(front) && any_runs(back) {
                 join_mut(
                     rt,
                     &mut ||
                         requires go_on { AllGoOn H.hash code.now (nodes_in base.now) front.now }
                         requires some { IsSync R.row × (0 < units.now) }
                         ensures { AllTurned H.hash code.entry.now (nodes_in base.entry.now) units.entry.now front.entry.now front.exit.now }
-                    { take_turns(rt, code, base, units, gate, front) },
+                    { take_turns(rt, code, base, units, gate, few, front) },
                     &mut ||
                         requires go_on { AllGoOn H.hash code.now (nodes_in base.now) back.now }
                         requires some { IsSync R.row × (0 < units.now) }
                         ensures { AllTurned H.hash code.entry.now (nodes_in base.entry.now) units.entry.now back.entry.now back.exit.now }
-                    { take_turns(rt, code, base, units, gate, back) },
+                    { take_turns(rt, code, base, units, gate, few, back) },
                 );
             } else {
-                take_turns(rt, code, base, units, gate, front);
-                take_turns(rt, code, base, units, gate, back);
+                take_turns(rt, code, base, units, gate, few, front);
+                take_turns(rt, code, base, units, gate, few, back);
             }
         }
     }

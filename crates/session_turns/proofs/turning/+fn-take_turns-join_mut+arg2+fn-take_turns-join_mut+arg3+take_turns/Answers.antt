@@ -24,12 +24,12 @@ take_turns-requires-clause-go_on g t c κs within =
     let parts = c.split_at_mut-front.result in
     front_goes_on g.H.Hash32.hash c.args.code.now (nodes_in c.args.base.now) c.args.entries.now parts.0.now parts.1.now c.split_at_mut-front.ensures.value c.requires.go_on
 
-pub take_turns-requires-else-any_runs-clause-go_on : goal.take_turns-requires-else-any_runs-clause-go_on
-take_turns-requires-else-any_runs-clause-go_on g t c κs within =
+pub take_turns-requires-else-are_many-clause-go_on : goal.take_turns-requires-else-are_many-clause-go_on
+take_turns-requires-else-are_many-clause-go_on g t c κs within =
     let parts = c.split_at_mut-front.result in
     back_goes_on g.H.Hash32.hash c.args.code.now (nodes_in c.args.base.now) c.args.entries.now parts.0.now parts.1.now c.split_at_mut-front.ensures.value c.requires.go_on
 
-pub returns-else-any_runs : goal.returns-else-any_runs
-returns-else-any_runs g t c =
+pub returns-else-are_many : goal.returns-else-are_many
+returns-else-are_many g t c =
     let m = length c.args.entries.now / 2 in
-    halves_turned g.H.Hash32.hash c.args.code.now (nodes_in c.args.base.now) c.args.units.now m c.args.entries.now c.take_turns.new.entries c.take_turns-else-any_runs.new.entries (search rules) (search rules)
+    halves_turned g.H.Hash32.hash c.args.code.now (nodes_in c.args.base.now) c.args.units.now m c.args.entries.now c.take_turns.new.entries c.take_turns-else-are_many.new.entries (search rules) (search rules)
