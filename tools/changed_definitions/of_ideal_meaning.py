@@ -140,6 +140,15 @@ CHANGES = {
             "run_arm (AndArm body arms) zero env k w = run body env k w",
             "run_arm (AndArm body arms) zero env k w = run_arm arms zero env k w",
         ),
+        ("first_in: of another form itself", "first_in _ = UnitV", "first_in v = v"),
+        ("second_in: of another form itself", "second_in _ = UnitV", "second_in v = v"),
+        ("bool_in: of another form true", "bool_in _ = false", "bool_in _ = true"),
+        ("int_in: of another form 1", "int_in _ = pos 0", "int_in _ = pos 1"),
+        ("text_in: of another form a byte", "text_in _ = []", "text_in _ = 0 ∷ []"),
+        ("tag_in: of another form 1", "tag_in _ = 0", "tag_in _ = 1"),
+        ("fields_in: of another form a field", "fields_in _ = NoV", "fields_in _ = AndV UnitV NoV"),
+        ("local: none is a bool", "local NoV i = UnitV", "local NoV i = BoolV false"),
+        ("run_arm: none is a bool", "run_arm NoArm tag env k w = Gives UnitV k w", "run_arm NoArm tag env k w = Gives (BoolV false) k w"),
     ],
     "Ideal": [
         (
@@ -423,6 +432,7 @@ CHANGES = {
             "on_argument s (read_at P t argument) f k bytes n recent",
             "on_argument s (read_at P P.state argument) f k bytes n recent",
         ),
+        ("digest_in: of another form a byte", "digest_in _ = []", "digest_in _ = 0 ∷ []"),
     ],
     "Told": [
         ("cause_told: found comes before want", "WrongPiece place want.0 found.0", "WrongPiece place found.0 want.0"),
