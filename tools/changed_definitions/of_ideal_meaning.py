@@ -140,6 +140,15 @@ CHANGES = {
             "run_arm (AndArm body arms) zero env k w = run body env k w",
             "run_arm (AndArm body arms) zero env k w = run_arm arms zero env k w",
         ),
+        ("first_in: of another form itself", "first_in _ = UnitV", "first_in v = v"),
+        ("second_in: of another form itself", "second_in _ = UnitV", "second_in v = v"),
+        ("bool_in: of another form true", "bool_in _ = false", "bool_in _ = true"),
+        ("int_in: of another form 1", "int_in _ = pos 0", "int_in _ = pos 1"),
+        ("text_in: of another form a byte", "text_in _ = []", "text_in _ = 0 ∷ []"),
+        ("tag_in: of another form 1", "tag_in _ = 0", "tag_in _ = 1"),
+        ("fields_in: of another form a field", "fields_in _ = NoV", "fields_in _ = AndV UnitV NoV"),
+        ("local: none is a bool", "local NoV i = UnitV", "local NoV i = BoolV false"),
+        ("run_arm: none is a bool", "run_arm NoArm tag env k w = Gives UnitV k w", "run_arm NoArm tag env k w = Gives (BoolV false) k w"),
     ],
     "Ideal": [
         (
@@ -423,6 +432,7 @@ CHANGES = {
             "on_argument s (read_at P t argument) f k bytes n recent",
             "on_argument s (read_at P P.state argument) f k bytes n recent",
         ),
+        ("digest_in: of another form a byte", "digest_in _ = []", "digest_in _ = 0 ∷ []"),
     ],
     "Told": [
         ("cause_told: found comes before want", "WrongPiece place want.0 found.0", "WrongPiece place found.0 want.0"),
@@ -511,6 +521,22 @@ CHANGES = {
     ],
     "Agreement": [
         ("as_checked: a trap is out", "as_checked (Traps trap) = Traps trap", "as_checked (Traps trap) = IsOut"),
+        (
+            "AllOpenedFit: the later ones alone",
+            "AllOpenedFit P (x ∷ seen) = Fits P x.ty x.value × AllOpenedFit P seen",
+            "AllOpenedFit P (x ∷ seen) = AllOpenedFit P seen",
+        ),
+        ("TookHonest: any place", "    pub place : w.place ≡ began.place + length seen\n", "    pub place : Unit {0}\n"),
+        (
+            "OffersOther: of any digest",
+            "    pub one_digest : digest_at hash P x.ty found ≡ digest_at hash P x.ty (honest_bytes hash P x)\n",
+            "    pub one_digest : Unit {0}\n",
+        ),
+        (
+            "Follows: with any fuel",
+            "Follows project began (Gives a k seen) checked = (w : Taking) × (checked ≡ Gives (project a) k w) × TookHonest began seen w",
+            "Follows project began (Gives a k seen) checked = (w : Taking) × (fuel : ℕ) × (checked ≡ Gives (project a) fuel w) × TookHonest began seen w",
+        ),
     ],
     "Operations": [
         ("IsInt: 2^63 too", "(z ≤ℤ pos (2 ^ 63 - 1))", "(z ≤ℤ pos (2 ^ 63))"),
@@ -526,10 +552,25 @@ CHANGES = {
         ("IsExact: any result beyond", "((IsInt z → ⊥) → e ≡ Ends (Traps Overflow) k s)", "((IsInt z → ⊥) → e ≡ e)"),
         ("SaysWhether: any result where it is so", "(Fact → e ≡ Gives (BoolV true) k s)", "(Fact → e ≡ e)"),
         ("SaysWhether: any result where it isn't", "((Fact → ⊥) → e ≡ Gives (BoolV false) k s)", "((Fact → ⊥) → e ≡ e)"),
+        ("OperationRules: a text of the limit traps", "P.format.limit < 4 + length (xs ++ ys)", "P.format.limit ≤ 4 + length (xs ++ ys)"),
+        ("OperationRules: the length is one more", "Gives (IntV (pos (length xs))) k s", "Gives (IntV (pos (1 + length xs))) k s"),
+        ("OperationRules: less is at most", "SaysWhether (a <ℤ b) k s", "SaysWhether (a ≤ℤ b) k s"),
     ],
     "Table": [
         ("made: a depth of 513", "else (if nat_lt 512 (depth P.types t v)", "else (if nat_lt 513 (depth P.types t v)"),
         ("divides: any quotient", "divides z x y k seen = if int_fits (int_div x y) then", "divides z x y k seen = if int_fits (pos zero) then"),
+        ("IdealRules: unauth notes nothing", "(λ v k s. Gives v k (s ++ record { ty = t; value = v } ∷ []))", "(λ v k s. Gives v k s)"),
+        (
+            "IdealRules: a call takes no fuel",
+            "→ call P ideal_mode (suc n) f vs (suc k) s ≡ eval P n (function_at P f).body vs k s",
+            "→ call P ideal_mode (suc n) f vs (suc k) s ≡ eval P n (function_at P f).body vs (suc k) s",
+        ),
+        (
+            "IdealRules: the other branch",
+            "if bool_in v then eval P n e env k s else eval P n f env k s",
+            "if bool_in v then eval P n f env k s else eval P n e env k s",
+        ),
+        ("IdealRules: let binds outermost", "eval P n body (join env (AndV v NoV)) k s", "eval P n body (join (AndV v NoV) env) k s"),
     ],
     "Ring": [
         (

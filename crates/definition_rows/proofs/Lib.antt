@@ -17,3 +17,4 @@ pub mod VerdictRows
 pub mod PieceRows
 pub mod CauseRows
 pub mod IntRows
+pub mod PartRows

@@ -1,6 +1,6 @@
 -- The rows of `specs/RuleRows` hold.
 use Rattle.std.proofs.Common.{◌≡◌, ◌≤◌, [], Some, None, true, false, refl, arith}
-use Rattle.core_terms.specs.Types.{UnitTy, IntTy, TextTy, AuthTy}
+use Rattle.core_terms.specs.Types.{UnitTy, BoolTy, IntTy, TextTy, AuthTy}
 use Rattle.core_terms.specs.Terms.{LocalE, Inner}
 use Rattle.definition_rows.specs.RuleRows.{RuleRows}
 
@@ -18,6 +18,12 @@ rule_rows = record {
   each_argument = (refl, (refl, (refl, tt)));
   no_int_beyond_the_greatest = λ h. let e : false ≡ true = h.1 in absurd (cc);
   no_text_of_65533_bytes = λ h. let k : 65533 ≤ 65532 = h.2 in absurd (omega (arith, k));
+  no_pair_of_another_first = λ h. let k : Some TextTy ≡ Some IntTy = h.1 in absurd (cc);
+  no_pair_of_another_second = λ h. let k : Some IntTy ≡ Some TextTy = h.2 in absurd (cc);
+  no_remainder_by_a_bool = λ h. let k : Some BoolTy ≡ Some IntTy = h.2 in absurd (cc);
+  no_int_before_a_bool = λ h. let k : Some BoolTy ≡ Some IntTy = h.2 in absurd (cc);
+  no_text_before_a_bool = λ h. let k : Some BoolTy ≡ Some TextTy = h.2 in absurd (cc);
+  no_text_joined_with_an_int = λ h. let k : Some IntTy ≡ Some TextTy = h.2 in absurd (cc);
   no_such_constructor = λ h. h.1;
   no_unauth_of_an_int = λ h. let k : Some IntTy ≡ Some (AuthTy IntTy) = h.1 in absurd (cc);
   no_other_branch_of_another_type = λ h. let k : Some TextTy ≡ Some IntTy = h.2 in absurd (cc);

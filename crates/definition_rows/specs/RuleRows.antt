@@ -33,6 +33,12 @@ pub record RuleRows : Type 0 where
   -- what has no type
   pub no_int_beyond_the_greatest : Takes (IntE (pos 9223372036854775808)) IntTy → ⊥
   pub no_text_of_65533_bytes : Takes (TextE (replicate 65533 0x61)) TextTy → ⊥
+  pub no_pair_of_another_first : Takes (PairE IntTy TextTy (LocalE 2) (LocalE 2)) (PairTy IntTy TextTy) → ⊥
+  pub no_pair_of_another_second : Takes (PairE IntTy TextTy (LocalE 0) (LocalE 0)) (PairTy IntTy TextTy) → ⊥
+  pub no_remainder_by_a_bool : Takes (ArithE Rem (LocalE 0) (LocalE 1)) IntTy → ⊥
+  pub no_int_before_a_bool : Takes (CompareE Lt (LocalE 0) (LocalE 1)) BoolTy → ⊥
+  pub no_text_before_a_bool : Takes (TextCompareE TLt (LocalE 2) (LocalE 1)) BoolTy → ⊥
+  pub no_text_joined_with_an_int : Takes (CatE (LocalE 2) (LocalE 0)) TextTy → ⊥
   pub no_such_constructor : Takes (ConE 0 2 NoE) (NamedTy 0) → ⊥
   pub no_unauth_of_an_int : Takes (UnauthE IntTy (LocalE 0)) IntTy → ⊥
   pub no_other_branch_of_another_type : Takes (IfE (LocalE 1) (LocalE 0) (LocalE 2)) IntTy → ⊥

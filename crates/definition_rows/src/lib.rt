@@ -11,6 +11,7 @@ ghost use Rattle.definition_rows.specs.FormatRows.{FormatRows};
 ghost use Rattle.definition_rows.specs.HeadlineRows.{HeadlineRows};
 ghost use Rattle.definition_rows.specs.IntRows.{IntRows};
 ghost use Rattle.definition_rows.specs.MarkRows.{MarkRows};
+ghost use Rattle.definition_rows.specs.PartRows.{PartRows};
 ghost use Rattle.definition_rows.specs.PieceRows.{PieceRows};
 ghost use Rattle.definition_rows.specs.RingRows.{RingRows};
 ghost use Rattle.definition_rows.specs.RoleRows.{RoleRows};
@@ -36,7 +37,7 @@ pub fn core_terms_rows()
     ensures faults { FaultRows }
 {}
 
-/// The rows of `ideal_meaning`: how runs end, the words of the headline and of the ring, verdicts, offered and new pieces, causes, ints and texts.
+/// The rows of `ideal_meaning`: how runs end, the words of the headline and of the ring, verdicts, offered and new pieces, causes, ints and texts, and the parts of values of another form.
 pub fn ideal_meaning_rows()
     ensures ends { EndRows }
     ensures headline { HeadlineRows }
@@ -45,4 +46,5 @@ pub fn ideal_meaning_rows()
     ensures pieces { PieceRows }
     ensures causes { CauseRows }
     ensures ints { IntRows }
+    ensures parts { PartRows }
 {}
