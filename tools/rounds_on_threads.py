@@ -4,7 +4,7 @@
     tools/rounds_on_threads.py crates/lamauth/out/lamauth --rounds 100
 
 64 sessions call a query, which makes 1,000 calls of functions and opens a value in each; then a round runs, proves and sends them all. So it
-goes on for so many rounds, and the seconds are those from the first call to the last proof. Up to 15 threads share the turns as far as
+goes on for so many rounds, and the seconds are those from the first call to the last proof. About eight threads share the turns as far as
 threads can be made: a library in C that is loaded before the C library refuses them all for the first row, and in the others the process
 has so many processors. What is sent has to be the same in each run; else that is told, and the status is 1.
 """

@@ -14,8 +14,7 @@ use session_tables::Entry;
 use std::thread::{Threads, join_mut};
 use value_store::Store;
 
-/// Where more calls run than so many, a thread takes the turns of several: to start one takes as long as some hundred calls of functions.
-/// Halves may differ by one call, so there are at most twice as many threads, less one.
+/// About so many threads share the turns of a round in which more calls run: to start one takes as long as some hundred calls of functions.
 const SHARES: usize = 8;
 
 /// A turn of the call of each session in which one runs, at once on threads: so many calls of functions more (1 at least), or those up to
