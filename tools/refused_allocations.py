@@ -92,7 +92,7 @@ SWITCH = (
 )
 ONE, TWICE = b"LAP1\0\0\0\0\0\0\1\1", b"LAP1\0\0\0\0\0\0\1\1\0\0\0\0\1\1"
 
-# a program, the literal of its state, the words of a command, and a proof where it judges one
+# a program, the literal of its state, the words of a command, and a proof where it judges one; `library` and `gen` read no file
 COMMANDS = [
     (FIRST, "()", ["verify", "p", "open", "s", "()", "1", "q"], b"LAP1\0\0\0\0\0\0\0"),
     (FIRST, "()", ["verify", "p", "open", "s", "()", "1", "q"], b"LAP1\0\0\0\0\0"),
@@ -107,6 +107,8 @@ COMMANDS = [
     (SWITCH, "true", ["verify", "p", "flip", "s", "()", "1", "q", "o"], ONE),
     (SWITCH, "true", ["audit", "p", "flip", "i", "()", "1", "q"], ONE),
     (SWITCH, "true", ["audit", "p"], b""),
+    (FIRST, "()", ["library", "bst"], b""),
+    (FIRST, "()", ["gen", "bst", "1", "1", "1"], b""),
 ]
 
 SPIN = (

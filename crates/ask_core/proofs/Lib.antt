@@ -14,8 +14,7 @@ pub mod Called
 pub mod Following
 -- and of a proof, by its verdict: `proof_replied`
 pub mod Judged
--- the state behind an accepted outcome: `first_spelled`, `state_behind`
-pub mod FirstComponents
+-- the state behind an accepted outcome: `state_behind`
 pub mod StatesBehind
 -- what is taken of a reply: `take_reply`
 pub mod Taking

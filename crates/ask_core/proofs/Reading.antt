@@ -16,9 +16,9 @@ use Rattle.core_terms.specs.declared.roles.Role.{Role}
 use Rattle.core_terms.specs.declared.types.TyId.{TyId}
 use Rattle.mode_vm.specs.Meanings.{program_of}
 use Rattle.session_meaning.specs.Calls.{reads_state, role_in}
+use Rattle.shallow_codec.specs.Unspelled.{IsRead}
 use Rattle.shallow_codec.specs.declared.fault.UnspellFault.{UnspellFault}
 use Rattle.shallow_codec.specs.declared.fault.UnspellFault.TheVariants as unspell
-use Rattle.ask_core.specs.Checks.{IsRead}
 
 -- bytes that are refused, at the offset of the fault
 pub bad_at : (read : Read Value) (fault : UnspellFault) (offset : ℕ) → fault ≡ unspell.Bad offset → IsRead {A = Unit {0}} read (Err fault) → read ≡ BadAt offset

@@ -8,8 +8,6 @@ use Rattle.core_terms.specs.Types.{Ty}
 use Rattle.core_terms.specs.Values.{Value}
 use Rattle.core_terms.specs.declared.roles.Role.{Role}
 use Rattle.session_meaning.specs.Calls.{reads_state, role_in}
-use Rattle.shallow_codec.specs.declared.fault.UnspellFault.{UnspellFault}
-use Rattle.shallow_codec.specs.declared.fault.UnspellFault.TheVariants as unspell
 use Rattle.ask_core.specs.declared.asked.Asked.{Asked}
 use Rattle.ask_core.specs.declared.told.AskFault.{AskFault}
 use Rattle.ask_core.specs.declared.told.AskFault.TheVariants.{BadState, BadArgument, OutOfTurn, Rejected, Stranger, WrongReply, Failed, Broken, Closed, NoMemory}
@@ -17,11 +15,6 @@ use Rattle.ask_core.specs.declared.told.AskFault.TheVariants.{BadState, BadArgum
 -- the bytes spell a value
 abbrev pub IsGood : Read Value → Type 0
 IsGood read = (v : Value) × (rest : List ℕ) × (end : ℕ) × (read ≡ Good v rest end)
-
-abbrev pub IsRead : {A : Type 0} → Read Value → Result A UnspellFault → Type 0
-IsRead read (Ok unit) = IsGood read
-IsRead read (Err (unspell.Bad offset)) = read ≡ BadAt offset
-IsRead read (Err unspell.NoMemory) = ⊤
 
 -- the role with a number, where it reads the state; none where it doesn't
 abbrev pub IsCalled : List Ty → Program → ℕ → Option Role → Type 0

@@ -1,21 +1,17 @@
 // The bytes of a state and of a call, before they are sent.
 ghost use Rattle.std.specs.Prelude.{◌≡◌, ◌≤◌, ◌^◌, IfSome, option_copied};
 ghost use Rattle.core_terms.specs.Programs.{meaning, types_of};
-ghost use Rattle.core_terms.specs.ProgramTypes.{types_by_number, types_meaning};
-ghost use Rattle.core_terms.specs.Projection.{read_at};
 ghost use Rattle.core_terms.specs.Roles.{HasRoleShape};
 ghost use Rattle.core_terms.specs.RoleViews.{role_of};
-ghost use Rattle.core_terms.specs.TypeTables.{type_at};
 ghost use Rattle.mode_vm.specs.Meanings.{program_of};
-ghost use Rattle.ask_core.specs.Checks.{CallRead, IsCalled, IsRead, StateRead};
+ghost use Rattle.ask_core.specs.Checks.{CallRead, IsCalled, StateRead};
 
 use crate::asked::Asked;
 use crate::told::AskFault;
 use code_gen::Code;
-use core_terms::{Program, Role, RoleKind, Spelling, TyId, Types};
-use shallow_codec::{UnspellFault, unspell};
+use core_terms::{Program, Role, RoleKind, Spelling};
+use shallow_codec::{UnspellFault, check_spelled};
 use std::alloc::Global;
-use value_store::Store;
 
 /// Checks that the bytes spell a state of the program.
 pub fn check_state(alloc: Global, code: &Code, state: &[u8]) -> Result<(), AskFault>
@@ -70,17 +66,5 @@ pub fn role_called(program: &Program, number: u16) -> Option<&Role>
             RoleKind::Update => Some(role),
         },
         None => None,
-    }
-}
-
-/// Checks that the bytes spell a value of a type.
-fn check_spelled(alloc: Global, types: &Types, bytes: &[u8], ty: TyId) -> Result<(), UnspellFault>
-    ensures { IsRead (read_at (types_meaning types.now) (type_at (types_by_number types.now) ty) bytes.now) result }
-{
-    let mut store = Store::new(alloc);
-    match unspell(alloc, types, &mut store, bytes, ty) {
-        Ok(_) => Ok(()),
-        Err(UnspellFault::Bad(offset)) => Err(UnspellFault::Bad(offset)),
-        Err(UnspellFault::NoMemory) => Err(UnspellFault::NoMemory),
     }
 }

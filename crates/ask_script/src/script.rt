@@ -41,7 +41,8 @@ impl<T: Drop> From<AllocFailed<T>> for ScriptFault {
 /// Each line ends with a line feed, which the last one may lack. A line of nothing but blanks, tabs and carriage returns is
 /// skipped. Every other one is of one of these forms, with one blank between two words: `open S N`, `call S ROLE FUEL ARG`, `go`,
 /// `close S`. S is a session, 1 to 65,535; N a number of pieces, 0 to 1,024; ROLE the name of a query or an update; FUEL 0 to
-/// 10^12; ARG the rest of the line, a literal of the role's argument type. A number has 1 to 20 decimal digits.
+/// 10^12; ARG the rest of the line, a literal of the role's argument type. A number has 1 to 20 decimal digits; leading zeros change
+/// nothing.
 ///
 /// # Errors
 ///

@@ -11,7 +11,7 @@ use Rattle.file_commands.specs.Codes.{code}
 use Rattle.file_commands.specs.Ending.{EndsAnswered, EndsAs, IsToldAs, IsToldByCode, MayWrite, NoneRose, Outside, StoresSome, WritesPart, lines_of, no_memory_text}
 use Rattle.file_commands.specs.declared.status.Status.{Status}
 use Rattle.file_commands.specs.declared.status.Status.TheVariants as status
-use Rattle.file_commands.proofs.Known.{append_none}
+use Rattle.lam_outside.proofs.Moved.{append_none}
 
 by_code : (found : Option Answer) (old new : Outside) (ended : Status) → IsToldAs found old new ended → IsToldByCode found old new (code ended)
 by_code None old new ended told = told

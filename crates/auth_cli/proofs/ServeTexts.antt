@@ -12,7 +12,7 @@ use Rattle.auth_cli.specs.Serving.{Course, IsListening, IsStored, IsTooLong, Lac
 use Rattle.file_commands.specs.Telling.{TellsText}
 use Rattle.file_commands.specs.declared.status.Status.{Status}
 use Rattle.file_commands.specs.declared.status.Status.TheVariants.{WriteFault}
-use Rattle.file_commands.proofs.Known.{append_none, append_twice}
+use Rattle.lam_outside.proofs.Moved.{append_none, append_twice}
 
 -- a front of a text is one of the text with more behind it
 front_more : (n : ℕ) (a b : List ℕ) → (m : ℕ) × (take n a ≡ take m (a ++ b))

@@ -10,6 +10,7 @@ use Rattle.lam_outside.specs.Links.{Linked}
 use Rattle.lam_outside.specs.Told.{Contents, Stores, AddsStores}
 use Rattle.printed_lines.specs.Lines.{link_fault_line}
 use Rattle.script_play.specs.PlayRuns.{TellsTruth}
+use Rattle.script_play.specs.Halting.{HaltsAt, OnLinkFault}
 use Rattle.script_play.specs.Playing.{PlaysAs, world}
 use Rattle.script_play.specs.Plays.{Play, play}
 use Rattle.script_play.specs.declared.halt.Halt.{Halt}
@@ -42,7 +43,8 @@ abbrev pub PlayEnd : Type 0
 PlayEnd = Result (Unit {0}) Halt
 
 -- Where the links behind the play are told, those before it are, and there is one more, to the port. On the bytes that came on it the play was
--- played as far as its end says: what was sent on the link, what was written by now, and the state that was told last, where one was.
+-- played as far as its end says: what was sent on the link, what was written by now, and the state that was told last, where one was. Where the link
+-- failed, all was done that is played on the bytes that came until then, up to a request that wasn't sent whole, or to a reply that hadn't come whole.
 pub record IsPlayedOn (a : Asking) (end : PlayEnd) (links : Option (List Linked)) (after : List Linked) (written written' last : Option (List ℕ)) : Type 0 where
   pub before : List Linked
   pub link : Linked
@@ -51,6 +53,8 @@ pub record IsPlayedOn (a : Asking) (end : PlayEnd) (links : Option (List Linked)
   pub at_port : link.port ≡ a.port
   pub plays : PlaysAs a.program.digested.program a.program.names (λ c. Unit {0}) (Some link.left) (world (Some []) written None)
       (world (Some link.sent) written' last) (asked_play a (messages reply_of (bytes_on link))) end
+  pub halts : OnLinkFault end (HaltsAt a.program.digested.program a.program.names (world (Some []) written None) (world (Some link.sent) written' last)
+      (asked_play a (messages reply_of link.given)).deeds)
 
 -- the counts: that of the links rose where the link failed, that of the sink where a line of the play could not be written
 abbrev pub PlayFaults : PlayEnd → NetFaults → NetFaults → Type 0

@@ -82,9 +82,9 @@ use std::thread::Threads;
 /// | 7 | `input refused: argument KIND OFFSET` | the argument is no literal of its type: the first fault |
 /// | 7 | `input refused: script LINE` | the line of the script with this number, from 1, asks for nothing: the first such line |
 /// | 8 | `read fault` | a file could not be read |
-/// | 8 | `link fault` | `serve`: it could not listen; `ask`: it could not dial; or, as the last line, a link or an accept failed |
-/// | 9 | a part of a line | the sink failed, or a file could not be stored |
-/// | 10 | `no memory` | memory was wanting |
+/// | 8, 10 | `link fault` | `serve`: it could not listen; `ask`: it could not dial; or, as the last line, a link or an accept failed. 10 where memory was wanting for the image that `serve` stores |
+/// | 9 | a front of the lines, which may end inside of one | the sink failed, or a file could not be stored: then nothing is written, but by `serve` and `ask` all lines, or a front of them where the sink failed too |
+/// | 10 | `no memory` | memory was wanting; of `serve`, behind `versions V commits C` where it was for the image to store |
 /// | 11 | `collision PLACE OFFERED HONEST` | `audit`: the first offered piece that differs from the honest one has its digest: the place, and both pieces in lower-case hexadecimal digits, one without bytes as `-` |
 ///
 /// The causes of a rejection; a piece goes by its place, the number in which it is asked for, from 0:
@@ -106,9 +106,10 @@ use std::thread::Threads;
 /// pieces that are kept, the port, the number of connections, the number of calls in a turn, the state or the image, the argument,
 /// the script, the proof; of `gen` the words, the name, the seed, the number of rounds, the number of pieces that are kept. A file is
 /// opened when all that stands before it is well-formed, so `read fault` comes only from a file that this order had reached. A file is
-/// stored before any line is written, but by `serve` and `ask`: they write their lines as they arise and store the last version, or the
-/// state told last, behind them, however they ended once they listened or dialled. They alone use the net, and wait for
-/// peers; `serve` alone starts threads, for the turns of a round.
+/// stored before any line is written, but by `serve` and `ask`: they write their lines as they arise, and behind them `serve` stores the
+/// last version, however it ended once its words and files were in order, and `ask` the state told last, once it dialled. Behind
+/// `link fault` and `no memory` no line says that the image wasn't stored: where memory was wanting for it the status is 10, and where it
+/// would be too long it is as before. They alone use the net, and wait for peers; `serve` alone starts threads, for the turns of a round.
 pub fn run<F: Files, O: Sink, N: Net, R: Threads + Sync>(
     rt: &R,
     alloc: Global,

@@ -15,6 +15,7 @@ pub mod PartsRead
 pub mod MadeOfTokens
 pub mod ArmsOneByOne
 pub mod Loops
+pub mod ListTurns
 -- the law first_fault_is_first: how the tokens before a fault can be gone on with, from rows of tokens upwards
 pub mod Fronts
 pub mod FrontRows

@@ -15,7 +15,7 @@ use Rattle.auth_syntax.proofs.Faults.{Reads-err}
 use Rattle.auth_syntax.proofs.Lists.{read_separated, read_list-is}
 use Rattle.auth_syntax.proofs.Exact.{read_constructors-is}
 use Rattle.auth_syntax.proofs.ArmsOneByOne.{arms_are_read}
-use Rattle.auth_syntax.proofs.MadeOfTokens.{IsMadeOfTokens, separator_is_token, bar_is_token, arm_separator_is_token, constructor_is_tokens, arm_is_tokens, declaration_is_tokens}
+use Rattle.auth_syntax.proofs.MadeOfTokens.{IsMadeOfTokens, separator_is_token, bar_is_token, arm_separator_is_token, constructor_is_tokens, expression_is_tokens, arm_is_tokens, declaration_is_tokens}
 
 -- these before those that are read
 abbrev pub followed : {A : Type 0} → List A → Reading (List A) → Reading (List A)
@@ -142,6 +142,10 @@ constructors_by_one = record {
       ap (λ (read : Tokens → Reading (List ConstructorDeclaration)). read whole) (read_constructors-is (count whole))
       ∙ seen-id (read_separated read_bar read_constructor_declaration (count whole) whole);
 }
+
+pub expressions_by_one : (levels : ℕ)
+    → IsReadByOne read_separator (read_expression levels) (λ things. things) (λ tokens. read_list (read_expression levels) (count tokens) tokens)
+expressions_by_one levels = listed_by_one (read_expression levels) (expression_is_tokens levels)
 
 pub arms_by_one : (levels : ℕ)
     → IsReadByOne read_arm_separator (read_arm (read_expression levels)) arms_in_a_row (λ tokens. read_arms (read_expression levels) (count tokens) tokens)

@@ -1,4 +1,5 @@
-// The laws of the grammar in `specs/`: each is a function without parameters, whose contract is the law.
+//! The laws of the grammar in `specs/`: that parsing finds the program of a text, that a text has at most one, and which first fault is
+//! told. Each is a function without parameters, whose contract is the law.
 
 ghost use Rattle.auth_syntax.specs.Laws.{FirstFaultIsFirst, FirstFaultIsTold, OneIsWritten, ParsingIsExact};
 

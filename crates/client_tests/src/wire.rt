@@ -1,9 +1,8 @@
 // Requests and replies as bytes on a link in memory.
-ghost use Rattle.std.specs.Prelude.{◌≡◌, IsTrue};
+ghost use Rattle.std.specs.Prelude.{IsTrue};
 ghost use Rattle.session_meaning.specs.Messages.{IsRequest};
 ghost use Rattle.wire_form.specs.MessageViews.{request_meant};
 
-use core_terms::Digest;
 use lam_outside::{MemLink, Plan};
 use std::alloc::{AllocError, Global};
 use wire_form::{Request, write_request};
@@ -28,7 +27,7 @@ fn is_message(request: &Request) -> bool
             state,
         } => {
             let _kept = *kept;
-            *session > 0 && digest_bytes(program).len() == 32 && state.as_bytes().len() <= 65_536
+            *session > 0 && program.as_bytes().len() == 32 && state.as_bytes().len() <= 65_536
         }
         Request::Call {
             session,
@@ -45,13 +44,6 @@ fn is_message(request: &Request) -> bool
         }
         Request::Bye { session } => *session > 0,
     }
-}
-
-/// The bytes of a digest.
-fn digest_bytes(digest: &Digest) -> &[u8]
-    ensures { result.now ≡ digest.now.0 }
-{
-    &digest.0
 }
 
 /// The bytes of a request.

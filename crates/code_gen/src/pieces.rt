@@ -1,5 +1,5 @@
 // Pieces of code, added behind what is there. The program is passed to say what its types stand for.
-ghost use Rattle.std.specs.Prelude.{◌≡◌, ◌∷◌, [], IfOk, OnOk};
+ghost use Rattle.std.specs.Prelude.{◌≡◌, ◌∷◌, [], OnOk};
 ghost use Rattle.core_terms.specs.Programs.{meaning};
 ghost use Rattle.core_terms.specs.Texts.{bytes_of};
 ghost use Rattle.code_gen.specs.CodeTrees.{Adds, listed, single};
@@ -44,16 +44,8 @@ pub(crate) fn put_text(
 ) -> Result<(), AllocError>
     ensures { OnOk result (Adds program.now code.old.items code.new.items (instruction.PushText (bytes_of text.now) ∷ [])) }
 {
-    let copy = copied(text, alloc)?;
+    let copy = text.copied(alloc)?;
     put(code, program, Instruction::PushText(copy))
-}
-
-/// A text of the same bytes.
-fn copied(text: &Text, alloc: Global) -> Result<Text, AllocError>
-    ensures { IfOk result (λ copy. bytes_of copy ≡ bytes_of text.now) }
-{
-    let bytes = Vec::from_slice(alloc, text.as_bytes())?;
-    Ok(Text::new(bytes))
 }
 
 /// Adds the end of an arm: its fields are dropped, where the constructor has any.

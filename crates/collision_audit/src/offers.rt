@@ -12,9 +12,11 @@ ghost use Rattle.collision_audit.specs.Comparing.{ComparesKept, ComparesNew, End
 use crate::audited::{AuditFault, Audited};
 use core_terms::{Cause, Types};
 use lam_outside::Source;
+use mode_vm::Stop;
 use proof_stream::{Frame, FrameEnd, FrameReader, HeadEnd};
 use reuse_buffer::Ring;
 use std::alloc::{AllocError, Global};
+use verifier_mode::{VerifierFault, stop_of};
 
 /// What is offered in the place of an honest piece.
 #[derive(Drop)]
@@ -132,12 +134,9 @@ fn ended(end: FrameEnd, place: u64) -> Result<Offered, AuditFault>
     ensures is { EndsAs end place result }
     ensures faults { (old new : ℕ) → FrameCause {T = FrameTold} old new (Err end) → AuditCause old new result }
 {
-    Ok(Offered::Ended(match end {
-        FrameEnd::End => Cause::Short(place),
-        FrameEnd::BadKind(kind) => Cause::BadKind(place, kind),
-        FrameEnd::Cut => Cause::Cut(place),
-        FrameEnd::PieceLong(len) => Cause::PieceLong(place, len),
-        FrameEnd::ReadFault => return Err(AuditFault::ReadFault),
-        FrameEnd::NoMemory => return Err(AuditFault::NoMemory),
-    }))
+    match stop_of(end, place) {
+        Stop::Mode(VerifierFault::Rejected(cause)) => Ok(Offered::Ended(cause)),
+        Stop::Mode(VerifierFault::ReadFault) => Err(AuditFault::ReadFault),
+        Stop::NoMemory => Err(AuditFault::NoMemory),
+    }
 }

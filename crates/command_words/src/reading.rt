@@ -12,7 +12,10 @@ use std::alloc::Global;
 
 /// What the words call, the program's name first.
 ///
-/// `Refused` exactly where the program's own test or clap refuses the words.
+/// # Errors
+///
+/// `Refused` exactly where the program's own test or clap refuses the words, memory aside. `NoMemory` where there is no memory for clap's
+/// command line or its reading of the words.
 pub fn read<'a>(alloc: Global, words: &'a [&'a str]) -> Result<Invocation<'a>, WordsFault>
     ensures reads { Reads (texts words.entry.now) result }
     ensures counted { IfOk result (λ invocation. IsOfCommand invocation.command (texts invocation.texts.now)) }
@@ -30,7 +33,7 @@ pub fn read<'a>(alloc: Global, words: &'a [&'a str]) -> Result<Invocation<'a>, W
     Ok(Invocation { command, texts })
 }
 
-/// Judges the words by clap. `Refused` exactly where it refuses them for another cause than memory.
+/// Judges the words by clap. `Refused` exactly where it refuses them for another cause than memory; `NoMemory` where memory was wanting.
 fn judge(alloc: Global, words: &[&str]) -> Result<(), WordsFault>
     ensures { IsJudged (texts words.now) result }
 {

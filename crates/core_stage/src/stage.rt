@@ -14,42 +14,18 @@ ghost use Rattle.serve_core.specs.Serving.{Serves};
 use auth_syntax::parser::parse;
 use auth_types::check::check;
 use code_gen::Code;
-use core_terms::{Digest, Hash32, Program, TyId, Types};
-use digest_layer::Sha;
+use core_terms::{Digest, Hash32, Program};
+use digest_layer::{ProverMarker, Sha};
 use images::{Loaded, load_image};
-use lam_outside::{MemLink, Plan};
+use lam_outside::MemLink;
 use serve_core::{Heard, ServeCore};
 use session_turns::{Gate, NoGate};
-use shallow_codec::put_digested;
 use std::alloc::{AllocError, Global};
 use std::thread::Threads;
-use value_store::{Marker, Ref, Store};
 use wire_form::{ReadStop, Reply, read_request, write_reply};
 
 /// The longest text of a program, in bytes.
 const MAX_PROGRAM: usize = 262_144;
-
-/// Makes the prover's nodes.
-#[derive(Drop)]
-struct ProverMarker {
-    alloc: Global,
-}
-
-impl Marker for ProverMarker {
-    ghost use Rattle.value_store.specs.Markings.{ProverMarking};
-
-    ghost marking = { ProverMarking sha256 };
-
-    fn mark_auth(
-        &mut self,
-        types: &Types,
-        store: &mut Store,
-        ty: TyId,
-        inner: Ref,
-    ) -> Result<Ref, AllocError> {
-        put_digested::<Sha, Store>(self.alloc, types, store, ty, inner)
-    }
-}
 
 /// What is served: the text of a program, and the records of the image of its first version.
 #[derive(Clone, Copy)]
@@ -81,7 +57,7 @@ fn image(
     records: &[u8],
 ) -> Result<Vec<u8>, AllocError> {
     let mut bytes = Vec::from_slice(alloc, b"LAI1")?;
-    bytes.extend_from_slice(&digest.0)?;
+    bytes.extend_from_slice(digest.as_bytes())?;
     bytes.extend_from_slice(&count.to_be_bytes())?;
     bytes.extend_from_slice(records)?;
     Ok(bytes)
@@ -91,7 +67,7 @@ fn image(
 fn first_version(alloc: Global, program: &Program, bytes: &[u8]) -> Result<Loaded, AllocError>
     ensures { IfOk result (λ loaded. (v : Value) × IsVersion sha256 (meaning program.now) (nodes_in loaded.store) loaded.root v) }
 {
-    let mut marker = ProverMarker { alloc };
+    let mut marker = ProverMarker::new(alloc);
     let types = program.types();
     let digest = program.text_digest();
     match load_image(alloc, types, digest, &mut marker, bytes) {
@@ -241,8 +217,7 @@ pub fn served<G: Gate + Drop, R: Threads + Sync>(
     requires serves { (server : meant.Server) × Serves sha256 core.old server }
     ensures { IfOk result (λ _. (server : meant.Server) × Serves sha256 core.new server) }
 {
-    let plan = Plan::new(Vec::new(alloc));
-    let mut link = MemLink::new(alloc, Vec::from_slice(alloc, fed)?, most, plan);
+    let mut link = MemLink::from_bytes(alloc, fed, most, &[])?;
     for _ in 0..=fed.len() {
         let closing = match hear(rt, alloc, core, &mut link)? {
             Then::Goes => continue,

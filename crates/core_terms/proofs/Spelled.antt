@@ -116,7 +116,8 @@ module _ (types : Table) where
         go : Value → List ℕ → ℕ → Read Values
         go v bytes place = then_read (read_each (read_value types n) ts bytes place) (λ vs bytes place. Good (AndV v vs) bytes place)
 
-        flat : read_each (read_value types n) (t ∷ ts) ((spelling v ++ spellings vs) ++ rest) p ≡ then_read (read_value types n t (spelling v ++ (spellings vs ++ rest)) p) (λ v bytes place. then_read (read_each (read_value types n) ts bytes place) (λ vs bytes place. Good (AndV v vs) bytes place))
+        flat : read_each (read_value types n) (t ∷ ts) ((spelling v ++ spellings vs) ++ rest) p
+            ≡ then_read (read_value types n t (spelling v ++ (spellings vs ++ rest)) p) (λ v bytes place. then_read (read_each (read_value types n) ts bytes place) (λ vs bytes place. Good (AndV v vs) bytes place))
         flat = ap (λ bs. read_each (read_value types n) (t ∷ ts) bs p) (append_assoc (spelling v) (spellings vs) rest)
 
         by : ((q : ℕ) → ReadsEach n ts vs rest q) → ReadsAt n t v (spellings vs ++ rest) p → ReadsEach n (t ∷ ts) (AndV v vs) rest p

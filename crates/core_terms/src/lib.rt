@@ -20,7 +20,7 @@ pub use byte_string::{ByteString, Piece, Spelling};
 pub use cause::Cause;
 pub use digest::{Digest, Hash32};
 pub use fault::Fault;
-pub use marks::auth_marks;
+pub use marks::{auth_marks, is_marked};
 pub use outcome::{Outcome, Trap};
 pub use program::{FunctionId, Program};
 pub use program_types::Types;

@@ -13,6 +13,10 @@ use crate::{Constructor, NamedType, TyForm, TyId, TyTable};
 use std::alloc::{AllocError, Global};
 
 /// For each type of the table whether an `auth` stands in it.
+///
+/// # Errors
+///
+/// `AllocError` where there is no memory for the marks.
 pub fn auth_marks(
     types: &TyTable,
     named: &[NamedType],

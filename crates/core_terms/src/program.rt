@@ -43,6 +43,10 @@ impl Program {
     ghost use Rattle.core_terms.specs.Programs.{constructor_names, meaning, types_of};
 
     /// A program of these parts, whose text has this digest. Its roles, and which types have an `auth`, are found here, once.
+    ///
+    /// # Errors
+    ///
+    /// `AllocError` where there is no memory for the marks of the types or for the roles.
     pub fn new(
         types: TyTable,
         named: Vec<NamedType>,

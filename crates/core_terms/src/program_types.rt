@@ -35,6 +35,10 @@ impl Types {
 
     /// The types of these parts. Which of them have an `auth` is found here, once: each pass over the table and the named types
     /// opens named types once more, and there are at most as many passes as named types.
+    ///
+    /// # Errors
+    ///
+    /// `AllocError` where there is no memory for the marks.
     pub fn new(
         table: TyTable,
         named: Vec<NamedType>,
@@ -91,6 +95,15 @@ impl Types {
         ensures names { AreNamed result.now }
     {
         &self.named
+    }
+
+    /// The constructor of a named type with this tag; none exactly where it has no such one.
+    pub fn constructor_at(&self, named: NamedId, tag: Tag) -> Option<&Constructor>
+        ensures name { option_map (λ constructor. constructor.now.name) result ≡ slice_get (constructor_names self.now.named.items named.0) tag.0 }
+        ensures fields { option_map (λ constructor. types_at (types_by_number self.now) constructor.now.fields.items) result ≡ fields_at (named_table self.now) named.0 tag.0 }
+    {
+        let declared = self.named.get(named.0)?;
+        declared.constructors.get(usize::from(tag.0))
     }
 
     /// The constructor of this name among those of a named type, with the types of its fields; none exactly where it has no such one.

@@ -142,6 +142,18 @@ impl Text {
     {
         &self.bytes
     }
+
+    /// A text of the same bytes.
+    ///
+    /// # Errors
+    ///
+    /// `AllocError` where there is no memory for the copy.
+    pub fn copied(&self, alloc: Global) -> Result<Text, AllocError>
+        ensures { IfOk result (λ copy. bytes_of copy ≡ bytes_of self.now) }
+    {
+        let bytes = Vec::from_slice(alloc, &self.bytes)?;
+        Ok(Text { bytes })
+    }
 }
 
 /// The number of a local, the outermost being 0: parameters come first.

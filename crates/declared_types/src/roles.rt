@@ -16,7 +16,7 @@ use crate::fault::{TypeFault, TypeKind};
 use crate::scope::{Head, Scope};
 use crate::written_types::first_token;
 use auth_syntax::tree::{Function, FunctionKind};
-use core_terms::{TyForm, TyId, TyTable, auth_marks};
+use core_terms::{TyForm, TyId, TyTable, auth_marks, is_marked};
 use lexemes::place::Place;
 use std::alloc::Global;
 
@@ -178,16 +178,6 @@ fn check_argument(
         Err(TypeFault::At(TypeKind::AuthInArgument, last_parameter(function)))
     } else {
         Ok(())
-    }
-}
-
-/// Whether a type is marked.
-fn is_marked(marks: &[bool], ty: TyId) -> bool
-    ensures { result ≡ slice_index_or marks.now ty.0 false }
-{
-    match marks.get(ty.0) {
-        Some(mark) => *mark,
-        None => false,
     }
 }
 

@@ -1,5 +1,7 @@
-//! SHA-256 as the hash of lambda-auth, a digest for tests, and the texts of digests.
+//! SHA-256 as the hash of lambda-auth and of the prover's nodes, a digest for tests, and the texts of digests.
 #![tactic(auto)]
+
+mod marking;
 
 ghost use Rattle.std.specs.Prelude.{◌≡◌, ◌↔◌, length, IfSome, IsSome};
 ghost use Rattle.std.specs.List.{AllPass};
@@ -9,6 +11,7 @@ ghost use Rattle.sha2.specs.Sha256.{sha256};
 
 use core_terms::{Digest, Hash32};
 use hex::FromHex;
+pub use marking::ProverMarker;
 use sha2::{Digest as Hasher, Sha256};
 
 /// SHA-256, as FIPS 180-4 defines it.

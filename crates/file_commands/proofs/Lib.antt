@@ -8,7 +8,6 @@ pub mod EndsStored  -- `init_command`, `step_command`, `shallow_command`, `prove
 pub mod LineSteps  -- `gen_command`, `find_sums`, `read_numbers`, `generate`, `workload_of`, `put_role`, `get_role`
 pub mod Workloads  -- `find_sums`, `generate`, `run_and_tell`, `sums_report`
 pub mod WorkloadRoles  -- `put_role`, `get_role`
-pub mod Known  -- `write_all`
 pub mod RolesByName  -- `run`: clause `headline`
 pub mod RoleShapes  -- `role_named`, `read_ideal_call`, `run_call`, `make_proof`, `audit_call`, `state_made`
 pub mod PutArguments  -- `put_argument`
@@ -21,7 +20,6 @@ pub mod RoleReports  -- `value_line`, `role_report`, `state_made`
 pub mod StoredOutputs  -- `role_output`
 pub mod RoleSteps  -- `call_init`, `call_role` and the finders on them
 pub mod JudgedRoles  -- `find_judgement`, `judge_proof`, `outcome_output`, `new_state`; `outcome_report`
-pub mod NewStates  -- `state_spelling`
 pub mod JudgedAudits  -- `audit_named`, `audit_started`
 pub mod HeldCalls  -- `make_proof`, `audit_call`
 pub mod ProofOutputs  -- `make_proof`

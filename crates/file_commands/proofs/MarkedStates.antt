@@ -1,5 +1,5 @@
 -- The prover's nodes of a state, and their projections; its images, by the types of its program.
-use Rattle.std.proofs.Common.{◌≡◌, ℕ, List, Result, Ok, Err, IfOk, Vec, Global, sym, ap₂, subst₂, ◌∙◌, lit<}
+use Rattle.std.proofs.Common.{◌≡◌, ℕ, List, Result, Vec, Global, sym, ap₂, subst₂, ◌∙◌, lit<}
 use Rattle.sha2.specs.Sha256.{sha256}
 use Rattle.sha2.proofs.Facts256.{length-sha256}
 use Rattle.core_terms.specs.Formats.{IsFormat}
@@ -39,7 +39,3 @@ image_by_types p types digest bytes is same =
 pub saved_by_types : (p : Program) (types : Types) (digest : Digest) (v : Value) (result : Result (Vec ℕ Global) SaveFault) → types ≡ p.types → digest ≡ p.text_digest
     → IsSaved (saved_image (types_meaning types) digest.0 v) result → IsSaved (saved_image (meaning p) p.text_digest.0 v) result
 saved_by_types p types digest v result is same h = subst₂ (λ (t : Types) (d : Digest). IsSaved (saved_image (types_meaning t) d.0 v) result) is same h
-
-pub if_ok : {A E : Type 0} (result : Result A E) (P Q : A → Type 0) → ((a : A) → P a → Q a) → IfOk result P → IfOk result Q
-if_ok (Ok a) P Q go h = go a h
-if_ok (Err e) P Q go h = tt

@@ -15,11 +15,9 @@ use Rattle.core_terms.specs.declared.types.TyId.{TyId}
 use Rattle.printed_lines.specs.declared.refusal.InputFault.TheVariants.{State}
 use Rattle.printed_syntax.specs.LiteralAnswers.{LiteralFault, ReadsLiteral, SpellsLiteral}
 use Rattle.printed_syntax.specs.Literals.{literal_in}
-use Rattle.shallow_codec.specs.ProgramTypes.{table, ty_of}
-use Rattle.shallow_codec.specs.Unspelled.{IsUnspelled}
+use Rattle.shallow_codec.specs.ProgramTypes.{ty_of}
+use Rattle.shallow_codec.specs.Unspelled.{IsRead}
 use Rattle.shallow_codec.specs.declared.fault.UnspellFault.TheVariants.{Bad}
-use Rattle.value_store.specs.Nodes.{Node}
-use Rattle.value_store.specs.declared.node.Ref.{Ref}
 use Rattle.file_commands.specs.Answer.{Answer, input_refused, state_read, with_literal, with_state, with_state_read}
 use Rattle.file_commands.specs.Halting.{GoesOn, InHand, of_literal_fault}
 use Rattle.file_commands.specs.ReadPrograms.{named_of}
@@ -32,16 +30,16 @@ use Rattle.file_commands.specs.declared.roles.Callee.{Callee}
 use Rattle.file_commands.proofs.RoleShapes.{passed_is}
 
 -- bytes that are read at the type of the state, or refused there
-module _ (p : Program) (types : Types) (same : types ≡ p.types) (id : TyId) (is_state : type_at (types_of p) id ≡ (meaning p).state) (bytes : List ℕ) (nodes : List Node) where
+module _ (p : Program) (types : Types) (same : types ≡ p.types) (id : TyId) (is_state : type_at (types_of p) id ≡ (meaning p).state) (bytes : List ℕ) where
   at_state : read_at (meaning p) (meaning p).state bytes ≡ read_at (types_meaning types) (ty_of types id) bytes
   at_state = ap (λ t. read_at (meaning p) t bytes) (sym is_state) ∙ ap (λ (types : Types). read_at (types_meaning types) (ty_of types id) bytes) (sym same)
 
-  pub state_goes_on : (r : Ref) → IsUnspelled (table types) nodes (ty_of types id) (read_at (types_meaning types) (ty_of types id) bytes) (Ok r)
+  pub state_goes_on : IsRead {A = Unit {0}} (read_at (types_meaning types) (ty_of types id) bytes) (Ok tt)
       → (go : List ℕ → Option Answer) → with_state (meaning p) bytes go ≡ go bytes
   unfolding state_read
-  state_goes_on r (v, place, reads, stands) go = ap (λ (found : Read Value). with_state_read found bytes go) (at_state ∙ reads)
+  state_goes_on (v, place, reads) go = ap (λ (found : Read Value). with_state_read found bytes go) (at_state ∙ reads)
 
-  pub state_is_refused : (offset : ℕ) → IsUnspelled (table types) nodes (ty_of types id) (read_at (types_meaning types) (ty_of types id) bytes) (Err (Bad offset))
+  pub state_is_refused : (offset : ℕ) → IsRead {A = Unit {0}} (read_at (types_meaning types) (ty_of types id) bytes) (Err (Bad offset))
       → (go : List ℕ → Option Answer) → with_state (meaning p) bytes go ≡ Some (input_refused (State offset))
   unfolding state_read
   state_is_refused offset reads go = ap (λ (found : Read Value). with_state_read found bytes go) (at_state ∙ reads)

@@ -20,9 +20,8 @@ use core_terms::{Program, Spelling};
 use lam_outside::Files;
 use printed_lines::refusal::{Argument, InputFault};
 use printed_syntax::literal::parse_literal;
-use shallow_codec::{UnspellFault, unspell};
+use shallow_codec::{UnspellFault, check_spelled};
 use std::alloc::Global;
-use value_store::Store;
 
 /// A call of a role.
 #[derive(Drop)]
@@ -93,15 +92,8 @@ pub fn read_state_file<F: Files>(
 fn judge_state(alloc: Global, program: &Program, bytes: &[u8]) -> Result<(), Halt>
     ensures { InHand (GoesOn (with_state (meaning program.now) bytes.now) (λ _. bytes.now)) result }
 {
-    let mut store = Store::new(alloc);
-    match unspell(
-        alloc,
-        program.types(),
-        &mut store,
-        bytes,
-        program.state_type(),
-    ) {
-        Ok(_) => Ok(()),
+    match check_spelled(alloc, program.types(), bytes, program.state_type()) {
+        Ok(()) => Ok(()),
         Err(UnspellFault::Bad(offset)) => Err(InputFault::State(offset).into()),
         Err(UnspellFault::NoMemory) => Err(Halt::NoMemory),
     }

@@ -1,8 +1,6 @@
 // What a command's work found, and how it is told.
-ghost use Rattle.std.specs.Prelude.{◌≡◌, ◌≤◌, ℕ, length, Some, IfOk, take, OnOk, OnErr};
+ghost use Rattle.std.specs.Prelude.{◌≡◌, ◌≤◌, length, Some, IfOk};
 ghost use Rattle.std.specs.Option.{ForSome};
-ghost use Rattle.std.specs.Io.KnownBytes.{append_known};
-ghost use Rattle.lam_outside.specs.Causes.{HasCause};
 ghost use Rattle.printed_lines.specs.declared.refusal.Refusal.TheVariants.{Input};
 ghost use Rattle.file_commands.specs.declared.report.Halt.TheVariants.{NoMemory, ReadFault, Refused};
 ghost use Rattle.file_commands.specs.Reaching.{FaultsAt};
@@ -15,7 +13,7 @@ use crate::programs::ProgramFault;
 use ask_script::ScriptFault;
 use collision_audit::AuditFault;
 use images::{ImageFault, SaveFault};
-use lam_outside::{Failed, Files, Load, Sink, load_all};
+use lam_outside::{Failed, Files, Load, Sink, load_all, write_all};
 use printed_lines::lines::refusal_line;
 use printed_lines::refusal::{Argument, ImageKind, InputFault, Refusal};
 use printed_syntax::fault::{LiteralFault, LiteralKind};
@@ -195,6 +193,11 @@ impl Ending {
 }
 
 /// The bytes of the file of this name, which an argument gives, at most `max` of them.
+///
+/// # Errors
+///
+/// `Refused` where the file has more bytes: the argument is too long. `ReadFault` where it could not be read, and the count of faults of
+/// `files` rose. `NoMemory` where there is no memory for the bytes.
 pub fn load<F: Files>(
     alloc: Global,
     files: &mut F,
@@ -266,21 +269,4 @@ pub fn tell_text<O: Sink>(out: &mut O, status: Status, text: &[u8]) -> Status
         Ok(()) => status,
         Err(Failed) => Status::WriteFault,
     }
-}
-
-/// Writes all of the text.
-pub fn write_all<O: Sink>(out: &mut O, text: &[u8]) -> Result<(), Failed>
-    ensures all { OnOk result (O.written out.new ≡ append_known (O.written out.old) text.now) }
-    ensures part { OnErr result ((n : ℕ) × (n ≤ length text.now) × (O.written out.new ≡ append_known (O.written out.old) (take n text.now))) }
-    ensures cause { HasCause (O.faults out.old) (O.faults out.new) result }
-{
-    let mut done = 0;
-    while done < text.len() {
-        let count = out.write(&text[done..])?;
-        if count == 0 {
-            return Err(Failed);
-        }
-        done += count;
-    }
-    Ok(())
 }

@@ -2,11 +2,10 @@
 ghost use Rattle.std.specs.Prelude.{◌≡◌, ℕ, List, IfOk, Some};
 ghost use Rattle.core_terms.specs.Programs.{meaning, types_of};
 ghost use Rattle.core_terms.specs.TypeTables.{type_at};
-ghost use Rattle.core_terms.specs.Types.{PairTy, Table, Ty};
-ghost use Rattle.core_terms.specs.Values.{PairV, Value};
+ghost use Rattle.core_terms.specs.Values.{Value};
 ghost use Rattle.core_terms.specs.declared.program.Program.{Program};
 ghost use Rattle.ideal_meaning.specs.Ideal as meant;
-ghost use Rattle.value_store.specs.Standing.{Kind, StandsFor};
+ghost use Rattle.value_store.specs.Standing.{StandsFor};
 ghost use Rattle.value_store.specs.Stores.{nodes_in};
 ghost use Rattle.file_commands.specs.Answer.{outcome_stored, outcome_told, says};
 ghost use Rattle.file_commands.specs.Halting.{InHand, ending_status};
@@ -23,7 +22,7 @@ use images::save_image;
 use printed_lines::lines::{named_done_line, out_line, trap_line};
 use shallow_codec::spell;
 use std::alloc::{AllocError, Global};
-use value_store::{Nodes, Ref, Store, View};
+use value_store::{Ref, Store, first_component};
 
 /// The report of the outcome.
 pub fn role_report(alloc: Global, program: &Program, ended: &Ended) -> Result<Report, AllocError>
@@ -91,17 +90,5 @@ pub fn state_made(ended: &Ended) -> Option<Ref>
             RoleKind::Init | RoleKind::Query => Some(value),
         },
         _ => None,
-    }
-}
-
-/// The first component of a pair.
-pub fn first_component(store: &Store, pair: Ref) -> Ref
-    requires { (kind : Kind) × (types : Table) × (a : Ty) × (b : Ty) × (v : Value) × StandsFor kind types (nodes_in store.now) pair.0 (PairTy a b) v }
-    ensures { (kind : Kind) (types : Table) (a b : Ty) (x y : Value) → StandsFor kind types (nodes_in store.now) pair.0 (PairTy a b) (PairV x y)
-        → StandsFor kind types (nodes_in store.now) result.0 a x }
-{
-    match store.view(pair) {
-        View::Pair(first, _) => first,
-        _ => unreachable!(),
     }
 }

@@ -4,7 +4,8 @@ ghost use Rattle.std.specs.Prelude.{◌≡◌};
 /// How a run ends.
 #[derive(Clone, Copy)]
 pub enum Status {
-    /// The outcome has a value, or the program is accepted.
+    /// The work was done: the outcome has a value, the program is accepted, the text, the state or the sums were told, `serve` served its
+    /// connections, or `ask` played its script to the end, whatever outcomes came in it.
     Done,
     /// The words call no command.
     Usage,
@@ -12,13 +13,14 @@ pub enum Status {
     Trap,
     /// The outcome is the want of fuel.
     OutOfFuel,
-    /// The proof is rejected.
+    /// The proof is rejected; or the play of a script ended by a rejected proof, or by another reply than one that is waited for, or none.
     Rejected,
     /// The text is no program.
     ProgramRefused,
-    /// A file is too long, or a role, number, state or argument is refused.
+    /// A file is too long, or the image that would be stored; or a name of the library, a role, a number, a state, an image, an argument or a
+    /// script is refused.
     InputRefused,
-    /// A file could not be read, or a link, an `accept` or a `listen` failed.
+    /// A file could not be read; or a read or a send on a link, an `accept`, a `listen` or a `dial` failed.
     ReadFault,
     /// The sink failed, or a file could not be stored.
     WriteFault,

@@ -11,9 +11,9 @@ ghost use Rattle.file_commands.specs.StoredStates.{IsStoredState};
 
 use crate::Halt;
 use crate::calls::MAX_FILE;
-use crate::prover_marking::ProverMarker;
 use crate::report::load;
 use core_terms::Program;
+use digest_layer::ProverMarker;
 use images::{Loaded, load_image};
 use lam_outside::Files;
 use printed_lines::refusal::Argument;

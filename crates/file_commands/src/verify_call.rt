@@ -4,14 +4,8 @@ ghost use Rattle.std.specs.Option.{ForSome};
 ghost use Rattle.command_words.specs.Commands.{texts};
 ghost use Rattle.command_words.specs.declared.command.Command.TheVariants.{Verify};
 ghost use Rattle.core_terms.specs.Programs.{meaning};
-ghost use Rattle.core_terms.specs.ProgramTypes.{types_meaning};
-ghost use Rattle.core_terms.specs.Spelling.{Spells, spelling};
-ghost use Rattle.core_terms.specs.Types.{PairTy, Ty};
-ghost use Rattle.core_terms.specs.Values.{PairV, Value};
 ghost use Rattle.code_gen.specs.Programs.{program_in};
 ghost use Rattle.ideal_meaning.specs.Ideal as meant;
-ghost use Rattle.shallow_codec.specs.ProgramTypes.{table, ty_of};
-ghost use Rattle.value_store.specs.Nodes.{size_limit};
 ghost use Rattle.verifier_mode.specs.Verdicts.{Answers, IsTold, VerdictCause};
 ghost use Rattle.mode_vm.specs.StateCalls.{SpellsOutcome};
 ghost use Rattle.file_commands.specs.Reaching.{FaultsAtReached, ReachedAt};
@@ -30,17 +24,15 @@ ghost use Rattle.file_commands.specs.declared.roles.Callee.{Callee};
 use crate::calls::{RoleCall, read_role_call};
 use crate::machine_calls::read_code;
 use crate::outcomes::outcome_report;
-use crate::role_outcomes::first_component;
 use crate::roles::{CallWords, CalledRole, Callee};
 use crate::storing::store_and_tell;
 use crate::{Halt, Output, Status};
 use code_gen::Code;
-use core_terms::{Outcome, Program, Spelling, TyId, Types};
+use core_terms::{Outcome, Program, Spelling};
 use digest_layer::Sha;
 use lam_outside::{Files, Sink};
-use shallow_codec::{UnspellFault, spell, unspell};
+use shallow_codec::first_spelled;
 use std::alloc::{AllocError, Global};
-use value_store::Store;
 use verifier_mode::{Verdict, verify};
 
 /// The words behind the command: those of a call, the files of its state and of its proof, and the name that the new state is stored under,
@@ -232,30 +224,9 @@ fn new_state(
 {
     match outcome {
         Outcome::Done(value) => {
-            let state = state_spelling(alloc, program.types(), called.result, value.as_bytes())?;
+            let state = first_spelled(alloc, program.types(), called.result, value.as_bytes())?;
             Ok(Some(state.into_bytes()))
         }
         Outcome::Trapped(_) | Outcome::Out => Ok(None),
     }
-}
-
-/// The spelling of the first component of the pair that the bytes spell, which is a state.
-fn state_spelling(
-    alloc: Global,
-    types: &Types,
-    ty: TyId,
-    bytes: &[u8],
-) -> Result<Spelling, AllocError>
-    requires pair { (answer : Ty) × (ty_of types.now ty ≡ PairTy (types_meaning types.now).state answer) }
-    requires spelled { (v : Value) × Spells size_limit (table types.now) bytes.now (ty_of types.now ty) v }
-    ensures { IfOk result (λ state. (x y : Value) → Spells size_limit (table types.now) bytes.now (ty_of types.now ty) (PairV x y) → state ≡ spelling x) }
-{
-    let mut store = Store::new(alloc);
-    let pair = match unspell(alloc, types, &mut store, bytes, ty) {
-        Ok(pair) => pair,
-        Err(UnspellFault::Bad(_)) => unreachable!(),
-        Err(UnspellFault::NoMemory) => return Err(AllocError),
-    };
-    let state = first_component(&store, pair);
-    spell(alloc, types, &store, state, types.state_type())
 }

@@ -30,7 +30,9 @@ module _ (hash : Hash) (P : Program) (reads_back : (t : Ty) (v : Value) → IsId
       → InStep hash P Deep began s (record { place = place; left = left; more = Offers (honest_bytes hash P x) n more })
       → InStep hash P Deep began (s ++ x ∷ []) (record { place = suc place; left = n; more = more })
   in_step_next s x ideal fits place left n more y =
-      let e : honest_so_far hash P (s ++ x ∷ []) ++ offered_pieces more ≡ honest_so_far hash P s ++ (honest_bytes hash P x ∷ offered_pieces more) = ap (λ l. l ++ offered_pieces more) (map-append (honest_bytes hash P) s (x ∷ [])) ∙ append_assoc (honest_so_far hash P s) (honest_bytes hash P x ∷ []) (offered_pieces more) in
+      let e : honest_so_far hash P (s ++ x ∷ []) ++ offered_pieces more ≡ honest_so_far hash P s ++ (honest_bytes hash P x ∷ offered_pieces more) =
+      ap (λ l. l ++ offered_pieces more) (map-append (honest_bytes hash P) s (x ∷ []))
+      ∙ append_assoc (honest_so_far hash P s) (honest_bytes hash P x ∷ []) (offered_pieces more) in
       let p : place ≡ began.place + length s = y.honest.place in
       record {
         honest = record { pieces = y.honest.pieces ∙ sym e; place = omega (arith, length-append s (x ∷ [])); fit = fit_next P s x y.honest.fit fits };

@@ -52,11 +52,3 @@ pub(crate) fn write_header(alloc: Global, digest: &[u8], count: u32) -> Result<V
     bytes.extend_from_slice(&count.to_be_bytes())?;
     Ok(bytes)
 }
-
-/// The 32 bytes of a digest.
-pub(crate) fn digest_bytes(digest: &Digest) -> &[u8]
-    ensures bytes { result.now ≡ digest.now.0 }
-    ensures length { length result.now ≡ 32 }
-{
-    &digest.0
-}

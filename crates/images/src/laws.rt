@@ -1,4 +1,5 @@
-// The laws of images in `specs/`: each is a function without parameters, whose contract is the law.
+//! The laws of images in `specs/`: that what is saved has each part once, that the parts of a type are found, and that a root is within the
+//! limits. Each is a function without parameters, whose contract is the law.
 ghost use Rattle.images.specs.ImageLaws.{PartsAreFound, RootsFit, SavedPartsAreOnce};
 
 /// No two records of a value that is saved are equal, and the last one is that of the value itself.

@@ -17,7 +17,7 @@ ghost use Rattle.value_store.specs.Standing.{IdealNodes, StandsFor};
 ghost use Rattle.value_store.specs.Stores.{nodes_in};
 
 use crate::SaveFault;
-use crate::header::{digest_bytes, write_header};
+use crate::header::write_header;
 use core_terms::{Digest, Types};
 use record::part;
 use records::Records;
@@ -42,7 +42,7 @@ pub fn save_image(
     ensures saved { (v : Value) → IsStateAt (types_meaning types.now) store.now root v → IsSaved (saved_image (types_meaning types.now) text_digest.now.0 v) result }
     ensures loads { (v : Value) → IsStateAt (types_meaning types.now) store.now root v → IfOk result (λ image. image_of (types_meaning types.now) text_digest.now.0 image.items ≡ Root v) }
 {
-    let digest = digest_bytes(text_digest);
+    let digest = text_digest.as_bytes();
     let records = records_of(alloc, store, root)?;
     let mut image = write_header(alloc, digest, records.count() as u32)?;
     records.write(&mut image)?;

@@ -1,10 +1,11 @@
-//! The outside as traits: a source, a sink and files, each with what it tells of its bytes and a count of its
-//! faults. A call fails only where its own count rose, and no call raises another's.
+//! The outside as traits: sources, sinks, files, links and nets, each with what it tells of its bytes and a count of its faults, or one
+//! of each kind of its calls. A call fails only where its own count rose, and no call raises another's.
 //!
 //! Beside them stand fakes in memory for tests, which tell their bytes and fail by a plan.
 #![tactic(auto)]
 
 mod bytes;
+mod endless;
 mod load;
 mod mem_files;
 mod mem_link;
@@ -16,6 +17,7 @@ mod traits;
 mod whole;
 
 pub use bytes::Bytes;
+pub use endless::Endless;
 pub use load::{Load, load_all};
 pub use mem_files::{MemFile, MemFiles};
 pub use mem_link::MemLink;
@@ -24,4 +26,4 @@ pub use mem_sink::MemSink;
 pub use net::{Link, Net};
 pub use plan::Plan;
 pub use traits::{Failed, Files, Sink, Source};
-pub use whole::{fill, send_all};
+pub use whole::{fill, send_all, write_all};

@@ -1,4 +1,4 @@
-// The law of places in `specs/`: a function without parameters, whose contract is the law.
+//! The law of places in `specs/`: that they count the bytes before them. It is a function without parameters, whose contract is the law.
 
 ghost use Rattle.lexemes.specs.Laws.{PlacesAreCounted};
 

@@ -1,9 +1,6 @@
 // The ideal mode over the prover's nodes.
-ghost use Rattle.std.specs.Prelude.{◌≡◌, ℕ, List, None};
-ghost use Rattle.core_terms.specs.Types.{AuthTy, Table, Ty};
-ghost use Rattle.core_terms.specs.Values.{Value};
+ghost use Rattle.std.specs.Prelude.{◌≡◌, None};
 ghost use Rattle.value_store.specs.Markings.{ProverMarking};
-ghost use Rattle.value_store.specs.Standing.{ProverNodes, StandsFor};
 
 use crate::ideal::Never;
 use crate::mode::{Mode, Stop};
@@ -11,7 +8,7 @@ use core_terms::{Hash32, TyId, Types};
 use shallow_codec::spell;
 use std::alloc::Global;
 use std::marker::PhantomData;
-use value_store::{Held, Nodes, Ref, View};
+use value_store::{Held, Nodes, Ref, inner_of};
 
 /// The ideal mode, whose authenticated values are held with their digests: each is digested once, when it is made.
 #[derive(Drop)]
@@ -72,14 +69,9 @@ impl<H: Hash32> Mode for DigestingMode<H> {
         ty: TyId,
         v: Ref,
     ) -> Result<Ref, Stop<Never>> {
-        let Ok(spelling) = spell(self.alloc, types, store, v, ty) else {
-            return Err(Stop::NoMemory);
-        };
+        let spelling = spell(self.alloc, types, store, v, ty)?;
         let digest = H::of(spelling.as_bytes());
-        match store.put_auth(Held::Both(digest, v)) {
-            Ok(r) => Ok(r),
-            Err(_) => Err(Stop::NoMemory),
-        }
+        Ok(store.put_auth(Held::Both(digest, v))?)
     }
 
     fn unauth<N: Nodes>(
@@ -91,17 +83,5 @@ impl<H: Hash32> Mode for DigestingMode<H> {
         v: Ref,
     ) -> Result<Ref, Stop<Never>> {
         Ok(inner_of(store, v))
-    }
-}
-
-/// The node that a prover's node of an authenticated value refers to.
-fn inner_of<N: Nodes>(store: &N, r: Ref) -> Ref
-    requires { (digest : Ty → List ℕ → List ℕ) × (types : Table) × (t : Ty) × (x : Value) × StandsFor (ProverNodes digest) types (N.nodes store.now) r.0 (AuthTy t) x }
-    ensures { (digest : Ty → List ℕ → List ℕ) (types : Table) (t : Ty) (x : Value) → StandsFor (ProverNodes digest) types (N.nodes store.now) r.0 (AuthTy t) x
-        → StandsFor (ProverNodes digest) types (N.nodes store.now) result.0 t x }
-{
-    match store.view(r) {
-        View::Auth(Held::Both(_, inner)) => *inner,
-        _ => unreachable!(),
     }
 }

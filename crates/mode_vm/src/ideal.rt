@@ -54,10 +54,7 @@ impl Mode for IdealMode {
         _ty: TyId,
         v: Ref,
     ) -> Result<Ref, Stop<Never>> {
-        match store.put_auth(Held::Inner(v)) {
-            Ok(r) => Ok(r),
-            Err(_) => Err(Stop::NoMemory),
-        }
+        Ok(store.put_auth(Held::Inner(v))?)
     }
 
     fn unauth<N: Nodes>(

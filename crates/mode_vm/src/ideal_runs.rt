@@ -19,6 +19,10 @@ use value_store::{Nodes, Ref};
 
 /// Calls a function in ideal mode, on arguments that stand among the nodes, with so much fuel, 10^12 units at most: its
 /// outcome, whose value stands among the nodes then.
+///
+/// # Errors
+///
+/// `AllocError` where there is no memory for a frame, an operand or a node. Nodes may have been put then.
 pub fn ideal_run<N: Nodes>(
     code: &Code,
     store: &mut N,
@@ -44,6 +48,10 @@ pub fn ideal_run<N: Nodes>(
 }
 
 /// The same over the prover's nodes: each authenticated value that the run makes is digested once, when it is made.
+///
+/// # Errors
+///
+/// `AllocError` as for [`ideal_run`], and where there is no memory for a spelling that is digested.
 pub fn digesting_run<H: Hash32, N: Nodes>(
     code: &Code,
     store: &mut N,

@@ -34,6 +34,10 @@ impl<M: Mode> Machine<M> {
 
     /// A machine that is to call a function on these arguments, with this much fuel: 10^12 units at most, in a mode that has opened at
     /// most 2^62 values.
+    ///
+    /// # Errors
+    ///
+    /// `AllocError` where there is no memory for the first frame.
     pub fn start(
         code: &Code,
         function: FunctionId,
@@ -86,13 +90,9 @@ impl<M: Mode> Machine<M> {
         ensures mode { self.new.mode ≡ self.old.mode }
     {
         let v = self.state.pop_top();
-        match self.mode.auth(code.types(), store, ty, v) {
-            Ok(made) => match self.state.push_top(made) {
-                Ok(()) => Ok(Step::Paused),
-                Err(_) => Err(Stop::NoMemory),
-            },
-            Err(stop) => Err(stop),
-        }
+        let made = self.mode.auth(code.types(), store, ty, v)?;
+        self.state.push_top(made)?;
+        Ok(Step::Paused)
     }
 
     /// Opens the top operand, by the mode.
@@ -127,13 +127,9 @@ impl<M: Mode> Machine<M> {
         ensures knows { OnOk result (M.Knows (program_in code.now).types self.new.mode (N.nodes store.new)) }
     {
         let v = self.state.pop_top();
-        match self.mode.unauth(world, code.types(), store, ty, v) {
-            Ok(opened) => match self.state.push_top(opened) {
-                Ok(()) => Ok(Step::Paused),
-                Err(_) => Err(Stop::NoMemory),
-            },
-            Err(stop) => Err(stop),
-        }
+        let opened = self.mode.unauth(world, code.types(), store, ty, v)?;
+        self.state.push_top(opened)?;
+        Ok(Step::Paused)
     }
 
     /// Does one instruction, or enters a function that is called.
@@ -168,14 +164,17 @@ impl<M: Mode> Machine<M> {
         match instruction {
             Instruction::Auth(ty) => self.auth(code, store, world, *ty),
             Instruction::Unauth(ty) => self.unauth(code, store, world, *ty),
-            _ => match self.state.act(code, store, instruction, self.alloc) {
-                Ok(step) => Ok(step),
-                Err(_) => Err(Stop::NoMemory),
-            },
+            _ => Ok(self.state.act(code, store, instruction, self.alloc)?),
         }
     }
 
-    /// Runs until a further call is due when `units` calls were made in this slice and fuel is left, and there pauses; or to the end.
+    /// Runs until a further call is due when `units` calls of functions, 1 at least, were made in this slice and fuel is left, and there
+    /// pauses; or to the end.
+    ///
+    /// # Errors
+    ///
+    /// `Mode` where the mode stops the run, with its fault. `NoMemory` where there is no memory for a frame, an operand or a node, or
+    /// for what the mode makes.
     pub fn run_slice<N: Nodes>(
         &mut self,
         code: &Code,
@@ -215,6 +214,10 @@ impl<M: Mode> Machine<M> {
     }
 
     /// Runs to the end.
+    ///
+    /// # Errors
+    ///
+    /// Those of [`Machine::run_slice`].
     pub fn run<N: Nodes>(
         &mut self,
         code: &Code,

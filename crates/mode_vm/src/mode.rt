@@ -10,6 +10,7 @@ ghost use Rattle.value_store.specs.Markings.{Marking};
 ghost use Rattle.value_store.specs.Standing.{Keeps};
 
 use core_terms::{TyId, Types};
+use std::alloc::{AllocError, AllocFailed};
 use value_store::{Nodes, Ref};
 
 /// What ends a run before its outcome.
@@ -19,6 +20,28 @@ pub enum Stop<F> {
     Mode(F),
     /// Memory was wanting.
     NoMemory,
+}
+
+impl<F> From<AllocError> for Stop<F> {
+    ghost use Rattle.std.specs.Prelude.{◌≡◌};
+    ghost use Rattle.mode_vm.specs.declared.mode.Stop.TheVariants.{NoMemory};
+
+    ghost from_gives = { λ _ stop. stop ≡ NoMemory };
+
+    fn from(_: AllocError) -> Self {
+        Stop::NoMemory
+    }
+}
+
+impl<T: Drop, F> From<AllocFailed<T>> for Stop<F> {
+    ghost use Rattle.std.specs.Prelude.{◌≡◌};
+    ghost use Rattle.mode_vm.specs.declared.mode.Stop.TheVariants.{NoMemory};
+
+    ghost from_gives = { λ _ stop. stop ≡ NoMemory };
+
+    fn from(_: AllocFailed<T>) -> Self {
+        Stop::NoMemory
+    }
 }
 
 /// What `auth` and `unauth` do.

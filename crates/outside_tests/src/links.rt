@@ -5,9 +5,7 @@ use std::test::Fail;
 
 /// A link on which `abcd` comes, by three bytes a call, and whose third call fails.
 fn link(alloc: Global) -> Result<MemLink, AllocError> {
-    let plan = Plan::new(Vec::from_slice(alloc, &[2])?);
-    let coming = Vec::from_slice(alloc, b"abcd")?;
-    Ok(MemLink::new(alloc, coming, 3, plan))
+    MemLink::from_bytes(alloc, b"abcd", 3, &[2])
 }
 
 #[test]

@@ -92,7 +92,6 @@ abbrev pub argument_name : Argument → List ℕ
 argument_name argument.Program = codes "P"
 argument_name argument.State = codes "STATE"
 argument_name argument.Fuel = codes "FUEL"
-argument_name argument.Proof = codes "PROOF"
 argument_name argument.Image = codes "IMG"
 argument_name argument.Number = codes "N"
 argument_name argument.Out = codes "OUT"

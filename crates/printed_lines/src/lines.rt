@@ -303,7 +303,7 @@ pub fn out_line() -> &'static str
 pub fn ok_line(alloc: Global, digest: &Digest) -> Result<Vec<u8>, AllocError>
     ensures { IfOk result (λ line. line.items ≡ def.ok_line digest.now.0) }
 {
-    let digest = hex::encode(alloc, &digest.0)?;
+    let digest = hex::encode(alloc, digest.as_bytes())?;
     between(alloc, b"ok ", digest.as_bytes())
 }
 

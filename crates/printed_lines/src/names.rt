@@ -1,4 +1,4 @@
-// The names of the kinds of faults, of arguments and of traps, as they are printed.
+// The names of the kinds of faults and of arguments, as they are printed.
 
 ghost use Rattle.std.specs.Prelude.{◌≡◌};
 ghost use Rattle.printed_lines.specs.Lines as def;
@@ -91,7 +91,6 @@ pub(crate) fn argument_name(argument: Argument) -> &'static str
         Argument::Program => "P",
         Argument::State => "STATE",
         Argument::Fuel => "FUEL",
-        Argument::Proof => "PROOF",
         Argument::Image => "IMG",
         Argument::Number => "N",
         Argument::Out => "OUT",

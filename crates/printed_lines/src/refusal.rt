@@ -23,8 +23,6 @@ pub enum Argument {
     State,
     /// `FUEL`
     Fuel,
-    /// `PROOF`, the file of a proof.
-    Proof,
     /// `IMG`, the file of an image.
     Image,
     /// `N`, the number of pieces that are kept.

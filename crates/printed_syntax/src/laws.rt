@@ -1,4 +1,5 @@
-// The laws of printed programs and of literals in `specs/`: each is a function without parameters, whose contract is the law.
+//! The laws of printed programs and of literals in `specs/`: that both are read back, and that a literal is what its tokens say. Each is a
+//! function without parameters, whose contract is the law.
 
 ghost use Rattle.printed_syntax.specs.LiteralLaws.{LiteralsAreByTheirTokens, LiteralsAreReadBack};
 ghost use Rattle.printed_syntax.specs.PrintedProgramLaws.{ParsedIsReadBack, PrintedProgramIsReadBack};

@@ -2,12 +2,12 @@
 
 pub(crate) mod leaves;
 
-ghost use Rattle.std.specs.Prelude.{◌≡◌, ◌<◌, ◌≤◌, ◌^◌, [], length, option_map, slice_get, ◌++◌, IfOk, OnOk};
-ghost use Rattle.core_terms.specs.Programs.{constructor_names, meaning, types_of};
+ghost use Rattle.std.specs.Prelude.{◌≡◌, ◌<◌, ◌≤◌, ◌^◌, [], length, ◌++◌, IfOk, OnOk};
+ghost use Rattle.core_terms.specs.Programs.{meaning, types_of};
 ghost use Rattle.core_terms.specs.ProgramTrees.{types_at};
 ghost use Rattle.core_terms.specs.Spelling.{spelling};
 ghost use Rattle.core_terms.specs.TypeTables.{type_at};
-ghost use Rattle.core_terms.specs.Types.{NamedTy, PairTy, fields_at};
+ghost use Rattle.core_terms.specs.Types.{NamedTy, PairTy};
 ghost use Rattle.core_terms.specs.Values.{IsShallow, Value};
 ghost use Rattle.printed_syntax.specs.PrintedParts.{ArePrinted, IsPrinted, comma_before, text_in};
 ghost use Rattle.printed_syntax.specs.PrintedValueLaws.{PrintedValuesAreReadBack};
@@ -15,7 +15,7 @@ ghost use Rattle.printed_syntax.specs.PrintedValueLaws.{PrintedValuesAreReadBack
 use crate::printing::leaves::{
     push_spelled_bool, push_spelled_digest, push_spelled_int, push_spelled_text,
 };
-use core_terms::{Constructor, NamedId, Program, TyForm, TyId};
+use core_terms::{NamedId, Program, Tag, TyForm, TyId};
 use std::alloc::{AllocError, Global};
 
 /// What stands between two values: a comma and a blank.
@@ -100,7 +100,7 @@ fn push_named<'a>(
     let Some((tag, behind)) = bytes.split_first() else {
         return Ok(bytes);
     };
-    let Some(constructor) = constructor_at(program, named, *tag) else {
+    let Some(constructor) = program.types().constructor_at(named, Tag(*tag)) else {
         return Ok(behind);
     };
     text.extend_from_slice(constructor.name.as_bytes())?;
@@ -111,15 +111,6 @@ fn push_named<'a>(
     let left = push_fields(text, program, &constructor.fields, behind)?;
     text.push(b')')?;
     Ok(left)
-}
-
-/// The constructor of a named type with a tag.
-fn constructor_at(program: &Program, named: NamedId, tag: u8) -> Option<&Constructor>
-    ensures name { option_map (λ constructor. constructor.now.name) result ≡ slice_get (constructor_names program.now.types.named.items named.0) tag }
-    ensures fields { option_map (λ constructor. types_at (types_of program.now) constructor.now.fields.items) result ≡ fields_at (meaning program.now).types named.0 tag }
-{
-    let declared = program.named_types().get(named.0)?;
-    declared.constructors.get(usize::from(tag))
 }
 
 /// Adds the texts of values of these types in a row, with commas between them.

@@ -1,4 +1,5 @@
 // The inputs that `verify` refuses, and in which order.
+use crate::values::is_given;
 use cli_stage::runs::{Call, opening, run_words, verified};
 use cli_stage::stage::{HEADER, PROOF, STATE, staged};
 use program_texts::{FIRST, SUM};
@@ -202,27 +203,10 @@ static LITERALS: [(&str, &str, &str); 44] = [
     ("text", "\"a\\\\x80\"\\", "input refused: argument Char 8\n"),
 ];
 
-/// What is told where a text is the argument of a query at a type.
-fn is_no_argument<R: Threads + Sync>(
-    rt: &R,
-    alloc: Global,
-    ty: &str,
-    literal: &str,
-    line: &str,
-) -> Result<bool, AllocError> {
-    let text = format!(in alloc; "state unit; query q(s: unit, x: {ty}): {ty} = x;")?;
-    let call = Call {
-        role: "q",
-        argument: literal,
-        fuel: "1",
-    };
-    Ok(verified(rt, alloc, text.as_bytes(), b"", HEADER, &call)?.only_tells(7, line))
-}
-
 #[test]
 fn literals_are_refused_at_their_first_fault(rt: HostRuntime) -> Result<(), Fail> {
     for (ty, literal, line) in &LITERALS {
-        if !is_no_argument(&rt, rt.alloc(), ty, literal, line)? {
+        if !is_given(&rt, rt.alloc(), ty, literal, (7, line))? {
             return Err(Fail::new(format_args!("{ty} {literal}")));
         }
     }

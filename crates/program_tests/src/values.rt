@@ -100,13 +100,13 @@ static LITERALS: [(&str, &str, &str); 11] = [
     ("text", "\t\"# no comment\"\r\n", "done \"# no comment\"\n"),
 ];
 
-/// Whether this line is told of a query that gives its argument, at a literal of a type.
-fn is_given<R: Threads + Sync>(
+/// Whether a query that gives its argument answers so at a literal of a type: the status, and the line.
+pub fn is_given<R: Threads + Sync>(
     rt: &R,
     alloc: Global,
     ty: &str,
     literal: &str,
-    line: &str,
+    (status, line): (u8, &str),
 ) -> Result<bool, AllocError> {
     let text = format!(in alloc; "state unit; query q(s: unit, x: {ty}): {ty} = x;")?;
     let call = Call {
@@ -114,13 +114,13 @@ fn is_given<R: Threads + Sync>(
         argument: literal,
         fuel: "1",
     };
-    Ok(verified(rt, alloc, text.as_bytes(), b"", HEADER, &call)?.only_tells(0, line))
+    Ok(verified(rt, alloc, text.as_bytes(), b"", HEADER, &call)?.only_tells(status, line))
 }
 
 #[test]
 fn arguments_are_printed(rt: HostRuntime) -> Result<(), Fail> {
     for (ty, literal, line) in &LITERALS {
-        if !is_given(&rt, rt.alloc(), ty, literal, line)? {
+        if !is_given(&rt, rt.alloc(), ty, literal, (0, line))? {
             return Err(Fail::new(format_args!("{ty} {literal}")));
         }
     }

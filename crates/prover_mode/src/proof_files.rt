@@ -25,7 +25,11 @@ use value_store::{Nodes, Ref};
 
 /// Proves a call as [`prove`] does, where no pieces came before, and gives the bytes of the proof file beside it: a header, which asks
 /// for `size` pieces to be kept, as many as the program's format allows at most, and the frames. Whoever holds the spellings of the
-/// projected state and argument accepts the file, with this outcome.
+/// projected state and argument accepts the file, with this outcome. A unit of `fuel` is a call of a function, and there are 10^12 at most.
+///
+/// # Errors
+///
+/// `AllocError` where there is no memory for the run, the ring, the frames or the file, to which the frames are copied.
 pub fn prove_file<H: Hash32, N: Nodes>(
     alloc: Global,
     code: &Code,

@@ -31,6 +31,11 @@ pub struct ProverRun {
 
 /// Calls a function as a prover, on arguments that stand among the prover's nodes, with so much fuel, 10^12 units at most: its outcome,
 /// whose value stands among the nodes then, and all that the call opened.
+///
+/// # Errors
+///
+/// `AllocError` where there is no memory for a frame, an operand, a node, a spelling or the note of what is opened. Nodes may have been put
+/// then.
 pub fn prover_run<H: Hash32, N: Nodes>(
     alloc: Global,
     code: &Code,

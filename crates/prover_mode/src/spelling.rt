@@ -14,6 +14,10 @@ use std::alloc::{AllocError, Global};
 use value_store::{Nodes, Ref};
 
 /// The outcome with the spelling of the projection of its value, which stands among the prover's nodes at a type.
+///
+/// # Errors
+///
+/// `AllocError` where there is no memory for the spelling.
 pub fn spelled_outcome<H: Hash32, N: Nodes>(
     alloc: Global,
     types: &Types,

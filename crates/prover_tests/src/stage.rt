@@ -17,7 +17,7 @@ use core_terms::{
     Digest, FunctionId, Hash32, Outcome, Program, RoleId, RoleKind, Spelling, Trap, TyForm,
 };
 use digest_layer::Sha;
-use lam_outside::{Bytes, MemLink, Plan};
+use lam_outside::{Bytes, MemLink};
 use proof_stream::put_header;
 use prover_mode::{Proved, prove};
 use reuse_buffer::Ring;
@@ -168,8 +168,7 @@ pub fn file(alloc: Global, size: u16, frames: &[u8]) -> Result<Vec<u8>, AllocErr
 
 /// A source of these bytes, which gives so many a read, and one at least.
 pub fn source(alloc: Global, bytes: &[u8], most: usize) -> Result<MemLink, AllocError> {
-    let plan = Plan::new(Vec::new(alloc));
-    Ok(MemLink::new(alloc, Vec::from_slice(alloc, bytes)?, most.max(1), plan))
+    MemLink::from_bytes(alloc, bytes, most.max(1), &[])
 }
 
 /// The verdict on a call.

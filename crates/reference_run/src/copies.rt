@@ -21,7 +21,7 @@ fn copied(value: &Plain, alloc: Global) -> Result<Plain, AllocError>
         Plain::UnitValue => Ok(Plain::UnitValue),
         Plain::BoolValue(value) => Ok(Plain::BoolValue(*value)),
         Plain::IntValue(value) => Ok(Plain::IntValue(*value)),
-        Plain::TextValue(text) => Ok(Plain::TextValue(copied_text(text, alloc)?)),
+        Plain::TextValue(text) => Ok(Plain::TextValue(text.copied(alloc)?)),
         Plain::PairValue(first, second) => copied_pair(first, second, alloc),
         Plain::ConstructorValue(tag, fields) => {
             let fields = all_copied(fields, alloc)?;
@@ -53,19 +53,11 @@ fn all_copied(values: &[Plain], alloc: Global) -> Result<Vec<Plain>, AllocError>
     Ok(copies)
 }
 
-/// A copy of a text.
-fn copied_text(text: &Text, alloc: Global) -> Result<Text, AllocError>
-    ensures { IfOk result (λ copy. bytes_of copy ≡ bytes_of text.now) }
-{
-    let bytes = text.as_bytes().to_vec(alloc)?;
-    Ok(Text::new(bytes))
-}
-
 /// The value of a text literal.
 pub(crate) fn literal(text: &Text, alloc: Global) -> Result<Plain, Stop>
     ensures { (k : ℕ) (seen : List Opened) → Tells plain_of k result (meant.Gives (TextV (bytes_of text.now)) k seen) }
 {
-    Ok(Plain::TextValue(copied_text(text, alloc)?))
+    Ok(Plain::TextValue(text.copied(alloc)?))
 }
 
 /// A copy of the value of a local; of one that isn't there it is `()`, as in the definitions.

@@ -1,5 +1,5 @@
 // What the limits measure: how long a value's spelling is, and how deep the value is.
-ghost use Rattle.std.specs.Prelude.{◌≡◌, ◌+◌, ℕ, List, [], max, option_map, unwrap_or};
+ghost use Rattle.std.specs.Prelude.{◌≡◌, ◌+◌, ℕ, List, [], max, unwrap_or};
 ghost use Rattle.core_terms.specs.Programs.{meaning, types_of};
 ghost use Rattle.core_terms.specs.ProgramTrees.{types_at};
 ghost use Rattle.core_terms.specs.TypeTables.{type_at};
@@ -13,7 +13,7 @@ ghost use Rattle.reference_run.specs.Telling.{GoesOn, Tells, pair_values, row_va
 
 use crate::stop::Stop;
 use crate::values::{Plain, pair_of};
-use core_terms::{Constructor, NamedId, Program, Tag, Trap, TyForm, TyId};
+use core_terms::{NamedId, Program, Tag, Trap, TyForm, TyId};
 use std::alloc::Global;
 
 /// The greatest depth of a new value.
@@ -127,18 +127,10 @@ fn text_measures(value: &Plain) -> Measures
 fn field_types(program: &Program, named: NamedId, tag: Tag) -> &[TyId]
     ensures { types_at (types_of program.now) result.now ≡ unwrap_or (fields_at (meaning program.now).types named.0 tag.0) [] }
 {
-    match declared(program, named, tag) {
+    match program.types().constructor_at(named, tag) {
         Some(constructor) => &constructor.fields,
         None => &[],
     }
-}
-
-/// A constructor, if it is there.
-fn declared(program: &Program, named: NamedId, tag: Tag) -> Option<&Constructor>
-    ensures { option_map (λ constructor. types_at (types_of program.now) constructor.now.fields.items) result ≡ fields_at (meaning program.now).types named.0 tag.0 }
-{
-    let declared = program.named_types().get(named.0)?;
-    declared.constructors.get(usize::from(tag.0))
 }
 
 /// The pair of two values of these types, where it is within the limits.

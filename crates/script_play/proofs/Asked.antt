@@ -17,7 +17,8 @@ use Rattle.script_play.specs.Playing.{Answers, AreComing, BreaksOff, IsAnswered,
 use Rattle.script_play.specs.declared.halt.Halt.{Halt}
 use Rattle.script_play.specs.declared.halt.Halt.TheVariants.{Ended, LinkFault, WriteFault, NoMemory}
 use Rattle.script_play.specs.declared.telling.Telling.{Telling}
-use Rattle.script_play.proofs.Steps.{append_none, told_plays}
+use Rattle.lam_outside.proofs.Moved.{append_none}
+use Rattle.script_play.proofs.Steps.{told_plays}
 use Rattle.script_play.proofs.Worlds.{worlds_same}
 
 module _ (P : Program) (names : ConstructorNames) where
@@ -43,7 +44,7 @@ module _ (P : Program) (names : ConstructorNames) where
   pub unsent_plays : (T : Type 0) (request : Request) (p : Play) (Is : meant.Client → Type 0) (left' : Option (List ℕ)) (sent sent' written last : Option (List ℕ)) (h : Halt)
       → SendsRequest request sent sent' (Err h)
       → PlaysAs P names {T = T} Is left' (world sent written last) (world sent' written last) (behind (Sends request ∷ []) p) (Err h)
-  unsent_plays T request p Is left' sent sent' written last LinkFault s = sent_part request p.deeds sent sent' written last s.0 s.1
+  unsent_plays T request p Is left' sent sent' written last LinkFault s = sent_part request p.deeds sent sent' written last s.0 s.2
   unsent_plays T request p Is left' sent sent' written last NoMemory s = sent_part request p.deeds sent sent' written last s.0 s.1
   unsent_plays T request p Is left' sent sent' written last Ended s = absurd s
   unsent_plays T request p Is left' sent sent' written last WriteFault s = absurd s

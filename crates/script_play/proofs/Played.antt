@@ -25,7 +25,7 @@ use Rattle.script_play.specs.Plays.{Sends, Play, asked_play, asks, behind, lets_
 use Rattle.script_play.specs.Playing.{Answers, PlaysAs, SendsRequest, World, done, is_sending, world}
 use Rattle.script_play.specs.declared.halt.Halt.{Halt}
 use Rattle.script_play.proofs.Asked.{asks_answers, plays_err, sent_world, unsent_plays}
-use Rattle.script_play.proofs.Steps.{append_none}
+use Rattle.lam_outside.proofs.Moved.{append_none}
 use Rattle.script_play.proofs.Worlds.{plays_behind, plays_cut}
 
 -- NO BYTE MOVED

@@ -3,6 +3,7 @@ use Rattle.std.proofs.Common.{◌≡◌, ℕ, Bool, true, false, List, [], ◌�
 use Rattle.std.proofs.lemmas.List.{append-nil}
 use Rattle.std.specs.Option.{option_or}
 use Rattle.std.specs.Io.KnownBytes.{append_known}
+use Rattle.lam_outside.proofs.Moved.{append_none}
 use Rattle.core_terms.specs.Formats.{Hash}
 use Rattle.core_terms.specs.Terms.{Program}
 use Rattle.printed_syntax.specs.Literals.{ConstructorNames}
@@ -16,10 +17,6 @@ use Rattle.script_play.specs.declared.halt.Halt.{Halt}
 use Rattle.script_play.specs.declared.halt.Halt.TheVariants.{Ended, LinkFault, WriteFault, NoMemory}
 use Rattle.script_play.specs.declared.telling.Telling.{Telling}
 use Rattle.script_play.proofs.Worlds.{nothing_done, worlds_same}
-
-pub append_none : (x : Option (List ℕ)) → append_known x [] ≡ x
-append_none None = refl
-append_none (Some xs) = ap Some (append-nil xs)
 
 no_deeds : (goes : Bool) (c : meant.Client) (ms : Messages Reply) → (if_goes goes c ms rests).deeds ≡ []
 no_deeds true c ms = refl

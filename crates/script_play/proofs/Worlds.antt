@@ -4,7 +4,7 @@ use Rattle.std.proofs.lemmas.Grind.{flat_map-append}
 use Rattle.std.proofs.lemmas.List.{append-nil, append_assoc}
 use Rattle.std.specs.Option.{option_or}
 use Rattle.std.specs.Io.KnownBytes.{append_known}
-use Rattle.lam_outside.proofs.Moved.{append_twice}
+use Rattle.lam_outside.proofs.Moved.{append_none, append_twice}
 use Rattle.core_terms.specs.Formats.{Hash}
 use Rattle.core_terms.specs.Terms.{Program}
 use Rattle.printed_syntax.specs.Literals.{ConstructorNames}
@@ -132,10 +132,6 @@ module _ (P : Program) (names : ConstructorNames) where
     written = sym (append_none w.written);
     last = refl;
   }
-    where
-      append_none : (x : Option (List ℕ)) → append_known x [] ≡ x
-      append_none None = refl
-      append_none (Some xs) = ap Some (append-nil xs)
 
   -- A PLAY AS FAR AS IT WAS PLAYED
   pub record SoFar (whole : Play) (more : meant.Client → Messages Reply → Play) (Is : meant.Client → Type 0) (left : Option (List ℕ)) (w0 w : World) : Type 0 where
@@ -187,10 +183,6 @@ module _ (P : Program) (names : ConstructorNames) where
     stands = is;
     comes = comes;
   }
-    where
-      append_none : (x : Option (List ℕ)) → append_known x [] ≡ x
-      append_none None = refl
-      append_none (Some xs) = ap Some (append-nil xs)
 
 -- REPLIES ARE TAKEN ONE BY ONE
 module _ (hash : Hash) (P : Program) (own : List ℕ) (waiting : meant.Client → Bool) where

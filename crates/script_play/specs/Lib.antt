@@ -3,4 +3,5 @@ pub mod PlayRuns
 pub mod DeedLines
 pub mod PlayRows
 pub mod Playing
+pub mod Halting
 pub mod Tellings

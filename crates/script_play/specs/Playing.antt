@@ -1,5 +1,5 @@
 -- What the code of a play does outside, against the play of the definition.
-use Rattle.std.specs.Prelude.{◌≡◌, ℕ, Bool, true, false, List, [], ◌∷◌, ◌++◌, take, Option, Some, Result, Ok, Err, ⊤}
+use Rattle.std.specs.Prelude.{◌≡◌, ℕ, ◌<◌, Bool, true, false, List, [], ◌∷◌, ◌++◌, length, take, Option, Some, Result, Ok, Err, ⊤}
 use Rattle.std.specs.Option.{option_or}
 use Rattle.std.specs.Io.KnownBytes.{append_known}
 use Rattle.lam_outside.specs.Causes.{Rose}
@@ -114,10 +114,10 @@ IsCutShort NoMemory = Unit {0}
 IsCutShort Ended = ⊥
 IsCutShort WriteFault = ⊥
 
--- a request is sent whole, or a front of it
+-- a request is sent whole, or a front of it; not all of it where the link failed
 abbrev pub SendsRequest : Request → Option (List ℕ) → Option (List ℕ) → Result (Unit {0}) Halt → Type 0
 SendsRequest request sent sent' (Ok done) = sent' ≡ append_known sent (request_bytes request)
-SendsRequest request sent sent' (Err LinkFault) = (count : ℕ) × (sent' ≡ append_known sent (take count (request_bytes request)))
+SendsRequest request sent sent' (Err LinkFault) = (count : ℕ) × (count < length (request_bytes request)) × (sent' ≡ append_known sent (take count (request_bytes request)))
 SendsRequest request sent sent' (Err NoMemory) = (count : ℕ) × (sent' ≡ append_known sent (take count (request_bytes request)))
 SendsRequest request sent sent' (Err Ended) = ⊥
 SendsRequest request sent sent' (Err WriteFault) = ⊥

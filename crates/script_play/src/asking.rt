@@ -8,6 +8,7 @@ ghost use Rattle.session_meaning.specs.Messages.{IsRequest, Messages, Reply};
 ghost use Rattle.wire_form.specs.MessageViews.{request_meant};
 ghost use Rattle.ask_core.specs.Answers.{fault_told};
 ghost use Rattle.ask_core.specs.Replies.{step_taken};
+ghost use Rattle.script_play.specs.Halting.{HaltsAt, OnLinkFault};
 ghost use Rattle.script_play.specs.Plays.{Tells, asked_play, goes_behind, rests};
 ghost use Rattle.script_play.specs.Playing.{Answers, AreComing, IsAnswered, IsTelling, PlayCause, PlaysAs, SendsRequest, is_sending, world};
 
@@ -35,6 +36,9 @@ pub fn ask<L: Link, O: Sink>(
         → PlaysAs P names (λ c. c ≡ t.client) (L.left link.new)
         (world (L.sent link.old) (O.written out.old) last.old) (world (L.sent link.new) (O.written out.new) last.new)
         (asked_play t session ms rests) result }
+    ensures halts { (P : tree.Program) (names : ConstructorNames) (t : Taken) (ms : Messages Reply) → Answers (λ c. Unit {0}) t answered
+        → OnLinkFault result (HaltsAt P names (world (L.sent link.old) (O.written out.old) last.old) (world (L.sent link.new) (O.written out.new) last.new)
+        (asked_play t session ms rests).deeds) }
     ensures sends { IfOk result (λ sent. (t : Taken) → Answers (λ c. Unit {0}) t answered → sent ≡ is_sending t.answer) }
     ensures memory { IfOk result (λ sent. IsAnswered answered) }
     ensures given { L.given link.new ≡ L.given link.old }

@@ -1,5 +1,5 @@
 // The lines of a script are played, one by one.
-ghost use Rattle.std.specs.Prelude.{◌≡◌, IfOk, length, map};
+ghost use Rattle.std.specs.Prelude.{◌≡◌, ℕ, List, Some, IfOk, length, map};
 ghost use Rattle.std.specs.List.{All};
 ghost use Rattle.mode_vm.specs.Meanings.{program_of};
 ghost use Rattle.session_meaning.specs.Client.{Client, Taken, waits};
@@ -9,6 +9,7 @@ ghost use Rattle.wire_form.specs.MovedBytes.{Moves};
 ghost use Rattle.ask_core.specs.Sessions.{StandsFor, StandsForSome, some_calls};
 ghost use Rattle.ask_script.specs.ScriptAnswers.{step_meant};
 ghost use Rattle.ask_script.specs.Scripts.{Fits};
+ghost use Rattle.script_play.specs.Halting.{PlaysTo};
 ghost use Rattle.script_play.specs.Plays.{asked_play, lets_run, play, play_step, take_replies};
 ghost use Rattle.script_play.specs.Playing.{Answers, AreComing, PlayCause, PlaysAs, names_of, own_of, world};
 
@@ -17,7 +18,7 @@ use crate::halt::Halt;
 use crate::taking::{Whose, take_replies};
 use ask_core::{AskCore, AskFault};
 use ask_script::Step;
-use core_terms::{Digest, Hash32, Spelling};
+use core_terms::{Hash32, Spelling};
 use lam_outside::{Link, Sink};
 use std::alloc::Global;
 use wire_form::Request;
@@ -47,6 +48,10 @@ pub fn play<H: Hash32, L: Link, O: Sink>(
         → PlaysAs (program_of code) (names_of code) (StandsFor core.new) (L.left link.new)
         (world (L.sent link.old) (O.written out.old) last.old) (world (L.sent link.new) (O.written out.new) last.new)
         (play H.hash (program_of code) (own_of code) state.now (map step_meant steps.now) c ms) result }
+    ensures halts { let code = core.old.code in (c : Client) (bytes : List ℕ) → StandsFor core.old c → L.left link.old ≡ Some bytes
+        → PlaysTo (program_of code) (names_of code) (StandsFor core.new) bytes (L.left link.new)
+        (world (L.sent link.old) (O.written out.old) last.old) (world (L.sent link.new) (O.written out.new) last.new)
+        (play H.hash (program_of code) (own_of code) state.now (map step_meant steps.now) c) result }
     ensures known { StandsForSome core.new }
     ensures code { core.new.code ≡ core.old.code }
     ensures moves { Moves (L.given link.old) (L.left link.old) (L.given link.new) (L.left link.new) }
@@ -54,19 +59,11 @@ pub fn play<H: Hash32, L: Link, O: Sink>(
     ensures cause { PlayCause (L.faults link.old) (L.faults link.new) (O.faults out.old) (O.faults out.new) result }
 {
     // A greeting is a message since the digest that it sends has 32 bytes.
-    digest_bytes(core.code().program().text_digest());
+    core.code().program().text_digest().as_bytes();
     for step in steps {
         play_step(alloc, core, state, step, link, out, last)?;
     }
     Ok(())
-}
-
-/// The 32 bytes of a digest.
-fn digest_bytes(digest: &Digest) -> &[u8]
-    ensures bytes { result.now ≡ digest.now.0 }
-    ensures length { length result.now ≡ 32 }
-{
-    &digest.0
 }
 
 /// Plays a line.
@@ -86,6 +83,10 @@ fn play_step<H: Hash32, L: Link, O: Sink>(
         → PlaysAs (program_of code) (names_of code) (StandsFor core.new) (L.left link.new)
         (world (L.sent link.old) (O.written out.old) last.old) (world (L.sent link.new) (O.written out.new) last.new)
         (play_step H.hash (program_of code) (own_of code) state.now (step_meant step.now) c ms) result }
+    ensures halts { let code = core.old.code in (c : Client) (bytes : List ℕ) → StandsFor core.old c → L.left link.old ≡ Some bytes
+        → PlaysTo (program_of code) (names_of code) (StandsFor core.new) bytes (L.left link.new)
+        (world (L.sent link.old) (O.written out.old) last.old) (world (L.sent link.new) (O.written out.new) last.new)
+        (play_step H.hash (program_of code) (own_of code) state.now (step_meant step.now) c) result }
     ensures known { StandsForSome core.new }
     ensures code { core.new.code ≡ core.old.code }
     ensures moves { Moves (L.given link.old) (L.left link.old) (L.given link.new) (L.left link.new) }
@@ -132,6 +133,10 @@ fn ask_and_wait<H: Hash32, L: Link, O: Sink>(
         → PlaysAs P (names_of code) (StandsFor core.new) (L.left link.new)
         (world (L.sent link.old) (O.written out.old) last.old) (world (L.sent link.new) (O.written out.new) last.new)
         (asked_play t session ms (take_replies H.hash P (own_of code) (λ c. waits c session))) result }
+    ensures halts { let code = core.old.code in (t : Taken) (bytes : List ℕ) → Answers (StandsFor core.old) t answered → L.left link.old ≡ Some bytes
+        → PlaysTo (program_of code) (names_of code) (StandsFor core.new) bytes (L.left link.new)
+        (world (L.sent link.old) (O.written out.old) last.old) (world (L.sent link.new) (O.written out.new) last.new)
+        (λ ms. asked_play t session ms (take_replies H.hash (program_of code) (own_of code) (λ c. waits c session))) result }
     ensures known { StandsForSome core.new }
     ensures code { core.new.code ≡ core.old.code }
     ensures moves { Moves (L.given link.old) (L.left link.old) (L.given link.new) (L.left link.new) }
@@ -158,6 +163,10 @@ fn let_run<H: Hash32, L: Link, O: Sink>(
         → PlaysAs (program_of code) (names_of code) (StandsFor core.new) (L.left link.new)
         (world (L.sent link.old) (O.written out.old) last.old) (world (L.sent link.new) (O.written out.new) last.new)
         (lets_run H.hash (program_of code) (own_of code) (some_calls c) c ms) result }
+    ensures halts { let code = core.old.code in (c : Client) (bytes : List ℕ) → StandsFor core.old c → L.left link.old ≡ Some bytes
+        → PlaysTo (program_of code) (names_of code) (StandsFor core.new) bytes (L.left link.new)
+        (world (L.sent link.old) (O.written out.old) last.old) (world (L.sent link.new) (O.written out.new) last.new)
+        (lets_run H.hash (program_of code) (own_of code) (some_calls c) c) result }
     ensures known { StandsForSome core.new }
     ensures code { core.new.code ≡ core.old.code }
     ensures moves { Moves (L.given link.old) (L.left link.old) (L.given link.new) (L.left link.new) }

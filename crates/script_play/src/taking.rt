@@ -1,10 +1,11 @@
 // Replies are read, and what they tell is told.
-ghost use Rattle.std.specs.Prelude.{◌≡◌, ◌<◌, ℕ, true, IfOk, IfErr, OnOk};
+ghost use Rattle.std.specs.Prelude.{◌≡◌, ◌<◌, ℕ, true, List, Some, IfOk, IfErr, OnOk};
 ghost use Rattle.mode_vm.specs.Meanings.{program_of};
 ghost use Rattle.session_meaning.specs.Client.{Client};
 ghost use Rattle.session_meaning.specs.Messages.{Messages, Reply};
 ghost use Rattle.wire_form.specs.MovedBytes.{Moves};
 ghost use Rattle.ask_core.specs.Sessions.{StandsFor, StandsForSome, sessions_waiting};
+ghost use Rattle.script_play.specs.Halting.{PlaysTo, TakesNext};
 ghost use Rattle.script_play.specs.Plays.{take_replies};
 ghost use Rattle.script_play.specs.Playing.{AreComing, IsCutShort, PlayCause, PlaysAs, names_of, own_of, take_one, waits_for, world};
 ghost use Rattle.script_play.specs.Tellings.{IsNext, IsStopTold};
@@ -54,6 +55,9 @@ pub fn take_replies<H: Hash32, L: Link, O: Sink>(
         → PlaysAs (program_of code) (names_of code) (StandsFor core.new) (L.left link.new)
         (world (L.sent link.old) (O.written out.old) last.old) (world (L.sent link.new) (O.written out.new) last.new)
         (take_replies H.hash (program_of code) (own_of code) (waits_for whose) c ms) result }
+    ensures halts { let code = core.old.code in (c : Client) (bytes : List ℕ) → StandsFor core.old c → L.left link.old ≡ Some bytes
+        → PlaysTo (program_of code) (names_of code) (StandsFor core.new) bytes (L.left link.new)
+        (world (L.sent link.old) (O.written out.old) last.old) (world (L.sent link.new) (O.written out.new) last.new) (take_replies H.hash (program_of code) (own_of code) (waits_for whose) c) result }
     ensures known { StandsForSome core.new }
     ensures code { core.new.code ≡ core.old.code }
     ensures moves { Moves (L.given link.old) (L.left link.old) (L.given link.new) (L.left link.new) }
@@ -79,6 +83,9 @@ fn take_one<H: Hash32, L: Link, O: Sink>(
         → PlaysAs (program_of code) (names_of code) (StandsFor core.new) (L.left link.new)
         (world (L.sent link.old) (O.written out.old) last.old) (world (L.sent link.new) (O.written out.new) last.new)
         (take_one H.hash (program_of code) (own_of code) c ms) result }
+    ensures halts { let code = core.old.code in (c : Client) (bytes : List ℕ) → StandsFor core.old c → L.left link.old ≡ Some bytes
+        → PlaysTo (program_of code) (names_of code) (StandsFor core.new) bytes (L.left link.new)
+        (world (L.sent link.old) (O.written out.old) last.old) (world (L.sent link.new) (O.written out.new) last.new) (take_one H.hash (program_of code) (own_of code) c) result }
     ensures fewer { OnOk result (sessions_waiting core.new < sessions_waiting core.old) }
     ensures known { StandsForSome core.new }
     ensures code { core.new.code ≡ core.old.code }
@@ -100,6 +107,8 @@ fn next_telling<H: Hash32, L: Link>(
     ensures next { let code = core.old.code in (c : Client) (ms : Messages Reply) → StandsFor core.old c → AreComing (L.left link.old) ms
         → IfOk result (IsNext H.hash (program_of code) (names_of code) (own_of code) (StandsFor core.new) (L.left link.new) c ms) }
     ensures halts { IfErr result IsCutShort }
+    ensures takes { let code = core.old.code in (c : Client) (bytes : List ℕ) → StandsFor core.old c → L.left link.old ≡ Some bytes
+        → TakesNext H.hash (program_of code) (names_of code) (own_of code) (StandsFor core.new) bytes (L.left link.new) c result }
     ensures fewer { IfOk result (λ telling. telling.goes_on ≡ true → sessions_waiting core.new < sessions_waiting core.old) }
     ensures known { StandsForSome core.new }
     ensures code { core.new.code ≡ core.old.code }

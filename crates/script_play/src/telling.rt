@@ -1,11 +1,9 @@
 // What is told, and its line.
-ghost use Rattle.std.specs.Prelude.{◌≡◌, ◌≤◌, ℕ, length, take, OnOk, OnErr};
-ghost use Rattle.std.specs.Io.KnownBytes.{append_known};
-ghost use Rattle.lam_outside.specs.Causes.{HasCause};
+ghost use Rattle.std.specs.Prelude.{ℕ};
 
 use crate::halt::Halt;
 use core_terms::Spelling;
-use lam_outside::{Failed, Sink};
+use lam_outside::{Sink, write_all};
 
 /// What is told.
 #[derive(Drop)]
@@ -35,21 +33,4 @@ pub fn tell<O: Sink>(out: &mut O, last: &mut Option<Spelling>, telling: Telling)
         return Ok(());
     }
     Err(Halt::Ended)
-}
-
-/// Writes all of the text.
-fn write_all<O: Sink>(out: &mut O, text: &[u8]) -> Result<(), Failed>
-    ensures all { OnOk result (O.written out.new ≡ append_known (O.written out.old) text.now) }
-    ensures part { OnErr result ((n : ℕ) × (n ≤ length text.now) × (O.written out.new ≡ append_known (O.written out.old) (take n text.now))) }
-    ensures cause { HasCause (O.faults out.old) (O.faults out.new) result }
-{
-    let mut done = 0;
-    while done < text.len() {
-        let count = out.write(&text[done..])?;
-        if count == 0 {
-            return Err(Failed);
-        }
-        done += count;
-    }
-    Ok(())
 }

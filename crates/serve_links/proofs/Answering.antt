@@ -10,10 +10,10 @@ use Rattle.serve_core.specs.Serving.{Serves}
 use Rattle.serve_core.specs.declared.server.ServeCore.{ServeCore}
 use Rattle.serve_links.specs.Connections.{bytes_of}
 use Rattle.serve_links.specs.Histories.{HasServed, HasSameCode, own_digest, program_served, step_of, turns_of}
-use Rattle.serve_links.specs.Messages.{Answers, AnswersPart, BreaksOff, ComesNext, CountsMessage, ServesMessage, StaysServing, asks}
+use Rattle.serve_links.specs.Messages.{Answers, AnswersPart, BreaksOff, ComesNext, CountsMessage, HearsNext, ServesMessage, StaysServing, asks}
 use Rattle.serve_links.specs.declared.halt.Halt.{Halt}
 use Rattle.serve_links.specs.declared.halt.Halt.TheVariants as halt
-use Rattle.serve_links.proofs.Broken.{first_part, first_stopped, none_heard, over_at}
+use Rattle.serve_links.proofs.Broken.{first_cut, first_part, first_stopped, none_cut, none_heard, over_at}
 use Rattle.serve_links.proofs.Serving.{open_counts, served_more}
 
 pub append_nothing : (w : Option (List ℕ)) → append_known w [] ≡ w
@@ -25,6 +25,8 @@ module _ (hash : Hash) {A G : Type 0} (old new : ServeCore A G) (server : Server
   message_served : (bytes : List ℕ) (left' : Option (List ℕ)) (m : meant.Heard) (closing : Bool) → ComesNext bytes left' m
       → Answers hash old new server sent sent' m (Ok closing) → ServesMessage hash old new server sent sent' bytes left' (Ok (asks m && not closing))
   message_served bytes left' (Hears r) true next answers = record {
+    taken = next.0;
+    takes = next.1;
     out = bytes_of (step_of hash old server (Hears r)).replies;
     behind = (step_of hash old server (Hears r)).server;
     sends = answers.0;
@@ -33,14 +35,18 @@ module _ (hash : Hash) {A G : Type 0} (old new : ServeCore A G) (server : Server
   }
   message_served bytes left' (Hears r) false next answers = record {
     request = r;
-    rest = next.0;
-    came = next.1;
-    told = next.2;
+    taken = next.0;
+    rest = next.1.0;
+    all = next.1.1;
+    came = next.2;
+    told = next.1.2;
     stays_open = sym answers.1;
     sends = answers.0;
     serves = answers.2;
   }
   message_served bytes left' HearsBad closing next answers = record {
+    taken = next.0;
+    takes = next.1;
     out = bytes_of (step_of hash old server HearsBad).replies;
     behind = (step_of hash old server HearsBad).server;
     sends = answers.0;
@@ -48,6 +54,8 @@ module _ (hash : Hash) {A G : Type 0} (old new : ServeCore A G) (server : Server
     serves = answers.2;
   }
   message_served bytes left' HearsEnd closing next answers = record {
+    taken = next.0;
+    takes = next.1;
     out = bytes_of (step_of hash old server HearsEnd).replies;
     behind = (step_of hash old server HearsEnd).server;
     sends = answers.0;
@@ -57,11 +65,14 @@ module _ (hash : Hash) {A G : Type 0} (old new : ServeCore A G) (server : Server
 
   -- a message was read, and its replies were sent in part or not at all
   part_served : (bytes : List ℕ) (left' : Option (List ℕ)) (m : meant.Heard) → ComesNext bytes left' m → AnswersPart hash old new server sent sent' m
-      → BreaksOff hash old new server sent sent' bytes
+      → BreaksOff hash old new server sent sent' bytes left'
   part_served bytes left' m next part = record {
     heard = m ∷ [];
+    taken = next.0;
+    takes = next.1;
     out = take part.0 (bytes_of (step_of hash old server m).replies);
     sends = part.2;
+    cut = first_cut hash (program_served old) (own_digest old) (turns_of old) server bytes left' m part.0 next part.1;
     broken = first_part hash (program_served old) (own_digest old) (turns_of old) server bytes left' m part.0 next part.1;
     serves = part.3;
   }
@@ -76,12 +87,14 @@ module _ (hash : Hash) {A G : Type 0} (old new : ServeCore A G) (server : Server
       by halt.LinkFault part = part_served bytes left' m next part
       by halt.NoMemory (inl part) =
           let broken = part_served bytes left' m next part in
-          record { out = broken.out; behind = _; sends = broken.sends; served = (broken.heard, broken.broken, inl refl); serves = broken.serves }
+          record { taken = broken.taken; takes = broken.takes; out = broken.out; behind = _; sends = broken.sends; served = (broken.heard, broken.broken, inl refl); serves = broken.serves }
       by halt.NoMemory (inr stopped) = record {
+        taken = next.0;
+        takes = next.1;
         out = [];
         behind = stopped.1.0;
         sends = stopped.0 ∙ sym (append_nothing sent);
-        served = first_stopped hash (program_served old) (own_digest old) (turns_of old) server bytes left' m stopped.1.0 next stopped.1.1;
+        served = first_stopped hash (program_served old) (own_digest old) (turns_of old) server bytes next.0 left' m stopped.1.0 next stopped.1.1;
         serves = stopped.1.2;
       }
 
@@ -102,24 +115,34 @@ module _ (hash : Hash) {A G : Type 0} (old new : ServeCore A G) (server : Server
       let OfLeft : Option (List ℕ) → Type 0 = λ w. ComesNext bytes w m in
       message_broken hash old new server sent0 sent2 bytes left2 m stop result handed (subst OfLeft (sym left) next) (subst OfSent same answers)
 
--- nothing was read
+-- no message was read
 pub unread : (hash : Hash) {A G : Type 0} (core : ServeCore A G) (server : Server) (sent sent' : Option (List ℕ)) (bytes : List ℕ) (left' : Option (List ℕ)) (stop : Halt)
-    (result : Result Bool Halt) → IsErrAnd result (λ e. e ≡ stop) → sent' ≡ sent → Serves hash core server → ServesMessage hash core core server sent sent' bytes left' result
-unread hash core server sent sent' bytes left' stop (Ok on) handed same serves = absurd handed
-unread hash core server sent sent' bytes left' stop (Err halt.LinkFault) handed same serves = record {
-  heard = [];
-  out = [];
-  sends = same ∙ sym (append_nothing sent);
-  broken = none_heard hash (program_served core) (own_digest core) (turns_of core) server bytes;
-  serves = serves;
-}
-unread hash core server sent sent' bytes left' stop (Err halt.NoMemory) handed same serves = record {
-  out = [];
-  behind = server;
-  sends = same ∙ sym (append_nothing sent);
-  served = ([], none_heard hash (program_served core) (own_digest core) (turns_of core) server bytes, inl refl);
-  serves = serves;
-}
+    (result : Result Bool Halt) → IsErrAnd result (λ e. e ≡ stop) → sent' ≡ sent → HearsNext bytes left' (Err stop) → Serves hash core server
+    → ServesMessage hash core core server sent sent' bytes left' result
+unread hash core server sent sent' bytes left' stop (Ok on) handed same hears serves = absurd handed
+unread hash core server sent sent' bytes left' stop (Err e) handed same hears serves =
+    let P : Halt → Type 0 = λ e. ServesMessage hash core core server sent sent' bytes left' (Err e) in subst P (sym handed) (by stop hears)
+  where
+    by : (stop : Halt) → HearsNext bytes left' (Err stop) → ServesMessage hash core core server sent sent' bytes left' (Err stop)
+    by halt.LinkFault hears = record {
+      heard = [];
+      taken = hears.0;
+      takes = hears.1;
+      out = [];
+      sends = same ∙ sym (append_nothing sent);
+      cut = none_cut hash (program_served core) (own_digest core) (turns_of core) server hears.0 hears.2;
+      broken = none_heard hash (program_served core) (own_digest core) (turns_of core) server bytes;
+      serves = serves;
+    }
+    by halt.NoMemory hears = record {
+      taken = hears.0;
+      takes = hears.1;
+      out = [];
+      behind = server;
+      sends = same ∙ sym (append_nothing sent);
+      served = ([], none_heard hash (program_served core) (own_digest core) (turns_of core) server bytes, inl refl);
+      serves = serves;
+    }
 
 -- What is left of the core is a server with a history, unless memory was wanting.
 module _ (hash : Hash) {A G : Type 0} (old new : ServeCore A G) (same : HasSameCode old new) (h : HasServed hash old) (sent sent' : Option (List ℕ)) (m : meant.Heard) (is : IsHeard m) where

@@ -5,7 +5,7 @@ use Rattle.core_terms.specs.Terms.{Program}
 use Rattle.lam_outside.specs.Links.{Linked}
 use Rattle.session_meaning.specs.Connections.{ConnectionsAreHeard}
 use Rattle.session_meaning.specs.Messages.{messages, request_of}
-use Rattle.session_meaning.specs.Server.{Server as TheServer, Heard, HearsEnd, handle, server_after}
+use Rattle.session_meaning.specs.Server.{Server as TheServer, Heard, HearsEnd, server_after}
 use Rattle.session_meaning.specs.Stopped.{HistoryGoesOn, StopsKeepHistory}
 use Rattle.serve_links.specs.Connections.{IsServed, LeavesNoMemory, left_by_end}
 use Rattle.serve_links.specs.LinkLaws.{KeepsHistory, LinksKeepHistory, PartsKeepHistory}
@@ -28,24 +28,24 @@ module _ (goes_on : HistoryGoesOn) (stopped : StopsKeepHistory) (heard_on : Conn
     lacking_keeps server bytes heard sent behind h (inr (inr w)) =
         stopped hash P own ending (server_after hash P own ending server heard) w.next behind (heard_keeps server heard h) w.stopped
 
-    link_keeps : (server : TheServer) (bytes sent : List ℕ) (end : ConnectionEnd) (behind : TheServer) → KeepsHistory P server
-        → IsServed hash P own ending server bytes sent end behind → KeepsHistory P behind
-    link_keeps server bytes sent connection.Over behind h is =
+    link_keeps : (server : TheServer) (bytes taken sent : List ℕ) (end : ConnectionEnd) (behind : TheServer) → KeepsHistory P server
+        → IsServed hash P own ending server bytes taken sent end behind → KeepsHistory P behind
+    link_keeps server bytes taken sent connection.Over behind h is =
         let as_heard = (heard_on hash P own ending server (messages request_of bytes)).0 in
         subst (KeepsHistory P) (sym is.1) (subst (KeepsHistory P) (sym as_heard.1) (heard_keeps server as_heard.0 h))
-    link_keeps server bytes sent connection.LinkFault behind h is = subst (KeepsHistory P) (sym is.2) (end_keeps server is.0 h)
-    link_keeps server bytes sent connection.NoMemory behind h is = lacking_keeps server bytes is.0 sent behind h is.2
+    link_keeps server bytes taken sent connection.LinkFault behind h is = subst (KeepsHistory P) (sym is.2) (end_keeps server is.0 h)
+    link_keeps server bytes taken sent connection.NoMemory behind h is = lacking_keeps server bytes is.0 sent behind h is.2
 
     links_keep : (server : TheServer) (links : List Linked) (faulted : Bool) (behind : TheServer) → KeepsHistory P server
         → AreServed hash P own ending server links faulted behind → KeepsHistory P behind
     links_keep server [] faulted behind h are = subst (KeepsHistory P) (sym are.1) h
     links_keep server (link ∷ links) faulted behind h (first, others, next, is, are, e) =
-        links_keep next links others behind (link_keeps server (bytes_on link) link.sent is.end next h is.served) are
+        links_keep next links others behind (link_keeps server (bytes_on link) link.given link.sent is.end next h is.served) are
 
   pub links_keep_history : LinksKeepHistory
   links_keep_history = links_keep
 
   pub parts_keep_history : PartsKeepHistory
   parts_keep_history hash P own ending server links behind h are =
-      link_keeps hash P own ending are.next (bytes_on are.last) are.last.sent connection.NoMemory behind
+      link_keeps hash P own ending are.next (bytes_on are.last) are.last.given are.last.sent connection.NoMemory behind
       (links_keep hash P own ending server are.before are.faulted are.next h are.served) are.broken

@@ -1,6 +1,7 @@
 -- Links that were served, and one more: for serve_next and serve_links.
 use Rattle.std.proofs.Common.{inr, ◌≡◌, ℕ, ◌+◌, ◌<◌, Bool, true, false, ◌||◌, List, [], ◌∷◌, ◌++◌, Option, Some, None, Result, Ok, Err, refl, sym, ap, subst, ◌∙◌, arith, append_assoc, length-append}
 use Rattle.std.specs.List.{AllByRecursion}
+use Rattle.std.proofs.lemmas.List.{append_cancel_right}
 use Rattle.std.specs.Io.KnownBytes.{append_known, prepend_known}
 use Rattle.core_terms.specs.Formats.{Hash}
 use Rattle.core_terms.specs.Terms.{Program}
@@ -54,7 +55,7 @@ module _ (hash : Hash) {A G : Type 0} (old new : ServeCore A G) (server : Server
   pub one_served : (links ended1 ended2 : Option (List Linked)) (port1 port2 : Option ℕ) (given0 sent0 given1 left1 sent1 given2 left2 sent2 : Option (List ℕ))
       (end : ConnectionEnd) (after : List Linked) → IsMade port links ended1 port1 given0 sent0 given1 sent1 → ended2 ≡ ended1 → port2 ≡ port1
       → Moves given1 left1 given2 left2
-      → ((bytes : List ℕ) → left1 ≡ Some bytes → Ends hash old new server sent1 sent2 bytes end)
+      → ((bytes : List ℕ) → left1 ≡ Some bytes → Ends hash old new server sent1 sent2 bytes left2 end)
       → links_so_far ended2 port2 given2 left2 sent2 ≡ Some after → IsOneServed hash old new server port links after end
   one_served links ended1 ended2 port1 port2 given0 sent0 given1 left1 sent1 given2 left2 sent2 end after made same at moves ends is =
       let told_now = told ended2 port given2 left2 sent2 after (ap (λ (p : Option ℕ). links_so_far ended2 p given2 left2 sent2) (sym (at ∙ made.at_port)) ∙ is) in
@@ -62,9 +63,13 @@ module _ (hash : Hash) {A G : Type 0} (old new : ServeCore A G) (server : Server
       let e = ends (moves.0 ++ told_now.rest) came in
       let read : told_now.read ≡ moves.0 = from_nothing given1 given0 moves.0 told_now.read made.none_given (sym told_now.given_is ∙ moves.2) in
       let out : told_now.out ≡ e.out = from_nothing sent1 sent0 e.out told_now.out made.none_sent (sym told_now.sent_is ∙ e.sends) in
-      let Served : List ℕ → List ℕ → Type 0 = λ read out. IsServed hash (program_served old) (own_digest old) (turns_of old) server (read ++ told_now.rest) out end e.behind in
-      let WithOut : List ℕ → Type 0 = λ out. Served moves.0 out in
-      let WithRead : List ℕ → Type 0 = λ read. Served read told_now.out in
+      let rest : e.takes.0 ≡ told_now.rest = let both : Some e.takes.0 ≡ Some told_now.rest = sym e.takes.2 ∙ told_now.left_is in cc in
+      let taken : e.taken ≡ moves.0 = append_cancel_right e.taken moves.0 told_now.rest (ap (λ r. e.taken ++ r) (sym rest) ∙ sym e.takes.1) in
+      let Served : List ℕ → List ℕ → List ℕ → Type 0 =
+      λ bytes taken out. IsServed hash (program_served old) (own_digest old) (turns_of old) server (bytes ++ told_now.rest) taken out end e.behind in
+      let WithTaken : List ℕ → Type 0 = λ taken. Served moves.0 taken e.out in
+      let WithOut : List ℕ → Type 0 = λ out. Served moves.0 moves.0 out in
+      let WithRead : List ℕ → Type 0 = λ read. Served read read told_now.out in
       record {
         before = told_now.before;
         link = record { port = port; given = told_now.read; left = told_now.rest; sent = told_now.out };
@@ -72,7 +77,7 @@ module _ (hash : Hash) {A G : Type 0} (old new : ServeCore A G) (server : Server
         told = sym made.others_ended ∙ sym same ∙ told_now.ended_is;
         all = told_now.all;
         at_port = refl;
-        served = subst WithRead (sym read) (subst WithOut (sym out) e.served);
+        served = subst WithRead (sym read) (subst WithOut (sym out) (subst WithTaken taken e.served));
         serves = e.serves;
       }
 

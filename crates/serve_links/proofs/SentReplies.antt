@@ -1,5 +1,5 @@
 -- Replies that are sent one behind another: for send_replies.
-use Rattle.std.proofs.Common.{◌≡◌, ℕ, zero, suc, ◌+◌, ◌<◌, ◌≤◌, List, [], ◌∷◌, ◌++◌, length, take, drop, get_or, map, Option, Result, Ok, Err, IsErrAnd, refl, sym, ap, subst, ◌∙◌, arith, append_assoc, length-append}
+use Rattle.std.proofs.Common.{◌≡◌, ℕ, zero, suc, ◌+◌, ◌<◌, List, [], ◌∷◌, ◌++◌, length, take, drop, get_or, map, Option, Result, Ok, Err, IsErrAnd, refl, sym, ap, subst, ◌∙◌, arith, append_assoc, length-append}
 use Rattle.std.proofs.Math.Seq.{take-append-add}
 use Rattle.std.proofs.lemmas.List.{take-append-le}
 use Rattle.std.specs.List.{AllByRecursion}
@@ -37,7 +37,7 @@ split_at (x ∷ xs) (suc i) d within =
 -- a front of one more was sent
 pub sent_part : (xs : List Reply) (i : ℕ) (x : Reply) (w0 w1 w2 : Option (List ℕ)) (result : Result (Unit {0}) WriteStop) (stop : WriteStop)
     → IsErrAnd result (λ e. e ≡ stop) → x ≡ get_or xs i x → i < length xs → w1 ≡ append_known w0 (bytes_in (take i xs))
-    → (let next = reply_bytes (reply_meant x) in (n : ℕ) × (n ≤ length next) × (w2 ≡ append_known w1 (take n next)))
+    → (let next = reply_bytes (reply_meant x) in (n : ℕ) × (n < length next) × (w2 ≡ append_known w1 (take n next)))
     → Sends (bytes_in xs) w0 w2 result
 sent_part xs i x w0 w1 w2 (Ok done) stop handed is within before part = absurd handed
 sent_part xs i x w0 w1 w2 (Err e) stop handed is within before part =
@@ -46,7 +46,7 @@ sent_part xs i x w0 w1 w2 (Err e) stop handed is within before part =
     let behind = bytes_in (drop (suc i) xs) in
     let whole : bytes_in xs ≡ front ++ (next ++ behind) = split_at xs i x within ∙ ap (λ r. front ++ (reply_bytes (reply_meant r) ++ behind)) (sym is) in
     let taken : take (length front + part.0) (bytes_in xs) ≡ front ++ take part.0 next =
-    ap (take (length front + part.0)) whole ∙ take-append-add front (next ++ behind) part.0 ∙ ap (λ l. front ++ l) (take-append-le part.0 next behind part.1) in
+    ap (take (length front + part.0)) whole ∙ take-append-add front (next ++ behind) part.0 ∙ ap (λ l. front ++ l) (take-append-le part.0 next behind (omega (arith, part.1))) in
     let size : length (bytes_in xs) ≡ length front + (length next + length behind) =
     ap length whole ∙ length-append front (next ++ behind) ∙ ap (λ k. length front + k) (length-append next behind) in (
       length front + part.0,

@@ -1,5 +1,5 @@
 -- A connection that goes on, message by message: for serve_link.
-use Rattle.std.proofs.Common.{inl, inr, ◌≡◌, ℕ, Bool, List, [], ◌++◌, Option, Some, None, Result, Err, refl, sym, ap, subst, ◌∙◌, append_assoc}
+use Rattle.std.proofs.Common.{inl, inr, ◌≡◌, ℕ, Bool, List, [], ◌++◌, Option, Some, None, Result, Err, refl, sym, ap, subst, subst₂, ◌∙◌, append_assoc}
 use Rattle.std.specs.Io.KnownBytes.{append_known, prepend_known}
 use Rattle.lam_outside.proofs.Moved.{append_twice}
 use Rattle.core_terms.specs.Formats.{Hash}
@@ -32,7 +32,7 @@ none_moved given left = ([], prepend_nothing left, sym (append_nothing given))
 
 module _ (hash : Hash) where
   -- what a server of this code and these turns sends, and leaves
-  abbrev IsServedBy : Code → ℕ → Server → (bytes sent : List ℕ) → ConnectionEnd → (behind : Server) → Type 0
+  abbrev IsServedBy : Code → ℕ → Server → (bytes taken sent : List ℕ) → ConnectionEnd → (behind : Server) → Type 0
   IsServedBy code slice = IsServed hash (program_of code) (program_in code).text_digest.0 (last_turn slice)
 
 module _ (hash : Hash) {A G : Type 0} where
@@ -40,13 +40,15 @@ module _ (hash : Hash) {A G : Type 0} where
   -- one sends then was sent on the whole connection, behind what was sent by now.
   pub record IsSoFar (old now : ServeCore A G) (server : Server) (sent sent' : Option (List ℕ)) (bytes : List ℕ) (left' : Option (List ℕ)) : Type 0 where
     pub out : List ℕ
+    pub taken : List ℕ
     pub rest : List ℕ
     pub current : Server
     pub sends : sent' ≡ append_known sent out
+    pub all : bytes ≡ taken ++ rest
     pub told : left' ≡ Some rest
     pub serves : Serves hash now current
-    pub behind : (more : List ℕ) (end : ConnectionEnd) (last : Server) → IsServedBy hash old.code old.slice current rest more end last
-        → IsServedBy hash old.code old.slice server bytes (out ++ more) end last
+    pub behind : (further more : List ℕ) (end : ConnectionEnd) (last : Server) → IsServedBy hash old.code old.slice current rest further more end last
+        → IsServedBy hash old.code old.slice server bytes (taken ++ further) (out ++ more) end last
 
   -- what a message's result says, where it is known
   pub served_at : (old new : ServeCore A G) (server : Server) (sent sent' : Option (List ℕ)) (bytes : List ℕ) (left' : Option (List ℕ)) (r known : Result Bool Halt) → r ≡ known
@@ -71,12 +73,14 @@ module _ (hash : Hash) {A G : Type 0} where
       → IsSoFar core core server sent sent bytes left
   at_first core server sent bytes left told serves = record {
     out = [];
+    taken = [];
     rest = bytes;
     current = server;
     sends = sym (append_nothing sent);
+    all = refl;
     told = told;
     serves = serves;
-    behind = λ more end last served. served;
+    behind = λ further more end last served. served;
   }
 
   module _ (old now : ServeCore A G) (same : HasSameCode old now) where
@@ -96,21 +100,24 @@ module _ (hash : Hash) {A G : Type 0} where
           → IsSoFar old new server sent sent'' bytes left''
       one_more new left'' on = record {
         out = so_far.out ++ bytes_of (step_of hash now so_far.current (Hears on.request)).replies;
+        taken = so_far.taken ++ on.taken;
         rest = on.rest;
         current = (step_of hash now so_far.current (Hears on.request)).server;
         sends = sent_behind (bytes_of (step_of hash now so_far.current (Hears on.request)).replies) on.sends;
+        all = so_far.all ∙ ap (λ l. so_far.taken ++ l) on.all ∙ sym (append_assoc so_far.taken on.taken on.rest);
         told = on.told;
         serves = on.serves;
-        behind = λ more end last served.
+        behind = λ further more end last served.
             let said = bytes_of (step_of hash now so_far.current (Hears on.request)).replies in
             let next = (step_of hash now so_far.current (Hears on.request)).server in
-            let there : IsServedBy hash now.code now.slice next on.rest more end last =
-            of_now (λ code slice. IsServedBy hash code slice next on.rest more end last) served in
-            let one : IsServedBy hash now.code now.slice so_far.current so_far.rest (said ++ more) end last =
-            goes_on hash (program_served now) (own_digest now) (turns_of now) so_far.current so_far.rest on.rest on.request on.came on.stays_open more end last there in
-            let Whole : List ℕ → Type 0 = λ sent. IsServedBy hash old.code old.slice server bytes sent end last in
-            subst Whole (sym (append_assoc so_far.out said more))
-            (so_far.behind (said ++ more) end last (of_code (λ code slice. IsServedBy hash code slice so_far.current so_far.rest (said ++ more) end last) one));
+            let there : IsServedBy hash now.code now.slice next on.rest further more end last =
+            of_now (λ code slice. IsServedBy hash code slice next on.rest further more end last) served in
+            let one : IsServedBy hash now.code now.slice so_far.current so_far.rest (on.taken ++ further) (said ++ more) end last =
+            goes_on hash (program_served now) (own_digest now) (turns_of now) so_far.current so_far.rest on.taken on.rest on.request on.all on.came on.stays_open further more end last there in
+            let Whole : List ℕ → List ℕ → Type 0 = λ taken sent. IsServedBy hash old.code old.slice server bytes taken sent end last in
+            subst₂ Whole (sym (append_assoc so_far.taken on.taken further)) (sym (append_assoc so_far.out said more))
+            (so_far.behind (on.taken ++ further) (said ++ more) end last
+            (of_code (λ code slice. IsServedBy hash code slice so_far.current so_far.rest (on.taken ++ further) (said ++ more) end last) one));
       }
         where
           of_now : (P : Code → ℕ → Type 0) → P old.code old.slice → P now.code now.slice
@@ -120,21 +127,31 @@ module _ (hash : Hash) {A G : Type 0} where
               subst OfSlice (sym same.slice) (subst OfCode (sym same.code) is)
 
       -- the connection ends at the next message
-      pub ends_now : (new : ServeCore A G) (end : ConnectionEnd) → Ends hash now new so_far.current sent' sent'' so_far.rest end
-          → Ends hash old new server sent sent'' bytes end
-      ends_now new end ended = record {
+      pub ends_now : (new : ServeCore A G) (left'' : Option (List ℕ)) (end : ConnectionEnd) → Ends hash now new so_far.current sent' sent'' so_far.rest left'' end
+          → Ends hash old new server sent sent'' bytes left'' end
+      ends_now new left'' end ended = record {
+        taken = so_far.taken ++ ended.taken;
         out = so_far.out ++ ended.out;
         behind = ended.behind;
+        takes = (
+          ended.takes.0,
+          so_far.all ∙ ap (λ l. so_far.taken ++ l) ended.takes.1 ∙ sym (append_assoc so_far.taken ended.taken ended.takes.0),
+          ended.takes.2,
+        );
         sends = sent_behind ended.out ended.sends;
-        served = so_far.behind ended.out end ended.behind (of_code (λ code slice. IsServedBy hash code slice so_far.current so_far.rest ended.out end ended.behind) ended.served);
+        served = so_far.behind ended.taken ended.out end ended.behind
+            (of_code (λ code slice. IsServedBy hash code slice so_far.current so_far.rest ended.taken ended.out end ended.behind) ended.served);
         serves = ended.serves;
       }
 
       -- it broke off, and the server heard the end
-      pub breaks_now : (broken ended : ServeCore A G) (end : ConnectionEnd) → IsBroken end → (off : BreaksOff hash now broken so_far.current sent' sent'' so_far.rest)
+      pub breaks_now : (broken ended : ServeCore A G) (left'' : Option (List ℕ)) (end : ConnectionEnd) → IsBroken end
+          → (off : BreaksOff hash now broken so_far.current sent' sent'' so_far.rest left'')
           → Serves hash ended (left_by_end hash (program_served now) (own_digest now) (turns_of now) so_far.current off.heard)
-          → Ends hash old ended server sent sent'' bytes end
-      breaks_now broken ended end is off serves = ends_now ended end (record {
+          → Ends hash old ended server sent sent'' bytes left'' end
+      breaks_now broken ended left'' end is off serves = ends_now ended left'' end (record {
+        taken = off.taken;
+        takes = off.takes;
         out = off.out;
         behind = left_by_end hash (program_served now) (own_digest now) (turns_of now) so_far.current off.heard;
         sends = off.sends;
@@ -143,7 +160,7 @@ module _ (hash : Hash) {A G : Type 0} where
       })
         where
           by : (end : ConnectionEnd) → IsBroken end
-              → IsServedBy hash now.code now.slice so_far.current so_far.rest off.out end (left_by_end hash (program_served now) (own_digest now) (turns_of now) so_far.current off.heard)
+              → IsServedBy hash now.code now.slice so_far.current so_far.rest off.taken off.out end (left_by_end hash (program_served now) (own_digest now) (turns_of now) so_far.current off.heard)
           by Over is = absurd is
-          by LinkFault is = (off.heard, off.broken, refl)
+          by LinkFault is = (off.heard, off.cut, refl)
           by NoMemory is = (off.heard, off.broken, inr (inl refl))

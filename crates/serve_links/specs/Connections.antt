@@ -52,6 +52,13 @@ module _ (hash : Hash) (P : Program) (own : List ℕ) (ending : ℕ → ℕ) whe
     pub go_on : GoOn server heard
     pub part : IsSentPart server heard sent
 
+  -- The link failed when these bytes had been taken from it. The server heard all messages of them, and nothing of a message that
+  -- they end inside of; to the messages before the last all replies were sent, and of the last one's a front.
+  pub record IsCutAt (server : Server) (taken : List ℕ) (heard : List Heard) (sent : List ℕ) : Type 0 where
+    pub came : (heard_in taken ≡ heard) ⊎ (heard_in taken ≡ heard ++ HearsEnd ∷ [])
+    pub go_on : GoOn server heard
+    pub part : IsSentPart server heard sent
+
   -- Memory was wanting for the message behind those that were heard, to which all is replied. It was not behind one that closes
   -- the connection.
   pub record IsWithoutMemory (server : Server) (bytes : List ℕ) (heard : List Heard) (sent : List ℕ) (behind : Server) : Type 0 where
@@ -72,11 +79,12 @@ module _ (hash : Hash) (P : Program) (own : List ℕ) (ending : ℕ → ℕ) whe
   LeavesNoMemory server bytes heard sent behind =
       (behind ≡ server_after hash P own ending server heard) ⊎ (behind ≡ left_by_end server heard) ⊎ IsWithoutMemory server bytes heard sent behind
 
-  -- On a link on which these bytes come a server sent this, and the connection ended so, with a server behind it. Where it is over,
-  -- all was sent. A link fault ends it behind some of the messages, of which the last one's replies may be sent in part, and the
-  -- server hears an end. Where memory was wanting, the same was sent.
-  abbrev pub IsServed : Server → (bytes sent : List ℕ) → ConnectionEnd → (behind : Server) → Type 0
-  IsServed server bytes sent Over behind =
+  -- On a link on which these bytes come a server took a front of them and sent this, and the connection ended so, with a server
+  -- behind it. Where it is over, all was sent. A link fault ends it behind all messages of the bytes that were taken, of which the
+  -- last one's replies may be sent in part, and the server hears an end. Where memory was wanting, some of the messages were heard,
+  -- and the same was sent.
+  abbrev pub IsServed : Server → (bytes taken sent : List ℕ) → ConnectionEnd → (behind : Server) → Type 0
+  IsServed server bytes taken sent Over behind =
       (sent ≡ bytes_sent hash P own ending server bytes) × (behind ≡ (served hash P own ending server (messages request_of bytes)).server)
-  IsServed server bytes sent LinkFault behind = (heard : List Heard) × IsBrokenOff server bytes heard sent × (behind ≡ left_by_end server heard)
-  IsServed server bytes sent NoMemory behind = (heard : List Heard) × IsBrokenOff server bytes heard sent × LeavesNoMemory server bytes heard sent behind
+  IsServed server bytes taken sent LinkFault behind = (heard : List Heard) × IsCutAt server taken heard sent × (behind ≡ left_by_end server heard)
+  IsServed server bytes taken sent NoMemory behind = (heard : List Heard) × IsBrokenOff server bytes heard sent × LeavesNoMemory server bytes heard sent behind

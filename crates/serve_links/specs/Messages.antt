@@ -1,5 +1,5 @@
 -- One message of a connection: what is heard of the link, what is sent, and which server is left.
-use Rattle.std.specs.Prelude.{◌≡◌, ◌⊎◌, ℕ, ◌+◌, ◌<◌, ◌≤◌, Bool, true, false, List, length, take, Option, Some, Result, Ok, Err, ⊤}
+use Rattle.std.specs.Prelude.{◌≡◌, ◌⊎◌, ℕ, ◌+◌, ◌<◌, ◌≤◌, Bool, true, false, List, [], ◌∷◌, ◌++◌, length, take, Option, Some, Result, Ok, Err, ⊤}
 use Rattle.std.specs.Io.KnownBytes.{append_known}
 use Rattle.core_terms.specs.Formats.{Hash}
 use Rattle.lam_outside.specs.Causes.{Rose}
@@ -13,7 +13,7 @@ use Rattle.wire_form.specs.declared.message.WriteStop.TheVariants as write
 use Rattle.serve_core.specs.Serving.{Serves, heard_meant}
 use Rattle.serve_core.specs.declared.server.ServeCore.{ServeCore}
 use Rattle.serve_core.specs.declared.heard.Heard.{Heard}
-use Rattle.serve_links.specs.Connections.{IsBrokenOff, IsServed, bytes_of}
+use Rattle.serve_links.specs.Connections.{IsBrokenOff, IsCutAt, IsServed, bytes_of, heard_in}
 use Rattle.serve_links.specs.Histories.{HasServed, own_digest, program_served, step_of, turns_of}
 use Rattle.serve_links.specs.declared.connection.ConnectionEnd.{ConnectionEnd}
 use Rattle.serve_links.specs.declared.connection.ConnectionEnd.TheVariants.{Over, NoMemory}
@@ -26,17 +26,29 @@ asks (meant.Hears request) = true
 asks meant.HearsBad = false
 asks meant.HearsEnd = false
 
--- Of these bytes a message was read, which is heard so, and what is left is behind it; or no more messages are read, and that is
--- heard so.
-abbrev pub ComesNext : List ℕ → Option (List ℕ) → meant.Heard → Type 0
-ComesNext bytes left' (meant.Hears request) =
-    (rest : List ℕ) × (messages request_of bytes ≡ Then request (messages request_of rest)) × (left' ≡ Some rest)
-ComesNext bytes left' m = (stop : Stop) × (messages request_of bytes ≡ NoMore stop) × (heard_stop stop ≡ m)
+-- of the bytes that come these were taken, and those behind them are left
+abbrev pub Takes : (bytes taken : List ℕ) (left' : Option (List ℕ)) → Type 0
+Takes bytes taken left' = (rest : List ℕ) × (bytes ≡ taken ++ rest) × (left' ≡ Some rest)
 
--- this is heard next, unless the link failed or memory was wanting
+-- the bytes are a message, which is read as this request, whatever stands behind it
+abbrev pub IsReadAs : List ℕ → Request → Type 0
+IsReadAs taken request = (more : List ℕ) → messages request_of (taken ++ more) ≡ Then request (messages request_of more)
+
+-- This is heard of the bytes that were taken: a request, which they are; or that no more messages are read, of all the bytes that
+-- come as of those that were taken.
+abbrev pub IsHeardOf : (bytes taken : List ℕ) → meant.Heard → Type 0
+IsHeardOf bytes taken (meant.Hears request) = IsReadAs taken request
+IsHeardOf bytes taken m = (stop : Stop) × (messages request_of bytes ≡ NoMore stop) × (messages request_of taken ≡ NoMore stop) × (heard_stop stop ≡ m)
+
+-- some of these bytes were taken, and that is heard of them
+abbrev pub ComesNext : List ℕ → Option (List ℕ) → meant.Heard → Type 0
+ComesNext bytes left' m = (taken : List ℕ) × Takes bytes taken left' × IsHeardOf bytes taken m
+
+-- This is heard next. Where the link failed, no message stands whole in the bytes that were taken.
 abbrev pub HearsNext : List ℕ → Option (List ℕ) → Result Heard Halt → Type 0
 HearsNext bytes left' (Ok heard) = ComesNext bytes left' (heard_meant heard)
-HearsNext bytes left' (Err stopped) = ⊤
+HearsNext bytes left' (Err halt.LinkFault) = (taken : List ℕ) × Takes bytes taken left' × (heard_in taken ≡ meant.HearsEnd ∷ [])
+HearsNext bytes left' (Err halt.NoMemory) = (taken : List ℕ) × Takes bytes taken left'
 
 -- the count of the link's faults rose at a link fault, and nowhere else
 abbrev pub HaltCause : {T : Type 0} → ℕ → ℕ → Result T Halt → Type 0
@@ -85,32 +97,39 @@ module _ (hash : Hash) {A G : Type 0} (old new : ServeCore A G) (server : Server
   -- a request was heard of these bytes and answered, the connection goes on, and these bytes are left
   pub record GoesOn (bytes : List ℕ) (left' : Option (List ℕ)) : Type 0 where
     pub request : Request
+    pub taken : List ℕ
     pub rest : List ℕ
-    pub came : messages request_of bytes ≡ Then request (messages request_of rest)
+    pub all : bytes ≡ taken ++ rest
+    pub came : IsReadAs taken request
     pub told : left' ≡ Some rest
     pub stays_open : (step_of hash old server (meant.Hears request)).closing ≡ false
     pub sends : sent' ≡ append_known sent (bytes_of (step_of hash old server (meant.Hears request)).replies)
     pub serves : Serves hash new (step_of hash old server (meant.Hears request)).server
 
-  -- the connection on which these bytes come has ended
-  pub record Ends (bytes : List ℕ) (end : ConnectionEnd) : Type 0 where
+  -- the connection on which these bytes come has ended, when some of them were taken
+  pub record Ends (bytes : List ℕ) (left' : Option (List ℕ)) (end : ConnectionEnd) : Type 0 where
+    pub taken : List ℕ
     pub out : List ℕ
     pub behind : Server
+    pub takes : Takes bytes taken left'
     pub sends : sent' ≡ append_known sent out
-    pub served : IsServed hash (program_served old) (own_digest old) (turns_of old) server bytes out end behind
+    pub served : IsServed hash (program_served old) (own_digest old) (turns_of old) server bytes taken out end behind
     pub serves : Serves hash new behind
 
   -- it broke off at a link fault, and the end is still to be heard
-  pub record BreaksOff (bytes : List ℕ) : Type 0 where
+  pub record BreaksOff (bytes : List ℕ) (left' : Option (List ℕ)) : Type 0 where
     pub heard : List meant.Heard
+    pub taken : List ℕ
     pub out : List ℕ
+    pub takes : Takes bytes taken left'
     pub sends : sent' ≡ append_known sent out
+    pub cut : IsCutAt hash (program_served old) (own_digest old) (turns_of old) server taken heard out
     pub broken : IsBrokenOff hash (program_served old) (own_digest old) (turns_of old) server bytes heard out
     pub serves : Serves hash new (server_after hash (program_served old) (own_digest old) (turns_of old) server heard)
 
   -- A message of the connection was served: it goes on, or not.
   abbrev pub ServesMessage : List ℕ → Option (List ℕ) → Result Bool Halt → Type 0
   ServesMessage bytes left' (Ok true) = GoesOn bytes left'
-  ServesMessage bytes left' (Ok false) = Ends bytes Over
-  ServesMessage bytes left' (Err halt.LinkFault) = BreaksOff bytes
-  ServesMessage bytes left' (Err halt.NoMemory) = Ends bytes NoMemory
+  ServesMessage bytes left' (Ok false) = Ends bytes left' Over
+  ServesMessage bytes left' (Err halt.LinkFault) = BreaksOff bytes left'
+  ServesMessage bytes left' (Err halt.NoMemory) = Ends bytes left' NoMemory

@@ -30,7 +30,7 @@ is_fault connection.NoMemory = false
 module _ (hash : Hash) (P : Program) (own : List ℕ) (ending : ℕ → ℕ) where
   -- this link was served, and ended so
   abbrev pub IsServedOn : Server → Linked → ConnectionEnd → (behind : Server) → Type 0
-  IsServedOn server link end behind = IsServed hash P own ending server (bytes_on link) link.sent end behind
+  IsServedOn server link end behind = IsServed hash P own ending server (bytes_on link) link.given link.sent end behind
 
   -- a link was served without want of memory
   pub record IsLinkServed (server : Server) (link : Linked) (faulted : Bool) (behind : Server) : Type 0 where

@@ -31,9 +31,9 @@ pub enum ConnectionEnd {
 /// Serves a link until the server closes the connection or the input ends. The server closes it at the latest behind 1,000,000
 /// messages, so it ends whatever comes.
 ///
-/// What is sent is what the server replies to the messages of the bytes that come. At a link fault the server hears an end, so
-/// that its sessions are ended; of the replies to the last message a front may have been sent. Where memory was wanting the core
-/// is still a server, and the same may have been sent.
+/// What is sent is what the server replies to the messages of the bytes that come. At a link fault the server heard all messages
+/// of the bytes that it took from the link, and of the replies to the last one a front may have been sent; it then hears an end, so
+/// that its sessions are ended. Where memory was wanting the core is still a server, and it heard some of the messages.
 pub fn serve_link<H: Hash32, G: Gate + Drop, L: Link, R: Threads + Sync>(
     rt: &R,
     alloc: Global,
@@ -42,7 +42,7 @@ pub fn serve_link<H: Hash32, G: Gate + Drop, L: Link, R: Threads + Sync>(
 ) -> ConnectionEnd
     requires { HasServed H.hash core.old }
     ensures served { ForSome (L.left link.old) (λ bytes. (server : Server) → Serves H.hash core.old server
-        → Ends H.hash core.old core.new server (L.sent link.old) (L.sent link.new) bytes result) }
+        → Ends H.hash core.old core.new server (L.sent link.old) (L.sent link.new) bytes (L.left link.new) result) }
     ensures history { StaysServer H.hash core.new result }
     ensures code { HasSameCode core.old core.new }
     ensures moves { Moves (L.given link.old) (L.left link.old) (L.given link.new) (L.left link.new) }

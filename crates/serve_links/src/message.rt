@@ -18,7 +18,7 @@ use std::alloc::Global;
 use std::thread::Threads;
 use wire_form::{ReadStop, read_request};
 
-/// What the server hears next on a link.
+/// What the server hears next on a link. Where the link fails, no message stands whole in the bytes that were taken.
 fn next_heard<L: Link>(alloc: Global, link: &mut L) -> Result<Heard, Halt>
     ensures hears { ForSome (L.left link.old) (λ bytes. HearsNext bytes (L.left link.new) result) }
     ensures message { IfOk result (λ heard. IsHeard (heard_meant heard)) }

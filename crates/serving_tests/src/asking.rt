@@ -114,17 +114,29 @@ fn other_replies_end_the_play(rt: HostRuntime) -> Result<(), Fail> {
     Ok(())
 }
 
-/// Whether a play of which a call of the net failed ended as it has to: one line where it couldn't dial, and nothing was stored; else whole
-/// lines, that of the fault, and the state was stored.
+/// The line of a link that failed.
+const FAULT: &[u8] = b"link fault\n";
+
+/// Whether a play of which a call of the net failed ended as it has to: one line where it couldn't dial, and nothing was stored; else the
+/// first lines of a play that doesn't fail, that of the fault, and the state was stored.
 fn is_faulted(run: &Run, call: u64) -> bool {
     let text = run.text.as_slice();
     if call == 0 {
         return run.only_tells(8, "link fault\n");
     }
     run.status == 8
-        && text.ends_with(b"link fault\n")
+        && text.ends_with(FAULT)
+        && is_front(text.get(..text.len().saturating_sub(FAULT.len())))
         && run.stored == 1
         && run.file.as_slice() == STATE.as_slice()
+}
+
+/// Whether these are some first lines of those that are told where nothing fails.
+fn is_front(lines: Option<&[u8]>) -> bool {
+    let Some(lines) = lines else {
+        return false;
+    };
+    WHOLE.as_bytes().starts_with(lines) && (lines.is_empty() || lines.ends_with(b"\n"))
 }
 
 /// The number of calls of the net: of the first that may fail and nothing is told of it.

@@ -1,5 +1,5 @@
 -- Lists that stand in a relation, one by one.
-use Rattle.std.proofs.Common.{◌≡◌, ℕ, zero, suc, ◌<◌, List, [], ◌∷◌, ◌++◌, length, drop, get_or, Result, Ok, Err, IfOk, OnErr, refl, ap, arith}
+use Rattle.std.proofs.Common.{◌≡◌, ℕ, zero, suc, ◌<◌, List, [], ◌∷◌, ◌++◌, length, drop, get_or, Result, Ok, Err, OnErr, refl, ap, arith}
 use Rattle.session_turns.specs.Rows.{AreAlike}
 
 module _ {A B : Type 0} where
@@ -39,12 +39,7 @@ module _ {A B : Type 0} where
   alike_at R zero (a ∷ xs) (b ∷ ys) d h l = record { other = b; alike = h.0; is = refl }
   alike_at R (suc i) (a ∷ xs) (b ∷ ys) d h l = let at = alike_at R i xs ys d h.1 (omega arith) in record { other = at.other; alike = at.alike; is = at.is }
 
--- what holds of a result holds of what follows from it
-pub if_ok : {A E : Type 0} (P Q : A → Type 0) → ((a : A) → P a → Q a) → (r : Result A E) → IfOk r P → IfOk r Q
-if_ok P Q f (Ok a) h = f a h
-if_ok P Q f (Err e) h = h
-
--- and so of a failure
+-- what holds of a failure holds of what follows from it
 pub if_err : {A E : Type 0} (r : Result A E) (X Y : Type 0) → (X → Y) → OnErr r X → OnErr r Y
 if_err (Ok a) X Y f h = tt
 if_err (Err e) X Y f h = f h

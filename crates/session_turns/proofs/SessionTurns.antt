@@ -1,5 +1,6 @@
 -- Turns of one session.
 use Rattle.std.proofs.Common.{◌≡◌, ℕ, suc, ◌<◌, ◌+◌, ◌*◌, List, [], ◌∷◌, ◌++◌, length, refl, sym, ap, ◌∙◌, subst, arith, length-append}
+use Rattle.std.proofs.lemmas.Result.{IfOk-weaker}
 use Rattle.std.proofs.Common.{Option, Some, None, Ok, IfOk, Bool, true, false, not, is_some, nat_eq, nat_le}
 use Rattle.core_terms.specs.Formats.{Hash}
 use Rattle.core_terms.specs.Terms.{Program}
@@ -21,7 +22,6 @@ use Rattle.value_store.specs.Nodes.{Node}
 use Rattle.value_store.specs.Standing.{Grows}
 use Rattle.value_store.specs.Stores.{nodes_in}
 use Rattle.value_store.specs.declared.node.Ref.{Ref}
-use Rattle.session_turns.proofs.Rows.{if_ok}
 use Rattle.session_turns.proofs.Turns.{running_stays}
 use Rattle.wire_form.specs.declared.message.Reply.TheVariants as reply
 use Rattle.session_turns.specs.Ahead.{IsAhead, RunsAhead}
@@ -138,7 +138,7 @@ module _ (hash : Hash) (code : Code) (slice : ℕ) {A : Type 0} (old new : List 
     where
       by : (c : Option (SessionCall A)) (r : Option meant.Running) → RunsAhead hash code slice old state_then c r → RunsAhead hash code slice new state_then c r
       by None None i = tt
-      by (Some c) (Some r) i = if_ok _ _ (λ told j. (run_stays c r.call (r.turns * slice + slice) j.0, j.1)) c.run.last i
+      by (Some c) (Some r) i = IfOk-weaker c.run.last _ _ (λ told j. (run_stays c r.call (r.turns * slice + slice) j.0, j.1)) i
       by None (Some r) i = elim i [ ]
       by (Some c) None i = elim i [ ]
 

@@ -1,5 +1,6 @@
 -- Rows of sessions as their turns are taken, each by itself.
 use Rattle.std.proofs.Common.{◌≡◌, ℕ, ◌*◌, ◌<◌, List, [], ◌∷◌, ◌++◌, length, take, drop, Option, Some, None, refl, sym, ap, ◌∙◌, subst, append-nil}
+use Rattle.std.proofs.lemmas.Result.{IfOk-weaker}
 use Rattle.std.proofs.Math.Seq.{take-length}
 use Rattle.std.proofs.lemmas.List.{take-append-drop}
 use Rattle.core_terms.specs.Formats.{Hash}
@@ -21,7 +22,7 @@ use Rattle.session_turns.specs.Turning.{AllGoOn, AllTurned, CallRunsTo, GoesOn, 
 use Rattle.session_turns.specs.declared.session.Session.{Session}
 use Rattle.session_turns.specs.declared.session.SessionCall.{SessionCall}
 use Rattle.session_turns.specs.declared.shared.Shared.{Shared}
-use Rattle.session_turns.proofs.Rows.{alike_more, if_ok}
+use Rattle.session_turns.proofs.Rows.{alike_more}
 use Rattle.session_turns.proofs.Turns.{same_turn}
 
 module _ (hash : Hash) (code : Code) (base : List Node) {A : Type 0} where
@@ -68,7 +69,7 @@ module _ (hash : Hash) (code : Code) (slice : ℕ) {A : Type 0} (shared : Shared
     run_ahead state (Some c) (Some d) (Some r) h t =
         let P = program_of code in
         let turned = t.0 (role_in P r.call.role).function (call_of state r.call.argument) r.call.fuel (r.turns * slice) h.0.0 in
-        if_ok _ _ (λ told e. ((turned.0, subst (λ k. IsCommit k r.call) (sym t.1) h.0.1), e ∙ same_turn slice (calls_of P state r.call) r.turns some)) d.run.last turned.1
+        IfOk-weaker d.run.last _ _ (λ told e. ((turned.0, subst (λ k. IsCommit k r.call) (sym t.1) h.0.1), e ∙ same_turn slice (calls_of P state r.call) r.turns some)) turned.1
     run_ahead state (Some c) None r h t = elim t [ ]
     run_ahead state None (Some d) r h t = elim t [ ]
     run_ahead state None None (Some r) h t = elim h [ ]

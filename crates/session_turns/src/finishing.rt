@@ -1,11 +1,10 @@
 // The end of a call that has run.
-ghost use Rattle.std.specs.Prelude.{◌≡◌, ℕ, ◌<◌, ◌≤◌, ◌+◌, ◌++◌, List, length, take, Ok, Some, IfOk, IfSome};
+ghost use Rattle.std.specs.Prelude.{◌≡◌, ℕ, ◌<◌, ◌≤◌, ◌+◌, ◌++◌, length, take, Ok, Some, IfOk, IfSome};
 ghost use Rattle.core_terms.specs.declared.outcome.Outcome.{Outcome};
 ghost use Rattle.core_terms.specs.Formats.{Hash};
 ghost use Rattle.core_terms.specs.Projection.{digest_at};
 ghost use Rattle.core_terms.specs.Terms.{function_at};
-ghost use Rattle.core_terms.specs.Types.{PairTy, Table, Ty};
-ghost use Rattle.core_terms.specs.Values.{PairV, Value};
+ghost use Rattle.core_terms.specs.Values.{Value};
 ghost use Rattle.ideal_meaning.specs.Frames.{frame_bytes};
 ghost use Rattle.ideal_meaning.specs.Following.{after_frames};
 ghost use Rattle.ideal_meaning.specs.Headline.{call_of};
@@ -18,7 +17,7 @@ ghost use Rattle.session_meaning.specs.Calls.{RoleCall, frames_of, new_state, ou
 ghost use Rattle.session_meaning.specs.Server as meant;
 ghost use Rattle.value_store.specs.Nodes.{AreSound};
 ghost use Rattle.value_store.specs.Overs.{own_nodes};
-ghost use Rattle.value_store.specs.Standing.{Kind, ProverNodes, StandsFor};
+ghost use Rattle.value_store.specs.Standing.{ProverNodes};
 ghost use Rattle.value_store.specs.Stores.{nodes_in};
 ghost use Rattle.value_store.specs.declared.node.Ref.{Ref};
 ghost use Rattle.session_turns.specs.Settling.{IsMade};
@@ -30,7 +29,7 @@ use code_gen::Code;
 use core_terms::{Hash32, Outcome, RoleId, RoleKind};
 use reuse_buffer::Ring;
 use std::alloc::{AllocError, Global};
-use value_store::{Nodes, Over, Ref, Store, View};
+use value_store::{Nodes, Over, Ref, Store, first_component};
 
 /// A call that has run, with its proof.
 #[derive(Drop)]
@@ -40,18 +39,6 @@ pub struct Finished {
     /// The ring behind them.
     pub ring: Ring,
     pub ended: RunEnd,
-}
-
-/// The node of the first component of a pair.
-fn first_component<N: Nodes>(store: &N, pair: Ref) -> Ref
-    requires { (kind : Kind) × (types : Table) × (a : Ty) × (b : Ty) × (v : Value) × StandsFor kind types (N.nodes store.now) pair.0 (PairTy a b) v }
-    ensures { (kind : Kind) (types : Table) (a b : Ty) (x y : Value) → StandsFor kind types (N.nodes store.now) pair.0 (PairTy a b) (PairV x y)
-        → StandsFor kind types (N.nodes store.now) result.0 a x }
-{
-    match store.view(pair) {
-        View::Pair(first, _) => first,
-        _ => unreachable!(),
-    }
 }
 
 /// The node of the state that a run of a role made; none where it made none.
@@ -79,8 +66,14 @@ impl<H: Hash32> Running<H> {
     ghost use Rattle.session_turns.specs.Running.{IsRunning};
     ghost use Rattle.session_turns.specs.Settling.{EndsSo};
 
-    /// The end of a call that has run in a session on this version, whose ring is lent for its proof. Where memory is wanting the ring is
-    /// dropped.
+    /// The end of a call that has run in a session on this version, whose ring is lent for its proof.
+    ///
+    /// The frames of the proof are made whole here, however long they are; that they have at most 16,777,213 bytes is judged behind it, by
+    /// [`Shared::settle`](crate::Shared::settle). So a proof that is too long takes memory for all of its frames.
+    ///
+    /// # Errors
+    ///
+    /// `AllocError` where there is no memory for the frames. The ring is dropped then.
     pub fn finish(
         self,
         alloc: Global,

@@ -54,7 +54,12 @@ impl Shared {
     ghost use Rattle.session_turns.specs.Settling.{EndsSo, IsSettled};
 
     /// Settles the end of a run. Of a state that it made, where its version is the last one, a version is made, and the call is
-    /// committed. Where memory is wanting the versions and the commits stay, though nodes may have been put behind.
+    /// committed. `TooLong` where its frames have more than 16,777,213 bytes: they were made whole before, and whoever holds them drops them.
+    ///
+    /// # Errors
+    ///
+    /// `AllocError` where there is no memory for the version or for the spelling of the last one. The versions and the commits stay then,
+    /// though nodes may have been put behind.
     pub fn settle<H: Hash32>(
         &mut self,
         alloc: Global,

@@ -31,7 +31,7 @@ pub struct Shared {
 impl Shared {
     ghost use Rattle.session_turns.specs.Sharing.{IsCommit, Shares};
 
-    /// With this version alone.
+    /// With this version alone. `AllocError` where there is no memory for the list of versions.
     pub fn new(alloc: Global, store: Store, first: Ref) -> Result<Shared, AllocError>
         ensures { IfOk result (λ shared. (hash : Hash) (P : Program) (v : Value) → IsVersion hash P (nodes_in store) first v
             → Shares hash P shared (meant.new_server v).shared) }
@@ -75,7 +75,12 @@ impl Shared {
         &self.commits
     }
 
-    /// The number of the newest version with this spelling, if one has it.
+    /// The number of the newest version with this spelling, if one has it. The versions of spellings of this length are spelled one after
+    /// another, from the last one back to the first that is equal.
+    ///
+    /// # Errors
+    ///
+    /// `AllocError` where there is no memory for the spelling of a version.
     pub fn newest<H: Hash32>(
         &self,
         alloc: Global,
@@ -89,14 +94,13 @@ impl Shared {
         newest_version::<H>(alloc, code, &self.store, &self.versions, state)
     }
 
-    /// The spelling of the last version.
+    /// The spelling of the last version. `AllocError` where there is no memory for it.
     pub fn last_spelling<H: Hash32>(
         &self,
         alloc: Global,
         code: &Code,
     ) -> Result<Spelling, AllocError>
-        requires shares { (shared : meant.Shared) × Shares H.hash (program_of code.now) self.now shared }
-        requires some { 0 < length self.now.versions.items }
+        requires { (shared : meant.Shared) × Shares H.hash (program_of code.now) self.now shared }
         ensures { let P = program_of code.now in IfOk result (λ spelled. (shared : meant.Shared) → Shares H.hash P self.now shared
             → spelled ≡ meant.last_spelling H.hash P shared.versions) }
     {

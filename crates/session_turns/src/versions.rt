@@ -12,7 +12,7 @@ use shallow_codec::spell;
 use std::alloc::{AllocError, Global};
 use value_store::{Nodes, Ref, Store};
 
-/// The spelling of a version: that of its projection, which a client holds.
+/// The spelling of a version: that of its projection, which a client holds. `AllocError` where there is no memory for it.
 pub(crate) fn version_spelling<H: Hash32>(
     alloc: Global,
     code: &Code,
@@ -27,7 +27,7 @@ pub(crate) fn version_spelling<H: Hash32>(
     spell(alloc, code.types(), store, version, ty)
 }
 
-/// Whether a version has this spelling.
+/// Whether a version has this spelling. Where it has as many bytes, it is made and compared; `AllocError` where there is no memory for it.
 fn has_spelling<H: Hash32>(
     alloc: Global,
     code: &Code,
@@ -48,6 +48,14 @@ fn has_spelling<H: Hash32>(
 }
 
 /// The number of the newest version with this spelling, if one has it.
+///
+/// The versions are gone through from the last one back, to the first that is equal. Each whose spelling has this length is spelled anew
+/// and compared, and one such spelling is held at a time. So a greeting costs at most 4,096 spellings of 65,536 bytes each, 256 MiB, where
+/// no version is equal.
+///
+/// # Errors
+///
+/// `AllocError` where there is no memory for the spelling of a version.
 pub(crate) fn newest_version<H: Hash32>(
     alloc: Global,
     code: &Code,

@@ -1,4 +1,4 @@
-// Values that are spelled by nothing.
+// Pairs that are spelled by nothing.
 ghost use Rattle.std.specs.Prelude.{◌≡◌, ◌<◌, ℕ, None, Some, List, length, IfOk, OnOk};
 ghost use Rattle.core_terms.specs.Types.{Ty, Table};
 ghost use Rattle.core_terms.specs.TypeTables.{type_at};
@@ -11,8 +11,9 @@ use std::alloc::{AllocError, Global};
 use std::collections::HashMap;
 use value_store::{Nodes, Ref};
 
-/// The values that are spelled by nothing and were put so far, by the numbers of their types. A type has at most one such value, so each
-/// is put once, however often it is a part.
+/// The pairs that are spelled by nothing and were put so far, by the numbers of their types. A type has at most one such value, so each
+/// is put once, however often it is a part. A unit, the one other value that is spelled by nothing, isn't kept here: it is one node, and is
+/// put where it is read.
 #[derive(Drop)]
 pub(crate) struct Nothings {
     refs: HashMap<usize, Ref>,
@@ -37,7 +38,7 @@ impl Nothings {
         self.refs.get(&ty.0).copied()
     }
 
-    /// Keeps a value of a type if it is spelled by nothing.
+    /// Keeps a value of a type if it is spelled by nothing. `AllocError` where there is no memory to keep it.
     pub fn note<N: Nodes>(&mut self, store: &N, ty: TyId, value: Ref) -> Result<(), AllocError>
         requires { value.0 < length (N.nodes store.now) }
         ensures kept { OnOk result (size_at (N.nodes store.now) value.0 ≡ 0 → known self.new ty.0 ≡ Some value) }

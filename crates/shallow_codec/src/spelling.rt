@@ -17,6 +17,10 @@ use value_store::{Held, Nodes, Ref, View};
 /// The spelling of the shallow value of a type that the node stands for, in memory of its own: each of its authenticated parts carries a
 /// digest, and what else it holds is not looked at. So of a prover's node it is the spelling of the value's projection. Takes time in
 /// proportion to the parts whose spelling has a byte.
+///
+/// # Errors
+///
+/// `AllocError` where there is no memory for the spelling.
 pub fn spell<N: Nodes>(
     alloc: Global,
     types: &Types,
@@ -63,7 +67,7 @@ fn write<N: Nodes>(store: &N, r: Ref, bytes: &mut Vec<u8>) -> Result<(), AllocEr
             Ok(())
         }
         View::Auth(Held::Both(digest, _) | Held::Only(digest)) => {
-            bytes.extend_from_slice(&digest.0)
+            bytes.extend_from_slice(digest.as_bytes())
         }
         View::Auth(Held::Inner(_)) => unreachable!(),
     }

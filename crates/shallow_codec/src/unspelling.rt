@@ -17,8 +17,9 @@ use value_store::{Nodes, Ref};
 /// The greatest number of levels of a value: `depth_limit` of the formats.
 const DEPTH_LIMIT: u32 = 512;
 
-/// Puts the value that the bytes spell at a type into the store. Each digest becomes a verifier's node, and a value that is spelled by
-/// nothing is put once for each type, however often it is a part. After an error the store is as it was.
+/// Puts the value that the bytes spell at a type into the store. Each digest becomes a verifier's node. A pair that is spelled by
+/// nothing is put once for its type, however often it is a part; each unit that isn't in such a pair is a node of its own. After an error
+/// the store is as it was.
 ///
 /// # Errors
 ///

@@ -1,8 +1,7 @@
 // The frames of a proof, one at a time.
 ghost use Rattle.std.specs.Prelude.{◌<◌};
 
-use crate::sources::{Endless, bytes};
-use lam_outside::{Bytes, MemLink, Source};
+use lam_outside::{Bytes, Endless, MemLink, Source};
 use proof_stream::{Frame, FrameEnd, FrameReader, HeadEnd, put_header, put_new, put_use};
 use reuse_buffer::Ring;
 use std::alloc::{AllocError, Global};
@@ -69,7 +68,7 @@ fn misread(alloc: Global, most: usize) -> Result<Option<usize>, AllocError>
 {
     for (number, (frame, want, piece)) in FRAMES.iter().enumerate() {
         let coming = with_two(alloc, frame)?;
-        let mut source = bytes(alloc, &coming, most, &[])?;
+        let mut source = MemLink::from_bytes(alloc, &coming, most, &[])?;
         if !is_next(alloc, &mut source, *want, piece, 2) {
             return Ok(Some(number));
         }
@@ -92,7 +91,7 @@ fn miscut(alloc: Global, frame: &[u8], most: usize) -> Result<Option<usize>, All
     requires { 0 < most }
 {
     for count in 0..frame.len() {
-        let mut source = bytes(alloc, &frame[..count], most, &[])?;
+        let mut source = MemLink::from_bytes(alloc, &frame[..count], most, &[])?;
         let end = if count == 0 {
             FrameEnd::End
         } else {
@@ -131,7 +130,7 @@ fn each_frame_is_cut_at_each_byte(rt: HostRuntime) -> Result<(), Fail> {
 fn each_read_of_a_frame_fails_in_turn(rt: HostRuntime) -> Result<(), Fail> {
     let alloc = rt.alloc();
     for (call, left) in [(0, 8), (1, 7), (2, 5), (3, 3), (4, 1)] {
-        let mut source = bytes(alloc, b"\x00\x00\x00\x00\x03abc", 2, &[call])?;
+        let mut source = MemLink::from_bytes(alloc, b"\x00\x00\x00\x00\x03abc", 2, &[call])?;
         assert!(rt; is_next(alloc, &mut source, Err(FrameEnd::ReadFault), &[], left));
     }
     Ok(())
@@ -140,9 +139,9 @@ fn each_read_of_a_frame_fails_in_turn(rt: HostRuntime) -> Result<(), Fail> {
 #[test]
 fn a_length_is_judged_before_the_piece_comes(rt: HostRuntime) -> Result<(), Fail> {
     let alloc = rt.alloc();
-    let mut source = bytes(alloc, b"\x00\x00\x01\x00\x00abc", 7, &[])?;
+    let mut source = MemLink::from_bytes(alloc, b"\x00\x00\x01\x00\x00abc", 7, &[])?;
     assert!(rt; is_next(alloc, &mut source, Err(FrameEnd::Cut), &[], 0));
-    let mut source = bytes(alloc, b"\x00\x00\x01\x00\x01abc", 7, &[])?;
+    let mut source = MemLink::from_bytes(alloc, b"\x00\x00\x01\x00\x01abc", 7, &[])?;
     assert!(rt; is_next(alloc, &mut source, Err(FrameEnd::PieceLong(65_537)), &[], 3));
     Ok(())
 }
@@ -165,14 +164,14 @@ fn headers_are_taken(rt: HostRuntime) -> Result<(), Fail> {
     let alloc = rt.alloc();
     for (number, (head, most_kept, want)) in HEADERS.iter().enumerate() {
         for most in [1, 2, 3, 7] {
-            let mut source = bytes(alloc, head, most, &[])?;
+            let mut source = MemLink::from_bytes(alloc, head, most, &[])?;
             let mut reader = FrameReader::new(alloc, LIMIT);
             if reader.header(&mut source, MAGIC, *most_kept) != *want {
                 return Err(Fail::new(format_args!("header {number}, by {most}")));
             }
         }
     }
-    let mut source = bytes(alloc, b"LAP1\x00\x00", 4, &[1])?;
+    let mut source = MemLink::from_bytes(alloc, b"LAP1\x00\x00", 4, &[1])?;
     let mut reader = FrameReader::new(alloc, LIMIT);
     assert!(rt; reader.header(&mut source, MAGIC, 0) == Err(HeadEnd::ReadFault));
     assert!(rt; source.left() == 2);
@@ -275,13 +274,13 @@ fn what_is_left_is_counted(rt: HostRuntime) -> Result<(), Fail> {
     let alloc = rt.alloc();
     for count in [0, 1, 4096, 4097, 65_535, 65_536, 65_537] {
         let coming = Vec::from_elem(alloc, 7, count)?;
-        let mut source = bytes(alloc, &coming, 4096, &[])?;
+        let mut source = MemLink::from_bytes(alloc, &coming, 4096, &[])?;
         let mut reader = FrameReader::new(alloc, LIMIT);
         let told = reader.count_rest(&mut source);
         let want = count.min(65_536);
         assert!(rt; told.is_ok_and(|told| told as usize == want) && source.left() == count - want);
     }
-    let mut source = bytes(alloc, b"abcd", 2, &[1])?;
+    let mut source = MemLink::from_bytes(alloc, b"abcd", 2, &[1])?;
     let mut reader = FrameReader::new(alloc, LIMIT);
     assert!(rt; reader.count_rest(&mut source).is_err());
     Ok(())

@@ -5,5 +5,3 @@
 mod frames;
 #[cfg(test)]
 mod rings;
-#[cfg(test)]
-mod sources;

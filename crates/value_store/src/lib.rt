@@ -10,6 +10,7 @@ pub mod marker;
 pub mod node;
 pub mod nodes;
 pub mod over;
+pub mod parts;
 pub mod store;
 pub mod view;
 
@@ -17,5 +18,6 @@ pub use marker::Marker;
 pub use node::{Held, Ref};
 pub use nodes::Nodes;
 pub use over::{Over, Own};
+pub use parts::{first_component, inner_of};
 pub use store::{Mark, Store};
 pub use view::View;

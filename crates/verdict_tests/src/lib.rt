@@ -2,6 +2,4 @@
 #![tactic(auto)]
 
 #[cfg(test)]
-mod sources;
-#[cfg(test)]
 mod verdicts;

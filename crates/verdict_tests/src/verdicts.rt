@@ -3,7 +3,6 @@ ghost use Rattle.std.specs.Prelude.{◌<◌, ◌≤◌, ◌^◌, length, IfSome}
 ghost use Rattle.core_terms.specs.Programs.{meaning};
 ghost use Rattle.mode_vm.specs.StateCalls.{TakesState};
 
-use crate::sources::{Endless, bytes};
 use auth_syntax::parser::parse;
 use auth_types::check::check;
 use code_gen::Code;
@@ -11,7 +10,7 @@ use core_terms::{
     Cause, Digest, FunctionId, Hash32, Outcome, Program, RoleId, RoleKind, Spelling, Trap,
 };
 use digest_layer::Sha;
-use lam_outside::{Bytes, MemLink};
+use lam_outside::{Bytes, Endless, MemLink};
 use proof_stream::{put_new, put_use};
 use reuse_buffer::Ring;
 use std::alloc::{AllocError, Global};
@@ -243,7 +242,7 @@ fn judged(
     let Some(role) = reading(code.program(), role) else {
         return Err(AllocError);
     };
-    let mut source = bytes(alloc, proof, most, &[])?;
+    let mut source = MemLink::from_bytes(alloc, proof, most, &[])?;
     Ok(verify::<Sha, MemLink>(alloc, code, role, state, b"", fuel.min(100), &mut source))
 }
 

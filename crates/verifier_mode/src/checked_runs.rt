@@ -24,8 +24,13 @@ use reuse_buffer::Ring;
 use std::alloc::Global;
 use value_store::{Nodes, Ref};
 
-/// Calls a function on values of the store, as a verifier over the frames of a source whose ring holds what came before. It gives the
-/// outcome, and the ring as the run left it.
+/// Calls a function on values of the store, as a verifier over the frames of a source whose ring holds what came before, with at most
+/// 10^12 units of fuel. It gives the outcome, and the ring as the run left it.
+///
+/// # Errors
+///
+/// `Mode` where the verifier stops the run: with the cause of the rejection, or with `ReadFault` where the source failed and its count of
+/// faults rose. `NoMemory` where there is no memory for the machine, a piece or a node. The ring is dropped then.
 pub fn checked_run<H: Hash32, S: Source, N: Nodes>(
     alloc: Global,
     code: &Code,
@@ -51,11 +56,7 @@ pub fn checked_run<H: Hash32, S: Source, N: Nodes>(
 {
     let limit = code.types().spelling_limit();
     let verifier = Verifier::<H, S>::new(alloc, limit, ring);
-    let Ok(mut machine) = Machine::start(code, function, args, fuel, verifier, alloc) else {
-        return Err(Stop::NoMemory);
-    };
-    match machine.run(code, store, source) {
-        Ok(outcome) => Ok((outcome, machine.into_mode().into_ring())),
-        Err(stop) => Err(stop),
-    }
+    let mut machine = Machine::start(code, function, args, fuel, verifier, alloc)?;
+    let outcome = machine.run(code, store, source)?;
+    Ok((outcome, machine.into_mode().into_ring()))
 }

@@ -33,12 +33,14 @@ use std::alloc::{AllocError, Global};
 use value_store::{Ref, Store};
 
 /// Judges a call of a query or an update with this much fuel (at most 10^12), from the spellings of its state and its argument and the
-/// bytes of a proof file, which may ask for as many pieces to be kept as the program's format allows. The proof is read as it is needed,
-/// and no more of it is held than a piece and the pieces kept.
+/// bytes of a proof file, which may ask for as many pieces to be kept as the program's format allows. The proof is read as it is needed:
+/// of it the piece in hand is held, the last new one and the pieces kept, and the nodes of all that was read, until the call is judged.
+///
+/// # Errors
 ///
 /// The order is: the state, the argument, the header of the proof, the run, the bytes left behind it. `BadState` and `BadArgument`
 /// name the offset of the first fault, and `Rejected` the cause with each of its fields. `ReadFault` comes where the source failed,
-/// and its count of faults rose.
+/// and its count of faults rose. `NoMemory` comes where there is no memory for a piece, the ring, the run or the outcome's spelling.
 pub fn verify<H: Hash32, S: Source>(
     alloc: Global,
     code: &Code,
@@ -68,7 +70,9 @@ pub fn verify<H: Hash32, S: Source>(
 /// Judges a call as [`verify`] does, from the frames of a proof without its header, with a ring that holds the last of the new pieces
 /// that came before. It gives the ring back, which holds the last of them and of the new pieces of this proof.
 ///
-/// A verdict other than an outcome drops the ring.
+/// # Errors
+///
+/// Those of [`verify`], but that no header is judged. A verdict other than an outcome drops the ring.
 pub fn verify_on<H: Hash32, S: Source>(
     alloc: Global,
     code: &Code,
@@ -100,7 +104,7 @@ pub fn verify_on<H: Hash32, S: Source>(
 }
 
 /// The type of the argument of a query or an update, whose parameters are the state and the argument.
-fn argument_of(program: &Program, role: FunctionId) -> TyId
+pub fn argument_of(program: &Program, role: FunctionId) -> TyId
     requires there { role.0 < length (meaning program.now).functions }
     requires role { TakesState (meaning program.now) role.0 }
     ensures { type_at (types_of program.now) result ≡ argument_type (meaning program.now) role.0 }

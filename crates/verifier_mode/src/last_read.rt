@@ -1,4 +1,4 @@
-// The piece that was read last.
+// The last new piece that was read.
 ghost use Rattle.std.specs.Prelude.{List, IfSome};
 ghost use Rattle.core_terms.specs.declared.program_types.Types.{Types as Typed};
 ghost use Rattle.value_store.specs.Nodes.{Node};
@@ -8,7 +8,7 @@ use core_terms::TyId;
 use std::alloc::Global;
 use value_store::Ref;
 
-/// The piece that was read last: where it comes again, its value stands among the nodes already.
+/// The last new piece that was read, at a type: where it comes again at this type, its value stands among the nodes already.
 #[derive(Drop)]
 pub struct LastRead {
     pub(crate) ty: TyId,
@@ -16,7 +16,7 @@ pub struct LastRead {
     pub(crate) value: Ref,
 }
 
-/// The value of a piece at a type, where it is the one that was read last.
+/// The value of a piece at a type, where it is the last new one.
 pub(crate) fn value_again(last: &Option<LastRead>, ty: TyId, piece: &[u8]) -> Option<Ref>
     ensures { (types : Typed) (nodes : List Node) → KnowsLast types nodes last.now → IfSome result (IsRead types nodes ty piece.now) }
 {
@@ -32,7 +32,7 @@ pub(crate) fn value_again(last: &Option<LastRead>, ty: TyId, piece: &[u8]) -> Op
     }
 }
 
-/// Notes a piece as the one that was read last. Where it was so already, or memory is wanting, nothing changes.
+/// Notes a new piece that was read as the last one. Where it was so already, or memory is wanting, nothing changes.
 pub(crate) fn note_read(
     last: &mut Option<LastRead>,
     alloc: Global,

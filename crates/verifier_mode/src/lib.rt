@@ -1,8 +1,9 @@
 //! The verifier: the machine runs a call on the spellings of its state and its argument, and each opening takes the next piece of a
 //! proof, which is pulled from a source.
 //!
-//! Of the proof it holds the piece in hand and the ring of kept pieces alone, so a proof may have any length. [`verify`] judges a call
-//! by a proof file, [`verify_on`] by the frames of one proof among others that follow one another.
+//! Of the proof it holds the piece in hand, the last new one and the ring of kept pieces, so a proof may have any length; the nodes of what
+//! it reads stay in its store until the call is judged. [`verify`] judges a call by a proof file, [`verify_on`] by the frames of one proof
+//! among others that follow one another.
 #![tactic(auto)]
 
 mod checked_runs;
@@ -13,6 +14,7 @@ mod verdict;
 mod verifier;
 
 pub use checked_runs::checked_run;
-pub use judge::{verify, verify_on};
+pub use judge::{argument_of, verify, verify_on};
+pub use opening::stop_of;
 pub use verdict::Verdict;
 pub use verifier::{Verifier, VerifierFault};

@@ -34,8 +34,8 @@ pub(crate) struct Asked {
     pub(crate) want: Digest,
 }
 
-/// Opens a piece, whose digest is `found`, as the one that is asked for at a type. Where it is the piece that was read last, it isn't
-/// read again.
+/// Opens a piece, whose digest is `found`, as the one that is asked for at a type. Where it is the last new piece, at the same type,
+/// it isn't read again.
 pub(crate) fn open_piece<N: Nodes>(
     types: &Types,
     store: &mut N,
@@ -76,7 +76,7 @@ pub(crate) fn open_piece<N: Nodes>(
 }
 
 /// What stops a run where the piece with this number is asked for, and there is no further frame.
-pub(crate) fn stop_of(end: FrameEnd, place: u64) -> Stop<VerifierFault>
+pub fn stop_of(end: FrameEnd, place: u64) -> Stop<VerifierFault>
     ensures cause { stop_cause result ≡ option_map (λ e. cause_of e place) (end_told end) }
     ensures faults { (old new : ℕ) → FrameCause {T = Frame} old new (Err end) → Counts {A = Refers} fault_cause Rose old new (Err result) }
 {

@@ -30,8 +30,9 @@ pub enum VerifierFault {
 
 /// The verifier over a source of frames: `auth` digests the spelling of the value in hand, `unauth` takes the next piece.
 ///
-/// Of the proof it holds the piece in hand, the piece that was read last and the ring, and no more. A piece that comes again at once is
-/// digested, but its value isn't made a second time.
+/// Of the proof it holds the piece in hand, the last new piece and the ring. The last new piece, where it comes again at the same type, is
+/// digested, but its value isn't made a second time. Any other kept piece is read again each time that it is named. The nodes of what is
+/// read stay in the store.
 #[derive(Drop)]
 pub struct Verifier<H, S> {
     reader: FrameReader,
@@ -122,14 +123,9 @@ impl<H: Hash32, S: Source> Mode for Verifier<H, S> {
         ty: TyId,
         v: Ref,
     ) -> Result<Ref, Stop<VerifierFault>> {
-        let Ok(spelling) = spell(store.alloc(), types, store, v, ty) else {
-            return Err(Stop::NoMemory);
-        };
+        let spelling = spell(store.alloc(), types, store, v, ty)?;
         let digest = H::of(spelling.as_bytes());
-        match store.put_auth(Held::Only(digest)) {
-            Ok(r) => Ok(r),
-            Err(_) => Err(Stop::NoMemory),
-        }
+        Ok(store.put_auth(Held::Only(digest))?)
     }
 
     fn unauth<N: Nodes>(

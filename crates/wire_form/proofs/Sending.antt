@@ -1,5 +1,5 @@
 -- Bytes of a message that were sent: for write_message and write_request.
-use Rattle.std.proofs.Common.{◌≡◌, ◌+◌, ◌≤◌, ℕ, List, ◌∷◌, ◌++◌, length, take, Option, Result, Ok, Err, IsErrAnd, sym, ap, subst, ◌∙◌, arith, append_assoc}
+use Rattle.std.proofs.Common.{◌≡◌, ◌+◌, ◌<◌, ℕ, List, ◌∷◌, ◌++◌, length, take, Option, Result, Ok, Err, IsErrAnd, sym, ap, subst, ◌∙◌, arith, append_assoc}
 use Rattle.std.proofs.Math.Seq.{take-append-add}
 use Rattle.std.proofs.lemmas.List.{append-nil, length-append, take-append-le}
 use Rattle.std.specs.Int.{w16, w32, w64, to_be_bytes}
@@ -16,14 +16,14 @@ head_and_tail fields tail head is =
 
 -- a front of the head was sent
 pub part_of_head : (whole head tail : List ℕ) (sent sent' : Option (List ℕ)) (result : Result (Unit {0}) WriteStop) (stop : WriteStop) → IsErrAnd result (λ e. e ≡ stop)
-    → whole ≡ head ++ tail → (n : ℕ) × (n ≤ length head) × (sent' ≡ append_known sent (take n head)) → Sends whole sent sent' result
+    → whole ≡ head ++ tail → (n : ℕ) × (n < length head) × (sent' ≡ append_known sent (take n head)) → Sends whole sent sent' result
 part_of_head whole head tail sent sent' (Ok done) stop handed is part = absurd handed
 part_of_head whole head tail sent sent' (Err e) stop handed is part =
-    (part.0, rw (is, length-append head tail) (omega (arith, part.1)), part.2 ∙ ap (append_known sent) (sym (ap (take part.0) is ∙ take-append-le part.0 head tail part.1)))
+    (part.0, rw (is, length-append head tail) (omega (arith, part.1)), part.2 ∙ ap (append_known sent) (sym (ap (take part.0) is ∙ take-append-le part.0 head tail (omega (arith, part.1)))))
 
 -- the head was sent, and a front of the tail
 pub part_of_tail : (whole head tail : List ℕ) (sent sent1 sent' : Option (List ℕ)) (result : Result (Unit {0}) WriteStop) (stop : WriteStop) → IsErrAnd result (λ e. e ≡ stop)
-    → whole ≡ head ++ tail → sent1 ≡ append_known sent head → (n : ℕ) × (n ≤ length tail) × (sent' ≡ append_known sent1 (take n tail)) → Sends whole sent sent' result
+    → whole ≡ head ++ tail → sent1 ≡ append_known sent head → (n : ℕ) × (n < length tail) × (sent' ≡ append_known sent1 (take n tail)) → Sends whole sent sent' result
 part_of_tail whole head tail sent sent1 sent' (Ok done) stop handed is first part = absurd handed
 part_of_tail whole head tail sent sent1 sent' (Err e) stop handed is first part = (
   length head + part.0,

@@ -6,13 +6,23 @@ use Rattle.session_meaning.specs.Messages.{u32_in, message_limit}
 use Rattle.wire_form.specs.declared.message.ReadStop.{ReadStop}
 use Rattle.wire_form.specs.declared.message.ReadStop.TheVariants.{BadMessage, TooLong, End, Cut, LinkFault, NoMemory}
 
--- at most n of these bytes were taken, from their front
+-- fewer than n of these bytes were taken, from their front
+abbrev pub TookLess : ℕ → List ℕ → Option (List ℕ) → Type 0
+TookLess n bytes left' = (taken : ℕ) × (taken < n) × (left' ≡ Some (drop taken bytes))
+
+-- or at most n
 abbrev pub TookAtMost : ℕ → List ℕ → Option (List ℕ) → Type 0
 TookAtMost n bytes left' = (taken : ℕ) × (taken ≤ n) × (left' ≡ Some (drop taken bytes))
 
 -- there are bytes, and they end inside the message with which they begin
 abbrev pub IsCutOff : List ℕ → Type 0
 IsCutOff bytes = (0 < length bytes) × ((length bytes < 4) ⊎ ((4 ≤ length bytes) × (u32_in (take 4 bytes) ≤ message_limit) × (length (drop 4 bytes) < u32_in (take 4 bytes))))
+
+-- Some of these bytes were taken, from their front, which are none, or end inside of the message with which they begin.
+pub record TookUnfinished (bytes : List ℕ) (left' : Option (List ℕ)) : Type 0 where
+  pub taken : ℕ
+  pub left : left' ≡ Some (drop taken bytes)
+  pub unfinished : (take taken bytes ≡ []) ⊎ IsCutOff (take taken bytes)
 
 -- the length field of the message with which the bytes begin
 abbrev pub length_field : List ℕ → ℕ
@@ -25,7 +35,7 @@ LengthCame bytes left' (Ok len) = (4 ≤ length bytes) × (len ≡ length_field 
 LengthCame bytes left' (Err End) = (bytes ≡ []) × (left' ≡ Some [])
 LengthCame bytes left' (Err Cut) = (0 < length bytes) × (length bytes < 4) × (left' ≡ Some [])
 LengthCame bytes left' (Err (TooLong len)) = (4 ≤ length bytes) × (len ≡ length_field bytes) × (message_limit < len) × (left' ≡ Some (drop 4 bytes))
-LengthCame bytes left' (Err LinkFault) = TookAtMost 4 bytes left'
+LengthCame bytes left' (Err LinkFault) = TookLess 4 bytes left'
 LengthCame bytes left' (Err NoMemory) = ⊥
 LengthCame bytes left' (Err (BadMessage kind offset)) = ⊥
 
@@ -43,7 +53,7 @@ IsWithinLimit len (Err (BadMessage kind offset)) = ⊥
 abbrev pub BodyCame : ℕ → List ℕ → Option (List ℕ) → Result (Vec ℕ Global) ReadStop → Type 0
 BodyCame len bytes left' (Ok body) = (len ≤ length bytes) × (body.items ≡ take len bytes) × (left' ≡ Some (drop len bytes))
 BodyCame len bytes left' (Err Cut) = (length bytes < len) × (left' ≡ Some [])
-BodyCame len bytes left' (Err LinkFault) = TookAtMost len bytes left'
+BodyCame len bytes left' (Err LinkFault) = TookLess len bytes left'
 BodyCame len bytes left' (Err NoMemory) = TookAtMost len bytes left'
 BodyCame len bytes left' (Err End) = ⊥
 BodyCame len bytes left' (Err (TooLong most)) = ⊥
@@ -58,7 +68,7 @@ WholeCame bytes left' (Ok body) =
 WholeCame bytes left' (Err End) = (bytes ≡ []) × (left' ≡ Some [])
 WholeCame bytes left' (Err Cut) = IsCutOff bytes × (left' ≡ Some [])
 WholeCame bytes left' (Err (TooLong len)) = (4 ≤ length bytes) × (len ≡ length_field bytes) × (message_limit < len) × (left' ≡ Some (drop 4 bytes))
-WholeCame bytes left' (Err LinkFault) = TookAtMost (4 + length_field bytes) bytes left'
+WholeCame bytes left' (Err LinkFault) = TookUnfinished bytes left'
 WholeCame bytes left' (Err NoMemory) = TookAtMost (4 + length_field bytes) bytes left'
 WholeCame bytes left' (Err (BadMessage kind offset)) = ⊥
 

@@ -1,5 +1,5 @@
 -- What a write of a message sends.
-use Rattle.std.specs.Prelude.{◌≡◌, ℕ, ◌≤◌, List, [], ◌∷◌, ◌++◌, length, take, Option, Result, Ok, Err}
+use Rattle.std.specs.Prelude.{◌≡◌, ℕ, ◌<◌, List, [], ◌∷◌, ◌++◌, length, take, Option, Result, Ok, Err}
 use Rattle.std.specs.Int.{w16, w32, w64, to_be_bytes}
 use Rattle.std.specs.Io.KnownBytes.{append_known}
 use Rattle.lam_outside.specs.Causes.{Rose}
@@ -7,10 +7,10 @@ use Rattle.session_meaning.specs.Messages as meant
 use Rattle.wire_form.specs.declared.message.WriteStop.{WriteStop}
 use Rattle.wire_form.specs.declared.message.WriteStop.TheVariants.{LinkFault, NoMemory}
 
--- all of these bytes were sent, or a front of them
+-- all of these bytes were sent, or a front of them, but not all
 abbrev pub Sends : List ℕ → Option (List ℕ) → Option (List ℕ) → Result (Unit {0}) WriteStop → Type 0
 Sends bytes sent sent' (Ok done) = sent' ≡ append_known sent bytes
-Sends bytes sent sent' (Err stop) = (n : ℕ) × (n ≤ length bytes) × (sent' ≡ append_known sent (take n bytes))
+Sends bytes sent sent' (Err stop) = (n : ℕ) × (n < length bytes) × (sent' ≡ append_known sent (take n bytes))
 
 -- the count of the link's faults rose at a link fault, and nowhere else
 abbrev pub WriteCause : ℕ → ℕ → Result (Unit {0}) WriteStop → Type 0

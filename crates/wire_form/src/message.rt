@@ -22,6 +22,7 @@ pub enum Request {
     Call {
         session: u16,
         role: u16,
+        /// In calls of functions. Any number can be sent; a server refuses more than 10^12.
         fuel: u64,
         argument: Piece,
     },

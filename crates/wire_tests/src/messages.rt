@@ -1,7 +1,7 @@
 // Messages over links in memory. Of a message that is read its kind, its session and its last field are compared.
 ghost use Rattle.std.specs.Prelude.{◌<◌};
 
-use lam_outside::{MemLink, Plan};
+use lam_outside::MemLink;
 use std::alloc::{AllocError, Global};
 use std::test::Fail;
 use wire_form::{ReadStop, Reply, Request, read_reply, read_request};
@@ -129,19 +129,6 @@ struct Told {
     last: Vec<u8>,
 }
 
-/// A link on which these bytes come, by so many a call, and of which these calls fail.
-pub fn link(
-    alloc: Global,
-    coming: &[u8],
-    most: usize,
-    failing: &[u64],
-) -> Result<MemLink, AllocError>
-    requires { 0 < most }
-{
-    let plan = Plan::new(Vec::from_slice(alloc, failing)?);
-    Ok(MemLink::new(alloc, Vec::from_slice(alloc, coming)?, most, plan))
-}
-
 /// Reads a message of the sender.
 fn pass(alloc: Global, sender: Sender, from: &mut MemLink) -> Result<Told, AllocError> {
     match sender {
@@ -240,7 +227,7 @@ fn misread(alloc: Global, most: usize) -> Result<Option<usize>, AllocError>
 {
     for (number, (sender, message)) in MESSAGES.iter().enumerate() {
         let coming = with_rest(alloc, message, b"\x00\x01")?;
-        let mut from = link(alloc, &coming, most, &[])?;
+        let mut from = MemLink::from_bytes(alloc, &coming, most, &[])?;
         let told = pass(alloc, *sender, &mut from)?;
         if !is_told(&told, Want::Whole, 2, message) {
             return Ok(Some(number));
@@ -262,7 +249,7 @@ fn each_kind_is_read(rt: HostRuntime) -> Result<(), Fail> {
 /// The number of bytes at which a cut of the message is told otherwise.
 fn miscut(alloc: Global, sender: Sender, message: &[u8]) -> Result<Option<usize>, AllocError> {
     for count in 0..message.len() {
-        let mut from = link(alloc, &message[..count], 3, &[])?;
+        let mut from = MemLink::from_bytes(alloc, &message[..count], 3, &[])?;
         let told = pass(alloc, sender, &mut from)?;
         let want = if count == 0 { Want::End } else { Want::Cut };
         if !is_told(&told, want, 0, message) {
@@ -290,7 +277,7 @@ fn is_of_its_sender(alloc: Global, sender: Sender, message: &[u8]) -> Result<boo
     };
     let kind = message.get(4).copied().unwrap_or(0);
     let coming = with_rest(alloc, message, b"\x00")?;
-    let mut from = link(alloc, &coming, 7, &[])?;
+    let mut from = MemLink::from_bytes(alloc, &coming, 7, &[])?;
     let told = pass(alloc, other, &mut from)?;
     Ok(is_told(&told, Want::Bad(kind, 0), 1, message))
 }
@@ -310,7 +297,7 @@ fn is_answered(alloc: Global, sender: Sender, body: &[u8], want: Want) -> Result
     let len = u32::try_from(body.len()).unwrap_or(0);
     let message = with_rest(alloc, &len.to_be_bytes(), body)?;
     let coming = with_rest(alloc, &message, b"\x00\x00")?;
-    let mut from = link(alloc, &coming, 5, &[])?;
+    let mut from = MemLink::from_bytes(alloc, &coming, 5, &[])?;
     let told = pass(alloc, sender, &mut from)?;
     Ok(is_told(&told, want, 2, &message))
 }
@@ -328,10 +315,10 @@ fn fields_are_taken_at_their_borders(rt: HostRuntime) -> Result<(), Fail> {
 #[test]
 fn a_length_is_judged_before_the_body_comes(rt: HostRuntime) -> Result<(), Fail> {
     let alloc = rt.alloc();
-    let mut from = link(alloc, b"\x01\x00\x00\x00\x01\x00\x01", 7, &[])?;
+    let mut from = MemLink::from_bytes(alloc, b"\x01\x00\x00\x00\x01\x00\x01", 7, &[])?;
     let told = pass(alloc, Sender::Client, &mut from)?;
     assert!(rt; is_told(&told, Want::Cut, 0, &[]));
-    let mut from = link(alloc, b"\x01\x00\x00\x01\x01\x00\x01", 7, &[])?;
+    let mut from = MemLink::from_bytes(alloc, b"\x01\x00\x00\x01\x01\x00\x01", 7, &[])?;
     let told = pass(alloc, Sender::Client, &mut from)?;
     assert!(rt; is_told(&told, Want::Long(16_777_217), 3, &[]));
     Ok(())
@@ -340,7 +327,7 @@ fn a_length_is_judged_before_the_body_comes(rt: HostRuntime) -> Result<(), Fail>
 /// The number of the first call that fails and is told otherwise, of the reads of a message by 3 bytes a call.
 fn misfailed(alloc: Global, sender: Sender, message: &[u8]) -> Result<Option<u64>, AllocError> {
     for call in 0..3 {
-        let mut from = link(alloc, message, 3, &[call])?;
+        let mut from = MemLink::from_bytes(alloc, message, 3, &[call])?;
         let told = pass(alloc, sender, &mut from)?;
         let taken = message.len() - told.left.min(message.len());
         if !is_told(&told, Want::Fault, told.left, &[]) || taken > 3 * call as usize {

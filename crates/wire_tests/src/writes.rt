@@ -3,9 +3,9 @@ ghost use Rattle.std.specs.Prelude.{◌≡◌, ◌<◌, None, length, refl, IfOk
 ghost use Rattle.session_meaning.specs.Messages.{IsReply, IsRequest};
 ghost use Rattle.wire_form.specs.MessageViews.{reply_meant, request_meant};
 
-use crate::messages::{MESSAGES, link};
+use crate::messages::MESSAGES;
 use core_terms::{Digest, Piece};
-use lam_outside::{Failed, Link, Source};
+use lam_outside::{Failed, Link, MemLink, Source};
 use std::alloc::{AllocError, Global};
 use std::test::Fail;
 use wire_form::{Reply, Request, WriteStop, read_reply, read_request, write_reply, write_request};
@@ -132,7 +132,7 @@ fn miswritten(alloc: Global, most: usize) -> Result<Option<usize>, AllocError>
     requires { 0 < most }
 {
     for (number, (_, message)) in MESSAGES.iter().enumerate() {
-        let mut to = link(alloc, &[], most, &[])?;
+        let mut to = MemLink::from_bytes(alloc, &[], most, &[])?;
         if write(alloc, number, &mut to).is_err() || to.sent() != *message {
             return Ok(Some(number));
         }
@@ -153,7 +153,7 @@ fn each_kind_is_written(rt: HostRuntime) -> Result<(), Fail> {
 /// The number of the first call that fails, by 3 bytes a call, and after which not just a front of the message was sent.
 fn misfailed(alloc: Global, number: usize, message: &[u8]) -> Result<Option<u64>, AllocError> {
     for call in 0..20 {
-        let mut to = link(alloc, &[], 3, &[call])?;
+        let mut to = MemLink::from_bytes(alloc, &[], 3, &[call])?;
         let written = write(alloc, number, &mut to);
         let sent = to.sent();
         let told = match written {
@@ -293,11 +293,11 @@ fn same_reply(one: &Reply, other: &Reply) -> bool {
 
 /// Whether the message is read back as it was written.
 fn is_read_back(alloc: Global, number: usize) -> Result<bool, AllocError> {
-    let mut to = link(alloc, &[], 7, &[])?;
+    let mut to = MemLink::from_bytes(alloc, &[], 7, &[])?;
     if write(alloc, number, &mut to).is_err() {
         return Ok(false);
     }
-    let mut from = link(alloc, to.sent(), 7, &[])?;
+    let mut from = MemLink::from_bytes(alloc, to.sent(), 7, &[])?;
     let same = if number < REQUESTS {
         let message = request(alloc, number)?;
         read_request(alloc, &mut from).is_ok_and(|read| same_request(&read, &message))
@@ -320,8 +320,8 @@ fn what_is_written_is_read_back(rt: HostRuntime) -> Result<(), Fail> {
 
 /// Whether what is read is written as the bytes that it was read from.
 fn is_written_back(alloc: Global, number: usize, message: &[u8]) -> Result<bool, AllocError> {
-    let mut from = link(alloc, message, 7, &[])?;
-    let mut to = link(alloc, &[], 7, &[])?;
+    let mut from = MemLink::from_bytes(alloc, message, 7, &[])?;
+    let mut to = MemLink::from_bytes(alloc, &[], 7, &[])?;
     let written = if number < REQUESTS {
         match read_request(alloc, &mut from) {
             Ok(request) => write_request(alloc, &mut to, &request).is_ok(),

@@ -8,7 +8,7 @@ pub mod CalledRoles
 pub mod CutNodes
 -- checked_call: the sums
 pub mod CountedCalls
--- put: the state behind it
+-- put, new_state: the state behind it
 pub mod PutStates
 -- run_round, run_workload: one round, and one more of many
 pub mod RoundSums

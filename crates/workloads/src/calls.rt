@@ -1,6 +1,6 @@
 // Calls that are proved, and whose proofs are verified.
 ghost use Rattle.std.specs.Prelude.{◌≡◌, ◌<◌, ◌≤◌, IfOk, length};
-ghost use Rattle.core_terms.specs.Programs.{meaning, types_of};
+ghost use Rattle.core_terms.specs.Programs.{types_of};
 ghost use Rattle.core_terms.specs.Projection.{digest_at, projection};
 ghost use Rattle.core_terms.specs.Roles.{argument_type};
 ghost use Rattle.core_terms.specs.Spelling.{spelling};
@@ -18,13 +18,13 @@ ghost use Rattle.workloads.specs.Sums.{IsCounted, is_done, one_if};
 ghost use Rattle.workloads.specs.Workloads.{call_fuel, done_in, outcome_of};
 
 use code_gen::Code;
-use core_terms::{FunctionId, Hash32, Outcome, Program, Spelling, TyId};
+use core_terms::{FunctionId, Hash32, Outcome, Spelling, TyId};
 use lam_outside::Bytes;
 use prover_mode::prove_file;
 use shallow_codec::spell;
 use std::alloc::{AllocError, Global};
 use value_store::{Nodes, Ref};
-use verifier_mode::{Verdict, verify};
+use verifier_mode::{Verdict, argument_of, verify};
 
 /// The fuel of each call.
 const CALL_FUEL: u64 = 1_000_000;
@@ -142,13 +142,4 @@ fn spelled<H: Hash32, N: Nodes>(
         → StandsFor (ProverNodes (digest_at H.hash P)) P.types (N.nodes store.now) r.0 t v → bytes ≡ spelling (projection H.hash P t v)) }
 {
     spell(alloc, code.types(), store, r, ty)
-}
-
-/// The type of the argument of a query or an update, whose parameters are the state and the argument.
-fn argument_of(program: &Program, role: FunctionId) -> TyId
-    requires there { role.0 < length (meaning program.now).functions }
-    requires role { TakesState (meaning program.now) role.0 }
-    ensures { type_at (types_of program.now) result ≡ argument_type (meaning program.now) role.0 }
-{
-    program.function(role).parameters[1]
 }

@@ -6,7 +6,6 @@ ghost use Rattle.core_terms.specs.Terms.{Query, Update};
 ghost use Rattle.core_terms.specs.Types.{IntTy, PairTy, Table, Ty};
 ghost use Rattle.core_terms.specs.Values.{IntV, PairV, Value};
 ghost use Rattle.ideal_meaning.specs.Ideal as ideal;
-ghost use Rattle.ideal_meaning.specs.Run.{first_in};
 ghost use Rattle.value_store.specs.Standing.{Keeps, Kind, ProverNodes, StandsFor};
 ghost use Rattle.mode_vm.specs.IdealRuns.{IsOutcome};
 ghost use Rattle.mode_vm.specs.Meanings.{program_of};
@@ -21,7 +20,7 @@ use ads_library::Gen;
 use code_gen::Code;
 use core_terms::{Hash32, Outcome};
 use std::alloc::{AllocError, Global};
-use value_store::{Mark, Nodes, Ref, View};
+use value_store::{Mark, Nodes, Ref, first_component};
 
 /// Puts the next value under the next key, and gets it: the node of the state behind the put.
 pub(crate) fn run_round<H: Hash32, N: Nodes>(
@@ -175,16 +174,4 @@ fn get<H: Hash32, N: Nodes>(
     tally.add(&call);
     store.cut_to(before);
     Ok(())
-}
-
-/// The node of the first component of a pair.
-fn first_component<N: Nodes>(store: &N, pair: Ref) -> Ref
-    requires { (kind : Kind) × (types : Table) × (a : Ty) × (b : Ty) × (v : Value) × StandsFor kind types (N.nodes store.now) pair.0 (PairTy a b) v }
-    ensures { (kind : Kind) (types : Table) (a b : Ty) (v : Value) → StandsFor kind types (N.nodes store.now) pair.0 (PairTy a b) v
-        → StandsFor kind types (N.nodes store.now) result.0 a (first_in v) }
-{
-    match store.view(pair) {
-        View::Pair(first, _second) => first,
-        _ => unreachable!(),
-    }
 }

@@ -37,6 +37,10 @@ pub struct Workload {
 ///
 /// The nodes that a get puts are dropped behind it, and so are those of a put that ends without a value. The generator starts with
 /// `seed`.
+///
+/// # Errors
+///
+/// `AllocError` where there is no memory for a call, its proof or its verification. Nodes may have been put then.
 pub fn run_workload<H: Hash32, N: Nodes>(
     alloc: Global,
     code: &Code,

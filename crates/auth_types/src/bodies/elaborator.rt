@@ -199,8 +199,10 @@ impl<'s, 'a> Elaborator<'s, 'a> {
         ensures found { FindsOver (types_of self.new) typed_of (typed (TextE (bytes_of text.now)) TextTy) result }
         ensures inside { IfOk result (λ typed. typed.ty.0 < length (types_of self.new)) }
     {
-        let text = Text::new(text.as_bytes().to_vec(self.alloc)?);
-        self.plain(Term::TextLiteral(text), TyForm::TextForm)
+        self.plain(
+            Term::TextLiteral(text.copied(self.alloc)?),
+            TyForm::TextForm,
+        )
     }
 
     /// The innermost local of a name that stands at this place.

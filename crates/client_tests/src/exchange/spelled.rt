@@ -28,7 +28,7 @@ fn view(store: &Store, node: Ref) -> Result<View<'_>, AllocError> {
 fn put_part(bytes: &mut Vec<u8>, part: View<'_>) -> Result<(), AllocError> {
     match part {
         View::Int(number) => bytes.extend_from_slice(&number.to_be_bytes()),
-        View::Auth(Held::Both(digest, _)) => bytes.extend_from_slice(&digest.0),
+        View::Auth(Held::Both(digest, _)) => bytes.extend_from_slice(digest.as_bytes()),
         _ => Err(AllocError),
     }
 }

@@ -1,4 +1,4 @@
-use Rattle.std.proofs.Common.{◌∙◌}
+use Rattle.std.proofs.Common.{[], ◌∙◌}
 use Rattle.ask_core.proofs.Reading.{at_state, bad_at}
 use Rattle.ask_core.proofs.checks.check_state.Goals as goal
 
@@ -6,9 +6,9 @@ pub returns-in-Ok : goal.returns-in-Ok
 returns-in-Ok c =
     let good = c.in-Ok.ensures in (
       good.0,
+      [],
       good.1,
-      good.2,
-      at_state c.args.code.now c.types-types.result.now c.types-types.ensures c.args.state.now c.state_type.result c.state_type.ensures.state ∙ good.3,
+      at_state c.args.code.now c.types-types.result.now c.types-types.ensures c.args.state.now c.state_type.result c.state_type.ensures.state ∙ good.2,
     )
 
 pub returns-in-Err-Bad : goal.returns-in-Err-Bad

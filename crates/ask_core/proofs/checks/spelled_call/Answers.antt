@@ -1,4 +1,4 @@
-use Rattle.std.proofs.Common.{refl, sym, ap, ◌∙◌}
+use Rattle.std.proofs.Common.{[], refl, sym, ap, ◌∙◌}
 use Rattle.core_terms.specs.Reading.{BadAt}
 use Rattle.ask_core.proofs.Reading.{at_argument, bad_at, role_reads}
 use Rattle.ask_core.proofs.checks.spelled_call.Goals as goal
@@ -13,10 +13,10 @@ returns-in_ok-from_slice-in-Ok c =
       role_reads code c.types.result.now c.types.ensures c.args.argument.now c.program.result.now c.program.ensures c.args.role c.in-Some.called.now c.in-Some.ensures.called,
       (
         good.0,
+        [],
         good.1,
-        good.2,
         at_argument code c.types.result.now c.types.ensures c.args.argument.now c.program.result.now c.program.ensures c.args.role c.in-Some.called.now c.in-Some.ensures.called
-            ∙ good.3,
+            ∙ good.2,
       ),
     )
 

@@ -1,4 +1,5 @@
 use Rattle.std.proofs.Common.{◌≡◌, Some, Ok, Err, refl, ap, ◌∙◌, subst}
+use Rattle.std.proofs.lemmas.Result.{IfOk-weaker}
 use Rattle.code_gen.specs.Programs.{program_in}
 use Rattle.core_terms.specs.Programs.{meaning, types_of}
 use Rattle.core_terms.specs.RoleViews.{role_kind_of, role_of}
@@ -18,7 +19,6 @@ use Rattle.ask_core.specs.declared.standing.Standing.TheVariants.{Idle, Calling}
 use Rattle.ask_core.specs.declared.told.Told.TheVariants.{Outcome}
 use Rattle.ask_core.specs.declared.replied.Replied.{Replied}
 use Rattle.ask_core.proofs.Called.{call_of_same}
-use Rattle.ask_core.proofs.FirstComponents.{if_ok}
 use Rattle.ask_core.proofs.Judged.{accepted, each_call, lent_verdict, refused, ring_is}
 use Rattle.ask_core.proofs.judging.proof_replied.Goals as goal
 
@@ -62,7 +62,7 @@ returns-in-Err g c =
     let called = call_of_same c.program.result.now (program_in code) c.program.ensures asked.role role c.in-Some.ensures.called c.in-Some.ensures.shape in
     let left = ap Some (c.new-proof.ensures.left ∙ c.as_bytes.ensures) in
     let t = (function_at P role.function.0).result in
-    if_ok c.refused_by.result (IsRefused c.args.session c.in-Err.verdict) (IsReplied hash P (Calling known asked) (message.Proof c.args.session frames))
+    IfOk-weaker c.refused_by.result (IsRefused c.args.session c.in-Err.verdict) (IsReplied hash P (Calling known asked) (message.Proof c.args.session frames))
     (λ replied so client m r.
     each_call P known asked (λ m. Follows hash P m client (message.Proof c.args.session frames) replied) (λ k a is_known is_asked.
     let ring = ring_is hash P known asked k a is_known is_asked meant_role called.0 called.2 called.1 c.args.session frames client in

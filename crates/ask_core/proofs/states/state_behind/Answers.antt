@@ -1,10 +1,10 @@
 use Rattle.std.proofs.Common.{ap, subst}
+use Rattle.std.proofs.lemmas.Result.{IfOk-weaker}
 use Rattle.core_terms.specs.Programs.{meaning, types_of}
 use Rattle.core_terms.specs.RoleViews.{role_kind_of}
 use Rattle.core_terms.specs.TypeTables.{type_at}
 use Rattle.mode_vm.specs.StateCalls.{SpellsOutcome}
 use Rattle.verifier_mode.specs.Verdicts.{IsTold}
-use Rattle.ask_core.proofs.FirstComponents.{if_ok}
 use Rattle.ask_core.proofs.StatesBehind.{pair_lent, state_first, value_lent}
 use Rattle.ask_core.proofs.states.state_behind.Goals as goal
 
@@ -23,7 +23,7 @@ first_spelled-requires-clause-spelled c =
 pub returns-in-Update : goal.returns-in-Update
 returns-in-Update c =
     let p = c.args.program.now in
-    if_ok c.first_spelled.result _ _ (λ first spells o told.
+    IfOk-weaker c.first_spelled.result _ _ (λ first spells o told.
     state_first p c.args.role.now c.requires.shape (ap role_kind_of c.in-Update.is) c.types.result.now c.types.ensures c.in-Done.value
     c.as_bytes.result.now c.as_bytes.ensures c.args.state first spells o
     (subst (λ outcome. SpellsOutcome (meaning p) (type_at (types_of p) c.args.role.now.result) o outcome) c.in-Done.is told)) c.first_spelled.ensures

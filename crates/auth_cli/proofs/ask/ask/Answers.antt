@@ -28,7 +28,7 @@ returns-in-Ok-clause-ends g c =
           (links_so_far (g.N.Net.ended before) (g.N.Net.linked before) (g.N.Source.given before) (g.N.Source.left before) (g.N.Link.sent before))
           (g.N.Net.ended made) (g.N.Net.ended behind) (g.N.Net.linked made) (g.N.Net.linked behind) (g.N.Source.given before) (g.N.Link.sent before)
           (g.N.Source.given made) (g.N.Source.left made) (g.N.Link.sent made) (g.N.Source.given behind) (g.N.Source.left behind) (g.N.Link.sent behind)
-          (g.O.Sink.written c.args.out.now) done.written done.last after dialled.made ended linked c.play_and_store.ensures.moves done.plays is;
+          (g.O.Sink.written c.args.out.now) done.written done.last after dialled.made ended linked c.play_and_store.ensures.moves done.plays done.halts is;
       faults = net_counts done.end (g.N.Source.faults before) (g.N.Source.faults made) (g.N.Source.faults behind) (g.N.Net.listen_faults before) (g.N.Net.listen_faults behind)
           (g.N.Net.accept_faults before) (g.N.Net.accept_faults behind) (g.N.Net.dial_faults before) (g.N.Net.dial_faults behind) dialled.faults done.link_faults
           (listens ∙ dialled.listens) (accepts ∙ dialled.accepts) (dials ∙ dialled.cause.kept);

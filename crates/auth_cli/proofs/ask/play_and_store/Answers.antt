@@ -5,7 +5,7 @@ use Rattle.ask_core.specs.Sessions.{StandsFor}
 use Rattle.script_play.specs.Playing.{world}
 use Rattle.auth_cli.specs.Asking.{asked_play}
 use Rattle.auth_cli.specs.PreparedClients.{asked_by}
-use Rattle.auth_cli.proofs.AskLinks.{any_client, play_causes}
+use Rattle.auth_cli.proofs.AskLinks.{any_client, on_fault, play_causes}
 use Rattle.auth_cli.proofs.ask.play_and_store.Goals as goal
 
 pub returns-clause-plays : goal.returns-clause-plays
@@ -14,6 +14,7 @@ returns-clause-plays g c =
     let end = c.play-end.result in
     let causes = play_causes end _ _ _ _ c.play-end.ensures.cause in
     let plays = rw (c.deref.ensures.value, c.deref-2.ensures.value) at c.play-end.ensures.plays in
+    let halts = rw (c.deref.ensures.value, c.deref-2.ensures.value) at c.play-end.ensures.halts in
     record {
       end = end;
       last = c.play-end.new.last;
@@ -24,6 +25,9 @@ returns-clause-plays g c =
           (world (g.N.Link.sent c.args.net.now) (g.O.Sink.written c.args.out.now) None)
           (world (g.N.Link.sent c.play-end.new.link) (g.O.Sink.written c.play-end.new.out) c.play-end.new.last) (asked_play a (messages reply_of bytes)) (StandsFor c.play-end.new.core) end
           (plays new_client (messages reply_of bytes) c.requires.stands (record { bytes = bytes; told = known; are = refl }));
+      halts = λ bytes known. on_fault a.program.digested.program a.program.names (StandsFor c.play-end.new.core) bytes (g.N.Source.left c.play-end.new.link)
+          (world (g.N.Link.sent c.args.net.now) (g.O.Sink.written c.args.out.now) None)
+          (world (g.N.Link.sent c.play-end.new.link) (g.O.Sink.written c.play-end.new.out) c.play-end.new.last) (asked_play a) end (halts new_client bytes c.requires.stands known);
       link_faults = causes.0;
       writes = causes.1;
       is_told = c.tell_end-told.ensures;

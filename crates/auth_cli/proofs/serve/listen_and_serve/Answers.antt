@@ -2,7 +2,7 @@ use Rattle.std.proofs.Common.{◌≡◌, List, [], ◌++◌, take, ℕ, Some, in
 use Rattle.std.specs.Io.KnownBytes.{append_known}
 use Rattle.printed_lines.specs.Lines.{listening_line}
 use Rattle.auth_cli.specs.Serving.{NotListening, NotWritten, first_server}
-use Rattle.file_commands.proofs.Known.{append_none}
+use Rattle.lam_outside.proofs.Moved.{append_none}
 use Rattle.auth_cli.proofs.ServeCourses.{links_told}
 use Rattle.auth_cli.proofs.ServeGone.{not_listening, not_written, same_faults, same_links}
 use Rattle.auth_cli.proofs.ServeTexts.{course_told}

@@ -2,9 +2,8 @@ use Rattle.std.proofs.Common.{Err, sym, subst}
 use Rattle.core_terms.specs.Programs.{meaning}
 use Rattle.core_terms.specs.ProgramTypes.{types_meaning}
 use Rattle.core_terms.specs.Projection.{read_at}
-use Rattle.shallow_codec.specs.ProgramTypes.{table, ty_of}
-use Rattle.shallow_codec.specs.Unspelled.{IsUnspelled}
-use Rattle.value_store.specs.Stores.{nodes_in}
+use Rattle.shallow_codec.specs.ProgramTypes.{ty_of}
+use Rattle.shallow_codec.specs.Unspelled.{IsRead}
 use Rattle.file_commands.specs.Answer.{with_state}
 use Rattle.file_commands.specs.Halting.{GoesOn, InHand}
 use Rattle.file_commands.proofs.StatesRead.{state_goes_on, state_is_refused}
@@ -12,14 +11,13 @@ use Rattle.file_commands.proofs.calls.judge_state.Goals as goal
 
 pub returns-in-Ok : goal.returns-in-Ok
 returns-in-Ok c =
-    state_goes_on c.args.program.now c.types.result.now c.types.ensures c.state_type.result c.state_type.ensures.state c.args.bytes.now (nodes_in c.unspell.new.store) c.in-Ok.field-0 c.in-Ok.ensures.value
+    state_goes_on c.args.program.now c.types.result.now c.types.ensures c.state_type.result c.state_type.ensures.state c.args.bytes.now c.in-Ok.ensures
 
 pub returns-in-Err-Bad : goal.returns-in-Err-Bad
 returns-in-Err-Bad c =
     let types = c.types.result.now in
     let id = c.state_type.result in
     let bytes = c.args.bytes.now in
-    let nodes = nodes_in c.unspell.new.store in
-    let bad = subst (λ fault. IsUnspelled (table types) nodes (ty_of types id) (read_at (types_meaning types) (ty_of types id) bytes) (Err fault)) c.in-Err-Bad.field-0-is c.in-Err-Bad.ensures.value in
+    let bad = subst (λ fault. IsRead {A = Unit {0}} (read_at (types_meaning types) (ty_of types id) bytes) (Err fault)) c.in-Err-Bad.field-0-is c.in-Err-Bad.ensures in
     subst (λ halt. InHand (GoesOn {T = Unit {0}} (with_state (meaning c.args.program.now) bytes) (λ _. bytes)) (Err halt)) (sym c.into.ensures)
-    (state_is_refused c.args.program.now types c.types.ensures id c.state_type.ensures.state bytes nodes c.in-Err-Bad.offset bad)
+    (state_is_refused c.args.program.now types c.types.ensures id c.state_type.ensures.state bytes c.in-Err-Bad.offset bad)

@@ -1,9 +1,9 @@
+use Rattle.std.proofs.lemmas.Result.{IfOk-weaker}
 use Rattle.sha2.specs.Sha256.{sha256}
 use Rattle.code_gen.specs.Programs.{program_in}
 use Rattle.core_terms.specs.Programs.{meaning}
 use Rattle.workloads.specs.Workloads.{after_rounds, no_calls}
 use Rattle.file_commands.specs.GeneratedCalls.{numbers_of}
-use Rattle.file_commands.proofs.MarkedStates.{if_ok}
 use Rattle.file_commands.proofs.Workloads.{same_stored, workload_told}
 use Rattle.file_commands.proofs.gen_workload.run_and_tell.Goals as goal
 
@@ -27,7 +27,7 @@ pub returns-clause-finds : goal.returns-clause-finds
 returns-clause-finds c =
     let p = program_in c.args.code.now in
     let told = c.in_ok-told.ensures in
-    if_ok c.sums_report.result _ _
+    IfOk-weaker c.sums_report.result _ _
     (λ report tells s h.
     workload_told p c.program.result.now c.program.ensures (numbers_of c.args.numbers) c.args.workload.now s c.in_ok-told.told.0
     (record { store = c.run_workload.new.store; root = c.in_ok-told.told.1 }) report (told.tally s h) (told.state s h) tells)

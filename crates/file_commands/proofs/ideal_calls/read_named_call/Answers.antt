@@ -1,11 +1,10 @@
 use Rattle.std.proofs.Common.{ap, sym, ◌∙◌}
-use Rattle.std.proofs.lemmas.Result.{err_from_is_err_and}
+use Rattle.std.proofs.lemmas.Result.{IfOk-weaker, err_from_is_err_and}
 use Rattle.file_commands.specs.Answer.{with_fueled_role, with_ideal_call}
 use Rattle.file_commands.specs.CallsInStores.{HoldsCall, with_called}
 use Rattle.file_commands.specs.ReadPrograms.{named_of}
 use Rattle.file_commands.specs.Reaching.{without}
 use Rattle.file_commands.specs.RolesCalled.{role_of}
-use Rattle.file_commands.proofs.MarkedStates.{if_ok}
 use Rattle.file_commands.proofs.Reached.{at_reached, hand_reached, inputs_step, is_missing}
 use Rattle.file_commands.proofs.Steps.{follows, halts_first_for, hand_halts}
 use Rattle.file_commands.proofs.ideal_calls.read_named_call.Goals as goal
@@ -43,7 +42,7 @@ returns-clause-holds g c = c.read_ideal_call.ensures.holds c.args.callee c.in_ok
 
 pub returns-clause-role : goal.returns-clause-role
 returns-clause-role g c =
-    if_ok c.read_ideal_call.result _ _ (λ held same go. c.in_ok-called.ensures.goes go ∙ ap (λ called. go (role_of c.args.program.now called)) (sym same)) c.read_ideal_call.ensures.called
+    IfOk-weaker c.read_ideal_call.result _ _ (λ held same go. c.in_ok-called.ensures.goes go ∙ ap (λ called. go (role_of c.args.program.now called)) (sym same)) c.read_ideal_call.ensures.called
 
 pub returns-clause-reached : goal.returns-clause-reached
 returns-clause-reached g c = λ next.

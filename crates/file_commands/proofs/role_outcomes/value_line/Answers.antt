@@ -1,4 +1,5 @@
 use Rattle.std.proofs.Common.{◌<◌, ◌^◌, length, sym, ◌∙◌, subst}
+use Rattle.std.proofs.lemmas.Result.{IfOk-weaker}
 use Rattle.sha2.specs.Sha256.{sha256}
 use Rattle.sha2.proofs.Facts256.{length-sha256}
 use Rattle.core_terms.specs.Programs.{meaning, types_of}
@@ -9,7 +10,7 @@ use Rattle.core_terms.specs.declared.program_types.Types.{Types}
 use Rattle.value_store.specs.Standing.{StandsFor, VerifierNodes}
 use Rattle.value_store.specs.Stores.{nodes_in}
 use Rattle.shallow_codec.specs.ProgramTypes.{table, ty_of}
-use Rattle.file_commands.proofs.MarkedStates.{if_ok, projected}
+use Rattle.file_commands.proofs.MarkedStates.{projected}
 use Rattle.file_commands.proofs.RoleReports.{line_told}
 use Rattle.file_commands.proofs.role_outcomes.value_line.Goals as goal
 
@@ -25,6 +26,6 @@ returns c =
     let p = c.args.program.now in
     let t = type_at (types_of p) c.args.ty in
     let by_program = rw c.types.ensures at c.in_ok-spelled.ensures.projected in
-    if_ok c.named_done_line.result _ _
+    IfOk-weaker c.named_done_line.result _ _
     (λ line told v h. line_told p (nodes_in c.args.store.now) c.args.store.now.sound t v c.args.value.0 h c.in_ok-spelled.spelled line.items (by_program sha256 v length-sha256 h)
     (λ w shallow short is. told w shallow (subst (λ bytes. length bytes < 2 ^ 32) (sym c.as_bytes.ensures) short) (c.as_bytes.ensures ∙ is))) c.named_done_line.ensures

@@ -7,12 +7,12 @@ use Rattle.file_commands.specs.RolesCalled.{role_of}
 use Rattle.file_commands.proofs.JudgedRoles.{pair_lent, state_stored, value_lent}
 use Rattle.file_commands.proofs.verify_call.new_state.Goals as goal
 
-pub state_spelling-requires-clause-pair : goal.state_spelling-requires-clause-pair
-state_spelling-requires-clause-pair c =
+pub first_spelled-requires-clause-pair : goal.first_spelled-requires-clause-pair
+first_spelled-requires-clause-pair c =
     pair_lent c.args.program.now c.args.called.now c.requires.called c.types.result.now c.types.ensures c.in-Done.value c.as_bytes.result.now c.as_bytes.ensures
 
-pub state_spelling-requires-clause-spelled : goal.state_spelling-requires-clause-spelled
-state_spelling-requires-clause-spelled c =
+pub first_spelled-requires-clause-spelled : goal.first_spelled-requires-clause-spelled
+first_spelled-requires-clause-spelled c =
     let p = c.args.program.now in
     let called = c.args.called.now in
     value_lent p called c.requires.called c.types.result.now c.types.ensures c.in-Done.value c.as_bytes.result.now c.as_bytes.ensures

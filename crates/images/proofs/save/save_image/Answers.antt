@@ -24,8 +24,8 @@ pub returns-in_err-records : goal.returns-in_err-records
 returns-in_err-records c =
     let P = types_meaning c.args.types.now in
     let digest = c.args.text_digest.now.0 in
-    let is_digest : c.digest_bytes-digest.result.now ≡ digest = c.digest_bytes-digest.ensures.bytes in
-    let digest_length : length digest ≡ 32 = ap length (sym is_digest) ∙ c.digest_bytes-digest.ensures.length in
+    let is_digest : c.as_bytes-digest.result.now ≡ digest = c.as_bytes-digest.ensures.bytes in
+    let digest_length : length digest ≡ 32 = ap length (sym is_digest) ∙ c.as_bytes-digest.ensures.length in
     record {
       saved = λ (v : Value) h.
           let entries = distinct [] (walk P.types P.state v) in
@@ -41,10 +41,10 @@ pub returns : goal.returns
 returns c =
     let P = types_meaning c.args.types.now in
     let digest = c.args.text_digest.now.0 in
-    let is_digest : c.digest_bytes-digest.result.now ≡ digest = c.digest_bytes-digest.ensures.bytes in
-    let digest_length : length digest ≡ 32 = ap length (sym is_digest) ∙ c.digest_bytes-digest.ensures.length in
+    let is_digest : c.as_bytes-digest.result.now ≡ digest = c.as_bytes-digest.ensures.bytes in
+    let digest_length : length digest ≡ 32 = ap length (sym is_digest) ∙ c.as_bytes-digest.ensures.length in
     let saved = λ (v : Value) (h : IsStateAt P c.args.store.now c.args.root v).
-    image_made P digest digest_length v c.in_ok-records.records c.digest_bytes-digest.result.now c.in_ok-image.image.items c.count.result c.write.new.image
+    image_made P digest digest_length v c.in_ok-records.records c.as_bytes-digest.result.now c.in_ok-image.image.items c.count.result c.write.new.image
     (c.in_ok-records.ensures.saved P.types P.state v c.args.types.now.numbers h) is_digest c.count.ensures.count c.in_ok-image.ensures c.in_ok-write.ensures in
     record {
       saved = saved;

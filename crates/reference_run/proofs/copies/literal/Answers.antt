@@ -6,5 +6,5 @@ use Rattle.reference_run.proofs.copies.literal.Goals as goal
 
 pub returns : goal.returns
 returns c = λ k seen.
-    let copy = c.in_ok-copied_text.field-0 in
-    (seen, ap (λ v. Gives v k seen) (sym (plain-TextValue copy ∙ ap TextV c.in_ok-copied_text.ensures)))
+    let copy = c.in_ok-copied.field-0 in
+    (seen, ap (λ v. Gives v k seen) (sym (plain-TextValue copy ∙ ap TextV c.in_ok-copied.ensures)))

@@ -1,11 +1,14 @@
-use Rattle.std.proofs.Common.{◌≡◌, Ok, Err, Bool, sym, ap, ◌∙◌, subst}
+use Rattle.std.proofs.Common.{◌≡◌, Result, Ok, Err, Bool, sym, ap, ◌∙◌, subst}
 use Rattle.session_meaning.specs.Client.{OutOfTurn, new_client}
 use Rattle.verifier_mode.proofs.Given.{gives_with}
 use Rattle.wire_form.specs.MessageViews.{request_meant}
+use Rattle.script_play.specs.Halting.{HaltsAt, OnLinkFault}
 use Rattle.script_play.specs.Plays.{asked_play, rests}
 use Rattle.script_play.specs.Playing.{Answers, IsAnswered, PlayCause, PlaysAs, is_sending, world}
 use Rattle.script_play.proofs.Asked.{asked_told, asked_unsent, fault_answered, fault_sends, is_answered, plays_err}
+use Rattle.script_play.proofs.HaltedLines.{request_halts}
 use Rattle.script_play.proofs.Steps.{cause_err}
+use Rattle.script_play.specs.declared.halt.Halt.{Halt}
 use Rattle.script_play.specs.declared.halt.Halt.TheVariants.{NoMemory}
 use Rattle.script_play.proofs.Worlds.{nothing_done}
 use Rattle.script_play.proofs.asking.ask.Goals as goal
@@ -82,3 +85,14 @@ returns-in_err-tell-in-Err-clause-cause g c =
     let sink' = g.O.Sink.faults c.tell.new.out in
     gives_with (PlayCause {T = Bool} link link sink sink') halt _ c.from_residual-in_err-tell-in-Err.ensures.1
     (cause_err (Unit {0}) Bool link link sink sink' halt (c.in_err-tell-in-Err.ensures.cause link))
+
+pub returns-in_err-send-in-Ok-clause-halts : goal.returns-in_err-send-in-Ok-clause-halts
+returns-in_err-send-in-Ok-clause-halts g c P names t ms answers =
+    let halt = c.in_err-send-in-Ok.field-0.0 in
+    let sent = g.L.Link.sent c.args.link.now in
+    let sent' = g.L.Link.sent c.send.new.link in
+    let written = g.O.Sink.written c.args.out.now in
+    let here = subst (λ r. Answers (λ x. Unit {0}) t r) c.in-Ok.is answers in
+    gives_with (λ (r : Result Bool Halt). OnLinkFault r (HaltsAt P names (world sent written c.args.last.now) (world sent' written c.args.last.now) (asked_play t c.args.session ms rests).deeds))
+    halt _ c.from_residual.ensures.1
+    (request_halts P names Bool t.answer t.client c.args.session ms (request_meant c.in-Ok.request) sent sent' written c.args.last.now halt here.0 c.in_err-send-in-Ok.ensures.sends)

@@ -2,9 +2,12 @@ use Rattle.std.proofs.Common.{◌≡◌, sym, ap, ◌∙◌, subst}
 use Rattle.mode_vm.specs.Meanings.{program_of}
 use Rattle.verifier_mode.proofs.Given.{gives_with}
 use Rattle.ask_core.specs.Sessions.{StandsFor, some_calls, some_waits}
-use Rattle.script_play.specs.Plays.{lets_run, take_replies}
+use Rattle.session_meaning.specs.Messages.{Go}
+use Rattle.script_play.specs.Halting.{PlaysTo}
+use Rattle.script_play.specs.Plays.{lets_run, most_rounds, take_replies}
 use Rattle.script_play.specs.Playing.{PlayCause, PlaysAs, names_of, own_of, world}
-use Rattle.script_play.proofs.Asked.{still_coming}
+use Rattle.script_play.proofs.Asked.{sent_world, still_coming}
+use Rattle.script_play.proofs.HaltedLines.{run_halts, run_more}
 use Rattle.script_play.proofs.Played.{run_plays, run_unsent}
 use Rattle.script_play.proofs.playing.let_run.Goals as goal
 use Rattle.script_play.proofs.playing.let_run.Goals.{then-any_calls+in_ok-send, else-any_calls}
@@ -62,3 +65,43 @@ returns-clause-cause g c =
     ] in
     subst (λ l. PlayCause l (g.L.Source.faults c.take_replies.new.link) (g.O.Sink.faults c.args.out.now) (g.O.Sink.faults c.take_replies.new.out) c.take_replies.result) faults
     c.take_replies.ensures.cause
+
+pub returns-in_err-send-clause-halts : goal.returns-in_err-send-clause-halts
+returns-in_err-send-clause-halts g c m bytes is told =
+    let code = c.args.core.now.code in
+    let P = program_of code in
+    let hash = g.H.Hash32.hash in
+    let halt = c.in_err-send.field-0.0 in
+    let left = g.L.Source.left c.send.new.link in
+    let sent = g.L.Link.sent c.args.link.now in
+    let sent' = g.L.Link.sent c.send.new.link in
+    let written = g.O.Sink.written c.args.out.now in
+    let Is = StandsFor c.args.core.now in
+    gives_with (PlaysTo P (names_of code) {T = Unit {0}} Is bytes left (world sent written c.args.last.now) (world sent' written c.args.last.now)
+    (lets_run hash P (own_of code) (some_calls m) m)) halt _ c.from_residual.ensures.1
+    (run_halts P (names_of code) hash (own_of code) m (some_calls m) (sym (c.any_calls.ensures m is) ∙ c.if-any_calls.true) sent sent' written c.args.last.now Is bytes left
+    (c.send.ensures.left ∙ told) halt c.in_err-send.ensures.sends)
+
+pub returns-clause-halts : goal.returns-clause-halts
+returns-clause-halts g c m bytes is told =
+    let code = c.args.core.now.code in
+    let P = program_of code in
+    let hash = g.H.Hash32.hash in
+    let own = own_of code in
+    let sent = g.L.Link.sent c.args.link.now in
+    let written = g.O.Sink.written c.args.out.now in
+    let first = world sent written c.args.last.now in
+    let later = world (g.L.Link.sent c.take_replies.new.link) (g.O.Sink.written c.take_replies.new.out) c.take_replies.new.last in
+    let left = g.L.Source.left c.take_replies.new.link in
+    let Is = StandsFor c.take_replies.new.core in
+    elim c.if-any_calls.branch [
+      | then-any_calls+in_ok-send w ↦
+          let behind = g.L.Link.sent c.if-any_calls.link in
+          run_more P (names_of code) hash own m (some_calls m) (sym (c.any_calls.ensures m is) ∙ w.if-any_calls.true) sent behind written c.args.last.now Is bytes left
+          (sent_world P (names_of code) (Go most_rounds) sent behind written c.args.last.now (ap g.L.Link.sent w.link-is ∙ w.in_ok-send.ensures.sends)) later c.take_replies.result
+          (c.take_replies.ensures.halts m bytes is (ap g.L.Source.left w.link-is ∙ w.send.ensures.left ∙ told))
+      | else-any_calls w ↦
+          subst (λ b. PlaysTo P (names_of code) Is bytes left first later (lets_run hash P own b m) c.take_replies.result) (sym (sym (c.any_calls.ensures m is) ∙ w.if-any_calls.false))
+          (subst (λ l. PlaysTo P (names_of code) Is bytes left (world l written c.args.last.now) later (take_replies hash P own some_waits m) c.take_replies.result)
+          (ap g.L.Link.sent w.link-is) (c.take_replies.ensures.halts m bytes is (ap g.L.Source.left w.link-is ∙ told)))
+    ]

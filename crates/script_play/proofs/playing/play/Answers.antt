@@ -9,8 +9,10 @@ use Rattle.wire_form.proofs.Moving.{moves_on}
 use Rattle.ask_core.specs.Sessions.{StandsFor}
 use Rattle.ask_script.specs.ScriptAnswers.{step_meant}
 use Rattle.ask_script.specs.Scripts.{Fits}
+use Rattle.script_play.specs.Halting.{PlaysTo}
 use Rattle.script_play.specs.Plays.{play, play_step}
 use Rattle.script_play.specs.Playing.{PlaysAs, names_of, own_of, world}
+use Rattle.script_play.proofs.Halted.{begins_to, breaks_to, ends_to, goes_on_to}
 use Rattle.script_play.proofs.Played.{line_next, none_moved}
 use Rattle.script_play.proofs.Worlds.{begins_so, ends_so, goes_on_so, halts_so}
 use Rattle.script_play.proofs.playing.play.Goals as goal
@@ -26,6 +28,8 @@ loop-step-init g c = record {
   far = λ m ms is comes. begins_so (program_of c.args.core.now.code) (names_of c.args.core.now.code)
       (play g.H.Hash32.hash (program_of c.args.core.now.code) (own_of c.args.core.now.code) c.args.state.now (map step_meant c.args.steps.now))
       (StandsFor c.args.core.now) _ _ m ms is comes;
+  far_to = λ m bytes is told. begins_to (program_of c.args.core.now.code) (names_of c.args.core.now.code) (StandsFor c.args.core.now) bytes _ _
+      (play g.H.Hash32.hash (program_of c.args.core.now.code) (own_of c.args.core.now.code) c.args.state.now (map step_meant c.args.steps.now)) m is told;
 }
 
 pub play_step-requires-clause-step : goal.play_step-requires-clause-step
@@ -67,6 +71,16 @@ loop-step-preserved g c =
           (subst (λ k. PlaysAs (program_of k) (names_of k) {T = Unit {0}} (StandsFor new) left here later
           (play_step hash (program_of k) (own_of k) c.args.state.now (step_meant step) far.client far.coming) (Ok (tt {0}))) before.code
           (c.in_ok-play_step.ensures.plays far.client far.coming far.stands far.comes));
+      far_to = λ m bytes is told.
+          let far = before.far_to m bytes is told in
+          goes_on_to P (names_of code) (StandsFor c.loop-step.core) bytes (g.L.Source.left c.loop-step.link) first here
+          (play hash P own c.args.state.now (map step_meant steps) m) (play hash P own c.args.state.now (map step_meant (drop i steps))) far
+          (play hash P own c.args.state.now (map step_meant (drop (i + 1) steps))) (play_step hash P own c.args.state.now (step_meant step) far.client)
+          (λ ms. line_next hash P own c.args.state.now steps i step c.loop-step-test.true c.step-item.is far.client ms)
+          (StandsFor new) left later
+          (subst (λ k. PlaysTo (program_of k) (names_of k) {T = Unit {0}} (StandsFor new) far.rest left here later
+          (play_step hash (program_of k) (own_of k) c.args.state.now (step_meant step) far.client) (Ok (tt {0}))) before.code
+          (c.in_ok-play_step.ensures.halts far.client far.rest far.stands far.left));
     }
 
 pub returns-in_err-play_step-clause-plays : goal.returns-in_err-play_step-clause-plays
@@ -119,4 +133,47 @@ pub play_step-requires-clause-own : goal.play_step-requires-clause-own
 play_step-requires-clause-own g c κs within =
     ap (λ k. length (own_of k)) c.loop-step.invariant.code ∙ ap (λ k. length (own_of k)) (sym c.code.ensures)
     ∙ ap (λ (p : Program). length p.text_digest.0) (sym c.program.ensures) ∙ ap (λ (d : Digest). length d.0) (sym c.text_digest.ensures)
-    ∙ ap length (sym c.digest_bytes.ensures.bytes) ∙ c.digest_bytes.ensures.length
+    ∙ ap length (sym c.as_bytes.ensures.bytes) ∙ c.as_bytes.ensures.length
+
+pub returns-in_err-play_step-clause-halts : goal.returns-in_err-play_step-clause-halts
+returns-in_err-play_step-clause-halts g c m bytes is told =
+    let code = c.args.core.now.code in
+    let hash = g.H.Hash32.hash in
+    let P = program_of code in
+    let own = own_of code in
+    let steps = c.args.steps.now in
+    let step = c.step-item.result in
+    let i = c.loop-step.step-index in
+    let before = c.loop-step.invariant in
+    let far = before.far_to m bytes is told in
+    let halt = c.in_err-play_step.field-0.0 in
+    let new = c.play_step.new.core in
+    let whole = play hash P own c.args.state.now (map step_meant steps) m in
+    let first = world (g.L.Link.sent c.args.link.now) (g.O.Sink.written c.args.out.now) c.args.last.now in
+    let here = world (g.L.Link.sent c.loop-step.link) (g.O.Sink.written c.loop-step.out) c.loop-step.last in
+    let later = world (g.L.Link.sent c.play_step.new.link) (g.O.Sink.written c.play_step.new.out) c.play_step.new.last in
+    let left = g.L.Source.left c.play_step.new.link in
+    gives_with (PlaysTo P (names_of code) {T = Unit {0}} (StandsFor new) bytes left first later whole) halt _ c.from_residual.ensures.1
+    (breaks_to P (names_of code) (StandsFor c.loop-step.core) bytes (g.L.Source.left c.loop-step.link) first here whole
+    (play hash P own c.args.state.now (map step_meant (drop i steps))) far
+    (play hash P own c.args.state.now (map step_meant (drop (i + 1) steps))) (play_step hash P own c.args.state.now (step_meant step) far.client)
+    (λ ms. line_next hash P own c.args.state.now steps i step c.loop-step-test.true c.step-item.is far.client ms)
+    (StandsFor new) (StandsFor new) left later halt
+    (subst (λ k. PlaysTo (program_of k) (names_of k) {T = Unit {0}} (StandsFor new) far.rest left here later
+    (play_step hash (program_of k) (own_of k) c.args.state.now (step_meant step) far.client) (Err halt)) before.code
+    (c.in_err-play_step.ensures.halts far.client far.rest far.stands far.left)))
+
+pub returns-clause-halts : goal.returns-clause-halts
+returns-clause-halts g c m bytes is told =
+    let code = c.args.core.now.code in
+    let hash = g.H.Hash32.hash in
+    let P = program_of code in
+    let own = own_of code in
+    let steps = c.args.steps.now in
+    let i = c.loop-step.step-index in
+    let first = world (g.L.Link.sent c.args.link.now) (g.O.Sink.written c.args.out.now) c.args.last.now in
+    let here = world (g.L.Link.sent c.loop-step.link) (g.O.Sink.written c.loop-step.out) c.loop-step.last in
+    let far = c.loop-step.invariant.far_to m bytes is told in
+    ends_to P (names_of code) (StandsFor c.loop-step.core) bytes (g.L.Source.left c.loop-step.link) first here
+    (play hash P own c.args.state.now (map step_meant steps) m) (play hash P own c.args.state.now (map step_meant (drop i steps))) far
+    (λ ms. ap (λ ss. play hash P own c.args.state.now (map step_meant ss) far.client ms) (drop_all i steps c.loop-step-test.false))

@@ -2,9 +2,11 @@ use Rattle.std.proofs.Common.{Ok, Err, sym, ◌∙◌, subst, refl}
 use Rattle.mode_vm.specs.Meanings.{program_of}
 use Rattle.verifier_mode.proofs.Given.{gives_with}
 use Rattle.ask_core.specs.Sessions.{StandsFor}
+use Rattle.script_play.specs.Halting.{PlaysTo}
 use Rattle.script_play.specs.Plays.{take_replies}
 use Rattle.script_play.specs.Playing.{PlaysAs, names_of, own_of, take_one, waits_for, world}
 use Rattle.wire_form.proofs.Moving.{moves_on}
+use Rattle.script_play.proofs.Halted.{begins_to, breaks_to, ends_to, goes_on_to}
 use Rattle.script_play.proofs.Played.{none_moved}
 use Rattle.script_play.proofs.Worlds.{begins_so, ends_so, goes_on_so, halts_so, waits_more, waits_no_more}
 use Rattle.script_play.proofs.taking.take_replies.Goals as goal
@@ -20,6 +22,8 @@ loop-alloc-init g c = record {
   far = λ m ms is comes. begins_so (program_of c.args.core.now.code) (names_of c.args.core.now.code)
       (take_replies g.H.Hash32.hash (program_of c.args.core.now.code) (own_of c.args.core.now.code) (waits_for c.args.whose))
       (StandsFor c.args.core.now) _ _ m ms is comes;
+  far_to = λ m bytes is told. begins_to (program_of c.args.core.now.code) (names_of c.args.core.now.code) (StandsFor c.args.core.now) bytes _ _
+      (take_replies g.H.Hash32.hash (program_of c.args.core.now.code) (own_of c.args.core.now.code) (waits_for c.args.whose)) m is told;
 }
 
 pub loop-alloc-preserved : goal.loop-alloc-preserved
@@ -51,6 +55,14 @@ loop-alloc-preserved g c =
           (StandsFor new) left later (tt {0})
           (subst (λ k. PlaysAs (program_of k) (names_of k) {T = Unit {0}} (StandsFor new) left here later (take_one hash (program_of k) (own_of k) far.client far.coming) (Ok (tt {0}))) before.code
           (c.in_ok-take_one.ensures.plays far.client far.coming far.stands far.comes));
+      far_to = λ m bytes is told.
+          let far = before.far_to m bytes is told in
+          let more = take_replies hash P own (waits_for c.args.whose) in
+          goes_on_to P (names_of code) (StandsFor c.loop-alloc.core) bytes (g.L.Source.left c.loop-alloc.link) first here (more m) more far more
+          (take_one hash P own far.client) (λ ms. waits_more hash P own (waits_for c.args.whose) far.client ms (sym (c.waits.ensures far.client far.stands) ∙ c.loop-alloc-test.true))
+          (StandsFor new) left later
+          (subst (λ k. PlaysTo (program_of k) (names_of k) {T = Unit {0}} (StandsFor new) far.rest left here later (take_one hash (program_of k) (own_of k) far.client) (Ok (tt {0}))) before.code
+          (c.in_ok-take_one.ensures.halts far.client far.rest far.stands far.left));
     }
 
 pub returns-in_err-take_one-clause-plays : goal.returns-in_err-take_one-clause-plays
@@ -91,3 +103,38 @@ returns-clause-plays g c m ms is comes =
 
 pub returns-in_err-take_one-clause-moves : goal.returns-in_err-take_one-clause-moves
 returns-in_err-take_one-clause-moves g c = moves_on _ _ _ _ _ _ c.loop-alloc.invariant.moves c.in_err-take_one.ensures.moves
+
+pub returns-in_err-take_one-clause-halts : goal.returns-in_err-take_one-clause-halts
+returns-in_err-take_one-clause-halts g c m bytes is told =
+    let code = c.args.core.now.code in
+    let hash = g.H.Hash32.hash in
+    let P = program_of code in
+    let own = own_of code in
+    let before = c.loop-alloc.invariant in
+    let far = before.far_to m bytes is told in
+    let halt = c.in_err-take_one.field-0.0 in
+    let new = c.take_one.new.core in
+    let more = take_replies hash P own (waits_for c.args.whose) in
+    let first = world (g.L.Link.sent c.args.link.now) (g.O.Sink.written c.args.out.now) c.args.last.now in
+    let here = world (g.L.Link.sent c.loop-alloc.link) (g.O.Sink.written c.loop-alloc.out) c.loop-alloc.last in
+    let later = world (g.L.Link.sent c.take_one.new.link) (g.O.Sink.written c.take_one.new.out) c.take_one.new.last in
+    let left = g.L.Source.left c.take_one.new.link in
+    gives_with (PlaysTo P (names_of code) {T = Unit {0}} (StandsFor new) bytes left first later (more m)) halt _ c.from_residual.ensures.1
+    (breaks_to P (names_of code) (StandsFor c.loop-alloc.core) bytes (g.L.Source.left c.loop-alloc.link) first here (more m) more far more (take_one hash P own far.client)
+    (λ ms. waits_more hash P own (waits_for c.args.whose) far.client ms (sym (c.waits.ensures far.client far.stands) ∙ c.loop-alloc-test.true))
+    (StandsFor new) (StandsFor new) left later halt
+    (subst (λ k. PlaysTo (program_of k) (names_of k) {T = Unit {0}} (StandsFor new) far.rest left here later (take_one hash (program_of k) (own_of k) far.client) (Err halt)) before.code
+    (c.in_err-take_one.ensures.halts far.client far.rest far.stands far.left)))
+
+pub returns-clause-halts : goal.returns-clause-halts
+returns-clause-halts g c m bytes is told =
+    let code = c.args.core.now.code in
+    let hash = g.H.Hash32.hash in
+    let P = program_of code in
+    let own = own_of code in
+    let more = take_replies hash P own (waits_for c.args.whose) in
+    let first = world (g.L.Link.sent c.args.link.now) (g.O.Sink.written c.args.out.now) c.args.last.now in
+    let here = world (g.L.Link.sent c.loop-alloc.link) (g.O.Sink.written c.loop-alloc.out) c.loop-alloc.last in
+    let far = c.loop-alloc.invariant.far_to m bytes is told in
+    ends_to P (names_of code) (StandsFor c.loop-alloc.core) bytes (g.L.Source.left c.loop-alloc.link) first here (more m) more far
+    (λ ms. waits_no_more hash P own (waits_for c.args.whose) far.client ms (sym (c.waits.ensures far.client far.stands) ∙ c.loop-alloc-test.false))

@@ -1,9 +1,10 @@
-use Rattle.std.proofs.Common.{◌≡◌}
+use Rattle.std.proofs.Common.{◌≡◌, ℕ, List, Some}
 use Rattle.mode_vm.specs.Meanings.{program_of}
 use Rattle.session_meaning.specs.Client.{Client}
 use Rattle.session_meaning.specs.Messages.{Messages, Reply}
 use Rattle.wire_form.specs.MovedBytes.{Moves}
 use Rattle.ask_core.specs.Sessions.{StandsFor, StandsForSome, sessions_waiting}
+use Rattle.script_play.specs.Halting.{TakesSoFar}
 use Rattle.script_play.specs.Plays.{take_replies}
 use Rattle.script_play.specs.Playing.{AreComing, names_of, own_of, waits_for, world}
 use Rattle.script_play.proofs.Worlds.{SoFar}
@@ -23,6 +24,11 @@ invariant-loop-alloc g l = record {
       (take_replies g.H.Hash32.hash (program_of l.fn.core.code) (own_of l.fn.core.code) (waits_for l.fn.whose))
       (StandsFor l.core) (g.L.Source.left l.link)
       (world (g.L.Link.sent l.fn.link) (g.O.Sink.written l.fn.out) l.fn.last) (world (g.L.Link.sent l.link) (g.O.Sink.written l.out) l.last);
+  far_to : (m : Client) (bytes : List ℕ) → StandsFor l.fn.core m → g.L.Source.left l.fn.link ≡ Some bytes
+      → TakesSoFar (program_of l.fn.core.code) (names_of l.fn.core.code) (StandsFor l.core) bytes (g.L.Source.left l.link)
+      (world (g.L.Link.sent l.fn.link) (g.O.Sink.written l.fn.out) l.fn.last) (world (g.L.Link.sent l.link) (g.O.Sink.written l.out) l.last)
+      (take_replies g.H.Hash32.hash (program_of l.fn.core.code) (own_of l.fn.core.code) (waits_for l.fn.whose) m)
+      (take_replies g.H.Hash32.hash (program_of l.fn.core.code) (own_of l.fn.core.code) (waits_for l.fn.whose));
 }
 
 abbrev pub decreases-loop-alloc : goal.decreases-loop-alloc

@@ -51,7 +51,7 @@ returns-in-Ok-false-clause-served g c = λ bytes told server serves.
     let so_far = loop.served bytes told server serves in
     let ended = served_at hash now new so_far.current (g.L.Link.sent before) (g.L.Link.sent behind) so_far.rest (g.L.Source.left behind) (Ok c.in-Ok-false.field-0) (Ok false)
     (ap Ok c.in-Ok-false.field-0-test) (c.in-Ok-false.ensures.served so_far.rest so_far.told so_far.current so_far.serves) in
-    ends_now hash first now loop.code server (g.L.Link.sent c.args.link.now) (g.L.Link.sent before) (g.L.Link.sent behind) bytes (g.L.Source.left before) so_far new Over ended
+    ends_now hash first now loop.code server (g.L.Link.sent c.args.link.now) (g.L.Link.sent before) (g.L.Link.sent behind) bytes (g.L.Source.left before) so_far new (g.L.Source.left behind) Over ended
 
 pub returns-in-Ok-false-clause-moves : goal.returns-in-Ok-false-clause-moves
 returns-in-Ok-false-clause-moves g c = moves_on _ _ _ _ _ _ c.loop-core.invariant.moves c.serve_message.ensures.moves
@@ -69,7 +69,7 @@ returns-in-Err-LinkFault-clause-served g c = λ bytes told server serves.
     let off = served_at hash now broken so_far.current (g.L.Link.sent before) (g.L.Link.sent behind) so_far.rest (g.L.Source.left behind) (Err c.in-Err-LinkFault.field-0) (Err halt.LinkFault)
     (ap Err c.in-Err-LinkFault.field-0-is) (c.in-Err-LinkFault.ensures.served so_far.rest so_far.told so_far.current so_far.serves) in
     breaks_now hash first now loop.code server (g.L.Link.sent c.args.link.now) (g.L.Link.sent before) (g.L.Link.sent behind) bytes (g.L.Source.left before) so_far
-    broken c.end_at_fault.new.core c.end_at_fault.result c.end_at_fault.ensures.broken off (c.end_at_fault.ensures.ended _ off.serves)
+    broken c.end_at_fault.new.core (g.L.Source.left behind) c.end_at_fault.result c.end_at_fault.ensures.broken off (c.end_at_fault.ensures.ended _ off.serves)
 
 pub returns-in-Err-LinkFault-clause-history : goal.returns-in-Err-LinkFault-clause-history
 returns-in-Err-LinkFault-clause-history g c =
@@ -92,7 +92,7 @@ returns-in-Err-NoMemory-clause-served g c = λ bytes told server serves.
     let so_far = loop.served bytes told server serves in
     let ended = served_at hash now new so_far.current (g.L.Link.sent before) (g.L.Link.sent behind) so_far.rest (g.L.Source.left behind) (Err c.in-Err-NoMemory.field-0) (Err halt.NoMemory)
     (ap Err c.in-Err-NoMemory.field-0-is) (c.in-Err-NoMemory.ensures.served so_far.rest so_far.told so_far.current so_far.serves) in
-    ends_now hash first now loop.code server (g.L.Link.sent c.args.link.now) (g.L.Link.sent before) (g.L.Link.sent behind) bytes (g.L.Source.left before) so_far new NoMemory ended
+    ends_now hash first now loop.code server (g.L.Link.sent c.args.link.now) (g.L.Link.sent before) (g.L.Link.sent behind) bytes (g.L.Source.left before) so_far new (g.L.Source.left behind) NoMemory ended
 
 pub returns-in-Err-NoMemory-clause-moves : goal.returns-in-Err-NoMemory-clause-moves
 returns-in-Err-NoMemory-clause-moves g c = moves_on _ _ _ _ _ _ c.loop-core.invariant.moves c.serve_message.ensures.moves

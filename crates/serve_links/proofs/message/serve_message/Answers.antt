@@ -6,7 +6,8 @@ use Rattle.serve_links.proofs.message.serve_message.Goals as goal
 pub returns-in_err-heard-clause-served : goal.returns-in_err-heard-clause-served
 returns-in_err-heard-clause-served g c = λ bytes told server serves.
     unread g.H.Hash32.hash c.args.core.now server (g.L.Link.sent c.args.link.now) (g.L.Link.sent c.next_heard.new.link) bytes
-    (g.L.Source.left c.next_heard.new.link) c.in_err-heard.field-0.0 c.from_residual.result c.from_residual.ensures.1 c.next_heard.ensures.sent serves
+    (g.L.Source.left c.next_heard.new.link) c.in_err-heard.field-0.0 c.from_residual.result c.from_residual.ensures.1 c.next_heard.ensures.sent
+    (c.in_err-heard.ensures.hears bytes told) serves
 
 pub returns-in_err-closing-clause-served : goal.returns-in_err-closing-clause-served
 returns-in_err-closing-clause-served g c = λ bytes told server serves.

@@ -1,4 +1,5 @@
 use Rattle.std.proofs.Common.{◌≡◌, ◌∙◌, subst}
+use Rattle.std.proofs.lemmas.Result.{IfOk-weaker}
 use Rattle.core_terms.specs.Formats.{IsHash}
 use Rattle.core_terms.specs.Programs.{meaning, types_of}
 use Rattle.core_terms.specs.ProgramTypes.{types_by_number, types_meaning}
@@ -7,7 +8,6 @@ use Rattle.core_terms.specs.TypeTables.{type_at}
 use Rattle.core_terms.specs.declared.program.Program.{Program}
 use Rattle.code_gen.specs.Programs.{program_in}
 use Rattle.value_store.specs.Stores.{nodes_in}
-use Rattle.session_turns.proofs.Rows.{if_ok}
 use Rattle.session_turns.proofs.Spellings.{stands, spelled, shown}
 use Rattle.session_turns.proofs.versions.version_spelling.Goals as goal
 
@@ -30,7 +30,7 @@ returns g c =
     let given = c.types.result.now in
     let id = c.state_type-ty.result in
     let at : type_at (types_of p) id ≡ (meaning p).state = subst (λ (q : Program). type_at (types_of q) id ≡ (meaning q).state) c.program.ensures c.state_type-ty.ensures.state in
-    if_ok _ _
+    IfOk-weaker c.spell.result _ _
     (λ bytes h v is. h hash v is_hash (stands hash p given c.types.ensures id at (nodes_in c.args.store.now) c.args.version v is)
     ∙ spelled hash p given c.types.ensures id at (nodes_in c.args.store.now) c.args.version v is)
-    c.spell.result c.spell.ensures.projected
+    c.spell.ensures.projected

@@ -1,10 +1,11 @@
 use Rattle.std.proofs.Common.{◌∙◌, ap}
+use Rattle.std.proofs.lemmas.Result.{IfOk-weaker}
 use Rattle.core_terms.specs.Formats.{IsHash}
 use Rattle.core_terms.specs.ProgramTypes.{types_meaning}
 use Rattle.core_terms.specs.Projection.{digest_at, projection}
 use Rattle.value_store.specs.Nodes.{AuthNode, BothHeld}
 use Rattle.value_store.specs.Standing.{ProverNodes}
-use Rattle.value_store.proofs.MarkedNodes.{if_ok, refers_there}
+use Rattle.value_store.proofs.MarkedNodes.{refers_there}
 use Rattle.value_store.proofs.ProverNodes.{shown_shallow}
 use Rattle.shallow_codec.specs.ProgramTypes.{ty_of}
 use Rattle.shallow_codec.proofs.GrownNodes.{put_grows, put_refused}
@@ -32,7 +33,7 @@ returns-clause-stands g c =
     let is_hash : IsHash hash = (g.met.H.Hash32 g.world.𝓛 g.world.𝓜 g.world.𝓡 ((λ s x. x), (λ x. x), (λ x. x), (λ x. x))).digest_length in
     let P = types_meaning c.args.types.now in
     let t = ty_of c.args.types.now c.args.ty in
-    if_ok c.put_auth.result _ _ (λ r holds x stands. holds (ProverNodes (digest_at hash P)) P.types t x
+    IfOk-weaker c.put_auth.result _ _ (λ r holds x stands. holds (ProverNodes (digest_at hash P)) P.types t x
     (stands, c.of-digest.ensures ∙ ap (digest_at hash P t) (c.as_bytes.ensures ∙ c.in_ok-spelling.ensures.projected hash x is_hash stands)))
     c.put_auth.ensures.stands
 

@@ -6,15 +6,23 @@ use Rattle.wire_form.proofs.body.hello.Goals as goal
 
 pub returns-in_err-session : goal.returns-in_err-session
 returns-in_err-session c =
-    handed_on request_meant _ c.in_err-session.field-0.0 c.from_residual.result c.from_residual.ensures.1 (of_field (meant.session_field c.args.body.now) _ _ (hello_program) (refl) c.in_err-session.ensures.requests)
+    let r = c.from_residual in
+    handed_on request_meant _ c.in_err-session.field-0.0 r.result r.ensures.1
+    (of_field (meant.session_field c.args.body.now) _ _ hello_program refl c.in_err-session.ensures.requests)
 
 pub returns-in_err-program : goal.returns-in_err-program
 returns-in_err-program c =
-    handed_on request_meant _ c.in_err-program.field-0.0 c.from_residual-in_err-program.result c.from_residual-in_err-program.ensures.1 (of_field (meant.program_field c.in_ok-session.behind.now) _ _ (hello_number c.in_ok-session.session) (c.in_ok-session.ensures.requests hello_program) c.in_err-program.ensures)
+    let r = c.from_residual-in_err-program in
+    handed_on request_meant _ c.in_err-program.field-0.0 r.result r.ensures.1
+    (of_field (meant.program_field c.in_ok-session.behind.now) _ _ (hello_number c.in_ok-session.session)
+    (c.in_ok-session.ensures.requests hello_program) c.in_err-program.ensures)
 
 pub returns-in_err-kept : goal.returns-in_err-kept
 returns-in_err-kept c =
-    handed_on request_meant _ c.in_err-kept.field-0.0 c.from_residual-in_err-kept.result c.from_residual-in_err-kept.ensures.1 (of_field (meant.field 2 meant.u16_in 35 c.in_ok-program.behind.now) _ _ (hello_end c.in_ok-session.session c.in_ok-program.program.0) (c.in_ok-session.ensures.requests hello_program ∙ c.in_ok-program.ensures (hello_number c.in_ok-session.session)) c.in_err-kept.ensures.requests)
+    let r = c.from_residual-in_err-kept in
+    handed_on request_meant _ c.in_err-kept.field-0.0 r.result r.ensures.1
+    (of_field (meant.field 2 meant.u16_in 35 c.in_ok-program.behind.now) _ _ (hello_end c.in_ok-session.session c.in_ok-program.program.0)
+    (c.in_ok-session.ensures.requests hello_program ∙ c.in_ok-program.ensures (hello_number c.in_ok-session.session)) c.in_err-kept.ensures.requests)
 
 pub returns : goal.returns
 returns c =

@@ -6,7 +6,10 @@ use Rattle.wire_form.proofs.body.stale.Goals as goal
 
 pub returns-in_err-session : goal.returns-in_err-session
 returns-in_err-session c =
-    handed_on reply_meant _ c.in_err-session.field-0.0 c.from_residual.result c.from_residual.ensures.1 (of_field (meant.session_field c.args.body.now) _ _ (λ session state. meant.Says (meant.Stale session state)) (refl) c.in_err-session.ensures.replies)
+    let r = c.from_residual in
+    handed_on reply_meant _ c.in_err-session.field-0.0 r.result r.ensures.1
+    (of_field (meant.session_field c.args.body.now) _ _ (λ session state. meant.Says (meant.Stale session state))
+    refl c.in_err-session.ensures.replies)
 
 pub returns : goal.returns
 returns c =

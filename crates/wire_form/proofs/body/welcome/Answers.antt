@@ -6,11 +6,16 @@ use Rattle.wire_form.proofs.body.welcome.Goals as goal
 
 pub returns-in_err-session : goal.returns-in_err-session
 returns-in_err-session c =
-    handed_on reply_meant _ c.in_err-session.field-0.0 c.from_residual.result c.from_residual.ensures.1 (of_field (meant.session_field c.args.body.now) _ _ (welcome_end) (refl) c.in_err-session.ensures.replies)
+    let r = c.from_residual in
+    handed_on reply_meant _ c.in_err-session.field-0.0 r.result r.ensures.1
+    (of_field (meant.session_field c.args.body.now) _ _ welcome_end refl c.in_err-session.ensures.replies)
 
 pub returns-in_err-end : goal.returns-in_err-end
 returns-in_err-end c =
-    handed_on reply_meant _ c.in_err-end.field-0.0 c.from_residual-in_err-end.result c.from_residual-in_err-end.ensures.1 (of_field (meant.ends_at 3 c.in_ok-session.behind.now) _ _ (meant.Welcome c.in_ok-session.session) (c.in_ok-session.ensures.replies welcome_end) c.in_err-end.ensures.replies)
+    let r = c.from_residual-in_err-end in
+    handed_on reply_meant _ c.in_err-end.field-0.0 r.result r.ensures.1
+    (of_field (meant.ends_at 3 c.in_ok-session.behind.now) _ _ (meant.Welcome c.in_ok-session.session)
+    (c.in_ok-session.ensures.replies welcome_end) c.in_err-end.ensures.replies)
 
 pub returns : goal.returns
 returns c =

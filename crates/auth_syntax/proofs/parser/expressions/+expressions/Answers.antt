@@ -1,19 +1,17 @@
-use Rattle.std.proofs.Common.{◌≡◌, ◌∙◌, true, false, refl, ap, subst, sym, List, map, arith}
+use Rattle.std.proofs.Common.{◌≡◌, ◌∙◌, refl, ap, subst, sym, arith}
 use Rattle.std.proofs.lemmas.Result.{err_from_is_err_and}
-use Rattle.lexemes.specs.Tokens.{count}
-use Rattle.lexemes.specs.Readings.{Reading, Found, read_separator}
-use Rattle.auth_syntax.specs.Parsing.{read_expression, read_arm_separator, read_list, read_arms}
+use Rattle.lexemes.specs.Readings.{Reading}
+use Rattle.auth_syntax.specs.Parsing.{read_expression}
 use Rattle.auth_syntax.specs.Parsing as parsing
-use Rattle.auth_syntax.specs.Arms.{read_arm}
-use Rattle.auth_syntax.specs.Trees.{boxed_of, expression_of, expressions_of, ArmSyntax, arm_of, arms_of, arms_in_a_row, name_of}
+use Rattle.auth_syntax.specs.Trees.{boxed_of, expression_of, expressions_of, arm_of, arms_of, name_of}
 use Rattle.lexemes.specs.Remaining.{Reads, remaining}
 use Rattle.auth_syntax.specs.Syntax.{ExpSyntax}
 use Rattle.auth_syntax.proofs.Faults.{refused_part}
 use Rattle.auth_syntax.proofs.PartsRead.{arm_is, binary_tree, call_is, constructor_is, if_is, if_tree, let_is, let_tree, match_is, match_tree, none_begun, operation_is, pair_tree, seen_as, unary_tree, unit_or_pair_is}
 use Rattle.auth_syntax.specs.Parts.{both_of, operands_of, operation_of, pattern_of}
 use Rattle.auth_syntax.proofs.LevelSteps.{read_expression-step}
-use Rattle.auth_syntax.proofs.MadeOfTokens.{expression_is_tokens}
-use Rattle.auth_syntax.proofs.Loops.{IsReadSoFar, read_so_far-none, read_so_far-other, read_so_far-end, read_so_far-more, one_is_shorter, listed_by_one, arms_by_one, pushed}
+use Rattle.auth_syntax.proofs.Loops.{arms_by_one, expressions_by_one}
+use Rattle.auth_syntax.proofs.ListTurns.{fewer_left, list_ends, list_goes_on, no_sign, no_thing}
 use Rattle.auth_syntax.proofs.parser.expressions.+expressions.Goals as goal
 
 pub expression-returns-in_err-at : goal.expression-returns-in_err-at
@@ -31,94 +29,61 @@ expression-returns t c =
 
 pub expression_list-returns-in_err-next : goal.expression_list-returns-in_err-next
 expression_list-returns-in_err-next t c =
-    let reads = read_expression c.args.levels in
-    let p = err_from_is_err_and c.from_residual.result c.from_residual.ensures.1 in
-    rw (p.1, p.2) (read_so_far-none read_separator reads (λ expressions. expressions) (λ tokens. read_list reads (count tokens) tokens)
-    (listed_by_one reads (expression_is_tokens c.args.levels)) (remaining c.args.parser.now)
-    (map expression_of c.each.expressions.items) (remaining c.each.parser) c.each.invariant
-    expression_of expressions_of (remaining c.expression.new.parser) (remaining c.expression.new.parser) c.in_err-next.field-0.0 c.in_err-next.ensures)
+    let r = c.from_residual in
+    no_thing (expressions_by_one c.args.levels) expression_of (remaining c.args.parser.now) c.each.expressions.items (remaining c.each.parser) c.each.invariant
+    expressions_of r.result _ (remaining c.expression.new.parser) r.ensures.1 c.in_err-next.ensures
 
 pub expression_list-returns-in_err-listed : goal.expression_list-returns-in_err-listed
 expression_list-returns-in_err-listed t c =
-    let reads = read_expression c.args.levels in
-    let p = err_from_is_err_and c.from_residual-in_err-listed.result c.from_residual-in_err-listed.ensures.1 in
-    rw (p.1, p.2) (read_so_far-other read_separator reads (λ expressions. expressions) (λ tokens. read_list reads (count tokens) tokens)
-    (listed_by_one reads (expression_is_tokens c.args.levels)) (remaining c.args.parser.now)
-    (map expression_of c.each.expressions.items) (remaining c.each.parser) c.each.invariant
-    expressions_of (remaining c.expression.new.parser) (expression_of c.in_ok-next.next) c.in_ok-next.ensures
-    (remaining c.listed.new.parser) (remaining c.listed.new.parser) c.in_err-listed.field-0.0 c.in_err-listed.ensures.follows)
+    let r = c.from_residual-in_err-listed in
+    no_sign (expressions_by_one c.args.levels) expression_of (remaining c.args.parser.now) c.each.expressions.items (remaining c.each.parser) c.each.invariant
+    (remaining c.expression.new.parser) (remaining c.listed.new.parser) c.in_ok-next.next c.in_ok-next.ensures expressions_of r.result _ r.ensures.1 c.in_err-listed.ensures.follows
 
 pub expression_list-returns-then-not-branch : goal.expression_list-returns-then-not-branch
 expression_list-returns-then-not-branch t c =
-    let reads = read_expression c.args.levels in
-    let kept = pushed expression_of c.each.expressions.items c.listed.new.expressions.items c.in_ok-next.next c.in_ok-listed.ensures.added in
-    let closed : read_separator (remaining c.expression.new.parser) ≡ Found false (remaining c.listed.new.parser) = rw c.if-not-branch.true at c.in_ok-listed.ensures.follows in
-    rw kept (read_so_far-end read_separator reads (λ expressions. expressions) (λ tokens. read_list reads (count tokens) tokens)
-    (listed_by_one reads (expression_is_tokens c.args.levels)) (remaining c.args.parser.now)
-    (map expression_of c.each.expressions.items) (remaining c.each.parser) c.each.invariant
-    (remaining c.expression.new.parser) (remaining c.listed.new.parser) (expression_of c.in_ok-next.next) c.in_ok-next.ensures closed)
+    list_ends (expressions_by_one c.args.levels) expression_of (remaining c.args.parser.now) c.each.expressions.items (remaining c.each.parser) c.each.invariant
+    (remaining c.expression.new.parser) (remaining c.listed.new.parser) c.in_ok-next.next c.in_ok-next.ensures c.in_ok-listed.field-0 c.in_ok-listed.ensures.follows
+    c.listed.new.expressions.items c.in_ok-listed.ensures.added c.if-not-branch.true
 
 pub expression_list-each-smaller : goal.expression_list-each-smaller
 expression_list-each-smaller t c =
-    let reads = read_expression c.args.levels in
-    one_is_shorter read_separator reads (λ expressions. expressions) (λ tokens. read_list reads (count tokens) tokens)
-    (listed_by_one reads (expression_is_tokens c.args.levels)) (remaining c.args.parser.now)
-    (map expression_of c.each.expressions.items) (remaining c.each.parser) c.each.invariant
-    (remaining c.expression.new.parser) (remaining c.listed.new.parser) (expression_of c.in_ok-next.next) c.in_ok-listed.field-0 c.in_ok-next.ensures c.in_ok-listed.ensures.follows
+    fewer_left (expressions_by_one c.args.levels) expression_of (remaining c.args.parser.now) c.each.expressions.items (remaining c.each.parser) c.each.invariant
+    (remaining c.expression.new.parser) (remaining c.listed.new.parser) c.in_ok-next.next c.in_ok-next.ensures c.in_ok-listed.field-0 c.in_ok-listed.ensures.follows
 
 pub expression_list-each-preserved : goal.expression_list-each-preserved
 expression_list-each-preserved t c =
-    let reads = read_expression c.args.levels in
-    let kept = pushed expression_of c.each.expressions.items c.listed.new.expressions.items c.in_ok-next.next c.in_ok-listed.ensures.added in
-    let sign : read_separator (remaining c.expression.new.parser) ≡ Found true (remaining c.listed.new.parser) = rw c.if-not-branch.false at c.in_ok-listed.ensures.follows in
-    subst (λ (so_far : List ExpSyntax). IsReadSoFar read_separator reads (remaining c.args.parser.now) so_far (remaining c.listed.new.parser)) (sym kept)
-    (read_so_far-more read_separator reads (λ expressions. expressions) (λ tokens. read_list reads (count tokens) tokens)
-    (listed_by_one reads (expression_is_tokens c.args.levels)) (remaining c.args.parser.now)
-    (map expression_of c.each.expressions.items) (remaining c.each.parser) c.each.invariant
-    (remaining c.expression.new.parser) (remaining c.listed.new.parser) (expression_of c.in_ok-next.next) c.in_ok-next.ensures sign)
+    list_goes_on (expressions_by_one c.args.levels) expression_of (remaining c.args.parser.now) c.each.expressions.items (remaining c.each.parser) c.each.invariant
+    (remaining c.expression.new.parser) (remaining c.listed.new.parser) c.in_ok-next.next c.in_ok-next.ensures c.in_ok-listed.field-0 c.in_ok-listed.ensures.follows
+    c.listed.new.expressions.items c.in_ok-listed.ensures.added c.if-not-branch.false
 
 pub arm_list-returns-in_err-next : goal.arm_list-returns-in_err-next
 arm_list-returns-in_err-next t c =
-    let reads = read_expression c.args.levels in
-    let p = err_from_is_err_and c.from_residual.result c.from_residual.ensures.1 in
-    rw (p.1, p.2) (read_so_far-none read_arm_separator (read_arm reads) arms_in_a_row (λ tokens. read_arms reads (count tokens) tokens)
-    (arms_by_one c.args.levels) (remaining c.args.parser.now) (map arm_of c.each.arms.items) (remaining c.each.parser) c.each.invariant
-    arm_of arms_of (remaining c.arm.new.parser) (remaining c.arm.new.parser) c.in_err-next.field-0.0 c.in_err-next.ensures)
+    let r = c.from_residual in
+    no_thing (arms_by_one c.args.levels) arm_of (remaining c.args.parser.now) c.each.arms.items (remaining c.each.parser) c.each.invariant
+    arms_of r.result _ (remaining c.arm.new.parser) r.ensures.1 c.in_err-next.ensures
 
 pub arm_list-returns-in_err-arm_listed : goal.arm_list-returns-in_err-arm_listed
 arm_list-returns-in_err-arm_listed t c =
-    let reads = read_expression c.args.levels in
-    let p = err_from_is_err_and c.from_residual-in_err-arm_listed.result c.from_residual-in_err-arm_listed.ensures.1 in
-    rw (p.1, p.2) (read_so_far-other read_arm_separator (read_arm reads) arms_in_a_row (λ tokens. read_arms reads (count tokens) tokens)
-    (arms_by_one c.args.levels) (remaining c.args.parser.now) (map arm_of c.each.arms.items) (remaining c.each.parser) c.each.invariant
-    arms_of (remaining c.arm.new.parser) (arm_of c.in_ok-next.next) c.in_ok-next.ensures
-    (remaining c.arm_listed.new.parser) (remaining c.arm_listed.new.parser) c.in_err-arm_listed.field-0.0 c.in_err-arm_listed.ensures.follows)
+    let r = c.from_residual-in_err-arm_listed in
+    no_sign (arms_by_one c.args.levels) arm_of (remaining c.args.parser.now) c.each.arms.items (remaining c.each.parser) c.each.invariant
+    (remaining c.arm.new.parser) (remaining c.arm_listed.new.parser) c.in_ok-next.next c.in_ok-next.ensures arms_of r.result _ r.ensures.1 c.in_err-arm_listed.ensures.follows
 
 pub arm_list-returns-then-not-branch : goal.arm_list-returns-then-not-branch
 arm_list-returns-then-not-branch t c =
-    let reads = read_expression c.args.levels in
-    let kept = pushed arm_of c.each.arms.items c.arm_listed.new.arms.items c.in_ok-next.next c.in_ok-arm_listed.ensures.added in
-    let closed : read_arm_separator (remaining c.arm.new.parser) ≡ Found false (remaining c.arm_listed.new.parser) = rw c.if-not-branch.true at c.in_ok-arm_listed.ensures.follows in
-    rw kept (read_so_far-end read_arm_separator (read_arm reads) arms_in_a_row (λ tokens. read_arms reads (count tokens) tokens)
-    (arms_by_one c.args.levels) (remaining c.args.parser.now) (map arm_of c.each.arms.items) (remaining c.each.parser) c.each.invariant
-    (remaining c.arm.new.parser) (remaining c.arm_listed.new.parser) (arm_of c.in_ok-next.next) c.in_ok-next.ensures closed)
+    list_ends (arms_by_one c.args.levels) arm_of (remaining c.args.parser.now) c.each.arms.items (remaining c.each.parser) c.each.invariant
+    (remaining c.arm.new.parser) (remaining c.arm_listed.new.parser) c.in_ok-next.next c.in_ok-next.ensures c.in_ok-arm_listed.field-0 c.in_ok-arm_listed.ensures.follows
+    c.arm_listed.new.arms.items c.in_ok-arm_listed.ensures.added c.if-not-branch.true
 
 pub arm_list-each-smaller : goal.arm_list-each-smaller
 arm_list-each-smaller t c =
-    let reads = read_expression c.args.levels in
-    one_is_shorter read_arm_separator (read_arm reads) arms_in_a_row (λ tokens. read_arms reads (count tokens) tokens)
-    (arms_by_one c.args.levels) (remaining c.args.parser.now) (map arm_of c.each.arms.items) (remaining c.each.parser) c.each.invariant
-    (remaining c.arm.new.parser) (remaining c.arm_listed.new.parser) (arm_of c.in_ok-next.next) c.in_ok-arm_listed.field-0 c.in_ok-next.ensures c.in_ok-arm_listed.ensures.follows
+    fewer_left (arms_by_one c.args.levels) arm_of (remaining c.args.parser.now) c.each.arms.items (remaining c.each.parser) c.each.invariant
+    (remaining c.arm.new.parser) (remaining c.arm_listed.new.parser) c.in_ok-next.next c.in_ok-next.ensures c.in_ok-arm_listed.field-0 c.in_ok-arm_listed.ensures.follows
 
 pub arm_list-each-preserved : goal.arm_list-each-preserved
 arm_list-each-preserved t c =
-    let reads = read_expression c.args.levels in
-    let kept = pushed arm_of c.each.arms.items c.arm_listed.new.arms.items c.in_ok-next.next c.in_ok-arm_listed.ensures.added in
-    let sign : read_arm_separator (remaining c.arm.new.parser) ≡ Found true (remaining c.arm_listed.new.parser) = rw c.if-not-branch.false at c.in_ok-arm_listed.ensures.follows in
-    subst (λ (so_far : List ArmSyntax). IsReadSoFar read_arm_separator (read_arm reads) (remaining c.args.parser.now) so_far (remaining c.arm_listed.new.parser)) (sym kept)
-    (read_so_far-more read_arm_separator (read_arm reads) arms_in_a_row (λ tokens. read_arms reads (count tokens) tokens)
-    (arms_by_one c.args.levels) (remaining c.args.parser.now) (map arm_of c.each.arms.items) (remaining c.each.parser) c.each.invariant
-    (remaining c.arm.new.parser) (remaining c.arm_listed.new.parser) (arm_of c.in_ok-next.next) c.in_ok-next.ensures sign)
+    list_goes_on (arms_by_one c.args.levels) arm_of (remaining c.args.parser.now) c.each.arms.items (remaining c.each.parser) c.each.invariant
+    (remaining c.arm.new.parser) (remaining c.arm_listed.new.parser) c.in_ok-next.next c.in_ok-next.ensures c.in_ok-arm_listed.field-0 c.in_ok-arm_listed.ensures.follows
+    c.arm_listed.new.arms.items c.in_ok-arm_listed.ensures.added c.if-not-branch.false
 
 -- where a part is refused
 pub boxed-returns-in_err-part : goal.boxed-returns-in_err-part

@@ -1,44 +1,43 @@
-use Rattle.std.proofs.Common.{◌≡◌, sym, subst, List, map, true, false}
-use Rattle.std.proofs.lemmas.Result.{err_from_is_err_and}
+use Rattle.std.proofs.Common.{List}
 use Rattle.lexemes.specs.Tokens.{count}
-use Rattle.auth_syntax.specs.Syntax.{NameSyntax}
-use Rattle.lexemes.specs.Readings.{Found, read_separator}
-use Rattle.auth_syntax.specs.Parsing.{read_lower, read_list}
-use Rattle.auth_syntax.specs.Trees.{name_of, names_of}
+use Rattle.lexemes.specs.Readings.{read_separator}
 use Rattle.lexemes.specs.Remaining.{remaining}
+use Rattle.auth_syntax.specs.Parsing.{read_list, read_lower}
+use Rattle.auth_syntax.specs.Syntax.{NameSyntax}
+use Rattle.auth_syntax.specs.Trees.{name_of, names_of}
 use Rattle.auth_syntax.proofs.MadeOfTokens.{lower_is_token}
-use Rattle.auth_syntax.proofs.Loops.{IsReadSoFar, read_so_far-none, read_so_far-other, read_so_far-end, read_so_far-more, one_is_shorter, listed_by_one, pushed}
+use Rattle.auth_syntax.proofs.Loops.{IsReadByOne, listed_by_one}
+use Rattle.auth_syntax.proofs.ListTurns.{fewer_left, list_ends, list_goes_on, no_sign, no_thing}
 use Rattle.auth_syntax.proofs.parser.expressions.name_list.Goals as goal
+
+abbrev by_one : IsReadByOne read_separator read_lower (λ (things : List NameSyntax). things) (λ tokens. read_list read_lower (count tokens) tokens)
+by_one = listed_by_one read_lower lower_is_token
 
 pub returns-in_err-lower : goal.returns-in_err-lower
 returns-in_err-lower c =
-    let p = err_from_is_err_and c.from_residual.result c.from_residual.ensures.1 in
-    rw (p.1, p.2) (read_so_far-none read_separator read_lower (λ names. names) (λ tokens. read_list read_lower (count tokens) tokens) (listed_by_one read_lower lower_is_token) (remaining c.args.parser.now) (map name_of c.each.names.items) (remaining c.each.parser) c.each.invariant
-    name_of names_of (remaining c.lower.new.parser) (remaining c.lower.new.parser) c.in_err-lower.field-0.0 c.in_err-lower.ensures)
+    let r = c.from_residual in
+    no_thing by_one name_of (remaining c.args.parser.now) c.each.names.items (remaining c.each.parser) c.each.invariant
+    names_of r.result _ (remaining c.lower.new.parser) r.ensures.1 c.in_err-lower.ensures
 
 pub returns-in_err-separator : goal.returns-in_err-separator
 returns-in_err-separator c =
-    let p = err_from_is_err_and c.from_residual-in_err-separator.result c.from_residual-in_err-separator.ensures.1 in
-    rw (p.1, p.2) (read_so_far-other read_separator read_lower (λ names. names) (λ tokens. read_list read_lower (count tokens) tokens) (listed_by_one read_lower lower_is_token) (remaining c.args.parser.now) (map name_of c.each.names.items) (remaining c.each.parser) c.each.invariant
-    names_of (remaining c.lower.new.parser) (name_of c.in_ok-lower.field-0) c.in_ok-lower.ensures
-    (remaining c.separator.new.self) (remaining c.separator.new.self) c.in_err-separator.field-0.0 c.in_err-separator.ensures)
+    let r = c.from_residual-in_err-separator in
+    no_sign by_one name_of (remaining c.args.parser.now) c.each.names.items (remaining c.each.parser) c.each.invariant
+    (remaining c.lower.new.parser) (remaining c.separator.new.self) c.in_ok-lower.field-0 c.in_ok-lower.ensures names_of r.result _ r.ensures.1 c.in_err-separator.ensures
 
 pub returns-then-not-branch : goal.returns-then-not-branch
 returns-then-not-branch c =
-    let kept = pushed name_of c.each.names.items c.push.new.self.items c.in_ok-lower.field-0 c.in_ok-push.ensures.items in
-    let closed : read_separator (remaining c.lower.new.parser) ≡ Found false (remaining c.separator.new.self) = rw c.if-not-branch.true at c.in_ok-separator.ensures in
-    rw kept (read_so_far-end read_separator read_lower (λ names. names) (λ tokens. read_list read_lower (count tokens) tokens) (listed_by_one read_lower lower_is_token) (remaining c.args.parser.now) (map name_of c.each.names.items) (remaining c.each.parser) c.each.invariant
-    (remaining c.lower.new.parser) (remaining c.separator.new.self) (name_of c.in_ok-lower.field-0) c.in_ok-lower.ensures closed)
+    list_ends by_one name_of (remaining c.args.parser.now) c.each.names.items (remaining c.each.parser) c.each.invariant
+    (remaining c.lower.new.parser) (remaining c.separator.new.self) c.in_ok-lower.field-0 c.in_ok-lower.ensures c.in_ok-separator.field-0 c.in_ok-separator.ensures
+    c.push.new.self.items c.in_ok-push.ensures.items c.if-not-branch.true
 
 pub each-smaller : goal.each-smaller
 each-smaller c =
-    one_is_shorter read_separator read_lower (λ names. names) (λ tokens. read_list read_lower (count tokens) tokens) (listed_by_one read_lower lower_is_token) (remaining c.args.parser.now) (map name_of c.each.names.items) (remaining c.each.parser) c.each.invariant
-    (remaining c.lower.new.parser) (remaining c.separator.new.self) (name_of c.in_ok-lower.field-0) c.in_ok-separator.field-0 c.in_ok-lower.ensures c.in_ok-separator.ensures
+    fewer_left by_one name_of (remaining c.args.parser.now) c.each.names.items (remaining c.each.parser) c.each.invariant
+    (remaining c.lower.new.parser) (remaining c.separator.new.self) c.in_ok-lower.field-0 c.in_ok-lower.ensures c.in_ok-separator.field-0 c.in_ok-separator.ensures
 
 pub each-preserved : goal.each-preserved
 each-preserved c =
-    let kept = pushed name_of c.each.names.items c.push.new.self.items c.in_ok-lower.field-0 c.in_ok-push.ensures.items in
-    let sign : read_separator (remaining c.lower.new.parser) ≡ Found true (remaining c.separator.new.self) = rw c.if-not-branch.false at c.in_ok-separator.ensures in
-    subst (λ (so_far : List NameSyntax). IsReadSoFar read_separator read_lower (remaining c.args.parser.now) so_far (remaining c.separator.new.self)) (sym kept)
-    (read_so_far-more read_separator read_lower (λ names. names) (λ tokens. read_list read_lower (count tokens) tokens) (listed_by_one read_lower lower_is_token) (remaining c.args.parser.now) (map name_of c.each.names.items) (remaining c.each.parser) c.each.invariant
-    (remaining c.lower.new.parser) (remaining c.separator.new.self) (name_of c.in_ok-lower.field-0) c.in_ok-lower.ensures sign)
+    list_goes_on by_one name_of (remaining c.args.parser.now) c.each.names.items (remaining c.each.parser) c.each.invariant
+    (remaining c.lower.new.parser) (remaining c.separator.new.self) c.in_ok-lower.field-0 c.in_ok-lower.ensures c.in_ok-separator.field-0 c.in_ok-separator.ensures
+    c.push.new.self.items c.in_ok-push.ensures.items c.if-not-branch.false

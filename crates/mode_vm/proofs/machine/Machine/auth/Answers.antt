@@ -9,7 +9,7 @@ use Rattle.mode_vm.specs.declared.state.Step.TheVariants.{Paused}
 use Rattle.mode_vm.proofs.Made.{from_popped}
 use Rattle.mode_vm.proofs.Opens.{rest_then}
 use Rattle.mode_vm.proofs.Stepping.{leads_is}
-use Rattle.mode_vm.proofs.Authenticating.{operand, authenticated, only_memory}
+use Rattle.mode_vm.proofs.Authenticating.{operand, authenticated}
 use Rattle.mode_vm.proofs.TypesAlone.{made_by, operand_by}
 use Rattle.mode_vm.proofs.machine.Machine.auth.Goals as goal
 
@@ -22,8 +22,8 @@ auth-requires g c =
       stands = operand_by g.M.Mode.marking (program_in c.args.code.now) c.types.result.now c.types.ensures c.args.ty (g.N.Nodes.nodes c.args.store.now) c.pop_top-v.result.0 (λ t. t) o.x o.stands;
     }
 
-pub returns-in-Ok-push_top-clause-stands : goal.returns-in-Ok-push_top-clause-stands
-returns-in-Ok-push_top-clause-stands g c z cs shows next =
+pub returns-clause-stands : goal.returns-clause-stands
+returns-clause-stands g c z cs shows next =
     let m = g.M.Mode.marking in
     let p = program_in c.args.code.now in
     let old = g.N.Nodes.nodes c.args.store.now in
@@ -31,15 +31,15 @@ returns-in-Ok-push_top-clause-stands g c z cs shows next =
     let before = c.args.self.now.state in
     let mid = c.pop_top-v.new.self in
     let o = operand m (meaning p) z old before (type_at (types_of p) c.args.ty) cs shows next mid.top.operands.items c.pop_top-v.result c.pop_top-v.ensures.top in
-    let made = made_by m p c.types.result.now c.types.ensures c.args.ty old new c.pop_top-v.result.0 c.in-Ok.made.0 c.in-Ok.ensures.stands in
+    let made = made_by m p c.types.result.now c.types.ensures c.args.ty old new c.pop_top-v.result.0 c.in_ok-made.made.0 c.in_ok-made.ensures.stands in
     let led = authenticated m (meaning p) z old before (type_at (types_of p) c.args.ty) cs shows next mid.top.operands.items c.pop_top-v.result c.pop_top-v.ensures.top new
-    c.in-Ok.ensures.keeps c.push_top.new.self c.requires.entered c.in-Ok.made
-    (from_popped before.top mid.top c.push_top.new.self.top mid.top.operands.items c.pop_top-v.ensures.at c.in-Ok.made c.in-Ok-push_top.ensures.at)
-    (rest_then before mid c.push_top.new.self c.pop_top-v.ensures.rest c.in-Ok-push_top.ensures.rest) (made o.x o.stands) in
+    c.in_ok-made.ensures.keeps c.push_top.new.self c.requires.entered c.in_ok-made.made
+    (from_popped before.top mid.top c.push_top.new.self.top mid.top.operands.items c.pop_top-v.ensures.at c.in_ok-made.made c.in_ok-push_top.ensures.at)
+    (rest_then before mid c.push_top.new.self c.pop_top-v.ensures.rest c.in_ok-push_top.ensures.rest) (made o.x o.stands) in
     (led.0, led.1)
 
-pub returns-in-Ok-push_top-clause-is : goal.returns-in-Ok-push_top-clause-is
-returns-in-Ok-push_top-clause-is g c z w run follows will next =
+pub returns-clause-is : goal.returns-clause-is
+returns-clause-is g c z w run follows will next =
     let m = g.M.Mode.marking in
     let p = program_in c.args.code.now in
     let old = g.N.Nodes.nodes c.args.store.now in
@@ -48,16 +48,12 @@ returns-in-Ok-push_top-clause-is g c z w run follows will next =
     let mid = c.pop_top-v.new.self in
     let cs = will.stack in
     let o = operand m (meaning p) z old before (type_at (types_of p) c.args.ty) cs will.shows next mid.top.operands.items c.pop_top-v.result c.pop_top-v.ensures.top in
-    let made = made_by m p c.types.result.now c.types.ensures c.args.ty old new c.pop_top-v.result.0 c.in-Ok.made.0 c.in-Ok.ensures.stands in
+    let made = made_by m p c.types.result.now c.types.ensures c.args.ty old new c.pop_top-v.result.0 c.in_ok-made.made.0 c.in_ok-made.ensures.stands in
     let led = authenticated m (meaning p) z old before (type_at (types_of p) c.args.ty) cs will.shows next mid.top.operands.items c.pop_top-v.result c.pop_top-v.ensures.top new
-    c.in-Ok.ensures.keeps c.push_top.new.self c.requires.entered c.in-Ok.made
-    (from_popped before.top mid.top c.push_top.new.self.top mid.top.operands.items c.pop_top-v.ensures.at c.in-Ok.made c.in-Ok-push_top.ensures.at)
-    (rest_then before mid c.push_top.new.self c.pop_top-v.ensures.rest c.in-Ok-push_top.ensures.rest) (made o.x o.stands) in
-    let kept = subst (λ mode. g.M.Mode.Follows p.types mode c.args.world.now new w) (sym c.in-Ok.ensures.mode)
-    (g.met.M.Mode.follows_on p.types c.args.self.now.mode c.args.world.now old new w c.in-Ok.ensures.keeps follows) in
+    c.in_ok-made.ensures.keeps c.push_top.new.self c.requires.entered c.in_ok-made.made
+    (from_popped before.top mid.top c.push_top.new.self.top mid.top.operands.items c.pop_top-v.ensures.at c.in_ok-made.made c.in_ok-push_top.ensures.at)
+    (rest_then before mid c.push_top.new.self c.pop_top-v.ensures.rest c.in_ok-push_top.ensures.rest) (made o.x o.stands) in
+    let kept = subst (λ mode. g.M.Mode.Follows p.types mode c.args.world.now new w) (sym c.in_ok-made.ensures.mode)
+    (g.met.M.Mode.follows_on p.types c.args.self.now.mode c.args.world.now old new w c.in_ok-made.ensures.keeps follows) in
     leads_is m (meaning p) z new true before.fuel cs c.push_top.new.self g.M.Mode.cause (g.M.Mode.Follows p.types c.auth.new.self c.args.world.now new) w kept run
     (subst (λ b. end_of m (meaning p) b cs before.fuel w ≡ Ran run) c.requires.entered will.ends) (Unit {0}) Paused led
-
-pub returns-in-Err-clause-is : goal.returns-in-Err-clause-is
-returns-in-Err-clause-is g c z w run follows will next =
-    only_memory g.M.Mode.marking (program_of c.args.code.now) z g.M.Mode.cause (λ w. Unit {0}) (g.N.Nodes.nodes c.auth.new.store) _ run (Unit {0}) c.in-Err.stop c.in-Err.ensures.memory

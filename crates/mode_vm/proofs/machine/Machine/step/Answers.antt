@@ -52,29 +52,29 @@ returns-in-Unauth-clause-is g c z w run follows will =
     c.unauth.ensures.is z w run follows will (subst (λ i. IsNext (instruction_of (types_of (program_in c.args.code.now)) i) will.stack.top) c.in-Unauth.is
     (c.next-instruction.ensures.next g.M.Mode.marking z (g.N.Nodes.nodes c.args.store.now) will.stack will.shows))
 
-pub returns-in-Ok : goal.returns-in-Ok
-returns-in-Ok g c = record {
-  stands = λ z ready. leads_stands g.M.Mode.marking (program_of c.args.code.now) z (g.N.Nodes.nodes c.act.new.store) true c.args.self.now.state.fuel ready.0 c.act.new.self (Unit {0}) c.in-Ok.step
-      (c.in-Ok.ensures.leads g.M.Mode.marking z ready.0 ready.1 (c.next-instruction.ensures.next g.M.Mode.marking z (g.N.Nodes.nodes c.args.store.now) ready.0 ready.1));
+pub returns-in_ok-act-in_default : goal.returns-in_ok-act-in_default
+returns-in_ok-act-in_default g c = record {
+  stands = λ z ready. leads_stands g.M.Mode.marking (program_of c.args.code.now) z (g.N.Nodes.nodes c.act.new.store) true c.args.self.now.state.fuel ready.0 c.act.new.self (Unit {0}) c.in_ok-act-in_default.field-0
+      (c.in_ok-act-in_default.ensures.leads g.M.Mode.marking z ready.0 ready.1 (c.next-instruction.ensures.next g.M.Mode.marking z (g.N.Nodes.nodes c.args.store.now) ready.0 ready.1));
   is = λ z w run follows will.
       leads_is g.M.Mode.marking (program_of c.args.code.now) z (g.N.Nodes.nodes c.act.new.store) true c.args.self.now.state.fuel will.stack c.act.new.self g.M.Mode.cause
       (g.M.Mode.Follows (program_in c.args.code.now).types c.args.self.now.mode c.args.world.now (g.N.Nodes.nodes c.act.new.store)) w
       (g.met.M.Mode.follows_on (program_in c.args.code.now).types c.args.self.now.mode c.args.world.now (g.N.Nodes.nodes c.args.store.now)
-      (g.N.Nodes.nodes c.act.new.store) w c.in-Ok.ensures.keeps follows) run
+      (g.N.Nodes.nodes c.act.new.store) w c.in_ok-act-in_default.ensures.keeps follows) run
       (subst (λ b. end_of g.M.Mode.marking (program_of c.args.code.now) b will.stack c.args.self.now.state.fuel w ≡ Ran run) c.if-not-self.false will.ends)
-      (Unit {0}) c.in-Ok.step
-      (c.in-Ok.ensures.leads g.M.Mode.marking z will.stack will.shows (c.next-instruction.ensures.next g.M.Mode.marking z (g.N.Nodes.nodes c.args.store.now) will.stack will.shows));
+      (Unit {0}) c.in_ok-act-in_default.field-0
+      (c.in_ok-act-in_default.ensures.leads g.M.Mode.marking z will.stack will.shows (c.next-instruction.ensures.next g.M.Mode.marking z (g.N.Nodes.nodes c.args.store.now) will.stack will.shows));
   fewer = (let r = c.requires.ready in fewer_left (Unit {0}) g.M.Mode.marking (program_of c.args.code.now) r.0 (g.N.Nodes.nodes c.args.store.now)
-      (g.N.Nodes.nodes c.act.new.store) c.args.self.now.state c.act.new.self r.1.0 r.1.1 true c.if-not-self.false c.in-Ok.step
-      (c.in-Ok.ensures.leads g.M.Mode.marking r.0 r.1.0 r.1.1 (c.next-instruction.ensures.next g.M.Mode.marking r.0 (g.N.Nodes.nodes c.args.store.now) r.1.0 r.1.1)) (Unit {0}));
-  keeps = c.in-Ok.ensures.keeps;
-  lent = c.in-Ok.ensures.lent;
+      (g.N.Nodes.nodes c.act.new.store) c.args.self.now.state c.act.new.self r.1.0 r.1.1 true c.if-not-self.false c.in_ok-act-in_default.field-0
+      (c.in_ok-act-in_default.ensures.leads g.M.Mode.marking r.0 r.1.0 r.1.1 (c.next-instruction.ensures.next g.M.Mode.marking r.0 (g.N.Nodes.nodes c.args.store.now) r.1.0 r.1.1)) (Unit {0}));
+  keeps = c.in_ok-act-in_default.ensures.keeps;
+  lent = c.in_ok-act-in_default.ensures.lent;
   opened = omega arith;
-  fuel = c.in-Ok.ensures.fuel ∙ sym (ap (λ b. fuel_after b c.args.self.now.state.fuel) c.if-not-self.false);
+  fuel = c.in_ok-act-in_default.ensures.fuel ∙ sym (ap (λ b. fuel_after b c.args.self.now.state.fuel) c.if-not-self.false);
   faults = refl;
   rest = refl;
   moves = g.met.M.Mode.moves_not c.args.self.now.mode c.args.world.now;
-  knows = g.met.M.Mode.knows_on (program_in c.args.code.now).types c.args.self.now.mode (g.N.Nodes.nodes c.args.store.now) (g.N.Nodes.nodes c.act.new.store) c.in-Ok.ensures.keeps c.requires.knows;
+  knows = g.met.M.Mode.knows_on (program_in c.args.code.now).types c.args.self.now.mode (g.N.Nodes.nodes c.args.store.now) (g.N.Nodes.nodes c.act.new.store) c.in_ok-act-in_default.ensures.keeps c.requires.knows;
 }
 
 pub returns-then-not-self-clause-fewer : goal.returns-then-not-self-clause-fewer

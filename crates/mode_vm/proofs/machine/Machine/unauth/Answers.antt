@@ -1,3 +1,4 @@
+use Rattle.std.proofs.lemmas.Result.{err_from_is_err_and}
 use Rattle.std.proofs.Common.{subst, sym, ◌∙◌, Ok, Err, ◌≡◌}
 use Rattle.core_terms.specs.Programs.{meaning, types_of}
 use Rattle.core_terms.specs.TypeTables.{type_at}
@@ -21,8 +22,8 @@ unauth-requires-clause-stands g c =
     c.pop_top-v.result c.pop_top-v.ensures.top in
     operand_by m p c.types.result.now c.types.ensures c.args.ty nodes c.pop_top-v.result.0 AuthTy o.x o.stands
 
-pub returns-in-Err-clause-is : goal.returns-in-Err-clause-is
-returns-in-Err-clause-is g c z w run follows will next =
+pub returns-in_err-opened-clause-is : goal.returns-in_err-opened-clause-is
+returns-in_err-opened-clause-is g c z w run follows will next =
     let m = g.M.Mode.marking in
     let p = program_in c.args.code.now in
     let t = type_at (types_of p) c.args.ty in
@@ -31,34 +32,35 @@ returns-in-Err-clause-is g c z w run follows will next =
     let before = c.args.self.now.state in
     let mid = c.pop_top-v.new.self in
     let cs = will.stack in
-    let x = operand m (meaning p) z old new c.in-Err.ensures.keeps before t cs will.shows next c.requires.entered mid.top.operands.items c.pop_top-v.result c.pop_top-v.ensures.top in
+    let x = operand m (meaning p) z old new c.in_err-opened.ensures.keeps before t cs will.shows next c.requires.entered mid.top.operands.items c.pop_top-v.result c.pop_top-v.ensures.top in
     let opens = opens_by m p c.types.result.now c.types.ensures c.args.ty g.M.Mode.cause (λ t. g.M.Mode.Follows t c.args.self.now.mode c.args.world.now old)
-    (λ t. g.M.Mode.Follows t c.unauth.new.self c.unauth.new.world new) old new c.pop_top-v.result.0 (Err c.in-Err.stop) c.in-Err.ensures.opens in
+    (λ t. g.M.Mode.Follows t c.unauth.new.self c.unauth.new.world new) old new c.pop_top-v.result.0 (Err _) c.in_err-opened.ensures.opens in
     let ends = subst (λ b. end_of m (meaning p) b cs before.fuel w ≡ Ran run) c.requires.entered will.ends in
-    stop_is m (meaning p) z g.M.Mode.cause (g.M.Mode.Follows p.types c.unauth.new.self c.unauth.new.world new) new t x.x w before.fuel mid.fuel c.pop_top-v.ensures.rest.fuel run
-    (λ cause w' e. ran_is _ run _ ends (refused m (meaning p) z old new c.in-Err.ensures.keeps before t cs will.shows next c.requires.entered mid.top.operands.items c.pop_top-v.result
+    let err = err_from_is_err_and c.from_residual.result c.from_residual.ensures.1 in rw (err.1, err.2)
+    (stop_is m (meaning p) z g.M.Mode.cause (g.M.Mode.Follows p.types c.unauth.new.self c.unauth.new.world new) new t x.x w before.fuel mid.fuel c.pop_top-v.ensures.rest.fuel run
+    (λ cause w' e. ran_is _ run _ ends (refused m (meaning p) z old new c.in_err-opened.ensures.keeps before t cs will.shows next c.requires.entered mid.top.operands.items c.pop_top-v.result
     c.pop_top-v.ensures.top before.fuel w w' cause e))
-    c.in-Err.stop (opens x.x w x.stands follows)
+    _ (opens x.x w x.stands follows))
 
-pub returns-in-Ok-push_top-clause-stands : goal.returns-in-Ok-push_top-clause-stands
-returns-in-Ok-push_top-clause-stands g c z cs shows next =
+pub returns-clause-stands : goal.returns-clause-stands
+returns-clause-stands g c z cs shows next =
     let p = program_in c.args.code.now in
     let t = type_at (types_of p) c.args.ty in
     let old = g.N.Nodes.nodes c.args.store.now in
     let new = g.N.Nodes.nodes c.unauth.new.store in
     let before = c.args.self.now.state in
     let mid = c.pop_top-v.new.self in
-    let y = some_by g.M.Mode.marking p c.types.result.now c.types.ensures c.args.ty {F = Unit {0}} new (Ok c.in-Ok.opened) c.in-Ok.ensures.some in
-    let at = from_popped before.top mid.top c.push_top.new.self.top mid.top.operands.items c.pop_top-v.ensures.at c.in-Ok.opened c.in-Ok-push_top.ensures.at in
-    let others = rest_then before mid c.push_top.new.self c.pop_top-v.ensures.rest c.in-Ok-push_top.ensures.rest in (
-      opened_cores g.M.Mode.marking (meaning p) z old new c.in-Ok.ensures.keeps before t cs shows next c.requires.entered mid.top.operands.items c.pop_top-v.result c.pop_top-v.ensures.top
-          c.push_top.new.self c.in-Ok.opened at others y.0 y.1,
-      opened_shows g.M.Mode.marking (meaning p) z old new c.in-Ok.ensures.keeps before t cs shows next c.requires.entered mid.top.operands.items c.pop_top-v.result c.pop_top-v.ensures.top
-          c.push_top.new.self c.in-Ok.opened at others y.0 y.1,
+    let y = some_by g.M.Mode.marking p c.types.result.now c.types.ensures c.args.ty {F = Unit {0}} new (Ok c.in_ok-opened.opened) c.in_ok-opened.ensures.some in
+    let at = from_popped before.top mid.top c.push_top.new.self.top mid.top.operands.items c.pop_top-v.ensures.at c.in_ok-opened.opened c.in_ok-push_top.ensures.at in
+    let others = rest_then before mid c.push_top.new.self c.pop_top-v.ensures.rest c.in_ok-push_top.ensures.rest in (
+      opened_cores g.M.Mode.marking (meaning p) z old new c.in_ok-opened.ensures.keeps before t cs shows next c.requires.entered mid.top.operands.items c.pop_top-v.result c.pop_top-v.ensures.top
+          c.push_top.new.self c.in_ok-opened.opened at others y.0 y.1,
+      opened_shows g.M.Mode.marking (meaning p) z old new c.in_ok-opened.ensures.keeps before t cs shows next c.requires.entered mid.top.operands.items c.pop_top-v.result c.pop_top-v.ensures.top
+          c.push_top.new.self c.in_ok-opened.opened at others y.0 y.1,
     )
 
-pub returns-in-Ok-push_top-clause-is : goal.returns-in-Ok-push_top-clause-is
-returns-in-Ok-push_top-clause-is g c z w run follows will next =
+pub returns-clause-is : goal.returns-clause-is
+returns-clause-is g c z w run follows will next =
     let m = g.M.Mode.marking in
     let p = program_in c.args.code.now in
     let t = type_at (types_of p) c.args.ty in
@@ -67,26 +69,26 @@ returns-in-Ok-push_top-clause-is g c z w run follows will next =
     let before = c.args.self.now.state in
     let mid = c.pop_top-v.new.self in
     let cs = will.stack in
-    let x = operand m (meaning p) z old new c.in-Ok.ensures.keeps before t cs will.shows next c.requires.entered mid.top.operands.items c.pop_top-v.result c.pop_top-v.ensures.top in
+    let x = operand m (meaning p) z old new c.in_ok-opened.ensures.keeps before t cs will.shows next c.requires.entered mid.top.operands.items c.pop_top-v.result c.pop_top-v.ensures.top in
     let opens = opens_by m p c.types.result.now c.types.ensures c.args.ty g.M.Mode.cause (λ t. g.M.Mode.Follows t c.args.self.now.mode c.args.world.now old)
-    (λ t. g.M.Mode.Follows t c.unauth.new.self c.unauth.new.world new) old new c.pop_top-v.result.0 (Ok c.in-Ok.opened) c.in-Ok.ensures.opens in
+    (λ t. g.M.Mode.Follows t c.unauth.new.self c.unauth.new.world new) old new c.pop_top-v.result.0 (Ok c.in_ok-opened.opened) c.in_ok-opened.ensures.opens in
     let o = opens x.x w x.stands follows in
-    let at = from_popped before.top mid.top c.push_top.new.self.top mid.top.operands.items c.pop_top-v.ensures.at c.in-Ok.opened c.in-Ok-push_top.ensures.at in
-    let others = rest_then before mid c.push_top.new.self c.pop_top-v.ensures.rest c.in-Ok-push_top.ensures.rest in (
+    let at = from_popped before.top mid.top c.push_top.new.self.top mid.top.operands.items c.pop_top-v.ensures.at c.in_ok-opened.opened c.in_ok-push_top.ensures.at in
+    let others = rest_then before mid c.push_top.new.self c.pop_top-v.ensures.rest c.in_ok-push_top.ensures.rest in (
       o.1,
       o.4,
       record {
-        stack = opened_cores m (meaning p) z old new c.in-Ok.ensures.keeps before t cs will.shows next c.requires.entered mid.top.operands.items c.pop_top-v.result c.pop_top-v.ensures.top
-            c.push_top.new.self c.in-Ok.opened at others o.0 o.3;
-        shows = opened_shows m (meaning p) z old new c.in-Ok.ensures.keeps before t cs will.shows next c.requires.entered mid.top.operands.items c.pop_top-v.result c.pop_top-v.ensures.top
-            c.push_top.new.self c.in-Ok.opened at others o.0 o.3;
-        ends = sym (opened_same m (meaning p) z old new c.in-Ok.ensures.keeps before t cs will.shows next c.requires.entered mid.top.operands.items c.pop_top-v.result c.pop_top-v.ensures.top
-            c.push_top.new.self c.in-Ok.opened at others o.0 o.3 w o.1 o.0 o.2 o.3) ∙ subst (λ b. end_of m (meaning p) b cs before.fuel w ≡ Ran run) c.requires.entered will.ends;
+        stack = opened_cores m (meaning p) z old new c.in_ok-opened.ensures.keeps before t cs will.shows next c.requires.entered mid.top.operands.items c.pop_top-v.result c.pop_top-v.ensures.top
+            c.push_top.new.self c.in_ok-opened.opened at others o.0 o.3;
+        shows = opened_shows m (meaning p) z old new c.in_ok-opened.ensures.keeps before t cs will.shows next c.requires.entered mid.top.operands.items c.pop_top-v.result c.pop_top-v.ensures.top
+            c.push_top.new.self c.in_ok-opened.opened at others o.0 o.3;
+        ends = sym (opened_same m (meaning p) z old new c.in_ok-opened.ensures.keeps before t cs will.shows next c.requires.entered mid.top.operands.items c.pop_top-v.result c.pop_top-v.ensures.top
+            c.push_top.new.self c.in_ok-opened.opened at others o.0 o.3 w o.1 o.0 o.2 o.3) ∙ subst (λ b. end_of m (meaning p) b cs before.fuel w ≡ Ran run) c.requires.entered will.ends;
       },
     )
 
 pub unauth-requires-clause-knows : goal.unauth-requires-clause-knows
 unauth-requires-clause-knows g c = subst (λ t. g.M.Mode.Knows t c.args.self.now.mode (g.N.Nodes.nodes c.args.store.now)) (sym c.types.ensures) c.requires.knows
 
-pub returns-in-Ok-push_top-clause-knows : goal.returns-in-Ok-push_top-clause-knows
-returns-in-Ok-push_top-clause-knows g c = subst (λ t. g.M.Mode.Knows t c.unauth.new.self (g.N.Nodes.nodes c.unauth.new.store)) c.types.ensures c.in-Ok.ensures.knows
+pub returns-clause-knows : goal.returns-clause-knows
+returns-clause-knows g c = subst (λ t. g.M.Mode.Knows t c.unauth.new.self (g.N.Nodes.nodes c.unauth.new.store)) c.types.ensures c.in_ok-opened.ensures.knows

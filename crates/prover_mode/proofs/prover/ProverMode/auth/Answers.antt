@@ -25,10 +25,10 @@ put_auth-requires g c =
       inner = refers_there (ProverNodes (digest_at g.H.Hash32.hash P)) P.types (g.N.Nodes.nodes c.args.store.now) c.args.v.0 t c.requires.stands.0 c.requires.stands.1;
     }
 
-pub returns-in-Ok-put_auth-clause-stands : goal.returns-in-Ok-put_auth-clause-stands
-returns-in-Ok-put_auth-clause-stands g c x stands =
+pub returns-clause-stands : goal.returns-clause-stands
+returns-clause-stands g c x stands =
     let hash = g.H.Hash32.hash in
     let P = types_meaning c.args.types.now in
     let t = type_at (types_by_number c.args.types.now) c.args.ty in
-    let spelled = c.as_bytes.ensures ∙ c.in-Ok.ensures.projected hash x g.met.H.Hash32.digest_length stands in
-    c.in-Ok-put_auth.ensures.stands (ProverNodes (digest_at hash P)) P.types t x (stands, c.of-digest.ensures ∙ ap (digest_at hash P t) spelled)
+    let spelled = c.as_bytes.ensures ∙ c.in_ok-spelling.ensures.projected hash x g.met.H.Hash32.digest_length stands in
+    c.in_ok-put_auth.ensures.stands (ProverNodes (digest_at hash P)) P.types t x (stands, c.of-digest.ensures ∙ ap (digest_at hash P t) spelled)

@@ -8,8 +8,8 @@ use Rattle.prover_mode.specs.declared.opened.Opened.{Opened}
 use Rattle.prover_mode.proofs.Running.{seen_more}
 use Rattle.prover_mode.proofs.prover.ProverMode.unauth.Goals as goal
 
-pub returns-in-Ok-clause-opens : goal.returns-in-Ok-clause-opens
-returns-in-Ok-clause-opens g c x w stands follows =
+pub returns-clause-opens : goal.returns-clause-opens
+returns-clause-opens g c x w stands follows =
     let hash = g.H.Hash32.hash in
     let types = c.args._types.now in
     let nodes = g.N.Nodes.nodes c.args.store.now in
@@ -22,6 +22,6 @@ returns-in-Ok-clause-opens g c x w stands follows =
       seen ++ one ∷ [],
       refl,
       inner,
-      subst (λ (os : List Opened). AreSeen hash types nodes os (seen ++ one ∷ [])) (sym c.in-Ok.ensures.items)
+      subst (λ (os : List Opened). AreSeen hash types nodes os (seen ++ one ∷ [])) (sym c.in_ok-push.ensures.items)
           (seen_more hash types nodes c.args.self.now.opened.items seen o one (record { at = refl; stands = inner }) follows),
     )

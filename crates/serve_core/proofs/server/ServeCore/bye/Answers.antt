@@ -1,7 +1,7 @@
 use Rattle.std.proofs.Common.{refl, sym, ◌∙◌}
+use Rattle.std.proofs.lemmas.Result.{IfOk-weaker}
 use Rattle.session_tables.specs.Tables.{rows_of}
 use Rattle.session_turns.specs.Sessions.{IsSession}
-use Rattle.session_turns.proofs.Rows.{if_ok}
 use Rattle.value_store.specs.Stores.{nodes_in}
 use Rattle.serve_core.proofs.Answering.{left, not_there}
 use Rattle.serve_core.proofs.Steps.{if_oks, none_there, some_also}
@@ -9,10 +9,10 @@ use Rattle.serve_core.proofs.server.ServeCore.bye.Goals as goal
 
 pub returns-in_default-clause-answered : goal.returns-in_default-clause-answered
 returns-in_default-clause-answered g c =
-    if_ok _ _ (λ replies told server h.
+    IfOk-weaker c.refused.result _ _ (λ replies told server h.
     not_there g.H.Hash32.hash c.args.self.now server h _ c.args.number replies (record { shared = refl; code = refl; slice = refl; heard = refl }) c.take.ensures.rows
     (sym c.take.ensures.found ∙ none_there c.take.result c.in_default.not-Some) told)
-    c.refused.result c.refused.ensures
+    c.refused.ensures
 
 pub returns-clause-answered : goal.returns-clause-answered
 returns-clause-answered g c =

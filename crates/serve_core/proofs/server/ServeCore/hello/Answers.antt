@@ -1,11 +1,11 @@
 use Rattle.std.proofs.Common.{None, is_some, refl, ap, ◌∙◌}
+use Rattle.std.proofs.lemmas.Result.{IfOk-weaker}
 use Rattle.code_gen.specs.Programs.{program_in}
 use Rattle.mode_vm.specs.Meanings.{program_of}
 use Rattle.session_meaning.specs.Server as meant
 use Rattle.session_meaning.proofs.Orderly.{hello_ok}
 use Rattle.session_tables.specs.Tables.{rows_of}
 use Rattle.session_turns.specs.Sessions.{IsSession}
-use Rattle.session_turns.proofs.Rows.{if_ok}
 use Rattle.value_store.specs.Stores.{nodes_in}
 use Rattle.serve_core.proofs.Answering.{welcomed}
 use Rattle.serve_core.proofs.Steps.{as_denied, copied_some, denied, if_oks, rows_length, some_found}
@@ -13,7 +13,7 @@ use Rattle.serve_core.proofs.server.ServeCore.hello.Goals as goal
 
 pub returns-in-Err-clause-answered : goal.returns-in-Err-clause-answered
 returns-in-Err-clause-answered g c =
-    if_ok _ _ (λ replies told server h.
+    IfOk-weaker c.refused.result _ _ (λ replies told server h.
     let core = c.args.self.now in
     let hash = g.H.Hash32.hash in
     let ending = meant.last_turn core.slice in
@@ -24,7 +24,7 @@ returns-in-Err-clause-answered g c =
     denied hash core _ server c.args.number replies c.in-Err.denial (λ t. meant.hello_step t server c.args.number c.args.kept)
     (meant.hello_test hash (program_of core.code) (program_in core.code).text_digest.0 ending server c.args.number c.args.program.now.0 c.args.kept c.args.state.now)
     (record { shared = refl; code = refl; slice = refl; heard = refl }) refl (λ refusal. refl) h (as_denied c.in-Err.denial _ tested) told)
-    c.refused.result c.refused.ensures
+    c.refused.ensures
 
 pub with_size-requires : goal.with_size-requires
 with_size-requires g c =

@@ -1,10 +1,11 @@
 use Rattle.std.proofs.Common.{rules, ◌≡◌, ◌*◌, ◌+◌, Ok, not, is_some, true, sym, ap, ◌∙◌, subst, arith}
+use Rattle.std.proofs.lemmas.Result.{IfOk-weaker}
 use Rattle.mode_vm.specs.Meanings.{program_of}
 use Rattle.session_meaning.specs.Server as meant
 use Rattle.value_store.specs.Stores.{nodes_in}
 use Rattle.session_turns.specs.Sessions.{IsTurned}
 use Rattle.session_turns.specs.Versions.{IsVersion}
-use Rattle.session_turns.proofs.Rows.{alike_length, if_ok}
+use Rattle.session_turns.proofs.Rows.{alike_length}
 use Rattle.session_turns.proofs.SessionTurns.{end_is, further, idle_turn, none_told, on_turn}
 use Rattle.session_turns.proofs.session.Session.settle.Goals as goal
 
@@ -45,7 +46,7 @@ end_turn-requires-clause-version g c κs within =
 
 pub returns-clause-turned : goal.returns-clause-turned
 returns-clause-turned g c =
-    if_ok _ _ (λ turned f slice m s shares h.
+    IfOk-weaker c.end_turn.result _ _ (λ turned f slice m s shares h.
     let hash = g.H.Hash32.hash in
     let code = c.args.code.now in
     let call = c.in-Some.field-0 in
@@ -56,4 +57,4 @@ returns-clause-turned g c =
     let done = c.in_ok-finished.ensures.ends s (meant.version_at m.versions s.version) there.r.call (there.r.turns * slice + slice) there.run h.at_version h.holds in
     subst (λ t. IsTurned hash code slice c.end_turn.new.self c.args.number turned t)
     (sym (end_is hash code slice c.args.shared.now m c.args.self s h c.args.number call c.in-Some.is told last ends))
-    (f slice m s there.r.call _ _ shares done.2 done.0 done.1)) c.end_turn.result c.end_turn.ensures.turned
+    (f slice m s there.r.call _ _ shares done.2 done.0 done.1)) c.end_turn.ensures.turned

@@ -1,8 +1,9 @@
 use Rattle.std.proofs.Common.{sym, subst}
+use Rattle.std.proofs.lemmas.Result.{IfOk-weaker}
 use Rattle.value_store.specs.Stores.{nodes_in}
 use Rattle.session_turns.specs.Ahead.{AreAhead}
 use Rattle.session_turns.specs.Turning.{AllGoOn, AllTurned, IsTurnOf}
-use Rattle.session_turns.proofs.Rows.{alike_length, if_err, if_ok}
+use Rattle.session_turns.proofs.Rows.{alike_length, if_err}
 use Rattle.session_turns.proofs.TurnedRows.{all_ahead, all_go_on, all_written}
 use Rattle.session_turns.proofs.shared.Shared.round.Goals as goal
 
@@ -30,7 +31,7 @@ settle_turns-requires-after_bounds g c κs within =
 
 pub returns-clause-turned : goal.returns-clause-turned
 returns-clause-turned g c =
-    if_ok _ _ (λ left f m xs shares are.
+    IfOk-weaker c.settle_turns.result _ _ (λ left f m xs shares are.
     let hash = g.H.Hash32.hash in
     let code = c.args.code.now in
     let units = c.args.units in
@@ -40,7 +41,7 @@ returns-clause-turned g c =
     let turned = subst (λ l. AllTurned hash code (nodes_in shared.store) units l new) c.as_mut_slice.ensures.value c.round.ensures in
     let written = all_written c.args.entries.len old new c.args.entries.ok.0 (alike_length (IsTurnOf hash code (nodes_in shared.store) units) old new turned) in
     f units m xs shares (subst (λ l. AreAhead hash code units shared m.versions l xs) (sym written) (all_ahead hash code units shared m.versions c.requires.some old new xs are turned)))
-    c.settle_turns.result c.settle_turns.ensures.turned
+    c.settle_turns.ensures.turned
 
 pub returns-clause-refused : goal.returns-clause-refused
 returns-clause-refused g c =

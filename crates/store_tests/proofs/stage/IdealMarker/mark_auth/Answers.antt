@@ -1,8 +1,9 @@
+use Rattle.std.proofs.lemmas.Result.{IfOk-weaker}
 use Rattle.core_terms.specs.ProgramTypes.{types_by_number, types_meaning}
 use Rattle.core_terms.specs.TypeTables.{type_at}
 use Rattle.value_store.specs.Standing.{IdealNodes}
 use Rattle.value_store.specs.Stores.{nodes_in}
-use Rattle.value_store.proofs.MarkedNodes.{if_ok, refers_there}
+use Rattle.value_store.proofs.MarkedNodes.{refers_there}
 use Rattle.store_tests.proofs.stage.IdealMarker.mark_auth.Goals as goal
 
 pub put_auth-requires : goal.put_auth-requires
@@ -11,5 +12,5 @@ put_auth-requires c =
 
 pub returns-clause-stands : goal.returns-clause-stands
 returns-clause-stands c =
-    if_ok c.put_auth.result _ _ (λ r holds v stands. holds IdealNodes (types_meaning c.args._types.now).types (type_at (types_by_number c.args._types.now) c.args._ty) v stands)
+    IfOk-weaker c.put_auth.result _ _ (λ r holds v stands. holds IdealNodes (types_meaning c.args._types.now).types (type_at (types_by_number c.args._types.now) c.args._ty) v stands)
     c.put_auth.ensures.stands

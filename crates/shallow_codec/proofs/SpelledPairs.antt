@@ -1,4 +1,4 @@
--- The new state in what an update gives: the first component of a pair, read back from its spelling.
+-- The state in what an update gives: the first component of a pair, read back from its spelling.
 use Rattle.std.proofs.Common.{◌≡◌, ℕ, List, Err, subst, lit<}
 use Rattle.core_terms.specs.ProgramTypes.{types_meaning}
 use Rattle.core_terms.specs.Projection.{read_at}
@@ -19,7 +19,8 @@ use Rattle.value_store.specs.Standing.{Kind, StandsFor, VerifierNodes}
 use Rattle.value_store.specs.declared.node.Ref.{Ref}
 
 -- what spells a value is not refused
-pub not_refused : (types : Types) (ty : TyId) (bytes : List ℕ) (v : Value) → Spells size_limit (table types) bytes (ty_of types ty) v → (nodes : List Node) (fault : UnspellFault) (offset : ℕ) → fault ≡ Bad offset
+pub not_refused : (types : Types) (ty : TyId) (bytes : List ℕ) (v : Value) → Spells size_limit (table types) bytes (ty_of types ty) v
+    → (nodes : List Node) (fault : UnspellFault) (offset : ℕ) → fault ≡ Bad offset
     → IsUnspelled (table types) nodes (ty_of types ty) (read_at (types_meaning types) (ty_of types ty) bytes) (Err fault) → ⊥
 not_refused types ty bytes v spelled nodes fault offset is told =
     let good = (spells_read (table types) size_limit (lit< tt) bytes (ty_of types ty) v spelled).1 in

@@ -1,9 +1,9 @@
-// The nodes of the prover, with SHA-256 digests.
+// The prover's nodes, with SHA-256 digests.
 ghost use Rattle.std.specs.Prelude.{◌≡◌};
 ghost use Rattle.sha2.specs.Sha256.{sha256};
 
+use crate::Sha;
 use core_terms::{TyId, Types};
-use digest_layer::Sha;
 use shallow_codec::put_digested;
 use std::alloc::{AllocError, Global};
 use value_store::{Marker, Ref, Store};
