@@ -3,6 +3,7 @@ pub mod Worlds
 -- and on the bytes that came, where the link broke one off: the clauses `takes` and `halts` of the same functions
 pub mod Halted
 pub mod HaltedLines
+mod HaltRows
 -- what a reply that is heard changes: `hear`
 pub mod Heard
 -- what is told of an answer: `hear`, `telling_of`, `made_state`, the lines
