@@ -3,10 +3,11 @@
 
     tools/changed_definitions/run.py core_terms results.jsonl
 
-The changes stand in `of_CRATE.py` and the files that it names. Each is made in a clone of the repository as it is committed. A change is tried
-in turn over the crate's examples, which are the files of `specs/` and `proofs/` whose statements hold by computing; over its rows in the
-crate `definition_rows`, of which the clone has copies in the crate itself; over its laws, by the lemmas that their proofs cite; over the code
-that cites the definitions; and over the whole crate. The first of them that isn't proved refuses it.
+The changes stand in `of_CRATE.py` and the files that it names, or are told from the texts of the definitions (`by_clauses.py`). Each is made in
+a clone of the repository as it is committed. A change is tried in turn over the crate's examples, which are the files of `specs/` and `proofs/`
+whose statements hold by computing, or say of what a word takes and refuses; over its rows in the crate `definition_rows`, of which the clone has
+copies in the crate itself; over its laws, by the lemmas that their proofs cite; over the code that cites the definitions; and over the whole
+crate. The first of them that isn't proved refuses it.
 
 Examples, rows and laws are read by the proof of a function that the clone alone has. Many changes are tried there in one check, each in
 copies of the modules that read what is changed. `--again` tries once more what the stages let through, as once there are new rows.
@@ -34,6 +35,8 @@ import time
 HERE = os.path.dirname(os.path.abspath(__file__))
 # the crate of further rows, and how their files are called in the clone
 ABOVE, FROM_ABOVE = "definition_rows", "Above"
+# the crates that those speak of, the higher one first
+BELOW = ("ideal_meaning", "core_terms")
 # the stages in which many changes are tried in one check
 IN_COPIES = ("examples", "rows", "laws")
 PLACE = re.compile(r"^(?:\./)?((?:specs|proofs|src)/\S+?):(\d+):\d+: (?!note|warning)(.*)", re.M)
@@ -102,7 +105,8 @@ class Clone:
             for folder in ("specs", "proofs"):
                 with open(os.path.join(above, folder, name), encoding="utf-8") as file:
                     texts[folder] = re.sub(rf"\bRattle\.{ABOVE}\.(specs|proofs)\.(\w+)", rf"Rattle.{self.crate}.\1.{FROM_ABOVE}\2", file.read())
-            if name != "Lib.antt" and ("Rattle.ideal_meaning." in "".join(texts.values())) == (self.crate == "ideal_meaning"):
+            named = [crate for crate in BELOW if f"Rattle.{crate}." in "".join(texts.values())]
+            if name != "Lib.antt" and named[:1] == [self.crate]:
                 modules.update({(folder, FROM_ABOVE + name.removesuffix(".antt")): text for folder, text in texts.items()})
         self.add_modules(modules)
 
@@ -118,7 +122,7 @@ class Clone:
 
     def laws(self):
         """The files of the lemmas that the laws' proofs cite, each with the name of one of these."""
-        for law in sorted(os.listdir(self.path("proofs/laws"))):
+        for law in sorted(os.listdir(self.path("proofs/laws"))) if os.path.exists(self.path("proofs/laws")) else []:
             text = self.read("proofs/laws", law, "Answers.antt")
             yield from (("proofs", module, lemma) for module, lemma in re.findall(rf"use Rattle\.{self.crate}\.proofs\.(\w+)\.{{([^,}}]+)", text))
         yield from (("proofs", module, lemma) for module, lemma in self.listed.LEMMAS.items())
@@ -136,7 +140,7 @@ class Clone:
         self.write("ghost use Rattle.std.specs.Prelude.{◌≡◌, true};\n\npub fn are_read()\n    ensures { true ≡ true }\n{}\n", "src/examples.rt")
         lib = self.read("src/lib.rt")
         if "pub mod examples;" not in lib:
-            self.write(lib.replace("pub mod ", "pub mod examples;\npub mod ", 1), "src/lib.rt")
+            self.write(re.sub(r"^((?:pub )?mod )", r"pub mod examples;\n\1", lib, count=1, flags=re.M), "src/lib.rt")
 
     def add_modules(self, modules):
         """Adds modules, by their folders and names, and gives what puts the folders' lists back."""

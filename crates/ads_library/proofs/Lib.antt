@@ -1,1 +1,21 @@
-pub mod Named  -- `source`
+-- `source`
+pub mod Named
+-- of all four laws: how a run is followed, that more fuel changes nothing, what a call gives then, how a map is kept
+pub mod Stepping
+pub mod MoreFuel
+pub mod Settled
+pub mod Maps
+pub mod EntryLists
+-- `bst`
+pub mod SearchTree
+-- `merkle`
+pub mod PlaceTree
+-- `redblack`: of its trees, of its runs, and both together
+pub mod RedBlackTree
+pub mod RedBlackRuns
+pub mod RedBlackLaws
+pub mod ThousandPuts
+-- `skiplist`: of its lanes, of its runs, and both together
+pub mod SkipList
+pub mod SkipListRuns
+pub mod SkipListLaws

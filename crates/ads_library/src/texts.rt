@@ -17,7 +17,7 @@ pub fn source(name: &str) -> Option<&'static [u8]>
     }
 }
 
-/// Keys and values in a search tree.
+/// Keys and values in a search tree; its law is [`crate::laws::bst`].
 pub const BST: &[u8] = b"type tree = Leaf | Node(int, int, auth tree, auth tree);
 type found = Missing | Found(int);
 state auth tree;
@@ -32,7 +32,7 @@ query get(s: auth tree, k: int): found = look(s, k);
 update put(s: auth tree, e: (int, int)): (auth tree, unit) = (ins(s, fst(e), snd(e)), ());
 ";
 
-/// A list of ints in a tree of digests.
+/// A list of ints in a tree of digests; its law is [`crate::laws::merkle`].
 pub const MERKLE: &[u8] = b"type tree = Tip(int) | Fork(auth tree, auth tree);
 type found = Missing | Found(int);
 state (int, auth tree);
@@ -53,7 +53,7 @@ update put(s: (int, auth tree), e: (int, int)): ((int, auth tree), unit) = if lt
   else if le(fst(s), fst(e)) then (s, ()) else ((fst(s), change(snd(s), fst(s), fst(e), snd(e))), ());
 ";
 
-/// Keys and values in a red-black tree.
+/// Keys and values in a red-black tree; its law is [`crate::laws::redblack`].
 pub const REDBLACK: &[u8] =
     b"# Keys and values in a red-black tree. Keys are in order, no Red has a Red under it, and each path from the root to a Leaf has
 # the same number of Blacks.
@@ -110,7 +110,7 @@ query get(s: auth tree, k: int): found = look(s, k);
 update put(s: auth tree, e: (int, int)): (auth tree, unit) = (root(ins(s, fst(e), snd(e))), ());
 ";
 
-/// Keys and values in a skip list of 17 levels.
+/// Keys and values in a skip list of 17 levels; its law is [`crate::laws::skiplist`].
 pub const SKIPLIST: &[u8] =
     b"# Keys and values in a skip list of 17 levels. The level of a key depends on the key alone: 1, and 1 more for each time that 2
 # divides it modulo 65,536, up to 17. The list at level j has the keys of level j or more, ascending.

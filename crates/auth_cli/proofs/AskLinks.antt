@@ -1,18 +1,21 @@
 -- The link that `ask` made, and the play on it: for `play_and_store`, `ask`.
-use Rattle.std.proofs.Common.{◌≡◌, ℕ, List, [], ◌∷◌, ◌++◌, take, Option, Some, None, Ok, Err, refl, sym, ap, ◌∙◌, subst}
+use Rattle.std.proofs.Common.{◌≡◌, ℕ, List, [], ◌∷◌, ◌++◌, take, Option, Some, None, Ok, Err, IfErr, refl, sym, ap, ◌∙◌, subst}
 use Rattle.std.proofs.lemmas.List.{append_cancel_right}
+use Rattle.std.specs.List.{AllByRecursion}
 use Rattle.std.specs.Io.KnownBytes.{append_known, prepend_known}
 use Rattle.core_terms.specs.Terms.{Program}
 use Rattle.lam_outside.specs.Causes.{Rose}
-use Rattle.lam_outside.specs.Links.{Linked, IsMade, links_so_far, nothing_yet}
+use Rattle.lam_outside.specs.Links.{Linked, IsMade, links_so_far}
+use Rattle.lam_outside.specs.Moments.{AtEachRead, Moment}
 use Rattle.printed_lines.specs.Lines.{link_fault_line}
 use Rattle.printed_syntax.specs.Literals.{ConstructorNames}
 use Rattle.script_play.specs.DeedLines.{bytes_sent}
-use Rattle.script_play.specs.Halting.{HaltsAt, HaltsOn, OnLinkFault, PlaysTo}
+use Rattle.script_play.specs.Halting.{BreaksAt, BreaksOn, FailsAt, HaltsAt, PlaysTo}
 use Rattle.script_play.specs.Playing.{PlayCause, PlaysAs, World, first_sent, world}
 use Rattle.script_play.specs.Plays.{Play}
+use Rattle.script_play.specs.Prompt.{IsPromptOn}
 use Rattle.script_play.specs.declared.halt.Halt.TheVariants as halt
-use Rattle.serve_links.proofs.Linking.{from_nothing, told}
+use Rattle.serve_links.proofs.Linking.{all_stood, from_nothing, nothing_sent, told}
 use Rattle.session_meaning.specs.Client.{Client}
 use Rattle.session_meaning.specs.Messages.{Messages, Reply, messages, reply_of}
 use Rattle.wire_form.specs.MovedBytes.{Moves}
@@ -44,56 +47,56 @@ module _ (P : Program) (names : ConstructorNames) (left' : Option (List ℕ)) (w
       (bytes_sent plays.front ++ take plays.count (first_sent plays.left), plays.sent ∙ append_twice w.sent (bytes_sent plays.front) (take plays.count (first_sent plays.left)))
   sent_more (Err halt.WriteFault) plays = (bytes_sent plays.front, plays.sent)
 
--- what was taken, where the link failed
+-- what was taken, where the link or the sink failed
 pub on_fault : (P : Program) (names : ConstructorNames) (Is : Client → Type 0) (bytes : List ℕ) (left' : Option (List ℕ)) (w w' : World) (plays : Messages Reply → Play) (end : PlayEnd)
-    → PlaysTo P names Is bytes left' w w' plays end → OnLinkFault end (HaltsOn P names bytes left' w w' plays)
-on_fault P names Is bytes left' w w' plays (Err halt.LinkFault) h = h
-on_fault P names Is bytes left' w w' plays (Err halt.Ended) h = tt
-on_fault P names Is bytes left' w w' plays (Err halt.NoMemory) h = tt
-on_fault P names Is bytes left' w w' plays (Err halt.WriteFault) h = tt
+    → PlaysTo P names Is bytes left' w w' plays end → IfErr end (BreaksOn P names bytes left' w w' plays)
+on_fault P names Is bytes left' w w' plays (Err halt) h = h
 on_fault P names Is bytes left' w w' plays (Ok played) h = tt
 
 -- it is what was read from the link, where the rest is told
 taken_is_read : (P : Program) (names : ConstructorNames) (read rest : List ℕ) (left' : Option (List ℕ)) (w w' : World) (plays : Messages Reply → Play) (end : PlayEnd) → left' ≡ Some rest
-    → OnLinkFault end (HaltsOn P names (read ++ rest) left' w w' plays) → OnLinkFault end (HaltsAt P names w w' (plays (messages reply_of read)).deeds)
+    → IfErr end (BreaksOn P names (read ++ rest) left' w w' plays) → IfErr end (BreaksAt P names w w' plays read)
 taken_is_read P names read rest left' w w' plays (Err halt.LinkFault) is h =
     let same : h.rest ≡ rest = let e : Some h.rest ≡ Some rest = sym h.left ∙ is in cc in
     let taken : h.taken ≡ read = append_cancel_right h.taken read rest (ap (λ r. h.taken ++ r) (sym same) ∙ sym h.parted) in
     subst (λ bytes. HaltsAt P names w w' (plays (messages reply_of bytes)).deeds) taken h.halts
+taken_is_read P names read rest left' w w' plays (Err halt.WriteFault) is h =
+    let same : h.rest ≡ rest = let e : Some h.rest ≡ Some rest = sym h.left ∙ is in cc in
+    let taken : h.taken ≡ read = append_cancel_right h.taken read rest (ap (λ r. h.taken ++ r) (sym same) ∙ sym h.parted) in
+    subst (λ bytes. FailsAt P names w w' plays bytes) taken h.fails
 taken_is_read P names read rest left' w w' plays (Err halt.Ended) is h = tt
 taken_is_read P names read rest left' w w' plays (Err halt.NoMemory) is h = tt
-taken_is_read P names read rest left' w w' plays (Err halt.WriteFault) is h = tt
 taken_is_read P names read rest left' w w' plays (Ok played) is h = tt
-
--- nothing was sent by now on a link that tells what is sent later
-none_sent : (first sent : Option (List ℕ)) (out more : List ℕ) → first ≡ nothing_yet sent → Some out ≡ append_known first more → first ≡ Some []
-none_sent first (Some bytes) out more none is = none
-none_sent first None out more none is = absurd (let clash : Some out ≡ None = is ∙ ap (λ w. append_known w more) none in cc)
 
 -- a link was made, and the play was played on it
 pub played_on : (a : Asking) (end : PlayEnd) (links ended1 ended2 : Option (List Linked)) (port1 port2 : Option ℕ) (given0 sent0 given1 left1 sent1 given2 left2 sent2 : Option (List ℕ))
-    (written written' last : Option (List ℕ)) (after : List Linked) → IsMade a.port links ended1 port1 given0 sent0 given1 sent1 → ended2 ≡ ended1 → port2 ≡ port1
+    (reads1 reads2 : Option (List Moment)) (written written' last : Option (List ℕ)) (after : List Linked)
+    → IsMade a.port links ended1 port1 given0 sent0 given1 sent1 reads1 → ended2 ≡ ended1 → port2 ≡ port1
     → Moves given1 left1 given2 left2 → IsPlayedFrom a end left1 left2 sent1 sent2 written written' last → IsHaltedFrom a end left1 left2 sent1 sent2 written written' last
-    → links_so_far ended2 port2 given2 left2 sent2 ≡ Some after → IsPlayedOn a end links after written written' last
-played_on a end links ended1 ended2 port1 port2 given0 sent0 given1 left1 sent1 given2 left2 sent2 written written' last after made same at moves plays halts is =
+    → ((bytes : List ℕ) → left1 ≡ Some bytes → AtEachRead (IsPromptOn bytes sent1 (asked_play a)) reads1 reads2)
+    → links_so_far ended2 port2 given2 left2 sent2 reads2 ≡ Some after → IsPlayedOn a end links after written written' last
+played_on a end links ended1 ended2 port1 port2 given0 sent0 given1 left1 sent1 given2 left2 sent2 reads1 reads2 written written' last after made same at moves plays halts prompt is =
     let P = a.program.digested.program in
-    let now = told ended2 a.port given2 left2 sent2 after (ap (λ (p : Option ℕ). links_so_far ended2 p given2 left2 sent2) (sym (at ∙ made.at_port)) ∙ is) in
+    let now = told ended2 a.port given2 left2 sent2 reads2 after (ap (λ (p : Option ℕ). links_so_far ended2 p given2 left2 sent2 reads2) (sym (at ∙ made.at_port)) ∙ is) in
     let came : left1 ≡ Some (moves.0 ++ now.rest) = moves.1 ∙ ap (prepend_known moves.0) now.left_is in
     let play = asked_play a (messages reply_of (moves.0 ++ now.rest)) in
     let here = plays (moves.0 ++ now.rest) came in
     let more = sent_more P a.program.names left2 (world sent1 written None) (world sent2 written' last) play end here in
-    let first : sent1 ≡ Some [] = none_sent sent1 sent0 now.out more.0 made.none_sent (sym now.sent_is ∙ more.1) in
+    let first : sent1 ≡ Some [] = nothing_sent sent1 sent0 now.out more.0 made.none_sent (sym now.sent_is ∙ more.1) in
     let read : now.read ≡ moves.0 = from_nothing given1 given0 moves.0 now.read made.none_given (sym now.given_is ∙ moves.2) in
     let Plays : (bytes : List ℕ) → (left sent sent' : Option (List ℕ)) → Type 0 = λ bytes left sent sent'. PlaysAs P a.program.names (λ c. Unit {0}) left (world sent written None)
     (world sent' written' last) (asked_play a (messages reply_of (bytes ++ now.rest))) end in
-    let Halts : (bytes : List ℕ) → (sent sent' : Option (List ℕ)) → Type 0 = λ bytes sent sent'. OnLinkFault end (HaltsAt P a.program.names (world sent written None)
-    (world sent' written' last) (asked_play a (messages reply_of bytes)).deeds) in
+    let Halts : (bytes : List ℕ) → (sent sent' : Option (List ℕ)) → Type 0 = λ bytes sent sent'. IfErr end (BreaksAt P a.program.names (world sent written None)
+    (world sent' written' last) (asked_play a) bytes) in
+    let Prompt : (bytes : List ℕ) → (sent : Option (List ℕ)) → Type 0 = λ bytes sent. AllByRecursion (IsPromptOn (bytes ++ now.rest) sent (asked_play a)) now.begun in
+    let stood : Prompt moves.0 sent1 = all_stood (IsPromptOn (moves.0 ++ now.rest) sent1 (asked_play a)) reads1 reads2 now.begun made.none_begun now.reads_are (prompt (moves.0 ++ now.rest) came) in
+    let from_first : Prompt moves.0 (Some []) = subst (λ sent. Prompt moves.0 sent) first stood in
     let on_left : Plays moves.0 (Some now.rest) sent1 sent2 = subst (λ left. Plays moves.0 left sent1 sent2) now.left_is here in
     let on_first : Plays moves.0 (Some now.rest) (Some []) sent2 = subst (λ sent. Plays moves.0 (Some now.rest) sent sent2) first on_left in
     let on_sent : Plays moves.0 (Some now.rest) (Some []) (Some now.out) = subst (λ sent'. Plays moves.0 (Some now.rest) (Some []) sent') now.sent_is on_first in
     record {
       before = now.before;
-      link = record { port = a.port; given = now.read; left = now.rest; sent = now.out };
+      link = record { port = a.port; given = now.read; left = now.rest; sent = now.out; reads = now.begun };
       told = sym made.others_ended ∙ sym same ∙ now.ended_is;
       all = now.all;
       at_port = refl;
@@ -101,6 +104,7 @@ played_on a end links ended1 ended2 port1 port2 given0 sent0 given1 left1 sent1 
       halts = subst (λ bytes. Halts bytes (Some []) (Some now.out)) (sym read)
           (subst (λ sent. Halts moves.0 sent (Some now.out)) first (subst (λ sent'. Halts moves.0 sent1 sent') now.sent_is
           (taken_is_read P a.program.names moves.0 now.rest left2 (world sent1 written None) (world sent2 written' last) (asked_play a) end now.left_is (halts (moves.0 ++ now.rest) came))));
+      prompt = subst (λ bytes. Prompt bytes (Some [])) (sym read) from_first;
     }
 
 -- the counts of the net, by that of its links

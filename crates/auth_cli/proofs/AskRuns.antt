@@ -5,9 +5,10 @@ use Rattle.command_words.specs.Commands.{texts}
 use Rattle.command_words.specs.declared.command.Command.TheVariants.{Ask}
 use Rattle.lam_outside.specs.Told.{Contents, Names}
 use Rattle.file_commands.specs.Answer.{Answer, Asking, answer_with, unasked_answer, with_asking}
-use Rattle.auth_cli.specs.Asking.{EndsAsking, MeansAsking}
+use Rattle.auth_cli.specs.Asking.{EndsAsking, IsOfWords, MeansAsking}
 use Rattle.file_commands.specs.Ending.{Outside}
 use Rattle.auth_cli.specs.OnlineRuns.{NetSeen}
+use Rattle.auth_cli.specs.PreparedClients.{TellsPort}
 use Rattle.file_commands.specs.Reaching.{IsReached}
 use Rattle.file_commands.specs.declared.status.Status.{Status}
 use Rattle.file_commands.proofs.Words.{apart, reached_apart, text_at}
@@ -17,6 +18,10 @@ pub asking_apart : (words : List (Bor (List ℕ))) (files : Contents) (a : Askin
     → ((go : Asking → Option Answer) → with_asking (text_at words 0) (text_at words 1) (text_at words 2) (text_at words 3) files go ≡ go a)
     → MeansAsking (texts words) files a (text_at words 4)
 asking_apart words files a five goes = subst (λ ts. MeansAsking ts files a (text_at words 4)) (sym (apart words 5 five)) (refl, goes)
+
+-- and whatever the files tell
+pub asked_of_words : (words : List (Bor (List ℕ))) (a : Asking) → length words ≡ 5 → TellsPort (text_at words 2) a.port → IsOfWords (texts words) a (text_at words 4)
+asked_of_words words a five told = subst (λ ts. IsOfWords ts a (text_at words 4)) (sym (apart words 5 five)) (refl, told)
 
 -- and where a read failed
 pub unasked_apart : (words : List (Bor (List ℕ))) (contents : Option Contents) (asked : Option Names) (before now : ℕ) → length words ≡ 5

@@ -1,5 +1,5 @@
 -- The course of a serving, from how the serving of the links ended and how that was told.
-use Rattle.std.proofs.Common.{◌≡◌, ◌⊎◌, ◌<◌, inl, inr, ℕ, Bool, true, false, List, [], ◌∷◌, ◌++◌, length, codes, Option, Some, refl, ap₂, sym, ◌∙◌, subst, subst₂}
+use Rattle.std.proofs.Common.{◌≡◌, ◌⊎◌, ◌<◌, inl, inr, ℕ, Bool, true, false, List, [], ◌∷◌, ◌++◌, length, codes, Option, Some, refl, ap₂, sym, ◌∙◌, subst, subst₂, arith}
 use Rattle.std.specs.List.{concat}
 use Rattle.std.specs.Io.KnownBytes.{append_known}
 use Rattle.sha2.specs.Sha256.{sha256}
@@ -52,7 +52,7 @@ module _ {A G : Type 0} (s : Serving) (net net' : NetSeen) (old core : ServeCore
     server = left.server;
     gone = left_gone s (Served fault) net net' core left listened faults;
     server_left = record { serves = left.serves; some = some };
-    is_told = course_told s (Served fault) left.server (listening_line s.port) (concat (server_lines left.server fault)) refl tt ended written between written' before mid now first same
+    is_told = course_told s (Served fault) left.server (listening_line s.port) (concat (server_lines left.server fault)) refl tt (omega arith) ended written between written' before mid now first same
         (subst (λ (lines : List (List ℕ)). TellsText (course_status (Served fault)) (concat lines) ended between written' mid now) (same_lines core left.server left.serves fault) told);
   }
 
@@ -64,7 +64,7 @@ module _ {A G : Type 0} (s : Serving) (net net' : NetSeen) (old core : ServeCore
     server = left.server;
     gone = left_gone s WithoutMemory net net' core left listened (listens, dials);
     server_left = record { serves = left.serves; some = some };
-    is_told = course_told s WithoutMemory left.server (listening_line s.port) (codes "no memory\n") refl tt ended written between written' before mid now first same told;
+    is_told = course_told s WithoutMemory left.server (listening_line s.port) (codes "no memory\n") refl tt (omega arith) ended written between written' before mid now first same told;
   }
 
   module _ (port connections : ℕ) (program : digested_of (program_in old.code) ≡ s.program) (slice : old.slice ≡ s.slice) (at : port ≡ s.port) (most : connections ≡ s.links) where

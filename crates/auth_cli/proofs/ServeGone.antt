@@ -5,6 +5,7 @@ use Rattle.std.specs.Option.{ForSome}
 use Rattle.sha2.specs.Sha256.{sha256}
 use Rattle.lam_outside.specs.Causes.{Rose}
 use Rattle.lam_outside.specs.Links.{Linked, links_so_far}
+use Rattle.lam_outside.specs.Moments.{Moment}
 use Rattle.session_meaning.specs.Server.{Server, last_turn, new_server}
 use Rattle.serve_core.specs.Serving.{Serves}
 use Rattle.serve_core.specs.declared.server.ServeCore.{ServeCore}
@@ -20,9 +21,10 @@ use Rattle.file_commands.specs.ReadPrograms.{digested_of}
 use Rattle.auth_cli.specs.OnlineRuns.{NetSeen}
 use Rattle.auth_cli.specs.Serving.{AreMade, AreServedLacking, AreServedOn, Course, HasFaults, HasGone, HasMade, MakesLinks, NotListening, NotWritten, Served, WithoutMemory, first_server, listened_behind}
 
-pub same_links : (ended ended' : Option (List Linked)) (linked linked' : Option ℕ) (given given' left left' sent sent' : Option (List ℕ))
-    → ended' ≡ ended → linked' ≡ linked → given' ≡ given → left' ≡ left → sent' ≡ sent → links_so_far ended' linked' given' left' sent' ≡ links_so_far ended linked given left sent
-same_links ended ended' linked linked' given given' left left' sent sent' a b c d e = rw (a, b, c, d, e) refl
+pub same_links : (ended ended' : Option (List Linked)) (linked linked' : Option ℕ) (given given' left left' sent sent' : Option (List ℕ)) (reads reads' : Option (List Moment))
+    → ended' ≡ ended → linked' ≡ linked → given' ≡ given → left' ≡ left → sent' ≡ sent → reads' ≡ reads
+    → links_so_far ended' linked' given' left' sent' reads' ≡ links_so_far ended linked given left sent reads
+same_links ended ended' linked linked' given given' left left' sent sent' reads reads' a b c d e f = rw (a, b, c, d, e, f) refl
 
 abbrev pub counts_as : (links listens accepts dials : ℕ) → NetFaults
 counts_as links listens accepts dials = record { links = links; listens = listens; accepts = accepts; dials = dials }

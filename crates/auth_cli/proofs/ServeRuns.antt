@@ -6,13 +6,13 @@ use Rattle.command_words.specs.Commands.{texts}
 use Rattle.command_words.specs.declared.command.Command.TheVariants.{Serve}
 use Rattle.lam_outside.specs.Told.{Contents, Names, Stores}
 use Rattle.printed_lines.specs.declared.refusal.Refusal.TheVariants as refusal
-use Rattle.file_commands.specs.Answer.{Answer, Serving, answer_with, unserved_answer, with_serving}
+use Rattle.file_commands.specs.Answer.{Answer, Serving, ServingNumbers, answer_with, unserved_answer, with_serving}
 use Rattle.file_commands.specs.Ending.{Outside}
 use Rattle.file_commands.specs.Halting.{MayHalt}
 use Rattle.file_commands.specs.Reaching.{HaltsAtReached, IsReached}
-use Rattle.auth_cli.specs.PreparedServers.{IsPrepared}
+use Rattle.auth_cli.specs.PreparedServers.{TellNumbers, IsPrepared, numbers_held, numbers_served}
 use Rattle.auth_cli.specs.OnlineRuns.{NetSeen}
-use Rattle.auth_cli.specs.Serving.{EndsServing, MeansServing}
+use Rattle.auth_cli.specs.Serving.{EndsServing, IsOfWords, MeansServing}
 use Rattle.auth_cli.specs.declared.serving.PreparedServer.{PreparedServer}
 use Rattle.file_commands.specs.declared.report.Halt.{Halt}
 use Rattle.file_commands.specs.declared.report.Halt.TheVariants.{Usage, Refused, ReadFault, NoMemory}
@@ -62,6 +62,21 @@ pub means_apart : (words : List (Bor (List ℕ))) (files : Contents) (s : Servin
     → ((go : Serving → Option Answer) → with_serving (text_at words 0) (text_at words 1) (text_at words 2) (text_at words 3) (text_at words 4) files go ≡ go s)
     → MeansServing (texts words) files s (text_at words 5)
 means_apart words files s six goes = subst (λ ts. MeansServing ts files s (text_at words 5)) (sym (apart words 6 six)) (refl, goes)
+
+-- and whatever the files tell
+pub of_words_apart : (words : List (Bor (List ℕ))) (s : Serving) → length words ≡ 6 → TellNumbers (text_at words 2) (text_at words 3) (text_at words 4) (numbers_served s)
+    → IsOfWords (texts words) s (text_at words 5)
+of_words_apart words s six told = subst (λ ts. IsOfWords ts s (text_at words 5)) (sym (apart words 6 six)) (refl, told)
+
+abbrev numbers_as : (port links slice : ℕ) → ServingNumbers
+numbers_as port links slice = record { port = port; links = links; slice = slice }
+
+numbers_alike : (port port' links links' slice slice' : ℕ) → port ≡ port' → links ≡ links' → slice ≡ slice' → numbers_as port links slice ≡ numbers_as port' links' slice'
+numbers_alike port port' links links' slice slice' a b c = rw (a, b, c) refl
+
+-- the server holds the numbers of what it serves
+pub same_numbers : (server : PreparedServer) (s : Serving) → IsPrepared server s → numbers_held server ≡ numbers_served s
+same_numbers server s prepared = numbers_alike server.port s.port server.connections s.links server.core.slice s.slice prepared.port prepared.links prepared.slice
 
 -- and where a read failed
 pub either_apart : (words : List (Bor (List ℕ))) (contents : Option Contents) (asked : Option Names) (before now : ℕ) → length words ≡ 6

@@ -1,7 +1,7 @@
 -- The steps of `ask` on the link that was made: what they leave, and how much of it was told.
-use Rattle.std.specs.Prelude.{◌≡◌, ℕ, List, Option, Some, None, unwrap_or, Err}
+use Rattle.std.specs.Prelude.{◌≡◌, ℕ, List, Option, Some, None, unwrap_or, Err, IfErr}
 use Rattle.lam_outside.specs.Causes.{Rose}
-use Rattle.script_play.specs.Halting.{HaltsOn, OnLinkFault}
+use Rattle.script_play.specs.Halting.{BreaksOn}
 use Rattle.script_play.specs.Playing.{PlaysAs, world}
 use Rattle.script_play.specs.declared.halt.Halt.TheVariants as halt
 use Rattle.session_meaning.specs.Messages.{messages, reply_of}
@@ -15,10 +15,10 @@ abbrev pub IsPlayedFrom : Asking → PlayEnd → (left left' sent sent' written 
 IsPlayedFrom a end left left' sent sent' written written' last = (bytes : List ℕ) → left ≡ Some bytes
     → PlaysAs a.program.digested.program a.program.names (λ c. Unit {0}) left' (world sent written None) (world sent' written' last) (asked_play a (messages reply_of bytes)) end
 
--- The same of the bytes that were taken of these, where the link failed.
+-- The same of the bytes that were taken of these, where the link or the sink failed.
 abbrev pub IsHaltedFrom : Asking → PlayEnd → (left left' sent sent' written written' last : Option (List ℕ)) → Type 0
 IsHaltedFrom a end left left' sent sent' written written' last = (bytes : List ℕ) → left ≡ Some bytes
-    → OnLinkFault end (HaltsOn a.program.digested.program a.program.names bytes left' (world sent written None) (world sent' written' last) (asked_play a))
+    → IfErr end (BreaksOn a.program.digested.program a.program.names bytes left' (world sent written None) (world sent' written' last) (asked_play a))
 
 -- the count of the link's faults
 abbrev pub PlayLinks : PlayEnd → (before now : ℕ) → Type 0

@@ -1,6 +1,7 @@
 -- How `ask` ends, once the words and the files are in order: by the link that was made and the replies that came on it, by what could be written,
 -- and by whether the state told last could be stored.
-use Rattle.std.specs.Prelude.{◌≡◌, ◌⊎◌, ℕ, List, [], ◌∷◌, ◌++◌, codes, Option, Some, None, unwrap_or, Result, Ok, Err}
+use Rattle.std.specs.Prelude.{◌≡◌, ◌⊎◌, ℕ, List, [], ◌∷◌, ◌++◌, codes, Option, Some, None, unwrap_or, Result, Ok, Err, IfErr}
+use Rattle.std.specs.List.{AllByRecursion}
 use Rattle.std.specs.Option.{ForSome}
 use Rattle.sha2.specs.Sha256.{sha256}
 use Rattle.ask_script.specs.Scripts.{Steps, UserStep, script_of}
@@ -10,9 +11,10 @@ use Rattle.lam_outside.specs.Links.{Linked}
 use Rattle.lam_outside.specs.Told.{Contents, Stores, AddsStores}
 use Rattle.printed_lines.specs.Lines.{link_fault_line}
 use Rattle.script_play.specs.PlayRuns.{TellsTruth}
-use Rattle.script_play.specs.Halting.{HaltsAt, OnLinkFault}
+use Rattle.script_play.specs.Halting.{BreaksAt}
 use Rattle.script_play.specs.Playing.{PlaysAs, world}
 use Rattle.script_play.specs.Plays.{Play, play}
+use Rattle.script_play.specs.Prompt.{IsPromptOn}
 use Rattle.script_play.specs.declared.halt.Halt.{Halt}
 use Rattle.script_play.specs.declared.halt.Halt.TheVariants as halt
 use Rattle.serve_links.specs.ServedLinks.{bytes_on}
@@ -23,6 +25,7 @@ use Rattle.file_commands.specs.Ending.{EndsAs, Outside}
 use Rattle.file_commands.specs.FueledRoles.{NamedProgram}
 use Rattle.auth_cli.specs.NetFaults.{NetFaults}
 use Rattle.auth_cli.specs.OnlineRuns.{CountsBy, NetSeen}
+use Rattle.auth_cli.specs.PreparedClients.{TellsPort}
 use Rattle.file_commands.specs.SoundPrograms.{IsOfText}
 use Rattle.file_commands.specs.Telling.{TellsText}
 use Rattle.file_commands.specs.declared.status.Status.{Status}
@@ -36,7 +39,7 @@ asked_play a ms = let p = a.program.digested in play sha256 p.program p.digest a
 -- Whatever replies come, whoever sends them, what is told is true: wherever a session begins with the spelling of the projection of an ideal state,
 -- each outcome that it is told is the projection of the ideal one, up to the first proof that shows a collision of SHA-256 at a named place.
 abbrev pub TellsTrueOutcomes : Asking → Type 0
-TellsTrueOutcomes a = let p = a.program.digested in (ms : Messages Reply) → TellsTruth sha256 p.program p.digest (asked_play a ms).deeds
+TellsTrueOutcomes a = let p = a.program.digested in (ms : Messages Reply) → let told = asked_play a ms in TellsTruth sha256 p.program p.digest ms told.coming told.deeds
 
 -- How a play ended: the script was played to its end; or what was told last, the link, the sink or the want of memory ended it before.
 abbrev pub PlayEnd : Type 0
@@ -44,7 +47,9 @@ PlayEnd = Result (Unit {0}) Halt
 
 -- Where the links behind the play are told, those before it are, and there is one more, to the port. On the bytes that came on it the play was
 -- played as far as its end says: what was sent on the link, what was written by now, and the state that was told last, where one was. Where the link
--- failed, all was done that is played on the bytes that came until then, up to a request that wasn't sent whole, or to a reply that hadn't come whole.
+-- failed, all was done that is played on the bytes that came until then, up to a request that wasn't sent whole, or to a reply that hadn't come whole;
+-- and where the sink failed, up to a line that wasn't written whole, and fewer bytes would not have done.
+-- At each read what is played of the bytes that were taken by then had been sent, and no more, and a reply was waited for.
 pub record IsPlayedOn (a : Asking) (end : PlayEnd) (links : Option (List Linked)) (after : List Linked) (written written' last : Option (List ℕ)) : Type 0 where
   pub before : List Linked
   pub link : Linked
@@ -53,8 +58,8 @@ pub record IsPlayedOn (a : Asking) (end : PlayEnd) (links : Option (List Linked)
   pub at_port : link.port ≡ a.port
   pub plays : PlaysAs a.program.digested.program a.program.names (λ c. Unit {0}) (Some link.left) (world (Some []) written None)
       (world (Some link.sent) written' last) (asked_play a (messages reply_of (bytes_on link))) end
-  pub halts : OnLinkFault end (HaltsAt a.program.digested.program a.program.names (world (Some []) written None) (world (Some link.sent) written' last)
-      (asked_play a (messages reply_of link.given)).deeds)
+  pub halts : IfErr end (BreaksAt a.program.digested.program a.program.names (world (Some []) written None) (world (Some link.sent) written' last) (asked_play a) link.given)
+  pub prompt : AllByRecursion (IsPromptOn (bytes_on link) (Some []) (asked_play a)) link.reads
 
 -- the counts: that of the links rose where the link failed, that of the sink where a line of the play could not be written
 abbrev pub PlayFaults : PlayEnd → NetFaults → NetFaults → Type 0
@@ -142,11 +147,17 @@ pub record CallsAsk (texts : List (List ℕ)) (contents : Option Contents) (a : 
   pub means : ForSome contents (λ files. MeansAsking texts files a name)
   pub of_texts : IsOfTexts a
 
+-- And, whatever the files tell: the port is the one that the texts tell, and the name is the last text.
+abbrev pub IsOfWords : List (List ℕ) → Asking → (name : List ℕ) → Type 0
+IsOfWords (program ∷ state ∷ port ∷ script ∷ out ∷ []) a name = (name ≡ out) × TellsPort port a.port
+IsOfWords texts a name = ⊥
+
 -- a run that came to dial
 pub record IsAsking (texts : List (List ℕ)) (old new : Outside) (net net' : NetSeen) (status : Status) : Type 0 where
   pub asking : Asking
   pub name : List ℕ
   pub calls : CallsAsk texts old.contents asking name
+  pub of_words : IsOfWords texts asking name
   pub ends : EndsAsking asking name old new net net' status
 
 -- A run of `ask` with these texts behind the command: it ended as one does that answers without a link, and left the net as it was; or it came

@@ -8,3 +8,4 @@ pub mod PreparedClients
 pub mod Asking
 pub mod AskSteps
 pub mod NetRuns
+pub mod GreetingRows

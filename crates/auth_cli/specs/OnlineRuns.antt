@@ -2,6 +2,7 @@
 use Rattle.std.specs.Prelude.{◌≡◌, ◌⊎◌, ℕ, List, Option}
 use Rattle.lam_outside.specs.Causes.{Rose}
 use Rattle.lam_outside.specs.Links.{Linked, links_so_far}
+use Rattle.lam_outside.specs.Moments.{Moment}
 use Rattle.file_commands.specs.Ending.{Outside}
 use Rattle.auth_cli.specs.NetFaults.{NetFaults, NetRose}
 use Rattle.file_commands.specs.declared.status.Status.{Status}
@@ -13,10 +14,10 @@ pub record NetSeen : Type 0 where
   pub listened : Option ℕ
   pub faults : NetFaults
 
-abbrev pub net_seen : {N : Type 0} → (ended : N → Option (List Linked)) → (linked : N → Option ℕ) → (given left sent : N → Option (List ℕ)) → (listened : N → Option ℕ)
+abbrev pub net_seen : {N : Type 0} → (ended : N → Option (List Linked)) → (linked : N → Option ℕ) → (given left sent : N → Option (List ℕ)) → (reads : N → Option (List Moment)) → (listened : N → Option ℕ)
     → (faults : N → NetFaults) → N → NetSeen
-net_seen ended linked given left sent listened faults net = record {
-  links = links_so_far (ended net) (linked net) (given net) (left net) (sent net);
+net_seen ended linked given left sent reads listened faults net = record {
+  links = links_so_far (ended net) (linked net) (given net) (left net) (sent net) (reads net);
   listened = listened net;
   faults = faults net;
 }

@@ -21,6 +21,17 @@ use Rattle.auth_cli.specs.declared.serving.PreparedServer.{PreparedServer}
 abbrev pub numbers_of : Numbers → ServingNumbers
 numbers_of numbers = record { port = numbers.port; links = numbers.connections; slice = numbers.slice }
 
+-- the numbers of a serving, and those that the server holds
+abbrev pub numbers_served : Serving → ServingNumbers
+numbers_served s = record { port = s.port; links = s.links; slice = s.slice }
+
+abbrev pub numbers_held : PreparedServer → ServingNumbers
+numbers_held server = record { port = server.port; links = server.connections; slice = server.core.slice }
+
+-- The words tell these numbers: with them it is gone on, whatever the files hold.
+abbrev pub TellNumbers : (port links slice : List ℕ) → ServingNumbers → Type 0
+TellNumbers port links slice numbers = (go : ServingNumbers → Option Answer) → with_serving_numbers port links slice go ≡ go numbers
+
 -- Goes on with what is served of a program: the numbers from left to right, and then the image are judged.
 abbrev pub with_beginning : DigestedProgram → (image port links slice : List ℕ) → Contents → (Serving → Option Answer) → Option Answer
 with_beginning p image port links slice files go =

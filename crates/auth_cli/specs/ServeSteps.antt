@@ -1,5 +1,5 @@
 -- The steps of `serve` from `listen` on: what a step leaves, and how much of it was told.
-use Rattle.std.specs.Prelude.{◌≡◌, ◌⊎◌, ◌<◌, ℕ, Bool, true, false, List, length, take, codes, Option}
+use Rattle.std.specs.Prelude.{◌≡◌, ◌⊎◌, ◌<◌, ℕ, Bool, true, false, List, length, codes, Option}
 use Rattle.std.specs.List.{concat}
 use Rattle.std.specs.Io.KnownBytes.{append_known}
 use Rattle.sha2.specs.Sha256.{sha256}
@@ -12,7 +12,7 @@ use Rattle.serve_links.specs.declared.net.ServingEnd.TheVariants as end
 use Rattle.session_meaning.specs.Server.{Server}
 use Rattle.file_commands.specs.Answer.{Serving}
 use Rattle.auth_cli.specs.OnlineRuns.{NetSeen}
-use Rattle.auth_cli.specs.Serving.{Course, IsListening, IsStoredBy, IsTooLong, LacksMemory, HasGone, NotListening, NotWritten, Served, Storage, WithoutMemory, course_lines, course_status, last_image, count_lines, storage_lines, storage_status}
+use Rattle.auth_cli.specs.Serving.{Course, IsListening, IsStoredBy, IsTooLong, LacksMemory, HasGone, NotListening, NotWritten, Served, Storage, WithoutMemory, WritesFront, course_lines, course_status, last_image, count_lines, greeting_of, storage_lines, storage_status}
 use Rattle.images.specs.declared.fault.SaveFault.{SaveFault}
 use Rattle.images.specs.declared.fault.SaveFault.TheVariants as save_fault
 use Rattle.file_commands.specs.Telling.{TellsText}
@@ -24,11 +24,12 @@ pub record IsServer {A G : Type 0} (core : ServeCore A G) (server : Server) : Ty
   pub serves : Serves sha256 core server
   pub some : 0 < length core.shared.versions.items
 
--- All lines of the course were written, and the status is that of the course; or the sink failed, and a front of their text was written.
+-- All lines of the course were written, and the status is that of the course; or the sink failed, and a front of their text was written, in which is
+-- the line that stands before the links.
 abbrev pub IsCourseTold : Serving → Course → Server → Status → (old new : Option (List ℕ)) → (before now : ℕ) → Type 0
 IsCourseTold s course server told old new before now =
     (IsListening course × (told ≡ course_status course) × (new ≡ append_known old (concat (course_lines s course server))) × (now ≡ before))
-    ⊎ ((told ≡ WriteFault) × ((n : ℕ) × (new ≡ append_known old (take n (concat (course_lines s course server))))) × Rose before now)
+    ⊎ ((told ≡ WriteFault) × WritesFront (length (greeting_of s course)) old new (concat (course_lines s course server)) × Rose before now)
 
 -- The serving went some course, which was told, and the core is the server that is left.
 pub record TellsCourse {A G : Type 0} (s : Serving) (net net' : NetSeen) (core : ServeCore A G) (told : Status) (old new : Option (List ℕ)) (before now : ℕ) : Type 0 where

@@ -1,6 +1,6 @@
 -- How `serve` ends, once the words and the files are in order: by the links that were made and what came on them, by what could be written, and
 -- by how the last version was stored.
-use Rattle.std.specs.Prelude.{◌≡◌, ◌⊎◌, ◌≤◌, ◌<◌, ◌-◌, ℕ, Bool, true, false, List, [], ◌∷◌, ◌++◌, length, codes, Option, Some, None}
+use Rattle.std.specs.Prelude.{◌≡◌, ◌⊎◌, ◌≤◌, ◌<◌, ◌-◌, ℕ, Bool, true, false, List, [], ◌∷◌, ◌++◌, length, take, codes, Option, Some, None}
 use Rattle.std.specs.List.{AllByRecursion, concat}
 use Rattle.std.specs.Option.{ForSome}
 use Rattle.std.specs.Io.KnownBytes.{append_known}
@@ -17,9 +17,10 @@ use Rattle.printed_lines.specs.declared.refusal.Refusal.TheVariants as refusal
 use Rattle.serve_links.specs.ServedLinks.{AreServed, AreServedInPart}
 use Rattle.session_meaning.specs.Server.{Server, last_turn, new_server, version_at}
 use Rattle.file_commands.specs.Answer.{Answer, Serving, answer_with, max_file, state_image, with_serving}
-use Rattle.file_commands.specs.Ending.{Outside, EndsAs, WritesPart}
+use Rattle.file_commands.specs.Ending.{Outside, EndsAs}
 use Rattle.auth_cli.specs.NetFaults.{NetFaults}
 use Rattle.auth_cli.specs.OnlineRuns.{CountsBy, NetSeen}
+use Rattle.auth_cli.specs.PreparedServers.{TellNumbers, numbers_served}
 use Rattle.file_commands.specs.declared.status.Status.{Status}
 use Rattle.file_commands.specs.declared.status.Status.TheVariants.{Done, InputRefused, ReadFault, WriteFault, NoMemory}
 
@@ -107,6 +108,17 @@ course_lines s NotWritten server = listening_line s.port ∷ []
 course_lines s (Served faulted) server = listening_line s.port ∷ server_lines server faulted
 course_lines s WithoutMemory server = listening_line s.port ∷ codes "no memory\n" ∷ []
 
+-- the line that was written whole before a link was made; none where none was
+abbrev pub greeting_of : Serving → Course → List ℕ
+greeting_of s (Served faulted) = listening_line s.port
+greeting_of s WithoutMemory = listening_line s.port
+greeting_of s NotListening = []
+greeting_of s NotWritten = []
+
+-- a front of the text was written, of so many bytes at least
+abbrev pub WritesFront : (least : ℕ) → (old new : Option (List ℕ)) → List ℕ → Type 0
+WritesFront least old new text = (n : ℕ) × (least ≤ n) × (new ≡ append_known old (take n text))
+
 abbrev pub course_status : Course → Status
 course_status NotListening = ReadFault
 course_status NotWritten = WriteFault
@@ -164,10 +176,10 @@ pub record TellsWhole (s : Serving) (course : Course) (server : Server) (storage
   pub written : new.written ≡ append_known old.written (serving_text s course server storage)
   pub writes : new.write_faults ≡ old.write_faults
 
--- The sink failed, and a front of their text was written.
+-- The sink failed, and a front of their text was written; where links were made, the line that stands before them is in it.
 pub record TellsPart (s : Serving) (course : Course) (server : Server) (storage : Storage) (old new : Outside) (ended : Status) : Type 0 where
   pub status : ended ≡ WriteFault
-  pub part : WritesPart old.written new.written (serving_text s course server storage)
+  pub part : WritesFront (length (greeting_of s course)) old.written new.written (serving_text s course server storage)
   pub rose : Rose old.write_faults new.write_faults
 
 -- How a serving ends. Its course and its server, what is written of them, and the last version, which is stored however it ended.
@@ -186,11 +198,17 @@ MeansServing (program ∷ image ∷ port ∷ links ∷ slice ∷ out ∷ []) fil
     (name ≡ out) × ((go : Serving → Option Answer) → with_serving program image port links slice files go ≡ go s)
 MeansServing texts files s name = ⊥
 
+-- And, whatever the files tell: the port, the number of links and the slice are those that the texts tell, and the name is the last text.
+abbrev pub IsOfWords : List (List ℕ) → Serving → (name : List ℕ) → Type 0
+IsOfWords (program ∷ image ∷ port ∷ links ∷ slice ∷ out ∷ []) s name = (name ≡ out) × TellNumbers port links slice (numbers_served s)
+IsOfWords texts s name = ⊥
+
 -- a run that came to listen
 pub record IsServing (texts : List (List ℕ)) (old new : Outside) (net net' : NetSeen) (status : Status) : Type 0 where
   pub serving : Serving
   pub name : List ℕ
   pub means : ForSome old.contents (λ files. MeansServing texts files serving name)
+  pub of_words : IsOfWords texts serving name
   pub ends : EndsServing serving name old new net net' status
 
 -- A run of `serve` with these texts behind the command: it ended as one does that answers without a link, and left the net as it was; or it came

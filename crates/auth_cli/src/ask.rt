@@ -1,11 +1,14 @@
 // The command `ask`.
 ghost use Rattle.std.specs.Prelude.{◌≡◌, ◌⊎◌, IfOk, length, unwrap_or};
+ghost use Rattle.std.specs.Option.{ForSome};
+ghost use Rattle.lam_outside.specs.Moments.{AtEachRead};
 ghost use Rattle.wire_form.specs.MovedBytes.{Moves};
 ghost use Rattle.command_words.specs.Commands.{texts};
 ghost use Rattle.command_words.specs.declared.command.Command.TheVariants.{Ask};
 ghost use Rattle.file_commands.specs.Answer.{answer_with};
 ghost use Rattle.auth_cli.specs.AskSteps.{PlaysAndStores};
-ghost use Rattle.auth_cli.specs.Asking.{AskCounts, EndsAsking, IsAsk, IsEndTold, IsStateStored};
+ghost use Rattle.auth_cli.specs.Asking.{AskCounts, EndsAsking, IsAsk, IsEndTold, IsStateStored, asked_play};
+ghost use Rattle.script_play.specs.Prompt.{IsPromptOn};
 ghost use Rattle.file_commands.specs.Ending.{outside};
 ghost use Rattle.auth_cli.specs.NetFaults.{net_faults};
 ghost use Rattle.auth_cli.specs.OnlineRuns.{net_seen};
@@ -32,7 +35,7 @@ pub fn ask_command<F: Files, O: Sink, N: Net>(
 ) -> Status
     requires { length words.now ≡ 5 }
     ensures ends { let seen = outside F.contents F.stores F.faults F.store_faults O.written O.faults in
-        let links = net_seen N.ended N.linked N.given N.left N.sent N.listened (net_faults N.faults N.listen_faults N.accept_faults N.dial_faults) in
+        let links = net_seen N.ended N.linked N.given N.left N.sent N.reads N.listened (net_faults N.faults N.listen_faults N.accept_faults N.dial_faults) in
         IsAsk (texts words.now) (seen files.old out.old) (seen files.new out.new) (links net.old) (links net.new) result }
     ensures counts { let seen = outside F.contents F.stores F.faults F.store_faults O.written O.faults in
         let faults = net_faults N.faults N.listen_faults N.accept_faults N.dial_faults in
@@ -66,7 +69,7 @@ fn ask<F: Files, O: Sink, N: Net>(
 ) -> Status
     requires { IsReady client.old }
     ensures ends { let seen = outside F.contents F.stores F.faults F.store_faults O.written O.faults in
-        let links = net_seen N.ended N.linked N.given N.left N.sent N.listened (net_faults N.faults N.listen_faults N.accept_faults N.dial_faults) in
+        let links = net_seen N.ended N.linked N.given N.left N.sent N.reads N.listened (net_faults N.faults N.listen_faults N.accept_faults N.dial_faults) in
         EndsAsking (asked_by client.old) name.now (seen files.old out.old) (seen files.new out.new) (links net.old) (links net.new) result }
     ensures asked { F.asked files.new ≡ F.asked files.old }
 {
@@ -89,6 +92,7 @@ fn play_and_store<F: Files, O: Sink, N: Net>(
     ensures plays { let seen = outside F.contents F.stores F.faults F.store_faults O.written O.faults in
         PlaysAndStores (asked_by client.old) name.now (seen files.old out.old) (seen files.new out.new)
         (N.left net.old) (N.left net.new) (N.sent net.old) (N.sent net.new) (N.faults net.old) (N.faults net.new) result }
+    ensures prompt { ForSome (N.left net.old) (λ bytes. AtEachRead (IsPromptOn bytes (N.sent net.old) (asked_play (asked_by client.old))) (N.reads net.old) (N.reads net.new)) }
     ensures moves { Moves (N.given net.old) (N.left net.old) (N.given net.new) (N.left net.new) }
     ensures beyond { N.beyond net.new ≡ N.beyond net.old }
     ensures asked { F.asked files.new ≡ F.asked files.old }

@@ -9,7 +9,7 @@ ghost use Rattle.ask_script.specs.Scripts.{Fits};
 ghost use Rattle.file_commands.specs.Answer.{unasked_answer, with_asked, with_asking, with_script, with_script_file};
 ghost use Rattle.auth_cli.specs.Asking.{IsOfScript, IsOfTexts};
 ghost use Rattle.file_commands.specs.Halting.{GoesOn, HaltCause, InHand};
-ghost use Rattle.auth_cli.specs.PreparedClients.{FitProgram, IsReady, asked_by, asked_with};
+ghost use Rattle.auth_cli.specs.PreparedClients.{FitProgram, IsReady, TellsPort, asked_by, asked_with};
 ghost use Rattle.file_commands.specs.ReadPrograms.{named_of};
 ghost use Rattle.file_commands.specs.Reaching.{FaultsAt, FaultsAtReached};
 
@@ -64,6 +64,7 @@ pub fn read_asking<F: Files>(
         (with_asking words.program.now words.state.now words.port.now words.script.now told) asked_by result) }
     ensures ready { IfOk result IsReady }
     ensures of_texts { IfOk result (λ client. IsOfTexts (asked_by client)) }
+    ensures port { IfOk result (λ client. TellsPort words.now.port.now client.port) }
     ensures reached { let words = words.now in FaultsAtReached (unasked_answer words.program.now words.state.now words.port.now words.script.now)
         (F.contents files.old) (F.asked files.new) result }
     ensures cause { HaltCause (F.faults files.old) (F.faults files.new) result }
@@ -88,6 +89,7 @@ fn read_inputs<F: Files>(
     ensures goes { let words = words.now in let p = program.now in ForSome (F.contents files.old) (λ told. GoesOn
         (with_asked (named_of p) words.state.now words.port.now words.script.now told) (asked_with p) result) }
     ensures fits { IfOk result (FitProgram program.now) }
+    ensures port { IfOk result (λ inputs. TellsPort words.now.port.now inputs.port) }
     ensures script { IfOk result (λ inputs. IsOfScript (named_of program.now) (map step_meant inputs.steps.items)) }
     ensures reached { let words = words.now in let p = named_of program.now in FaultsAtReached
         (λ told. with_asked p words.state.now words.port.now words.script.now told (λ asking. None)) (F.contents files.old) (F.asked files.new) result }

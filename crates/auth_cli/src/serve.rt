@@ -38,7 +38,7 @@ pub fn serve_command<F: Files, O: Sink, N: Net, R: Threads + Sync>(
 ) -> Status
     requires { length words.now ≡ 6 }
     ensures ends { let seen = outside F.contents F.stores F.faults F.store_faults O.written O.faults in
-        let links = net_seen N.ended N.linked N.given N.left N.sent N.listened (net_faults N.faults N.listen_faults N.accept_faults N.dial_faults) in
+        let links = net_seen N.ended N.linked N.given N.left N.sent N.reads N.listened (net_faults N.faults N.listen_faults N.accept_faults N.dial_faults) in
         IsServe (texts words.now) (seen files.old out.old) (seen files.new out.new) (links net.old) (links net.new) result }
     ensures counts { let seen = outside F.contents F.stores F.faults F.store_faults O.written O.faults in
         let faults = net_faults N.faults N.listen_faults N.accept_faults N.dial_faults in
@@ -74,7 +74,7 @@ fn serve<F: Files, O: Sink, N: Net, R: Threads + Sync>(
 ) -> Status
     requires { (s : Serving) × IsPrepared server.old s }
     ensures ends { let seen = outside F.contents F.stores F.faults F.store_faults O.written O.faults in
-        let links = net_seen N.ended N.linked N.given N.left N.sent N.listened (net_faults N.faults N.listen_faults N.accept_faults N.dial_faults) in
+        let links = net_seen N.ended N.linked N.given N.left N.sent N.reads N.listened (net_faults N.faults N.listen_faults N.accept_faults N.dial_faults) in
         (s : Serving) → IsPrepared server.old s → EndsServing s name.now (seen files.old out.old) (seen files.new out.new) (links net.old) (links net.new) result }
     ensures asked { F.asked files.new ≡ F.asked files.old }
 {
@@ -91,7 +91,7 @@ fn listen_and_serve<O: Sink, N: Net, R: Threads + Sync>(
     net: &mut N,
 ) -> Status
     requires { (s : Serving) × IsPrepared server.old s }
-    ensures course { let links = net_seen N.ended N.linked N.given N.left N.sent N.listened (net_faults N.faults N.listen_faults N.accept_faults N.dial_faults) in
+    ensures course { let links = net_seen N.ended N.linked N.given N.left N.sent N.reads N.listened (net_faults N.faults N.listen_faults N.accept_faults N.dial_faults) in
         (s : Serving) → IsPrepared server.old s
         → TellsCourse s (links net.old) (links net.new) server.new.core result (O.written out.old) (O.written out.new) (O.faults out.old) (O.faults out.new) }
     ensures code { HasSameCode server.old.core server.new.core }

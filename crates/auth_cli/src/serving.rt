@@ -8,7 +8,7 @@ ghost use Rattle.file_commands.specs.Answer.{Serving, serving_of, unserved_answe
 ghost use Rattle.file_commands.specs.Halting.{GoesOn, GoesOnFor, HaltCause, InHand};
 ghost use Rattle.file_commands.specs.Reaching.{FaultsAtReached};
 ghost use Rattle.file_commands.specs.ReadPrograms.{digested_of};
-ghost use Rattle.auth_cli.specs.PreparedServers.{BeginsWith, IsPrepared, numbers_of, with_beginning};
+ghost use Rattle.auth_cli.specs.PreparedServers.{TellNumbers, BeginsWith, IsPrepared, numbers_held, numbers_of, with_beginning};
 ghost use Rattle.file_commands.specs.StoredStates.{IsStoredState};
 
 use code_gen::Code;
@@ -71,6 +71,7 @@ pub fn read_serving<F: Files>(
     ensures goes { let words = words.now in ForSome (F.contents files.old) (λ told. GoesOnFor
         (with_serving words.program.now words.image.now words.port.now words.connections.now words.slice.now told) (λ server s. IsPrepared server.value s) result) }
     ensures prepared { IfOk result (λ server. (s : Serving) × IsPrepared server.value s) }
+    ensures numbers { let words = words.now in IfOk result (λ server. TellNumbers words.port.now words.connections.now words.slice.now (numbers_held server.value)) }
     ensures reached { let words = words.now in FaultsAtReached (unserved_answer words.program.now words.image.now words.port.now words.connections.now words.slice.now)
         (F.contents files.old) (F.asked files.new) result }
     ensures cause { HaltCause (F.faults files.old) (F.faults files.new) result }
@@ -96,6 +97,7 @@ fn read_beginning<F: Files>(
         (with_beginning (digested_of p) words.image.now words.port.now words.connections.now words.slice.now told) (BeginsWith p) result) }
     ensures stands { IfOk result (λ beginning. (v : Value) × IsStoredState (meaning (program_in code.now)) beginning.state v) }
     ensures slice { IfOk result (λ beginning. 1 ≤ beginning.numbers.slice) }
+    ensures numbers { let words = words.now in IfOk result (λ beginning. TellNumbers words.port.now words.connections.now words.slice.now (numbers_of beginning.numbers)) }
     ensures reached { let words = words.now in let p = digested_of (program_in code.now) in FaultsAtReached
         (λ told. with_beginning p words.image.now words.port.now words.connections.now words.slice.now told (λ s. None)) (F.contents files.old) (F.asked files.new) result }
     ensures cause { HaltCause (F.faults files.old) (F.faults files.new) result }

@@ -135,14 +135,14 @@ pub fn run<F: Files, O: Sink, N: Net, R: Threads + Sync>(
     // The one of `serve`: what was sent on each link that was made, what was written of it, and the last version, which is stored however the
     // serving ended.
     ensures serves { let seen = outside F.contents F.stores F.faults F.store_faults O.written O.faults in
-        let links = net_seen N.ended N.linked N.given N.left N.sent N.listened (net_faults N.faults N.listen_faults N.accept_faults N.dial_faults) in
+        let links = net_seen N.ended N.linked N.given N.left N.sent N.reads N.listened (net_faults N.faults N.listen_faults N.accept_faults N.dial_faults) in
         (called : Invocation) → invocation_of (texts words.now) ≡ Some called → called.command ≡ Serve
         → (status : Status) × (result ≡ code status) × IsServe called.texts (seen files.old out.old) (seen files.new out.new) (links net.old) (links net.new) status }
 
     // The one of `ask`: what was sent on the link that was made, what was written of the play on the replies that came, and the state told last,
     // which is stored however the play ended.
     ensures asks { let seen = outside F.contents F.stores F.faults F.store_faults O.written O.faults in
-        let links = net_seen N.ended N.linked N.given N.left N.sent N.listened (net_faults N.faults N.listen_faults N.accept_faults N.dial_faults) in
+        let links = net_seen N.ended N.linked N.given N.left N.sent N.reads N.listened (net_faults N.faults N.listen_faults N.accept_faults N.dial_faults) in
         (called : Invocation) → invocation_of (texts words.now) ≡ Some called → called.command ≡ Ask
         → (status : Status) × (result ≡ code status) × IsAsk called.texts (seen files.old out.old) (seen files.new out.new) (links net.old) (links net.new) status }
 
@@ -239,7 +239,7 @@ fn ended<F: Files, O: Sink, N: Net, R: Threads + Sync>(
     net: &mut N,
 ) -> Status
     ensures ends { let seen = outside F.contents F.stores F.faults F.store_faults O.written O.faults in
-        let links = net_seen N.ended N.linked N.given N.left N.sent N.listened (net_faults N.faults N.listen_faults N.accept_faults N.dial_faults) in
+        let links = net_seen N.ended N.linked N.given N.left N.sent N.reads N.listened (net_faults N.faults N.listen_faults N.accept_faults N.dial_faults) in
         EndsRun (invocation_of (texts words.now)) (seen files.old out.old) (seen files.new out.new) (links net.old) (links net.new) result }
     ensures unused { IsOffline (invocation_of (texts words.now)) → net.new ≡ net.old }
     ensures reached { IsReadFaultAt (answer (texts words.now)) (F.contents files.old) (F.asked files.new) (F.faults files.old) (F.faults files.new) result }
@@ -265,7 +265,7 @@ fn carry_out<F: Files, O: Sink, N: Net, R: Threads + Sync>(
 ) -> Status
     requires { IsOfCommand command (texts words.now) }
     ensures ends { let seen = outside F.contents F.stores F.faults F.store_faults O.written O.faults in
-        let links = net_seen N.ended N.linked N.given N.left N.sent N.listened (net_faults N.faults N.listen_faults N.accept_faults N.dial_faults) in
+        let links = net_seen N.ended N.linked N.given N.left N.sent N.reads N.listened (net_faults N.faults N.listen_faults N.accept_faults N.dial_faults) in
         EndsCommand command (texts words.now) (seen files.old out.old) (seen files.new out.new) (links net.old) (links net.new) result }
     ensures unused { UsesNoNet command → net.new ≡ net.old }
     ensures reached { IsReadFaultAt (answer_with command (texts words.now)) (F.contents files.old) (F.asked files.new) (F.faults files.old) (F.faults files.new) result }

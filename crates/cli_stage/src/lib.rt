@@ -3,3 +3,4 @@
 
 pub mod runs;
 pub mod stage;
+pub mod waiting;

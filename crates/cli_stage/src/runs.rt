@@ -1,10 +1,10 @@
 // Runs over files, a sink and a net in memory.
 ghost use Rattle.std.specs.Prelude.{◌<◌, ◌-◌, ◌^◌};
-ghost use Rattle.lam_outside.specs.MemNets.{net_accept_faults, net_dial_faults, net_faults, net_listen_faults};
 
 use crate::stage::{Stage, files, net, sink, staged};
+use crate::waiting::{Turn, WaitingNet};
 use auth_cli::run;
-use lam_outside::{MemFiles, MemNet, MemSink};
+use lam_outside::{MemFiles, MemSink, Net};
 use std::alloc::{AllocError, Global};
 use std::thread::Threads;
 
@@ -108,22 +108,37 @@ pub fn run_on_net<R: Threads + Sync>(
     Ok((run, net.sent().to_vec(alloc)?))
 }
 
-/// The same over this net.
-fn run_over<R: Threads + Sync>(
+/// Runs these words behind the program's name over a net with a peer that takes these turns; and what was sent to it.
+pub fn run_waiting<R: Threads + Sync>(
     rt: &R,
     alloc: Global,
     stage: &Stage,
     words: &[&str],
-    net: &mut MemNet,
+    turns: &[Turn],
+) -> Result<(Run, Vec<u8>), AllocError>
+    requires { 0 < stage.now.most_read }
+{
+    let mut net = WaitingNet::new(alloc, turns);
+    let run = run_over(rt, alloc, stage, words, &mut net, &[], (100, &[]))?;
+    Ok((run, net.sent().to_vec(alloc)?))
+}
+
+/// The same over this net.
+fn run_over<R: Threads + Sync, N: Net>(
+    rt: &R,
+    alloc: Global,
+    stage: &Stage,
+    words: &[&str],
+    net: &mut N,
     failing: &[u64],
     writes: Writes,
 ) -> Result<Run, AllocError>
     requires read { 0 < stage.now.most_read }
     requires written { 0 < writes.0 }
-    requires links { net_faults net.old < 2 ^ 64 - 1 }
-    requires listens { net_listen_faults net.old < 2 ^ 64 - 1 }
-    requires accepts { net_accept_faults net.old < 2 ^ 64 - 1 }
-    requires dials { net_dial_faults net.old < 2 ^ 64 - 1 }
+    requires links { N.faults net.old < 2 ^ 64 - 1 }
+    requires listens { N.listen_faults net.old < 2 ^ 64 - 1 }
+    requires accepts { N.accept_faults net.old < 2 ^ 64 - 1 }
+    requires dials { N.dial_faults net.old < 2 ^ 64 - 1 }
 {
     let (most, failing_writes) = writes;
     let words = with_name(alloc, words)?;

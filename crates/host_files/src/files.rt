@@ -2,14 +2,15 @@
 ghost use Rattle.std.specs.Prelude.{◌≡◌, ℕ, None, refl};
 
 use lam_outside::{Failed, Files, Source};
+use read_ahead::ReadAhead;
 use std::fs::{self, File};
-use std::io::Read;
 
-/// The files of the machine.
+/// The files of the machine. The one that is read is read ahead.
 #[derive(Drop)]
 pub struct HostFiles<'a> {
     rt: &'a HostRuntime,
     started: Option<File>,
+    ahead: ReadAhead,
     read_faults: u64,
     store_faults: u64,
 }
@@ -23,6 +24,7 @@ impl<'a> HostFiles<'a> {
         HostFiles {
             rt,
             started: None,
+            ahead: ReadAhead::new(),
             read_faults: 0,
             store_faults: 0,
         }
@@ -34,6 +36,10 @@ impl Source for HostFiles<'_> {
 
     ghost left = { λ _. None };
 
+    ghost sent = { λ _. None };
+
+    ghost reads = { λ _. None };
+
     ghost faults = { λ files. files.read_faults };
 
     ghost Rest = { ℕ };
@@ -44,7 +50,7 @@ impl Source for HostFiles<'_> {
         let Some(file) = &mut self.started else {
             return Ok(0);
         };
-        match file.read(into) {
+        match self.ahead.read(file, into) {
             Ok(count) => Ok(count),
             Err(_) => {
                 self.read_faults = self.read_faults.saturating_add(1);
@@ -75,6 +81,7 @@ impl Files for HostFiles<'_> {
         match fs::open(self.rt, name) {
             Ok(file) => {
                 self.started = Some(file);
+                self.ahead.clear();
                 Ok(())
             }
             Err(_) => {
@@ -98,7 +105,7 @@ impl Files for HostFiles<'_> {
 #[cfg(test)]
 mod tests {
     use super::HostFiles;
-    use lam_outside::{Failed, Files, load_all};
+    use lam_outside::{Failed, Files, Load, Source, load_all};
     use std::fs;
     use std::test::Fail;
 
@@ -112,6 +119,41 @@ mod tests {
         let _ = fs::remove_file(&rt, name);
         assert!(rt; files.start(name) == Err(Failed));
         assert!(rt; files.store("/no such folder/file", b"abc") == Err(Failed));
+        Ok(())
+    }
+
+    #[test]
+    fn a_failed_read_is_no_end(rt: HostRuntime) -> Result<(), Fail> {
+        let mut files = HostFiles::new(&rt);
+        let mut into = [0; 4];
+        assert!(rt; files.start("/tmp").is_ok(), "a folder can be opened");
+        assert!(rt; files.read(&mut into) == Err(Failed), "and not be read");
+        assert!(rt; files.read_faults == 1);
+        assert!(rt;
+            load_all(rt.alloc(), &mut files, "/tmp", 3).is_err_and(|load| load == Load::ReadFault)
+        );
+        Ok(())
+    }
+
+    #[test]
+    fn reads_of_every_length_give_the_bytes_in_their_order(rt: HostRuntime) -> Result<(), Fail> {
+        let name = "/tmp/lamauth_long_file_of_a_test";
+        let mut text = Vec::new(rt.alloc());
+        for k in 0..30_000_u32 {
+            text.push((k % 251) as u8)?;
+        }
+        let mut files = HostFiles::new(&rt);
+        assert!(rt; files.store(name, &text).is_ok() && files.start(name).is_ok());
+        let mut read = Vec::new(rt.alloc());
+        let mut into = [0; 10_000];
+        for most in [1, 4, 8_187, 1, 9_000, 8_191, 100, 8_192, 10_000, 10_000] {
+            let count = files.read(&mut into[..most]).unwrap_or(0);
+            read.extend_from_slice(&into[..count.min(most)])?;
+        }
+        let _ = fs::remove_file(&rt, name);
+        assert!(rt; read.as_slice() == text.as_slice());
+        assert!(rt; files.read(&mut into) == Ok(0));
+        assert!(rt; files.start("/dev/null").is_ok() && files.read(&mut into) == Ok(0));
         Ok(())
     }
 }

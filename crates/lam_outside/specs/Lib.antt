@@ -1,11 +1,17 @@
 pub mod Causes
 pub mod Links
+pub mod LinkReads
 pub mod Loads
 pub mod MadeLinks
 pub mod Mem
 pub mod MemLinks
 pub mod MemNets
 pub mod MemTold
+pub mod Moments
 pub mod Plans
 pub mod Told
 pub mod Slices
+pub mod Disks
+pub mod MemCalls
+pub mod MemDisks
+pub mod ChosenFiles

@@ -2,9 +2,9 @@
 use Rattle.std.specs.Prelude.{ℕ, Option, option_map}
 use Rattle.lamauth.specs.declared.net.HostNet.{HostNet}
 
--- the port of the link that stands, and the one that is listened to
+-- the port of the link that was made last, and the one that is listened to
 abbrev pub linked_port : HostNet → Option ℕ
-linked_port net = option_map (λ link. link.port) net.standing
+linked_port net = net.linked
 
 abbrev pub listened_port : HostNet → Option ℕ
 listened_port net = option_map (λ listening. listening.port) net.listening

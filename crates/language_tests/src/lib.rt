@@ -7,6 +7,8 @@ mod answers;
 #[cfg(test)]
 mod forms;
 #[cfg(test)]
+mod library;
+#[cfg(test)]
 mod limits;
 #[cfg(test)]
 mod literals;

@@ -1,5 +1,5 @@
-//! Tests of the machine: what each operation gives at its borders, the limits of values, choices, fuel in one run and in slices, deep
-//! recursion, and the instructions that are generated; and tests of the library on it.
+//! Tests of the machine: what each operation gives at its borders, the limits of values, choices, fuel in one run and in slices, last
+//! calls and deep recursion, scalars in hand, and the instructions that are generated; and tests of the library on it.
 #![tactic(auto)]
 
 #[cfg(test)]
@@ -11,6 +11,8 @@ mod fuel;
 #[cfg(test)]
 mod generator;
 #[cfg(test)]
+mod last_calls;
+#[cfg(test)]
 mod library;
 #[cfg(test)]
 mod limits;
@@ -20,5 +22,7 @@ mod operations;
 mod random;
 #[cfg(test)]
 mod recursion;
+#[cfg(test)]
+mod scalars;
 #[cfg(test)]
 mod stage;

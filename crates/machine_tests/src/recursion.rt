@@ -1,11 +1,11 @@
-// Deep recursion: frames stand on the heap, and not on the native stack.
+// Many calls, and deep recursion: frames stand on the heap, and not on the native stack.
 use crate::stage::{code_of, run_in_slices};
 use std::test::Fail;
 
-/// So many calls, each of which waits for the value of the next one. A frame takes some 400 bytes.
+/// So many calls, each of which is the last of the one before it.
 const SPIN: &[u8] = b"state unit; fun spin(n: int): int = if le(n, 0) then 0 else spin(sub(n, 1));";
 
-/// The same, where each call adds to what it waited for.
+/// The same, where each call waits for the value of the next one and adds to it.
 const DEEP: &[u8] =
     b"state unit; fun deep(n: int): int = if le(n, 0) then 0 else add(1, deep(sub(n, 1)));";
 

@@ -68,6 +68,27 @@ pub fn run(alloc: Global, code: &Code, argument: i64, fuel: u64) -> Result<Strin
     outcome_text(alloc, &store, outcome)
 }
 
+/// The same, and how many nodes there are then.
+///
+/// # Errors
+///
+/// As of `run`.
+pub fn run_counted(
+    alloc: Global,
+    code: &Code,
+    argument: i64,
+    fuel: u64,
+) -> Result<(String, usize), AllocError> {
+    if fuel > MAX_FUEL || !takes_int(code.program()) {
+        return Err(AllocError);
+    }
+    let mut store = Store::new(alloc);
+    let value = store.put_int(argument)?;
+    let outcome = ideal_run(code, &mut store, FIRST, &[value], fuel, alloc)?;
+    let told = outcome_text(alloc, &store, outcome)?;
+    Ok((told, store.count()))
+}
+
 /// The same in slices of so many calls, and how often the machine paused.
 ///
 /// # Errors

@@ -1,7 +1,7 @@
 -- A constructor value is made of the topmost operands.
 use Rattle.std.proofs.Common.{◌≡◌, ℕ, ◌≤◌, true, ◌&&◌, List, [], ◌∷◌, ◌++◌, length, reverse, nat_lt, Result, Option, Some, unwrap_or, refl, ap, ◌∙◌, subst, arith, lt-ltb}
 use Rattle.std.specs.List.{list_all}
-use Rattle.std.proofs.lemmas.List.{reverse-append, length-map, length-reverse}
+use Rattle.std.proofs.lemmas.List.{reverse-append, length-reverse}
 use Rattle.core_terms.specs.ProgramTypes.{named_table}
 use Rattle.core_terms.specs.Types.{Ty, Table, NamedTy, fields_at}
 use Rattle.core_terms.specs.Values.{Values, NoV, AndV, ConV}
@@ -16,10 +16,12 @@ use Rattle.code_meaning.specs.Accept.{push_types}
 use Rattle.code_meaning.proofs.Parts.{push_all}
 use Rattle.value_store.specs.Nodes.{Node}
 use Rattle.value_store.specs.Standing.{Kind, AllStandFor, Keeps}
+use Rattle.value_store.specs.declared.node.Ref.{Ref}
 use Rattle.value_store.specs.Markings.{Marking, kind_of}
 use Rattle.value_store.specs.CodeNodes.{numbers_of}
-use Rattle.value_store.specs.declared.node.Ref.{Ref}
 use Rattle.value_store.proofs.StandingNodes.{there_stands}
+use Rattle.mode_vm.specs.Operands.{AllHeld}
+use Rattle.mode_vm.specs.declared.operand.Operand.{Operand}
 use Rattle.mode_vm.specs.Meanings.{CauseOf, StateOf, mode_of}
 use Rattle.mode_vm.specs.Machines.{ValueFrame, Before}
 use Rattle.mode_vm.specs.Calculations.{Makes}
@@ -28,7 +30,7 @@ use Rattle.mode_vm.specs.StateParts.{IsAt, Finishes}
 use Rattle.mode_vm.specs.declared.frame.Frame.{Frame}
 use Rattle.mode_vm.proofs.Frames.{ToNext, fits_next, calls}
 use Rattle.mode_vm.proofs.Made.{finishes_on, made_acts}
-use Rattle.mode_vm.proofs.Calls.{Pushed, length_push, numbers_append, numbers_reverse, popped_args, pushed}
+use Rattle.mode_vm.proofs.Calls.{Pushed, length_push, popped_args, pushed}
 use Rattle.mode_vm.proofs.Operands.{as_many}
 
 module _ (kind : Kind) (types : Table) (nodes : List Node) where
@@ -51,29 +53,27 @@ module _ (m : Marking) (P : Program) (nodes : List Node) (frame : Frame) (number
 
   pub make_enough : field_count P.types number tag ≤ length frame.operands.items
   make_enough =
-      let a = as_many (kind_of m P) P.types nodes (numbers_of (reverse frame.operands.items)) c.operand_types c.operands b.top.is.operands in
-      let l = length-map (reverse frame.operands.items) (λ (r : Ref). r.0) in
+      let a = as_many (kind_of m P) P.types nodes (reverse frame.operands.items) c.operand_types c.operands b.top.is.operands in
       let r = length-reverse frame.operands.items in
       let p = ap length makes_of.3 ∙ length_push makes_of.0 makes_of.1 in
       let n = counted in
-      omega (arith, a, l, r, p, n)
+      omega (arith, a, r, p, n)
 
-  module _ (fields kept : List Ref) (long : length fields ≡ field_count P.types number tag) (is : frame.operands.items ≡ kept ++ fields) where
-    split : Pushed (kind_of m P) P.types nodes makes_of.0 makes_of.1 (numbers_of fields) (numbers_of (reverse kept)) c.operands
+  module _ (fields kept : List Operand) (long : length fields ≡ field_count P.types number tag) (is : frame.operands.items ≡ kept ++ fields) where
+    split : Pushed (kind_of m P) P.types nodes makes_of.0 makes_of.1 fields (reverse kept) c.operands
     split =
-        let l = length-map fields (λ (r : Ref). r.0) in
-        let e : numbers_of (reverse frame.operands.items) ≡ reverse (numbers_of fields) ++ numbers_of (reverse kept) =
-        ap (λ l. numbers_of (reverse l)) is ∙ ap numbers_of (reverse-append kept fields) ∙ numbers_append (reverse fields) (reverse kept)
-        ∙ ap (λ l. l ++ numbers_of (reverse kept)) (numbers_reverse fields) in
-        pushed (kind_of m P) P.types nodes makes_of.0 makes_of.1 (numbers_of fields) (numbers_of (reverse kept)) c.operands (l ∙ long ∙ counted)
-        (subst (λ l. AllStandFor (kind_of m P) P.types nodes l (push_types makes_of.0 makes_of.1) c.operands) e
-        (subst (λ os. AllStandFor (kind_of m P) P.types nodes (numbers_of (reverse frame.operands.items)) os c.operands) makes_of.3 b.top.is.operands))
+        let e : reverse frame.operands.items ≡ reverse fields ++ reverse kept = ap reverse is ∙ reverse-append kept fields in
+        pushed (kind_of m P) P.types nodes makes_of.0 makes_of.1 fields (reverse kept) c.operands (long ∙ counted)
+        (subst (λ l. AllHeld (kind_of m P) P.types nodes l (push_types makes_of.0 makes_of.1) c.operands) e
+        (subst (λ os. AllHeld (kind_of m P) P.types nodes (reverse frame.operands.items) os c.operands) makes_of.3 b.top.is.operands))
 
-    pub fields_there : list_all (λ r. nat_lt r (length nodes)) (numbers_of fields) ≡ true
-    fields_there = all_there (kind_of m P) P.types nodes (numbers_of fields) makes_of.0 split.vs split.args_stand
+    -- what they stand for, among any nodes that keep these
+    pub fields_there : (refs : List Ref) (new : List Node) → ((ts : List Ty) (vs : Values) → AllHeld (kind_of m P) P.types nodes fields ts vs → AllStandFor (kind_of m P) P.types new (numbers_of refs) ts vs)
+        → list_all (λ r. nat_lt r (length new)) (numbers_of refs) ≡ true
+    fields_there refs new placed = all_there (kind_of m P) P.types new (numbers_of refs) makes_of.0 split.vs (placed makes_of.0 split.vs split.args_stand)
 
-    pub make_acts : {E : Type 0} (new : List Node) → Keeps nodes new → (mid after : Frame) → IsAt frame frame.place frame.locals.items kept mid → (made : Result Ref Trap)
-        → ((ts : List Ty) (vs : Values) → fields_at P.types number tag ≡ Some ts → AllStandFor (kind_of m P) P.types nodes (numbers_of fields) ts vs
+    pub make_acts : {E : Type 0} (new : List Node) → Keeps nodes new → (mid after : Frame) → IsAt frame frame.place frame.locals.items kept mid → (made : Result Operand Trap)
+        → ((ts : List Ty) (vs : Values) → fields_at P.types number tag ≡ Some ts → AllHeld (kind_of m P) P.types nodes fields ts vs
         → Makes m (kind_of m P) P.types new (NamedTy number) (limited P.format.limit P.types (NamedTy number) (ConV tag vs)) made)
         → (result : Result (Option Trap) E) → Finishes mid made after result → Acts m P new c after result
     make_acts new keeps mid after at made makes result finishes =
@@ -92,7 +92,7 @@ module _ (m : Marking) (P : Program) (nodes : List Node) (frame : Frame) (number
             ap (λ os. popped (field_count P.types number tag) (tie os c.operands) NoV go) makes_of.3
             ∙ ap (λ ops. popped (field_count P.types number tag) ops NoV go) split.tied
             ∙ ap (λ n. popped n (push_all makes_of.0 split.vs (tie makes_of.1 split.below)) NoV go) counted
-            ∙ popped_args (kind_of m P) P.types nodes (numbers_of fields) makes_of.0 split.vs split.args_stand (tie makes_of.1 split.below) go
+            ∙ popped_args (kind_of m P) P.types nodes fields makes_of.0 split.vs split.args_stand (tie makes_of.1 split.below) go
 
 -- the number of fields, as the code counts them
 pub fields_counted : (types : Table) (number tag n : ℕ) (o : Option (List Ty)) → o ≡ fields_at types number tag → n ≡ length (unwrap_or o []) → n ≡ field_count types number tag

@@ -21,7 +21,7 @@ module _ (m : Marking) (P : Program) (z : Ty) (nodes : List Node) (state : State
   deep_in : (k n : ℕ) → k ≡ suc n → IsDeep false k cs.top → IsDeep true n cs.top
   deep_in k n e h = omega (arith, e, h)
 
-  pub entered_shows : (n : ℕ) → state.fuel ≡ suc n → Represents m P z nodes (record { fuel = n; entered = true; top = state.top; waiting = state.waiting }) cs
+  pub entered_shows : (n : ℕ) → state.fuel ≡ suc n → Represents m P z nodes (record { fuel = n; entered = true; top = state.top; waiting = state.waiting; spares = state.spares }) cs
   entered_shows n e = record {
     top = shows.top;
     waits = shows.waits;

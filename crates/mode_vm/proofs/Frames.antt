@@ -1,8 +1,8 @@
 -- A frame goes on behind an instruction.
 use Rattle.std.proofs.Common.{◌≡◌, ℕ, zero, suc, ◌+◌, ◌<◌, ◌≤◌, List, [], ◌∷◌, ◌++◌, drop, reverse, length, Some, slice_get, refl, sym, ap, ◌∙◌, subst, arith}
 use Rattle.std.proofs.lemmas.List.{reverse-append}
-use Rattle.core_terms.specs.Types.{Ty}
-use Rattle.core_terms.specs.Values.{Value, Values, NoV, AndV}
+use Rattle.core_terms.specs.Types.{Ty, UnitTy, BoolTy, IntTy}
+use Rattle.core_terms.specs.Values.{Value, UnitV, BoolV, IntV, Values, NoV, AndV}
 use Rattle.core_terms.specs.Terms.{Program}
 use Rattle.code_gen.specs.Instructions.{Instruction}
 use Rattle.code_gen.specs.Code.{Body, code_at, generated}
@@ -10,10 +10,11 @@ use Rattle.code_meaning.specs.Execution.{Coded, tie, act, exec, call_code, Next}
 use Rattle.code_meaning.specs.Accept.{Shape, shape, Fits, IsFine}
 use Rattle.code_meaning.proofs.Loop.{jump}
 use Rattle.value_store.specs.Nodes.{Node}
-use Rattle.value_store.specs.Standing.{Kind, StandsFor, AllStandFor, Keeps}
+use Rattle.value_store.specs.Standing.{Kind, Keeps}
 use Rattle.value_store.specs.Markings.{Marking, kind_of}
-use Rattle.value_store.specs.CodeNodes.{numbers_of}
-use Rattle.value_store.specs.declared.node.Ref.{Ref}
+use Rattle.mode_vm.specs.Operands.{AllHeld, IsHeld}
+use Rattle.mode_vm.specs.declared.operand.Operand.{Operand}
+use Rattle.mode_vm.specs.declared.operand.Operand.TheVariants.{Unit as UnitIn, Bool as BoolIn, Int as IntIn, At}
 use Rattle.mode_vm.specs.Meanings.{CauseOf, StateOf, mode_of}
 use Rattle.mode_vm.specs.Machines.{ValueFrame, runs_on, IsTop, Before}
 use Rattle.mode_vm.specs.Outcomes.{GoesOn}
@@ -87,11 +88,11 @@ module _ (m : Marking) (P : Program) where
   }
 
   pub moved_top : (nodes new : List Node) (frame after : Frame) (i : Instruction) (c : ValueFrame) (b : Before m P nodes frame i c)
-      (skip : ℕ) (has works_on : List Ref) (ls os : List Ty) (vs us : Values)
+      (skip : ℕ) (has works_on : List Operand) (ls os : List Ty) (vs us : Values)
       → IsAt frame (frame.place + 1 + skip) has works_on after
       → ToNext (generated P) c.result c.shapes skip ls os
-      → AllStandFor (kind_of m P) P.types new (numbers_of has) ls vs
-      → AllStandFor (kind_of m P) P.types new (numbers_of (reverse works_on)) os us
+      → AllHeld (kind_of m P) P.types new has ls vs
+      → AllHeld (kind_of m P) P.types new (reverse works_on) os us
       → IsTop m P new after (moved c b.next.rest skip ls os vs us)
   moved_top nodes new frame after i c b skip has works_on ls os vs us at to locals operands =
       let B = generated P in
@@ -105,19 +106,19 @@ module _ (m : Marking) (P : Program) where
           result = b.top.is.result ∙ ap (λ f. (code_at B f.0).result) (sym at.function);
           left = sym behind ∙ ap (λ p. drop p code) (sym at.place) ∙ ap (λ f. drop after.place (code_at B f.0).code) (sym at.function);
           fine = fine_drop B c.result skip rest (drop 1 c.shapes) (fine_rest B c.result i rest c.shapes (subst (λ is. IsFine B c.result is c.shapes) b.next.is b.top.is.fine));
-          locals = subst (λ l. AllStandFor (kind_of m P) P.types new (numbers_of l) ls vs) (sym at.locals) locals;
-          operands = subst (λ l. AllStandFor (kind_of m P) P.types new (numbers_of (reverse l)) os us) (sym at.operands) operands;
+          locals = subst (λ l. AllHeld (kind_of m P) P.types new l ls vs) (sym at.locals) locals;
+          operands = subst (λ l. AllHeld (kind_of m P) P.types new (reverse l) os us) (sym at.operands) operands;
         };
         starts = dropped_head (drop 1 c.shapes) skip ∙ to;
       }
 
   -- the frame goes on with these locals and operands, `skip` instructions further than the next one
   pub goes_on : (nodes new : List Node) (frame after : Frame) (i : Instruction) (c : ValueFrame) → Before m P nodes frame i c
-      → (skip : ℕ) (has works_on : List Ref) (ls os : List Ty) (vs us : Values)
+      → (skip : ℕ) (has works_on : List Operand) (ls os : List Ty) (vs us : Values)
       → IsAt frame (frame.place + 1 + skip) has works_on after
       → ToNext (generated P) c.result c.shapes skip ls os
-      → AllStandFor (kind_of m P) P.types new (numbers_of has) ls vs
-      → AllStandFor (kind_of m P) P.types new (numbers_of (reverse works_on)) os us
+      → AllHeld (kind_of m P) P.types new has ls vs
+      → AllHeld (kind_of m P) P.types new (reverse works_on) os us
       → ((next : Next (CauseOf m) (StateOf m)) (k : ℕ) (w : StateOf m)
       → act (generated P) (mode_of m P) (calls c.depth) i next (tie c.local_types c.locals) (tie c.operand_types c.operands) k w ≡ next skip (tie ls vs) (tie os us) k w)
       → GoesOn m P new c after
@@ -131,25 +132,32 @@ module _ (m : Marking) (P : Program) where
         ∙ jump (CauseOf m) (StateOf m) (generated P) (mode_of m P) c.depth skip b.next.rest (tie ls vs) (tie os us) k w,
   )
 
-pub all_keep : (kind : Kind) (types : List (List (List Ty))) (old new : List Node) → Keeps old new → (rs : List ℕ) (ts : List Ty) (vs : Values) → AllStandFor kind types old rs ts vs
-    → AllStandFor kind types new rs ts vs
+pub held_keeps : (kind : Kind) (types : List (List (List Ty))) (old new : List Node) → Keeps old new → (o : Operand) (t : Ty) (v : Value) → IsHeld kind types old o t v → IsHeld kind types new o t v
+held_keeps kind types old new k (At r) t v h = k kind types r.0 t v h
+held_keeps kind types old new k UnitIn UnitTy UnitV h = h
+held_keeps kind types old new k (BoolIn b) BoolTy (BoolV c) h = h
+held_keeps kind types old new k (IntIn z) IntTy (IntV y) h = h
+held_keeps kind types old new k o t v h = elim h [ ]
+
+pub all_keep : (kind : Kind) (types : List (List (List Ty))) (old new : List Node) → Keeps old new → (rs : List Operand) (ts : List Ty) (vs : Values) → AllHeld kind types old rs ts vs
+    → AllHeld kind types new rs ts vs
 all_keep kind types old new k [] [] NoV h = h
-all_keep kind types old new k (r ∷ rs) (t ∷ ts) (AndV v vs) h = (k kind types r t v h.0, all_keep kind types old new k rs ts vs h.1)
+all_keep kind types old new k (r ∷ rs) (t ∷ ts) (AndV v vs) h = (held_keeps kind types old new k r t v h.0, all_keep kind types old new k rs ts vs h.1)
 all_keep kind types old new k [] [] (AndV v vs) h = elim h [ ]
 all_keep kind types old new k [] (t ∷ ts) vs h = elim h [ ]
 all_keep kind types old new k (r ∷ rs) [] vs h = elim h [ ]
 all_keep kind types old new k (r ∷ rs) (t ∷ ts) NoV h = elim h [ ]
 
-pub reverse_push : (xs : List Ref) (r : Ref) → reverse (xs ++ r ∷ []) ≡ r ∷ reverse xs
+pub reverse_push : (xs : List Operand) (r : Operand) → reverse (xs ++ r ∷ []) ≡ r ∷ reverse xs
 reverse_push xs r = reverse-append xs (r ∷ [])
 
 module _ (m : Marking) (P : Program) (nodes new : List Node) (keeps : Keeps nodes new) (frame after : Frame) (i : Instruction) (c : ValueFrame) (b : Before m P nodes frame i c) where
   -- the frame goes on with one operand on these
-  pub pushes : (kept : List Ref) (r : Ref) (t : Ty) (v : Value) (os : List Ty) (us : Values)
+  pub pushes : (kept : List Operand) (r : Operand) (t : Ty) (v : Value) (os : List Ty) (us : Values)
       → IsAt frame (frame.place + 1) frame.locals.items (kept ++ r ∷ []) after
       → ToNext (generated P) c.result c.shapes 0 c.local_types (t ∷ os)
-      → StandsFor (kind_of m P) P.types new r.0 t v
-      → AllStandFor (kind_of m P) P.types nodes (numbers_of (reverse kept)) os us
+      → IsHeld (kind_of m P) P.types new r t v
+      → AllHeld (kind_of m P) P.types nodes (reverse kept) os us
       → ((next : Next (CauseOf m) (StateOf m)) (k : ℕ) (w : StateOf m)
       → act (generated P) (mode_of m P) (calls m P c.depth) i next (tie c.local_types c.locals) (tie c.operand_types c.operands) k w ≡ next 0 (tie c.local_types c.locals)
       (tie (t ∷ os) (AndV v us)) k w)
@@ -159,7 +167,7 @@ module _ (m : Marking) (P : Program) (nodes new : List Node) (keeps : Keeps node
       goes_on m P nodes new frame after i c b 0 frame.locals.items (kept ++ r ∷ []) c.local_types (t ∷ os) c.locals (AndV v us)
       (subst (λ p. IsAt frame p frame.locals.items (kept ++ r ∷ []) after) here at) to
       (all_keep (kind_of m P) P.types nodes new keeps _ _ _ b.top.is.locals)
-      (subst (λ l. AllStandFor (kind_of m P) P.types new (numbers_of l) (t ∷ os) (AndV v us)) (sym (reverse_push kept r)) (stands, all_keep (kind_of m P) P.types nodes new keeps _ _ _ below))
+      (subst (λ l. AllHeld (kind_of m P) P.types new l (t ∷ os) (AndV v us)) (sym (reverse_push kept r)) (stands, all_keep (kind_of m P) P.types nodes new keeps _ _ _ below))
       same
 
 module _ (m : Marking) (P : Program) (nodes : List Node) (frame : Frame) (i : Instruction) (c : ValueFrame) (b : Before m P nodes frame i c) where

@@ -1,7 +1,11 @@
 -- Which functions the files serve. A frame that goes on behind an instruction, by its values:
+pub mod Scalars
 pub mod Frames
+pub mod Placing
 pub mod Operands
 pub mod Made
+pub mod Enough
+pub mod Topmost
 -- the literals and ints: an int that is passed
 pub mod PassedInts
 -- arith and compare; compare_texts, concat and length; pair, first and second
@@ -13,6 +17,7 @@ pub mod PairOperations
 pub mod LoadedLocals
 -- call, begin, parameter_count and give_back
 pub mod Calls
+pub mod LastCalls
 pub mod ParameterCounts
 pub mod Returns
 -- jump and switch; not and branch; bind and unbind; make
@@ -32,6 +37,7 @@ pub mod Authenticating
 pub mod Opens
 pub mod Stepping
 pub mod Slicing
+pub mod SparedNodes
 -- the ideal mode, over ideal nodes and the prover's, and runs in it
 pub mod IdealOpenings
 pub mod IdealOutcomes

@@ -9,10 +9,10 @@ use Rattle.code_gen.specs.Instructions.{Load}
 use Rattle.code_meaning.specs.Execution.{held, tie, where_some}
 use Rattle.code_meaning.specs.Accept.{shape}
 use Rattle.value_store.specs.Nodes.{Node}
-use Rattle.value_store.specs.Standing.{Kind, StandsFor, AllStandFor}
+use Rattle.value_store.specs.Standing.{Kind}
 use Rattle.value_store.specs.Markings.{Marking, kind_of}
-use Rattle.value_store.specs.CodeNodes.{numbers_of}
-use Rattle.value_store.specs.declared.node.Ref.{Ref}
+use Rattle.mode_vm.specs.Operands.{AllHeld, IsHeld}
+use Rattle.mode_vm.specs.declared.operand.Operand.{Operand}
 use Rattle.mode_vm.specs.Machines.{ValueFrame, Before}
 use Rattle.mode_vm.specs.Outcomes.{Acts}
 use Rattle.mode_vm.specs.StateParts.{Finishes}
@@ -22,17 +22,17 @@ use Rattle.mode_vm.proofs.Made.{made_acts}
 
 module _ (kind : Kind) (types : Table) (nodes : List Node) where
   -- the local with a number, and what it stands for
-  record IsLocal (rs : List Ref) (ts : List Ty) (vs : Values) (i : ℕ) (t : Ty) : Type 0 where
-    r : Ref
+  record IsLocal (rs : List Operand) (ts : List Ty) (vs : Values) (i : ℕ) (t : Ty) : Type 0 where
+    r : Operand
     v : Value
     there : slice_get rs i ≡ Some r
-    stands : StandsFor kind types nodes r.0 t v
+    stands : IsHeld kind types nodes r t v
     tied : slice_get (tie ts vs) i ≡ Some (held t v)
 
-  is_local : (rs : List Ref) (ts : List Ty) (vs : Values) (i : ℕ) (t : Ty) → AllStandFor kind types nodes (numbers_of rs) ts vs → slice_get ts i ≡ Some t → IsLocal rs ts vs i t
+  is_local : (rs : List Operand) (ts : List Ty) (vs : Values) (i : ℕ) (t : Ty) → AllHeld kind types nodes rs ts vs → slice_get ts i ≡ Some t → IsLocal rs ts vs i t
   is_local (r ∷ rs) (u ∷ ts) (AndV v vs) zero t h e =
       let s : u ≡ t = cc in
-      record { r = r; v = v; there = refl; stands = subst (λ t. StandsFor kind types nodes r.0 t v) s h.0; tied = ap (λ t. Some (held t v)) s }
+      record { r = r; v = v; there = refl; stands = subst (λ t. IsHeld kind types nodes r t v) s h.0; tied = ap (λ t. Some (held t v)) s }
   is_local (r ∷ rs) (u ∷ ts) (AndV v vs) (suc i) t h e = let l = is_local rs ts vs i t h.1 e in record { r = l.r; v = l.v; there = l.there; stands = l.stands; tied = l.tied }
   is_local [] [] vs i t h e = absurd (cc)
   is_local (r ∷ rs) [] vs i t h e = absurd (cc)
@@ -62,11 +62,11 @@ module _ (m : Marking) (P : Program) (nodes : List Node) (frame : Frame) (i : �
   pub local_there : i < length frame.locals.items
   local_there = short frame.locals.items i here.r here.there
 
-  pub load_acts : {E : Type 0} (after : Frame) (r : Ref) → slice_get frame.locals.items i ≡ Some r → (result : Result (Option Trap) E) → Finishes frame (Ok r) after result
+  pub load_acts : {E : Type 0} (after : Frame) (r : Operand) → slice_get frame.locals.items i ≡ Some r → (result : Result (Option Trap) E) → Finishes frame (Ok r) after result
       → Acts m P nodes c after result
   load_acts after r is result finishes =
       let same : here.r ≡ r = some_same here.r r (sym here.there ∙ is) in
       made_acts m P nodes nodes (λ kind types r t v h. h) frame after (Load i) c b frame.operands.items found.0 c.operand_types c.operands (λ k w. Gives here.v k w)
       (λ next k w. ap (λ o. where_some o (λ x. next 0 (tie c.local_types c.locals) (x ∷ tie c.operand_types c.operands) k w)) here.tied)
       found.2 b.top.is.operands (Ok r)
-      (here.v, subst (λ r. StandsFor (kind_of m P) P.types nodes r.0 found.0 here.v) same here.stands, λ k w. refl) result finishes
+      (here.v, subst (λ r. IsHeld (kind_of m P) P.types nodes r found.0 here.v) same here.stands, λ k w. refl) result finishes

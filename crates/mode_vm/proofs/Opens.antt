@@ -10,11 +10,13 @@ use Rattle.code_meaning.specs.Execution.{Coded, Ran, held, tie, then_code, then_
 use Rattle.code_meaning.specs.Accept.{Fits}
 use Rattle.code_meaning.specs.Steps as steps
 use Rattle.value_store.specs.Nodes.{Node}
-use Rattle.value_store.specs.Standing.{Kind, StandsFor, AllStandFor, Keeps}
+use Rattle.value_store.specs.Standing.{Kind, Keeps, StandsFor}
 use Rattle.value_store.specs.Markings.{Marking, kind_of}
-use Rattle.value_store.specs.CodeNodes.{numbers_of}
-use Rattle.value_store.specs.declared.node.Ref.{Ref}
 use Rattle.value_store.proofs.OneValue.{one_value}
+use Rattle.value_store.specs.declared.node.Ref.{Ref}
+use Rattle.mode_vm.specs.Operands.{AllHeld, IsHeld}
+use Rattle.mode_vm.specs.declared.operand.Operand.{Operand}
+use Rattle.mode_vm.specs.declared.operand.Operand.TheVariants.{At}
 use Rattle.mode_vm.specs.Meanings.{CauseOf, StateOf, RunOf, mode_of}
 use Rattle.mode_vm.specs.Machines.{ValueStack, waiting_of, end_of, AreWaiting, AreDeep, IsDeep, Represents, IsNext, Before}
 use Rattle.mode_vm.specs.StateParts.{IsAt, IsElseSame}
@@ -23,40 +25,48 @@ use Rattle.mode_vm.specs.Runs.{StopIs}
 use Rattle.mode_vm.specs.declared.mode.Stop.{Stop}
 use Rattle.mode_vm.specs.declared.mode.Stop.TheVariants.{Mode as ModeStops, NoMemory}
 use Rattle.mode_vm.specs.declared.state.State.{State}
+use Rattle.mode_vm.proofs.Scalars.{IsNode, auth_node}
 use Rattle.mode_vm.proofs.Frames.{ToNext, fits_next, moved, moved_top, all_keep, reverse_push, calls}
 use Rattle.mode_vm.proofs.Lifting.{waits_keep}
 
 module _ (kind : Kind) (types : List (List (List Ty))) (nodes : List Node) (B : Body) (z t : Ty) (ls : List Ty) (to : ℕ → List Ty → List Ty → Type 0) where
   -- the authenticated operand on the others
-  pub record Locked (r : ℕ) (rs : List ℕ) (os : List Ty) (us : Values) : Type 0 where
+  pub record Locked (r : Operand) (rs : List Operand) (os : List Ty) (us : Values) : Type 0 where
     pub x : Value
     pub below_types : List Ty
     pub below : Values
     pub types_are : os ≡ AuthTy t ∷ below_types
     pub are : us ≡ AndV x below
-    pub stands : StandsFor kind types nodes r (AuthTy t) x
-    pub others : AllStandFor kind types nodes rs below_types below
+    pub stands : IsHeld kind types nodes r (AuthTy t) x
+    pub others : AllHeld kind types nodes rs below_types below
     pub goes : to 0 ls (t ∷ below_types)
 
-  pub locked : (r : ℕ) (rs : List ℕ) (os : List Ty) (us : Values) → Fits B z (Unauth t) ls os to → AllStandFor kind types nodes (r ∷ rs) os us → Locked r rs os us
+  pub locked : (r : Operand) (rs : List Operand) (os : List Ty) (us : Values) → Fits B z (Unauth t) ls os to → AllHeld kind types nodes (r ∷ rs) os us → Locked r rs os us
   locked r rs (AuthTy u ∷ os) (AndV x us) f h = record
-      { x = x; below_types = os; below = us; types_are = ap (λ u. AuthTy u ∷ os) f.0; are = refl; stands = subst (λ u. StandsFor kind types nodes r (AuthTy u) x) f.0 h.0; others = h.1; goes = f.1 }
+      { x = x; below_types = os; below = us; types_are = ap (λ u. AuthTy u ∷ os) f.0; are = refl; stands = subst (λ u. IsHeld kind types nodes r (AuthTy u) x) f.0 h.0; others = h.1; goes = f.1 }
   locked r rs (AuthTy u ∷ os) NoV f h = elim h [ ]
   locked r rs os us f h = elim f [ ]
 
 module _ (m : Marking) (P : Program) (z : Ty) (old new : List Node) (keeps : Keeps old new) (before : State) (t : Ty) (cs : ValueStack) (shows : Represents m P z old before cs)
     (next : IsNext (Unauth t) cs.top) (entered : before.entered ≡ true)
-    (kept : List Ref) (v : Ref) (top : before.top.operands.items ≡ kept ++ v ∷ []) where
+    (kept : List Operand) (v : Operand) (top : before.top.operands.items ≡ kept ++ v ∷ []) where
   abbrev B : Body
   B = generated P
 
   abbrev here : Before m P old before.top (Unauth t) cs.top
   here = record { top = shows.top; next = next }
 
-  pub operand : Locked (kind_of m P) P.types old B cs.top.result t cs.top.local_types (ToNext B cs.top.result cs.top.shapes) v.0 (numbers_of (reverse kept)) cs.top.operand_types cs.top.operands
-  operand = locked (kind_of m P) P.types old B cs.top.result t cs.top.local_types (ToNext B cs.top.result cs.top.shapes) v.0 (numbers_of (reverse kept)) cs.top.operand_types cs.top.operands
+  pub operand : Locked (kind_of m P) P.types old B cs.top.result t cs.top.local_types (ToNext B cs.top.result cs.top.shapes) v (reverse kept) cs.top.operand_types cs.top.operands
+  operand = locked (kind_of m P) P.types old B cs.top.result t cs.top.local_types (ToNext B cs.top.result cs.top.shapes) v (reverse kept) cs.top.operand_types cs.top.operands
       (fits_next m P old before.top (Unauth t) cs.top here)
-      (subst (λ l. AllStandFor (kind_of m P) P.types old (numbers_of l) cs.top.operand_types cs.top.operands) (ap reverse top ∙ reverse_push kept v) shows.top.is.operands)
+      (subst (λ l. AllHeld (kind_of m P) P.types old l cs.top.operand_types cs.top.operands) (ap reverse top ∙ reverse_push kept v) shows.top.is.operands)
+
+  -- the operand is a node
+  pub is_node : IsNode (kind_of m P) P.types old v (AuthTy t) operand.x
+  is_node = auth_node (kind_of m P) P.types old t v operand.x operand.stands
+
+  pub stands_at : (r : Ref) → v ≡ At r → StandsFor (kind_of m P) P.types old r.0 (AuthTy t) operand.x
+  stands_at r is = subst (λ o. IsHeld (kind_of m P) P.types old o (AuthTy t) operand.x) is operand.stands
 
   abbrev rest : Value → ℕ → StateOf m → Coded (CauseOf m) (StateOf m)
   rest = steps.rest_of B (mode_of m P) (waiting_of cs.top.result cs.waits)
@@ -75,7 +85,7 @@ module _ (m : Marking) (P : Program) (z : Ty) (old new : List Node) (keeps : Kee
   pub refused : (k : ℕ) (w w' : StateOf m) (cause : CauseOf m) → (mode_of m P).unauth t operand.x w ≡ Refuses cause w' → end_of m P true cs k w ≡ Ran (Ends (Rejects cause) k w')
   refused k w w' cause e = opens k w ∙ ap (λ o. then_coded (then_code (with_fuel k o) behind) rest) e
 
-  module _ (after : State) (r : Ref) (at : IsAt before.top (before.top.place + 1) before.top.locals.items (kept ++ r ∷ []) after.top) (others : IsElseSame before after) (y : Value)
+  module _ (after : State) (r : Ref) (at : IsAt before.top (before.top.place + 1) before.top.locals.items (kept ++ At r ∷ []) after.top) (others : IsElseSame before after) (y : Value)
       (stands : StandsFor (kind_of m P) P.types new r.0 t y) where
     abbrev pub opened_cores : ValueStack
     opened_cores = record { top = moved m P cs.top next.rest 0 cs.top.local_types (t ∷ operand.below_types) cs.top.locals (AndV y operand.below); waits = cs.waits }
@@ -84,11 +94,11 @@ module _ (m : Marking) (P : Program) (z : Ty) (old new : List Node) (keeps : Kee
     opened_shows =
         let here_place : before.top.place + 1 ≡ before.top.place + 1 + 0 = omega arith in
         record {
-          top = moved_top m P old new before.top after.top (Unauth t) cs.top here 0 before.top.locals.items (kept ++ r ∷ []) cs.top.local_types (t ∷ operand.below_types) cs.top.locals
+          top = moved_top m P old new before.top after.top (Unauth t) cs.top here 0 before.top.locals.items (kept ++ At r ∷ []) cs.top.local_types (t ∷ operand.below_types) cs.top.locals
               (AndV y operand.below)
-              (subst (λ p. IsAt before.top p before.top.locals.items (kept ++ r ∷ []) after.top) here_place at) operand.goes
+              (subst (λ p. IsAt before.top p before.top.locals.items (kept ++ At r ∷ []) after.top) here_place at) operand.goes
               (all_keep (kind_of m P) P.types old new keeps _ _ _ shows.top.is.locals)
-              (subst (λ l. AllStandFor (kind_of m P) P.types new (numbers_of l) (t ∷ operand.below_types) (AndV y operand.below)) (sym (reverse_push kept r))
+              (subst (λ l. AllHeld (kind_of m P) P.types new l (t ∷ operand.below_types) (AndV y operand.below)) (sym (reverse_push kept (At r)))
               (stands, all_keep (kind_of m P) P.types old new keeps _ _ _ operand.others));
           waits = subst (λ v. AreWaiting m P new z cs.top.result (reverse v.items) cs.waits) (sym others.waiting)
               (waits_keep m P old new keeps z cs.top.result (reverse before.waiting.items) cs.waits shows.waits);

@@ -12,52 +12,52 @@ use Rattle.code_gen.specs.Instructions.{Pair, Fst, Snd, ArithOp, CompareOp, Text
 use Rattle.code_gen.specs.Code.{Body}
 use Rattle.code_meaning.specs.Accept.{Fits}
 use Rattle.value_store.specs.Nodes.{Node}
-use Rattle.value_store.specs.Standing.{Kind, StandsFor, AllStandFor}
-use Rattle.value_store.specs.CodeNodes.{numbers_of}
-use Rattle.value_store.specs.declared.node.Ref.{Ref}
+use Rattle.value_store.specs.Standing.{Kind}
+use Rattle.mode_vm.specs.Operands.{AllHeld, IsHeld}
+use Rattle.mode_vm.specs.declared.operand.Operand.{Operand}
 
 module _ (kind : Kind) (types : Table) (nodes : List Node) where
   -- one operand on these
-  pub record One (first : ℕ) (rs : List ℕ) (t : Ty) (ts : List Ty) (us : Values) : Type 0 where
+  pub record One (first : Operand) (rs : List Operand) (t : Ty) (ts : List Ty) (us : Values) : Type 0 where
     pub x : Value
     pub below : Values
     pub is : us ≡ AndV x below
-    pub stands : StandsFor kind types nodes first t x
-    pub rest : AllStandFor kind types nodes rs ts below
+    pub stands : IsHeld kind types nodes first t x
+    pub rest : AllHeld kind types nodes rs ts below
 
-  one_of : (first : ℕ) (rs : List ℕ) (t : Ty) (ts : List Ty) (us : Values) → AllStandFor kind types nodes (first ∷ rs) (t ∷ ts) us → One first rs t ts us
+  one_of : (first : Operand) (rs : List Operand) (t : Ty) (ts : List Ty) (us : Values) → AllHeld kind types nodes (first ∷ rs) (t ∷ ts) us → One first rs t ts us
   one_of first rs t ts (AndV x us) h = record { x = x; below = us; is = refl; stands = h.0; rest = h.1 }
   one_of first rs t ts NoV h = elim h [ ]
 
-  pub one_popped : (items last : List Ref) (first : Ref) (t : Ty) (ts : List Ty) (us : Values) → items ≡ last ++ first ∷ []
-      → AllStandFor kind types nodes (numbers_of (reverse items)) (t ∷ ts) us → One first.0 (numbers_of (reverse last)) t ts us
+  pub one_popped : (items last : List Operand) (first : Operand) (t : Ty) (ts : List Ty) (us : Values) → items ≡ last ++ first ∷ []
+      → AllHeld kind types nodes (reverse items) (t ∷ ts) us → One first (reverse last) t ts us
   one_popped items last first t ts us e h =
       let r : reverse items ≡ first ∷ reverse last = ap reverse e ∙ reverse-append last (first ∷ []) in
-      one_of first.0 (numbers_of (reverse last)) t ts us (subst (λ l. AllStandFor kind types nodes (numbers_of l) (t ∷ ts) us) r h)
+      one_of first (reverse last) t ts us (subst (λ l. AllHeld kind types nodes l (t ∷ ts) us) r h)
 
   -- two operands on these
-  pub record Two (first second : ℕ) (rs : List ℕ) (a b : Ty) (ts : List Ty) (us : Values) : Type 0 where
+  pub record Two (first second : Operand) (rs : List Operand) (a b : Ty) (ts : List Ty) (us : Values) : Type 0 where
     pub x : Value
     pub y : Value
     pub below : Values
     pub is : us ≡ AndV y (AndV x below)
-    pub first_stands : StandsFor kind types nodes first a x
-    pub second_stands : StandsFor kind types nodes second b y
-    pub rest : AllStandFor kind types nodes rs ts below
+    pub first_stands : IsHeld kind types nodes first a x
+    pub second_stands : IsHeld kind types nodes second b y
+    pub rest : AllHeld kind types nodes rs ts below
 
-  two_of : (first second : ℕ) (rs : List ℕ) (a b : Ty) (ts : List Ty) (us : Values) → AllStandFor kind types nodes (second ∷ first ∷ rs) (b ∷ a ∷ ts) us → Two first second rs a b ts us
+  two_of : (first second : Operand) (rs : List Operand) (a b : Ty) (ts : List Ty) (us : Values) → AllHeld kind types nodes (second ∷ first ∷ rs) (b ∷ a ∷ ts) us → Two first second rs a b ts us
   two_of first second rs a b ts (AndV y (AndV x us)) h = record { x = x; y = y; below = us; is = refl; first_stands = h.1.0; second_stands = h.0; rest = h.1.1 }
   two_of first second rs a b ts (AndV y NoV) h = elim h.1 [ ]
   two_of first second rs a b ts NoV h = elim h [ ]
 
-  pub two_popped : (items last : List Ref) (first second : Ref) (a b : Ty) (ts : List Ty) (us : Values) → items ≡ last ++ first ∷ second ∷ []
-      → AllStandFor kind types nodes (numbers_of (reverse items)) (b ∷ a ∷ ts) us → Two first.0 second.0 (numbers_of (reverse last)) a b ts us
+  pub two_popped : (items last : List Operand) (first second : Operand) (a b : Ty) (ts : List Ty) (us : Values) → items ≡ last ++ first ∷ second ∷ []
+      → AllHeld kind types nodes (reverse items) (b ∷ a ∷ ts) us → Two first second (reverse last) a b ts us
   two_popped items last first second a b ts us e h =
       let r : reverse items ≡ second ∷ first ∷ reverse last = ap reverse e ∙ reverse-append last (first ∷ second ∷ []) in
-      two_of first.0 second.0 (numbers_of (reverse last)) a b ts us (subst (λ l. AllStandFor kind types nodes (numbers_of l) (b ∷ a ∷ ts) us) r h)
+      two_of first second (reverse last) a b ts us (subst (λ l. AllHeld kind types nodes l (b ∷ a ∷ ts) us) r h)
 
   -- as many as their types
-  pub as_many : (rs : List ℕ) (ts : List Ty) (vs : Values) → AllStandFor kind types nodes rs ts vs → length rs ≡ length ts
+  pub as_many : (rs : List Operand) (ts : List Ty) (vs : Values) → AllHeld kind types nodes rs ts vs → length rs ≡ length ts
   as_many [] [] NoV h = refl
   as_many (r ∷ rs) (t ∷ ts) (AndV v vs) h = ap suc (as_many rs ts vs h.1)
   as_many [] [] (AndV v vs) h = elim h [ ]

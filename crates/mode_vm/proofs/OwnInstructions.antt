@@ -1,5 +1,5 @@
 -- Which instructions change the running frame alone, and which ask nothing of the mode.
-use Rattle.std.proofs.Common.{◌≡◌, true, List, refl}
+use Rattle.std.proofs.Common.{◌≡◌, true, false, List, refl, subst}
 use Rattle.core_terms.specs.Types.{Ty}
 use Rattle.core_terms.specs.declared.program.FunctionId.{FunctionId}
 use Rattle.core_terms.specs.declared.types.TyId.{TyId}
@@ -7,6 +7,7 @@ use Rattle.code_gen.specs.CodeTrees.{instruction_of}
 use Rattle.code_gen.specs.declared.instruction.Instruction.{Instruction}
 use Rattle.code_gen.specs.declared.instruction.Instruction.TheVariants.{Call, Return, Auth, Unauth}
 use Rattle.mode_vm.specs.Machines.{is_own, is_plain}
+use Rattle.mode_vm.specs.NodesPut.{works_in_hand}
 
 -- what is no call and no return, and asks nothing of the mode, changes the running frame alone
 pub own : (types : List Ty) (i : Instruction) → ((f : FunctionId) → i ≡ Call f → ⊥) → (i ≡ Return → ⊥) → is_plain (instruction_of types i) ≡ true
@@ -20,3 +21,10 @@ pub plain : (types : List Ty) (i : Instruction) → ((t : TyId) → i ≡ Auth t
 plain types (Auth t) auth unauth = absurd (auth t refl)
 plain types (Unauth t) auth unauth = absurd (unauth t refl)
 plain types i auth unauth = refl
+
+-- an `auth` or an `unauth` doesn't work in hand
+pub asked : (types : List Ty) (i : Instruction) (t : TyId) → i ≡ Auth t → works_in_hand (instruction_of types i) ≡ true → ⊥
+asked types i t is in_hand = let clash : false ≡ true = subst (λ i. works_in_hand (instruction_of types i) ≡ true) is in_hand in cc
+
+pub opened : (types : List Ty) (i : Instruction) (t : TyId) → i ≡ Unauth t → works_in_hand (instruction_of types i) ≡ true → ⊥
+opened types i t is in_hand = let clash : false ≡ true = subst (λ i. works_in_hand (instruction_of types i) ≡ true) is in_hand in cc

@@ -21,6 +21,8 @@ use Rattle.value_store.specs.Markings.{Marking, IdealMarking, ProverMarking, Ver
 use Rattle.value_store.specs.CodeNodes.{numbers_of}
 use Rattle.value_store.specs.declared.node.Ref.{Ref}
 use Rattle.value_store.proofs.TypedNodes.{ideal_refers, ideal_stands, prover_refers, shallow_stands}
+use Rattle.mode_vm.specs.Operands.{AllHeld}
+use Rattle.mode_vm.proofs.Switching.{nodes_held}
 use Rattle.mode_vm.specs.Meanings.{CauseOf, StateOf, mode_of, program_of}
 use Rattle.code_gen.specs.declared.code.Code.{Code}
 use Rattle.code_gen.proofs.CodeSizes.{code_has_a_limit}
@@ -106,9 +108,9 @@ module _ (m : Marking) (P : Program) (typed : IsTyped P) (f : ℕ) (there : f < 
         result = ap (λ f. (code_at B f).result) (sym starts.function);
         left = ap (λ p. drop p (code_at B f).code) (sym starts.place) ∙ ap (λ f. drop state.top.place (code_at B f).code) (sym starts.function);
         fine = accepted.1;
-        locals = subst (λ l. AllStandFor (kind_of m P) P.types nodes (numbers_of l) (code_at B f).parameters vs) (sym starts.locals)
-            (subst (λ ts. AllStandFor (kind_of m P) P.types nodes (numbers_of args) ts vs) parameters_same stand);
-        operands = subst (λ l. AllStandFor (kind_of m P) P.types nodes (numbers_of (reverse l)) [] NoV) (sym starts.no_operands) tt;
+        locals = subst (λ l. AllHeld (kind_of m P) P.types nodes l (code_at B f).parameters vs) (sym starts.locals)
+            (nodes_held (kind_of m P) P.types nodes args (code_at B f).parameters vs (subst (λ ts. AllStandFor (kind_of m P) P.types nodes (numbers_of args) ts vs) parameters_same stand));
+        operands = subst (λ l. AllHeld (kind_of m P) P.types nodes (reverse l) [] NoV) (sym starts.no_operands) tt;
       };
       starts = accepted.2;
     };

@@ -4,7 +4,7 @@ use Rattle.core_terms.specs.Types.{Ty}
 use Rattle.core_terms.specs.Values.{Values}
 use Rattle.core_terms.specs.Terms.{Program, function_at}
 use Rattle.ideal_meaning.specs.Run.{Ends, IsOut}
-use Rattle.code_gen.specs.Instructions.{Instruction, Call, Return, Auth, Unauth}
+use Rattle.code_gen.specs.Instructions.{Instruction, Unbind, Jump, Call, Return, Auth, Unauth}
 use Rattle.code_gen.specs.Code.{code_at, generated}
 use Rattle.code_gen.specs.CodeSizes.{code_size}
 use Rattle.code_meaning.specs.Execution.{Coded, Ran, tie, then_coded}
@@ -15,6 +15,7 @@ use Rattle.value_store.specs.Standing.{AllStandFor}
 use Rattle.value_store.specs.Markings.{Marking, kind_of}
 use Rattle.value_store.specs.CodeNodes.{numbers_of}
 use Rattle.value_store.specs.declared.node.Ref.{Ref}
+use Rattle.mode_vm.specs.Operands.{AllHeld}
 use Rattle.mode_vm.specs.Meanings.{CauseOf, StateOf, mode_of}
 use Rattle.mode_vm.specs.declared.frame.Frame.{Frame}
 use Rattle.mode_vm.specs.declared.state.State.{State}
@@ -98,8 +99,8 @@ module _ (m : Marking) (P : Program) where
       pub result : c.result ≡ (code_at (generated P) frame.function.0).result
       pub left : c.left ≡ drop frame.place (code_at (generated P) frame.function.0).code
       pub fine : IsFine (generated P) c.result c.left c.shapes
-      pub locals : AllStandFor (kind_of m P) P.types nodes (numbers_of frame.locals.items) c.local_types c.locals
-      pub operands : AllStandFor (kind_of m P) P.types nodes (numbers_of (reverse frame.operands.items)) c.operand_types c.operands
+      pub locals : AllHeld (kind_of m P) P.types nodes frame.locals.items c.local_types c.locals
+      pub operands : AllHeld (kind_of m P) P.types nodes (reverse frame.operands.items) c.operand_types c.operands
 
     -- the frame goes on with these operands
     pub record IsTop (frame : Frame) (c : ValueFrame) : Type 0 where
@@ -149,6 +150,16 @@ pub record IsSameCall (c after : ValueFrame) : Type 0 where
   pub depth : after.depth ≡ c.depth
   pub result : after.result ≡ c.result
   pub shorter : length after.left < length c.left
+
+-- All that the instructions left do, of which so many are passed over first, is to give the top operand back: but for jumps, and locals
+-- that are dropped, a return comes next.
+abbrev pub GivesBack : List Instruction → (skip : ℕ) → Type 0
+GivesBack [] skip = ⊥
+GivesBack (i ∷ is) (suc skip) = GivesBack is skip
+GivesBack (Return ∷ is) zero = Unit {0}
+GivesBack (Unbind n ∷ is) zero = GivesBack is 0
+GivesBack (Jump n ∷ is) zero = GivesBack is n
+GivesBack (i ∷ is) zero = ⊥
 
 -- an instruction that asks nothing of the mode
 abbrev pub is_plain : Instruction → Bool

@@ -1,29 +1,49 @@
 -- How an instruction changes the parts of a frame.
-use Rattle.std.specs.Prelude.{◌≡◌, ◌<◌, ◌≤◌, ◌-◌, ℕ, Bool, true, false, ◌+◌, List, [], ◌∷◌, ◌++◌, Result, Ok, Err, Option, Some, None}
+use Rattle.std.specs.Prelude.{◌≡◌, ◌<◌, ◌≤◌, ◌-◌, ℕ, Bool, true, false, ◌+◌, List, [], ◌∷◌, ◌++◌, length, Result, Ok, Err, Option, Some, None}
 use Rattle.core_terms.specs.declared.outcome.Trap.{Trap}
 use Rattle.value_store.specs.declared.node.Ref.{Ref}
+use Rattle.mode_vm.specs.Operands.{all_at}
+use Rattle.mode_vm.specs.declared.operand.Operand.{Operand}
 use Rattle.mode_vm.specs.declared.frame.Frame.{Frame}
 use Rattle.mode_vm.specs.declared.state.State.{State}
 
 -- the frame of the same function at this place, with these locals and operands
-pub record IsAt (old : Frame) (at : ℕ) (has : List Ref) (works_on : List Ref) (new : Frame) : Type 0 where
+pub record IsAt (old : Frame) (at : ℕ) (has : List Operand) (works_on : List Operand) (new : Frame) : Type 0 where
   pub function : new.function ≡ old.function
   pub place : new.place ≡ at
   pub locals : new.locals.items ≡ has
   pub operands : new.operands.items ≡ works_on
 
 -- the frame went one instruction further, with what was made on these operands; or it traps
-abbrev pub FinishesOn : {E : Type 0} → (old : Frame) (kept : List Ref) → Result Ref Trap → (new : Frame) → Result (Option Trap) E → Type 0
+abbrev pub FinishesOn : {E : Type 0} → (old : Frame) (kept : List Operand) → Result Operand Trap → (new : Frame) → Result (Option Trap) E → Type 0
 FinishesOn old kept (Ok r) new (Ok None) = IsAt old (old.place + 1) old.locals.items (kept ++ r ∷ []) new
 FinishesOn old kept (Err trap) new (Ok (Some told)) = told ≡ trap
 FinishesOn old kept made new (Err e) = Unit {0}
 FinishesOn old kept made new (Ok o) = ⊥
 
-abbrev pub Finishes : {E : Type 0} → (old : Frame) → Result Ref Trap → (new : Frame) → Result (Option Trap) E → Type 0
+abbrev pub Finishes : {E : Type 0} → (old : Frame) → Result Operand Trap → (new : Frame) → Result (Option Trap) E → Type 0
 Finishes old = FinishesOn old old.operands.items
 
+-- as many of the topmost operands were moved behind a list
+pub record IsMoved (count : ℕ) (operands has kept grown : List Operand) : Type 0 where
+  pub moved : List Operand
+  pub many : length moved ≡ count
+  pub from : operands ≡ kept ++ moved
+  pub to : grown ≡ has ++ moved
+
+-- the frame became that of a function which is called on as many of the topmost operands
+pub record BecomesCall (old : Frame) (callee count : ℕ) (new : Frame) : Type 0 where
+  pub args : List Operand
+  pub kept : List Operand
+  pub many : length args ≡ count
+  pub from : old.operands.items ≡ kept ++ args
+  pub function : new.function.0 ≡ callee
+  pub place : new.place ≡ 0
+  pub locals : new.locals.items ≡ args
+  pub no_operands : new.operands.items ≡ []
+
 -- a call was begun: the running frame waits behind its call, and the function called runs from its beginning
-pub record Begins (old : State) (callee : ℕ) (args kept : List Ref) (new : State) : Type 0 where
+pub record Begins (old : State) (callee : ℕ) (args kept : List Operand) (new : State) : Type 0 where
   pub operands : old.top.operands.items ≡ kept ++ args
   pub entered : new.entered ≡ false
   pub fuel : new.fuel ≡ old.fuel
@@ -34,6 +54,17 @@ pub record Begins (old : State) (callee : ℕ) (args kept : List Ref) (new : Sta
   pub caller : Frame
   pub waiting : new.waiting.items ≡ old.waiting.items ++ caller ∷ []
   pub waits : IsAt old.top (old.top.place + 1) old.top.locals.items kept caller
+
+-- a last call was begun: the function called runs from its beginning in the place of the running one
+pub record BeginsLast (old : State) (callee : ℕ) (args kept : List Operand) (new : State) : Type 0 where
+  pub operands : old.top.operands.items ≡ kept ++ args
+  pub entered : new.entered ≡ false
+  pub fuel : new.fuel ≡ old.fuel
+  pub function : new.top.function.0 ≡ callee
+  pub place : new.top.place ≡ 0
+  pub locals : new.top.locals.items ≡ args
+  pub no_operands : new.top.operands.items ≡ []
+  pub waiting : new.waiting.items ≡ old.waiting.items
 
 -- all but the running frame is as before
 pub record IsElseSame (old new : State) : Type 0 where
@@ -47,7 +78,7 @@ pub record Starts (callee : ℕ) (args : List Ref) (units : ℕ) (state : State)
   pub entered : state.entered ≡ false
   pub function : state.top.function.0 ≡ callee
   pub place : state.top.place ≡ 0
-  pub locals : state.top.locals.items ≡ args
+  pub locals : state.top.locals.items ≡ all_at args
   pub no_operands : state.top.operands.items ≡ []
   pub nothing_waits : state.waiting.items ≡ []
 

@@ -6,6 +6,7 @@ ghost use Rattle.code_gen.specs.Code.{code_at, generated};
 ghost use Rattle.mode_vm.specs.Meanings.{program_of};
 
 use crate::frame::Frame;
+use crate::operand::{Operand, node_in, push_nodes};
 use crate::values::bool_in;
 use code_gen::Code;
 use core_terms::{NamedId, Trap};
@@ -19,18 +20,15 @@ impl Frame {
     pub(crate) fn not<N: Nodes>(
         &mut self,
         code: &Code,
-        store: &mut N,
+        store: &N,
     ) -> Result<Option<Trap>, AllocError>
-        requires before { IsBefore (program_of code.now) (N.nodes store.old) self.old instruction.Not }
+        requires before { IsBefore (program_of code.now) (N.nodes store.now) self.old instruction.Not }
         requires room { self.old.place + 1 < 2 ^ 64 }
-        ensures does { Does (program_of code.now) instruction.Not (N.nodes store.old) (N.nodes store.new) self.old self.new result }
-        ensures keeps { Keeps (N.nodes store.old) (N.nodes store.new) }
-        ensures lent { N.lent store.new ≡ N.lent store.old }
+        ensures does { Does (program_of code.now) instruction.Not (N.nodes store.now) (N.nodes store.now) self.old self.new result }
     {
         let r = self.pop();
         let value = bool_in(store, r);
-        let made = store.put_bool(!value)?;
-        self.finish(Ok(made))
+        self.finish(Ok(Operand::Bool(!value)))
     }
 
     /// Pops a bool, and passes over some instructions where it is false.
@@ -80,10 +78,10 @@ impl Frame {
         requires length { length (code_at (generated (program_of code.now)) self.old.function.0).code < 2 ^ 64 }
         ensures does { Does (program_of code.now) (instruction.Switch named.0 skips.now) (N.nodes store.now) (N.nodes store.now) self.old self.new result }
     {
-        let r = self.pop();
-        match store.view(r) {
+        let top = self.pop();
+        match store.view(node_in(top)) {
             View::Constructor(_, tag, fields) => {
-                self.locals.extend_from_slice(fields)?;
+                push_nodes(&mut self.locals, fields)?;
                 self.place = self.place + 1 + skips[usize::from(tag.0)];
                 Ok(None)
             }

@@ -16,6 +16,7 @@ ghost use Rattle.mode_vm.specs.Calculations.{Makes};
 
 use crate::frame::Frame;
 use crate::limits::{DEPTH_LIMIT, SIZE_LIMIT};
+use crate::operand::{Operand, place, place_all};
 use crate::values::parts_in;
 use code_gen::Code;
 use core_terms::{NamedId, Tag, Trap, Types};
@@ -39,6 +40,8 @@ impl Frame {
         ensures lent { N.lent store.new ≡ N.lent store.old }
     {
         let (first, second) = self.pop_two();
+        let first = place(store, first)?;
+        let second = place(store, second)?;
         let made = new_pair(store, first, second)?;
         self.finish(made)
     }
@@ -55,7 +58,7 @@ impl Frame {
     {
         let r = self.pop();
         let (first, _) = parts_in(store, r);
-        self.finish(Ok(first))
+        self.finish(Ok(Operand::At(first)))
     }
 
     /// Pushes the second of a pair.
@@ -70,7 +73,7 @@ impl Frame {
     {
         let r = self.pop();
         let (_, second) = parts_in(store, r);
-        self.finish(Ok(second))
+        self.finish(Ok(Operand::At(second)))
     }
 
     /// Pushes a constructor value of as many operands as the constructor has fields, where it is within the limits.
@@ -88,7 +91,9 @@ impl Frame {
         ensures lent { N.lent store.new ≡ N.lent store.old }
     {
         let count = field_count(code.types(), named, tag);
-        let fields = self.pop_many(count)?;
+        let kept = self.operands.len() - count;
+        let fields = place_all(store, &self.operands[kept..])?;
+        self.operands.truncate(kept);
         let made = new_constructor(store, named, tag, &fields)?;
         self.finish(made)
     }
@@ -99,7 +104,7 @@ fn new_pair<N: Nodes>(
     store: &mut N,
     first: Ref,
     second: Ref,
-) -> Result<Result<Ref, Trap>, AllocError>
+) -> Result<Result<Operand, Trap>, AllocError>
     requires first { first.0 < length (N.nodes store.old) }
     requires second { second.0 < length (N.nodes store.old) }
     ensures makes { (m : Marking) (kind : Kind) (types : Table) (a b : Ty) (x y : Value) → StandsFor kind types (N.nodes store.old) first.0 a x → StandsFor kind types (N.nodes store.old) second.0 b y
@@ -114,7 +119,7 @@ fn new_pair<N: Nodes>(
         return Ok(Err(Trap::TooDeep));
     }
     let r = store.put_pair(first, second)?;
-    Ok(Ok(r))
+    Ok(Ok(Operand::At(r)))
 }
 
 /// The number of fields of a constructor; 0 where there is no such constructor.
@@ -133,7 +138,7 @@ fn new_constructor<N: Nodes>(
     named: NamedId,
     tag: Tag,
     fields: &[Ref],
-) -> Result<Result<Ref, Trap>, AllocError>
+) -> Result<Result<Operand, Trap>, AllocError>
     requires fields { list_all (λ r. nat_lt r (length (N.nodes store.old))) (numbers_of fields.now) ≡ true }
     ensures makes { (m : Marking) (kind : Kind) (types : Table) (ts : List Ty) (vs : Values) → fields_at types named.0 tag.0 ≡ Some ts
         → AllStandFor kind types (N.nodes store.old) (numbers_of fields.now) ts vs
@@ -148,5 +153,5 @@ fn new_constructor<N: Nodes>(
         return Ok(Err(Trap::TooDeep));
     }
     let r = store.put_constructor(named, tag, fields)?;
-    Ok(Ok(r))
+    Ok(Ok(Operand::At(r)))
 }

@@ -5,7 +5,7 @@ ghost use Rattle.value_store.specs.Markings.{ProverMarking};
 use crate::ideal::Never;
 use crate::mode::{Mode, Stop};
 use core_terms::{Hash32, TyId, Types};
-use shallow_codec::spell;
+use shallow_codec::{SpareBuffer, spell_into};
 use std::alloc::Global;
 use std::marker::PhantomData;
 use value_store::{Held, Nodes, Ref, inner_of};
@@ -13,17 +13,15 @@ use value_store::{Held, Nodes, Ref, inner_of};
 /// The ideal mode, whose authenticated values are held with their digests: each is digested once, when it is made.
 #[derive(Drop)]
 pub struct DigestingMode<H> {
-    alloc: Global,
+    spare: SpareBuffer,
     hash: PhantomData<H>,
 }
 
 impl<H: Hash32> DigestingMode<H> {
     /// A mode that takes the memory of spellings from here.
-    pub fn new(alloc: Global) -> Self
-        ensures { result.alloc ≡ alloc }
-    {
+    pub fn new(alloc: Global) -> Self {
         DigestingMode {
-            alloc,
+            spare: SpareBuffer::new(alloc),
             hash: PhantomData,
         }
     }
@@ -69,8 +67,10 @@ impl<H: Hash32> Mode for DigestingMode<H> {
         ty: TyId,
         v: Ref,
     ) -> Result<Ref, Stop<Never>> {
-        let spelling = spell(self.alloc, types, store, v, ty)?;
-        let digest = H::of(spelling.as_bytes());
+        let mut spelling = self.spare.take();
+        spell_into(types, store, v, ty, &mut spelling)?;
+        let digest = H::of(&spelling);
+        self.spare.keep(spelling);
         Ok(store.put_auth(Held::Both(digest, v))?)
     }
 

@@ -7,27 +7,29 @@ ghost use Rattle.code_gen.specs.CodeTrees.{instruction_of};
 ghost use Rattle.code_gen.specs.Programs.{program_in};
 ghost use Rattle.mode_vm.specs.Meanings.{program_of};
 
+use crate::operand::Operand;
 use code_gen::{Code, Instruction};
 use core_terms::{FunctionId, Trap};
 use std::alloc::AllocError;
-use value_store::{Nodes, Ref};
+use value_store::Nodes;
 
 /// A function that runs or waits: the place of its next instruction, its locals and its operands, the top one last.
 #[derive(Drop)]
 pub struct Frame {
     pub(crate) function: FunctionId,
     pub(crate) place: usize,
-    pub(crate) locals: Vec<Ref>,
-    pub(crate) operands: Vec<Ref>,
+    pub(crate) locals: Vec<Operand>,
+    pub(crate) operands: Vec<Operand>,
 }
 
 impl Frame {
     ghost use Rattle.mode_vm.specs.Machines.{is_own};
+    ghost use Rattle.mode_vm.specs.NodesPut.{works_in_hand};
     ghost use Rattle.mode_vm.specs.Outcomes.{Does, IsBefore};
-    ghost use Rattle.mode_vm.specs.StateParts.{Finishes, IsAt};
+    ghost use Rattle.mode_vm.specs.StateParts.{BecomesCall, Finishes, IsAt, IsMoved};
 
     /// Pushes what an instruction gives, and goes to the next one.
-    pub(crate) fn push(&mut self, r: Ref) -> Result<(), AllocError>
+    pub(crate) fn push(&mut self, r: Operand) -> Result<(), AllocError>
         requires { self.old.place + 1 < 2 ^ 64 }
         ensures { OnOk result (IsAt self.old (self.old.place + 1) self.old.locals.items (self.old.operands.items ++ r ∷ []) self.new) }
     {
@@ -37,7 +39,7 @@ impl Frame {
     }
 
     /// Pops the top operand.
-    pub(crate) fn pop(&mut self) -> Ref
+    pub(crate) fn pop(&mut self) -> Operand
         requires { 0 < length self.old.operands.items }
         ensures at { IsAt self.old self.old.place self.old.locals.items self.new.operands.items self.new }
         ensures top { self.old.operands.items ≡ self.new.operands.items ++ result ∷ [] }
@@ -49,7 +51,7 @@ impl Frame {
     }
 
     /// Pops the two top operands.
-    pub(crate) fn pop_two(&mut self) -> (Ref, Ref)
+    pub(crate) fn pop_two(&mut self) -> (Operand, Operand)
         requires { 1 < length self.old.operands.items }
         ensures at { IsAt self.old self.old.place self.old.locals.items self.new.operands.items self.new }
         ensures top { self.old.operands.items ≡ self.new.operands.items ++ result.0 ∷ result.1 ∷ [] }
@@ -59,20 +61,38 @@ impl Frame {
         (first, second)
     }
 
-    /// Pops as many operands, the last of which was the top one.
-    pub(crate) fn pop_many(&mut self, count: usize) -> Result<Vec<Ref>, AllocError>
+    /// Moves as many of the topmost operands behind a list, the top one last.
+    pub(crate) fn pop_into(
+        &mut self,
+        count: usize,
+        list: &mut Vec<Operand>,
+    ) -> Result<(), AllocError>
         requires { count ≤ length self.old.operands.items }
         ensures at { OnOk result (IsAt self.old self.old.place self.old.locals.items self.new.operands.items self.new) }
-        ensures top { IfOk result (λ popped. self.old.operands.items ≡ self.new.operands.items ++ popped.items) }
-        ensures count { IfOk result (λ popped. length popped.items ≡ count) }
+        ensures moved { OnOk result (IsMoved count self.old.operands.items list.old.items self.new.operands.items list.new.items) }
     {
         let kept = self.operands.len() - count;
-        let popped = self.operands.split_off(kept)?;
-        Ok(popped)
+        list.extend_from_slice(&self.operands[kept..])?;
+        self.operands.truncate(kept);
+        Ok(())
+    }
+
+    /// Becomes the frame of another function, which is called on as many of the topmost operands.
+    pub(crate) fn become_call(&mut self, callee: FunctionId, count: usize) -> Result<(), AllocError>
+        requires { count ≤ length self.old.operands.items }
+        ensures { OnOk result (BecomesCall self.old callee.0 count self.new) }
+    {
+        let kept = self.operands.len() - count;
+        self.locals.clear();
+        self.locals.extend_from_slice(&self.operands[kept..])?;
+        self.operands.clear();
+        self.function = callee;
+        self.place = 0;
+        Ok(())
     }
 
     /// Pushes what was made, and goes to the next instruction; or traps.
-    pub(crate) fn finish(&mut self, made: Result<Ref, Trap>) -> Result<Option<Trap>, AllocError>
+    pub(crate) fn finish(&mut self, made: Result<Operand, Trap>) -> Result<Option<Trap>, AllocError>
         requires { self.old.place + 1 < 2 ^ 64 }
         ensures { Finishes self.old made self.new result }
     {
@@ -99,6 +119,7 @@ impl Frame {
         requires room { self.old.place + 1 < 2 ^ 64 }
         requires length { length (code_at (generated (program_of code.now)) self.old.function.0).code < 2 ^ 64 }
         ensures does { Does (program_of code.now) (instruction_of (types_of (program_in code.now)) instruction.now) (N.nodes store.old) (N.nodes store.new) self.old self.new result }
+        ensures in_hand { works_in_hand (instruction_of (types_of (program_in code.now)) instruction.now) ≡ true → N.nodes store.new ≡ N.nodes store.old }
         ensures keeps { Keeps (N.nodes store.old) (N.nodes store.new) }
         ensures lent { N.lent store.new ≡ N.lent store.old }
     {

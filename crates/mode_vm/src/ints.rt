@@ -5,16 +5,18 @@ ghost use Rattle.core_terms.specs.Types.{IntTy, Table};
 ghost use Rattle.core_terms.specs.Values.{Value};
 ghost use Rattle.ideal_meaning.specs.Run as meant;
 ghost use Rattle.value_store.specs.Markings.{Marking};
-ghost use Rattle.value_store.specs.Standing.{Keeps, Kind, StandsFor};
+ghost use Rattle.value_store.specs.Standing.{Kind};
 ghost use Rattle.mode_vm.specs.Calculations.{Makes, calculation_of};
+ghost use Rattle.mode_vm.specs.Operands.{IsHeld};
 ghost use Rattle.mode_vm.specs.Meanings.{CauseOf, StateOf, program_of};
 
 use crate::frame::Frame;
+use crate::operand::Operand;
 use crate::values::int_in;
 use code_gen::Code;
 use core_terms::{Arith, Compare, Trap};
 use std::alloc::AllocError;
-use value_store::{Nodes, Ref};
+use value_store::Nodes;
 
 impl Frame {
     ghost use Rattle.mode_vm.specs.Outcomes.{Does, IsBefore};
@@ -23,17 +25,15 @@ impl Frame {
     pub(crate) fn arith<N: Nodes>(
         &mut self,
         code: &Code,
-        store: &mut N,
+        store: &N,
         op: Arith,
     ) -> Result<Option<Trap>, AllocError>
-        requires before { IsBefore (program_of code.now) (N.nodes store.old) self.old (instruction.ArithOp op) }
+        requires before { IsBefore (program_of code.now) (N.nodes store.now) self.old (instruction.ArithOp op) }
         requires room { self.old.place + 1 < 2 ^ 64 }
-        ensures does { Does (program_of code.now) (instruction.ArithOp op) (N.nodes store.old) (N.nodes store.new) self.old self.new result }
-        ensures keeps { Keeps (N.nodes store.old) (N.nodes store.new) }
-        ensures lent { N.lent store.new ≡ N.lent store.old }
+        ensures does { Does (program_of code.now) (instruction.ArithOp op) (N.nodes store.now) (N.nodes store.now) self.old self.new result }
     {
         let (first, second) = self.pop_two();
-        let made = new_result(store, op, first, second)?;
+        let made = new_result(store, op, first, second);
         self.finish(made)
     }
 
@@ -41,43 +41,38 @@ impl Frame {
     pub(crate) fn compare<N: Nodes>(
         &mut self,
         code: &Code,
-        store: &mut N,
+        store: &N,
         op: Compare,
     ) -> Result<Option<Trap>, AllocError>
-        requires before { IsBefore (program_of code.now) (N.nodes store.old) self.old (instruction.CompareOp op) }
+        requires before { IsBefore (program_of code.now) (N.nodes store.now) self.old (instruction.CompareOp op) }
         requires room { self.old.place + 1 < 2 ^ 64 }
-        ensures does { Does (program_of code.now) (instruction.CompareOp op) (N.nodes store.old) (N.nodes store.new) self.old self.new result }
-        ensures keeps { Keeps (N.nodes store.old) (N.nodes store.new) }
-        ensures lent { N.lent store.new ≡ N.lent store.old }
+        ensures does { Does (program_of code.now) (instruction.CompareOp op) (N.nodes store.now) (N.nodes store.now) self.old self.new result }
     {
         let (first, second) = self.pop_two();
         let x = int_in(store, first);
         let y = int_in(store, second);
         let holds = compared(op, x, y);
-        let r = store.put_bool(holds)?;
-        self.finish(Ok(r))
+        self.finish(Ok(Operand::Bool(holds)))
     }
 }
 
-/// Puts the result of an operation on two ints.
+/// The result of an operation on two ints.
 fn new_result<N: Nodes>(
-    store: &mut N,
+    store: &N,
     op: Arith,
-    first: Ref,
-    second: Ref,
-) -> Result<Result<Ref, Trap>, AllocError>
-    requires first { (kind : Kind) × (types : Table) × (v : Value) × StandsFor kind types (N.nodes store.old) first.0 IntTy v }
-    requires second { (kind : Kind) × (types : Table) × (v : Value) × StandsFor kind types (N.nodes store.old) second.0 IntTy v }
-    ensures makes { (m : Marking) (kind : Kind) (types : Table) (x y : Value) → StandsFor kind types (N.nodes store.old) first.0 IntTy x → StandsFor kind types (N.nodes store.old) second.0 IntTy y
-        → IfOk result (Makes m kind types (N.nodes store.new) IntTy (meant.arith_of op (meant.int_in x) (meant.int_in y))) }
-    ensures keeps { Keeps (N.nodes store.old) (N.nodes store.new) }
-    ensures lent { N.lent store.new ≡ N.lent store.old }
+    first: Operand,
+    second: Operand,
+) -> Result<Operand, Trap>
+    requires first { (kind : Kind) × (types : Table) × (v : Value) × IsHeld kind types (N.nodes store.now) first IntTy v }
+    requires second { (kind : Kind) × (types : Table) × (v : Value) × IsHeld kind types (N.nodes store.now) second IntTy v }
+    ensures makes { (m : Marking) (kind : Kind) (types : Table) (x y : Value) → IsHeld kind types (N.nodes store.now) first IntTy x → IsHeld kind types (N.nodes store.now) second IntTy y
+        → Makes m kind types (N.nodes store.now) IntTy (meant.arith_of op (meant.int_in x) (meant.int_in y)) result }
 {
     let x = int_in(store, first);
     let y = int_in(store, second);
     match calculated(op, x, y) {
-        Ok(z) => Ok(Ok(store.put_int(z)?)),
-        Err(trap) => Ok(Err(trap)),
+        Ok(z) => Ok(Operand::Int(z)),
+        Err(trap) => Err(trap),
     }
 }
 

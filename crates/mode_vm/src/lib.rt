@@ -17,6 +17,8 @@ mod literals;
 mod locals;
 pub mod machine;
 pub mod mode;
+mod operand;
+mod spares;
 mod state;
 mod texts;
 mod values;

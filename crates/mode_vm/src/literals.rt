@@ -6,6 +6,7 @@ ghost use Rattle.core_terms.specs.Texts.{bytes_of};
 ghost use Rattle.mode_vm.specs.Meanings.{program_of};
 
 use crate::frame::Frame;
+use crate::operand::Operand;
 use code_gen::Code;
 use core_terms::{Text, Trap};
 use std::alloc::AllocError;
@@ -19,50 +20,41 @@ impl Frame {
     pub(crate) fn push_unit<N: Nodes>(
         &mut self,
         code: &Code,
-        store: &mut N,
+        store: &N,
     ) -> Result<Option<Trap>, AllocError>
-        requires before { IsBefore (program_of code.now) (N.nodes store.old) self.old instruction.PushUnit }
+        requires before { IsBefore (program_of code.now) (N.nodes store.now) self.old instruction.PushUnit }
         requires room { self.old.place + 1 < 2 ^ 64 }
-        ensures does { Does (program_of code.now) instruction.PushUnit (N.nodes store.old) (N.nodes store.new) self.old self.new result }
-        ensures keeps { Keeps (N.nodes store.old) (N.nodes store.new) }
-        ensures lent { N.lent store.new ≡ N.lent store.old }
+        ensures does { Does (program_of code.now) instruction.PushUnit (N.nodes store.now) (N.nodes store.now) self.old self.new result }
     {
-        let r = store.put_unit()?;
-        self.finish(Ok(r))
+        self.finish(Ok(Operand::Unit))
     }
 
     /// Pushes a bool.
     pub(crate) fn push_bool<N: Nodes>(
         &mut self,
         code: &Code,
-        store: &mut N,
+        store: &N,
         value: bool,
     ) -> Result<Option<Trap>, AllocError>
-        requires before { IsBefore (program_of code.now) (N.nodes store.old) self.old (instruction.PushBool value) }
+        requires before { IsBefore (program_of code.now) (N.nodes store.now) self.old (instruction.PushBool value) }
         requires room { self.old.place + 1 < 2 ^ 64 }
-        ensures does { Does (program_of code.now) (instruction.PushBool value) (N.nodes store.old) (N.nodes store.new) self.old self.new result }
-        ensures keeps { Keeps (N.nodes store.old) (N.nodes store.new) }
-        ensures lent { N.lent store.new ≡ N.lent store.old }
+        ensures does { Does (program_of code.now) (instruction.PushBool value) (N.nodes store.now) (N.nodes store.now) self.old self.new result }
     {
-        let r = store.put_bool(value)?;
-        self.finish(Ok(r))
+        self.finish(Ok(Operand::Bool(value)))
     }
 
     /// Pushes an int.
     pub(crate) fn push_int<N: Nodes>(
         &mut self,
         code: &Code,
-        store: &mut N,
+        store: &N,
         value: i64,
     ) -> Result<Option<Trap>, AllocError>
-        requires before { IsBefore (program_of code.now) (N.nodes store.old) self.old (instruction.PushInt value) }
+        requires before { IsBefore (program_of code.now) (N.nodes store.now) self.old (instruction.PushInt value) }
         requires room { self.old.place + 1 < 2 ^ 64 }
-        ensures does { Does (program_of code.now) (instruction.PushInt value) (N.nodes store.old) (N.nodes store.new) self.old self.new result }
-        ensures keeps { Keeps (N.nodes store.old) (N.nodes store.new) }
-        ensures lent { N.lent store.new ≡ N.lent store.old }
+        ensures does { Does (program_of code.now) (instruction.PushInt value) (N.nodes store.now) (N.nodes store.now) self.old self.new result }
     {
-        let r = store.put_int(value)?;
-        self.finish(Ok(r))
+        self.finish(Ok(Operand::Int(value)))
     }
 
     /// Pushes a text.
@@ -82,6 +74,6 @@ impl Frame {
             unreachable!();
         };
         let r = store.put_text(text)?;
-        self.finish(Ok(r))
+        self.finish(Ok(Operand::At(r)))
     }
 }

@@ -12,6 +12,7 @@ ghost use Rattle.code_gen.specs.CodeTrees.{instruction_of};
 ghost use Rattle.mode_vm.specs.Meanings.{RunOf, StateOf, mode_of, program_of};
 
 use crate::mode::{Mode, Stop};
+use crate::operand::{Operand, node_in, place};
 use crate::state::{State, Step};
 use code_gen::{Code, Instruction};
 use core_terms::{FunctionId, Outcome, TyId};
@@ -28,6 +29,7 @@ pub struct Machine<M> {
 
 impl<M: Mode> Machine<M> {
     ghost use Rattle.mode_vm.specs.Machines.{AreArguments, OpensFew, ValueStack, IsNext, Represents, steps_left};
+    ghost use Rattle.mode_vm.specs.NodesPut.{NextInHand, RunPuts, StepPuts, WorksInHand};
     ghost use Rattle.mode_vm.specs.Openings.{Counts, OnlyMemory};
     ghost use Rattle.mode_vm.specs.StateParts.{Starts, fuel_after};
     ghost use Rattle.mode_vm.specs.Runs.{OnGoes, Ready, RunIs, RunStands, Slices, StepIs, StepStands, WillRun};
@@ -89,9 +91,10 @@ impl<M: Mode> Machine<M> {
         ensures memory { OnlyMemory result }
         ensures mode { self.new.mode ≡ self.old.mode }
     {
-        let v = self.state.pop_top();
+        let top = self.state.pop_top();
+        let v = place(store, top)?;
         let made = self.mode.auth(code.types(), store, ty, v)?;
-        self.state.push_top(made)?;
+        self.state.push_top(Operand::At(made))?;
         Ok(Step::Paused)
     }
 
@@ -126,9 +129,9 @@ impl<M: Mode> Machine<M> {
         ensures moves { OnOk result (M.Moves self.old.mode world.old self.new.mode world.new) }
         ensures knows { OnOk result (M.Knows (program_in code.now).types self.new.mode (N.nodes store.new)) }
     {
-        let v = self.state.pop_top();
+        let v = node_in(self.state.pop_top());
         let opened = self.mode.unauth(world, code.types(), store, ty, v)?;
-        self.state.push_top(opened)?;
+        self.state.push_top(Operand::At(opened))?;
         Ok(Step::Paused)
     }
 
@@ -150,6 +153,7 @@ impl<M: Mode> Machine<M> {
         ensures fewer { OnGoes result (steps_left (program_of code.now) self.new.state < steps_left (program_of code.now) self.old.state) }
         ensures keeps { Keeps (N.nodes store.old) (N.nodes store.new) }
         ensures lent { N.lent store.new ≡ N.lent store.old }
+        ensures in_hand { NextInHand (program_of code.now) self.old.state → StepPuts (N.nodes store.old) (N.nodes store.new) result }
         ensures opened { M.opened self.new.mode ≤ suc (M.opened self.old.mode) }
         ensures fuel { OnOk result (self.new.state.fuel ≡ fuel_after self.old.state.entered self.old.state.fuel) }
         ensures faults { Counts M.cause M.Rose (M.faults world.old) (M.faults world.new) result }
@@ -193,6 +197,7 @@ impl<M: Mode> Machine<M> {
             → StepIs M.marking (program_of code.now) z M.cause (M.Follows (program_in code.now).types self.new.mode world.new (N.nodes store.new)) (N.nodes store.new) self.new.state result run }
         ensures few { OnGoes result (OpensFew (M.opened self.new.mode) (program_of code.now) self.new.state) }
         ensures calls { Slices units self.old.state self.new.state result }
+        ensures in_hand { WorksInHand (program_of code.now) → StepPuts (N.nodes store.old) (N.nodes store.new) result }
         ensures keeps { Keeps (N.nodes store.old) (N.nodes store.new) }
         ensures lent { N.lent store.new ≡ N.lent store.old }
         ensures faults { Counts M.cause M.Rose (M.faults world.old) (M.faults world.new) result }
@@ -231,6 +236,7 @@ impl<M: Mode> Machine<M> {
         ensures is { (z : Ty) (w : StateOf M.marking) (run : RunOf M.marking) → M.Follows (program_in code.now).types self.old.mode world.old (N.nodes store.old) w
             → WillRun M.marking (program_of code.now) z (N.nodes store.old) self.old.state w run
             → RunIs M.marking (program_of code.now) z M.cause (M.Follows (program_in code.now).types self.new.mode world.new (N.nodes store.new)) (N.nodes store.new) self.new.state result run }
+        ensures in_hand { WorksInHand (program_of code.now) → RunPuts (N.nodes store.old) (N.nodes store.new) result }
         ensures keeps { Keeps (N.nodes store.old) (N.nodes store.new) }
         ensures lent { N.lent store.new ≡ N.lent store.old }
         ensures faults { Counts M.cause M.Rose (M.faults world.old) (M.faults world.new) result }

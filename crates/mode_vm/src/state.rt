@@ -1,5 +1,5 @@
 // The state of a machine: the frames and the fuel, calls and returns.
-ghost use Rattle.std.specs.Prelude.{◌≡◌, ◌+◌, ◌<◌, ◌^◌, ◌++◌, ◌∷◌, [], ◌-◌, ◌≢◌, ◌≤◌, true, false, MatchBool, Ok, List, IfOk, OnOk, length};
+ghost use Rattle.std.specs.Prelude.{◌≡◌, ◌+◌, ◌<◌, ◌^◌, ◌++◌, ◌∷◌, [], ◌-◌, ◌≢◌, ◌≤◌, true, false, IsTrue, MatchBool, Ok, List, IfOk, OnOk, Some, length, slice_get};
 ghost use Rattle.core_terms.specs.Programs.{types_of};
 ghost use Rattle.core_terms.specs.Terms.{Program as Meant};
 ghost use Rattle.core_terms.specs.Types.{Ty};
@@ -10,24 +10,29 @@ ghost use Rattle.code_gen.specs.Programs.{program_in};
 ghost use Rattle.code_gen.specs.Code.{code_at, generated};
 ghost use Rattle.code_gen.specs.Instructions as instruction;
 ghost use Rattle.code_gen.specs.CodeTrees.{instruction_of};
+ghost use Rattle.mode_vm.specs.Machines.{GivesBack};
 ghost use Rattle.mode_vm.specs.Meanings.{program_of};
 ghost use Rattle.mode_vm.specs.Outcomes.{step_told};
+ghost use Rattle.mode_vm.specs.declared.operand.Operand.{Operand};
 
 use crate::frame::Frame;
+use crate::operand::{Operand, place, push_nodes};
+use crate::spares::Spares;
 use code_gen::{Code, Instruction};
 use core_terms::{FunctionId, Outcome, Trap};
 use std::alloc::{AllocError, Global};
 use std::mem;
 use value_store::{Nodes, Ref};
 
-/// Where the machine stands: the fuel left, the running frame, whether it has taken its unit of fuel, and the frames that wait
-/// for a value, the innermost last.
+/// Where the machine stands: the fuel left, the running frame, whether it has taken its unit of fuel, the frames that wait
+/// for a value, the innermost last, and memory of frames that ended.
 #[derive(Drop)]
 pub struct State {
     pub(crate) fuel: u64,
     pub(crate) entered: bool,
     top: Frame,
     waiting: Vec<Frame>,
+    spares: Spares,
 }
 
 /// What a part of a run comes to.
@@ -41,8 +46,9 @@ pub enum Step {
 
 impl State {
     ghost use Rattle.mode_vm.specs.Machines.{ValueStack, Represents, IsNext, is_plain};
+    ghost use Rattle.mode_vm.specs.NodesPut.{StepPuts, works_in_hand};
     ghost use Rattle.mode_vm.specs.Outcomes.{Leads};
-    ghost use Rattle.mode_vm.specs.StateParts.{Begins, IsAt, IsElseSame, Spent, Starts};
+    ghost use Rattle.mode_vm.specs.StateParts.{Begins, BeginsLast, IsAt, IsElseSame, Spent, Starts};
 
     /// The state in which a function is to be called on these arguments.
     pub(crate) fn start(
@@ -53,7 +59,8 @@ impl State {
     ) -> Result<State, AllocError>
         ensures { IfOk result (Starts function.0 args.now fuel) }
     {
-        let locals = args.to_vec(alloc)?;
+        let mut locals = Vec::new(alloc);
+        push_nodes(&mut locals, args)?;
         let top = Frame {
             function,
             place: 0,
@@ -65,6 +72,7 @@ impl State {
             entered: false,
             top,
             waiting: Vec::new(alloc),
+            spares: Spares::new(alloc),
         })
     }
 
@@ -72,15 +80,16 @@ impl State {
     fn begin(&mut self, callee: FunctionId, count: usize, alloc: Global) -> Result<(), AllocError>
         requires enough { count ≤ length self.old.top.operands.items }
         requires room { self.old.top.place + 1 < 2 ^ 64 }
-        ensures { IfOk result (λ done. (args : List Ref) × (kept : List Ref) × (length args ≡ count) × Begins self.old callee.0 args kept self.new) }
+        ensures { IfOk result (λ done. (args : List Operand) × (kept : List Operand) × (length args ≡ count) × Begins self.old callee.0 args kept self.new) }
     {
-        let locals = self.top.pop_many(count)?;
+        let mut locals = self.spares.take(alloc);
+        self.top.pop_into(count, &mut locals)?;
         self.top.place += 1;
         let called = Frame {
             function: callee,
             place: 0,
             locals,
-            operands: Vec::new(alloc),
+            operands: self.spares.take(alloc),
         };
         let caller = mem::replace(&mut self.top, called);
         self.waiting.push(caller)?;
@@ -88,7 +97,17 @@ impl State {
         Ok(())
     }
 
-    /// Calls a function on the topmost operands.
+    /// Begins a call of a function on as many operands, in the place of the running one.
+    fn begin_last(&mut self, callee: FunctionId, count: usize) -> Result<(), AllocError>
+        requires enough { count ≤ length self.old.top.operands.items }
+        ensures { IfOk result (λ done. (args : List Operand) × (kept : List Operand) × (length args ≡ count) × BeginsLast self.old callee.0 args kept self.new) }
+    {
+        self.top.become_call(callee, count)?;
+        self.entered = false;
+        Ok(())
+    }
+
+    /// Calls a function on the topmost operands. Where the caller would only give its value back, it doesn't wait for it.
     fn call(&mut self, code: &Code, callee: FunctionId, alloc: Global) -> Result<Step, AllocError>
         requires before { (m : Marking) × (z : Ty) × (nodes : List Node) × (cs : ValueStack) × Represents m (program_of code.now) z nodes self.old cs × IsNext (instruction.Call callee.0) cs.top }
         requires entered { self.old.entered ≡ true }
@@ -98,26 +117,37 @@ impl State {
         ensures fuel { OnOk result (self.new.fuel ≡ self.old.fuel) }
     {
         let count = parameter_count(code, callee);
-        self.begin(callee, count, alloc)?;
+        if gives_back(code, self.top.function, self.top.place + 1) {
+            self.begin_last(callee, count)?;
+        } else {
+            self.begin(callee, count, alloc)?;
+        }
         Ok(Step::Paused)
     }
 
     /// Gives the top operand back to the function that waits for it, or ends.
-    fn give_back(&mut self, code: &Code) -> Result<Step, AllocError>
-        requires before { (m : Marking) × (z : Ty) × (nodes : List Node) × (cs : ValueStack) × Represents m (program_of code.now) z nodes self.old cs × IsNext instruction.Return cs.top }
+    fn give_back<N: Nodes>(&mut self, code: &Code, store: &mut N) -> Result<Step, AllocError>
+        requires before { (m : Marking) × (z : Ty) × (cs : ValueStack) × Represents m (program_of code.now) z (N.nodes store.old) self.old cs × IsNext instruction.Return cs.top }
         requires entered { self.old.entered ≡ true }
-        ensures leads { (m : Marking) (z : Ty) (nodes : List Node) (cs : ValueStack) → Represents m (program_of code.now) z nodes self.old cs → IsNext instruction.Return cs.top
-            → Leads m (program_of code.now) z nodes true self.old.fuel cs self.new result }
+        ensures leads { (m : Marking) (z : Ty) (cs : ValueStack) → Represents m (program_of code.now) z (N.nodes store.old) self.old cs → IsNext instruction.Return cs.top
+            → Leads m (program_of code.now) z (N.nodes store.new) true self.old.fuel cs self.new result }
         ensures fuel { OnOk result (self.new.fuel ≡ self.old.fuel) }
+        ensures puts { StepPuts (N.nodes store.old) (N.nodes store.new) result }
+        ensures keeps { Keeps (N.nodes store.old) (N.nodes store.new) }
+        ensures lent { N.lent store.new ≡ N.lent store.old }
     {
-        let r = self.top.pop();
+        let top = self.top.pop();
         match self.waiting.pop() {
             Some(caller) => {
-                self.top = caller;
-                self.top.operands.push(r)?;
+                let ended = mem::replace(&mut self.top, caller);
+                self.spares.keep(ended);
+                self.top.operands.push(top)?;
                 Ok(Step::Paused)
             }
-            None => Ok(Step::Ended(Outcome::Done(r))),
+            None => {
+                let r = place(store, top)?;
+                Ok(Step::Ended(Outcome::Done(r)))
+            }
         }
     }
 
@@ -145,7 +175,7 @@ impl State {
     }
 
     /// Pops the top operand of the running frame.
-    pub(crate) fn pop_top(&mut self) -> Ref
+    pub(crate) fn pop_top(&mut self) -> Operand
         requires { 0 < length self.old.top.operands.items }
         ensures at { IsAt self.old.top self.old.top.place self.old.top.locals.items self.new.top.operands.items self.new.top }
         ensures top { self.old.top.operands.items ≡ self.new.top.operands.items ++ result ∷ [] }
@@ -155,7 +185,7 @@ impl State {
     }
 
     /// Pushes an operand of the running frame, and goes to the next instruction.
-    pub(crate) fn push_top(&mut self, r: Ref) -> Result<(), AllocError>
+    pub(crate) fn push_top(&mut self, r: Operand) -> Result<(), AllocError>
         requires { self.old.top.place + 1 < 2 ^ 64 }
         ensures at { OnOk result (IsAt self.old.top (self.old.top.place + 1) self.old.top.locals.items (self.old.top.operands.items ++ r ∷ []) self.new.top) }
         ensures rest { OnOk result (IsElseSame self.old self.new) }
@@ -168,6 +198,8 @@ impl State {
         requires { (m : Marking) × (z : Ty) × (nodes : List Node) × (cs : ValueStack) × Represents m (program_of code.now) z nodes self.now cs }
         ensures next { (m : Marking) (z : Ty) (nodes : List Node) (cs : ValueStack) → Represents m (program_of code.now) z nodes self.now cs
             → IsNext (instruction_of (types_of (program_in code.now)) result.now) cs.top }
+        ensures at { slice_get (code_at (generated (program_of code.now)) self.now.top.function.0).code self.now.top.place
+            ≡ Some (instruction_of (types_of (program_in code.now)) result.now) }
         ensures room { self.now.top.place + 1 < 2 ^ 64 }
         ensures length { length (code_at (generated (program_of code.now)) self.now.top.function.0).code < 2 ^ 64 }
     {
@@ -195,12 +227,13 @@ impl State {
             → IsNext (instruction_of (types_of (program_in code.now)) instruction.now) cs.top
             → Leads m (program_of code.now) z (N.nodes store.new) true self.old.fuel cs self.new result }
         ensures fuel { OnOk result (self.new.fuel ≡ self.old.fuel) }
+        ensures in_hand { works_in_hand (instruction_of (types_of (program_in code.now)) instruction.now) ≡ true → StepPuts (N.nodes store.old) (N.nodes store.new) result }
         ensures keeps { Keeps (N.nodes store.old) (N.nodes store.new) }
         ensures lent { N.lent store.new ≡ N.lent store.old }
     {
         match instruction {
             Instruction::Call(callee) => self.call(code, *callee, alloc),
-            Instruction::Return => self.give_back(code),
+            Instruction::Return => self.give_back(code, store),
             _ => {
                 let trapped = self.top.act(code, store, instruction)?;
                 Ok(step_of(trapped))
@@ -217,6 +250,29 @@ fn step_of(trapped: Option<Trap>) -> Step
         None => Step::Paused,
         Some(trap) => Step::Ended(Outcome::Trapped(trap)),
     }
+}
+
+/// Whether the instructions of a function from this place on only give the top operand back.
+// Jumps go forward alone, so it takes at most as many turns as doing what it passes over would take steps, and where it answers true, those
+// aren't done.
+fn gives_back(code: &Code, function: FunctionId, place: usize) -> bool
+    requires { function.0 < length (program_of code.now).functions }
+    ensures { IsTrue result → GivesBack (code_at (generated (program_of code.now)) function.0).code place }
+{
+    let instructions = code.instructions(function);
+    let mut at = place;
+    while at < instructions.len() {
+        match &instructions[at] {
+            Instruction::Return => return true,
+            Instruction::Unbind(_) => at += 1,
+            Instruction::Jump(skip) => match (at + 1).checked_add(*skip) {
+                Some(next) => at = next,
+                None => return false,
+            },
+            _ => return false,
+        }
+    }
+    false
 }
 
 /// The number of parameters of a function.

@@ -30,6 +30,10 @@ impl Source for Endless {
 
     ghost left = { λ _. None };
 
+    ghost sent = { λ _. None };
+
+    ghost reads = { λ _. None };
+
     ghost faults = { λ files. files.faults };
 
     ghost Rest = { ℕ };

@@ -96,13 +96,10 @@ kind_known limit kind known bytes piece middle left result same came taken =
     let e : bytes ≡ known ∷ drop 1 bytes = begun kind bytes came.0 came.1 ∙ ap (λ kind. kind ∷ drop 1 bytes) same in
     subst (λ bytes. TakesFrame limit bytes piece left result) (sym e) taken
 
--- two pieces of bytes came
-pub took_two : (len : ℕ) (bytes body more : List ℕ) (left0 left1 left2 : Option (List ℕ)) → left0 ≡ Some bytes → left0 ≡ prepend_known body left1
-    → left1 ≡ prepend_known more left2 → length body + length more ≤ len → TookAtMost len bytes left2
-took_two len bytes body more left0 None left2 told first second fits = absurd (let clash : Some bytes ≡ None = sym told ∙ first in cc)
-took_two len bytes body more left0 (Some rest) None told first second fits = absurd (let clash : Some rest ≡ None = second in cc)
-took_two len bytes body more left0 (Some rest) (Some left) told first second fits =
-    let inner : rest ≡ more ++ left = cc in
+-- one piece of bytes came
+pub took_one : (len : ℕ) (bytes body : List ℕ) (left0 left1 : Option (List ℕ)) → left0 ≡ Some bytes → left0 ≡ prepend_known body left1 → length body ≤ len → TookAtMost len bytes left1
+took_one len bytes body left0 None told first fits = absurd (let clash : Some bytes ≡ None = sym told ∙ first in cc)
+took_one len bytes body left0 (Some rest) told first fits =
     let same : Some bytes ≡ Some (body ++ rest) = sym told ∙ first in
-    let whole : bytes ≡ body ++ (more ++ left) = let e : bytes ≡ body ++ rest = cc in e ∙ ap (λ r. body ++ r) inner in
-    (length body + length more, fits, ap Some (sym (ap (drop (length body + length more)) whole ∙ drop-append-add body (more ++ left) (length more) ∙ drop-append_seam more left)))
+    let whole : bytes ≡ body ++ rest = cc in
+    (length body, fits, ap Some (sym (ap (drop (length body)) whole ∙ drop-append_seam body rest)))

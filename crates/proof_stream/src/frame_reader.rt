@@ -122,6 +122,16 @@ impl FrameReader {
         mem::replace(&mut self.piece, Vec::new(self.alloc))
     }
 
+    /// Takes the memory of a piece that is out of use, for the next one. None is in hand then.
+    pub fn reuse(&mut self, spare: Option<Vec<u8>>)
+        ensures piece { piece_of self.new ≡ [] }
+        ensures limit { limit_of self.new ≡ limit_of self.old }
+    {
+        let mut buffer = spare.unwrap_or(Vec::new(self.alloc));
+        buffer.clear();
+        self.piece = buffer;
+    }
+
     /// Takes the bytes that are left, at most 65,536, and gives their number.
     ///
     /// `Failed` where the source failed, and its count of faults rose.

@@ -60,7 +60,8 @@ fn within(len: u32, limit: usize) -> Result<u32, FrameEnd>
     Ok(len)
 }
 
-/// The bytes of a piece of this length, in place of those that were in the buffer. It takes no more memory than comes.
+/// The bytes of a piece of this length, in place of those that were in the buffer. It takes memory for no more than
+/// comes and one chunk.
 pub fn read_piece<S: Source>(
     source: &mut S,
     len: usize,
@@ -72,14 +73,15 @@ pub fn read_piece<S: Source>(
     ensures cause { FrameCause (S.faults source.old) (S.faults source.new) result }
 {
     piece.clear();
-    let mut chunk = [0; CHUNK];
     while piece.len() < len {
-        let most = CHUNK.min(len - piece.len());
-        let count = source.read(&mut chunk[..most])?;
+        let start = piece.len();
+        let most = CHUNK.min(len - start);
+        piece.resize(start + most, 0)?;
+        let count = source.read(&mut piece[start..])?;
         if count == 0 {
             return Err(FrameEnd::Cut);
         }
-        piece.extend_from_slice(&chunk[..count])?;
+        piece.truncate(start + count);
     }
     Ok(())
 }

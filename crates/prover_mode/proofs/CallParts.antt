@@ -63,12 +63,16 @@ module _ (hash : Hash) (p : Program) (given : Types) (is : given ≡ p.types) wh
   same_pieces [] = refl
   same_pieces (s ∷ seen) = ap (λ (ps : List (List ℕ)). ideal.honest_bytes hash (meaning p) s ∷ ps) (same_pieces seen)
 
+  pub pieces_by : (f : ℕ) (args : Values) (k : ℕ)
+      → pieces_of hash given (state_of (ideal.ideal (meaning p) f args k)) ≡ ideal.bytes_of (ideal.honest_pieces hash (meaning p) f args k)
+  pieces_by f args k =
+      let seen : List ideal.Opened = state_of (ideal.ideal (meaning p) f args k) in
+      ap (λ (t : Types). pieces_of hash t seen) is ∙ same_pieces seen
+
   pub written_by : (f : ℕ) (args : Values) (k n : ℕ) (recent : List (List ℕ)) (writer : FrameWriter)
       → HasWritten n recent (pieces_of hash given (state_of (ideal.ideal (meaning p) f args k))) writer
       → HasWritten n recent (ideal.bytes_of (ideal.honest_pieces hash (meaning p) f args k)) writer
-  written_by f args k n recent writer h =
-      let seen : List ideal.Opened = state_of (ideal.ideal (meaning p) f args k) in
-      subst (λ (ps : List (List ℕ)). HasWritten n recent ps writer) (ap (λ (t : Types). pieces_of hash t seen) is ∙ same_pieces seen) h
+  written_by f args k n recent writer h = subst (λ (ps : List (List ℕ)). HasWritten n recent ps writer) (pieces_by f args k) h
 
 -- a ring of n that holds the last of these holds them as a ring of its size
 pub holds_last : (ring : Kept) (n : ℕ) (recent : List (List ℕ)) → ring ≡ kept n recent → ring ≡ kept ring.size recent

@@ -4,6 +4,8 @@ pub mod Running
 pub mod Writing
 -- write_frames: the honest piece of one opened value more
 pub mod Pieces
+-- write_frames: where the frames of the first pieces are too long, those of all are
+pub mod FrameLengths
 -- spelled_outcome: the outcome with the spelling of its value
 pub mod SpelledOutcomes
 -- prove_file: that the file is accepted

@@ -25,9 +25,9 @@ one_counted frames before i more is = omega (arith, more, is)
 
 -- the spelling of a shallow value that a node stands for is short
 pub short_spelling : (types : Table) (nodes : List Node) (t : Ty) (v : Value) (r : ℕ) → AreSound nodes → StandsFor VerifierNodes types nodes r t v
-    → (made bytes : List ℕ) → bytes ≡ made → made ≡ spelling v → length bytes < 2 ^ 32
-short_spelling types nodes t v r sound h made bytes given is =
-    let same : length bytes ≡ length (spelling v) = ap length (given ∙ is) in
+    → (bytes : List ℕ) → bytes ≡ spelling v → length bytes < 2 ^ 32
+short_spelling types nodes t v r sound h bytes is =
+    let same : length bytes ≡ length (spelling v) = ap length is in
     let long = length_spelling types t v (shallow_stands types nodes t v r h) in
     let fits = (within_stands VerifierNodes types nodes t v r sound h).size_fits in
     omega (arith, same, long, fits)
@@ -84,9 +84,9 @@ module _ (hash : Hash) (types : Types) (nodes : List Node) where
     shows = shown_shallow (digest_at hash (types_meaning types)) (types_meaning types).types (λ t bytes. is_hash bytes) nodes (type_at (types_by_number types) o.ty) s.value o.value.0 stands_at
 
     -- the spelling of its projection is the honest piece
-    pub is_honest : (made bytes : List ℕ) → bytes ≡ made → made ≡ spelling (projection hash (types_meaning types) (type_at (types_by_number types) o.ty) s.value)
+    pub is_honest : (bytes : List ℕ) → bytes ≡ spelling (projection hash (types_meaning types) (type_at (types_by_number types) o.ty) s.value)
         → bytes ≡ ideal.honest_bytes hash (types_meaning types) s
-    is_honest made bytes given is = given ∙ (is ∙ ap (λ (t : Ty). spelling (projection hash (types_meaning types) t s.value)) (sym h.at))
+    is_honest bytes is = is ∙ ap (λ (t : Ty). spelling (projection hash (types_meaning types) t s.value)) (sym h.at)
 
 -- all of them
 pub seen_whole : (hash : Hash) (types : Types) (nodes : List Node) (os : List Opened) (n : ℕ) (seen : List ideal.Opened) → length os ≤ n → AreSeen hash types nodes os seen

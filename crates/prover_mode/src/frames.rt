@@ -1,15 +1,15 @@
 // The frames of a proof, as an honest prover writes them.
-ghost use Rattle.std.specs.Prelude.{◌≡◌, ◌<◌, ◌+◌, ◌++◌, ◌∷◌, ◌^◌, [], ℕ, List, length, suc, IfOk, OnOk};
+ghost use Rattle.std.specs.Prelude.{◌≡◌, ◌<◌, ◌+◌, ◌-◌, ◌++◌, ◌∷◌, ◌^◌, [], ℕ, List, length, suc, IfOk, IfNone, OnOk};
 ghost use Rattle.ideal_meaning.specs.Ideal as ideal;
 ghost use Rattle.reuse_buffer.specs.Kept.{kept};
 ghost use Rattle.prover_mode.specs.Seen.{AreSeen, pieces_of};
-ghost use Rattle.prover_mode.specs.Written.{HasWritten};
+ghost use Rattle.prover_mode.specs.Written.{HasWritten, HasWrittenWithin};
 
 use crate::opened::Opened;
 use core_terms::{Hash32, Types};
 use proof_stream::{put_new, put_use};
 use reuse_buffer::Ring;
-use shallow_codec::spell;
+use shallow_codec::spell_into;
 use std::alloc::{AllocError, Global};
 use value_store::Nodes;
 
@@ -29,6 +29,7 @@ impl FrameWriter {
     pub(crate) fn new(alloc: Global, ring: Ring) -> Self
         ensures written { (recent : List (List ℕ)) → ring ≡ kept ring.size recent → HasWritten ring.size recent [] result }
         ensures count { result.fresh + result.again ≡ 0 }
+        ensures empty { result.bytes.items ≡ [] }
     {
         FrameWriter {
             ring,
@@ -38,8 +39,9 @@ impl FrameWriter {
         }
     }
 
-    /// Writes a piece: where it is kept, it is named, and else it is written whole and kept from then on.
-    pub(crate) fn put(&mut self, piece: Vec<u8>) -> Result<(), AllocError>
+    /// Writes a piece: where it is kept, it is named, and else it is written whole and kept from then on. It gives back what memory of
+    /// pieces is out of use then.
+    pub(crate) fn put(&mut self, piece: Vec<u8>) -> Result<Option<Vec<u8>>, AllocError>
         requires short { length piece.items < 2 ^ 32 }
         requires few { suc (self.old.fresh + self.old.again) < 2 ^ 64 }
         ensures written { (n : ℕ) (recent pieces : List (List ℕ)) → HasWritten n recent pieces self.old
@@ -49,35 +51,43 @@ impl FrameWriter {
         match self.ring.place_of(&piece) {
             None => {
                 put_new(&mut self.bytes, &piece)?;
-                self.ring.push(piece);
+                let oldest = self.ring.push(piece);
                 self.fresh += 1;
+                Ok(oldest)
             }
             Some(k) => {
                 put_use(&mut self.bytes, k)?;
                 self.again += 1;
+                Ok(Some(piece))
             }
         }
-        Ok(())
     }
 }
 
-/// Writes what was opened, in order: of each value the spelling of its projection.
+/// Writes what was opened, in order: of each value the spelling of its projection. `None` where the frames have more than `most` bytes:
+/// the first frame that goes beyond is the last one that is written.
 pub(crate) fn write_frames<H: Hash32, N: Nodes>(
     alloc: Global,
     types: &Types,
     store: &N,
     opened: &[Opened],
     ring: Ring,
-) -> Result<FrameWriter, AllocError>
+    most: usize,
+) -> Result<Option<FrameWriter>, AllocError>
     requires seen { (seen : List ideal.Opened) × AreSeen H.hash types.now (N.nodes store.now) opened.now seen }
-    ensures written { IfOk result (λ writer. (seen : List ideal.Opened) (recent : List (List ℕ))
+    ensures written { IfOk result (λ told. (seen : List ideal.Opened) (recent : List (List ℕ))
         → AreSeen H.hash types.now (N.nodes store.now) opened.now seen → ring ≡ kept ring.size recent
-        → HasWritten ring.size recent (pieces_of H.hash types.now seen) writer) }
+        → HasWrittenWithin most ring.size recent (pieces_of H.hash types.now seen) told) }
+    ensures limited { IfOk result (λ told. IfNone told (most < 2 ^ 64 - 1)) }
 {
     let mut writer = FrameWriter::new(alloc, ring);
+    let mut piece = Vec::new(alloc);
     for Opened { ty, value } in opened {
-        let piece = spell(alloc, types, store, *value, *ty)?;
-        writer.put(piece.into_bytes())?;
+        spell_into(types, store, *value, *ty, &mut piece)?;
+        piece = writer.put(piece)?.unwrap_or(Vec::new(alloc));
+        if writer.bytes.len() > most {
+            return Ok(None);
+        }
     }
-    Ok(writer)
+    Ok(Some(writer))
 }

@@ -5,7 +5,7 @@ ghost use Rattle.value_store.specs.Markings.{ProverMarking};
 use crate::opened::Opened;
 use core_terms::{Hash32, TyId, Types};
 use mode_vm::{Mode, Never, Stop};
-use shallow_codec::spell;
+use shallow_codec::{SpareBuffer, spell_into};
 use std::alloc::Global;
 use std::marker::PhantomData;
 use value_store::{Held, Nodes, Ref, inner_of};
@@ -13,7 +13,7 @@ use value_store::{Held, Nodes, Ref, inner_of};
 /// The prover: `auth` holds a value with the digest of its projection, `unauth` gives the value and notes what is opened.
 #[derive(Drop)]
 pub struct Prover<H> {
-    alloc: Global,
+    spare: SpareBuffer,
     opened: Vec<Opened>,
     hash: PhantomData<H>,
 }
@@ -24,7 +24,7 @@ impl<H: Hash32> Prover<H> {
         ensures { result.opened.items ≡ [] }
     {
         Prover {
-            alloc,
+            spare: SpareBuffer::new(alloc),
             opened: Vec::new(alloc),
             hash: PhantomData,
         }
@@ -35,10 +35,11 @@ impl<H: Hash32> Prover<H> {
         ensures { result ≡ self.opened }
     {
         let Prover {
-            alloc: _,
+            spare,
             opened,
             hash: _,
         } = self;
+        drop(spare);
         opened
     }
 }
@@ -85,8 +86,10 @@ impl<H: Hash32> Mode for Prover<H> {
         ty: TyId,
         v: Ref,
     ) -> Result<Ref, Stop<Never>> {
-        let spelling = spell(self.alloc, types, store, v, ty)?;
-        let digest = H::of(spelling.as_bytes());
+        let mut spelling = self.spare.take();
+        spell_into(types, store, v, ty, &mut spelling)?;
+        let digest = H::of(&spelling);
+        self.spare.keep(spelling);
         Ok(store.put_auth(Held::Both(digest, v))?)
     }
 

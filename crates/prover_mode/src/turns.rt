@@ -1,6 +1,7 @@
 // Calls that are proved in turns.
-ghost use Rattle.std.specs.Prelude.{◌≡◌, ◌<◌, ◌≤◌, ◌+◌, ◌^◌, ℕ, List, IfOk, length};
+ghost use Rattle.std.specs.Prelude.{◌≡◌, ◌<◌, ◌≤◌, ◌+◌, ◌-◌, ◌^◌, ℕ, List, IfOk, IfSome, IfNone, length};
 ghost use Rattle.core_terms.specs.Values.{Value, Values};
+ghost use Rattle.ideal_meaning.specs.Frames.{frame_bytes};
 ghost use Rattle.ideal_meaning.specs.Headline.{call_of};
 ghost use Rattle.value_store.specs.Nodes.{Node};
 ghost use Rattle.value_store.specs.Standing.{Keeps};
@@ -98,21 +99,49 @@ impl<H: Hash32> Proving<H> {
             → ring ≡ kept ring.size recent
             → TellsFrames (run_frames H.hash (program_of code.now) f vs k ring.size recent) ring.size recent told.0.bytes.items told.0.fresh told.0.again told.1) }
     {
+        let Some(told) = self.finish_within(alloc, code, store, ring, usize::MAX)? else {
+            unreachable!()
+        };
+        Ok(told)
+    }
+
+    /// The frames, as [`Proving::finish`] gives them, where they have at most `most` bytes. `None` exactly where they have more: the first
+    /// frame that goes beyond is the last one that is written, and the ring is dropped. Where memory is wanting for the frames up to there
+    /// it answers `AllocError`.
+    pub fn finish_within<N: Nodes>(
+        self,
+        alloc: Global,
+        code: &Code,
+        store: &N,
+        ring: Ring,
+        most: usize,
+    ) -> Result<Option<(ProofFrames, Ring)>, AllocError>
+        requires has_run { (f : ℕ) × (vs : Values) × (k : ℕ) × HasRun H.hash code.now (N.nodes store.now) self f vs k }
+        ensures told { IfOk result (λ told. IfSome told (λ told. (f : ℕ) (vs : Values) (k : ℕ) (recent : List (List ℕ))
+            → HasRun H.hash code.now (N.nodes store.now) self f vs k → ring ≡ kept ring.size recent
+            → TellsFrames (run_frames H.hash (program_of code.now) f vs k ring.size recent) ring.size recent told.0.bytes.items told.0.fresh told.0.again told.1
+            × (length told.0.bytes.items ≤ most))) }
+        ensures long { IfOk result (λ told. IfNone told ((f : ℕ) (vs : Values) (k : ℕ) (recent : List (List ℕ))
+            → HasRun H.hash code.now (N.nodes store.now) self f vs k → ring ≡ kept ring.size recent
+            → most < length (frame_bytes (run_frames H.hash (program_of code.now) f vs k ring.size recent)))) }
+        ensures limited { IfOk result (λ told. IfNone told (most < 2 ^ 64 - 1)) }
+    {
         let opened = self.machine.into_mode().into_opened();
-        let written = write_frames::<H, N>(alloc, code.types(), store, &opened, ring)?;
+        let written = write_frames::<H, N>(alloc, code.types(), store, &opened, ring, most)?;
+        let Some(writer) = written else {
+            return Ok(None);
+        };
         let FrameWriter {
             ring,
             bytes,
             fresh,
             again,
-        } = written;
-        Ok((
-            ProofFrames {
-                bytes,
-                fresh,
-                again,
-            },
-            ring,
-        ))
+        } = writer;
+        let frames = ProofFrames {
+            bytes,
+            fresh,
+            again,
+        };
+        Ok(Some((frames, ring)))
     }
 }

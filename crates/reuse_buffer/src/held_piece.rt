@@ -13,6 +13,20 @@ pub struct HeldPiece {
     pub(crate) between: u16,
 }
 
+/// The bytes of a piece.
+pub(crate) fn bytes_of(held: Option<HeldPiece>) -> Option<Vec<u8>> {
+    match held {
+        Some(
+            HeldPiece {
+                bytes,
+                bucket: _,
+                between: _,
+            },
+        ) => Some(bytes),
+        None => None,
+    }
+}
+
 /// The bucket of a piece, of `count`.
 #[tactic(auto, unfolding(crate::specs::Index::bucket_of))]
 pub(crate) fn bucket_of(bytes: &[u8], count: u16) -> u16

@@ -4,7 +4,7 @@ ghost use Rattle.ideal_meaning.specs.Frames as frames;
 ghost use Rattle.reuse_buffer.specs.Kept.{kept};
 ghost use Rattle.reuse_buffer.specs.Index.{IsFirstOf, IsIndex, buckets_in, next_turn, place_at};
 
-use crate::held_piece::{HeldPiece, bucket_of};
+use crate::held_piece::{HeldPiece, bucket_of, bytes_of};
 use circular_buffer::HeapCircularBuffer;
 use std::alloc::{AllocError, Global};
 use std::marker::Model;
@@ -95,24 +95,26 @@ impl Ring {
         None
     }
 
-    /// Takes a piece in, as the last one. Where the ring is full, the oldest one goes.
-    pub fn push(&mut self, piece: Vec<u8>)
+    /// Takes a piece in, as the last one. Where the ring is full, the oldest one goes, and its memory is given back; where it holds none,
+    /// that of the piece itself.
+    pub fn push(&mut self, piece: Vec<u8>) -> Option<Vec<u8>>
         ensures last { (recent : List (List ℕ)) → self.old ≡ kept self.old.size recent → self.new ≡ kept self.old.size (piece.items ∷ recent) }
         ensures pieces { self.new ≡ kept self.old.size (piece.items ∷ self.old.pieces) }
     {
         let count = self.pieces.capacity() as u16;
         if count == 0 {
-            return;
+            return Some(piece);
         }
         let bucket = bucket_of(&piece, count);
         let between = first_of(&self.pieces, &self.newest, self.turn, bucket);
         self.turn = next_turn(count, self.turn);
         self.newest[usize::from(bucket)] = self.turn;
-        self.pieces.push_front(HeldPiece {
+        let oldest = self.pieces.push_front(HeldPiece {
             bytes: piece,
             bucket,
             between,
         });
+        bytes_of(oldest)
     }
 
     /// Forgets all pieces.

@@ -1,19 +1,21 @@
--- Where a link may break a play off, and where it may not: a script that opens a session, whose greeting came.
-use Rattle.std.proofs.Common.{inl, inr, ◌≡◌, ℕ, suc, ◌<◌, List, [], ◌∷◌, ◌++◌, codes, length, take, Some, None, refl, sym, ap, ◌∙◌, subst, arith}
+-- Where a link may break a play off, and where it may not; and what a read and a line that couldn't be written wait for: scripts that open a session.
+use Rattle.std.proofs.Common.{inl, inr, ◌≡◌, ℕ, suc, ◌<◌, List, [], ◌∷◌, ◌++◌, codes, length, take, drop, Some, None, refl, sym, ap, ◌∙◌, subst, arith}
 use Rattle.std.proofs.lemmas.List.{length-take-le}
 use Rattle.std.specs.Fmt.{digits}
 use Rattle.std.specs.Io.KnownBytes.{append_known}
+use Rattle.core_terms.specs.Roles.{Role}
 use Rattle.ideal_meaning.specs.Examples.{bool_program}
 use Rattle.session_meaning.specs.Calls.{no_role}
 use Rattle.session_meaning.specs.Client as client
-use Rattle.session_meaning.specs.Messages.{AtEnd, IsCut, Go, Hello, Call, Bye, BadMessage, TooLong, Welcome, messages, reply_bytes, reply_of, request_bytes}
+use Rattle.session_meaning.specs.Messages.{AtEnd, IsCut, Go, Hello, Call, Bye, BadMessage, Request, Stop, TooLong, Welcome, messages, reply_bytes, reply_of, request_bytes}
 use Rattle.session_meaning.specs.MessageRows.{text_digest}
-use Rattle.ask_script.specs.Scripts.{Calls, Goes, Opens}
-use Rattle.script_play.specs.DeedLines.{deed_bytes, lines_told}
-use Rattle.script_play.specs.Halting.{HaltsAt, IsUnmet}
+use Rattle.ask_script.specs.Scripts.{Calls, Closes, Goes, Opens}
+use Rattle.script_play.specs.DeedLines.{bytes_sent, deed_bytes, lines_told}
+use Rattle.script_play.specs.Halting.{HaltsAt, IsLeast, IsUnmet, StopsWithin}
 use Rattle.script_play.specs.PlayRows.{no_names, opened, played, state}
 use Rattle.script_play.specs.Playing.{World, done, world}
 use Rattle.script_play.specs.Plays.{Deed, Sends, Stops, Tells}
+use Rattle.script_play.specs.Prompt.{IsPromptOn}
 
 -- WHAT A LINK KEEPS FROM BEING DONE
 -- of the 7 bytes of a message that leaves a session, 6 were sent; had all been, it were done
@@ -110,3 +112,47 @@ greeting_untold h = by h.front h.next h.left h.count h.parted h.unmet h.sent h.w
         let clash : [] ≡ codes "1 welcome\n" ++ lines_told bool_program no_names front = cc in
         let sizes : 0 ≡ suc (length (codes " welcome\n" ++ lines_told bool_program no_names front)) = ap length clash in
         omega (arith, sizes)
+
+-- AT A READ
+-- What stops behind a request has sent it.
+sent_first : (r : Request) (x : ℕ) (xs : List ℕ) (tail front : List Deed) (stop : Stop) (behind : List Deed) → request_bytes r ≡ x ∷ xs
+    → Sends r ∷ tail ≡ front ++ Stops stop ∷ behind → Some [] ≡ Some (bytes_sent front) → ⊥
+sent_first r x xs tail [] stop behind begins parted sent = let e : Sends r ∷ tail ≡ Stops stop ∷ behind = parted in cc
+sent_first r x xs tail (a ∷ front) stop behind begins parted sent =
+    let same : a ≡ Sends r = let e : Sends r ∷ tail ≡ a ∷ (front ++ Stops stop ∷ behind) = parted in cc in
+    let e : Some [] ≡ Some ((x ∷ xs) ++ bytes_sent front) =
+    sent ∙ ap (λ (d : Deed). Some (deed_bytes d ++ bytes_sent front)) same ∙ ap (λ (b : List ℕ). Some (b ++ bytes_sent front)) begins in
+    cc
+
+-- no reply is waited for before the first request was sent
+read_unsent : IsPromptOn [] (Some []) (played (Opens 1 1 ∷ [])) (record { left = Some []; sent = Some [] }) → ⊥
+read_unsent on = by on.taken on.rest on.parted on.awaits.front on.awaits.stop on.awaits.behind on.awaits.parted on.awaits.sent_is
+  where
+    by : (taken rest : List ℕ) → [] ≡ taken ++ rest → (front : List Deed) (stop : Stop) (behind : List Deed)
+        → (played (Opens 1 1 ∷ []) (messages reply_of taken)).deeds ≡ front ++ Stops stop ∷ behind → Some [] ≡ Some (bytes_sent front) → ⊥
+    by [] rest all front stop behind parted sent = sent_first (Hello 1 text_digest 1 state) 0 (drop 1 hello) (Stops AtEnd ∷ []) front stop behind refl parted sent
+    by (x ∷ taken) rest all front stop behind parted sent = absurd (let e : [] ≡ x ∷ (taken ++ rest) = all in cc)
+
+read_sent : IsPromptOn [] (Some []) (played (Opens 1 1 ∷ [])) (record { left = Some []; sent = Some hello })
+read_sent = record {
+  taken = [];
+  rest = [];
+  parted = refl;
+  left = refl;
+  awaits = record { front = Sends (Hello 1 text_digest 1 state) ∷ []; stop = AtEnd; short = inl refl; behind = []; parted = refl; sent_is = refl };
+}
+
+-- A LINE THAT COULDN'T BE WRITTEN
+-- what was told stands in front of where a play stops
+told_within : (r : Request) (session : ℕ) (called : Role) (answer : client.Answer) (tail : List Deed) → StopsWithin (Sends r ∷ []) (Sends r ∷ Tells session called answer ∷ tail) → ⊥
+told_within r session called answer tail s = by s.before s.more s.within s.parted
+  where
+    by : (before more : List Deed) → Sends r ∷ [] ≡ before ++ more → Sends r ∷ Tells session called answer ∷ tail ≡ before ++ Stops s.stop ∷ s.behind → ⊥
+    by [] more within parted = let e : Sends r ∷ Tells session called answer ∷ tail ≡ Stops s.stop ∷ s.behind = parted in cc
+    by (a ∷ []) more within parted = let e : Sends r ∷ Tells session called answer ∷ tail ≡ a ∷ Stops s.stop ∷ s.behind = parted in cc
+    by (a ∷ (b ∷ before)) more within parted = let e : Sends r ∷ [] ≡ a ∷ (b ∷ (before ++ more)) = within in cc
+
+-- where the first line couldn't be written, no byte behind its reply had been taken
+none_further : IsLeast (played (Opens 1 1 ∷ Closes 1 ∷ [])) (reply_bytes (Welcome 1) ++ 0 ∷ []) (Sends (Hello 1 text_digest 1 state) ∷ []) → ⊥
+none_further least =
+    told_within (Hello 1 text_digest 1 state) 1 no_role client.TellsWelcome (Sends (Bye 1) ∷ Stops AtEnd ∷ []) (least (reply_bytes (Welcome 1)) 0 refl)

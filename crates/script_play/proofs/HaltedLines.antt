@@ -1,8 +1,9 @@
--- What a line that asks does on the bytes that came, and where the link kept its request from being sent: for the clauses `halts` of `ask`,
--- `ask_and_wait`, `let_run`, `play_step`.
+-- What a line that asks does on the bytes that came, and where the link kept its request from being sent: for the clauses `halts` and `prompt` of
+-- `ask`, `ask_and_wait`, `let_run`, `play_step`.
 use Rattle.std.proofs.Common.{◌≡◌, ℕ, Bool, true, false, List, [], ◌∷◌, ◌++◌, take, Option, Some, Result, Ok, Err, refl, sym, ap, ◌∙◌, subst}
 use Rattle.std.specs.Io.KnownBytes.{append_known}
 use Rattle.lam_outside.proofs.Moved.{append_none}
+use Rattle.lam_outside.specs.Moments.{AtEachRead, Moment}
 use Rattle.core_terms.specs.Formats.{Hash}
 use Rattle.core_terms.specs.Terms.{Program}
 use Rattle.printed_syntax.specs.Literals.{ConstructorNames}
@@ -11,11 +12,15 @@ use Rattle.session_meaning.specs.Client as meant
 use Rattle.session_meaning.specs.Messages.{Go, Messages, Reply, Request, messages, reply_of, request_bytes}
 use Rattle.ask_core.specs.Sessions.{some_waits}
 use Rattle.script_play.specs.Halting.{HaltsAt, OnLinkFault, PlaysTo, TakesSoFar}
-use Rattle.script_play.specs.Playing.{SendsRequest, World, done, is_sending, world}
+use Rattle.script_play.specs.Playing.{FailsToWrite, PlaysAs, SendsRequest, World, done, is_sending, world}
 use Rattle.script_play.specs.Plays.{Deed, Play, Sends, Tells, asked_play, asks, behind, goes_behind, if_goes, lets_run, most_rounds, rests, take_replies, then_play}
+use Rattle.script_play.specs.Prompt.{IsPromptOn}
 use Rattle.script_play.specs.declared.halt.Halt.{Halt}
-use Rattle.script_play.specs.declared.halt.Halt.TheVariants.{LinkFault}
+use Rattle.script_play.specs.declared.halt.Halt.TheVariants.{LinkFault, WriteFault}
+use Rattle.script_play.proofs.Awaited.{reads_behind}
 use Rattle.script_play.proofs.Halted.{halts_before, plays_to_behind}
+use Rattle.script_play.proofs.LeastTaken.{no_last}
+use Rattle.script_play.proofs.Worlds.{fails_as, fails_before}
 
 -- WHAT IS ASKED, WHATEVER COMES
 module _ (answer : meant.Answer) (c : meant.Client) (session : ℕ) (ms ms' : Messages Reply) (more : meant.Client → Messages Reply → Play) where
@@ -46,6 +51,30 @@ asks_goes answer c session ms ms' on = by (is_sending answer) refl
     by true e = asks_any answer c session ms ms' rests e
     by false e = asks_not answer c session ms ms' rests e on
 
+-- what is told in a request's place, whatever comes
+asks_deeds : (answer : meant.Answer) (c : meant.Client) (session : ℕ) (ms ms' : Messages Reply) → (asks answer c session ms rests).deeds ≡ (asks answer c session ms' rests).deeds
+asks_deeds answer c session ms ms' = by answer
+  where
+    goes : (d : Deed) (b : Bool) → d ∷ (if_goes b c ms rests).deeds ≡ d ∷ (if_goes b c ms' rests).deeds
+    goes d true = refl
+    goes d false = refl
+
+    by : (answer : meant.Answer) → (asks answer c session ms rests).deeds ≡ (asks answer c session ms' rests).deeds
+    by (meant.Sends request) = refl
+    by answer = goes (Tells session no_role answer) (goes_behind answer)
+
+-- what is so of what is told in a request's place, or of the request, is so with replies behind it
+line_before : (answer : meant.Answer) (c : meant.Client) (session : ℕ) (more : meant.Client → Messages Reply → Play) (Q : List Deed → Type 0)
+    → ((deeds more : List Deed) → Q deeds → Q (deeds ++ more)) → Q (asks answer c session (messages reply_of []) rests).deeds → Q (asks answer c session (messages reply_of []) more).deeds
+line_before answer c session more Q before = by answer
+  where
+    none : Messages Reply
+    none = messages reply_of []
+
+    by : (answer : meant.Answer) → Q (asks answer c session none rests).deeds → Q (asks answer c session none more).deeds
+    by (meant.Sends request) h = before (Sends request ∷ []) (more c none).deeds h
+    by answer h = h
+
 module _ (P : Program) (names : ConstructorNames) where
   -- A REQUEST THAT WASN'T SENT WHOLE
   unsent_halts : (request : Request) (more : List Deed) (sent sent' written last : Option (List ℕ)) → SendsRequest request sent sent' (Err LinkFault)
@@ -75,29 +104,28 @@ module _ (P : Program) (names : ConstructorNames) where
     -- its request, or what is told in its place, and the replies behind it, are broken off
     pub line_halts : (more : meant.Client → Messages Reply → Play) (w w1 : World) (halt : Halt)
         → OnLinkFault {T = Bool} (Err halt) (HaltsAt P names w w1 (asked_play t session (messages reply_of []) rests).deeds)
+        → PlaysAs P names {T = Bool} (λ c. c ≡ t.client) left' w w1 (asked_play t session (messages reply_of bytes) rests) (Err halt)
         → PlaysTo P names {T = Unit {0}} Is bytes left' w w1 (λ ms. asked_play t session ms more) (Err halt)
-    line_halts more w w1 LinkFault h = record {
+    line_halts more w w1 LinkFault h plays = record {
       taken = [];
       rest = bytes;
       parted = refl;
       left = told;
-      halts = by (is_sending t.answer) refl;
+      halts = line_before t.answer t.client session more (HaltsAt P names w w1) (halts_before P names w w1) h;
     }
-      where
-        none : Messages Reply
-        none = messages reply_of []
-
-        by : (b : Bool) → is_sending t.answer ≡ b → HaltsAt P names w w1 (asked_play t session none more).deeds
-        by true e =
-            subst (λ (p : Play). HaltsAt P names w w1 p.deeds) (sym (asks_any t.answer t.client session none none more e))
-            (halts_before P names w w1 (asked_play t session none rests).deeds (more t.client none).deeds h)
-        by false e = alone t.answer e h
-          where
-            alone : (answer : meant.Answer) → is_sending answer ≡ false → HaltsAt P names w w1 (asks answer t.client session none rests).deeds
-                → HaltsAt P names w w1 (asks answer t.client session none more).deeds
-            alone (meant.Sends request) e h = absurd (cc)
-            alone answer e h = h
-    line_halts more w w1 halt h = tt
+    line_halts more w w1 WriteFault h fails = record {
+      taken = [];
+      rest = bytes;
+      parted = refl;
+      left = told;
+      fails = record {
+        fails = line_before t.answer t.client session more (FailsToWrite P names w w1) (fails_before P names w w1)
+            (fails_as P names w w1 (asked_play t session (messages reply_of bytes) rests).deeds (asked_play t session (messages reply_of []) rests).deeds
+            (asks_deeds t.answer t.client session (messages reply_of []) (messages reply_of bytes)) fails);
+        least = λ before last is. absurd (no_last before last is);
+      };
+    }
+    line_halts more w w1 halt h plays = tt
 
     -- nothing is sent, or no reply is waited for, and the script goes on
     module _ (w w1 : World) (ms : Messages Reply) (goes : (asked_play t session ms rests).goes_on ≡ true) (worlds : w1 ≡ done P names w (asked_play t session ms rests).deeds) (stands : Is t.client) where
@@ -113,6 +141,7 @@ module _ (P : Program) (names : ConstructorNames) where
         stands = stands;
         worlds = worlds;
         plays_on = λ x. e (messages reply_of x);
+        least = λ before last is. absurd (no_last before last is);
       }
 
       pub line_alone : TakesSoFar P names Is bytes left' w w1 (λ ms. asked_play t session ms rests) rests
@@ -128,6 +157,13 @@ module _ (P : Program) (names : ConstructorNames) where
   line_more t session ms more w w1 w2 sends first Is bytes left' r plays =
       plays_to_behind P names w w1 w2 (asked_play t session ms rests).deeds first (λ ms. asked_play t session ms more) (more t.client)
       (λ ms'. asks_any t.answer t.client session ms ms' more sends) Is bytes left' r plays
+
+  pub line_prompt : (t : meant.Taken) (session : ℕ) (ms : Messages Reply) (more : meant.Client → Messages Reply → Play) (w w1 : World) → is_sending t.answer ≡ true
+      → w1 ≡ done P names w (asked_play t session ms rests).deeds → (bytes : List ℕ) (reads reads1 reads2 : Option (List Moment)) → reads1 ≡ reads
+      → AtEachRead (IsPromptOn bytes w1.sent (more t.client)) reads1 reads2 → AtEachRead (IsPromptOn bytes w.sent (λ ms. asked_play t session ms more)) reads reads2
+  line_prompt t session ms more w w1 sends first bytes reads reads1 reads2 same prompt =
+      reads_behind P names w w1 (asked_play t session ms rests).deeds first (λ ms. asked_play t session ms more) (more t.client)
+      (λ ms'. asks_any t.answer t.client session ms ms' more sends) bytes reads reads1 reads2 same prompt
 
   -- THE CALLS RUN
   module _ (hash : Hash) (own : List ℕ) (c : meant.Client) (calls : Bool) (some : calls ≡ true) (sent sent' written last : Option (List ℕ)) (Is : meant.Client → Type 0)
@@ -145,6 +181,7 @@ module _ (P : Program) (names : ConstructorNames) where
       halts = subst (λ (p : Play). HaltsAt P names (world sent written last) (world sent' written last) p.deeds) (sym (run_is (messages reply_of [])))
           (unsent_halts (Go most_rounds) (take_replies hash P own some_waits c (messages reply_of [])).deeds sent sent' written last s);
     }
+    run_halts told WriteFault s = absurd s
     run_halts told halt s = tt
 
     pub run_more : world sent' written last ≡ done P names (world sent written last) (Sends (Go most_rounds) ∷ []) → (w2 : World) (r : Result (Unit {0}) Halt)
@@ -153,3 +190,9 @@ module _ (P : Program) (names : ConstructorNames) where
     run_more first w2 r plays =
         plays_to_behind P names (world sent written last) (world sent' written last) w2 (Sends (Go most_rounds) ∷ []) first (lets_run hash P own calls c)
         (take_replies hash P own some_waits c) run_is Is bytes left' r plays
+
+    pub run_prompt : world sent' written last ≡ done P names (world sent written last) (Sends (Go most_rounds) ∷ []) → (reads reads1 reads2 : Option (List Moment)) → reads1 ≡ reads
+        → AtEachRead (IsPromptOn bytes sent' (take_replies hash P own some_waits c)) reads1 reads2 → AtEachRead (IsPromptOn bytes sent (lets_run hash P own calls c)) reads reads2
+    run_prompt first reads reads1 reads2 same prompt =
+        reads_behind P names (world sent written last) (world sent' written last) (Sends (Go most_rounds) ∷ []) first (lets_run hash P own calls c)
+        (take_replies hash P own some_waits c) run_is bytes reads reads1 reads2 same prompt

@@ -18,7 +18,7 @@ use Rattle.script_play.specs.declared.halt.Halt.TheVariants.{Ended, LinkFault, W
 use Rattle.script_play.specs.declared.telling.Telling.{Telling}
 use Rattle.script_play.proofs.Worlds.{nothing_done, worlds_same}
 
-no_deeds : (goes : Bool) (c : meant.Client) (ms : Messages Reply) → (if_goes goes c ms rests).deeds ≡ []
+pub no_deeds : (goes : Bool) (c : meant.Client) (ms : Messages Reply) → (if_goes goes c ms rests).deeds ≡ []
 no_deeds true c ms = refl
 no_deeds false c ms = refl
 

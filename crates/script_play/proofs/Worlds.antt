@@ -40,7 +40,7 @@ module _ (P : Program) (names : ConstructorNames) where
       (last_more w.last a b)
 
   module _ (w w1 w2 : World) (ds : List Deed) (first : w1 ≡ done P names w ds) where
-    front_is : (front : List Deed) → done P names w1 front ≡ done P names w (ds ++ front)
+    pub front_is : (front : List Deed) → done P names w1 front ≡ done P names w (ds ++ front)
     front_is front = ap (λ x. done P names x front) first ∙ done_more w ds front
 
     pub breaks_behind : (deeds : List Deed) → BreaksOff P names w1 w2 deeds → BreaksOff P names w w2 (ds ++ deeds)
@@ -54,7 +54,7 @@ module _ (P : Program) (names : ConstructorNames) where
       last = h.last ∙ ap (λ (x : World). x.last) (front_is h.front);
     }
 
-    pub fails_behind : (deeds : List Deed) → FailsToWrite P names w1 w2 deeds → FailsToWrite P names w w2 (ds ++ deeds)
+    abbrev pub fails_behind : (deeds : List Deed) → FailsToWrite P names w1 w2 deeds → FailsToWrite P names w w2 (ds ++ deeds)
     fails_behind deeds h = record {
       front = ds ++ h.front;
       next = h.next;
@@ -75,6 +75,19 @@ module _ (P : Program) (names : ConstructorNames) where
       plays_behind p (Err WriteFault) h = fails_behind p.deeds h
 
   module _ (w w2 : World) where
+    -- the same deeds, said otherwise
+    abbrev pub fails_as : (deeds deeds' : List Deed) → deeds' ≡ deeds → FailsToWrite P names w w2 deeds → FailsToWrite P names w w2 deeds'
+    fails_as deeds deeds' same h = record {
+      front = h.front;
+      next = h.next;
+      left = h.left;
+      parted = same ∙ h.parted;
+      count = h.count;
+      sent = h.sent;
+      written = h.written;
+      last = h.last;
+    }
+
     breaks_before : (deeds more : List Deed) → BreaksOff P names w w2 deeds → BreaksOff P names w w2 (deeds ++ more)
     breaks_before deeds more h = by h.left h.parted h.sent
       where
@@ -99,7 +112,7 @@ module _ (P : Program) (names : ConstructorNames) where
           last = h.last;
         }
 
-    fails_before : (deeds more : List Deed) → FailsToWrite P names w w2 deeds → FailsToWrite P names w w2 (deeds ++ more)
+    abbrev pub fails_before : (deeds more : List Deed) → FailsToWrite P names w w2 deeds → FailsToWrite P names w w2 (deeds ++ more)
     fails_before deeds more h = record {
       front = h.front;
       next = h.next;

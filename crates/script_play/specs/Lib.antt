@@ -1,7 +1,10 @@
 pub mod Plays
 pub mod PlayRuns
 pub mod DeedLines
+pub mod DeedRows
 pub mod PlayRows
 pub mod Playing
 pub mod Halting
+pub mod LawRows
+pub mod Prompt
 pub mod Tellings

@@ -1,6 +1,6 @@
 -- A play as a run of the client: the events of which its deeds come, and what is true of what is told.
 use Rattle.std.specs.Prelude.{◌≡◌, ◌⊎◌, ℕ, true, List, [], ◌∷◌, ◌++◌}
-use Rattle.std.specs.List.{All}
+use Rattle.std.specs.List.{All, flat_map}
 use Rattle.core_terms.specs.Formats.{Hash, IsFormat, IsHash}
 use Rattle.core_terms.specs.Projection.{projection}
 use Rattle.core_terms.specs.Spelling.{spelling}
@@ -11,7 +11,7 @@ use Rattle.session_meaning.specs.Calls.{no_role}
 use Rattle.session_meaning.specs.Client as client
 use Rattle.session_meaning.specs.Client.{Answer, Client, Event, Hears, Known, new_client, take_event}
 use Rattle.session_meaning.specs.ClientLaws.{BeginsWith, TrueUpToSplit, event_session, told_calls}
-use Rattle.session_meaning.specs.Messages.{Go, Messages, Reply, session_of}
+use Rattle.session_meaning.specs.Messages.{Go, Messages, Reply, Then, session_of}
 use Rattle.session_meaning.specs.Tables.{find}
 use Rattle.ask_core.specs.Sessions.{called_in}
 use Rattle.ask_script.specs.Scripts.{HasByteArgument, UserStep}
@@ -33,6 +33,19 @@ IsOfNone (Sends (Go rounds)) = Unit {0}
 IsOfNone (Stops stop) = Unit {0}
 IsOfNone deed = ⊥
 
+-- the reply that an event hears, if it hears one, and those that events hear, in order
+abbrev pub heard_by : Event → List Reply
+heard_by (Hears reply) = reply ∷ []
+heard_by e = []
+
+abbrev pub replies_heard : List Event → List Reply
+replies_heard events = flat_map heard_by events
+
+-- messages that begin with these replies
+abbrev pub begin_with : List Reply → Messages Reply → Messages Reply
+begin_with [] ms = ms
+begin_with (reply ∷ replies) ms = Then reply (begin_with replies ms)
+
 module _ (hash : Hash) (P : Program) (own : List ℕ) where
   -- Such deeds come of these events, one by one and in order, but for those that come of none; and this client stands behind them.
   abbrev pub Follows : Client → List Deed → List Event → Client → Type 0
@@ -46,11 +59,13 @@ module _ (hash : Hash) (P : Program) (own : List ℕ) where
   client_behind c [] = c
   client_behind c (e ∷ events) = client_behind (take_event hash P own c e).client events
 
-  -- What is told by deeds of a client without sessions is true. They come of events; and wherever among these a session begins with the spelling
+  -- What is told by deeds of a client without sessions is true, where these replies came and those behind were not taken. The deeds come of events,
+  -- which hear the replies that were taken, each as it came and no others; and wherever among these a session begins with the spelling
   -- of an ideal state's projection, the outcomes that it is told from there on are the projections of the ideal ones, each on the state that
   -- those before it leave, up to the first one at whose call there is a split.
-  pub record TellsTruth (deeds : List Deed) : Type 0 where
+  pub record TellsTruth (came coming : Messages Reply) (deeds : List Deed) : Type 0 where
     pub events : List Event
+    pub heard : came ≡ begin_with (replies_heard events) coming
     pub client : Client
     pub follows : Follows new_client deeds events client
     pub truth : (before behind : List Event) → events ≡ before ++ behind → (session : ℕ) (known : Known)
@@ -62,4 +77,4 @@ module _ (hash : Hash) (P : Program) (own : List ℕ) where
 abbrev pub PlaysTellTruth : Type 0
 PlaysTellTruth = (hash : Hash) → IsHash hash → (P : Program) → IsFormat P.format → IsTyped P → is_shaped P ≡ true
     → (own state : List ℕ) (steps : List UserStep) → All HasByteArgument steps → (ms : Messages Reply)
-    → TellsTruth hash P own (play hash P own state steps new_client ms).deeds
+    → let p = play hash P own state steps new_client ms in TellsTruth hash P own ms p.coming p.deeds

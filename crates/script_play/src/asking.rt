@@ -41,6 +41,7 @@ pub fn ask<L: Link, O: Sink>(
         (asked_play t session ms rests).deeds) }
     ensures sends { IfOk result (λ sent. (t : Taken) → Answers (λ c. Unit {0}) t answered → sent ≡ is_sending t.answer) }
     ensures memory { IfOk result (λ sent. IsAnswered answered) }
+    ensures reads { L.reads link.new ≡ L.reads link.old }
     ensures given { L.given link.new ≡ L.given link.old }
     ensures left { L.left link.new ≡ L.left link.old }
     ensures beyond { L.beyond link.new ≡ L.beyond link.old }
@@ -78,6 +79,7 @@ fn refused(alloc: Global, session: u16, fault: AskFault) -> Result<Telling, Allo
 pub fn send<L: Link>(alloc: Global, link: &mut L, request: &Request) -> Result<(), Halt>
     requires { IsRequest (request_meant request.now) }
     ensures sends { SendsRequest (request_meant request.now) (L.sent link.old) (L.sent link.new) result }
+    ensures reads { L.reads link.new ≡ L.reads link.old }
     ensures given { L.given link.new ≡ L.given link.old }
     ensures left { L.left link.new ≡ L.left link.old }
     ensures beyond { L.beyond link.new ≡ L.beyond link.old }

@@ -2,6 +2,7 @@
 ghost use Rattle.std.specs.Prelude.{◌≡◌, ℕ, List, Some, IfOk, length, map};
 ghost use Rattle.std.specs.List.{All};
 ghost use Rattle.mode_vm.specs.Meanings.{program_of};
+ghost use Rattle.lam_outside.specs.Moments.{AtEachRead};
 ghost use Rattle.session_meaning.specs.Client.{Client, Taken, waits};
 ghost use Rattle.session_meaning.specs.Messages.{IsRequest, Messages, Reply};
 ghost use Rattle.wire_form.specs.MessageViews.{request_meant};
@@ -12,6 +13,7 @@ ghost use Rattle.ask_script.specs.Scripts.{Fits};
 ghost use Rattle.script_play.specs.Halting.{PlaysTo};
 ghost use Rattle.script_play.specs.Plays.{asked_play, lets_run, play, play_step, take_replies};
 ghost use Rattle.script_play.specs.Playing.{Answers, AreComing, PlayCause, PlaysAs, names_of, own_of, world};
+ghost use Rattle.script_play.specs.Prompt.{IsPromptOn};
 
 use crate::asking::{ask, send};
 use crate::halt::Halt;
@@ -52,6 +54,8 @@ pub fn play<H: Hash32, L: Link, O: Sink>(
         → PlaysTo (program_of code) (names_of code) (StandsFor core.new) bytes (L.left link.new)
         (world (L.sent link.old) (O.written out.old) last.old) (world (L.sent link.new) (O.written out.new) last.new)
         (play H.hash (program_of code) (own_of code) state.now (map step_meant steps.now) c) result }
+    ensures prompt { let code = core.old.code in (c : Client) (bytes : List ℕ) → StandsFor core.old c → L.left link.old ≡ Some bytes
+        → AtEachRead (IsPromptOn bytes (L.sent link.old) (play H.hash (program_of code) (own_of code) state.now (map step_meant steps.now) c)) (L.reads link.old) (L.reads link.new) }
     ensures known { StandsForSome core.new }
     ensures code { core.new.code ≡ core.old.code }
     ensures moves { Moves (L.given link.old) (L.left link.old) (L.given link.new) (L.left link.new) }
@@ -87,6 +91,8 @@ fn play_step<H: Hash32, L: Link, O: Sink>(
         → PlaysTo (program_of code) (names_of code) (StandsFor core.new) bytes (L.left link.new)
         (world (L.sent link.old) (O.written out.old) last.old) (world (L.sent link.new) (O.written out.new) last.new)
         (play_step H.hash (program_of code) (own_of code) state.now (step_meant step.now) c) result }
+    ensures prompt { let code = core.old.code in (c : Client) (bytes : List ℕ) → StandsFor core.old c → L.left link.old ≡ Some bytes
+        → AtEachRead (IsPromptOn bytes (L.sent link.old) (play_step H.hash (program_of code) (own_of code) state.now (step_meant step.now) c)) (L.reads link.old) (L.reads link.new) }
     ensures known { StandsForSome core.new }
     ensures code { core.new.code ≡ core.old.code }
     ensures moves { Moves (L.given link.old) (L.left link.old) (L.given link.new) (L.left link.new) }
@@ -137,6 +143,9 @@ fn ask_and_wait<H: Hash32, L: Link, O: Sink>(
         → PlaysTo (program_of code) (names_of code) (StandsFor core.new) bytes (L.left link.new)
         (world (L.sent link.old) (O.written out.old) last.old) (world (L.sent link.new) (O.written out.new) last.new)
         (λ ms. asked_play t session ms (take_replies H.hash (program_of code) (own_of code) (λ c. waits c session))) result }
+    ensures prompt { let code = core.old.code in (t : Taken) (bytes : List ℕ) → Answers (StandsFor core.old) t answered → L.left link.old ≡ Some bytes
+        → AtEachRead (IsPromptOn bytes (L.sent link.old) (λ ms. asked_play t session ms (take_replies H.hash (program_of code) (own_of code) (λ c. waits c session))))
+        (L.reads link.old) (L.reads link.new) }
     ensures known { StandsForSome core.new }
     ensures code { core.new.code ≡ core.old.code }
     ensures moves { Moves (L.given link.old) (L.left link.old) (L.given link.new) (L.left link.new) }
@@ -167,6 +176,8 @@ fn let_run<H: Hash32, L: Link, O: Sink>(
         → PlaysTo (program_of code) (names_of code) (StandsFor core.new) bytes (L.left link.new)
         (world (L.sent link.old) (O.written out.old) last.old) (world (L.sent link.new) (O.written out.new) last.new)
         (lets_run H.hash (program_of code) (own_of code) (some_calls c) c) result }
+    ensures prompt { let code = core.old.code in (c : Client) (bytes : List ℕ) → StandsFor core.old c → L.left link.old ≡ Some bytes
+        → AtEachRead (IsPromptOn bytes (L.sent link.old) (lets_run H.hash (program_of code) (own_of code) (some_calls c) c)) (L.reads link.old) (L.reads link.new) }
     ensures known { StandsForSome core.new }
     ensures code { core.new.code ≡ core.old.code }
     ensures moves { Moves (L.given link.old) (L.left link.old) (L.given link.new) (L.left link.new) }

@@ -8,6 +8,9 @@ ghost use Rattle.ask_core.specs.Sessions.{StandsFor, StandsForSome, sessions_wai
 ghost use Rattle.script_play.specs.Halting.{PlaysTo, TakesNext};
 ghost use Rattle.script_play.specs.Plays.{take_replies};
 ghost use Rattle.script_play.specs.Playing.{AreComing, IsCutShort, PlayCause, PlaysAs, names_of, own_of, take_one, waits_for, world};
+ghost use Rattle.std.specs.Option.{ForSome};
+ghost use Rattle.lam_outside.specs.Moments.{AtEachRead};
+ghost use Rattle.script_play.specs.Prompt.{IsPromptOn, WaitsForReply};
 ghost use Rattle.script_play.specs.Tellings.{IsNext, IsStopTold};
 
 use crate::halt::Halt;
@@ -58,6 +61,8 @@ pub fn take_replies<H: Hash32, L: Link, O: Sink>(
     ensures halts { let code = core.old.code in (c : Client) (bytes : List ℕ) → StandsFor core.old c → L.left link.old ≡ Some bytes
         → PlaysTo (program_of code) (names_of code) (StandsFor core.new) bytes (L.left link.new)
         (world (L.sent link.old) (O.written out.old) last.old) (world (L.sent link.new) (O.written out.new) last.new) (take_replies H.hash (program_of code) (own_of code) (waits_for whose) c) result }
+    ensures prompt { let code = core.old.code in (c : Client) (bytes : List ℕ) → StandsFor core.old c → L.left link.old ≡ Some bytes
+        → AtEachRead (IsPromptOn bytes (L.sent link.old) (take_replies H.hash (program_of code) (own_of code) (waits_for whose) c)) (L.reads link.old) (L.reads link.new) }
     ensures known { StandsForSome core.new }
     ensures code { core.new.code ≡ core.old.code }
     ensures moves { Moves (L.given link.old) (L.left link.old) (L.given link.new) (L.left link.new) }
@@ -87,6 +92,7 @@ fn take_one<H: Hash32, L: Link, O: Sink>(
         → PlaysTo (program_of code) (names_of code) (StandsFor core.new) bytes (L.left link.new)
         (world (L.sent link.old) (O.written out.old) last.old) (world (L.sent link.new) (O.written out.new) last.new) (take_one H.hash (program_of code) (own_of code) c) result }
     ensures fewer { OnOk result (sessions_waiting core.new < sessions_waiting core.old) }
+    ensures waits { ForSome (L.left link.old) (λ bytes. AtEachRead (WaitsForReply bytes (L.sent link.old)) (L.reads link.old) (L.reads link.new)) }
     ensures known { StandsForSome core.new }
     ensures code { core.new.code ≡ core.old.code }
     ensures moves { Moves (L.given link.old) (L.left link.old) (L.given link.new) (L.left link.new) }
@@ -110,6 +116,7 @@ fn next_telling<H: Hash32, L: Link>(
     ensures takes { let code = core.old.code in (c : Client) (bytes : List ℕ) → StandsFor core.old c → L.left link.old ≡ Some bytes
         → TakesNext H.hash (program_of code) (names_of code) (own_of code) (StandsFor core.new) bytes (L.left link.new) c result }
     ensures fewer { IfOk result (λ telling. telling.goes_on ≡ true → sessions_waiting core.new < sessions_waiting core.old) }
+    ensures waits { ForSome (L.left link.old) (λ bytes. AtEachRead (WaitsForReply bytes (L.sent link.old)) (L.reads link.old) (L.reads link.new)) }
     ensures known { StandsForSome core.new }
     ensures code { core.new.code ≡ core.old.code }
     ensures sent { L.sent link.new ≡ L.sent link.old }

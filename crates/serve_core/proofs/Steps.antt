@@ -13,11 +13,12 @@ use Rattle.session_tables.specs.Tables.{rows_of}
 use Rattle.session_tables.proofs.Related.{find_related}
 use Rattle.session_turns.specs.Refusals.{IsTestedAs, refusal_meant}
 use Rattle.session_turns.specs.Sessions.{IsSession}
-use Rattle.session_turns.specs.Sharing.{Shares}
+use Rattle.session_turns.specs.Sharing.{AreKept, Shares}
 use Rattle.session_turns.specs.declared.refusal.Denial.{Denial}
 use Rattle.session_turns.specs.declared.refusal.Denial.TheVariants.{Refused, NoMemory}
 use Rattle.session_turns.specs.declared.refusal.Refusal.{Refusal}
 use Rattle.session_turns.specs.declared.session.Session.{Session}
+use Rattle.session_turns.specs.declared.shared.Shared.{Shared}
 use Rattle.value_store.specs.Stores.{nodes_in}
 use Rattle.serve_core.specs.Requests.{IsDenied, IsRefusal}
 use Rattle.serve_core.specs.Serving.{HandlesAs, Serves}
@@ -157,6 +158,15 @@ module _ (hash : Hash) {A G : Type 0} where
             (subst (λ slice. AreRows (IsSession hash core.code slice (nodes_in new.shared.store) server.shared.versions) (rows_of new.sessions) server.sessions) (sym slice)
             (subst (λ shared. AreRows (IsSession hash core.code core.slice (nodes_in shared.store) server.shared.versions) (rows_of new.sessions) server.sessions) (sym shared) rows));
       }
+
+  -- the core with other known digests
+  pub still_serves : (core : ServeCore A G) (server : meant.Server) (shared : Shared) → AreKept core.shared shared → Shares hash (program_of core.code) shared server.shared
+      → Serves hash core server → Serves hash (record core { shared = shared }) server
+  still_serves core server shared kept shares h = record {
+    shares = shares;
+    heard = h.heard;
+    sessions = subst (λ store. AreRows (IsSession hash core.code core.slice (nodes_in store) server.shared.versions) (rows_of core.sessions) server.sessions) (sym kept.store) h.sessions;
+  }
 
   -- the core without sessions, before its next connection
   pub without_sessions : (new : ServeCore A G) (m : meant.Shared) → Shares hash (program_of new.code) new.shared m → rows_of new.sessions ≡ [] → new.heard ≡ 0

@@ -13,3 +13,4 @@ mod server;
 
 pub use heard::{Heard, Replies};
 pub use server::ServeCore;
+pub use session_turns::round;

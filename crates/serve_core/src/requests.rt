@@ -76,7 +76,7 @@ impl<H: Hash32, G: Gate + Drop> ServeCore<H, G> {
         ensures answered { let P = program_of self.old.code in let own = (program_in self.old.code).text_digest.0 in
             IfOk result (λ replies. (server : meant.Server) → Serves H.hash self.old server → HandlesAs H.hash self.new replies
             (meant.hello_step (meant.hello_test H.hash P own (meant.last_turn self.old.slice) server number program.now.0 kept state.now) server number kept)) }
-        ensures shared { self.new.shared ≡ self.old.shared }
+        ensures shares { let P = program_of self.old.code in (m : meant.Shared) → Shares H.hash P self.old.shared m → Shares H.hash P self.new.shared m }
         ensures code { self.new.code ≡ self.old.code }
         ensures slice { self.new.slice ≡ self.old.slice }
     {

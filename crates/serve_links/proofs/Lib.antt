@@ -6,6 +6,7 @@ mod Serving
 mod Broken
 mod Stopping
 mod Answering
+mod Prompting
 -- a connection: serve_link
 mod SoFar
 -- links one after another: serve_next, serve_links

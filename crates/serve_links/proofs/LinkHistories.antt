@@ -40,7 +40,7 @@ module _ (goes_on : HistoryGoesOn) (stopped : StopsKeepHistory) (heard_on : Conn
         → AreServed hash P own ending server links faulted behind → KeepsHistory P behind
     links_keep server [] faulted behind h are = subst (KeepsHistory P) (sym are.1) h
     links_keep server (link ∷ links) faulted behind h (first, others, next, is, are, e) =
-        links_keep next links others behind (link_keeps server (bytes_on link) link.given link.sent is.end next h is.served) are
+        links_keep next links others behind (link_keeps server (bytes_on link) link.given link.sent is.end next h is.served.served) are
 
   pub links_keep_history : LinksKeepHistory
   links_keep_history = links_keep
@@ -48,4 +48,4 @@ module _ (goes_on : HistoryGoesOn) (stopped : StopsKeepHistory) (heard_on : Conn
   pub parts_keep_history : PartsKeepHistory
   parts_keep_history hash P own ending server links behind h are =
       link_keeps hash P own ending are.next (bytes_on are.last) are.last.given are.last.sent connection.NoMemory behind
-      (links_keep hash P own ending server are.before are.faulted are.next h are.served) are.broken
+      (links_keep hash P own ending server are.before are.faulted are.next h are.served) are.broken.served

@@ -1,6 +1,7 @@
 -- Links that were served, and one more: for serve_next and serve_links.
 use Rattle.std.proofs.Common.{inr, ◌≡◌, ℕ, ◌+◌, ◌<◌, Bool, true, false, ◌||◌, List, [], ◌∷◌, ◌++◌, Option, Some, None, Result, Ok, Err, refl, sym, ap, subst, ◌∙◌, arith, append_assoc, length-append}
 use Rattle.std.specs.List.{AllByRecursion}
+use Rattle.std.specs.Option.{ForSome}
 use Rattle.std.proofs.lemmas.List.{append_cancel_right}
 use Rattle.std.specs.Io.KnownBytes.{append_known, prepend_known}
 use Rattle.core_terms.specs.Formats.{Hash}
@@ -10,6 +11,7 @@ use Rattle.code_gen.specs.Programs.{program_in}
 use Rattle.mode_vm.specs.Meanings.{program_of}
 use Rattle.lam_outside.specs.Causes.{Rose}
 use Rattle.lam_outside.specs.Links.{Linked, links_so_far, IsMade, nothing_yet}
+use Rattle.lam_outside.specs.Moments.{AtEachRead, Moment}
 use Rattle.session_meaning.specs.Server.{Server, last_turn}
 use Rattle.wire_form.specs.MovedBytes.{Moves}
 use Rattle.serve_core.specs.Serving.{Serves}
@@ -17,6 +19,7 @@ use Rattle.serve_core.specs.declared.server.ServeCore.{ServeCore}
 use Rattle.serve_links.specs.Connections.{IsServed}
 use Rattle.serve_links.specs.Histories.{HasSameCode, own_digest, program_served, turns_of}
 use Rattle.serve_links.specs.Messages.{Ends, HaltCause}
+use Rattle.serve_links.specs.Prompt.{IsPrompt}
 use Rattle.serve_links.specs.ServedLinks.{AreCounted, AreMore, AreMoreInPart, AreMoreServed, AreServed, IsLinkServed, IsOneServed, IsOneWhole, IsServedOn, LinkCause, ServesNext}
 use Rattle.serve_links.specs.declared.halt.Halt.{Halt}
 use Rattle.serve_links.specs.declared.halt.Halt.TheVariants as halt
@@ -24,25 +27,39 @@ use Rattle.serve_links.specs.declared.connection.ConnectionEnd.{ConnectionEnd}
 use Rattle.serve_links.specs.declared.connection.ConnectionEnd.TheVariants as connection
 
 -- What is told of the link that stands, where the links are told.
-pub record IsTold (ended : Option (List Linked)) (port : ℕ) (given left sent : Option (List ℕ)) (after : List Linked) : Type 0 where
+pub record IsTold (ended : Option (List Linked)) (port : ℕ) (given left sent : Option (List ℕ)) (reads : Option (List Moment)) (after : List Linked) : Type 0 where
   pub before : List Linked
   pub read : List ℕ
   pub rest : List ℕ
   pub out : List ℕ
+  pub begun : List Moment
   pub ended_is : ended ≡ Some before
   pub given_is : given ≡ Some read
   pub left_is : left ≡ Some rest
   pub sent_is : sent ≡ Some out
-  pub all : after ≡ before ++ record { port = port; given = read; left = rest; sent = out } ∷ []
+  pub reads_are : reads ≡ Some begun
+  pub all : after ≡ before ++ record { port = port; given = read; left = rest; sent = out; reads = begun } ∷ []
 
-pub told : (ended : Option (List Linked)) (port : ℕ) (given left sent : Option (List ℕ)) (after : List Linked) → links_so_far ended (Some port) given left sent ≡ Some after
-    → IsTold ended port given left sent after
-told (Some before) port (Some read) (Some rest) (Some out) after is =
-    record { before = before; read = read; rest = rest; out = out; ended_is = refl; given_is = refl; left_is = refl; sent_is = refl; all = sym (cc (is)) }
-told None port given left sent after is = absurd (let clash : None ≡ Some after = is in cc)
-told (Some before) port None left sent after is = absurd (let clash : None ≡ Some after = is in cc)
-told (Some before) port (Some read) None sent after is = absurd (let clash : None ≡ Some after = is in cc)
-told (Some before) port (Some read) (Some rest) None after is = absurd (let clash : None ≡ Some after = is in cc)
+pub told : (ended : Option (List Linked)) (port : ℕ) (given left sent : Option (List ℕ)) (reads : Option (List Moment)) (after : List Linked)
+    → links_so_far ended (Some port) given left sent reads ≡ Some after → IsTold ended port given left sent reads after
+told (Some before) port (Some read) (Some rest) (Some out) (Some begun) after is = record {
+  before = before;
+  read = read;
+  rest = rest;
+  out = out;
+  begun = begun;
+  ended_is = refl;
+  given_is = refl;
+  left_is = refl;
+  sent_is = refl;
+  reads_are = refl;
+  all = sym (cc (is));
+}
+told None port given left sent reads after is = absurd (let clash : None ≡ Some after = is in cc)
+told (Some before) port None left sent reads after is = absurd (let clash : None ≡ Some after = is in cc)
+told (Some before) port (Some read) None sent reads after is = absurd (let clash : None ≡ Some after = is in cc)
+told (Some before) port (Some read) (Some rest) None reads after is = absurd (let clash : None ≡ Some after = is in cc)
+told (Some before) port (Some read) (Some rest) (Some out) None after is = absurd (let clash : None ≡ Some after = is in cc)
 
 -- bytes behind nothing are these bytes, where they are told
 pub from_nothing : (first given : Option (List ℕ)) (more all : List ℕ) → first ≡ nothing_yet given → Some all ≡ append_known first more → all ≡ more
@@ -50,15 +67,32 @@ from_nothing first (Some bytes) more all none is =
     let e : Some all ≡ Some more = is ∙ ap (λ w. append_known w more) none in cc
 from_nothing first None more all none is = absurd (let clash : Some all ≡ None = is ∙ ap (λ w. append_known w more) none in cc)
 
+-- nothing was sent by now on a link that tells what is sent later
+pub nothing_sent : (first sent : Option (List ℕ)) (out more : List ℕ) → first ≡ nothing_yet sent → Some out ≡ append_known first more → first ≡ Some []
+nothing_sent first (Some bytes) out more none is = none
+nothing_sent first None out more none is = absurd (let clash : Some out ≡ None = is ∙ ap (λ w. append_known w more) none in cc)
+
+-- what stood at each read since the link was made stood at all of its reads
+pub all_stood : (Q : Moment → Type 0) (reads reads' : Option (List Moment)) (begun : List Moment) → ForSome reads (λ moments. moments ≡ []) → reads' ≡ Some begun
+    → AtEachRead Q reads reads' → AllByRecursion Q begun
+all_stood Q reads reads' begun none are stood =
+    let each = stood begun are in
+    let same : begun ≡ each.more = each.all ∙ ap (λ moments. moments ++ each.more) (none each.before each.told) in
+    subst (AllByRecursion Q) (sym same) each.stood
+
 module _ (hash : Hash) {A G : Type 0} (old new : ServeCore A G) (server : Server) (port : ℕ) where
+  abbrev IsPromptOn : List ℕ → Option (List ℕ) → Moment → Type 0
+  IsPromptOn = IsPrompt hash (program_served old) (own_digest old) (turns_of old) server
+
   -- A link was made and served.
   pub one_served : (links ended1 ended2 : Option (List Linked)) (port1 port2 : Option ℕ) (given0 sent0 given1 left1 sent1 given2 left2 sent2 : Option (List ℕ))
-      (end : ConnectionEnd) (after : List Linked) → IsMade port links ended1 port1 given0 sent0 given1 sent1 → ended2 ≡ ended1 → port2 ≡ port1
-      → Moves given1 left1 given2 left2
+      (reads1 reads2 : Option (List Moment)) (end : ConnectionEnd) (after : List Linked)
+      → IsMade port links ended1 port1 given0 sent0 given1 sent1 reads1 → ended2 ≡ ended1 → port2 ≡ port1 → Moves given1 left1 given2 left2
       → ((bytes : List ℕ) → left1 ≡ Some bytes → Ends hash old new server sent1 sent2 bytes left2 end)
-      → links_so_far ended2 port2 given2 left2 sent2 ≡ Some after → IsOneServed hash old new server port links after end
-  one_served links ended1 ended2 port1 port2 given0 sent0 given1 left1 sent1 given2 left2 sent2 end after made same at moves ends is =
-      let told_now = told ended2 port given2 left2 sent2 after (ap (λ (p : Option ℕ). links_so_far ended2 p given2 left2 sent2) (sym (at ∙ made.at_port)) ∙ is) in
+      → ((bytes : List ℕ) → left1 ≡ Some bytes → AtEachRead (IsPromptOn bytes sent1) reads1 reads2)
+      → links_so_far ended2 port2 given2 left2 sent2 reads2 ≡ Some after → IsOneServed hash old new server port links after end
+  one_served links ended1 ended2 port1 port2 given0 sent0 given1 left1 sent1 given2 left2 sent2 reads1 reads2 end after made same at moves ends prompt is =
+      let told_now = told ended2 port given2 left2 sent2 reads2 after (ap (λ (p : Option ℕ). links_so_far ended2 p given2 left2 sent2 reads2) (sym (at ∙ made.at_port)) ∙ is) in
       let came : left1 ≡ Some (moves.0 ++ told_now.rest) = moves.1 ∙ ap (prepend_known moves.0) told_now.left_is in
       let e = ends (moves.0 ++ told_now.rest) came in
       let read : told_now.read ≡ moves.0 = from_nothing given1 given0 moves.0 told_now.read made.none_given (sym told_now.given_is ∙ moves.2) in
@@ -70,14 +104,22 @@ module _ (hash : Hash) {A G : Type 0} (old new : ServeCore A G) (server : Server
       let WithTaken : List ℕ → Type 0 = λ taken. Served moves.0 taken e.out in
       let WithOut : List ℕ → Type 0 = λ out. Served moves.0 moves.0 out in
       let WithRead : List ℕ → Type 0 = λ read. Served read read told_now.out in
+      let first : sent1 ≡ Some [] = nothing_sent sent1 sent0 told_now.out e.out made.none_sent (sym told_now.sent_is ∙ e.sends) in
+      let Prompt : List ℕ → Option (List ℕ) → Type 0 = λ read sent. AllByRecursion (IsPromptOn (read ++ told_now.rest) sent) told_now.begun in
+      let stood : Prompt moves.0 sent1 =
+      all_stood (IsPromptOn (moves.0 ++ told_now.rest) sent1) reads1 reads2 told_now.begun made.none_begun told_now.reads_are (prompt (moves.0 ++ told_now.rest) came) in
+      let from_first : Prompt moves.0 (Some []) = subst (λ sent. Prompt moves.0 sent) first stood in
       record {
         before = told_now.before;
-        link = record { port = port; given = told_now.read; left = told_now.rest; sent = told_now.out };
+        link = record { port = port; given = told_now.read; left = told_now.rest; sent = told_now.out; reads = told_now.begun };
         behind = e.behind;
         told = sym made.others_ended ∙ sym same ∙ told_now.ended_is;
         all = told_now.all;
         at_port = refl;
-        served = subst WithRead (sym read) (subst WithOut (sym out) (subst WithTaken taken e.served));
+        served = record {
+          served = subst WithRead (sym read) (subst WithOut (sym out) (subst WithTaken taken e.served));
+          prompt = subst (λ read. Prompt read (Some [])) (sym read) from_first;
+        };
         serves = e.serves;
       }
 

@@ -20,6 +20,11 @@ use Rattle.serve_links.specs.declared.halt.Halt.{Halt}
 use Rattle.serve_links.specs.declared.halt.Halt.TheVariants as halt
 use Rattle.serve_links.proofs.Answering.{append_nothing}
 use Rattle.serve_links.proofs.Broken.{goes_on}
+use Rattle.serve_links.proofs.Prompting.{prompt_now, replied_on}
+use Rattle.lam_outside.specs.Moments.{AtEachRead, Moment}
+use Rattle.lam_outside.proofs.Waiting.{reads_on, reads_weaken}
+use Rattle.session_meaning.specs.Connections.{bytes_sent}
+use Rattle.serve_links.specs.Prompt.{IsPrompt, WaitsForOne}
 use Rattle.serve_links.proofs.Serving.{served_more}
 
 prepend_nothing : (w : Option (List ℕ)) → w ≡ prepend_known [] w
@@ -35,6 +40,12 @@ module _ (hash : Hash) where
   abbrev IsServedBy : Code → ℕ → Server → (bytes taken sent : List ℕ) → ConnectionEnd → (behind : Server) → Type 0
   IsServedBy code slice = IsServed hash (program_of code) (program_in code).text_digest.0 (last_turn slice)
 
+-- To these bytes is replied this, and then what another server replies to others.
+abbrev IsRepliedBy : Hash → Code → ℕ → Server → (bytes out : List ℕ) → Server → List ℕ → Type 0
+IsRepliedBy hash code slice server bytes out next further =
+    bytes_sent hash (program_of code) (program_in code).text_digest.0 (last_turn slice) server bytes
+    ≡ out ++ bytes_sent hash (program_of code) (program_in code).text_digest.0 (last_turn slice) next further
+
 module _ (hash : Hash) {A G : Type 0} where
   -- A core served this server as the bytes began to come, and serves one now that goes on with those that are left: whatever that
   -- one sends then was sent on the whole connection, behind what was sent by now.
@@ -47,6 +58,7 @@ module _ (hash : Hash) {A G : Type 0} where
     pub all : bytes ≡ taken ++ rest
     pub told : left' ≡ Some rest
     pub serves : Serves hash now current
+    pub replied : (further : List ℕ) → IsRepliedBy hash old.code old.slice server (taken ++ further) out current further
     pub behind : (further more : List ℕ) (end : ConnectionEnd) (last : Server) → IsServedBy hash old.code old.slice current rest further more end last
         → IsServedBy hash old.code old.slice server bytes (taken ++ further) (out ++ more) end last
 
@@ -80,6 +92,7 @@ module _ (hash : Hash) {A G : Type 0} where
     all = refl;
     told = told;
     serves = serves;
+    replied = λ further. refl;
     behind = λ further more end last served. served;
   }
 
@@ -107,6 +120,15 @@ module _ (hash : Hash) {A G : Type 0} where
         all = so_far.all ∙ ap (λ l. so_far.taken ++ l) on.all ∙ sym (append_assoc so_far.taken on.taken on.rest);
         told = on.told;
         serves = on.serves;
+        replied = λ further.
+            let said = bytes_of (step_of hash now so_far.current (Hears on.request)).replies in
+            let next = (step_of hash now so_far.current (Hears on.request)).server in
+            let one = replied_on hash (program_served now) (own_digest now) (turns_of now) so_far.current on.taken further on.request on.came on.stays_open in
+            let first : IsRepliedBy hash old.code old.slice so_far.current (on.taken ++ further) said next further =
+            of_code (λ code slice. IsRepliedBy hash code slice so_far.current (on.taken ++ further) said next further) one in
+            let B = bytes_sent hash (program_of old.code) (program_in old.code).text_digest.0 (last_turn old.slice) in
+            ap (B server) (append_assoc so_far.taken on.taken further) ∙ so_far.replied (on.taken ++ further) ∙ ap (λ l. so_far.out ++ l) first
+            ∙ sym (append_assoc so_far.out said (B next further));
         behind = λ further more end last served.
             let said = bytes_of (step_of hash now so_far.current (Hears on.request)).replies in
             let next = (step_of hash now so_far.current (Hears on.request)).server in
@@ -125,6 +147,17 @@ module _ (hash : Hash) {A G : Type 0} where
               let OfCode : Code → Type 0 = λ code. P code old.slice in
               let OfSlice : ℕ → Type 0 = λ slice. P now.code slice in
               subst OfSlice (sym same.slice) (subst OfCode (sym same.code) is)
+
+      -- as the next message is waited for, all was replied
+      pub waits_more : (reads reads' reads'' : Option (List Moment))
+          → AtEachRead (IsPrompt hash (program_served old) (own_digest old) (turns_of old) server bytes sent) reads reads'
+          → AtEachRead (WaitsForOne so_far.rest sent') reads' reads''
+          → AtEachRead (IsPrompt hash (program_served old) (own_digest old) (turns_of old) server bytes sent) reads reads''
+      waits_more reads reads' reads'' before waits =
+          let Q = IsPrompt hash (program_served old) (own_digest old) (turns_of old) server bytes sent in
+          reads_on Q reads reads' reads'' before (reads_weaken (WaitsForOne so_far.rest sent') Q
+          (prompt_now hash (program_served old) (own_digest old) (turns_of old) server so_far.current bytes so_far.taken so_far.rest so_far.out sent sent' so_far.all so_far.sends so_far.replied)
+          reads' reads'' waits)
 
       -- the connection ends at the next message
       pub ends_now : (new : ServeCore A G) (left'' : Option (List ℕ)) (end : ConnectionEnd) → Ends hash now new so_far.current sent' sent'' so_far.rest left'' end

@@ -10,6 +10,7 @@ use Rattle.serve_core.specs.Serving.{Serves}
 use Rattle.serve_core.specs.declared.server.ServeCore.{ServeCore}
 use Rattle.serve_links.specs.Connections.{IsServed}
 use Rattle.serve_links.specs.Histories.{HasServed, own_digest, program_served, turns_of}
+use Rattle.serve_links.specs.Prompt.{IsPrompt}
 use Rattle.serve_links.specs.declared.connection.ConnectionEnd.{ConnectionEnd}
 use Rattle.serve_links.specs.declared.connection.ConnectionEnd.TheVariants as connection
 use Rattle.serve_links.specs.declared.halt.Halt.{Halt}
@@ -28,9 +29,11 @@ is_fault connection.LinkFault = true
 is_fault connection.NoMemory = false
 
 module _ (hash : Hash) (P : Program) (own : List ℕ) (ending : ℕ → ℕ) where
-  -- this link was served, and ended so
-  abbrev pub IsServedOn : Server → Linked → ConnectionEnd → (behind : Server) → Type 0
-  IsServedOn server link end behind = IsServed hash P own ending server (bytes_on link) link.given link.sent end behind
+  -- This link was served, and ended so; and at each read all that is replied to the messages of the bytes that were taken by then had been sent, and
+  -- no more.
+  pub record IsServedOn (server : Server) (link : Linked) (end : ConnectionEnd) (behind : Server) : Type 0 where
+    pub served : IsServed hash P own ending server (bytes_on link) link.given link.sent end behind
+    pub prompt : AllByRecursion (IsPrompt hash P own ending server (bytes_on link) (Some [])) link.reads
 
   -- a link was served without want of memory
   pub record IsLinkServed (server : Server) (link : Linked) (faulted : Bool) (behind : Server) : Type 0 where

@@ -4,9 +4,11 @@ ghost use Rattle.std.specs.Option.{ForSome};
 ghost use Rattle.session_meaning.specs.Server.{HearsEnd, Server};
 ghost use Rattle.serve_core.specs.Serving.{Serves};
 ghost use Rattle.serve_links.specs.Ends.{EndCause, IsBroken, StaysServer};
-ghost use Rattle.serve_links.specs.Histories.{HasSameCode, HasServed, step_of};
+ghost use Rattle.serve_links.specs.Histories.{HasSameCode, HasServed, own_digest, program_served, step_of, turns_of};
 ghost use Rattle.serve_links.specs.Messages.{Ends};
+ghost use Rattle.serve_links.specs.Prompt.{IsPrompt};
 ghost use Rattle.wire_form.specs.MovedBytes.{Moves};
+ghost use Rattle.lam_outside.specs.Moments.{AtEachRead};
 
 use crate::halt::Halt;
 use crate::message::serve_message;
@@ -45,6 +47,8 @@ pub fn serve_link<H: Hash32, G: Gate + Drop, L: Link, R: Threads + Sync>(
         → Ends H.hash core.old core.new server (L.sent link.old) (L.sent link.new) bytes (L.left link.new) result) }
     ensures history { StaysServer H.hash core.new result }
     ensures code { HasSameCode core.old core.new }
+    ensures prompt { ForSome (L.left link.old) (λ bytes. (server : Server) → Serves H.hash core.old server
+        → AtEachRead (IsPrompt H.hash (program_served core.old) (own_digest core.old) (turns_of core.old) server bytes (L.sent link.old)) (L.reads link.old) (L.reads link.new)) }
     ensures moves { Moves (L.given link.old) (L.left link.old) (L.given link.new) (L.left link.new) }
     ensures beyond { L.beyond link.new ≡ L.beyond link.old }
     ensures cause { EndCause (L.faults link.old) (L.faults link.new) result }

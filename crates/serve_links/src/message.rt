@@ -6,7 +6,9 @@ ghost use Rattle.session_meaning.specs.Server.{Server};
 ghost use Rattle.serve_core.specs.Serving.{Serves, heard_meant};
 ghost use Rattle.serve_links.specs.Histories.{HasSameCode, HasServed};
 ghost use Rattle.serve_links.specs.Messages.{Answers, CountsMessage, HaltCause, HearsNext, ServesMessage, StaysServing, asks};
+ghost use Rattle.serve_links.specs.Prompt.{WaitsForOne};
 ghost use Rattle.wire_form.specs.MovedBytes.{Moves};
+ghost use Rattle.lam_outside.specs.Moments.{AtEachRead};
 
 use crate::halt::Halt;
 use crate::sending::send_replies;
@@ -22,6 +24,7 @@ use wire_form::{ReadStop, read_request};
 fn next_heard<L: Link>(alloc: Global, link: &mut L) -> Result<Heard, Halt>
     ensures hears { ForSome (L.left link.old) (λ bytes. HearsNext bytes (L.left link.new) result) }
     ensures message { IfOk result (λ heard. IsHeard (heard_meant heard)) }
+    ensures waits { ForSome (L.left link.old) (λ bytes. AtEachRead (WaitsForOne bytes (L.sent link.old)) (L.reads link.old) (L.reads link.new)) }
     ensures moves { Moves (L.given link.old) (L.left link.old) (L.given link.new) (L.left link.new) }
     ensures sent { L.sent link.new ≡ L.sent link.old }
     ensures beyond { L.beyond link.new ≡ L.beyond link.old }
@@ -50,6 +53,7 @@ fn answer<H: Hash32, G: Gate + Drop, L: Link, R: Threads + Sync>(
     requires message { IsHeard (heard_meant heard) }
     ensures answers { (server : Server) → Serves H.hash core.old server → Answers H.hash core.old core.new server (L.sent link.old) (L.sent link.new) (heard_meant heard) result }
     ensures code { HasSameCode core.old core.new }
+    ensures reads { L.reads link.new ≡ L.reads link.old }
     ensures given { L.given link.new ≡ L.given link.old }
     ensures left { L.left link.new ≡ L.left link.old }
     ensures beyond { L.beyond link.new ≡ L.beyond link.old }
@@ -83,6 +87,7 @@ pub fn serve_message<H: Hash32, G: Gate + Drop, L: Link, R: Threads + Sync>(
     ensures history { StaysServing H.hash core.new result }
     ensures counts { CountsMessage core.old.heard core.new.heard result }
     ensures code { HasSameCode core.old core.new }
+    ensures waits { ForSome (L.left link.old) (λ bytes. AtEachRead (WaitsForOne bytes (L.sent link.old)) (L.reads link.old) (L.reads link.new)) }
     ensures moves { Moves (L.given link.old) (L.left link.old) (L.given link.new) (L.left link.new) }
     ensures beyond { L.beyond link.new ≡ L.beyond link.old }
     ensures cause { HaltCause (L.faults link.old) (L.faults link.new) result }

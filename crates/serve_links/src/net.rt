@@ -43,8 +43,8 @@ pub fn serve_links<H: Hash32, G: Gate + Drop, N: Net, R: Threads + Sync>(
     requires { HasServed H.hash core.old }
     ensures served { ForSome (N.listened net.old) (λ port. (server : Server) → Serves H.hash core.old server
         → ServesLinks H.hash core.old core.new server port
-        (links_so_far (N.ended net.old) (N.linked net.old) (N.given net.old) (N.left net.old) (N.sent net.old))
-        (links_so_far (N.ended net.new) (N.linked net.new) (N.given net.new) (N.left net.new) (N.sent net.new))
+        (links_so_far (N.ended net.old) (N.linked net.old) (N.given net.old) (N.left net.old) (N.sent net.old) (N.reads net.old))
+        (links_so_far (N.ended net.new) (N.linked net.new) (N.given net.new) (N.left net.new) (N.sent net.new) (N.reads net.new))
         connections (N.accept_faults net.old) (N.accept_faults net.new) result) }
     ensures history { StaysOn H.hash core.new result }
     ensures code { HasSameCode core.old core.new }
@@ -81,8 +81,8 @@ fn serve_next<H: Hash32, G: Gate + Drop, N: Net, R: Threads + Sync>(
     requires { HasServed H.hash core.old }
     ensures served { ForSome (N.listened net.old) (λ port. (server : Server) → Serves H.hash core.old server
         → ServesNext H.hash core.old core.new server port
-        (links_so_far (N.ended net.old) (N.linked net.old) (N.given net.old) (N.left net.old) (N.sent net.old))
-        (links_so_far (N.ended net.new) (N.linked net.new) (N.given net.new) (N.left net.new) (N.sent net.new)) result) }
+        (links_so_far (N.ended net.old) (N.linked net.old) (N.given net.old) (N.left net.old) (N.sent net.old) (N.reads net.old))
+        (links_so_far (N.ended net.new) (N.linked net.new) (N.given net.new) (N.left net.new) (N.sent net.new) (N.reads net.new)) result) }
     ensures history { StaysServing H.hash core.new result }
     ensures code { HasSameCode core.old core.new }
     ensures listened { N.listened net.new ≡ N.listened net.old }

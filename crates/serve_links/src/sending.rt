@@ -21,6 +21,7 @@ pub fn send_replies<L: Link>(
 ) -> Result<(), WriteStop>
     requires { AllByRecursion IsReply (map reply_meant replies.now) }
     ensures sends { Sends (bytes_of (map reply_meant replies.now)) (L.sent link.old) (L.sent link.new) result }
+    ensures reads { L.reads link.new ≡ L.reads link.old }
     ensures given { L.given link.new ≡ L.given link.old }
     ensures left { L.left link.new ≡ L.left link.old }
     ensures beyond { L.beyond link.new ≡ L.beyond link.old }

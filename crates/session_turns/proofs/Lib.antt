@@ -1,8 +1,8 @@
 -- lists that stand in a relation
 pub mod Rows
--- version_spelling, has_spelling: the spelling of a version, by the types of the code
+-- version_spelling, has_spelling: the spelling of a version, by the types of the code; one more known digest
 pub mod Spellings
--- newest_version: the versions behind a place
+-- newest: the versions behind a place
 pub mod Newest
 -- what is shared is kept as the store grows
 pub mod Sharing

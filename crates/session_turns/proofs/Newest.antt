@@ -1,13 +1,14 @@
 -- The newest version with a spelling, from behind.
-use Rattle.std.proofs.Common.{◌≡◌, ℕ, zero, suc, ◌+◌, ◌<◌, List, [], ◌∷◌, length, drop, get_or, Some, None, bytes_eq, Bool, true, false, sym, ap, ◌∙◌, arith, refl}
+use Rattle.std.proofs.Common.{◌≡◌, ℕ, zero, suc, ◌+◌, ◌<◌, List, [], ◌∷◌, length, drop, Some, None, bytes_eq, Bool, true, false, refl, sym, ap, ◌∙◌, arith}
 use Rattle.core_terms.specs.Formats.{Hash}
 use Rattle.core_terms.specs.Terms.{Program}
 use Rattle.core_terms.specs.Values.{Value}
-use Rattle.value_store.specs.Nodes.{Node}
-use Rattle.value_store.specs.declared.node.Ref.{Ref}
-use Rattle.session_meaning.specs.Server.{newest_version, newer_version, state_spelling}
-use Rattle.session_turns.specs.Versions.{IsVersion, AreVersions}
-use Rattle.session_turns.proofs.Rows.{IsAt, alike_at}
+use Rattle.session_meaning.specs.Server.{newest_version, newer_version, state_spelling, version_at}
+
+drop_at : (i : ℕ) (vs : List Value) → i < length vs → drop i vs ≡ version_at vs i ∷ drop (suc i) vs
+drop_at i [] there = absurd (omega arith)
+drop_at zero (v ∷ vs) there = refl
+drop_at (suc i) (v ∷ vs) there = drop_at i vs (omega arith)
 
 module _ (hash : Hash) (P : Program) (state : List ℕ) where
   -- what is found behind a place is found from the start on
@@ -22,16 +23,12 @@ module _ (hash : Hash) (P : Program) (state : List ℕ) where
   none_left (v ∷ vs) zero e = absurd (omega (arith, e))
   none_left (v ∷ vs) (suc n) e = none_left vs n (omega (arith, e))
 
-  module _ (nodes : List Node) (versions : List Ref) (vs : List Value) (are : AreVersions hash P nodes versions vs) (i : ℕ) (r : Ref) (l : i < length versions)
-      (none : newest_version hash P state (drop (suc i) vs) ≡ None)
-      (same : Bool) (is : (v : Value) → IsVersion hash P nodes (get_or versions i r) v → same ≡ bytes_eq (state_spelling hash P v) state) where
-    at : IsAt (IsVersion hash P nodes) i (get_or versions i r) vs
-    at = alike_at (IsVersion hash P nodes) i versions vs r are l
-
+  module _ (vs : List Value) (i : ℕ) (there : i < length vs) (none : newest_version hash P state (drop (suc i) vs) ≡ None)
+      (same : Bool) (is : same ≡ bytes_eq (state_spelling hash P (version_at vs i)) state) where
     next : newest_version hash P state (drop i vs) ≡ newer_version None same
     next =
-        ap (newest_version hash P state) at.is ∙ ap (λ o. newer_version o (bytes_eq (state_spelling hash P at.other) state)) none
-        ∙ ap (λ b. newer_version None b) (sym (is at.other at.alike))
+        ap (newest_version hash P state) (drop_at i vs there) ∙ ap (λ o. newer_version o (bytes_eq (state_spelling hash P (version_at vs i)) state)) none
+        ∙ ap (λ b. newer_version None b) (sym is)
 
     pub passed : same ≡ false → newest_version hash P state (drop i vs) ≡ None
     passed e = next ∙ ap (λ b. newer_version None b) e

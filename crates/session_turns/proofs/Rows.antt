@@ -1,5 +1,5 @@
 -- Lists that stand in a relation, one by one.
-use Rattle.std.proofs.Common.{◌≡◌, ℕ, zero, suc, ◌<◌, List, [], ◌∷◌, ◌++◌, length, drop, get_or, Result, Ok, Err, OnErr, refl, ap, arith}
+use Rattle.std.proofs.Common.{◌≡◌, ℕ, zero, suc, ◌<◌, List, [], ◌∷◌, ◌++◌, length, drop, get_or, Option, Some, None, IfSome, IfNone, Result, Ok, Err, OnErr, refl, ap, subst, arith}
 use Rattle.session_turns.specs.Rows.{AreAlike}
 
 module _ {A B : Type 0} where
@@ -43,3 +43,10 @@ module _ {A B : Type 0} where
 pub if_err : {A E : Type 0} (r : Result A E) (X Y : Type 0) → (X → Y) → OnErr r X → OnErr r Y
 if_err (Ok a) X Y f h = tt
 if_err (Err e) X Y f h = f h
+
+-- what holds of an option's value holds of this one
+pub of_some : {A : Type 0} (P : A → Type 0) (o : Option A) (x : A) → o ≡ Some x → IfSome o P → P x
+of_some P o x e h = subst (λ o. IfSome o P) e h
+
+pub of_none : {A : Type 0} (X : Type 0) (o : Option A) → o ≡ None → IfNone o X → X
+of_none X o e h = subst (λ o. IfNone o X) e h

@@ -1,8 +1,8 @@
 -- How a call that has run ends.
-use Rattle.std.proofs.Common.{◌≡◌, ◌⊎◌, inl, inr, ℕ, ◌<◌, ◌≤◌, ◌+◌, List, map, length, take, ◌++◌, Option, Some, None, Ok, slice_get, IfSome, sym, ap, ◌∙◌, subst, arith}
+use Rattle.std.proofs.Common.{◌≡◌, ◌⊎◌, inl, inr, ℕ, ◌<◌, ◌≤◌, ◌+◌, List, map, length, take, ◌++◌, Option, Some, None, Ok, Bool, true, false, slice_get, IfSome, leb-true, refl, sym, ap, ◌∙◌, subst, arith}
 use Rattle.std.proofs.lemmas.List.{length-append, length-take}
 use Rattle.std.specs.List.{All}
-use Rattle.core_terms.specs.Formats.{Hash}
+use Rattle.core_terms.specs.Formats.{Hash, message_limit}
 use Rattle.core_terms.specs.Programs.{meaning, types_of}
 use Rattle.core_terms.specs.Projection.{digest_at}
 use Rattle.core_terms.specs.RoleViews.{role_kind_of, role_of}
@@ -18,7 +18,7 @@ use Rattle.core_terms.specs.declared.roles.Role.{Role}
 use Rattle.core_terms.specs.declared.roles.RoleKind.TheVariants as kinds
 use Rattle.code_gen.specs.declared.code.Code.{Code}
 use Rattle.ideal_meaning.specs.Following.{after_frames}
-use Rattle.ideal_meaning.specs.Frames.{frame_bytes}
+use Rattle.ideal_meaning.specs.Frames.{Frame, frame_bytes}
 use Rattle.ideal_meaning.specs.Headline.{call_of}
 use Rattle.ideal_meaning.specs.Ideal as ideal
 use Rattle.ideal_meaning.specs.Run.{first_in}
@@ -28,6 +28,7 @@ use Rattle.mode_vm.specs.Meanings.{program_of}
 use Rattle.prover_mode.specs.Told.{TellsFrames}
 use Rattle.prover_mode.specs.Turns.{HasRun, IsIdealOutcome}
 use Rattle.reuse_buffer.specs.Kept.{Kept, kept}
+use Rattle.session_meaning.specs.Server.{fits_message}
 use Rattle.session_meaning.specs.Calls.{RoleCall, frames_of, new_state, outcome_of, role_in, state_made}
 use Rattle.value_store.specs.Nodes.{Node}
 use Rattle.value_store.specs.Standing.{ProverNodes, StandsFor}
@@ -132,3 +133,11 @@ pub tells_so : (hash : Hash) (P : tree.Program) (state : Value) (call : RoleCall
     → (bytes ≡ frame_bytes (frames_of hash P n recent state call)) × (after ≡ kept n (after_frames (frames_of hash P n recent state call) recent))
 tells_so hash P state call n size recent bytes fresh again after is h =
     subst (λ m. (bytes ≡ frame_bytes (frames_of hash P m recent state call)) × (after ≡ kept m (after_frames (frames_of hash P m recent state call) recent))) is (h.frames, h.ring)
+
+-- frames with more bytes than a message has for them
+pub too_many : (frames : List Frame) → 16777213 < length (frame_bytes frames) → fits_message frames ≡ false
+too_many frames h = by (fits_message frames) refl
+  where
+    by : (b : Bool) → fits_message frames ≡ b → b ≡ false
+    by false e = refl
+    by true e = let fits = leb-true (3 + length (frame_bytes frames)) message_limit e in absurd (omega (arith, fits, h))

@@ -31,7 +31,7 @@ use Rattle.session_turns.specs.Settling.{IsSettled}
 use Rattle.session_turns.specs.Sharing.{Shares}
 use Rattle.session_turns.specs.declared.session.Session.{Session}
 use Rattle.session_turns.specs.declared.session.SessionCall.{SessionCall}
-use Rattle.session_turns.specs.declared.settling.Settled.TheVariants.{Proved, Stale, TooLong}
+use Rattle.session_turns.specs.declared.settling.Settled.TheVariants.{Proved, Stale}
 use Rattle.session_turns.specs.declared.shared.Shared.{Shared}
 
 -- the version of the first of them
@@ -81,14 +81,15 @@ module _ (hash : Hash) (code : Code) (slice : ℕ) {A : Type 0} (shared : Shared
     replies = sym h.1;
   }
 
-  pub long_turn : (s : meant.Session) (frames : List Frame) (t : meant.Turned) (cause : ℕ) → cause ≡ refusal_cause LongProof → Shares hash (program_of code) shared t.shared
-      → IsSettled number s frames TooLong t
-      → IsTurned hash code slice {A = A} shared number (record { session = None; reply = Some (reply.Refused number cause) }) t
-  long_turn s frames t cause is shares h = record {
-    shares = shares;
-    left = subst (λ xs. IsLeft hash code slice {A = A} (nodes_in shared.store) t.shared.versions number None xs) (sym h.0) tt;
-    replies = ap (λ c. message.Refused number c ∷ []) is ∙ sym h.1;
-  }
+  -- its proof is too long
+  pub long_turn : (s : meant.Session) (call : RoleCall) (frames : List Frame) (made : Option Value) (m : meant.Shared) (cause : ℕ) → cause ≡ refusal_cause LongProof
+      → Shares hash (program_of code) shared m → meant.fits_message frames ≡ false
+      → IsTurned hash code slice {A = A} shared number (record { session = None; reply = Some (reply.Refused number cause) })
+      (meant.frames_turn hash (program_of code) (meant.fits_message frames) made number s call frames m)
+  long_turn s call frames made m cause is shares long =
+      subst (λ fits. IsTurned hash code slice {A = A} shared number (record { session = None; reply = Some (reply.Refused number cause) })
+      (meant.frames_turn hash (program_of code) fits made number s call frames m)) (sym long)
+      (record { shares = shares; left = tt; replies = ap (λ c. message.Refused number c ∷ []) is })
 
 pub none_told : {B : Type 0} (o : Option B) (b : Bool) → is_some o ≡ not b → b ≡ true → o ≡ None
 none_told None b e t = refl

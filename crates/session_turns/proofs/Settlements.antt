@@ -11,7 +11,7 @@ use Rattle.value_store.specs.declared.node.Ref.{Ref}
 use Rattle.session_turns.specs.Settling.{IsMade, IsSettled}
 use Rattle.session_turns.specs.Sharing.{Shares}
 use Rattle.session_turns.specs.declared.settling.Settled.{Settled}
-use Rattle.session_turns.specs.declared.settling.Settled.TheVariants.{Proved, Stale, TooLong}
+use Rattle.session_turns.specs.declared.settling.Settled.TheVariants.{Proved, Stale}
 use Rattle.session_turns.specs.declared.shared.Shared.{Shared}
 
 -- the test of two numbers that aren't the same
@@ -29,10 +29,6 @@ SettlesTo hash P new number s frames settled t = Shares hash P new t.shared × I
 module _ (hash : Hash) (P : Program) (new : Shared) (number : ℕ) (s : meant.Session) (call : RoleCall) (frames : List Frame) (shared : meant.Shared) where
   abbrev turned : Bool → Option Value → meant.Turned
   turned fits made = meant.frames_turn hash P fits made number s call frames shared
-
-  pub too_long : (made : Option Value) → meant.fits_message frames ≡ false → Shares hash P new shared
-      → SettlesTo hash P new number s frames TooLong (turned (meant.fits_message frames) made)
-  too_long made e h = subst (λ fits. SettlesTo hash P new number s frames TooLong (turned fits made)) (sym e) (h, (refl, refl))
 
   pub unmade : (nodes : List Node) (made : Option Value) (version : ℕ) → IsMade hash P nodes None made → version ≡ s.version → meant.fits_message frames ≡ true → Shares hash P new shared
       → SettlesTo hash P new number s frames (Proved version) (turned (meant.fits_message frames) made)

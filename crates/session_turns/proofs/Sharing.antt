@@ -1,5 +1,5 @@
 -- What is shared, as its store grows.
-use Rattle.std.proofs.Common.{◌≡◌, ℕ, ◌-◌, ◌<◌, ◌≤◌, List, [], ◌∷◌, ◌++◌, length, take, drop, get_or, sym, ap, ◌∙◌, subst, arith}
+use Rattle.std.proofs.Common.{◌≡◌, ℕ, ◌-◌, ◌<◌, ◌≤◌, List, [], ◌∷◌, ◌++◌, length, take, drop, get_or, refl, sym, ap, ◌∙◌, subst, arith, length-append}
 use Rattle.std.proofs.Math.Seq.{take-length}
 use Rattle.std.proofs.lemmas.List.{append-nil, take-take, take-append-drop}
 use Rattle.core_terms.specs.Formats.{Hash}
@@ -13,6 +13,8 @@ use Rattle.value_store.specs.Standing.{Grows, Keeps, ProverNodes}
 use Rattle.value_store.specs.Stores.{nodes_in}
 use Rattle.value_store.specs.declared.node.Ref.{Ref}
 use Rattle.value_store.proofs.Moved.{kept_before}
+use Rattle.session_meaning.proofs.Turns.{extends_at}
+use Rattle.session_turns.specs.Digests.{AreDigests}
 use Rattle.session_turns.specs.Rows.{AreAlike}
 use Rattle.session_turns.specs.Sharing.{IsCommit, Shares}
 use Rattle.session_turns.specs.Versions.{AreVersions, IsVersion}
@@ -43,8 +45,8 @@ module _ (hash : Hash) (P : Program) where
   -- one version more, and its commit
   pub committed : (old new : Shared) (same : meant.Shared) (call : RoleCall) (v : Value) (r : Ref) (commit : Commit)
       → Keeps (nodes_in old.store) (nodes_in new.store) → new.versions.items ≡ old.versions.items ++ r ∷ [] → new.commits.items ≡ old.commits.items ++ commit ∷ []
-      → Shares hash P old same → IsCommit commit call → IsVersion hash P (nodes_in new.store) r v → Shares hash P new (meant.with_commit call v same)
-  committed old new same call v r commit keeps versions commits h is stands = record {
+      → new.digests ≡ old.digests → Shares hash P old same → IsCommit commit call → IsVersion hash P (nodes_in new.store) r v → Shares hash P new (meant.with_commit call v same)
+  committed old new same call v r commit keeps versions commits digests h is stands = record {
     versions =
         subst (λ rs. AreVersions hash P (nodes_in new.store) rs (same.versions ++ v ∷ [])) (sym versions)
         (alike_more (IsVersion hash P (nodes_in new.store)) old.versions.items (r ∷ []) same.versions (v ∷ [])
@@ -52,16 +54,23 @@ module _ (hash : Hash) (P : Program) where
     commits =
         subst (λ cs. AreAlike IsCommit cs (same.commits ++ call ∷ [])) (sym commits)
         (alike_more IsCommit old.commits.items (commit ∷ []) same.commits (call ∷ []) h.commits (is, tt));
+    digests =
+        subst (λ ds. AreDigests hash P ds (same.versions ++ v ∷ [])) (sym digests)
+        (λ n d known. let before = h.digests n d known in (
+          (let more = length-append same.versions (v ∷ []) in let there = before.0 in omega (arith, more, there)),
+          before.1 ∙ ap (λ v. hash (meant.state_spelling hash P v)) (sym (extends_at same.versions (same.versions ++ v ∷ []) n (v ∷ [], refl) before.0)),
+        ));
   }
 
   -- the same versions and commits over a store that has grown
   pub unchanged : (old new : Shared) (same : meant.Shared) → Keeps (nodes_in old.store) (nodes_in new.store) → new.versions.items ≡ old.versions.items
-      → new.commits.items ≡ old.commits.items → Shares hash P old same → Shares hash P new same
-  unchanged old new same keeps versions commits h = record {
+      → new.commits.items ≡ old.commits.items → new.digests ≡ old.digests → Shares hash P old same → Shares hash P new same
+  unchanged old new same keeps versions commits digests h = record {
     versions =
         subst (λ rs. AreVersions hash P (nodes_in new.store) rs same.versions) (sym versions)
         (versions_kept (nodes_in old.store) (nodes_in new.store) old.versions.items same.versions keeps h.versions);
     commits = subst (λ cs. AreAlike IsCommit cs same.commits) (sym commits) h.commits;
+    digests = subst (λ ds. AreDigests hash P ds same.versions) (sym digests) h.digests;
   }
 
   -- the last of the nodes stands for the last version
@@ -72,3 +81,13 @@ module _ (hash : Hash) (P : Program) where
       let last : n - 1 ≡ length vs - 1 = ap (λ m. m - 1) (count ∙ alike_length (IsVersion hash P nodes) rs vs are) in
       subst (λ i. IsVersion hash P nodes r (meant.version_at vs i)) last
       (subst (λ q. IsVersion hash P nodes q (meant.version_at vs (n - 1))) (sym is) (alike_get (IsVersion hash P nodes) (n - 1) rs vs r UnitV are there))
+
+  -- the node with this number stands for the version with it
+  pub version_stands : (shared : Shared) (same : meant.Shared) → Shares hash P shared same → (n : ℕ) → n < length shared.versions.items → (r : Ref)
+      → r ≡ get_or shared.versions.items n r → IsVersion hash P (nodes_in shared.store) r (meant.version_at same.versions n)
+  version_stands shared same h n there r is =
+      subst (λ (q : Ref). IsVersion hash P (nodes_in shared.store) q (meant.version_at same.versions n)) (sym is)
+      (alike_get (IsVersion hash P (nodes_in shared.store)) n shared.versions.items same.versions r UnitV h.versions there)
+
+  pub versions_counted : (shared : Shared) (same : meant.Shared) → Shares hash P shared same → length shared.versions.items ≡ length same.versions
+  versions_counted shared same h = alike_length (IsVersion hash P (nodes_in shared.store)) shared.versions.items same.versions h.versions

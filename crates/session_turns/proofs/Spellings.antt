@@ -1,11 +1,12 @@
 -- The spelling of a version.
-use Rattle.std.proofs.Common.{◌≡◌, ℕ, List, length, Bool, true, false, bytes_eq, refl, sym, ap, ◌∙◌, subst}
+use Rattle.std.proofs.Common.{◌≡◌, ◌<◌, ◌⊎◌, inl, inr, ℕ, List, length, Some, Bool, true, false, bytes_eq, refl, sym, ap, ◌∙◌, subst}
 use Rattle.std.proofs.lemmas.Slice.Eq.{bytes_eq-Decides}
 use Rattle.core_terms.specs.Formats.{Hash, IsHash}
 use Rattle.core_terms.specs.Programs.{meaning, types_of}
 use Rattle.core_terms.specs.ProgramTypes.{named_table, types_by_number, types_meaning}
 use Rattle.core_terms.specs.Projection.{digest_at, projection}
 use Rattle.core_terms.specs.Spelling.{spelling, shallow}
+use Rattle.core_terms.specs.Terms as tree
 use Rattle.core_terms.specs.TypeTables.{type_at}
 use Rattle.core_terms.specs.Values.{Value, size}
 use Rattle.core_terms.proofs.Projection.{size_shallow}
@@ -13,13 +14,16 @@ use Rattle.core_terms.proofs.ReadBack.{shallow_is}
 use Rattle.core_terms.proofs.Spelled.{length_spelling}
 use Rattle.value_store.proofs.ProverNodes.{shown_shallow}
 use Rattle.value_store.proofs.TypedNodes.{ideal_stands, prover_refers}
+use Rattle.core_terms.specs.declared.digest.Digest.{Digest}
 use Rattle.core_terms.specs.declared.program.Program.{Program}
 use Rattle.core_terms.specs.declared.program_types.Types.{Types}
 use Rattle.core_terms.specs.declared.types.TyId.{TyId}
 use Rattle.value_store.specs.Nodes.{Node}
 use Rattle.value_store.specs.Standing.{ProverNodes, StandsFor, VerifierNodes}
 use Rattle.value_store.specs.declared.node.Ref.{Ref}
-use Rattle.session_meaning.specs.Server.{state_spelling}
+use Rattle.session_meaning.specs.Server.{state_spelling, version_at}
+use Rattle.session_turns.specs.Digests.{AreDigests, digest_in}
+use Rattle.session_turns.specs.declared.digests.SpellingDigests.{SpellingDigests}
 use Rattle.session_turns.specs.Versions.{IsVersion}
 
 module _ (hash : Hash) (p : Program) (given : Types) (is : given ≡ p.types) (id : TyId) (at : type_at (types_of p) id ≡ (meaning p).state)
@@ -51,10 +55,22 @@ long hash is_hash p nodes r v h n kept =
     (ideal_stands (ProverNodes digest) (meaning p).types (prover_refers digest (meaning p).types) nodes (meaning p).state v r.0 h))
     ∙ size_shallow digest (meaning p).types (meaning p).state v ∙ sym kept
 
--- bytes of another number are other bytes
-pub other_bytes : (xs ys : List ℕ) → (length xs ≡ length ys → ⊥) → false ≡ bytes_eq xs ys
+-- the test of bytes that aren't the same
+pub other_bytes : (xs ys : List ℕ) → (xs ≡ ys → ⊥) → false ≡ bytes_eq xs ys
 other_bytes xs ys other = by (bytes_eq xs ys) refl
   where
     by : (b : Bool) → bytes_eq xs ys ≡ b → false ≡ b
     by false e = refl
-    by true e = absurd (other (ap length ((bytes_eq-Decides xs ys).0 e)))
+    by true e = absurd (other ((bytes_eq-Decides xs ys).0 e))
+
+-- One more digest is known, of the spelling of this version.
+pub noted : (hash : Hash) (P : tree.Program) (old new : SpellingDigests) (versions : List Value) (number : ℕ) (digest : Digest) → number < length versions
+    → digest.0 ≡ hash (state_spelling hash P (version_at versions number))
+    → ((n : ℕ) (d : Digest) → digest_in new n ≡ Some d → ((n ≡ number) × (d ≡ digest)) ⊎ (digest_in old n ≡ Some d))
+    → AreDigests hash P old versions → AreDigests hash P new versions
+noted hash P old new versions number digest there is within h n d known = by (within n d known)
+  where
+    by : ((n ≡ number) × (d ≡ digest)) ⊎ (digest_in old n ≡ Some d) → (n < length versions) × (d.0 ≡ hash (state_spelling hash P (version_at versions n)))
+    by (inl e) =
+        subst (λ (m : ℕ). (m < length versions) × (d.0 ≡ hash (state_spelling hash P (version_at versions m)))) (sym e.0) (there, ap (λ (d : Digest). d.0) e.1 ∙ is)
+    by (inr e) = h n d e

@@ -1,5 +1,6 @@
 pub mod Rows
 pub mod Versions
+pub mod Digests
 pub mod Refusals
 pub mod Sharing
 pub mod Settling

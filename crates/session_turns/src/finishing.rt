@@ -1,5 +1,5 @@
 // The end of a call that has run.
-ghost use Rattle.std.specs.Prelude.{◌≡◌, ℕ, ◌<◌, ◌≤◌, ◌+◌, ◌++◌, length, take, Ok, Some, IfOk, IfSome};
+ghost use Rattle.std.specs.Prelude.{◌≡◌, ℕ, ◌<◌, ◌≤◌, ◌+◌, ◌++◌, false, length, take, Ok, Some, IfOk, IfSome, IfNone};
 ghost use Rattle.core_terms.specs.declared.outcome.Outcome.{Outcome};
 ghost use Rattle.core_terms.specs.Formats.{Hash};
 ghost use Rattle.core_terms.specs.Projection.{digest_at};
@@ -30,6 +30,9 @@ use core_terms::{Hash32, Outcome, RoleId, RoleKind};
 use reuse_buffer::Ring;
 use std::alloc::{AllocError, Global};
 use value_store::{Nodes, Over, Ref, Store, first_component};
+
+/// The greatest number of bytes of the frames of a proof, behind the kind and the session in a message.
+const MAX_FRAMES: usize = 16_777_213;
 
 /// A call that has run, with its proof.
 #[derive(Drop)]
@@ -66,10 +69,9 @@ impl<H: Hash32> Running<H> {
     ghost use Rattle.session_turns.specs.Running.{IsRunning};
     ghost use Rattle.session_turns.specs.Settling.{EndsSo};
 
-    /// The end of a call that has run in a session on this version, whose ring is lent for its proof.
-    ///
-    /// The frames of the proof are made whole here, however long they are; that they have at most 16,777,213 bytes is judged behind it, by
-    /// [`Shared::settle`](crate::Shared::settle). So a proof that is too long takes memory for all of its frames.
+    /// The end of a call that has run in a session on this version, whose ring is lent for its proof. `None` exactly where the frames of
+    /// the proof have more than 16,777,213 bytes, which are too many for a message: the first frame that goes beyond is the last one that
+    /// is written, and the ring is dropped.
     ///
     /// # Errors
     ///
@@ -82,18 +84,21 @@ impl<H: Hash32> Running<H> {
         ring: Ring,
         version: usize,
         call: Commit,
-    ) -> Result<Finished, AllocError>
+    ) -> Result<Option<Finished>, AllocError>
         requires has_run { (outcome : Outcome Ref) × (self.last ≡ Ok (Some outcome)) }
         requires running { (state : Value) × (role_call : RoleCall) × (made : ℕ) × IsRunOf H.hash code.now (nodes_in base.now) self call state role_call made }
-        ensures ends { let P = program_of code.now in IfOk result (λ end. (s : meant.Session) (state : Value) (role_call : RoleCall) (made : ℕ)
+        ensures ends { let P = program_of code.now in IfOk result (λ end. IfSome end (λ end. (s : meant.Session) (state : Value) (role_call : RoleCall) (made : ℕ)
             → IsRunOf H.hash code.now (nodes_in base.now) self call state role_call made → version ≡ s.version → ring ≡ kept s.kept s.recent
             → let frames = frames_of H.hash P s.kept s.recent state role_call in
             (end.frames.items ≡ frame_bytes frames) × (end.ring ≡ kept s.kept (after_frames frames s.recent))
-            × EndsSo H.hash P (nodes_in base.now) end.ended s role_call frames (new_state P role_call (outcome_of P state role_call))) }
-        ensures version { IfOk result (λ end. end.ended.version ≡ version) }
-        ensures within { IfOk result (λ end. end.ended.from ≤ length (nodes_in base.now)) }
-        ensures sound { IfOk result (λ end. AreSound (take end.ended.from (nodes_in base.now) ++ own_nodes end.ended.own)) }
-        ensures made { IfOk result (λ end. IfSome end.ended.made (λ r. r.0 < end.ended.from + length (own_nodes end.ended.own))) }
+            × EndsSo H.hash P (nodes_in base.now) end.ended s role_call frames (new_state P role_call (outcome_of P state role_call)))) }
+        ensures too_long { let P = program_of code.now in IfOk result (λ end. IfNone end ((s : meant.Session) (state : Value) (role_call : RoleCall) (made : ℕ)
+            → IsRunOf H.hash code.now (nodes_in base.now) self call state role_call made → version ≡ s.version → ring ≡ kept s.kept s.recent
+            → meant.fits_message (frames_of H.hash P s.kept s.recent state role_call) ≡ false)) }
+        ensures version { IfOk result (λ end. IfSome end (λ end. end.ended.version ≡ version)) }
+        ensures within { IfOk result (λ end. IfSome end (λ end. end.ended.from ≤ length (nodes_in base.now))) }
+        ensures sound { IfOk result (λ end. IfSome end (λ end. AreSound (take end.ended.from (nodes_in base.now) ++ own_nodes end.ended.own))) }
+        ensures made { IfOk result (λ end. IfSome end (λ end. IfSome end.ended.made (λ r. r.0 < end.ended.from + length (own_nodes end.ended.own)))) }
     {
         let Running {
             own,
@@ -106,19 +111,21 @@ impl<H: Hash32> Running<H> {
         };
         let over = Over::on(base, own, from);
         let made = state_made(code, call.role, &over, outcome);
-        let (proof, ring) = proving.finish(alloc, code, &over, ring)?;
+        let Some(told) = proving.finish_within(alloc, code, &over, ring, MAX_FRAMES)? else {
+            return Ok(None);
+        };
+        let (proof, ring) = told;
         let ended = RunEnd {
             version,
-            frames: proof.bytes.len(),
             made,
             own: over.off(),
             from,
             call,
         };
-        Ok(Finished {
+        Ok(Some(Finished {
             frames: proof.bytes,
             ring,
             ended,
-        })
+        }))
     }
 }

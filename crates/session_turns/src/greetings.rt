@@ -25,7 +25,7 @@ pub struct Room {
 
 impl Shared {
     ghost use Rattle.session_turns.specs.Refusals.{IsTestedAs};
-    ghost use Rattle.session_turns.specs.Sharing.{Shares};
+    ghost use Rattle.session_turns.specs.Sharing.{AreKept, Shares};
 
     /// Tests a greeting: its session is to stand at the newest version with the spelling that it names.
     ///
@@ -33,7 +33,7 @@ impl Shared {
     ///
     /// In this order: `OtherProgram`, `LargeRing`, `ManySessions`, `SessionThere`, `NoVersion`; and `NoMemory`.
     pub fn greet<H: Hash32>(
-        &self,
+        &mut self,
         alloc: Global,
         code: &Code,
         room: Room,
@@ -41,10 +41,12 @@ impl Shared {
         kept: u16,
         state: &[u8],
     ) -> Result<usize, Denial>
-        requires { (shared : meant.Shared) × Shares H.hash (program_of code.now) self.now shared }
-        ensures { let P = program_of code.now in (ending : ℕ → ℕ) (server : meant.Server) (number : ℕ) → Shares H.hash P self.now server.shared
+        requires { (shared : meant.Shared) × Shares H.hash (program_of code.now) self.old shared }
+        ensures tested { let P = program_of code.now in (ending : ℕ → ℕ) (server : meant.Server) (number : ℕ) → Shares H.hash P self.old server.shared
             → room.sessions ≡ length server.sessions → room.taken ≡ is_some (find number server.sessions)
             → IsTestedAs result (meant.hello_test H.hash P (program_in code.now).text_digest.0 ending server number program.now.0 kept state.now) }
+        ensures shares { let P = program_of code.now in (shared : meant.Shared) → Shares H.hash P self.old shared → Shares H.hash P self.new shared }
+        ensures rest { AreKept self.old self.new }
     {
         if program.0 != code.program().text_digest().0 {
             return Err(Denial::Refused(Refusal::OtherProgram));

@@ -4,12 +4,13 @@
 //! the two stand to each other. [`Shared`] holds the versions and the commits: it tests a greeting and a call, settles the end of a run, and
 //! takes the nodes of a call that commits over. A granted call runs in turns, as a [`Running`], on nodes of its own behind those of the
 //! store; once it has run, it is [`Finished`], with its proof. A round takes one turn of each session, under its number: the calls run at once
-//! on threads, over a store that nobody changes, each passing a [`Gate`] first; then the turns are settled one after another, in this
-//! order, each to what the machine leaves of its [`Session`] and of what is shared, with its reply.
+//! on threads, over a store that nobody changes, each passing a [`Gate`] first ([`round()`]); then the turns are settled one after another,
+//! in this order, each to what the machine leaves of its [`Session`] and of what is shared, with its reply.
 //! [`laws`] has what stays as the store grows.
 #![tactic(auto)]
 
 mod commit;
+mod digests;
 mod finishing;
 mod gate;
 mod grants;
@@ -35,3 +36,4 @@ pub use running::Running;
 pub use session::{Session, SessionCall, Turned};
 pub use settling::{RunEnd, Settled};
 pub use shared::Shared;
+pub use turning::round;

@@ -102,13 +102,6 @@ impl Shared {
                     state,
                 }),
             }),
-            Settled::TooLong => Ok(Turned {
-                session: None,
-                reply: Some(Reply::Refused {
-                    session: number,
-                    cause: Refusal::LongProof.cause(),
-                }),
-            }),
         }
     }
 }
@@ -117,8 +110,9 @@ impl<H: Hash32> Session<H> {
     ghost use Rattle.session_turns.specs.Ahead.{IsAhead};
     ghost use Rattle.session_turns.specs.Sessions.{IsTurned};
 
-    /// Settles the turn that was taken in the session with this number: a call that has run ends, and one that goes on stays. Where memory
-    /// is wanting, or was in the turn, the session is dropped; the versions and the commits stay, though nodes may have been put behind.
+    /// Settles the turn that was taken in the session with this number: a call that has run ends, and one that goes on stays. A proof that
+    /// is too long for a message ends the session, and nothing of the call stays. Where memory is wanting, or was in the turn, the session
+    /// is dropped; the versions and the commits stay, though nodes may have been put behind.
     pub fn settle(
         self,
         shared: &mut Shared,
@@ -162,7 +156,15 @@ impl<H: Hash32> Session<H> {
                 reply: None,
             });
         }
-        let finished = run.finish(alloc, code, &shared.store, ring, version, call)?;
-        shared.end_turn::<H>(alloc, code, number, finished)
+        match run.finish(alloc, code, &shared.store, ring, version, call)? {
+            Some(finished) => shared.end_turn::<H>(alloc, code, number, finished),
+            None => Ok(Turned {
+                session: None,
+                reply: Some(Reply::Refused {
+                    session: number,
+                    cause: Refusal::LongProof.cause(),
+                }),
+            }),
+        }
     }
 }

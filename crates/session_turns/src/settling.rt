@@ -20,16 +20,11 @@ use core_terms::{Hash32, Spelling};
 use std::alloc::{AllocError, Global};
 use value_store::{Own, Ref};
 
-/// The greatest number of bytes of the frames of a proof, behind the kind and the session in a message.
-const MAX_FRAMES: usize = 16_777_213;
-
-/// A run that has come to its end.
+/// A run that has come to its end, with a proof that fits into a message.
 #[derive(Drop)]
 pub struct RunEnd {
     /// The version that it ran on.
     pub version: usize,
-    /// The number of bytes of its frames.
-    pub frames: usize,
     /// The node of the state that it made, if it made one.
     pub made: Option<Ref>,
     /// The nodes that it put, over the first `from` of the store.
@@ -46,15 +41,13 @@ pub enum Settled {
     Proved(usize),
     /// Its version isn't the last one: its session ends, and is told the spelling of the last one.
     Stale(Spelling),
-    /// Its proof is too long for a message: its session ends.
-    TooLong,
 }
 
 impl Shared {
     ghost use Rattle.session_turns.specs.Settling.{EndsSo, IsSettled};
 
     /// Settles the end of a run. Of a state that it made, where its version is the last one, a version is made, and the call is
-    /// committed. `TooLong` where its frames have more than 16,777,213 bytes: they were made whole before, and whoever holds them drops them.
+    /// committed.
     ///
     /// # Errors
     ///
@@ -81,15 +74,11 @@ impl Shared {
     {
         let RunEnd {
             version,
-            frames,
             made,
             own,
             from,
             call,
         } = ended;
-        if frames > MAX_FRAMES {
-            return Ok(Settled::TooLong);
-        }
         let Some(made) = made else {
             return Ok(Settled::Proved(version));
         };

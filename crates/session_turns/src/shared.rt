@@ -1,5 +1,5 @@
 // What the sessions share.
-ghost use Rattle.std.specs.Prelude.{◌≡◌, ◌<◌, ◌≤◌, ◌+◌, ◌++◌, [], ◌∷◌, length, take, IfOk, OnErr};
+ghost use Rattle.std.specs.Prelude.{◌≡◌, ◌<◌, ◌≤◌, ◌+◌, ◌++◌, [], ◌∷◌, length, take, IfOk, OnErr, bytes_eq};
 ghost use Rattle.core_terms.specs.Formats.{Hash};
 ghost use Rattle.core_terms.specs.Terms.{Program};
 ghost use Rattle.core_terms.specs.Values.{Value};
@@ -13,11 +13,12 @@ ghost use Rattle.value_store.specs.Stores.{nodes_in};
 ghost use Rattle.session_turns.specs.Versions.{IsVersion};
 
 use crate::commit::Commit;
-use crate::versions::{newest_version, version_spelling};
+use crate::digests::SpellingDigests;
+use crate::versions::version_spelling;
 use code_gen::Code;
-use core_terms::{Hash32, Spelling};
+use core_terms::{Digest, Hash32, Spelling};
 use std::alloc::{AllocError, Global};
-use value_store::{Own, Ref, Store};
+use value_store::{Nodes, Own, Ref, Store};
 
 /// The versions of the state, which stand in a store, and the commits, each the call that made the next version.
 #[derive(Drop)]
@@ -25,11 +26,13 @@ pub struct Shared {
     pub(crate) store: Store,
     pub(crate) versions: Vec<Ref>,
     pub(crate) commits: Vec<Commit>,
+    /// What greetings have found of the versions' spellings.
+    pub(crate) digests: SpellingDigests,
     ghost some: { 0 < length versions.items },
 }
 
 impl Shared {
-    ghost use Rattle.session_turns.specs.Sharing.{IsCommit, Shares};
+    ghost use Rattle.session_turns.specs.Sharing.{AreKept, IsCommit, Shares};
 
     /// With this version alone. `AllocError` where there is no memory for the list of versions.
     pub fn new(alloc: Global, store: Store, first: Ref) -> Result<Shared, AllocError>
@@ -42,6 +45,7 @@ impl Shared {
             store,
             versions,
             commits: Vec::new(alloc),
+            digests: SpellingDigests::new(alloc),
         })
     }
 
@@ -75,23 +79,68 @@ impl Shared {
         &self.commits
     }
 
-    /// The number of the newest version with this spelling, if one has it. The versions of spellings of this length are spelled one after
-    /// another, from the last one back to the first that is equal.
+    /// The number of the newest version with this spelling, if one has it.
+    ///
+    /// The versions are gone through from the last one back to the first that is equal. One whose spelling has this length is spelled and
+    /// compared, and where it is another, its digest is noted: it isn't spelled again but for a spelling with that digest. So all greetings
+    /// together spell each version once, beside those that they are welcomed at; one spelling is held at a time.
     ///
     /// # Errors
     ///
-    /// `AllocError` where there is no memory for the spelling of a version.
+    /// `AllocError` where there is no memory for the spelling of a version or for its digest.
     pub fn newest<H: Hash32>(
-        &self,
+        &mut self,
         alloc: Global,
         code: &Code,
         state: &[u8],
     ) -> Result<Option<usize>, AllocError>
-        requires { (shared : meant.Shared) × Shares H.hash (program_of code.now) self.now shared }
-        ensures { let P = program_of code.now in IfOk result (λ newest. (shared : meant.Shared) → Shares H.hash P self.now shared
+        requires { (shared : meant.Shared) × Shares H.hash (program_of code.now) self.old shared }
+        ensures newest { let P = program_of code.now in IfOk result (λ newest. (shared : meant.Shared) → Shares H.hash P self.old shared
             → newest ≡ meant.newest_version H.hash P state.now shared.versions) }
+        ensures shares { let P = program_of code.now in (shared : meant.Shared) → Shares H.hash P self.old shared → Shares H.hash P self.new shared }
+        ensures rest { AreKept self.old self.new }
     {
-        newest_version::<H>(alloc, code, &self.store, &self.versions, state)
+        let digest = H::of(state);
+        for number in (0..self.versions.len()).rev() {
+            if self.has_spelling::<H>(alloc, code, number, &digest, state)? {
+                return Ok(Some(number));
+            }
+        }
+        Ok(None)
+    }
+
+    /// Whether the version with this number has this spelling, which has this digest. `AllocError` where there is no memory for the
+    /// version's own spelling, which is made where it has as many bytes and no other digest is known of it, or for its digest.
+    fn has_spelling<H: Hash32>(
+        &mut self,
+        alloc: Global,
+        code: &Code,
+        number: usize,
+        digest: &Digest,
+        state: &[u8],
+    ) -> Result<bool, AllocError>
+        requires shares { (shared : meant.Shared) × Shares H.hash (program_of code.now) self.old shared }
+        requires there { number < length self.old.versions.items }
+        requires digest { digest.now.0 ≡ H.hash state.now }
+        ensures same { let P = program_of code.now in IfOk result (λ same. (shared : meant.Shared) → Shares H.hash P self.old shared
+            → same ≡ bytes_eq (meant.state_spelling H.hash P (meant.version_at shared.versions number)) state.now) }
+        ensures shares { let P = program_of code.now in (shared : meant.Shared) → Shares H.hash P self.old shared → Shares H.hash P self.new shared }
+        ensures rest { AreKept self.old self.new }
+    {
+        let version = self.versions[number];
+        let size = self.store.shallow_size(version) as usize;
+        if size != state.len() {
+            return Ok(false);
+        }
+        if self.digests.is_other(number, digest) {
+            return Ok(false);
+        }
+        let spelling = version_spelling::<H>(alloc, code, &self.store, version)?;
+        if spelling.as_bytes() == state {
+            return Ok(true);
+        }
+        self.digests.note(number, H::of(spelling.as_bytes()))?;
+        Ok(false)
     }
 
     /// The spelling of the last version. `AllocError` where there is no memory for it.

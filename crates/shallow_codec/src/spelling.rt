@@ -36,9 +36,36 @@ pub fn spell<N: Nodes>(
         → StandsFor (ProverNodes (digest_at hash (types_meaning types.now))) (table types.now) (N.nodes store.now) r.0 (ty_of types.now ty) v
         → bytes ≡ spelling (projection hash (types_meaning types.now) (ty_of types.now ty) v)) }
 {
-    let mut bytes = Vec::with_capacity(alloc, store.shallow_size(r) as usize)?;
-    write(store, r, &mut bytes)?;
+    let mut bytes = Vec::new(alloc);
+    spell_into(types, store, r, ty, &mut bytes)?;
     Ok(Spelling::new(bytes))
+}
+
+/// The same spelling, in place of what a buffer held. Memory is taken where the buffer has less than the spelling needs, and no more than
+/// it needs.
+///
+/// # Errors
+///
+/// `AllocError` where there is no memory for the spelling.
+pub fn spell_into<N: Nodes>(
+    types: &Types,
+    store: &N,
+    r: Ref,
+    ty: TyId,
+    buffer: &mut Vec<u8>,
+) -> Result<(), AllocError>
+    requires { (v : Value) × StandsFor VerifierNodes (table types.now) (N.nodes store.now) r.0 (ty_of types.now ty) v }
+    ensures spelling { IfOk result
+        (λ _. (v : Value) → StandsFor VerifierNodes (table types.now) (N.nodes store.now) r.0 (ty_of types.now ty) v → buffer.new.items ≡ spelling v) }
+    ensures projected { IfOk result
+        (λ _. (hash : Hash) (v : Value) → IsHash hash
+        → StandsFor (ProverNodes (digest_at hash (types_meaning types.now))) (table types.now) (N.nodes store.now) r.0 (ty_of types.now ty) v
+        → buffer.new.items ≡ spelling (projection hash (types_meaning types.now) (ty_of types.now ty) v)) }
+{
+    buffer.clear();
+    buffer.reserve_exact(store.shallow_size(r) as usize)?;
+    write(store, r, buffer)?;
+    Ok(())
 }
 
 /// Writes the spelling of what the node stands for behind the bytes. What is spelled by nothing is passed over at once, however many

@@ -1,11 +1,12 @@
 // The last new piece that was read.
-ghost use Rattle.std.specs.Prelude.{List, IfSome};
+ghost use Rattle.std.specs.Prelude.{◌≡◌, List, [], IfSome};
 ghost use Rattle.core_terms.specs.declared.program_types.Types.{Types as Typed};
 ghost use Rattle.value_store.specs.Nodes.{Node};
 ghost use Rattle.verifier_mode.specs.LastReads.{IsRead, KnowsLast};
 
 use core_terms::TyId;
 use std::alloc::Global;
+use std::mem;
 use value_store::Ref;
 
 /// The last new piece that was read, at a type: where it comes again at this type, its value stands among the nodes already.
@@ -32,7 +33,7 @@ pub(crate) fn value_again(last: &Option<LastRead>, ty: TyId, piece: &[u8]) -> Op
     }
 }
 
-/// Notes a new piece that was read as the last one. Where it was so already, or memory is wanting, nothing changes.
+/// Notes a new piece that was read as the last one, in the memory of the one before it. Where memory is wanting, none is noted.
 pub(crate) fn note_read(
     last: &mut Option<LastRead>,
     alloc: Global,
@@ -45,7 +46,31 @@ pub(crate) fn note_read(
     if value_again(last, ty, piece).is_some() {
         return;
     }
-    if let Ok(piece) = Vec::from_slice(alloc, piece) {
-        *last = Some(LastRead { ty, piece, value });
+    let mut noted = piece_of(mem::replace(last, None), alloc);
+    if noted.extend_from_slice(piece).is_ok() {
+        *last = Some(LastRead {
+            ty,
+            piece: noted,
+            value,
+        });
+    }
+}
+
+/// The memory of a piece that was noted, empty.
+fn piece_of(noted: Option<LastRead>, alloc: Global) -> Vec<u8>
+    ensures { result.items ≡ [] }
+{
+    match noted {
+        Some(
+            LastRead {
+                ty: _,
+                mut piece,
+                value: _,
+            },
+        ) => {
+            piece.clear();
+            piece
+        }
+        None => Vec::new(alloc),
     }
 }

@@ -14,7 +14,7 @@ use lam_outside::Source;
 use mode_vm::{Mode, Stop};
 use proof_stream::{Frame, FrameReader};
 use reuse_buffer::Ring;
-use shallow_codec::spell;
+use shallow_codec::{SpareBuffer, spell_into};
 use std::alloc::Global;
 use std::marker::PhantomData;
 use value_store::{Held, Nodes, Ref};
@@ -39,6 +39,7 @@ pub struct Verifier<H, S> {
     ring: Ring,
     place: u64,
     last: Option<LastRead>,
+    spare: SpareBuffer,
     hash: PhantomData<H>,
     source: PhantomData<S>,
 }
@@ -56,6 +57,7 @@ impl<H: Hash32, S: Source> Verifier<H, S> {
             ring,
             place: 0,
             last: None,
+            spare: SpareBuffer::new(alloc),
             hash: PhantomData,
             source: PhantomData,
         }
@@ -70,11 +72,13 @@ impl<H: Hash32, S: Source> Verifier<H, S> {
             ring,
             place: _,
             last,
+            spare,
             hash: _,
             source: _,
         } = self;
         drop(reader);
         drop(last);
+        drop(spare);
         ring
     }
 }
@@ -123,8 +127,10 @@ impl<H: Hash32, S: Source> Mode for Verifier<H, S> {
         ty: TyId,
         v: Ref,
     ) -> Result<Ref, Stop<VerifierFault>> {
-        let spelling = spell(store.alloc(), types, store, v, ty)?;
-        let digest = H::of(spelling.as_bytes());
+        let mut spelling = self.spare.take();
+        spell_into(types, store, v, ty, &mut spelling)?;
+        let digest = H::of(&spelling);
+        self.spare.keep(spelling);
         Ok(store.put_auth(Held::Only(digest))?)
     }
 
@@ -146,7 +152,8 @@ impl<H: Hash32, S: Source> Mode for Verifier<H, S> {
                 let found = H::of(&piece);
                 let fresh = open_piece(types, store, ty, asked, &piece, found, &self.last)?;
                 note_read(&mut self.last, store.alloc(), ty, &piece, fresh);
-                self.ring.push(piece);
+                let oldest = self.ring.push(piece);
+                self.reader.reuse(oldest);
                 self.place += 1;
                 Ok(fresh)
             }

@@ -51,7 +51,7 @@ below : (m n : ℕ) → m < n → nat_lt m n ≡ true
 below m n h = grind (arith, common_steps)
 
 -- what was taken ends inside of the body
-body_unfinished : (bytes : List ℕ) (left : Option (List ℕ)) → 4 ≤ length bytes → length_field bytes ≤ message_limit → TookLess (length_field bytes) (drop 4 bytes) left
+pub body_unfinished : (bytes : List ℕ) (left : Option (List ℕ)) → 4 ≤ length bytes → length_field bytes ≤ message_limit → TookLess (length_field bytes) (drop 4 bytes) left
     → TookUnfinished bytes left
 body_unfinished bytes left four fits took =
     let n = took.0 in
@@ -127,7 +127,7 @@ cut_read of (b ∷ bytes) (some, inr (four, fits, short)) =
       below (length (drop 4 (b ∷ bytes))) (length_field (b ∷ bytes)) short,
     ) refl
 
-short_read : {A : Type 0} (of : ℕ → List ℕ → meant.Body A) (bytes : List ℕ) → (bytes ≡ []) ⊎ IsCutOff bytes → StopsShort (meant.read_message of bytes)
+pub short_read : {A : Type 0} (of : ℕ → List ℕ → meant.Body A) (bytes : List ℕ) → (bytes ≡ []) ⊎ IsCutOff bytes → StopsShort (meant.read_message of bytes)
 short_read of bytes (inl none) = inl (ap (meant.read_message of) none)
 short_read of bytes (inr cut) = inr (cut_read of bytes cut)
 

@@ -1,7 +1,7 @@
 -- Bytes of a message that were sent: for write_message and write_request.
-use Rattle.std.proofs.Common.{◌≡◌, ◌+◌, ◌<◌, ℕ, List, ◌∷◌, ◌++◌, length, take, Option, Result, Ok, Err, IsErrAnd, sym, ap, subst, ◌∙◌, arith, append_assoc}
+use Rattle.std.proofs.Common.{◌≡◌, ◌+◌, ◌<◌, ℕ, List, ◌∷◌, ◌++◌, length, take, drop, Option, Result, Ok, Err, IsErrAnd, refl, sym, ap, subst, ◌∙◌, arith, append_assoc}
 use Rattle.std.proofs.Math.Seq.{take-append-add}
-use Rattle.std.proofs.lemmas.List.{append-nil, length-append, take-append-le}
+use Rattle.std.proofs.lemmas.List.{append-nil, length-append, take-append-drop, take-append-le}
 use Rattle.std.specs.Int.{w16, w32, w64, to_be_bytes}
 use Rattle.std.specs.Io.KnownBytes.{append_known}
 use Rattle.lam_outside.proofs.Moved.{append_twice}
@@ -13,6 +13,14 @@ use Rattle.wire_form.specs.declared.message.WriteStop.{WriteStop}
 pub head_and_tail : (fields tail head : List ℕ) → head ≡ to_be_bytes w32 (length fields + length tail) ++ fields → meant.message (fields ++ tail) ≡ head ++ tail
 head_and_tail fields tail head is =
     rw (is, length-append fields tail) (sym (append_assoc (to_be_bytes w32 (length fields + length tail)) fields tail))
+
+-- the same with the first bytes of the tail put to the head
+pub front_and_rest : (fields tail front : List ℕ) (n : ℕ) → front ≡ (to_be_bytes w32 (length fields + length tail) ++ fields) ++ take n tail
+    → meant.message (fields ++ tail) ≡ front ++ drop n tail
+front_and_rest fields tail front n is =
+    let head = to_be_bytes w32 (length fields + length tail) ++ fields in
+    head_and_tail fields tail head refl ∙ ap (λ t. head ++ t) (sym (take-append-drop n tail)) ∙ sym (append_assoc head (take n tail) (drop n tail))
+    ∙ ap (λ f. f ++ drop n tail) (sym is)
 
 -- a front of the head was sent
 pub part_of_head : (whole head tail : List ℕ) (sent sent' : Option (List ℕ)) (result : Result (Unit {0}) WriteStop) (stop : WriteStop) → IsErrAnd result (λ e. e ≡ stop)

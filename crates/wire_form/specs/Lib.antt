@@ -3,4 +3,5 @@ pub mod MessageViews
 pub mod MovedBytes
 pub mod ReadMessages
 pub mod TakenFields
+pub mod Waits
 pub mod WrittenMessages

@@ -3,6 +3,7 @@ ghost use Rattle.std.specs.Prelude.{◌≡◌, ◌≤◌, length, IfOk};
 ghost use Rattle.std.specs.Option.{ForSome};
 ghost use Rattle.std.specs.Io.{ReadsAtMost};
 ghost use Rattle.lam_outside.specs.Causes.{HasCause};
+ghost use Rattle.lam_outside.specs.Moments.{AtEachRead, Notes, WaitsWithin};
 ghost use Rattle.lam_outside.specs.Told.{Reads};
 ghost use Rattle.session_meaning.specs.Messages.{message_limit};
 ghost use Rattle.wire_form.specs.Incoming.{BodyCame, IsWithinLimit, LengthCame, ReadCause};
@@ -23,6 +24,7 @@ const CHUNK: usize = 4096;
 pub fn read_length<L: Link>(link: &mut L) -> Result<u32, ReadStop>
     ensures came { ForSome (L.left link.old) (λ bytes. LengthCame bytes (L.left link.new) result) }
     ensures fits { IfOk result (λ len. len ≤ message_limit) }
+    ensures waits { ForSome (L.left link.old) (λ bytes. AtEachRead (WaitsWithin 4 bytes (L.sent link.old)) (L.reads link.old) (L.reads link.new)) }
     ensures moves { Moves (L.given link.old) (L.left link.old) (L.given link.new) (L.left link.new) }
     ensures sent { L.sent link.new ≡ L.sent link.old }
     ensures beyond { L.beyond link.new ≡ L.beyond link.old }
@@ -50,6 +52,7 @@ fn within_limit(len: u32) -> Result<u32, ReadStop>
 pub fn read_body<L: Link>(alloc: Global, link: &mut L, len: usize) -> Result<Vec<u8>, ReadStop>
     ensures came { ForSome (L.left link.old) (λ bytes. BodyCame len bytes (L.left link.new) result) }
     ensures whole { IfOk result (λ body. length body.items ≡ len) }
+    ensures waits { ForSome (L.left link.old) (λ bytes. AtEachRead (WaitsWithin len bytes (L.sent link.old)) (L.reads link.old) (L.reads link.new)) }
     ensures moves { Moves (L.given link.old) (L.left link.old) (L.given link.new) (L.left link.new) }
     ensures sent { L.sent link.new ≡ L.sent link.old }
     ensures beyond { L.beyond link.new ≡ L.beyond link.old }
@@ -72,6 +75,7 @@ pub fn read_body<L: Link>(alloc: Global, link: &mut L, len: usize) -> Result<Vec
 fn read_some<L: Link>(link: &mut L, into: &mut [u8]) -> Result<usize, Failed>
     ensures bound { ReadsAtMost result into.new }
     ensures bytes { Reads (L.given link.old) (L.left link.old) (L.given link.new) (L.left link.new) into.new result }
+    ensures noted { Notes (L.reads link.old) (L.reads link.new) (L.left link.old) (L.sent link.old) result }
     ensures sent { L.sent link.new ≡ L.sent link.old }
     ensures beyond { L.beyond link.new ≡ L.beyond link.old }
     ensures cause { HasCause (L.faults link.old) (L.faults link.new) result }

@@ -6,6 +6,8 @@ ghost use Rattle.session_meaning.specs.ReplyLaws.{HasArgumentBytes};
 ghost use Rattle.wire_form.specs.Incoming.{ReadCause, WholeCame};
 ghost use Rattle.wire_form.specs.MessageViews.{reply_meant, request_meant};
 ghost use Rattle.wire_form.specs.MovedBytes.{Moves};
+ghost use Rattle.lam_outside.specs.Moments.{AtEachRead};
+ghost use Rattle.wire_form.specs.Waits.{WaitsInside};
 ghost use Rattle.wire_form.specs.ReadMessages.{ReadsMessage, SaysWhole};
 
 use crate::body::{BodyFault, reply, request};
@@ -25,6 +27,7 @@ pub fn read_request<L: Link>(alloc: Global, link: &mut L) -> Result<Request, Rea
     ensures reads { ForSome (L.left link.old) (λ bytes. ReadsMessage request_meant meant.read_request bytes (L.left link.new) result) }
     ensures message { IfOk result (λ request. meant.IsRequest (request_meant request)) }
     ensures argument { IfOk result (λ request. HasArgumentBytes (request_meant request)) }
+    ensures waits { ForSome (L.left link.old) (λ bytes. AtEachRead (WaitsInside bytes (L.sent link.old)) (L.reads link.old) (L.reads link.new)) }
     ensures moves { Moves (L.given link.old) (L.left link.old) (L.given link.new) (L.left link.new) }
     ensures sent { L.sent link.new ≡ L.sent link.old }
     ensures beyond { L.beyond link.new ≡ L.beyond link.old }
@@ -39,6 +42,7 @@ pub fn read_request<L: Link>(alloc: Global, link: &mut L) -> Result<Request, Rea
 pub fn read_reply<L: Link>(alloc: Global, link: &mut L) -> Result<Reply, ReadStop>
     ensures reads { ForSome (L.left link.old) (λ bytes. ReadsMessage reply_meant meant.read_reply bytes (L.left link.new) result) }
     ensures message { IfOk result (λ reply. meant.IsReply (reply_meant reply)) }
+    ensures waits { ForSome (L.left link.old) (λ bytes. AtEachRead (WaitsInside bytes (L.sent link.old)) (L.reads link.old) (L.reads link.new)) }
     ensures moves { Moves (L.given link.old) (L.left link.old) (L.given link.new) (L.left link.new) }
     ensures sent { L.sent link.new ≡ L.sent link.old }
     ensures beyond { L.beyond link.new ≡ L.beyond link.old }
@@ -52,6 +56,7 @@ pub fn read_reply<L: Link>(alloc: Global, link: &mut L) -> Result<Reply, ReadSto
 fn read_whole<L: Link>(alloc: Global, link: &mut L) -> Result<Vec<u8>, ReadStop>
     ensures came { ForSome (L.left link.old) (λ bytes. WholeCame bytes (L.left link.new) result) }
     ensures fits { IfOk result (λ body. length body.items ≤ meant.message_limit) }
+    ensures waits { ForSome (L.left link.old) (λ bytes. AtEachRead (WaitsInside bytes (L.sent link.old)) (L.reads link.old) (L.reads link.new)) }
     ensures moves { Moves (L.given link.old) (L.left link.old) (L.given link.new) (L.left link.new) }
     ensures sent { L.sent link.new ≡ L.sent link.old }
     ensures beyond { L.beyond link.new ≡ L.beyond link.old }

@@ -1,5 +1,5 @@
 // Messages that are written to a link.
-ghost use Rattle.std.specs.Prelude.{◌≡◌, ◌≤◌, ◌+◌, ◌++◌, ◌∷◌, [], length, IfOk, OnOk};
+ghost use Rattle.std.specs.Prelude.{◌≡◌, ◌≤◌, ◌+◌, ◌++◌, ◌∷◌, [], length, take, IfOk, OnOk};
 ghost use Rattle.std.specs.Int.{w16, w32, to_be_bytes};
 ghost use Rattle.session_meaning.specs.Messages as meant;
 ghost use Rattle.wire_form.specs.MessageViews.{reply_meant, request_meant};
@@ -20,6 +20,7 @@ pub fn write_request<L: Link>(
 ) -> Result<(), WriteStop>
     requires { meant.IsRequest (request_meant message.now) }
     ensures sends { Sends (meant.request_bytes (request_meant message.now)) (L.sent link.old) (L.sent link.new) result }
+    ensures reads { L.reads link.new ≡ L.reads link.old }
     ensures given { L.given link.new ≡ L.given link.old }
     ensures left { L.left link.new ≡ L.left link.old }
     ensures beyond { L.beyond link.new ≡ L.beyond link.old }
@@ -33,6 +34,7 @@ pub fn write_request<L: Link>(
 pub fn write_reply<L: Link>(alloc: Global, link: &mut L, message: &Reply) -> Result<(), WriteStop>
     requires { meant.IsReply (reply_meant message.now) }
     ensures sends { Sends (meant.reply_bytes (reply_meant message.now)) (L.sent link.old) (L.sent link.new) result }
+    ensures reads { L.reads link.new ≡ L.reads link.old }
     ensures given { L.given link.new ≡ L.given link.old }
     ensures left { L.left link.new ≡ L.left link.old }
     ensures beyond { L.beyond link.new ≡ L.beyond link.old }
@@ -42,7 +44,11 @@ pub fn write_reply<L: Link>(alloc: Global, link: &mut L, message: &Reply) -> Res
     write_message(alloc, link, &fields, tail_of_reply(message))
 }
 
-/// Writes the length of a body, its first fields, and its last one.
+/// How many bytes of the last field are sent with the fields before it, at most.
+const JOINED: usize = 16_384;
+
+/// Writes the length of a body, its first fields, and its last one. So that a short message is sent at once, the first bytes of the last
+/// field go with the fields before it.
 fn write_message<L: Link>(
     alloc: Global,
     link: &mut L,
@@ -51,25 +57,34 @@ fn write_message<L: Link>(
 ) -> Result<(), WriteStop>
     requires { length fields.now + length tail.now ≤ meant.message_limit }
     ensures sends { Sends (meant.message (fields.now ++ tail.now)) (L.sent link.old) (L.sent link.new) result }
+    ensures reads { L.reads link.new ≡ L.reads link.old }
     ensures given { L.given link.new ≡ L.given link.old }
     ensures left { L.left link.new ≡ L.left link.old }
     ensures beyond { L.beyond link.new ≡ L.beyond link.old }
     ensures cause { WriteCause (L.faults link.old) (L.faults link.new) result }
 {
-    let head = with_length(alloc, fields, tail.len())?;
-    send_all(link, &head)?;
-    Ok(send_all(link, tail)?)
+    let joined = tail.len().min(JOINED);
+    let front = front_of_message(alloc, fields, tail, joined)?;
+    send_all(link, &front)?;
+    Ok(send_all(link, &tail[joined..])?)
 }
 
-/// The fields behind the length of a body that ends with so many bytes more.
-fn with_length(alloc: Global, fields: &[u8], more: usize) -> Result<Vec<u8>, AllocError>
-    requires { length fields.now + more ≤ meant.message_limit }
-    ensures { IfOk result (λ head. head.items ≡ to_be_bytes w32 (length fields.now + more) ++ fields.now) }
+/// The length of a body, its first fields, and so many bytes of its last one.
+fn front_of_message(
+    alloc: Global,
+    fields: &[u8],
+    tail: &[u8],
+    joined: usize,
+) -> Result<Vec<u8>, AllocError>
+    requires fits { length fields.now + length tail.now ≤ meant.message_limit }
+    requires joined { joined ≤ length tail.now }
+    ensures { IfOk result (λ front. front.items ≡ (to_be_bytes w32 (length fields.now + length tail.now) ++ fields.now) ++ take joined tail.now) }
 {
-    let mut head = Vec::new(alloc);
-    head.extend_from_slice(&((fields.len() + more) as u32).to_be_bytes())?;
-    head.extend_from_slice(fields)?;
-    Ok(head)
+    let mut front = Vec::new(alloc);
+    front.extend_from_slice(&((fields.len() + tail.len()) as u32).to_be_bytes())?;
+    front.extend_from_slice(fields)?;
+    front.extend_from_slice(&tail[..joined])?;
+    Ok(front)
 }
 
 /// The kind, the session and the other fields of a request, but the last one that has no fixed length.

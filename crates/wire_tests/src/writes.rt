@@ -26,6 +26,10 @@ impl Source for Full {
 
     ghost left = { λ _. None };
 
+    ghost sent = { λ _. None };
+
+    ghost reads = { λ _. None };
+
     ghost faults = { λ link. link.faults };
 
     ghost Rest = { Unit {0} };
@@ -38,13 +42,9 @@ impl Source for Full {
 }
 
 impl Link for Full {
-    ghost sent = { λ _. None };
-
     ghost Beyond = { Unit {0} };
 
     ghost beyond = { λ _. tt };
-
-    ghost rest_has_sent = { λ old new same. refl };
 
     ghost rest_has_beyond = { λ old new same. refl };
 

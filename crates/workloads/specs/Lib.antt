@@ -1,2 +1,3 @@
 pub mod Workloads
 pub mod Sums
+pub mod WorkloadRows

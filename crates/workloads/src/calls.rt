@@ -14,17 +14,18 @@ ghost use Rattle.mode_vm.specs.Meanings.{program_of};
 ghost use Rattle.mode_vm.specs.StateCalls.{IsCalledOn, TakesState};
 ghost use Rattle.prover_mode.specs.Calls.{IsAccepted};
 ghost use Rattle.verifier_mode.specs.declared.verdict.Verdict.TheVariants.{NoMemory};
-ghost use Rattle.workloads.specs.Sums.{IsCounted, is_done, one_if};
-ghost use Rattle.workloads.specs.Workloads.{call_fuel, done_in, outcome_of};
+ghost use Rattle.verified_calls.specs.Verified.{IsCallOf, IsVerified};
+ghost use Rattle.workloads.specs.Sums.{IsChecked, IsCounted};
+ghost use Rattle.workloads.specs.Workloads.{call_fuel, outcome_of};
 
 use code_gen::Code;
 use core_terms::{FunctionId, Hash32, Outcome, Spelling, TyId};
-use lam_outside::Bytes;
 use prover_mode::prove_file;
 use shallow_codec::spell;
 use std::alloc::{AllocError, Global};
 use value_store::{Nodes, Ref};
-use verifier_mode::{Verdict, argument_of, verify};
+use verified_calls::{VerifiedCall, verify_call};
+use verifier_mode::{Verdict, argument_of};
 
 /// The fuel of each call.
 const CALL_FUEL: u64 = 1_000_000;
@@ -34,14 +35,12 @@ const CALL_FUEL: u64 = 1_000_000;
 pub(crate) struct CheckedCall {
     /// How the call ended, with the node of its value.
     pub(crate) value: Outcome<Ref>,
-    /// Whether it ended with a value, as the verifier tells.
-    pub(crate) is_done: bool,
+    /// The call with its proof file, as it was verified.
+    pub(crate) verified: VerifiedCall,
     /// The number of frames with a piece of their own.
     pub(crate) fresh: u64,
     /// The number of frames that name a kept piece.
     pub(crate) again: u64,
-    /// The number of bytes of the proof file.
-    pub(crate) bytes: usize,
 }
 
 /// Proves a call of a query or an update on a state and an argument that stand among the prover's nodes, into a proof file that asks for
@@ -63,6 +62,8 @@ pub(crate) fn checked_call<H: Hash32, N: Nodes>(
         → IsOutcome (ProverNodes (digest_at H.hash P)) P.types (N.nodes store.new) (function_at P role.0).result call.value (outcome_of P role.0 s a)) }
     ensures counted { let P = program_of code.now in IfOk result (λ call. (s a : Value) → IsCalledOn H.hash P role.0 (N.nodes store.old) state argument s a
         → IsCounted H.hash P kept role.0 s a call) }
+    ensures checked { let P = program_of code.now in IfOk result (λ call. (s a : Value) → IsCalledOn H.hash P role.0 (N.nodes store.old) state argument s a
+        → IsChecked H.hash P kept role s a call) }
     ensures keeps { Keeps (N.nodes store.old) (N.nodes store.new) }
     ensures lent { N.lent store.new ≡ N.lent store.old }
 {
@@ -71,43 +72,33 @@ pub(crate) fn checked_call<H: Hash32, N: Nodes>(
     let spelled_argument = spelled::<H, N>(alloc, code, store, argument, argument_type)?;
     let proof = prove_file::<H, N>(alloc, code, store, role, state, argument, CALL_FUEL, kept)?;
     let (proved, file) = proof;
-    let call = CheckedCall {
+    let verified = verified::<H>(alloc, code, role, spelled_state, spelled_argument, file)?;
+    Ok(CheckedCall {
         value: proved.value,
-        is_done: is_verified_as_done::<H>(
-            alloc,
-            code,
-            role,
-            spelled_state.as_bytes(),
-            spelled_argument.as_bytes(),
-            &file,
-        )?,
+        verified,
         fresh: proved.fresh,
         again: proved.again,
-        bytes: file.len(),
-    };
-    Ok(call)
+    })
 }
 
-/// Verifies a proof file that is accepted, and tells whether the outcome has a value.
-fn is_verified_as_done<H: Hash32>(
+/// Verifies a proof file that is accepted.
+fn verified<H: Hash32>(
     alloc: Global,
     code: &Code,
     role: FunctionId,
-    state: &[u8],
-    argument: &[u8],
-    file: &[u8],
-) -> Result<bool, AllocError>
+    state: Spelling,
+    argument: Spelling,
+    file: Vec<u8>,
+) -> Result<VerifiedCall, AllocError>
     requires there { role.0 < length (program_of code.now).functions }
     requires role { TakesState (program_of code.now) role.0 }
-    requires accepted { let P = program_of code.now in (s : Value) × (a : Value) × (state.now ≡ spelling (projection H.hash P P.state s))
-        × (argument.now ≡ spelling (projection H.hash P (argument_type P role.0) a)) × IsAccepted H.hash P role.0 s a call_fuel file.now }
-    ensures { let P = program_of code.now in IfOk result (λ is_done. (s a : Value) → state.now ≡ spelling (projection H.hash P P.state s)
-        → argument.now ≡ spelling (projection H.hash P (argument_type P role.0) a) → IsAccepted H.hash P role.0 s a call_fuel file.now
-        → one_if is_done ≡ done_in (outcome_of P role.0 s a)) }
+    requires accepted { let P = program_of code.now in (s : Value) × (a : Value) × (state ≡ spelling (projection H.hash P P.state s))
+        × (argument ≡ spelling (projection H.hash P (argument_type P role.0) a)) × IsAccepted H.hash P role.0 s a call_fuel file.items }
+    ensures call { IfOk result (IsCallOf role state argument call_fuel file.items) }
+    ensures accepted { IfOk result (IsVerified H.hash (program_of code.now)) }
 {
-    let mut proof = Bytes::new(file);
-    match verify::<H, Bytes>(alloc, code, role, state, argument, CALL_FUEL, &mut proof) {
-        Ok(outcome) => Ok(has_value(&outcome)),
+    match verify_call::<H>(alloc, code, role, state, argument, CALL_FUEL, file) {
+        Ok(call) => Ok(call),
         Err(refusal) => Err(want_of_memory(refusal)),
     }
 }
@@ -120,13 +111,6 @@ fn want_of_memory(refusal: Verdict) -> AllocError
         Verdict::NoMemory => AllocError,
         _ => unreachable!(),
     }
-}
-
-/// Whether an outcome has a value.
-fn has_value(outcome: &Outcome<Spelling>) -> bool
-    ensures { result ≡ is_done outcome.now }
-{
-    matches!(outcome, Outcome::Done(_))
 }
 
 /// The spelling of the projection of what a node of the prover's stands for, at a type.

@@ -1,9 +1,10 @@
 // Sums over calls.
 ghost use Rattle.std.specs.Prelude.{◌≡◌, ◌<◌, ◌+◌, ◌^◌, suc};
 ghost use Rattle.workloads.specs.Workloads.{no_calls};
-ghost use Rattle.workloads.specs.Sums.{IsBounded, call_added};
+ghost use Rattle.workloads.specs.Sums.{IsBounded, call_added, is_done};
 
 use crate::calls::CheckedCall;
+use core_terms::{Outcome, Spelling};
 
 /// Sums over calls, each of which was proved into a proof file of its own.
 #[derive(Clone, Copy)]
@@ -43,9 +44,16 @@ impl Tally {
         ensures bounded { IsBounded self.new }
     {
         self.calls += 1;
-        self.done += u64::from(call.is_done);
+        self.done += u64::from(has_value(call.verified.outcome()));
         self.fresh += u128::from(call.fresh);
         self.again += u128::from(call.again);
-        self.bytes += call.bytes as u128;
+        self.bytes += call.verified.file().len() as u128;
     }
+}
+
+/// Whether an outcome has a value.
+fn has_value(outcome: &Outcome<Spelling>) -> bool
+    ensures { result ≡ is_done outcome.now }
+{
+    matches!(outcome, Outcome::Done(_))
 }

@@ -19,15 +19,20 @@ returns-in-redblack-clause-known c = ((λ _. (2, search rules, search rules)), �
 
 pub returns-in-redblack-clause-text : goal.returns-in-redblack-clause-text
 unfolding library_text
-returns-in-redblack-clause-text c = found_behind _ (codes "bst") _ _ _ c.in-redblack.not-bst (found_behind _ (codes "merkle") _ _ _ c.in-redblack.not-merkle (found_under _ (codes "redblack") _ _ c.in-redblack.is))
+returns-in-redblack-clause-text c = found_behind _ (codes "bst") _ _ _ c.in-redblack.not-bst
+    (found_behind _ (codes "merkle") _ _ _ c.in-redblack.not-merkle (found_under _ (codes "redblack") _ _ c.in-redblack.is))
 
 pub returns-in-skiplist-clause-known : goal.returns-in-skiplist-clause-known
 returns-in-skiplist-clause-known c = ((λ _. (3, search rules, search rules)), λ _. search rules)
 
 pub returns-in-skiplist-clause-text : goal.returns-in-skiplist-clause-text
 unfolding library_text
-returns-in-skiplist-clause-text c = found_behind _ (codes "bst") _ _ _ c.in-skiplist.not-bst (found_behind _ (codes "merkle") _ _ _ c.in-skiplist.not-merkle (found_behind _ (codes "redblack") _ _ _ c.in-skiplist.not-redblack (found_under _ (codes "skiplist") _ _ c.in-skiplist.is)))
+returns-in-skiplist-clause-text c = found_behind _ (codes "bst") _ _ _ c.in-skiplist.not-bst
+    (found_behind _ (codes "merkle") _ _ _ c.in-skiplist.not-merkle
+    (found_behind _ (codes "redblack") _ _ _ c.in-skiplist.not-redblack (found_under _ (codes "skiplist") _ _ c.in-skiplist.is)))
 
 pub returns-in_default-clause-text : goal.returns-in_default-clause-text
 unfolding library_text
-returns-in_default-clause-text c = found_behind _ (codes "bst") _ _ _ c.in_default.not-bst (found_behind _ (codes "merkle") _ _ _ c.in_default.not-merkle (found_behind _ (codes "redblack") _ _ _ c.in_default.not-redblack (found_behind _ (codes "skiplist") _ _ _ c.in_default.not-skiplist (refl))))
+returns-in_default-clause-text c = found_behind _ (codes "bst") _ _ _ c.in_default.not-bst
+    (found_behind _ (codes "merkle") _ _ _ c.in_default.not-merkle
+    (found_behind _ (codes "redblack") _ _ _ c.in_default.not-redblack (found_behind _ (codes "skiplist") _ _ _ c.in_default.not-skiplist (refl))))

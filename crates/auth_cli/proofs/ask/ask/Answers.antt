@@ -25,10 +25,11 @@ returns-in-Ok-clause-ends g c =
       write_faults = done.write_faults;
       told = done.told;
       played = λ after is. played_on (asked_by c.args.client.now) done.end
-          (links_so_far (g.N.Net.ended before) (g.N.Net.linked before) (g.N.Source.given before) (g.N.Source.left before) (g.N.Link.sent before))
-          (g.N.Net.ended made) (g.N.Net.ended behind) (g.N.Net.linked made) (g.N.Net.linked behind) (g.N.Source.given before) (g.N.Link.sent before)
-          (g.N.Source.given made) (g.N.Source.left made) (g.N.Link.sent made) (g.N.Source.given behind) (g.N.Source.left behind) (g.N.Link.sent behind)
-          (g.O.Sink.written c.args.out.now) done.written done.last after dialled.made ended linked c.play_and_store.ensures.moves done.plays done.halts is;
+          (links_so_far (g.N.Net.ended before) (g.N.Net.linked before) (g.N.Source.given before) (g.N.Source.left before) (g.N.Source.sent before) (g.N.Source.reads before))
+          (g.N.Net.ended made) (g.N.Net.ended behind) (g.N.Net.linked made) (g.N.Net.linked behind) (g.N.Source.given before) (g.N.Source.sent before)
+          (g.N.Source.given made) (g.N.Source.left made) (g.N.Source.sent made) (g.N.Source.given behind) (g.N.Source.left behind) (g.N.Source.sent behind)
+          (g.N.Source.reads made) (g.N.Source.reads behind) (g.O.Sink.written c.args.out.now) done.written done.last after dialled.made ended linked
+          c.play_and_store.ensures.moves done.plays done.halts c.play_and_store.ensures.prompt is;
       faults = net_counts done.end (g.N.Source.faults before) (g.N.Source.faults made) (g.N.Source.faults behind) (g.N.Net.listen_faults before) (g.N.Net.listen_faults behind)
           (g.N.Net.accept_faults before) (g.N.Net.accept_faults behind) (g.N.Net.dial_faults before) (g.N.Net.dial_faults behind) dialled.faults done.link_faults
           (listens ∙ dialled.listens) (accepts ∙ dialled.accepts) (dials ∙ dialled.cause.kept);
@@ -47,7 +48,7 @@ returns-in-Err-clause-ends g c =
       of_links = fails.faults;
       listens = fails.listens;
       accepts = fails.accepts;
-      links = same_links _ _ _ _ _ _ _ _ _ _ fails.ended fails.linked fails.given fails.left fails.sent;
+      links = same_links _ _ _ _ _ _ _ _ _ _ _ _ fails.ended fails.linked fails.given fails.left fails.sent fails.reads;
       listened = fails.listened;
       told = line_told _ _ c.link_fault_line.ensures c.as_bytes.ensures.value c.tell_text.result _ _ _ _ c.tell_text.ensures;
       stores = refl;

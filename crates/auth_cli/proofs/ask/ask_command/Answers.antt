@@ -4,7 +4,7 @@ use Rattle.file_commands.specs.Answer.{unasked_answer}
 use Rattle.auth_cli.specs.PreparedClients.{asked_by}
 use Rattle.file_commands.specs.declared.report.Report.{Report}
 use Rattle.auth_cli.proofs.AskCounted.{asking_counted, asking_possible, asking_reads, unasked_counted}
-use Rattle.auth_cli.proofs.AskRuns.{asked_from, asking_apart, unasked_apart}
+use Rattle.auth_cli.proofs.AskRuns.{asked_from, asked_of_words, asking_apart, unasked_apart}
 use Rattle.file_commands.proofs.Ends.{ends_as, judging}
 use Rattle.file_commands.proofs.Possible.{found_possible, told_possible}
 use Rattle.auth_cli.proofs.ServeRuns.{halted_at, same_seen}
@@ -20,6 +20,7 @@ returns-in-Ok-clause-ends g c =
       asking = asking;
       name = text_at words 4;
       calls = record { means = λ files known. asking_apart words files asking c.requires (read.goes files known); of_texts = read.of_texts };
+      of_words = asked_of_words words asking c.requires read.port;
       ends = asked_from asking (text_at words 4) _ _ _ _ _ c.ask.result (same_seen _ _ _ _ _ _ _ _ _ _ read.contents read.stores read.cause read.store_faults) c.ask.ensures.ends;
     })
 

@@ -22,15 +22,20 @@ returns-clause-plays g c =
       write_faults = g.O.Sink.faults c.play-end.new.out;
       told = c.tell_end-told.result;
       plays = λ bytes known. any_client a.program.digested.program a.program.names (g.N.Source.left c.play-end.new.link)
-          (world (g.N.Link.sent c.args.net.now) (g.O.Sink.written c.args.out.now) None)
-          (world (g.N.Link.sent c.play-end.new.link) (g.O.Sink.written c.play-end.new.out) c.play-end.new.last) (asked_play a (messages reply_of bytes)) (StandsFor c.play-end.new.core) end
+          (world (g.N.Source.sent c.args.net.now) (g.O.Sink.written c.args.out.now) None)
+          (world (g.N.Source.sent c.play-end.new.link) (g.O.Sink.written c.play-end.new.out) c.play-end.new.last) (asked_play a (messages reply_of bytes)) (StandsFor c.play-end.new.core) end
           (plays new_client (messages reply_of bytes) c.requires.stands (record { bytes = bytes; told = known; are = refl }));
       halts = λ bytes known. on_fault a.program.digested.program a.program.names (StandsFor c.play-end.new.core) bytes (g.N.Source.left c.play-end.new.link)
-          (world (g.N.Link.sent c.args.net.now) (g.O.Sink.written c.args.out.now) None)
-          (world (g.N.Link.sent c.play-end.new.link) (g.O.Sink.written c.play-end.new.out) c.play-end.new.last) (asked_play a) end (halts new_client bytes c.requires.stands known);
+          (world (g.N.Source.sent c.args.net.now) (g.O.Sink.written c.args.out.now) None)
+          (world (g.N.Source.sent c.play-end.new.link) (g.O.Sink.written c.play-end.new.out) c.play-end.new.last) (asked_play a) end (halts new_client bytes c.requires.stands known);
       link_faults = causes.0;
       writes = causes.1;
       is_told = c.tell_end-told.ensures;
       stored = rw c.deref-3.ensures.value at c.store_state.ensures.stored;
       reads = c.store_state.ensures.faults;
     }
+
+pub returns-clause-prompt : goal.returns-clause-prompt
+returns-clause-prompt g c =
+    let prompt = rw (c.deref.ensures.value, c.deref-2.ensures.value) at c.play-end.ensures.prompt in
+    λ bytes known. prompt new_client bytes c.requires.stands known

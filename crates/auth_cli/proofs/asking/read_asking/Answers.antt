@@ -1,9 +1,9 @@
 use Rattle.std.proofs.Common.{None, Err, ap, sym, subst, ◌∙◌}
 use Rattle.std.proofs.lemmas.Result.{err_from_is_err_and}
 use Rattle.code_gen.specs.Programs.{program_in}
-use Rattle.file_commands.specs.Answer.{unasked_answer, with_asked, with_program_file}
+use Rattle.file_commands.specs.Answer.{Asking, unasked_answer, with_asked, with_program_file}
 use Rattle.auth_cli.specs.Asking.{IsOfTexts}
-use Rattle.auth_cli.specs.PreparedClients.{FitProgram, asked_by}
+use Rattle.auth_cli.specs.PreparedClients.{FitProgram, TellsPort, asked_by}
 use Rattle.file_commands.specs.ReadPrograms.{named_of}
 use Rattle.file_commands.specs.Reaching.{without}
 use Rattle.auth_cli.specs.declared.asking.AskInputs.{AskInputs}
@@ -37,6 +37,10 @@ returns-in-Ok-clause-goes g c = λ told known go.
     let inputs = rw c.program.ensures at c.in-Ok.ensures.goes in
     c.in_ok-code.ensures.goes told known (λ p. with_asked p words.state.now words.port.now words.script.now told go)
     ∙ (inputs told (c.in_ok-code.ensures.contents ∙ known) go ∙ ap go (sym c.prepare.ensures.asks))
+
+pub returns-in-Ok-clause-port : goal.returns-in-Ok-clause-port
+returns-in-Ok-clause-port g c =
+    subst (TellsPort c.args.words.now.port.now) (sym (ap (λ (a : Asking). a.port) c.prepare.ensures.asks)) c.in-Ok.ensures.port
 
 pub returns-in-Ok-clause-of_texts : goal.returns-in-Ok-clause-of_texts
 returns-in-Ok-clause-of_texts g c =

@@ -94,3 +94,6 @@ returns-clause-goes g c = λ told known go.
     c.in_ok-port.ensures.goes (λ n. behind_port (named_of p) words.state.now words.script.now told n go)
     ∙ (c.in_ok-state.ensures.goes told known (λ bytes. behind_state (named_of p) words.script.now told port bytes go)
     ∙ c.in_ok-steps.ensures.goes told (c.in_ok-state.ensures.contents ∙ known) (λ steps. go (record { program = named_of p; state = state; port = port; steps = steps })))
+
+pub returns-clause-port : goal.returns-clause-port
+returns-clause-port g c = c.in_ok-port.ensures.goes

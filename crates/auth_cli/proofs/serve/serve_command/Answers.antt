@@ -2,13 +2,13 @@ use Rattle.std.proofs.Common.{None, Err, inl, inr, refl, sym, subst, ◌∙◌}
 use Rattle.command_words.specs.Commands.{texts}
 use Rattle.command_words.specs.declared.command.Command.TheVariants.{Serve}
 use Rattle.file_commands.specs.Answer.{unserved_answer}
-use Rattle.auth_cli.specs.PreparedServers.{IsPrepared}
+use Rattle.auth_cli.specs.PreparedServers.{TellNumbers, IsPrepared, numbers_held}
 use Rattle.auth_cli.specs.Serving.{MeansServing}
 use Rattle.file_commands.specs.declared.report.Report.{Report}
 use Rattle.file_commands.proofs.Ends.{ends_as, judging}
 use Rattle.file_commands.proofs.Possible.{found_possible, told_possible}
 use Rattle.auth_cli.proofs.ServeCounted.{serving_counted, serving_possible, unserved_counted}
-use Rattle.auth_cli.proofs.ServeRuns.{both, either_apart, from_seen, halted_at, means_apart, prepared_at, same_seen}
+use Rattle.auth_cli.proofs.ServeRuns.{both, either_apart, from_seen, halted_at, means_apart, of_words_apart, prepared_at, same_numbers, same_seen}
 use Rattle.file_commands.proofs.Words.{ends_apart, text_at}
 use Rattle.auth_cli.proofs.serve.serve_command.Goals as goal
 
@@ -22,10 +22,13 @@ returns-in-Ok-clause-ends g c =
     let found = both (g.F.Files.contents c.args.files.now) (λ files s. MeansServing (texts words) files s (text_at words 5)) (IsPrepared c.deref_mut.result.now)
     (λ files known. let s = read.goes files known in (s.0, means_apart words files s.0 c.requires s.1, subst (λ server. IsPrepared server s.0) (sym c.deref_mut.ensures.value) s.2))
     (prepared_at c.in-Ok.server.value c.deref_mut.result.now c.deref_mut.ensures.value read.prepared) in
+    let held = subst (λ server. TellNumbers (text_at words 2) (text_at words 3) (text_at words 4) (numbers_held server)) (sym c.deref_mut.ensures.value) read.numbers in
     inr (record {
       serving = found.serving;
       name = text_at words 5;
       means = found.means;
+      of_words = of_words_apart words found.serving c.requires
+          (subst (TellNumbers (text_at words 2) (text_at words 3) (text_at words 4)) (same_numbers c.deref_mut.result.now found.serving found.prepared) held);
       ends = from_seen found.serving (text_at words 5) _ _ _ _ _ c.serve.result (same_seen _ _ _ _ _ _ _ _ _ _ read.contents read.stores read.cause read.store_faults)
           (c.serve.ensures.ends found.serving found.prepared);
     })

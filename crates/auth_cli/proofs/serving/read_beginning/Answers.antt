@@ -65,3 +65,6 @@ returns-clause-goes g c = λ told known.
 
 pub returns-clause-stands : goal.returns-clause-stands
 returns-clause-stands g c = rw (← c.program.ensures) c.in_ok-state.ensures.stands
+
+pub returns-clause-numbers : goal.returns-clause-numbers
+returns-clause-numbers g c = c.in_ok-numbers.ensures.goes

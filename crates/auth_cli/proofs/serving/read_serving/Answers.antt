@@ -2,13 +2,14 @@ use Rattle.std.proofs.Common.{None, Err, ap, sym, subst, ◌∙◌}
 use Rattle.std.proofs.lemmas.Result.{err_from_is_err_and}
 use Rattle.code_gen.specs.Programs.{program_in}
 use Rattle.file_commands.specs.Answer.{Answer, Serving, unserved_answer, with_program_file}
-use Rattle.auth_cli.specs.PreparedServers.{IsPrepared, with_beginning}
+use Rattle.auth_cli.specs.PreparedServers.{TellNumbers, IsPrepared, with_beginning}
 use Rattle.file_commands.specs.ReadPrograms.{digested_of, named_of}
 use Rattle.file_commands.specs.Reaching.{without}
 use Rattle.auth_cli.specs.declared.serving.Beginning.{Beginning}
 use Rattle.file_commands.proofs.Reached.{faults_reached, is_missing}
 use Rattle.file_commands.proofs.RoleSteps.{program_reached}
 use Rattle.file_commands.proofs.Steps.{halts_behind, halts_first_for}
+use Rattle.auth_cli.proofs.ServeRuns.{same_numbers}
 use Rattle.auth_cli.proofs.serving.read_serving.Goals as goal
 
 pub returns-in_err-code-clause-goes : goal.returns-in_err-code-clause-goes
@@ -35,6 +36,13 @@ returns-in_ok-prepare-in-Ok-clause-goes g c = λ told known.
       (λ go. c.in_ok-code.ensures.goes told known (λ p. with_beginning p.digested words.image.now words.port.now words.connections.now words.slice.now told go) ∙ begins.1 go),
       subst (IsPrepared c.in_ok-prepare-in-Ok.field-0.value) (sym begins.2.is) (c.in_ok-prepare-in-Ok.ensures begins.0.state begins.2.stands),
     )
+
+pub returns-in_ok-prepare-in-Ok-clause-numbers : goal.returns-in_ok-prepare-in-Ok-clause-numbers
+returns-in_ok-prepare-in-Ok-clause-numbers g c =
+    let words = c.args.words.now in
+    let stands = c.in-Ok.ensures.stands in
+    let prepared = c.in_ok-prepare-in-Ok.ensures stands.0 stands.1 in
+    subst (TellNumbers words.port.now words.connections.now words.slice.now) (sym (same_numbers c.in_ok-prepare-in-Ok.field-0.value _ prepared)) c.in-Ok.ensures.numbers
 
 pub returns-in-Err-clause-goes : goal.returns-in-Err-clause-goes
 returns-in-Err-clause-goes g c = λ told known go.

@@ -1,13 +1,24 @@
+use Rattle.std.proofs.Common.{subst}
 use Rattle.value_store.proofs.StandingNodes.{there_stands}
 use Rattle.core_terms.specs.Types.{PairTy}
+use Rattle.mode_vm.specs.Operands.{IsHeld}
 use Rattle.mode_vm.proofs.Parts.{parts_seen}
+use Rattle.mode_vm.proofs.Scalars.{pair_node}
 use Rattle.mode_vm.proofs.values.parts_in.Goals as goal
+
+pub node_in-requires : goal.node_in-requires
+node_in-requires g c =
+    let h = c.requires in
+    let n = pair_node h.0 h.1 (g.N.Nodes.nodes c.args.store.now) h.2 h.3 c.args.operand h.4 h.5 in
+    (n.0, n.1)
 
 pub view-requires : goal.view-requires
 view-requires g c =
     let h = c.requires in
-    there_stands h.0 h.1 (g.N.Nodes.nodes c.args.store.now) (PairTy h.2 h.3) h.4 c.args.r.0 h.5
+    there_stands h.0 h.1 (g.N.Nodes.nodes c.args.store.now) (PairTy h.2 h.3) h.4 c.node_in.result.0
+    (subst (λ o. IsHeld h.0 h.1 (g.N.Nodes.nodes c.args.store.now) o (PairTy h.2 h.3) h.4) c.node_in.ensures h.5)
 
 pub returns : goal.returns
 returns g c =
-    λ kind types a b v h. parts_seen kind types (g.N.Nodes.nodes c.args.store.now) c.args.r.0 c.in-Pair.first.0 c.in-Pair.second.0 a b v c.in-Pair.ensures.form h
+    λ kind types a b v h. parts_seen kind types (g.N.Nodes.nodes c.args.store.now) c.node_in.result.0 c.in-Pair.first.0 c.in-Pair.second.0 a b v c.in-Pair.ensures.form
+    (subst (λ o. IsHeld kind types (g.N.Nodes.nodes c.args.store.now) o (PairTy a b) v) c.node_in.ensures h)

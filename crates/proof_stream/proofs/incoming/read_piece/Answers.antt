@@ -1,12 +1,34 @@
-use Rattle.std.proofs.Common.{take, arith}
+use Rattle.std.proofs.Common.{◌≡◌, ◌≤◌, ◌+◌, ◌++◌, take, length, ap, sym, ◌∙◌, arith}
 use Rattle.std.proofs.lemmas.Grind.{common_steps}
+use Rattle.lam_outside.proofs.Moved.{prepend_twice}
+use Rattle.std.specs.Io.KnownBytes.{prepend_known}
 use Rattle.proof_stream.specs.Incoming.{PieceCame}
-use Rattle.proof_stream.specs.declared.frame.FrameEnd.TheVariants.{NoMemory}
-use Rattle.proof_stream.proofs.Taking.{ends_with, took_two}
+use Rattle.proof_stream.specs.declared.frame.FrameEnd.TheVariants.{ReadFault}
+use Rattle.proof_stream.proofs.Taking.{ends_with, took_one}
+use Rattle.proof_stream.proofs.Filling.{front_kept, read_behind}
 use Rattle.proof_stream.proofs.incoming.read_piece.Goals as goal
 
-pub returns-in_err-extend_from_slice-clause-came : goal.returns-in_err-extend_from_slice-clause-came
-returns-in_err-extend_from_slice-clause-came g c = λ bytes told.
-    ends_with (PieceCame c.args.len bytes c.extend_from_slice.new.self.items (g.S.Source.left c.read.new.self)) NoMemory _ c.from_residual-in_err-extend_from_slice.ensures.1
-    (took_two c.args.len bytes c.loop-chunk.piece.items (take c.in_ok-count.count c.read.new.into) _ _ _ told
-    c.loop-chunk.invariant.came c.in_ok-count.ensures.bytes.fewer_left (grind (arith, common_steps)))
+pub returns-in_err-count-clause-came : goal.returns-in_err-count-clause-came
+returns-in_err-count-clause-came g c = λ bytes told.
+    ends_with (PieceCame c.args.len bytes _ (g.S.Source.left c.read.new.self)) ReadFault _ c.from_residual-in_err-count.ensures.1
+    (took_one c.args.len bytes c.loop-piece.piece.items _ _ told (c.loop-piece.invariant.came ∙ ap (prepend_known c.loop-piece.piece.items) (sym c.in_err-count.ensures.bytes.fewer_left)) c.loop-piece.invariant.within)
+
+pub loop-piece-preserved : goal.loop-piece-preserved
+loop-piece-preserved g c =
+    let held = c.loop-piece.piece.items in
+    let start = c.len-start.result in
+    let is : start ≡ length held = c.len-start.ensures ∙ c.loop-piece.piece.ok.0 in
+    let grown = c.resize.new.self in
+    let long : start + c.min-most.result ≡ grown.len = sym c.in_ok-resize.ensures.len in
+    let fits : start ≤ start + c.min-most.result = omega arith in
+    let some : c.in_ok-count.count ≤ length c.read.new.into = grind (arith, common_steps) in
+    let within : start + c.in_ok-count.count ≤ grown.len = grind (arith, common_steps) in
+    let items : c.truncate.new.self.items ≡ held ++ take c.in_ok-count.count c.read.new.into = c.truncate.ensures.items
+    ∙ read_behind held (take start c.deref_mut.result.now) c.read.new.into _ _ start c.in_ok-count.count grown.len
+    (front_kept held _ c.deref_mut.result.now start (start + c.min-most.result) is fits (c.deref_mut.ensures.value ∙ c.in_ok-resize.ensures.items)) is some within in
+    record {
+      within = grind (arith, common_steps);
+      came = c.loop-piece.invariant.came ∙ ap (prepend_known held) c.in_ok-count.ensures.bytes.fewer_left ∙ prepend_twice _ _ _ ∙ ap (λ l. prepend_known l (g.S.Source.left c.read.new.self)) (sym items);
+      rest = c.in_ok-count.ensures.rest ∙ c.loop-piece.invariant.rest;
+      faults = c.in_ok-count.ensures.cause.kept ∙ c.loop-piece.invariant.faults;
+    }

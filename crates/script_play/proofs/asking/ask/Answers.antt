@@ -17,8 +17,8 @@ pub returns-in_err-send-in-Ok-clause-plays : goal.returns-in_err-send-in-Ok-clau
 returns-in_err-send-in-Ok-clause-plays g c P names t ms answers comes =
     let halt = c.in_err-send-in-Ok.field-0.0 in
     let left = g.L.Source.left c.send.new.link in
-    let sent = g.L.Link.sent c.args.link.now in
-    let sent' = g.L.Link.sent c.send.new.link in
+    let sent = g.L.Source.sent c.args.link.now in
+    let sent' = g.L.Source.sent c.send.new.link in
     let written = g.O.Sink.written c.args.out.now in
     let here = subst (λ r. Answers (λ x. Unit {0}) t r) c.in-Ok.is answers in
     gives_with (PlaysAs P names {T = Bool} (λ x. x ≡ t.client) left (world sent written c.args.last.now) (world sent' written c.args.last.now) (asked_play t c.args.session ms rests))
@@ -39,7 +39,7 @@ pub returns-in_ok-tell-in-Err-clause-plays : goal.returns-in_ok-tell-in-Err-clau
 returns-in_ok-tell-in-Err-clause-plays g c P names t ms answers comes =
     let here = subst (λ r. Answers (λ x. Unit {0}) t r) c.in-Err.is answers in
     let fault = fault_answered (λ x. Unit {0}) new_client t c.in-Err.fault c.in_ok-telling-in-Err.ensures.memory here in
-    asked_told P names c.args.session t ms (g.L.Source.left c.args.link.now) (g.L.Link.sent c.args.link.now) (g.L.Link.sent c.args.link.now)
+    asked_told P names c.args.session t ms (g.L.Source.left c.args.link.now) (g.L.Source.sent c.args.link.now) (g.L.Source.sent c.args.link.now)
     (g.O.Sink.written c.args.out.now) (g.O.Sink.written c.tell.new.out) c.args.last.now c.tell.new.last c.in-Err.fault c.in_ok-telling-in-Err.telling fault.0
     (c.in_ok-telling-in-Err.ensures.tells P names) comes (Ok (tt {0})) c.in_ok-tell-in-Err.ensures.told
 
@@ -58,7 +58,7 @@ returns-in_ok-tell-in-Err-clause-cause g c = c.in_ok-tell-in-Err.ensures.cause (
 
 pub returns-in_err-telling-in-Err-clause-plays : goal.returns-in_err-telling-in-Err-clause-plays
 returns-in_err-telling-in-Err-clause-plays g c P names t ms answers comes =
-    let here = world (g.L.Link.sent c.args.link.now) (g.O.Sink.written c.args.out.now) c.args.last.now in
+    let here = world (g.L.Source.sent c.args.link.now) (g.O.Sink.written c.args.out.now) c.args.last.now in
     let p = asked_play t c.args.session ms rests in
     gives_with (PlaysAs P names {T = Bool} (λ x. x ≡ t.client) (g.L.Source.left c.args.link.now) here here p) NoMemory _ c.from_residual-in_err-telling-in-Err.ensures.1 (nothing_done P names here p.deeds)
 
@@ -66,7 +66,7 @@ pub returns-in_err-tell-in-Err-clause-plays : goal.returns-in_err-tell-in-Err-cl
 returns-in_err-tell-in-Err-clause-plays g c P names t ms answers comes =
     let halt = c.in_err-tell-in-Err.field-0.0 in
     let left = g.L.Source.left c.args.link.now in
-    let sent = g.L.Link.sent c.args.link.now in
+    let sent = g.L.Source.sent c.args.link.now in
     let before = world sent (g.O.Sink.written c.args.out.now) c.args.last.now in
     let behind = world sent (g.O.Sink.written c.tell.new.out) c.tell.new.last in
     let p = asked_play t c.args.session ms rests in
@@ -89,8 +89,8 @@ returns-in_err-tell-in-Err-clause-cause g c =
 pub returns-in_err-send-in-Ok-clause-halts : goal.returns-in_err-send-in-Ok-clause-halts
 returns-in_err-send-in-Ok-clause-halts g c P names t ms answers =
     let halt = c.in_err-send-in-Ok.field-0.0 in
-    let sent = g.L.Link.sent c.args.link.now in
-    let sent' = g.L.Link.sent c.send.new.link in
+    let sent = g.L.Source.sent c.args.link.now in
+    let sent' = g.L.Source.sent c.send.new.link in
     let written = g.O.Sink.written c.args.out.now in
     let here = subst (λ r. Answers (λ x. Unit {0}) t r) c.in-Ok.is answers in
     gives_with (λ (r : Result Bool Halt). OnLinkFault r (HaltsAt P names (world sent written c.args.last.now) (world sent' written c.args.last.now) (asked_play t c.args.session ms rests).deeds))

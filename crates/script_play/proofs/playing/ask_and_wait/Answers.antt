@@ -1,6 +1,7 @@
 use Rattle.std.proofs.Common.{◌≡◌, Bool, [], refl, sym, ◌∙◌}
 use Rattle.mode_vm.specs.Meanings.{program_of}
 use Rattle.verifier_mode.proofs.Given.{gives_with}
+use Rattle.lam_outside.proofs.Waiting.{none_read}
 use Rattle.wire_form.proofs.Moving.{moves_on}
 use Rattle.session_meaning.specs.Client.{waits}
 use Rattle.session_meaning.specs.Messages.{messages, reply_of}
@@ -9,7 +10,7 @@ use Rattle.script_play.specs.Halting.{PlaysTo}
 use Rattle.script_play.specs.Plays.{asked_play, take_replies}
 use Rattle.script_play.specs.Playing.{AreComing, PlayCause, PlaysAs, names_of, own_of, world}
 use Rattle.script_play.proofs.Asked.{answered_stands, answers_any, still_coming}
-use Rattle.script_play.proofs.HaltedLines.{line_halts, line_more, line_told}
+use Rattle.script_play.proofs.HaltedLines.{line_halts, line_more, line_prompt, line_told}
 use Rattle.script_play.proofs.Played.{asked_halts, more_plays, same_moved, told_alone}
 use Rattle.script_play.proofs.Steps.{cause_err}
 use Rattle.script_play.proofs.playing.ask_and_wait.Goals as goal
@@ -22,8 +23,8 @@ returns-in_err-sent-clause-plays g c t ms answers comes =
     let more = take_replies g.H.Hash32.hash P (own_of code) (λ x. waits x c.args.session) in
     let halt = c.in_err-sent.field-0.0 in
     let left = g.L.Source.left c.ask.new.link in
-    let before = world (g.L.Link.sent c.args.link.now) (g.O.Sink.written c.args.out.now) c.args.last.now in
-    let behind = world (g.L.Link.sent c.ask.new.link) (g.O.Sink.written c.ask.new.out) c.ask.new.last in
+    let before = world (g.L.Source.sent c.args.link.now) (g.O.Sink.written c.args.out.now) c.args.last.now in
+    let behind = world (g.L.Source.sent c.ask.new.link) (g.O.Sink.written c.ask.new.out) c.ask.new.last in
     gives_with (PlaysAs P (names_of code) {T = Unit {0}} Is left before behind (asked_play t c.args.session ms more)) halt _ c.from_residual.ensures.1
     (asked_halts P (names_of code) t c.args.session ms more before behind (λ x. x ≡ t.client) Is left left halt
     (c.in_err-sent.ensures.plays P (names_of code) t ms (answers_any Is t.client t c.args.answered answers) comes))
@@ -45,9 +46,9 @@ returns-then-sent-clause-plays g c t ms answers comes =
     let more = take_replies g.H.Hash32.hash P (own_of code) (λ x. waits x c.args.session) in
     let any = answers_any Is t.client t c.args.answered answers in
     more_plays P (names_of code) t c.args.session ms more
-    (world (g.L.Link.sent c.args.link.now) (g.O.Sink.written c.args.out.now) c.args.last.now)
-    (world (g.L.Link.sent c.ask.new.link) (g.O.Sink.written c.ask.new.out) c.ask.new.last)
-    (world (g.L.Link.sent c.take_replies.new.link) (g.O.Sink.written c.take_replies.new.out) c.take_replies.new.last)
+    (world (g.L.Source.sent c.args.link.now) (g.O.Sink.written c.args.out.now) c.args.last.now)
+    (world (g.L.Source.sent c.ask.new.link) (g.O.Sink.written c.ask.new.out) c.ask.new.last)
+    (world (g.L.Source.sent c.take_replies.new.link) (g.O.Sink.written c.take_replies.new.out) c.take_replies.new.last)
     (sym (c.in_ok-sent.ensures.sends t any) ∙ c.if-sent.true) (c.in_ok-sent.ensures.plays P (names_of code) t ms any comes).1
     (StandsFor c.take_replies.new.core) (g.L.Source.left c.take_replies.new.link) c.take_replies.result
     (c.take_replies.ensures.plays t.client ms (answered_stands Is t.client t c.args.answered c.in_ok-sent.ensures.memory answers)
@@ -64,8 +65,8 @@ returns-clause-plays g c t ms answers comes =
     let more = take_replies g.H.Hash32.hash P (own_of code) (λ x. waits x c.args.session) in
     let any = answers_any Is t.client t c.args.answered answers in
     told_alone P (names_of code) t c.args.session ms more (tt {0})
-    (world (g.L.Link.sent c.args.link.now) (g.O.Sink.written c.args.out.now) c.args.last.now)
-    (world (g.L.Link.sent c.ask.new.link) (g.O.Sink.written c.ask.new.out) c.ask.new.last)
+    (world (g.L.Source.sent c.args.link.now) (g.O.Sink.written c.args.out.now) c.args.last.now)
+    (world (g.L.Source.sent c.ask.new.link) (g.O.Sink.written c.ask.new.out) c.ask.new.last)
     (sym (c.in_ok-sent.ensures.sends t any) ∙ c.if-sent.false) Is (g.L.Source.left c.ask.new.link)
     (answered_stands Is t.client t c.args.answered c.in_ok-sent.ensures.memory answers) (c.in_ok-sent.ensures.plays P (names_of code) t ms any comes)
 
@@ -80,11 +81,13 @@ returns-in_err-sent-clause-halts g c t bytes answers told =
     let more = take_replies g.H.Hash32.hash P (own_of code) (λ x. waits x c.args.session) in
     let halt = c.in_err-sent.field-0.0 in
     let left = g.L.Source.left c.ask.new.link in
-    let before = world (g.L.Link.sent c.args.link.now) (g.O.Sink.written c.args.out.now) c.args.last.now in
-    let behind = world (g.L.Link.sent c.ask.new.link) (g.O.Sink.written c.ask.new.out) c.ask.new.last in
+    let before = world (g.L.Source.sent c.args.link.now) (g.O.Sink.written c.args.out.now) c.args.last.now in
+    let behind = world (g.L.Source.sent c.ask.new.link) (g.O.Sink.written c.ask.new.out) c.ask.new.last in
     gives_with (PlaysTo P (names_of code) {T = Unit {0}} Is bytes left before behind (λ ms. asked_play t c.args.session ms more)) halt _ c.from_residual.ensures.1
     (line_halts P (names_of code) t c.args.session bytes left (c.ask.ensures.left ∙ told) Is more before behind halt
-    (c.in_err-sent.ensures.halts P (names_of code) t (messages reply_of []) (answers_any Is t.client t c.args.answered answers)))
+    (c.in_err-sent.ensures.halts P (names_of code) t (messages reply_of []) (answers_any Is t.client t c.args.answered answers))
+    (c.in_err-sent.ensures.plays P (names_of code) t (messages reply_of bytes) (answers_any Is t.client t c.args.answered answers)
+    (record { bytes = bytes; told = told; are = refl })))
 
 pub returns-then-sent-clause-halts : goal.returns-then-sent-clause-halts
 returns-then-sent-clause-halts g c t bytes answers told =
@@ -96,9 +99,9 @@ returns-then-sent-clause-halts g c t bytes answers told =
     let ms = messages reply_of bytes in
     let comes : AreComing (g.L.Source.left c.args.link.now) ms = record { bytes = bytes; told = told; are = refl } in
     line_more P (names_of code) t c.args.session ms more
-    (world (g.L.Link.sent c.args.link.now) (g.O.Sink.written c.args.out.now) c.args.last.now)
-    (world (g.L.Link.sent c.ask.new.link) (g.O.Sink.written c.ask.new.out) c.ask.new.last)
-    (world (g.L.Link.sent c.take_replies.new.link) (g.O.Sink.written c.take_replies.new.out) c.take_replies.new.last)
+    (world (g.L.Source.sent c.args.link.now) (g.O.Sink.written c.args.out.now) c.args.last.now)
+    (world (g.L.Source.sent c.ask.new.link) (g.O.Sink.written c.ask.new.out) c.ask.new.last)
+    (world (g.L.Source.sent c.take_replies.new.link) (g.O.Sink.written c.take_replies.new.out) c.take_replies.new.last)
     (sym (c.in_ok-sent.ensures.sends t any) ∙ c.if-sent.true) (c.in_ok-sent.ensures.plays P (names_of code) t ms any comes).1
     (StandsFor c.take_replies.new.core) bytes (g.L.Source.left c.take_replies.new.link) c.take_replies.result
     (c.take_replies.ensures.halts t.client bytes (answered_stands Is t.client t c.args.answered c.in_ok-sent.ensures.memory answers) (c.ask.ensures.left ∙ told))
@@ -113,7 +116,29 @@ returns-clause-halts g c t bytes answers told =
     let ms = messages reply_of bytes in
     let plays = c.in_ok-sent.ensures.plays P (names_of code) t ms any (record { bytes = bytes; told = told; are = refl }) in
     line_told P (names_of code) t c.args.session bytes (g.L.Source.left c.ask.new.link) (c.ask.ensures.left ∙ told) Is
-    (world (g.L.Link.sent c.args.link.now) (g.O.Sink.written c.args.out.now) c.args.last.now)
-    (world (g.L.Link.sent c.ask.new.link) (g.O.Sink.written c.ask.new.out) c.ask.new.last)
+    (world (g.L.Source.sent c.args.link.now) (g.O.Sink.written c.args.out.now) c.args.last.now)
+    (world (g.L.Source.sent c.ask.new.link) (g.O.Sink.written c.ask.new.out) c.ask.new.last)
     ms plays.0 plays.1 (answered_stands Is t.client t c.args.answered c.in_ok-sent.ensures.memory answers) more
     (sym (c.in_ok-sent.ensures.sends t any) ∙ c.if-sent.false)
+
+pub returns-in_err-sent-clause-prompt : goal.returns-in_err-sent-clause-prompt
+returns-in_err-sent-clause-prompt g c t bytes answers told = none_read _ _ _ c.ask.ensures.reads
+
+pub returns-then-sent-clause-prompt : goal.returns-then-sent-clause-prompt
+returns-then-sent-clause-prompt g c t bytes answers told =
+    let code = c.args.core.now.code in
+    let P = program_of code in
+    let Is = StandsFor c.args.core.now in
+    let more = take_replies g.H.Hash32.hash P (own_of code) (λ x. waits x c.args.session) in
+    let any = answers_any Is t.client t c.args.answered answers in
+    let ms = messages reply_of bytes in
+    let comes : AreComing (g.L.Source.left c.args.link.now) ms = record { bytes = bytes; told = told; are = refl } in
+    line_prompt P (names_of code) t c.args.session ms more
+    (world (g.L.Source.sent c.args.link.now) (g.O.Sink.written c.args.out.now) c.args.last.now)
+    (world (g.L.Source.sent c.ask.new.link) (g.O.Sink.written c.ask.new.out) c.ask.new.last)
+    (sym (c.in_ok-sent.ensures.sends t any) ∙ c.if-sent.true) (c.in_ok-sent.ensures.plays P (names_of code) t ms any comes).1
+    bytes _ _ _ c.ask.ensures.reads
+    (c.take_replies.ensures.prompt t.client bytes (answered_stands Is t.client t c.args.answered c.in_ok-sent.ensures.memory answers) (c.ask.ensures.left ∙ told))
+
+pub returns-clause-prompt : goal.returns-clause-prompt
+returns-clause-prompt g c t bytes answers told = none_read _ _ _ c.ask.ensures.reads

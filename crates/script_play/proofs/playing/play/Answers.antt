@@ -5,6 +5,8 @@ use Rattle.core_terms.specs.declared.digest.Digest.{Digest}
 use Rattle.core_terms.specs.declared.program.Program.{Program}
 use Rattle.mode_vm.specs.Meanings.{program_of}
 use Rattle.verifier_mode.proofs.Given.{gives_with}
+use Rattle.lam_outside.proofs.Waiting.{none_read}
+use Rattle.lam_outside.specs.Moments.{AtEachRead}
 use Rattle.wire_form.proofs.Moving.{moves_on}
 use Rattle.ask_core.specs.Sessions.{StandsFor}
 use Rattle.ask_script.specs.ScriptAnswers.{step_meant}
@@ -12,6 +14,8 @@ use Rattle.ask_script.specs.Scripts.{Fits}
 use Rattle.script_play.specs.Halting.{PlaysTo}
 use Rattle.script_play.specs.Plays.{play, play_step}
 use Rattle.script_play.specs.Playing.{PlaysAs, names_of, own_of, world}
+use Rattle.script_play.specs.Prompt.{IsPromptOn}
+use Rattle.script_play.proofs.Awaited.{prompt_more}
 use Rattle.script_play.proofs.Halted.{begins_to, breaks_to, ends_to, goes_on_to}
 use Rattle.script_play.proofs.Played.{line_next, none_moved}
 use Rattle.script_play.proofs.Worlds.{begins_so, ends_so, goes_on_so, halts_so}
@@ -30,6 +34,7 @@ loop-step-init g c = record {
       (StandsFor c.args.core.now) _ _ m ms is comes;
   far_to = λ m bytes is told. begins_to (program_of c.args.core.now.code) (names_of c.args.core.now.code) (StandsFor c.args.core.now) bytes _ _
       (play g.H.Hash32.hash (program_of c.args.core.now.code) (own_of c.args.core.now.code) c.args.state.now (map step_meant c.args.steps.now)) m is told;
+  prompt = λ m bytes is told. none_read _ _ _ refl;
 }
 
 pub play_step-requires-clause-step : goal.play_step-requires-clause-step
@@ -50,9 +55,9 @@ loop-step-preserved g c =
     let i = c.loop-step.step-index in
     let before = c.loop-step.invariant in
     let new = c.play_step.new.core in
-    let first = world (g.L.Link.sent c.args.link.now) (g.O.Sink.written c.args.out.now) c.args.last.now in
-    let here = world (g.L.Link.sent c.loop-step.link) (g.O.Sink.written c.loop-step.out) c.loop-step.last in
-    let later = world (g.L.Link.sent c.play_step.new.link) (g.O.Sink.written c.play_step.new.out) c.play_step.new.last in
+    let first = world (g.L.Source.sent c.args.link.now) (g.O.Sink.written c.args.out.now) c.args.last.now in
+    let here = world (g.L.Source.sent c.loop-step.link) (g.O.Sink.written c.loop-step.out) c.loop-step.last in
+    let later = world (g.L.Source.sent c.play_step.new.link) (g.O.Sink.written c.play_step.new.out) c.play_step.new.last in
     let left = g.L.Source.left c.play_step.new.link in
     record {
       known = c.in_ok-play_step.ensures.known;
@@ -81,6 +86,14 @@ loop-step-preserved g c =
           (subst (λ k. PlaysTo (program_of k) (names_of k) {T = Unit {0}} (StandsFor new) far.rest left here later
           (play_step hash (program_of k) (own_of k) c.args.state.now (step_meant step) far.client) (Ok (tt {0}))) before.code
           (c.in_ok-play_step.ensures.halts far.client far.rest far.stands far.left));
+      prompt = λ m bytes is told.
+          let far = before.far_to m bytes is told in
+          prompt_more P (names_of code) (StandsFor c.loop-step.core) bytes (g.L.Source.left c.loop-step.link) first here
+          (play hash P own c.args.state.now (map step_meant steps) m) (play hash P own c.args.state.now (map step_meant (drop i steps))) far
+          (play hash P own c.args.state.now (map step_meant (drop (i + 1) steps))) (play_step hash P own c.args.state.now (step_meant step) far.client)
+          (λ ms. line_next hash P own c.args.state.now steps i step c.loop-step-test.true c.step-item.is far.client ms) _ _ _ (before.prompt m bytes is told)
+          (subst (λ k. AtEachRead (IsPromptOn far.rest (g.L.Source.sent c.loop-step.link) (play_step hash (program_of k) (own_of k) c.args.state.now (step_meant step) far.client))
+          (g.L.Source.reads c.loop-step.link) (g.L.Source.reads c.play_step.new.link)) before.code (c.play_step.ensures.prompt far.client far.rest far.stands far.left));
     }
 
 pub returns-in_err-play_step-clause-plays : goal.returns-in_err-play_step-clause-plays
@@ -97,9 +110,9 @@ returns-in_err-play_step-clause-plays g c m ms is comes =
     let halt = c.in_err-play_step.field-0.0 in
     let new = c.play_step.new.core in
     let whole = play hash P own c.args.state.now (map step_meant steps) m ms in
-    let first = world (g.L.Link.sent c.args.link.now) (g.O.Sink.written c.args.out.now) c.args.last.now in
-    let here = world (g.L.Link.sent c.loop-step.link) (g.O.Sink.written c.loop-step.out) c.loop-step.last in
-    let later = world (g.L.Link.sent c.play_step.new.link) (g.O.Sink.written c.play_step.new.out) c.play_step.new.last in
+    let first = world (g.L.Source.sent c.args.link.now) (g.O.Sink.written c.args.out.now) c.args.last.now in
+    let here = world (g.L.Source.sent c.loop-step.link) (g.O.Sink.written c.loop-step.out) c.loop-step.last in
+    let later = world (g.L.Source.sent c.play_step.new.link) (g.O.Sink.written c.play_step.new.out) c.play_step.new.last in
     let left = g.L.Source.left c.play_step.new.link in
     gives_with (PlaysAs P (names_of code) {T = Unit {0}} (StandsFor new) left first later whole) halt _ c.from_residual.ensures.1
     (halts_so P (names_of code) whole (play hash P own c.args.state.now (map step_meant (drop i steps)))
@@ -122,8 +135,8 @@ returns-clause-plays g c m ms is comes =
     let own = own_of code in
     let steps = c.args.steps.now in
     let i = c.loop-step.step-index in
-    let first = world (g.L.Link.sent c.args.link.now) (g.O.Sink.written c.args.out.now) c.args.last.now in
-    let here = world (g.L.Link.sent c.loop-step.link) (g.O.Sink.written c.loop-step.out) c.loop-step.last in
+    let first = world (g.L.Source.sent c.args.link.now) (g.O.Sink.written c.args.out.now) c.args.last.now in
+    let here = world (g.L.Source.sent c.loop-step.link) (g.O.Sink.written c.loop-step.out) c.loop-step.last in
     let far = c.loop-step.invariant.far m ms is comes in
     ends_so P (names_of code) (play hash P own c.args.state.now (map step_meant steps) m ms) (play hash P own c.args.state.now (map step_meant (drop i steps)))
     (StandsFor c.loop-step.core) (g.L.Source.left c.loop-step.link) first here far
@@ -149,9 +162,9 @@ returns-in_err-play_step-clause-halts g c m bytes is told =
     let halt = c.in_err-play_step.field-0.0 in
     let new = c.play_step.new.core in
     let whole = play hash P own c.args.state.now (map step_meant steps) m in
-    let first = world (g.L.Link.sent c.args.link.now) (g.O.Sink.written c.args.out.now) c.args.last.now in
-    let here = world (g.L.Link.sent c.loop-step.link) (g.O.Sink.written c.loop-step.out) c.loop-step.last in
-    let later = world (g.L.Link.sent c.play_step.new.link) (g.O.Sink.written c.play_step.new.out) c.play_step.new.last in
+    let first = world (g.L.Source.sent c.args.link.now) (g.O.Sink.written c.args.out.now) c.args.last.now in
+    let here = world (g.L.Source.sent c.loop-step.link) (g.O.Sink.written c.loop-step.out) c.loop-step.last in
+    let later = world (g.L.Source.sent c.play_step.new.link) (g.O.Sink.written c.play_step.new.out) c.play_step.new.last in
     let left = g.L.Source.left c.play_step.new.link in
     gives_with (PlaysTo P (names_of code) {T = Unit {0}} (StandsFor new) bytes left first later whole) halt _ c.from_residual.ensures.1
     (breaks_to P (names_of code) (StandsFor c.loop-step.core) bytes (g.L.Source.left c.loop-step.link) first here whole
@@ -171,9 +184,29 @@ returns-clause-halts g c m bytes is told =
     let own = own_of code in
     let steps = c.args.steps.now in
     let i = c.loop-step.step-index in
-    let first = world (g.L.Link.sent c.args.link.now) (g.O.Sink.written c.args.out.now) c.args.last.now in
-    let here = world (g.L.Link.sent c.loop-step.link) (g.O.Sink.written c.loop-step.out) c.loop-step.last in
+    let first = world (g.L.Source.sent c.args.link.now) (g.O.Sink.written c.args.out.now) c.args.last.now in
+    let here = world (g.L.Source.sent c.loop-step.link) (g.O.Sink.written c.loop-step.out) c.loop-step.last in
     let far = c.loop-step.invariant.far_to m bytes is told in
     ends_to P (names_of code) (StandsFor c.loop-step.core) bytes (g.L.Source.left c.loop-step.link) first here
     (play hash P own c.args.state.now (map step_meant steps) m) (play hash P own c.args.state.now (map step_meant (drop i steps))) far
     (λ ms. ap (λ ss. play hash P own c.args.state.now (map step_meant ss) far.client ms) (drop_all i steps c.loop-step-test.false))
+
+pub returns-in_err-play_step-clause-prompt : goal.returns-in_err-play_step-clause-prompt
+returns-in_err-play_step-clause-prompt g c m bytes is told =
+    let code = c.args.core.now.code in
+    let hash = g.H.Hash32.hash in
+    let P = program_of code in
+    let own = own_of code in
+    let steps = c.args.steps.now in
+    let step = c.step-item.result in
+    let i = c.loop-step.step-index in
+    let before = c.loop-step.invariant in
+    let first = world (g.L.Source.sent c.args.link.now) (g.O.Sink.written c.args.out.now) c.args.last.now in
+    let here = world (g.L.Source.sent c.loop-step.link) (g.O.Sink.written c.loop-step.out) c.loop-step.last in
+    let far = before.far_to m bytes is told in
+    prompt_more P (names_of code) (StandsFor c.loop-step.core) bytes (g.L.Source.left c.loop-step.link) first here
+    (play hash P own c.args.state.now (map step_meant steps) m) (play hash P own c.args.state.now (map step_meant (drop i steps))) far
+    (play hash P own c.args.state.now (map step_meant (drop (i + 1) steps))) (play_step hash P own c.args.state.now (step_meant step) far.client)
+    (λ ms. line_next hash P own c.args.state.now steps i step c.loop-step-test.true c.step-item.is far.client ms) _ _ _ (before.prompt m bytes is told)
+    (subst (λ k. AtEachRead (IsPromptOn far.rest (g.L.Source.sent c.loop-step.link) (play_step hash (program_of k) (own_of k) c.args.state.now (step_meant step) far.client))
+    (g.L.Source.reads c.loop-step.link) (g.L.Source.reads c.play_step.new.link)) before.code (c.play_step.ensures.prompt far.client far.rest far.stands far.left))

@@ -2,12 +2,14 @@ use Rattle.std.proofs.Common.{◌≡◌, ℕ, List, Some, drop, map}
 use Rattle.mode_vm.specs.Meanings.{program_of}
 use Rattle.session_meaning.specs.Client.{Client}
 use Rattle.session_meaning.specs.Messages.{Messages, Reply}
+use Rattle.lam_outside.specs.Moments.{AtEachRead}
 use Rattle.wire_form.specs.MovedBytes.{Moves}
 use Rattle.ask_core.specs.Sessions.{StandsFor, StandsForSome}
 use Rattle.ask_script.specs.ScriptAnswers.{step_meant}
 use Rattle.script_play.specs.Halting.{TakesSoFar}
 use Rattle.script_play.specs.Plays.{play}
 use Rattle.script_play.specs.Playing.{AreComing, names_of, own_of, world}
+use Rattle.script_play.specs.Prompt.{IsPromptOn}
 use Rattle.script_play.proofs.Worlds.{SoFar}
 use Rattle.script_play.proofs.playing.play.Given as goal
 
@@ -25,10 +27,13 @@ invariant-loop-step g l = record {
       (play g.H.Hash32.hash (program_of l.fn.core.code) (own_of l.fn.core.code) l.state (map step_meant l.steps) m ms)
       (play g.H.Hash32.hash (program_of l.fn.core.code) (own_of l.fn.core.code) l.state (map step_meant (drop l.step-index l.steps)))
       (StandsFor l.core) (g.L.Source.left l.link)
-      (world (g.L.Link.sent l.fn.link) (g.O.Sink.written l.fn.out) l.fn.last) (world (g.L.Link.sent l.link) (g.O.Sink.written l.out) l.last);
+      (world (g.L.Source.sent l.fn.link) (g.O.Sink.written l.fn.out) l.fn.last) (world (g.L.Source.sent l.link) (g.O.Sink.written l.out) l.last);
   far_to : (m : Client) (bytes : List ℕ) → StandsFor l.fn.core m → g.L.Source.left l.fn.link ≡ Some bytes
       → TakesSoFar (program_of l.fn.core.code) (names_of l.fn.core.code) (StandsFor l.core) bytes (g.L.Source.left l.link)
-      (world (g.L.Link.sent l.fn.link) (g.O.Sink.written l.fn.out) l.fn.last) (world (g.L.Link.sent l.link) (g.O.Sink.written l.out) l.last)
+      (world (g.L.Source.sent l.fn.link) (g.O.Sink.written l.fn.out) l.fn.last) (world (g.L.Source.sent l.link) (g.O.Sink.written l.out) l.last)
       (play g.H.Hash32.hash (program_of l.fn.core.code) (own_of l.fn.core.code) l.state (map step_meant l.steps) m)
       (play g.H.Hash32.hash (program_of l.fn.core.code) (own_of l.fn.core.code) l.state (map step_meant (drop l.step-index l.steps)));
+  prompt : (m : Client) (bytes : List ℕ) → StandsFor l.fn.core m → g.L.Source.left l.fn.link ≡ Some bytes
+      → AtEachRead (IsPromptOn bytes (g.L.Source.sent l.fn.link) (play g.H.Hash32.hash (program_of l.fn.core.code) (own_of l.fn.core.code) l.state (map step_meant l.steps) m))
+      (g.L.Source.reads l.fn.link) (g.L.Source.reads l.link);
 }

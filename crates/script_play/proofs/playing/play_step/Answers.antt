@@ -3,6 +3,8 @@ use Rattle.code_gen.specs.Programs.{program_in}
 use Rattle.core_terms.proofs.CodePrograms.{is_format}
 use Rattle.mode_vm.specs.Meanings.{program_of}
 use Rattle.verifier_mode.proofs.Given.{gives_with}
+use Rattle.lam_outside.proofs.Waiting.{none_read}
+use Rattle.lam_outside.specs.Moments.{AtEachRead}
 use Rattle.session_meaning.specs.Client.{Byes, Calls, Hellos, take_event, waits}
 use Rattle.session_meaning.specs.Messages.{messages, reply_of}
 use Rattle.session_tables.specs.Tables.{rows_of}
@@ -14,6 +16,7 @@ use Rattle.ask_script.specs.Scripts.{Fits}
 use Rattle.script_play.specs.Halting.{PlaysTo}
 use Rattle.script_play.specs.Plays.{asked_play, play_step, rests, take_replies}
 use Rattle.script_play.specs.Playing.{PlaysAs, names_of, own_of, world}
+use Rattle.script_play.specs.Prompt.{IsPromptOn}
 use Rattle.script_play.proofs.Asked.{answered_stands, answers_any}
 use Rattle.script_play.proofs.HaltedLines.{line_alone, line_halts}
 use Rattle.script_play.proofs.Played.{asked_fits, asked_halts, asked_stands, core_answers, core_stands}
@@ -46,8 +49,8 @@ returns-in-Open-clause-plays g c m ms is comes =
     let behind = c.hello-answered.new.self in
     let same = c.hello-answered.ensures.code in
     let t = take_event hash P own m (Hellos c.in-Open.session c.in-Open.kept c.args.state.now) in
-    let first = world (g.L.Link.sent c.args.link.now) (g.O.Sink.written c.args.out.now) c.args.last.now in
-    let later = world (g.L.Link.sent c.ask_and_wait.new.link) (g.O.Sink.written c.ask_and_wait.new.out) c.ask_and_wait.new.last in
+    let first = world (g.L.Source.sent c.args.link.now) (g.O.Sink.written c.args.out.now) c.args.last.now in
+    let later = world (g.L.Source.sent c.ask_and_wait.new.link) (g.O.Sink.written c.ask_and_wait.new.out) c.ask_and_wait.new.last in
     let left = g.L.Source.left c.ask_and_wait.new.link in
     let Is = StandsFor c.ask_and_wait.new.core in
     subst (λ s. PlaysAs P (names_of code) Is left first later (play_step hash P own c.args.state.now (step_meant s) m ms) c.ask_and_wait.result) (sym c.in-Open.is)
@@ -79,8 +82,8 @@ returns-in-Close-clause-plays g c m ms is comes =
     let behind = c.bye-answered.new.self in
     let same = c.bye-answered.ensures.code in
     let t = take_event hash P own m (Byes c.in-Close.session) in
-    let first = world (g.L.Link.sent c.args.link.now) (g.O.Sink.written c.args.out.now) c.args.last.now in
-    let later = world (g.L.Link.sent c.ask_and_wait-in-Close.new.link) (g.O.Sink.written c.ask_and_wait-in-Close.new.out) c.ask_and_wait-in-Close.new.last in
+    let first = world (g.L.Source.sent c.args.link.now) (g.O.Sink.written c.args.out.now) c.args.last.now in
+    let later = world (g.L.Source.sent c.ask_and_wait-in-Close.new.link) (g.O.Sink.written c.ask_and_wait-in-Close.new.out) c.ask_and_wait-in-Close.new.last in
     let left = g.L.Source.left c.ask_and_wait-in-Close.new.link in
     let Is = StandsFor c.ask_and_wait-in-Close.new.core in
     subst (λ s. PlaysAs P (names_of code) Is left first later (play_step hash P own c.args.state.now (step_meant s) m ms) c.ask_and_wait-in-Close.result) (sym c.in-Close.is)
@@ -111,8 +114,8 @@ returns-in_ok-ask-in-Call-clause-plays g c m ms is comes =
     let names = names_of code in
     let behind = c.call-answered.new.self in
     let t = take_event g.H.Hash32.hash P (own_of code) m (Calls c.in-Call.session c.in-Call.role c.in-Call.fuel c.in-Call.argument) in
-    let first = world (g.L.Link.sent c.args.link.now) (g.O.Sink.written c.args.out.now) c.args.last.now in
-    let later = world (g.L.Link.sent c.ask.new.link) (g.O.Sink.written c.ask.new.out) c.ask.new.last in
+    let first = world (g.L.Source.sent c.args.link.now) (g.O.Sink.written c.args.out.now) c.args.last.now in
+    let later = world (g.L.Source.sent c.ask.new.link) (g.O.Sink.written c.ask.new.out) c.ask.new.last in
     let left = g.L.Source.left c.ask.new.link in
     let answers = core_answers c.args.core.now behind c.call-answered.ensures.code m t c.call-answered.result
     (subst (λ a. Asks (IsClient P behind.closed (rows_of behind.sessions)) m
@@ -141,8 +144,8 @@ returns-in_err-ask-in-Call-clause-plays g c m ms is comes =
     let behind = c.call-answered.new.self in
     let halt = c.in_err-ask-in-Call.field-0.0 in
     let t = take_event g.H.Hash32.hash P (own_of code) m (Calls c.in-Call.session c.in-Call.role c.in-Call.fuel c.in-Call.argument) in
-    let first = world (g.L.Link.sent c.args.link.now) (g.O.Sink.written c.args.out.now) c.args.last.now in
-    let later = world (g.L.Link.sent c.ask.new.link) (g.O.Sink.written c.ask.new.out) c.ask.new.last in
+    let first = world (g.L.Source.sent c.args.link.now) (g.O.Sink.written c.args.out.now) c.args.last.now in
+    let later = world (g.L.Source.sent c.ask.new.link) (g.O.Sink.written c.ask.new.out) c.ask.new.last in
     let left = g.L.Source.left c.ask.new.link in
     let answers = core_answers c.args.core.now behind c.call-answered.ensures.code m t c.call-answered.result
     (subst (λ a. Asks (IsClient P behind.closed (rows_of behind.sessions)) m
@@ -158,8 +161,8 @@ pub returns-in-Go-clause-plays : goal.returns-in-Go-clause-plays
 returns-in-Go-clause-plays g c m ms is comes =
     let code = c.args.core.now.code in
     let P = program_of code in
-    let first = world (g.L.Link.sent c.args.link.now) (g.O.Sink.written c.args.out.now) c.args.last.now in
-    let later = world (g.L.Link.sent c.let_run.new.link) (g.O.Sink.written c.let_run.new.out) c.let_run.new.last in
+    let first = world (g.L.Source.sent c.args.link.now) (g.O.Sink.written c.args.out.now) c.args.last.now in
+    let later = world (g.L.Source.sent c.let_run.new.link) (g.O.Sink.written c.let_run.new.out) c.let_run.new.last in
     subst (λ s. PlaysAs P (names_of code) (StandsFor c.let_run.new.core) (g.L.Source.left c.let_run.new.link) first later
     (play_step g.H.Hash32.hash P (own_of code) c.args.state.now (step_meant s) m ms) c.let_run.result) (sym c.in-Go.is) (c.let_run.ensures.plays m ms is comes)
 
@@ -172,8 +175,8 @@ returns-in-Open-clause-halts g c m bytes is told =
     let behind = c.hello-answered.new.self in
     let same = c.hello-answered.ensures.code in
     let t = take_event hash P own m (Hellos c.in-Open.session c.in-Open.kept c.args.state.now) in
-    let first = world (g.L.Link.sent c.args.link.now) (g.O.Sink.written c.args.out.now) c.args.last.now in
-    let later = world (g.L.Link.sent c.ask_and_wait.new.link) (g.O.Sink.written c.ask_and_wait.new.out) c.ask_and_wait.new.last in
+    let first = world (g.L.Source.sent c.args.link.now) (g.O.Sink.written c.args.out.now) c.args.last.now in
+    let later = world (g.L.Source.sent c.ask_and_wait.new.link) (g.O.Sink.written c.ask_and_wait.new.out) c.ask_and_wait.new.last in
     let left = g.L.Source.left c.ask_and_wait.new.link in
     let Is = StandsFor c.ask_and_wait.new.core in
     subst (λ s. PlaysTo P (names_of code) Is bytes left first later (play_step hash P own c.args.state.now (step_meant s) m) c.ask_and_wait.result) (sym c.in-Open.is)
@@ -190,8 +193,8 @@ returns-in-Close-clause-halts g c m bytes is told =
     let behind = c.bye-answered.new.self in
     let same = c.bye-answered.ensures.code in
     let t = take_event hash P own m (Byes c.in-Close.session) in
-    let first = world (g.L.Link.sent c.args.link.now) (g.O.Sink.written c.args.out.now) c.args.last.now in
-    let later = world (g.L.Link.sent c.ask_and_wait-in-Close.new.link) (g.O.Sink.written c.ask_and_wait-in-Close.new.out) c.ask_and_wait-in-Close.new.last in
+    let first = world (g.L.Source.sent c.args.link.now) (g.O.Sink.written c.args.out.now) c.args.last.now in
+    let later = world (g.L.Source.sent c.ask_and_wait-in-Close.new.link) (g.O.Sink.written c.ask_and_wait-in-Close.new.out) c.ask_and_wait-in-Close.new.last in
     let left = g.L.Source.left c.ask_and_wait-in-Close.new.link in
     let Is = StandsFor c.ask_and_wait-in-Close.new.core in
     subst (λ s. PlaysTo P (names_of code) Is bytes left first later (play_step hash P own c.args.state.now (step_meant s) m) c.ask_and_wait-in-Close.result) (sym c.in-Close.is)
@@ -206,8 +209,8 @@ returns-in_ok-ask-in-Call-clause-halts g c m bytes is told =
     let names = names_of code in
     let behind = c.call-answered.new.self in
     let t = take_event g.H.Hash32.hash P (own_of code) m (Calls c.in-Call.session c.in-Call.role c.in-Call.fuel c.in-Call.argument) in
-    let first = world (g.L.Link.sent c.args.link.now) (g.O.Sink.written c.args.out.now) c.args.last.now in
-    let later = world (g.L.Link.sent c.ask.new.link) (g.O.Sink.written c.ask.new.out) c.ask.new.last in
+    let first = world (g.L.Source.sent c.args.link.now) (g.O.Sink.written c.args.out.now) c.args.last.now in
+    let later = world (g.L.Source.sent c.ask.new.link) (g.O.Sink.written c.ask.new.out) c.ask.new.last in
     let left = g.L.Source.left c.ask.new.link in
     let answers = core_answers c.args.core.now behind c.call-answered.ensures.code m t c.call-answered.result
     (subst (λ a. Asks (IsClient P behind.closed (rows_of behind.sessions)) m
@@ -227,8 +230,8 @@ returns-in_err-ask-in-Call-clause-halts g c m bytes is told =
     let behind = c.call-answered.new.self in
     let halt = c.in_err-ask-in-Call.field-0.0 in
     let t = take_event g.H.Hash32.hash P (own_of code) m (Calls c.in-Call.session c.in-Call.role c.in-Call.fuel c.in-Call.argument) in
-    let first = world (g.L.Link.sent c.args.link.now) (g.O.Sink.written c.args.out.now) c.args.last.now in
-    let later = world (g.L.Link.sent c.ask.new.link) (g.O.Sink.written c.ask.new.out) c.ask.new.last in
+    let first = world (g.L.Source.sent c.args.link.now) (g.O.Sink.written c.args.out.now) c.args.last.now in
+    let later = world (g.L.Source.sent c.ask.new.link) (g.O.Sink.written c.ask.new.out) c.ask.new.last in
     let left = g.L.Source.left c.ask.new.link in
     let answers = core_answers c.args.core.now behind c.call-answered.ensures.code m t c.call-answered.result
     (subst (λ a. Asks (IsClient P behind.closed (rows_of behind.sessions)) m
@@ -238,13 +241,61 @@ returns-in_err-ask-in-Call-clause-halts g c m bytes is told =
     halt _ c.from_residual.ensures.1
     (subst (λ s. PlaysTo P names {T = Unit {0}} (StandsFor behind) bytes left first later (play_step g.H.Hash32.hash P (own_of code) c.args.state.now (step_meant s) m) (Err halt)) (sym c.in-Call.is)
     (line_halts P names t c.in-Call.session bytes left (c.ask.ensures.left ∙ told) (StandsFor behind) rests first later halt
-    (c.in_err-ask-in-Call.ensures.halts P names t (messages reply_of []) (answers_any (StandsFor behind) m t c.call-answered.result answers))))
+    (c.in_err-ask-in-Call.ensures.halts P names t (messages reply_of []) (answers_any (StandsFor behind) m t c.call-answered.result answers))
+    (c.in_err-ask-in-Call.ensures.plays P names t (messages reply_of bytes) (answers_any (StandsFor behind) m t c.call-answered.result answers)
+    (record { bytes = bytes; told = told; are = refl }))))
 
 pub returns-in-Go-clause-halts : goal.returns-in-Go-clause-halts
 returns-in-Go-clause-halts g c m bytes is told =
     let code = c.args.core.now.code in
     let P = program_of code in
-    let first = world (g.L.Link.sent c.args.link.now) (g.O.Sink.written c.args.out.now) c.args.last.now in
-    let later = world (g.L.Link.sent c.let_run.new.link) (g.O.Sink.written c.let_run.new.out) c.let_run.new.last in
+    let first = world (g.L.Source.sent c.args.link.now) (g.O.Sink.written c.args.out.now) c.args.last.now in
+    let later = world (g.L.Source.sent c.let_run.new.link) (g.O.Sink.written c.let_run.new.out) c.let_run.new.last in
     subst (λ s. PlaysTo P (names_of code) (StandsFor c.let_run.new.core) bytes (g.L.Source.left c.let_run.new.link) first later
     (play_step g.H.Hash32.hash P (own_of code) c.args.state.now (step_meant s) m) c.let_run.result) (sym c.in-Go.is) (c.let_run.ensures.halts m bytes is told)
+
+pub returns-in-Open-clause-prompt : goal.returns-in-Open-clause-prompt
+returns-in-Open-clause-prompt g c m bytes is told =
+    let code = c.args.core.now.code in
+    let P = program_of code in
+    let hash = g.H.Hash32.hash in
+    let own = own_of code in
+    let behind = c.hello-answered.new.self in
+    let same = c.hello-answered.ensures.code in
+    let t = take_event hash P own m (Hellos c.in-Open.session c.in-Open.kept c.args.state.now) in
+    let sent = g.L.Source.sent c.args.link.now in
+    let reads = g.L.Source.reads c.args.link.now in
+    let reads' = g.L.Source.reads c.ask_and_wait.new.link in
+    subst (λ s. AtEachRead (IsPromptOn bytes sent (play_step hash P own c.args.state.now (step_meant s) m)) reads reads') (sym c.in-Open.is)
+    (subst (λ k. AtEachRead (IsPromptOn bytes sent
+    (λ ms. asked_play t c.in-Open.session ms (take_replies hash (program_of k) (own_of k) (λ x. waits x c.in-Open.session)))) reads reads') same
+    (c.ask_and_wait.ensures.prompt t bytes (core_answers c.args.core.now behind same m t c.hello-answered.result (c.hello-answered.ensures.answer m is)) told))
+
+pub returns-in-Close-clause-prompt : goal.returns-in-Close-clause-prompt
+returns-in-Close-clause-prompt g c m bytes is told =
+    let code = c.args.core.now.code in
+    let P = program_of code in
+    let hash = g.H.Hash32.hash in
+    let own = own_of code in
+    let behind = c.bye-answered.new.self in
+    let same = c.bye-answered.ensures.code in
+    let t = take_event hash P own m (Byes c.in-Close.session) in
+    let sent = g.L.Source.sent c.args.link.now in
+    let reads = g.L.Source.reads c.args.link.now in
+    let reads' = g.L.Source.reads c.ask_and_wait-in-Close.new.link in
+    subst (λ s. AtEachRead (IsPromptOn bytes sent (play_step hash P own c.args.state.now (step_meant s) m)) reads reads') (sym c.in-Close.is)
+    (subst (λ k. AtEachRead (IsPromptOn bytes sent
+    (λ ms. asked_play t c.in-Close.session ms (take_replies hash (program_of k) (own_of k) (λ x. waits x c.in-Close.session)))) reads reads') same
+    (c.ask_and_wait-in-Close.ensures.prompt t bytes (core_answers c.args.core.now behind same m t c.bye-answered.result (c.bye-answered.ensures.answer m is)) told))
+
+pub returns-in_ok-ask-in-Call-clause-prompt : goal.returns-in_ok-ask-in-Call-clause-prompt
+returns-in_ok-ask-in-Call-clause-prompt g c m bytes is told = none_read _ _ _ c.ask.ensures.reads
+
+pub returns-in_err-ask-in-Call-clause-prompt : goal.returns-in_err-ask-in-Call-clause-prompt
+returns-in_err-ask-in-Call-clause-prompt g c m bytes is told = none_read _ _ _ c.ask.ensures.reads
+
+pub returns-in-Go-clause-prompt : goal.returns-in-Go-clause-prompt
+returns-in-Go-clause-prompt g c m bytes is told =
+    let code = c.args.core.now.code in
+    subst (λ s. AtEachRead (IsPromptOn bytes (g.L.Source.sent c.args.link.now) (play_step g.H.Hash32.hash (program_of code) (own_of code) c.args.state.now (step_meant s) m))
+    (g.L.Source.reads c.args.link.now) (g.L.Source.reads c.let_run.new.link)) (sym c.in-Go.is) (c.let_run.ensures.prompt m bytes is told)

@@ -2,6 +2,7 @@ use Rattle.mode_vm.specs.Meanings.{program_of}
 use Rattle.wire_form.specs.MessageViews.{reply_meant}
 use Rattle.ask_core.specs.Sessions.{StandsFor}
 use Rattle.script_play.specs.Playing.{names_of, own_of}
+use Rattle.script_play.proofs.Awaited.{waits_for_reply}
 use Rattle.script_play.proofs.Halted.{none_taken, reply_taken}
 use Rattle.script_play.proofs.HeardReplies.{next_reply, next_stop}
 use Rattle.script_play.proofs.taking.next_telling.Goals as goal
@@ -31,3 +32,12 @@ returns-in-Err-clause-takes g c m bytes is told =
     let code = c.args.core.now.code in
     none_taken g.H.Hash32.hash (program_of code) (names_of code) (own_of code) (StandsFor c.args.core.now) bytes _ m
     c.in-Err.stop c.stopped.result c.stopped.ensures (c.in-Err.ensures.reads bytes told)
+
+pub returns-in_ok-hear-in-Ok-clause-waits : goal.returns-in_ok-hear-in-Ok-clause-waits
+returns-in_ok-hear-in-Ok-clause-waits g c = λ bytes told. waits_for_reply bytes _ _ _ (c.read_reply.ensures.waits bytes told)
+
+pub returns-in_err-hear-in-Ok-clause-waits : goal.returns-in_err-hear-in-Ok-clause-waits
+returns-in_err-hear-in-Ok-clause-waits g c = λ bytes told. waits_for_reply bytes _ _ _ (c.read_reply.ensures.waits bytes told)
+
+pub returns-in-Err-clause-waits : goal.returns-in-Err-clause-waits
+returns-in-Err-clause-waits g c = λ bytes told. waits_for_reply bytes _ _ _ (c.read_reply.ensures.waits bytes told)

@@ -13,10 +13,10 @@ returns-in_err-telling-clause-plays g c m ms is comes =
     let code = c.args.core.now.code in
     let halt = c.in_err-telling.field-0.0 in
     let p = take_one g.H.Hash32.hash (program_of code) (own_of code) m ms in
-    gives_with (PlaysAs (program_of code) (names_of code) (StandsFor c.next_telling.new.core) (g.L.Source.left c.next_telling.new.link) (world (g.L.Link.sent c.args.link.now) (g.O.Sink.written c.args.out.now) c.args.last.now)
-    (world (g.L.Link.sent c.next_telling.new.link) (g.O.Sink.written c.args.out.now) c.args.last.now) p) halt _ c.from_residual.ensures.1
-    (cut_so (program_of code) (names_of code) (StandsFor c.next_telling.new.core) (g.L.Source.left c.next_telling.new.link) (g.L.Link.sent c.args.link.now)
-    (g.L.Link.sent c.next_telling.new.link) (g.O.Sink.written c.args.out.now) c.args.last.now p halt c.in_err-telling.ensures.sent c.in_err-telling.ensures.halts)
+    gives_with (PlaysAs (program_of code) (names_of code) (StandsFor c.next_telling.new.core) (g.L.Source.left c.next_telling.new.link) (world (g.L.Source.sent c.args.link.now) (g.O.Sink.written c.args.out.now) c.args.last.now)
+    (world (g.L.Source.sent c.next_telling.new.link) (g.O.Sink.written c.args.out.now) c.args.last.now) p) halt _ c.from_residual.ensures.1
+    (cut_so (program_of code) (names_of code) (StandsFor c.next_telling.new.core) (g.L.Source.left c.next_telling.new.link) (g.L.Source.sent c.args.link.now)
+    (g.L.Source.sent c.next_telling.new.link) (g.O.Sink.written c.args.out.now) c.args.last.now p halt c.in_err-telling.ensures.sent c.in_err-telling.ensures.halts)
 
 pub returns-clause-plays : goal.returns-clause-plays
 returns-clause-plays g c m ms is comes =
@@ -40,12 +40,12 @@ returns-in_err-telling-clause-halts g c m bytes is told =
     let halt = c.in_err-telling.field-0.0 in
     let Is = StandsFor c.next_telling.new.core in
     let left = g.L.Source.left c.next_telling.new.link in
-    let sent = g.L.Link.sent c.args.link.now in
+    let sent = g.L.Source.sent c.args.link.now in
     let written = g.O.Sink.written c.args.out.now in
     let last = c.args.last.now in
-    gives_with (PlaysTo (program_of code) (names_of code) Is bytes left (world sent written last) (world (g.L.Link.sent c.next_telling.new.link) written last)
+    gives_with (PlaysTo (program_of code) (names_of code) Is bytes left (world sent written last) (world (g.L.Source.sent c.next_telling.new.link) written last)
     (take_one g.H.Hash32.hash (program_of code) (own_of code) m)) halt _ c.from_residual.ensures.1
-    (cut_played g.H.Hash32.hash (program_of code) (names_of code) (own_of code) Is bytes left m sent (g.L.Link.sent c.next_telling.new.link) written written last last
+    (cut_played g.H.Hash32.hash (program_of code) (names_of code) (own_of code) Is bytes left m sent (g.L.Source.sent c.next_telling.new.link) written written last last
     c.in_err-telling.ensures.sent halt (c.in_err-telling.ensures.takes m bytes is told))
 
 pub returns-clause-halts : goal.returns-clause-halts

@@ -6,6 +6,8 @@ use Rattle.script_play.specs.Halting.{PlaysTo}
 use Rattle.script_play.specs.Plays.{take_replies}
 use Rattle.script_play.specs.Playing.{PlaysAs, names_of, own_of, take_one, waits_for, world}
 use Rattle.wire_form.proofs.Moving.{moves_on}
+use Rattle.lam_outside.proofs.Waiting.{none_read}
+use Rattle.script_play.proofs.Awaited.{awaits_more}
 use Rattle.script_play.proofs.Halted.{begins_to, breaks_to, ends_to, goes_on_to}
 use Rattle.script_play.proofs.Played.{none_moved}
 use Rattle.script_play.proofs.Worlds.{begins_so, ends_so, goes_on_so, halts_so, waits_more, waits_no_more}
@@ -24,6 +26,7 @@ loop-alloc-init g c = record {
       (StandsFor c.args.core.now) _ _ m ms is comes;
   far_to = λ m bytes is told. begins_to (program_of c.args.core.now.code) (names_of c.args.core.now.code) (StandsFor c.args.core.now) bytes _ _
       (take_replies g.H.Hash32.hash (program_of c.args.core.now.code) (own_of c.args.core.now.code) (waits_for c.args.whose)) m is told;
+  prompt = λ m bytes is told. none_read _ _ _ refl;
 }
 
 pub loop-alloc-preserved : goal.loop-alloc-preserved
@@ -34,9 +37,9 @@ loop-alloc-preserved g c =
     let own = own_of code in
     let before = c.loop-alloc.invariant in
     let new = c.take_one.new.core in
-    let first = world (g.L.Link.sent c.args.link.now) (g.O.Sink.written c.args.out.now) c.args.last.now in
-    let here = world (g.L.Link.sent c.loop-alloc.link) (g.O.Sink.written c.loop-alloc.out) c.loop-alloc.last in
-    let later = world (g.L.Link.sent c.take_one.new.link) (g.O.Sink.written c.take_one.new.out) c.take_one.new.last in
+    let first = world (g.L.Source.sent c.args.link.now) (g.O.Sink.written c.args.out.now) c.args.last.now in
+    let here = world (g.L.Source.sent c.loop-alloc.link) (g.O.Sink.written c.loop-alloc.out) c.loop-alloc.last in
+    let later = world (g.L.Source.sent c.take_one.new.link) (g.O.Sink.written c.take_one.new.out) c.take_one.new.last in
     let left = g.L.Source.left c.take_one.new.link in
     record {
       known = c.in_ok-take_one.ensures.known;
@@ -63,6 +66,18 @@ loop-alloc-preserved g c =
           (StandsFor new) left later
           (subst (λ k. PlaysTo (program_of k) (names_of k) {T = Unit {0}} (StandsFor new) far.rest left here later (take_one hash (program_of k) (own_of k) far.client) (Ok (tt {0}))) before.code
           (c.in_ok-take_one.ensures.halts far.client far.rest far.stands far.left));
+      prompt = λ m bytes is told.
+          let code = c.args.core.now.code in
+          let hash = g.H.Hash32.hash in
+          let P = program_of code in
+          let own = own_of code in
+          let before = c.loop-alloc.invariant in
+          let first = world (g.L.Source.sent c.args.link.now) (g.O.Sink.written c.args.out.now) c.args.last.now in
+          let here = world (g.L.Source.sent c.loop-alloc.link) (g.O.Sink.written c.loop-alloc.out) c.loop-alloc.last in
+          let far = before.far_to m bytes is told in
+          awaits_more hash P own (names_of code) (waits_for c.args.whose) (StandsFor c.loop-alloc.core) bytes (g.L.Source.left c.loop-alloc.link) first here
+          (take_replies hash P own (waits_for c.args.whose) m) far (sym (c.waits.ensures far.client far.stands) ∙ c.loop-alloc-test.true) _ _ _
+          (before.prompt m bytes is told) (c.take_one.ensures.waits far.rest far.left);
     }
 
 pub returns-in_err-take_one-clause-plays : goal.returns-in_err-take_one-clause-plays
@@ -77,9 +92,9 @@ returns-in_err-take_one-clause-plays g c m ms is comes =
     let new = c.take_one.new.core in
     let whole = take_replies hash P own (waits_for c.args.whose) m ms in
     let more = take_replies hash P own (waits_for c.args.whose) in
-    let first = world (g.L.Link.sent c.args.link.now) (g.O.Sink.written c.args.out.now) c.args.last.now in
-    let here = world (g.L.Link.sent c.loop-alloc.link) (g.O.Sink.written c.loop-alloc.out) c.loop-alloc.last in
-    let later = world (g.L.Link.sent c.take_one.new.link) (g.O.Sink.written c.take_one.new.out) c.take_one.new.last in
+    let first = world (g.L.Source.sent c.args.link.now) (g.O.Sink.written c.args.out.now) c.args.last.now in
+    let here = world (g.L.Source.sent c.loop-alloc.link) (g.O.Sink.written c.loop-alloc.out) c.loop-alloc.last in
+    let later = world (g.L.Source.sent c.take_one.new.link) (g.O.Sink.written c.take_one.new.out) c.take_one.new.last in
     let left = g.L.Source.left c.take_one.new.link in
     gives_with (PlaysAs P (names_of code) {T = Unit {0}} (StandsFor new) left first later whole) halt _ c.from_residual.ensures.1
     (halts_so P (names_of code) whole more (StandsFor c.loop-alloc.core) (g.L.Source.left c.loop-alloc.link) first here far more (take_one hash P own far.client far.coming)
@@ -94,8 +109,8 @@ returns-clause-plays g c m ms is comes =
     let hash = g.H.Hash32.hash in
     let P = program_of code in
     let own = own_of code in
-    let first = world (g.L.Link.sent c.args.link.now) (g.O.Sink.written c.args.out.now) c.args.last.now in
-    let here = world (g.L.Link.sent c.loop-alloc.link) (g.O.Sink.written c.loop-alloc.out) c.loop-alloc.last in
+    let first = world (g.L.Source.sent c.args.link.now) (g.O.Sink.written c.args.out.now) c.args.last.now in
+    let here = world (g.L.Source.sent c.loop-alloc.link) (g.O.Sink.written c.loop-alloc.out) c.loop-alloc.last in
     let far = c.loop-alloc.invariant.far m ms is comes in
     ends_so P (names_of code) (take_replies hash P own (waits_for c.args.whose) m ms) (take_replies hash P own (waits_for c.args.whose)) (StandsFor c.loop-alloc.core)
     (g.L.Source.left c.loop-alloc.link) first here far
@@ -115,9 +130,9 @@ returns-in_err-take_one-clause-halts g c m bytes is told =
     let halt = c.in_err-take_one.field-0.0 in
     let new = c.take_one.new.core in
     let more = take_replies hash P own (waits_for c.args.whose) in
-    let first = world (g.L.Link.sent c.args.link.now) (g.O.Sink.written c.args.out.now) c.args.last.now in
-    let here = world (g.L.Link.sent c.loop-alloc.link) (g.O.Sink.written c.loop-alloc.out) c.loop-alloc.last in
-    let later = world (g.L.Link.sent c.take_one.new.link) (g.O.Sink.written c.take_one.new.out) c.take_one.new.last in
+    let first = world (g.L.Source.sent c.args.link.now) (g.O.Sink.written c.args.out.now) c.args.last.now in
+    let here = world (g.L.Source.sent c.loop-alloc.link) (g.O.Sink.written c.loop-alloc.out) c.loop-alloc.last in
+    let later = world (g.L.Source.sent c.take_one.new.link) (g.O.Sink.written c.take_one.new.out) c.take_one.new.last in
     let left = g.L.Source.left c.take_one.new.link in
     gives_with (PlaysTo P (names_of code) {T = Unit {0}} (StandsFor new) bytes left first later (more m)) halt _ c.from_residual.ensures.1
     (breaks_to P (names_of code) (StandsFor c.loop-alloc.core) bytes (g.L.Source.left c.loop-alloc.link) first here (more m) more far more (take_one hash P own far.client)
@@ -133,8 +148,22 @@ returns-clause-halts g c m bytes is told =
     let P = program_of code in
     let own = own_of code in
     let more = take_replies hash P own (waits_for c.args.whose) in
-    let first = world (g.L.Link.sent c.args.link.now) (g.O.Sink.written c.args.out.now) c.args.last.now in
-    let here = world (g.L.Link.sent c.loop-alloc.link) (g.O.Sink.written c.loop-alloc.out) c.loop-alloc.last in
+    let first = world (g.L.Source.sent c.args.link.now) (g.O.Sink.written c.args.out.now) c.args.last.now in
+    let here = world (g.L.Source.sent c.loop-alloc.link) (g.O.Sink.written c.loop-alloc.out) c.loop-alloc.last in
     let far = c.loop-alloc.invariant.far_to m bytes is told in
     ends_to P (names_of code) (StandsFor c.loop-alloc.core) bytes (g.L.Source.left c.loop-alloc.link) first here (more m) more far
     (λ ms. waits_no_more hash P own (waits_for c.args.whose) far.client ms (sym (c.waits.ensures far.client far.stands) ∙ c.loop-alloc-test.false))
+
+pub returns-in_err-take_one-clause-prompt : goal.returns-in_err-take_one-clause-prompt
+returns-in_err-take_one-clause-prompt g c m bytes is told =
+    let code = c.args.core.now.code in
+    let hash = g.H.Hash32.hash in
+    let P = program_of code in
+    let own = own_of code in
+    let before = c.loop-alloc.invariant in
+    let first = world (g.L.Source.sent c.args.link.now) (g.O.Sink.written c.args.out.now) c.args.last.now in
+    let here = world (g.L.Source.sent c.loop-alloc.link) (g.O.Sink.written c.loop-alloc.out) c.loop-alloc.last in
+    let far = before.far_to m bytes is told in
+    awaits_more hash P own (names_of code) (waits_for c.args.whose) (StandsFor c.loop-alloc.core) bytes (g.L.Source.left c.loop-alloc.link) first here
+    (take_replies hash P own (waits_for c.args.whose) m) far (sym (c.waits.ensures far.client far.stands) ∙ c.loop-alloc-test.true) _ _ _
+    (before.prompt m bytes is told) (c.take_one.ensures.waits far.rest far.left)

@@ -7,6 +7,8 @@ use Rattle.ask_core.specs.Sessions.{StandsFor, StandsForSome, sessions_waiting}
 use Rattle.script_play.specs.Halting.{TakesSoFar}
 use Rattle.script_play.specs.Plays.{take_replies}
 use Rattle.script_play.specs.Playing.{AreComing, names_of, own_of, waits_for, world}
+use Rattle.lam_outside.specs.Moments.{AtEachRead}
+use Rattle.script_play.specs.Prompt.{IsPromptOn}
 use Rattle.script_play.proofs.Worlds.{SoFar}
 use Rattle.script_play.proofs.taking.take_replies.Given as goal
 
@@ -23,12 +25,15 @@ invariant-loop-alloc g l = record {
       (take_replies g.H.Hash32.hash (program_of l.fn.core.code) (own_of l.fn.core.code) (waits_for l.fn.whose) m ms)
       (take_replies g.H.Hash32.hash (program_of l.fn.core.code) (own_of l.fn.core.code) (waits_for l.fn.whose))
       (StandsFor l.core) (g.L.Source.left l.link)
-      (world (g.L.Link.sent l.fn.link) (g.O.Sink.written l.fn.out) l.fn.last) (world (g.L.Link.sent l.link) (g.O.Sink.written l.out) l.last);
+      (world (g.L.Source.sent l.fn.link) (g.O.Sink.written l.fn.out) l.fn.last) (world (g.L.Source.sent l.link) (g.O.Sink.written l.out) l.last);
   far_to : (m : Client) (bytes : List ℕ) → StandsFor l.fn.core m → g.L.Source.left l.fn.link ≡ Some bytes
       → TakesSoFar (program_of l.fn.core.code) (names_of l.fn.core.code) (StandsFor l.core) bytes (g.L.Source.left l.link)
-      (world (g.L.Link.sent l.fn.link) (g.O.Sink.written l.fn.out) l.fn.last) (world (g.L.Link.sent l.link) (g.O.Sink.written l.out) l.last)
+      (world (g.L.Source.sent l.fn.link) (g.O.Sink.written l.fn.out) l.fn.last) (world (g.L.Source.sent l.link) (g.O.Sink.written l.out) l.last)
       (take_replies g.H.Hash32.hash (program_of l.fn.core.code) (own_of l.fn.core.code) (waits_for l.fn.whose) m)
       (take_replies g.H.Hash32.hash (program_of l.fn.core.code) (own_of l.fn.core.code) (waits_for l.fn.whose));
+  prompt : (m : Client) (bytes : List ℕ) → StandsFor l.fn.core m → g.L.Source.left l.fn.link ≡ Some bytes
+      → AtEachRead (IsPromptOn bytes (g.L.Source.sent l.fn.link) (take_replies g.H.Hash32.hash (program_of l.fn.core.code) (own_of l.fn.core.code) (waits_for l.fn.whose) m))
+      (g.L.Source.reads l.fn.link) (g.L.Source.reads l.link);
 }
 
 abbrev pub decreases-loop-alloc : goal.decreases-loop-alloc

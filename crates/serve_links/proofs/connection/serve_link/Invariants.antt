@@ -3,7 +3,9 @@ use Rattle.std.specs.Option.{ForSome}
 use Rattle.serve_core.specs.Serving.{Serves}
 use Rattle.session_meaning.specs.Server.{Server, messages_limit}
 use Rattle.wire_form.specs.MovedBytes.{Moves}
-use Rattle.serve_links.specs.Histories.{HasSameCode, HasServed}
+use Rattle.serve_links.specs.Histories.{HasSameCode, HasServed, own_digest, program_served, turns_of}
+use Rattle.serve_links.specs.Prompt.{IsPrompt}
+use Rattle.lam_outside.specs.Moments.{AtEachRead}
 use Rattle.serve_links.proofs.SoFar.{IsSoFar}
 use Rattle.serve_links.proofs.connection.serve_link.Given as goal
 
@@ -12,7 +14,9 @@ invariant-loop-core g l = record {
   history : HasServed g.H.Hash32.hash l.core;
   code : HasSameCode l.fn.core l.core;
   served : ForSome (g.L.Source.left l.fn.link) (λ bytes. (server : Server) → Serves g.H.Hash32.hash l.fn.core server
-      → IsSoFar g.H.Hash32.hash l.fn.core l.core server (g.L.Link.sent l.fn.link) (g.L.Link.sent l.link) bytes (g.L.Source.left l.link));
+      → IsSoFar g.H.Hash32.hash l.fn.core l.core server (g.L.Source.sent l.fn.link) (g.L.Source.sent l.link) bytes (g.L.Source.left l.link));
+  prompt : ForSome (g.L.Source.left l.fn.link) (λ bytes. (server : Server) → Serves g.H.Hash32.hash l.fn.core server
+      → AtEachRead (IsPrompt g.H.Hash32.hash (program_served l.fn.core) (own_digest l.fn.core) (turns_of l.fn.core) server bytes (g.L.Source.sent l.fn.link)) (g.L.Source.reads l.fn.link) (g.L.Source.reads l.link));
   moves : Moves (g.L.Source.given l.fn.link) (g.L.Source.left l.fn.link) (g.L.Source.given l.link) (g.L.Source.left l.link);
   beyond : g.L.Link.beyond l.link ≡ g.L.Link.beyond l.fn.link;
   faults : g.L.Source.faults l.link ≡ g.L.Source.faults l.fn.link;

@@ -1,5 +1,6 @@
 use Rattle.wire_form.specs.MessageViews.{request_meant}
 use Rattle.serve_links.proofs.Stopping.{bad_next, cut_next, end_next, fault_next, lacking_next, long_next, request_next}
+use Rattle.serve_links.proofs.Prompting.{waits_for_one}
 use Rattle.serve_links.proofs.message.next_heard.Goals as goal
 
 pub returns-in-Ok-clause-hears : goal.returns-in-Ok-clause-hears
@@ -29,3 +30,24 @@ returns-in-Err-LinkFault-clause-hears g c = λ bytes told.
 pub returns-in-Err-NoMemory-clause-hears : goal.returns-in-Err-NoMemory-clause-hears
 returns-in-Err-NoMemory-clause-hears g c = λ bytes told.
     lacking_next bytes (g.L.Source.left c.read_request.new.link) c.in-Err-NoMemory.field-0 c.in-Err-NoMemory.field-0-is (c.in-Err-NoMemory.ensures.reads bytes told)
+
+pub returns-in-Ok-clause-waits : goal.returns-in-Ok-clause-waits
+returns-in-Ok-clause-waits g c = λ bytes told. waits_for_one bytes _ _ _ (c.read_request.ensures.waits bytes told)
+
+pub returns-in-Err-BadMessage-clause-waits : goal.returns-in-Err-BadMessage-clause-waits
+returns-in-Err-BadMessage-clause-waits g c = λ bytes told. waits_for_one bytes _ _ _ (c.read_request.ensures.waits bytes told)
+
+pub returns-in-Err-TooLong-clause-waits : goal.returns-in-Err-TooLong-clause-waits
+returns-in-Err-TooLong-clause-waits g c = λ bytes told. waits_for_one bytes _ _ _ (c.read_request.ensures.waits bytes told)
+
+pub returns-in-Err-End-clause-waits : goal.returns-in-Err-End-clause-waits
+returns-in-Err-End-clause-waits g c = λ bytes told. waits_for_one bytes _ _ _ (c.read_request.ensures.waits bytes told)
+
+pub returns-in-Err-Cut-clause-waits : goal.returns-in-Err-Cut-clause-waits
+returns-in-Err-Cut-clause-waits g c = λ bytes told. waits_for_one bytes _ _ _ (c.read_request.ensures.waits bytes told)
+
+pub returns-in-Err-LinkFault-clause-waits : goal.returns-in-Err-LinkFault-clause-waits
+returns-in-Err-LinkFault-clause-waits g c = λ bytes told. waits_for_one bytes _ _ _ (c.read_request.ensures.waits bytes told)
+
+pub returns-in-Err-NoMemory-clause-waits : goal.returns-in-Err-NoMemory-clause-waits
+returns-in-Err-NoMemory-clause-waits g c = λ bytes told. waits_for_one bytes _ _ _ (c.read_request.ensures.waits bytes told)

@@ -5,55 +5,55 @@ use Rattle.serve_links.proofs.message.serve_message.Goals as goal
 
 pub returns-in_err-heard-clause-served : goal.returns-in_err-heard-clause-served
 returns-in_err-heard-clause-served g c = λ bytes told server serves.
-    unread g.H.Hash32.hash c.args.core.now server (g.L.Link.sent c.args.link.now) (g.L.Link.sent c.next_heard.new.link) bytes
+    unread g.H.Hash32.hash c.args.core.now server (g.L.Source.sent c.args.link.now) (g.L.Source.sent c.next_heard.new.link) bytes
     (g.L.Source.left c.next_heard.new.link) c.in_err-heard.field-0.0 c.from_residual.result c.from_residual.ensures.1 c.next_heard.ensures.sent
     (c.in_err-heard.ensures.hears bytes told) serves
 
 pub returns-in_err-closing-clause-served : goal.returns-in_err-closing-clause-served
 returns-in_err-closing-clause-served g c = λ bytes told server serves.
-    broken_on g.H.Hash32.hash c.args.core.now c.answer.new.core server (g.L.Link.sent c.args.link.now) (g.L.Link.sent c.next_heard.new.link) (g.L.Link.sent c.answer.new.link) bytes
+    broken_on g.H.Hash32.hash c.args.core.now c.answer.new.core server (g.L.Source.sent c.args.link.now) (g.L.Source.sent c.next_heard.new.link) (g.L.Source.sent c.answer.new.link) bytes
     (g.L.Source.left c.next_heard.new.link) (g.L.Source.left c.answer.new.link) (heard_meant c.in_ok-heard.heard) c.in_err-closing.field-0.0
     c.from_residual-in_err-closing.result c.from_residual-in_err-closing.ensures.1 c.next_heard.ensures.sent c.answer.ensures.left
     (c.in_ok-heard.ensures.hears bytes told) (c.in_err-closing.ensures.answers server serves)
 
 pub returns-in_err-closing-clause-history : goal.returns-in_err-closing-clause-history
 returns-in_err-closing-clause-history g c =
-    stays_halted g.H.Hash32.hash c.args.core.now c.answer.new.core c.answer.ensures.code c.requires (g.L.Link.sent c.next_heard.new.link) (g.L.Link.sent c.answer.new.link)
+    stays_halted g.H.Hash32.hash c.args.core.now c.answer.new.core c.answer.ensures.code c.requires (g.L.Source.sent c.next_heard.new.link) (g.L.Source.sent c.answer.new.link)
     (heard_meant c.in_ok-heard.heard) c.in_ok-heard.ensures.message c.in_err-closing.field-0.0 c.from_residual-in_err-closing.result c.from_residual-in_err-closing.ensures.1
     (c.in_err-closing.ensures.answers c.requires.server c.requires.serves)
 
 pub returns-then-asks-clause-served : goal.returns-then-asks-clause-served
 returns-then-asks-clause-served g c = λ bytes told server serves.
-    served_on g.H.Hash32.hash c.args.core.now c.answer.new.core server (g.L.Link.sent c.args.link.now) (g.L.Link.sent c.next_heard.new.link) (g.L.Link.sent c.answer.new.link) bytes
+    served_on g.H.Hash32.hash c.args.core.now c.answer.new.core server (g.L.Source.sent c.args.link.now) (g.L.Source.sent c.next_heard.new.link) (g.L.Source.sent c.answer.new.link) bytes
     (g.L.Source.left c.next_heard.new.link) (g.L.Source.left c.answer.new.link) (heard_meant c.in_ok-heard.heard) c.in_ok-closing.closing true (not c.in_ok-closing.closing) refl
     c.next_heard.ensures.sent c.answer.ensures.left (c.in_ok-heard.ensures.hears bytes told) (sym c.is_request-asks.ensures ∙ c.if-asks.true)
     (c.in_ok-closing.ensures.answers server serves)
 
 pub returns-then-asks-clause-history : goal.returns-then-asks-clause-history
 returns-then-asks-clause-history g c =
-    stays_open g.H.Hash32.hash c.args.core.now c.answer.new.core c.answer.ensures.code c.requires (g.L.Link.sent c.next_heard.new.link) (g.L.Link.sent c.answer.new.link)
+    stays_open g.H.Hash32.hash c.args.core.now c.answer.new.core c.answer.ensures.code c.requires (g.L.Source.sent c.next_heard.new.link) (g.L.Source.sent c.answer.new.link)
     (heard_meant c.in_ok-heard.heard) c.in_ok-heard.ensures.message c.in_ok-closing.closing (c.in_ok-closing.ensures.answers c.requires.server c.requires.serves)
 
 pub returns-then-asks-clause-counts : goal.returns-then-asks-clause-counts
 returns-then-asks-clause-counts g c =
-    counts g.H.Hash32.hash c.args.core.now c.answer.new.core c.answer.ensures.code c.requires (g.L.Link.sent c.next_heard.new.link) (g.L.Link.sent c.answer.new.link)
+    counts g.H.Hash32.hash c.args.core.now c.answer.new.core c.answer.ensures.code c.requires (g.L.Source.sent c.next_heard.new.link) (g.L.Source.sent c.answer.new.link)
     (heard_meant c.in_ok-heard.heard) c.in_ok-heard.ensures.message c.in_ok-closing.closing true (not c.in_ok-closing.closing) refl (sym c.is_request-asks.ensures ∙ c.if-asks.true)
     (c.in_ok-closing.ensures.answers c.requires.server c.requires.serves)
 
 pub returns-else-asks-clause-served : goal.returns-else-asks-clause-served
 returns-else-asks-clause-served g c = λ bytes told server serves.
-    served_on g.H.Hash32.hash c.args.core.now c.answer.new.core server (g.L.Link.sent c.args.link.now) (g.L.Link.sent c.next_heard.new.link) (g.L.Link.sent c.answer.new.link) bytes
+    served_on g.H.Hash32.hash c.args.core.now c.answer.new.core server (g.L.Source.sent c.args.link.now) (g.L.Source.sent c.next_heard.new.link) (g.L.Source.sent c.answer.new.link) bytes
     (g.L.Source.left c.next_heard.new.link) (g.L.Source.left c.answer.new.link) (heard_meant c.in_ok-heard.heard) c.in_ok-closing.closing false c.is_request-asks.result c.if-asks.false
     c.next_heard.ensures.sent c.answer.ensures.left (c.in_ok-heard.ensures.hears bytes told) (sym c.is_request-asks.ensures ∙ c.if-asks.false)
     (c.in_ok-closing.ensures.answers server serves)
 
 pub returns-else-asks-clause-history : goal.returns-else-asks-clause-history
 returns-else-asks-clause-history g c =
-    stays_open g.H.Hash32.hash c.args.core.now c.answer.new.core c.answer.ensures.code c.requires (g.L.Link.sent c.next_heard.new.link) (g.L.Link.sent c.answer.new.link)
+    stays_open g.H.Hash32.hash c.args.core.now c.answer.new.core c.answer.ensures.code c.requires (g.L.Source.sent c.next_heard.new.link) (g.L.Source.sent c.answer.new.link)
     (heard_meant c.in_ok-heard.heard) c.in_ok-heard.ensures.message c.in_ok-closing.closing (c.in_ok-closing.ensures.answers c.requires.server c.requires.serves)
 
 pub returns-else-asks-clause-counts : goal.returns-else-asks-clause-counts
 returns-else-asks-clause-counts g c =
-    counts g.H.Hash32.hash c.args.core.now c.answer.new.core c.answer.ensures.code c.requires (g.L.Link.sent c.next_heard.new.link) (g.L.Link.sent c.answer.new.link)
+    counts g.H.Hash32.hash c.args.core.now c.answer.new.core c.answer.ensures.code c.requires (g.L.Source.sent c.next_heard.new.link) (g.L.Source.sent c.answer.new.link)
     (heard_meant c.in_ok-heard.heard) c.in_ok-heard.ensures.message c.in_ok-closing.closing false c.is_request-asks.result c.if-asks.false (sym c.is_request-asks.ensures ∙ c.if-asks.false)
     (c.in_ok-closing.ensures.answers c.requires.server c.requires.serves)

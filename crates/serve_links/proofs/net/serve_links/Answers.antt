@@ -12,9 +12,9 @@ returns-in-Err-NoMemory-clause-served g c = λ port listening server serves afte
     let old = c.args.net.now in
     let now = c.loop.net in
     let new = c.serve_next.new.net in
-    let told_old = links_so_far (g.N.Net.ended old) (g.N.Net.linked old) (g.N.Source.given old) (g.N.Source.left old) (g.N.Link.sent old) in
-    let told_now = links_so_far (g.N.Net.ended now) (g.N.Net.linked now) (g.N.Source.given now) (g.N.Source.left now) (g.N.Link.sent now) in
-    let told_new = links_so_far (g.N.Net.ended new) (g.N.Net.linked new) (g.N.Source.given new) (g.N.Source.left new) (g.N.Link.sent new) in
+    let told_old = links_so_far (g.N.Net.ended old) (g.N.Net.linked old) (g.N.Source.given old) (g.N.Source.left old) (g.N.Source.sent old) (g.N.Source.reads old) in
+    let told_now = links_so_far (g.N.Net.ended now) (g.N.Net.linked now) (g.N.Source.given now) (g.N.Source.left now) (g.N.Source.sent now) (g.N.Source.reads now) in
+    let told_new = links_so_far (g.N.Net.ended new) (g.N.Net.linked new) (g.N.Source.given new) (g.N.Source.left new) (g.N.Source.sent new) (g.N.Source.reads new) in
     link_in_part g.H.Hash32.hash c.args.core.now c.loop.core c.serve_next.new.core loop.code server port told_old told_now after c.loop.link_fault c.loop.counter c.args.connections
     c.loop-test.true (λ links' are. loop.served port listening server serves links' are)
     (λ s serves'. next_at g.H.Hash32.hash c.loop.core c.serve_next.new.core s port told_now told_new (Err c.in-Err-NoMemory.field-0) (Err halt.NoMemory) (ap Err c.in-Err-NoMemory.field-0-is)
@@ -26,9 +26,9 @@ returns-in-Err-LinkFault-clause-served g c = λ port listening server serves aft
     let old = c.args.net.now in
     let now = c.loop.net in
     let new = c.serve_next.new.net in
-    let told_old = links_so_far (g.N.Net.ended old) (g.N.Net.linked old) (g.N.Source.given old) (g.N.Source.left old) (g.N.Link.sent old) in
-    let told_now = links_so_far (g.N.Net.ended now) (g.N.Net.linked now) (g.N.Source.given now) (g.N.Source.left now) (g.N.Link.sent now) in
-    let told_new = links_so_far (g.N.Net.ended new) (g.N.Net.linked new) (g.N.Source.given new) (g.N.Source.left new) (g.N.Link.sent new) in
+    let told_old = links_so_far (g.N.Net.ended old) (g.N.Net.linked old) (g.N.Source.given old) (g.N.Source.left old) (g.N.Source.sent old) (g.N.Source.reads old) in
+    let told_now = links_so_far (g.N.Net.ended now) (g.N.Net.linked now) (g.N.Source.given now) (g.N.Source.left now) (g.N.Source.sent now) (g.N.Source.reads now) in
+    let told_new = links_so_far (g.N.Net.ended new) (g.N.Net.linked new) (g.N.Source.given new) (g.N.Source.left new) (g.N.Source.sent new) (g.N.Source.reads new) in
     let same = next_at g.H.Hash32.hash c.loop.core c.serve_next.new.core loop.history.server port told_now told_new (Err c.in-Err-LinkFault.field-0) (Err halt.LinkFault)
     (ap Err c.in-Err-LinkFault.field-0-is) (c.in-Err-LinkFault.ensures.served port (loop.listened ∙ listening) loop.history.server loop.history.serves) in
     no_more g.H.Hash32.hash c.args.core.now c.loop.core c.serve_next.new.core server port told_old after c.loop.link_fault c.loop.counter c.args.connections
@@ -45,8 +45,8 @@ loop-preserved g c =
     let loop = c.loop.invariant in
     let before = c.args.net.now in
     let between = c.loop.net in
-    let told_old = links_so_far (g.N.Net.ended before) (g.N.Net.linked before) (g.N.Source.given before) (g.N.Source.left before) (g.N.Link.sent before) in
-    let told_now = links_so_far (g.N.Net.ended between) (g.N.Net.linked between) (g.N.Source.given between) (g.N.Source.left between) (g.N.Link.sent between) in
+    let told_old = links_so_far (g.N.Net.ended before) (g.N.Net.linked before) (g.N.Source.given before) (g.N.Source.left before) (g.N.Source.sent before) (g.N.Source.reads before) in
+    let told_now = links_so_far (g.N.Net.ended between) (g.N.Net.linked between) (g.N.Source.given between) (g.N.Source.left between) (g.N.Source.sent between) (g.N.Source.reads between) in
     let Told : Bool → Type 0 = λ link_fault. IsFaultTold link_fault (g.N.Source.faults before) (g.N.Source.faults c.serve_next.new.net) in
     let flag : c.if-faulted.link_fault ≡ (c.loop.link_fault || c.in-Ok.faulted) = elim c.if-faulted.branch [
       | then-faulted w ↦ w.link_fault-is ∙ or_one c.loop.link_fault ∙ ap (λ (b : Bool). c.loop.link_fault || b) (sym w.if-faulted.true)

@@ -13,9 +13,9 @@ invariant-loop g l = record {
   history : HasServed g.H.Hash32.hash l.core;
   code : HasSameCode l.fn.core l.core;
   served : ForSome (g.N.Net.listened l.fn.net) (λ port. (server : Server) → Serves g.H.Hash32.hash l.fn.core server → (after : List Linked)
-      → links_so_far (g.N.Net.ended l.net) (g.N.Net.linked l.net) (g.N.Source.given l.net) (g.N.Source.left l.net) (g.N.Link.sent l.net) ≡ Some after
+      → links_so_far (g.N.Net.ended l.net) (g.N.Net.linked l.net) (g.N.Source.given l.net) (g.N.Source.left l.net) (g.N.Source.sent l.net) (g.N.Source.reads l.net) ≡ Some after
       → AreMoreServed g.H.Hash32.hash l.fn.core l.core server port
-      (links_so_far (g.N.Net.ended l.fn.net) (g.N.Net.linked l.fn.net) (g.N.Source.given l.fn.net) (g.N.Source.left l.fn.net) (g.N.Link.sent l.fn.net))
+      (links_so_far (g.N.Net.ended l.fn.net) (g.N.Net.linked l.fn.net) (g.N.Source.given l.fn.net) (g.N.Source.left l.fn.net) (g.N.Source.sent l.fn.net) (g.N.Source.reads l.fn.net))
       after l.link_fault l.counter);
   listened : g.N.Net.listened l.net ≡ g.N.Net.listened l.fn.net;
   listens : g.N.Net.listen_faults l.net ≡ g.N.Net.listen_faults l.fn.net;

@@ -12,11 +12,12 @@ returns-in-Over-clause-served g c = λ port listening server serves after is.
     let ended : g.N.Net.ended behind ≡ g.N.Net.ended made = search rules in
     let linked : g.N.Net.linked behind ≡ g.N.Net.linked made = search rules in
     let one = one_served g.H.Hash32.hash c.args.core.now c.serve_link.new.core server port
-    (links_so_far (g.N.Net.ended before) (g.N.Net.linked before) (g.N.Source.given before) (g.N.Source.left before) (g.N.Link.sent before))
-    (g.N.Net.ended made) (g.N.Net.ended behind) (g.N.Net.linked made) (g.N.Net.linked behind) (g.N.Source.given before) (g.N.Link.sent before)
-    (g.N.Source.given made) (g.N.Source.left made) (g.N.Link.sent made) (g.N.Source.given behind) (g.N.Source.left behind) (g.N.Link.sent behind)
+    (links_so_far (g.N.Net.ended before) (g.N.Net.linked before) (g.N.Source.given before) (g.N.Source.left before) (g.N.Source.sent before) (g.N.Source.reads before))
+    (g.N.Net.ended made) (g.N.Net.ended behind) (g.N.Net.linked made) (g.N.Net.linked behind) (g.N.Source.given before) (g.N.Source.sent before)
+    (g.N.Source.given made) (g.N.Source.left made) (g.N.Source.sent made) (g.N.Source.given behind) (g.N.Source.left behind) (g.N.Source.sent behind)
+    (g.N.Source.reads made) (g.N.Source.reads behind)
     Over after (c.in_ok-accept.ensures.made port listening) ended linked c.serve_link.ensures.moves
-    (λ bytes told. c.in-Over.ensures.served bytes told server serves) is in
+    (λ bytes told. c.in-Over.ensures.served bytes told server serves) (λ bytes told. c.serve_link.ensures.prompt bytes told server serves) is in
     record { end = Over; one = one; memory = λ same. cc (same); fault = refl }
 
 pub returns-in-LinkFault-clause-served : goal.returns-in-LinkFault-clause-served
@@ -27,11 +28,12 @@ returns-in-LinkFault-clause-served g c = λ port listening server serves after i
     let ended : g.N.Net.ended behind ≡ g.N.Net.ended made = search rules in
     let linked : g.N.Net.linked behind ≡ g.N.Net.linked made = search rules in
     let one = one_served g.H.Hash32.hash c.args.core.now c.serve_link.new.core server port
-    (links_so_far (g.N.Net.ended before) (g.N.Net.linked before) (g.N.Source.given before) (g.N.Source.left before) (g.N.Link.sent before))
-    (g.N.Net.ended made) (g.N.Net.ended behind) (g.N.Net.linked made) (g.N.Net.linked behind) (g.N.Source.given before) (g.N.Link.sent before)
-    (g.N.Source.given made) (g.N.Source.left made) (g.N.Link.sent made) (g.N.Source.given behind) (g.N.Source.left behind) (g.N.Link.sent behind)
+    (links_so_far (g.N.Net.ended before) (g.N.Net.linked before) (g.N.Source.given before) (g.N.Source.left before) (g.N.Source.sent before) (g.N.Source.reads before))
+    (g.N.Net.ended made) (g.N.Net.ended behind) (g.N.Net.linked made) (g.N.Net.linked behind) (g.N.Source.given before) (g.N.Source.sent before)
+    (g.N.Source.given made) (g.N.Source.left made) (g.N.Source.sent made) (g.N.Source.given behind) (g.N.Source.left behind) (g.N.Source.sent behind)
+    (g.N.Source.reads made) (g.N.Source.reads behind)
     LinkFault after (c.in_ok-accept.ensures.made port listening) ended linked c.serve_link.ensures.moves
-    (λ bytes told. c.in-LinkFault.ensures.served bytes told server serves) is in
+    (λ bytes told. c.in-LinkFault.ensures.served bytes told server serves) (λ bytes told. c.serve_link.ensures.prompt bytes told server serves) is in
     record { end = LinkFault; one = one; memory = λ same. cc (same); fault = refl }
 
 pub returns-in-NoMemory-clause-served : goal.returns-in-NoMemory-clause-served
@@ -42,9 +44,10 @@ returns-in-NoMemory-clause-served g c = λ port listening server serves after is
     let ended : g.N.Net.ended behind ≡ g.N.Net.ended made = search rules in
     let linked : g.N.Net.linked behind ≡ g.N.Net.linked made = search rules in
     let one = one_served g.H.Hash32.hash c.args.core.now c.serve_link.new.core server port
-    (links_so_far (g.N.Net.ended before) (g.N.Net.linked before) (g.N.Source.given before) (g.N.Source.left before) (g.N.Link.sent before))
-    (g.N.Net.ended made) (g.N.Net.ended behind) (g.N.Net.linked made) (g.N.Net.linked behind) (g.N.Source.given before) (g.N.Link.sent before)
-    (g.N.Source.given made) (g.N.Source.left made) (g.N.Link.sent made) (g.N.Source.given behind) (g.N.Source.left behind) (g.N.Link.sent behind)
+    (links_so_far (g.N.Net.ended before) (g.N.Net.linked before) (g.N.Source.given before) (g.N.Source.left before) (g.N.Source.sent before) (g.N.Source.reads before))
+    (g.N.Net.ended made) (g.N.Net.ended behind) (g.N.Net.linked made) (g.N.Net.linked behind) (g.N.Source.given before) (g.N.Source.sent before)
+    (g.N.Source.given made) (g.N.Source.left made) (g.N.Source.sent made) (g.N.Source.given behind) (g.N.Source.left behind) (g.N.Source.sent behind)
+    (g.N.Source.reads made) (g.N.Source.reads behind)
     NoMemory after (c.in_ok-accept.ensures.made port listening) ended linked c.serve_link.ensures.moves
-    (λ bytes told. c.in-NoMemory.ensures.served bytes told server serves) is in
+    (λ bytes told. c.in-NoMemory.ensures.served bytes told server serves) (λ bytes told. c.serve_link.ensures.prompt bytes told server serves) is in
     one

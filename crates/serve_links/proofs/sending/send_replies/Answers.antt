@@ -7,6 +7,6 @@ write_reply-requires g c =
 
 pub returns-in_err-write_reply-clause-sends : goal.returns-in_err-write_reply-clause-sends
 returns-in_err-write_reply-clause-sends g c =
-    sent_part c.args.replies.now c.loop-reply.reply-index c.reply-item.result (g.L.Link.sent c.args.link.now) (g.L.Link.sent c.loop-reply.link)
-    (g.L.Link.sent c.write_reply.new.link) c.from_residual.result c.in_err-write_reply.field-0.0 c.from_residual.ensures.1 c.reply-item.is c.loop-reply-test.true
+    sent_part c.args.replies.now c.loop-reply.reply-index c.reply-item.result (g.L.Source.sent c.args.link.now) (g.L.Source.sent c.loop-reply.link)
+    (g.L.Source.sent c.write_reply.new.link) c.from_residual.result c.in_err-write_reply.field-0.0 c.from_residual.ensures.1 c.reply-item.is c.loop-reply-test.true
     c.loop-reply.invariant.sent c.in_err-write_reply.ensures.sends

@@ -7,8 +7,8 @@ use Rattle.value_store.proofs.MarkedNodes.{refers_there}
 use Rattle.value_store.proofs.ProverNodes.{shown_shallow}
 use Rattle.mode_vm.proofs.digesting.DigestingModeMode.auth.Goals as goal
 
-pub spell-requires : goal.spell-requires
-spell-requires g c =
+pub spell_into-requires : goal.spell_into-requires
+spell_into-requires g c =
     let hash = g.H.Hash32.hash in
     let P = types_meaning c.args.types.now in
     let t = type_at (types_by_number c.args.types.now) c.args.ty in
@@ -30,5 +30,5 @@ returns-clause-stands g c x stands =
     let hash = g.H.Hash32.hash in
     let P = types_meaning c.args.types.now in
     let t = type_at (types_by_number c.args.types.now) c.args.ty in
-    let spelled = c.as_bytes.ensures ∙ c.in_ok-spelling.ensures.projected hash x g.met.H.Hash32.digest_length stands in
+    let spelled = c.deref.ensures.value ∙ c.in_ok-spell_into.ensures.projected hash x g.met.H.Hash32.digest_length stands in
     c.in_ok-put_auth.ensures.stands (ProverNodes (digest_at hash P)) P.types t x (stands, c.of-digest.ensures ∙ ap (digest_at hash P t) spelled)

@@ -7,6 +7,7 @@ use Rattle.value_store.specs.Markings.{kind_of}
 use Rattle.value_store.specs.Standing.{StandsFor}
 use Rattle.code_gen.specs.Instructions as instruction
 use Rattle.mode_vm.specs.Meanings.{program_of}
+use Rattle.mode_vm.specs.declared.operand.Operand.TheVariants.{At}
 use Rattle.mode_vm.proofs.Frames.{fits_next}
 use Rattle.mode_vm.proofs.Made.{made_acts}
 use Rattle.mode_vm.proofs.frame.Frame.push_text.Goals as goal
@@ -22,7 +23,7 @@ returns-clause-does g c m values b =
     (λ next k w. refl)
     (fits_next m P nodes c.args.self.now i values b).2
     b.top.is.operands
-    (Ok c.in_ok-r.r) (
+    (Ok (At c.in_ok-r.r)) (
       TextV (bytes_of c.args.text.now),
       subst (λ bytes. StandsFor (kind_of m P) P.types (g.N.Nodes.nodes c.put_text.new.self) c.in_ok-r.r.0 TextTy (TextV bytes)) same (c.in_ok-r.ensures.stands (kind_of m P) P.types),
       λ k w. refl,

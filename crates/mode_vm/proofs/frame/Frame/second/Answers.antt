@@ -1,5 +1,6 @@
 use Rattle.value_store.specs.Markings.{kind_of}
 use Rattle.mode_vm.specs.Meanings.{program_of}
+use Rattle.mode_vm.specs.declared.operand.Operand.TheVariants.{At}
 use Rattle.mode_vm.proofs.PairOperations.{second_acts, second_pair}
 use Rattle.mode_vm.proofs.frame.Frame.second.Goals as goal
 
@@ -17,7 +18,7 @@ returns g c = record {
       let P = program_of c.args.code.now in
       let nodes = g.N.Nodes.nodes c.args.store.now in
       second_acts m P nodes c.args.self.now values b c.pop-r.new.self.operands.items c.pop-r.result c.pop-r.ensures.top
-      c.pop-r.new.self c.finish.new.self c.pop-r.ensures.at c.parts_in.result.1
+      c.pop-r.new.self c.finish.new.self c.pop-r.ensures.at (At c.parts_in.result.1)
       (λ s t v h. let p = c.parts_in.ensures (kind_of m P) P.types s t v h in (p.0, p.1, p.2, p.4))
       c.finish.result c.finish.ensures;
 }

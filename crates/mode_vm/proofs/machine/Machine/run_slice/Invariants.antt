@@ -6,6 +6,7 @@ use Rattle.mode_vm.specs.Machines.{steps_left}
 use Rattle.mode_vm.proofs.Slicing.{Begun}
 use Rattle.mode_vm.specs.Meanings.{RunOf, StateOf, program_of}
 use Rattle.mode_vm.specs.Runs.{Ready, WillRun}
+use Rattle.mode_vm.specs.NodesPut.{WorksInHand}
 use Rattle.mode_vm.proofs.machine.Machine.run_slice.Given as goal
 
 -- the machine is ready and will come to what it would have come to at first; few enough values will be opened
@@ -26,6 +27,7 @@ invariant-loop-units g l =
     × g.M.Mode.Moves l.fn.self.mode l.fn.world l.self.mode l.world
     × (g.N.Nodes.lent l.store ≡ g.N.Nodes.lent l.fn.store)
     × g.M.Mode.Knows (program_in l.code).types l.self.mode (g.N.Nodes.nodes l.store)
+    × (WorksInHand (program_of l.code) → g.N.Nodes.nodes l.store ≡ g.N.Nodes.nodes l.fn.store)
 
 abbrev pub decreases-loop-units : goal.decreases-loop-units
 decreases-loop-units g l = steps_left (program_of l.code) l.self.state

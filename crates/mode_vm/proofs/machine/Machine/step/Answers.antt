@@ -7,7 +7,8 @@ use Rattle.mode_vm.specs.StateParts.{fuel_after}
 use Rattle.mode_vm.specs.Machines.{IsNext, end_of}
 use Rattle.code_meaning.specs.Execution.{Ran}
 use Rattle.mode_vm.specs.Meanings.{program_of}
-use Rattle.mode_vm.proofs.OwnInstructions.{plain}
+use Rattle.mode_vm.proofs.OwnInstructions.{asked, opened, plain}
+use Rattle.mode_vm.proofs.SparedNodes.{same_puts}
 use Rattle.mode_vm.proofs.Stepping.{leads_stands, leads_is, fewer_left, on_ok}
 use Rattle.mode_vm.proofs.machine.Machine.step.Goals as goal
 
@@ -69,6 +70,7 @@ returns-in_ok-act-in_default g c = record {
       (c.in_ok-act-in_default.ensures.leads g.M.Mode.marking r.0 r.1.0 r.1.1 (c.next-instruction.ensures.next g.M.Mode.marking r.0 (g.N.Nodes.nodes c.args.store.now) r.1.0 r.1.1)) (Unit {0}));
   keeps = c.in_ok-act-in_default.ensures.keeps;
   lent = c.in_ok-act-in_default.ensures.lent;
+  in_hand = λ in_hand. c.in_ok-act-in_default.ensures.in_hand (in_hand c.if-not-self.false _ c.next-instruction.ensures.at);
   opened = omega arith;
   fuel = c.in_ok-act-in_default.ensures.fuel ∙ sym (ap (λ b. fuel_after b c.args.self.now.state.fuel) c.if-not-self.false);
   faults = refl;
@@ -101,3 +103,15 @@ pub returns-in-Auth-clause-knows : goal.returns-in-Auth-clause-knows
 returns-in-Auth-clause-knows g c = on_ok c.auth.result
     (subst (λ mode. g.M.Mode.Knows (program_in c.args.code.now).types mode (g.N.Nodes.nodes c.auth.new.store)) (sym c.auth.ensures.mode)
     (g.met.M.Mode.knows_on (program_in c.args.code.now).types c.args.self.now.mode (g.N.Nodes.nodes c.args.store.now) (g.N.Nodes.nodes c.auth.new.store) c.auth.ensures.keeps c.requires.knows))
+
+pub returns-in-Auth-clause-in_hand : goal.returns-in-Auth-clause-in_hand
+returns-in-Auth-clause-in_hand g c in_hand = absurd
+    (asked (types_of (program_in c.args.code.now)) c.next-instruction.result.now c.in-Auth.ty c.in-Auth.is (in_hand c.if-not-self.false _ c.next-instruction.ensures.at))
+
+pub returns-in-Unauth-clause-in_hand : goal.returns-in-Unauth-clause-in_hand
+returns-in-Unauth-clause-in_hand g c in_hand = absurd
+    (opened (types_of (program_in c.args.code.now)) c.next-instruction.result.now c.in-Unauth.ty c.in-Unauth.is (in_hand c.if-not-self.false _ c.next-instruction.ensures.at))
+
+pub returns-in_err-act-in_default-clause-in_hand : goal.returns-in_err-act-in_default-clause-in_hand
+returns-in_err-act-in_default-clause-in_hand g c in_hand =
+    same_puts _ _ _ (c.in_err-act-in_default.ensures.in_hand (in_hand c.if-not-self.false _ c.next-instruction.ensures.at)) c.from_residual.result

@@ -7,6 +7,7 @@ use Rattle.mode_vm.specs.Machines.{IsNext}
 use Rattle.mode_vm.specs.Outcomes.{Leads}
 use Rattle.mode_vm.specs.Meanings.{program_of}
 use Rattle.mode_vm.proofs.OwnInstructions.{own}
+use Rattle.mode_vm.proofs.SparedNodes.{same_puts}
 use Rattle.mode_vm.proofs.Lifting.{lifted}
 use Rattle.mode_vm.proofs.state.State.act.Goals as goal
 
@@ -18,18 +19,23 @@ call-requires-clause-before g c =
 pub give_back-requires-clause-before : goal.give_back-requires-clause-before
 give_back-requires-clause-before g c =
     let b = c.requires.before in
-    (b.0, b.1, g.N.Nodes.nodes c.args.store.now, b.2, b.3, subst (λ i. IsNext (instruction_of (types_of (program_in c.args.code.now)) i) b.2.top) c.in-Return.is b.4)
+    (b.0, b.1, b.2, b.3, subst (λ i. IsNext (instruction_of (types_of (program_in c.args.code.now)) i) b.2.top) c.in-Return.is b.4)
+
+pub returns-in-Return-clause-leads : goal.returns-in-Return-clause-leads
+returns-in-Return-clause-leads g c m z cs shows next =
+    c.give_back.ensures.leads m z cs shows (subst (λ i. IsNext (instruction_of (types_of (program_in c.args.code.now)) i) cs.top) c.in-Return.is next)
 
 pub returns-in_ok-trapped-in_default : goal.returns-in_ok-trapped-in_default
 returns-in_ok-trapped-in_default g c = record {
   leads = λ m z cs shows next.
       let P = program_of c.args.code.now in
-      let after : State = record { fuel = c.args.self.now.fuel; entered = c.args.self.now.entered; top = c.act.new.self; waiting = c.args.self.now.waiting } in
+      let after : State = record { fuel = c.args.self.now.fuel; entered = c.args.self.now.entered; top = c.act.new.self; waiting = c.args.self.now.waiting; spares = c.args.self.now.spares } in
       subst (λ s. Leads m P z (g.N.Nodes.nodes c.act.new.store) {E = Unit {0}} true c.args.self.now.fuel cs after (Ok s)) (sym c.step_of.ensures)
       (lifted m P (g.N.Nodes.nodes c.args.store.now) (g.N.Nodes.nodes c.act.new.store) c.act.ensures.keeps
       (Unit {0}) z c.args.self.now after cs shows c.requires.entered refl refl refl c.in_ok-trapped-in_default.trapped
       (c.in_ok-trapped-in_default.ensures.does m cs.top (record { top = shows.top; next = next })));
   fuel = refl;
+  in_hand = λ in_hand. same_puts (Unit {0}) _ _ (c.act.ensures.in_hand in_hand) (Ok c.step_of.result);
   keeps = c.act.ensures.keeps;
   lent = c.act.ensures.lent;
 }

@@ -18,4 +18,4 @@ returns-in_ok-put_new-in-None-clause-written c n recent pieces h =
     let none = ap (λ p. place_of p old.ring.pieces) (sym c.deref.ensures.value) ∙ sym c.place_of.ensures ∙ c.in-None.is in
     let bytes = c.in_ok-put_new-in-None.ensures ∙ ap (λ p. old.bytes.items ++ frame_bytes (New p ∷ [])) c.deref-in-None.ensures.value in
     let same : old.again ≡ old.again + 0 = omega arith in
-    writes_new n recent pieces p old _ h none bytes refl same c.push.ensures.last
+    writes_new n recent pieces p old _ h none bytes refl same c.push-oldest.ensures.last

@@ -1,12 +1,15 @@
-use Rattle.std.proofs.Common.{rules, ◌≡◌, ℕ, List, length, take, ◌++◌, Some, Ok, sym, ap, ◌∙◌, subst}
+use Rattle.std.proofs.Common.{rules, ◌≡◌, ◌+◌, ◌<◌, ℕ, List, length, take, ◌++◌, Some, Ok, sym, ap, ◌∙◌, subst, arith, le-leb}
+use Rattle.core_terms.specs.Formats.{message_limit}
+use Rattle.ideal_meaning.specs.Frames.{frame_bytes}
 use Rattle.ideal_meaning.specs.Headline.{call_of}
 use Rattle.mode_vm.specs.Meanings.{program_of}
 use Rattle.reuse_buffer.specs.Kept.{Kept, kept}
-use Rattle.session_meaning.specs.Calls.{new_state, outcome_of, role_in}
+use Rattle.session_meaning.specs.Calls.{frames_of, new_state, outcome_of, role_in}
 use Rattle.value_store.specs.Nodes.{AreSound, Node}
 use Rattle.value_store.specs.Overs.{own_nodes}
 use Rattle.value_store.specs.Stores.{nodes_in}
-use Rattle.session_turns.proofs.RunEnds.{made_so, made_there, made_within, run_over, tells_so}
+use Rattle.session_turns.proofs.Rows.{of_none, of_some}
+use Rattle.session_turns.proofs.RunEnds.{made_so, made_there, made_within, run_over, tells_so, too_many}
 use Rattle.session_turns.proofs.running.Running.finish.Goals as goal
 
 pub returns-clause-ends : goal.returns-clause-ends
@@ -18,22 +21,38 @@ returns-clause-ends g c s state call made h on ring =
     let run = c.args.self in
     let size = ap (λ (k : Kept). k.size) ring in
     let held = subst (λ (n : ℕ). c.args.ring ≡ kept n s.recent) (sym size) ring in
-    let told =
-    tells_so hash P state call s.kept c.args.ring.size s.recent c.in_ok-proof.proof.bytes.items c.in_ok-proof.proof.fresh c.in_ok-proof.proof.again c.in_ok-proof.ring size
-    (c.in_ok-proof.ensures (role_in P call.role).function (call_of state call.argument) call.fuel s.recent
-    (run_over hash c.args.code.now base run c.args.call state call made h c.in-Ok-Some.outcome ran _ c.on-over.ensures.nodes) held) in
+    let tells =
+    of_some _ _ _ c.in-Some.is c.in_ok-told.ensures.told (role_in P call.role).function (call_of state call.argument) call.fuel s.recent
+    (run_over hash c.args.code.now base run c.args.call state call made h c.in-Ok-Some.outcome ran _ c.on-over.ensures.nodes) held in
+    let proof = c.in-Some.told.0 in
+    let told = tells_so hash P state call s.kept c.args.ring.size s.recent proof.bytes.items proof.fresh proof.again c.in-Some.told.1 size tells.0 in
+    let within = tells.1 in
+    let bytes = ap (λ (bytes : List ℕ). length bytes) told.0 in
     let behind = c.off.ensures.nodes ∙ ap (λ (ns : List Node). ns ++ own_nodes c.off.result) c.on-over.ensures.lent in (
       told.0,
       told.1,
       record {
         on_version = on;
-        has_frames = c.len.ensures ∙ c.in_ok-proof.proof.bytes.ok.0 ∙ ap (λ (bytes : List ℕ). length bytes) told.0;
+        fits = le-leb (3 + length (frame_bytes (frames_of hash P s.kept s.recent state call))) message_limit (omega (arith, within, bytes));
         has_made =
             made_so hash c.args.code.now base run c.args.call state call made h c.in-Ok-Some.outcome ran _ _ c.state_made-made.result c.on-over.ensures.nodes behind
             (λ o is. c.state_made-made.ensures hash o is);
         of_call = h.1;
       },
     )
+
+pub returns-in_default-2-clause-too_long : goal.returns-in_default-2-clause-too_long
+returns-in_default-2-clause-too_long g c s state call made h on ring =
+    let ran : c.args.self.last ≡ Ok (Some c.in-Ok-Some.outcome) = search rules in
+    let hash = g.H.Hash32.hash in
+    let P = program_of c.args.code.now in
+    let size = ap (λ (k : Kept). k.size) ring in
+    let held = subst (λ (n : ℕ). c.args.ring ≡ kept n s.recent) (sym size) ring in
+    let long =
+    of_none _ _ c.in_default-2.is c.in_ok-told.ensures.long (role_in P call.role).function (call_of state call.argument) call.fuel s.recent
+    (run_over hash c.args.code.now (nodes_in c.args.base.now) c.args.self c.args.call state call made h c.in-Ok-Some.outcome ran _ c.on-over.ensures.nodes) held in
+    too_many (frames_of hash P s.kept s.recent state call)
+    (subst (λ (n : ℕ). 16777213 < length (frame_bytes (frames_of hash P n s.recent state call))) size long)
 
 pub returns-clause-sound : goal.returns-clause-sound
 returns-clause-sound g c = subst (λ (ns : List Node). AreSound (ns ++ own_nodes c.off.result)) c.on-over.ensures.lent c.off.ensures.sound

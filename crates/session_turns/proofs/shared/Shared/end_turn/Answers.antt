@@ -5,7 +5,7 @@ use Rattle.value_store.specs.Stores.{nodes_in}
 use Rattle.session_turns.specs.Versions.{IsVersion}
 use Rattle.session_turns.specs.declared.settling.Settled.{Settled}
 use Rattle.session_turns.proofs.Rows.{alike_length}
-use Rattle.session_turns.proofs.SessionTurns.{below, long_turn, proved_turn, stale_turn}
+use Rattle.session_turns.proofs.SessionTurns.{below, proved_turn, stale_turn}
 use Rattle.session_turns.proofs.Settlements.{SettlesTo}
 use Rattle.session_turns.proofs.shared.Shared.end_turn.Goals as goal
 
@@ -34,13 +34,3 @@ returns-in-Stale-clause-turned g c slice m s call frames made shares ends told r
     let settled =
     subst (λ (x : Settled). SettlesTo hash P new c.args.number s frames x t) c.in-Stale.is (c.in_ok-version.ensures.settled c.args.number s call frames made m shares ends) in
     stale_turn hash c.args.code.now slice new c.args.number s frames t c.in-Stale.state settled.0 settled.1
-
-pub returns-in-TooLong-clause-turned : goal.returns-in-TooLong-clause-turned
-returns-in-TooLong-clause-turned g c slice m s call frames made shares ends told ring =
-    let hash = g.H.Hash32.hash in
-    let P = program_of c.args.code.now in
-    let new = c.settle.new.self in
-    let t = meant.frames_turn hash P (meant.fits_message frames) made c.args.number s call frames m in
-    let settled =
-    subst (λ (x : Settled). SettlesTo hash P new c.args.number s frames x t) c.in-TooLong.is (c.in_ok-version.ensures.settled c.args.number s call frames made m shares ends) in
-    long_turn hash c.args.code.now slice new c.args.number s frames t c.cause.result c.cause.ensures settled.0 settled.1

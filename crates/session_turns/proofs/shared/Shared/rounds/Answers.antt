@@ -2,7 +2,7 @@ use Rattle.std.proofs.Common.{rules, ◌≡◌, ◌+◌, ◌-◌, suc, inl, true
 use Rattle.std.specs.List.{list_any}
 use Rattle.session_turns.specs.Rounds.{runs}
 use Rattle.session_turns.proofs.RoundSoFar.{on_err}
-use Rattle.session_turns.proofs.RoundsSoFar.{IsLeftOf, all_left, none_runs, one_less}
+use Rattle.session_turns.proofs.RoundsSoFar.{IsLeftOf, all_left, none_left, none_runs, one_less}
 use Rattle.session_turns.proofs.shared.Shared.rounds.Goals as goal
 
 pub loop-init : goal.loop-init
@@ -41,3 +41,9 @@ loop-preserved g c m xs shares are =
     let q = c.in_ok-left.ensures.turned h.sofar.shared h.sofar.sessions h.stands.shares h.stands.left in
     one_less hash c.args.code.now c.args.units c.args.rounds (c.args.rounds - (c.loop.counter + 1)) m xs loop.self c.round.new.self loop.left.items c.in_ok-left.left.items
     old loop.replies.items c.round.new.replies.items h some q
+
+pub returns-clause-turned : goal.returns-clause-turned
+returns-clause-turned g c m xs shares are =
+    let done = c.loop-test.false in
+    none_left g.H.Hash32.hash c.args.code.now c.args.units c.args.rounds (c.args.rounds - c.loop.counter) m xs c.loop.self c.loop.left.items c.args.replies.now.items
+    c.loop.replies.items (omega (arith, done)) (c.loop.invariant m xs shares are)

@@ -1,6 +1,4 @@
-use Rattle.std.proofs.Common.{◌≡◌, suc, ◌+◌, ◌++◌, length, take, Option, ◌∙◌, subst, arith, eq-eqb, le-leb}
-use Rattle.core_terms.specs.Formats.{message_limit}
-use Rattle.ideal_meaning.specs.Frames.{frame_bytes}
+use Rattle.std.proofs.Common.{◌≡◌, suc, ◌++◌, length, take, Option, ◌∙◌, subst, arith, eq-eqb}
 use Rattle.mode_vm.specs.Meanings.{program_of}
 use Rattle.value_store.specs.Overs.{own_nodes}
 use Rattle.value_store.specs.Stores.{nodes_in}
@@ -20,10 +18,9 @@ returns-then-version-number-clause-settled g c number s call frames made shared 
     let count : c.len-number.result ≡ length shared.versions =
     c.len-number.ensures ∙ c.args.self.now.versions.ok.0 ∙ alike_length (IsVersion hash P base) c.args.self.now.versions.items shared.versions shares.versions in
     let at = ends.on_version in
-    let size = ends.has_frames in
     stale hash P c.args.self.now number s call frames shared nodes c.in-Some.made made c.in_ok-last.last (subst (λ (o : Option Ref). IsMade hash P nodes o made) c.in-Some.is ends.has_made)
     (c.in_ok-last.ensures shared shares) (unequal (suc s.version) (length shared.versions) (λ (e : suc s.version ≡ length shared.versions). omega (arith, count, at, e)))
-    (le-leb (3 + length (frame_bytes frames)) message_limit (omega (arith, size))) shares
+    ends.fits shares
 
 pub returns-clause-settled : goal.returns-clause-settled
 returns-clause-settled g c number s call frames made shared shares ends =
@@ -34,7 +31,6 @@ returns-clause-settled g c number s call frames made shared shares ends =
     let count : c.len-number.result ≡ length shared.versions =
     c.len-number.ensures ∙ c.args.self.now.versions.ok.0 ∙ alike_length (IsVersion hash P base) c.args.self.now.versions.items shared.versions shares.versions in
     let at = ends.on_version in
-    let size = ends.has_frames in
     moved hash P c.commit.new.self number s call frames shared nodes c.in-Some.made made c.len-number.result (subst (λ (o : Option Ref). IsMade hash P nodes o made) c.in-Some.is ends.has_made)
-    count (eq-eqb (suc s.version) (length shared.versions) (omega (arith, count, at))) (le-leb (3 + length (frame_bytes frames)) message_limit (omega (arith, size)))
+    count (eq-eqb (suc s.version) (length shared.versions) (omega (arith, count, at))) ends.fits
     (λ v stands. c.in_ok-commit.ensures.commits hash P shared call v shares ends.of_call stands)

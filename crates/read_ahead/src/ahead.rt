@@ -1,0 +1,85 @@
+// Bytes that are read ahead of those that are asked for.
+ghost use Rattle.std.specs.Prelude.{◌≡◌, ◌≤◌, ◌-◌, ◌++◌, [], min, length, take, OnOk};
+ghost use Rattle.std.specs.Io.{ReadsAtMost};
+ghost use Rattle.std.specs.Io.KnownBytes.{IsAtEnd, Keeps, ReadConsumes, prepend_known};
+
+use std::io::{self, Read};
+
+/// How many bytes are read at once.
+const ROOM: usize = 8192;
+
+/// The bytes that were read from a source and not yet given.
+#[derive(Drop)]
+pub struct ReadAhead {
+    bytes: [u8; ROOM],
+    /// Where those that are left begin and end.
+    begin: usize,
+    end: usize,
+    ghost in_order: { begin ≤ end },
+    ghost within: { end ≤ 8192 },
+}
+
+impl ReadAhead {
+    ghost use Rattle.read_ahead.specs.Held.{held};
+
+    /// Nothing was read yet.
+    pub fn new() -> Self
+        ensures { held result ≡ [] }
+    {
+        ReadAhead {
+            bytes: [0; ROOM],
+            begin: 0,
+            end: 0,
+        }
+    }
+
+    /// Forgets what is left, so that another source is read.
+    pub fn clear(&mut self)
+        ensures begin { self.new.begin ≡ 0 }
+        ensures end { self.new.end ≡ 0 }
+        ensures none { held self.new ≡ [] }
+    {
+        self.begin = 0;
+        self.end = 0;
+    }
+
+    /// Gives some of the bytes that are left, from their front. Where none are, it reads from the source first: as much as comes by one read
+    /// of 8,192 bytes, or straight into a buffer that has room for as many.
+    ///
+    /// An `Err` is the source's, which is asked where no byte is left.
+    pub fn read<R: Read>(&mut self, source: &mut R, into: &mut [u8]) -> io::Result<usize>
+        ensures bound { ReadsAtMost result into.new }
+        ensures bytes { ReadConsumes (prepend_known (held self.old) (R.remaining source.old)) (prepend_known (held self.new) (R.remaining source.new)) result into.new }
+    {
+        if self.begin == self.end && into.len() >= ROOM {
+            return source.read(into);
+        }
+        self.fill(source)?;
+        Ok(self.give(into))
+    }
+
+    /// Reads from the source, where no byte is left.
+    fn fill<R: Read>(&mut self, source: &mut R) -> io::Result<()>
+        ensures bytes { Keeps (prepend_known (held self.old) (R.remaining source.old)) (prepend_known (held self.new) (R.remaining source.new)) }
+        ensures end { OnOk result (self.new.end ≤ self.new.begin → IsAtEnd (R.remaining source.new)) }
+    {
+        if self.begin < self.end {
+            return Ok(());
+        }
+        self.clear();
+        self.end = source.read(&mut self.bytes)?;
+        Ok(())
+    }
+
+    /// Gives as many of the bytes that are left as there is room for.
+    fn give(&mut self, into: &mut [u8]) -> usize
+        ensures count { result ≡ min (self.old.end - self.old.begin) (length into.new) }
+        ensures bytes { held self.old ≡ take result into.new ++ held self.new }
+    {
+        let left = &self.bytes[self.begin..self.end];
+        let count = left.len().min(into.len());
+        into[..count].copy_from_slice(&left[..count]);
+        self.begin += count;
+        count
+    }
+}
