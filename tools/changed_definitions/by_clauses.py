@@ -15,10 +15,12 @@ ROOT = os.path.dirname(os.path.dirname(os.path.dirname(os.path.abspath(__file__)
 SIGNED = re.compile(r"^(?P<indent> *)(?:abbrev )?pub (?P<name>[\w'-]+) : (?P<type>.*)")
 RECORD = re.compile(r"^(?P<indent> *)pub record (?P<name>[\w'-]+)(?P<rest>.*)")
 FIELD = re.compile(r"^ +pub (?P<name>[\w'-]+) : (?P<type>.*)")
-FACT = r"(?:Is|Are|Has|Ends|Fails|Makes|Tells|Plays|Breaks|Halts|Goes|Takes|Stores|Serves|Holds|Begins|Calls)[A-Z]|Makes$|\w+Counts$"
+FACT = r"(?:Is|Are|Has|Ends|Fails|Makes|Tells|Plays|Breaks|Halts|Goes|Takes|Stores|Serves|Holds|Begins|Calls|Stops|None|Shows|Rejects|Agrees)[A-Z]|Makes$|\w+Counts$"
 NUMBER = re.compile(r"(?<![\w'.^{])(0x[0-9A-Fa-f]+|\d+)(?![\w'.])")
 WORD = re.compile(r"[\w'-]+")
 ALWAYS, NEVER = {"Bool": "true", "Type 0": "Unit {0}"}, {"Bool": "false", "Type 0": "⊥"}
+# what says nothing may be written in two ways
+SAME = {"Unit {0}": "⊤"}
 OTHER_WAY = {"nat_lt": "nat_le", "nat_le": "nat_lt", " < ": " ≤ ", " ≤ ": " < ", " || ": " && ", " && ": " || "}
 IMPORTED = {"nat_le": "nat_le", "nat_lt": "nat_lt", " ≤ ": "◌≤◌", " < ": "◌<◌", " && ": "◌&&◌", " || ": "◌||◌"}
 PRELUDE = "use Rattle.std.specs.Prelude.{"
@@ -69,7 +71,7 @@ class Definition:
     def new_sides(self, number, left, right):
         said, kind = " ".join(right.split()), self.gives
         if kind in ALWAYS:
-            yield from ((what, new) for what, new in (("always", ALWAYS[kind]), ("never", NEVER[kind])) if new != said)
+            yield from ((what, new) for what, new in (("always", ALWAYS[kind]), ("never", NEVER[kind])) if new != said and said != SAME.get(new))
             yield from self.without_parts(said)
         else:
             later = [*self.clauses[number + 1 :], *self.clauses[:number]]
@@ -138,7 +140,7 @@ def fields_in(lines):
 def is_of_values(name, old):
     """A field of a fact that names a value, of which others speak, can't be left empty."""
     field = re.search(r": (\S+) says nothing", name)
-    return field and len(re.findall(rf"\b{re.escape(field[1])}\b", old)) > 1
+    return field and len(re.findall(rf"(?<![.\w'-]){re.escape(field[1])}(?![\w'-])", old)) > 1
 
 
 def import_for(new, text):

@@ -21,7 +21,7 @@ LAWS = {
     ],
     "Calls": [
         ("GivesOnly: never out of fuel", "(outcome (ideal P f args k) ≡ Out)", "(outcome (ideal P f args k) ≡ Done v)"),
-        ("GivesWith: with one unit less", "enough ≤ k →", "enough ≤ suc k →"),
+        ("GivesWith: with one unit less", "ℕ, ◌≤◌}", "ℕ, suc, ◌≤◌}", "enough ≤ k →", "enough ≤ suc k →"),
     ],
     "Entries": [
         ("IsInt: any number", "IsInt z = int_fits z ≡ true", "IsInt z = int_fits z ≡ int_fits z"),
@@ -46,7 +46,7 @@ LAWS = {
         ("answer: missing is found", "answer None = ConV 0 NoV", "answer None = ConV 1 NoV"),
         ("answer: found is missing", "answer (Some value) = ConV 1", "answer (Some value) = ConV 0"),
         ("IsAfter: the reply is the state", "≡ Done (PairV state reply))", "≡ Done (PairV reply state))"),
-        ("IsAfter: each put on the first state", "(k : ℕ) × IsAfter earlier before\n", "(k : ℕ) × IsAfter [] before\n"),
+        ("IsAfter: each put on any state", "(k : ℕ) × IsAfter earlier before\n", "(k : ℕ)\n"),
         (
             "last_value: the first put",
             "last_value puts key = lookup puts key",

@@ -3,4 +3,7 @@ from by_clauses import changes_by_clause
 
 LEMMAS, CODE = {}, {}
 
-CHANGES = changes_by_clause("file_commands", ["Ending", "Reaching", "Statuses", "Storing", "Telling", "Codes"])
+ENDS = ["Ending", "Reaching", "Statuses", "Storing", "Telling", "Codes"]
+CALLS = ["TrueLines", "SoundPrograms", "AuditedCalls", "ProvedCalls", "ShallowLaws", "GeneratedCalls", "IdealCalls"]
+
+CHANGES = changes_by_clause("file_commands", ENDS + CALLS)

@@ -68,7 +68,7 @@ CHANGES = {
         ),
         ("list_after: as many places as levels", "list_after d v [] = replicate (2 ^ exponent d) v", "list_after d v [] = replicate (exponent d) v"),
         ("list_after: the newest put is left out", "= with_element (list_after d v earlier) newest.key newest.value", "= list_after d v earlier"),
-        ("list_after: each put on the first list", "with_element (list_after d v earlier)", "with_element (list_after d v [])"),
+        ("list_after: each put on the first list", "with_element (list_after d v earlier)", "with_element (replicate (2 ^ exponent d) v)"),
         ("MerkleKeepsList: `make` with one call less", "NoV) state (2 * exponent d + 3)", "NoV) state (2 * exponent d + 2)"),
         (
             "MerkleKeepsList: `get` with one call less",

@@ -9,3 +9,7 @@ pub mod Asking
 pub mod AskSteps
 pub mod NetRuns
 pub mod GreetingRows
+pub mod CourseRows
+pub mod NetRows
+pub mod AskRows
+pub mod PreparedRows

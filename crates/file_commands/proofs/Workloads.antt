@@ -92,13 +92,23 @@ outcome_found meant r go report is none told = subst (λ r. InHand (FindsLines (
 
 -- ---- the sums
 
+-- the line of numbers that are those of the sums
+same_line : (calls done fresh again bytes : ℕ) (t : Tally) → calls ≡ t.calls → done ≡ t.done → fresh ≡ t.fresh → again ≡ t.again → bytes ≡ t.bytes
+    → calls_line calls done fresh again bytes ≡ calls_line t.calls t.done t.fresh t.again t.bytes
+same_line calls done fresh again bytes t is_calls is_done is_fresh is_again is_bytes =
+    ap (λ n. calls_line n done fresh again bytes) is_calls
+    ∙ (ap (λ n. calls_line t.calls n fresh again bytes) is_done
+    ∙ (ap (λ n. calls_line t.calls t.done n again bytes) is_fresh
+    ∙ (ap (λ n. calls_line t.calls t.done t.fresh n bytes) is_again ∙ ap (λ n. calls_line t.calls t.done t.fresh t.again n) is_bytes)))
+
 -- the two lines
-pub sums_told : (p : NamedProgram) (t : Tally) (s : Value) (first : List ℕ) (shown : Report) (text : Vec ℕ Global)
-    → first ≡ calls_line t.calls t.done t.fresh t.again t.bytes → concat (projected_line p s ∷ []) ≡ shown.text.items → text.items ≡ first ++ shown.text.items
+pub sums_told : (p : NamedProgram) (t : Tally) (s : Value) (calls done fresh again bytes : ℕ) → calls ≡ t.calls → done ≡ t.done → fresh ≡ t.fresh → again ≡ t.again → bytes ≡ t.bytes
+    → (first : List ℕ) (shown : Report) (text : Vec ℕ Global)
+    → first ≡ calls_line calls done fresh again bytes → concat (projected_line p s ∷ []) ≡ shown.text.items → text.items ≡ first ++ shown.text.items
     → TellsLines (sums_answer p t s) (record { ending = ending.Done; text = text })
-sums_told p t s first shown text is_first is_shown is_text = record {
+sums_told p t s calls done fresh again bytes is_calls is_done is_fresh is_again is_bytes first shown text is_first is_shown is_text = record {
   status = refl;
-  lines = ap₂ ◌++◌ (sym is_first) is_shown ∙ sym is_text;
+  lines = ap₂ ◌++◌ (sym (is_first ∙ same_line calls done fresh again bytes t is_calls is_done is_fresh is_again is_bytes)) is_shown ∙ sym is_text;
   stored = refl;
 }
 

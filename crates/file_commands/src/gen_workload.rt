@@ -201,14 +201,14 @@ fn sums_report(
         → TellsLines (sums_answer (named_of program.now) tally.now v) report) }
     ensures ending { IfOk result (λ report. IsOutcome (ending_status report.ending)) }
 {
-    let Tally {
-        calls,
-        done,
-        fresh,
-        again,
-        bytes,
-    } = *tally;
-    let mut text = calls_line(alloc, calls, done, fresh, again, bytes)?;
+    let mut text = calls_line(
+        alloc,
+        tally.calls(),
+        tally.done(),
+        tally.fresh(),
+        tally.again(),
+        tally.bytes(),
+    )?;
     let shown = spell_state(alloc, program, last)?;
     text.extend_from_slice(&shown.report.text)?;
     Ok(Report {

@@ -2,6 +2,8 @@
 #![tactic(auto)]
 
 mod ending;
+#[cfg(test)]
+mod link_ends;
 mod net;
 
 use ending::{RunEnd, ended};

@@ -281,7 +281,7 @@ pub mod tests {
 
     /// Listens to a port that is free, and says which.
     fn listens(net: &mut HostNet) -> u16 {
-        for port in 47_300..47_400 {
+        for port in 27_300..27_400 {
             if net.listen(port).is_ok() {
                 return port;
             }

@@ -8,6 +8,12 @@ use std::alloc::Global;
 /// The greatest number of lists that are kept: those of 128 frames. Calls that are nested deeper ask for memory again.
 const MOST_LISTS: usize = 256;
 
+/// How many operands a new list has room for: few functions have more locals, or more operands at once.
+const FIRST_OPERANDS: usize = 8;
+
+/// How many lists there is room for at first: those of 16 frames.
+const FIRST_LISTS: usize = 32;
+
 /// Lists of operands that are out of use.
 #[derive(Drop)]
 pub struct Spares {
@@ -15,10 +21,11 @@ pub struct Spares {
 }
 
 impl Spares {
+    // Where there is no memory for the room here and below, a list asks for memory as it grows.
     pub(crate) fn new(alloc: Global) -> Self {
-        Spares {
-            lists: Vec::new(alloc),
-        }
+        let mut lists = Vec::new(alloc);
+        let _ = lists.reserve(FIRST_LISTS);
+        Spares { lists }
     }
 
     /// An empty list, which has the memory of one that was kept, where there is one.
@@ -30,7 +37,11 @@ impl Spares {
                 list.clear();
                 list
             }
-            None => Vec::new(alloc),
+            None => {
+                let mut list = Vec::new(alloc);
+                let _ = list.reserve(FIRST_OPERANDS);
+                list
+            }
         }
     }
 

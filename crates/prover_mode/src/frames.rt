@@ -13,6 +13,9 @@ use shallow_codec::spell_into;
 use std::alloc::{AllocError, Global};
 use value_store::Nodes;
 
+/// How many bytes the frames have room for at first, where there is memory: else they ask for memory as they grow.
+const FIRST_BYTES: usize = 1_024;
+
 /// The frames that were written so far, and the ring behind them.
 #[derive(Drop)]
 pub(crate) struct FrameWriter {
@@ -31,9 +34,11 @@ impl FrameWriter {
         ensures count { result.fresh + result.again ≡ 0 }
         ensures empty { result.bytes.items ≡ [] }
     {
+        let mut bytes = Vec::new(alloc);
+        let _ = bytes.reserve(FIRST_BYTES);
         FrameWriter {
             ring,
-            bytes: Vec::new(alloc),
+            bytes,
             fresh: 0,
             again: 0,
         }

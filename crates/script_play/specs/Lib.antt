@@ -4,7 +4,9 @@ pub mod DeedLines
 pub mod DeedRows
 pub mod PlayRows
 pub mod Playing
+pub mod HaltRows
 pub mod Halting
 pub mod LawRows
 pub mod Prompt
 pub mod Tellings
+pub mod ToldRows

@@ -1,8 +1,10 @@
 pub mod Connections
 pub mod Ends
 pub mod Histories
+pub mod HeardRows
 pub mod LinkLaws
 pub mod LinkRows
 pub mod Messages
 pub mod Prompt
 pub mod ServedLinks
+pub mod ServedRows

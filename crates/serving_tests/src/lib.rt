@@ -8,3 +8,5 @@ mod asking;
 mod messages;
 #[cfg(test)]
 mod serving;
+#[cfg(test)]
+mod waiting;

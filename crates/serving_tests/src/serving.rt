@@ -187,6 +187,14 @@ fn each_write_fails_once(rt: HostRuntime) -> Result<(), Fail> {
     Ok(())
 }
 
+/// Where the port can't be told, nobody is answered.
+#[test]
+fn the_port_is_told_before_a_client_is_answered(rt: HostRuntime) -> Result<(), Fail> {
+    let (run, sent) = serve(&rt, rt.alloc(), 4096, &[], &[], &[0])?;
+    assert!(rt; run.tells(9, "") && sent.is_empty());
+    Ok(())
+}
+
 /// Words that are refused, and the line.
 static REFUSED: [(&str, &str); 8] = [
     ("serve p q 0 1 1 o", "input refused: number PORT\n"),

@@ -4,11 +4,11 @@ use Rattle.core_terms.specs.Values.{UnitV, BoolV, PairV, DigestV}
 use Rattle.core_terms.specs.Terms.{Program}
 use Rattle.ideal_meaning.specs.Run.{Overflow}
 use Rattle.ideal_meaning.specs.Ideal.{Done, Trapped}
-use Rattle.ideal_meaning.specs.Checked.{Short, Leftover, BadUse}
+use Rattle.ideal_meaning.specs.Checked.{Short, Leftover, BadUse, BadState, BadArgument}
 use Rattle.ideal_meaning.specs.Examples.{toy, unit_program, bool_program}
 use Rattle.session_meaning.specs.Messages.{Hello, Call, Bye, Reply, Welcome, Proof, Stale, Refused, Closed, Read, Got, Stops, AtEnd, NoMore, Then, request_bytes, read_reply, reply_of, messages}
 use Rattle.session_meaning.specs.Server.{last_turn}
-use Rattle.session_meaning.specs.Client.{Idle, Client, Event, Hellos, Calls, Byes, Hears, Forgets, Answer, Sends, TellsWelcome, Tells, TellsStale, TellsRefused, TellsEnded, StateFault, ArgumentFault, OutOfTurn, IsRejected, IsStranger, IsWrongReply, HasFailed, IsBroken, IsClosed, WantsMemory, waits, state_of, take_event, client_after, new_client}
+use Rattle.session_meaning.specs.Client.{Idle, Client, Event, Hellos, Calls, Byes, Hears, Forgets, Answer, Sends, TellsWelcome, Tells, TellsStale, TellsRefused, TellsEnded, StateFault, ArgumentFault, OutOfTurn, IsRejected, IsStranger, IsWrongReply, HasFailed, IsBroken, IsClosed, WantsMemory, waits, state_of, take_event, verdict_step, client_after, new_client}
 use Rattle.session_meaning.specs.ClientLaws.{told_calls}
 use Rattle.session_meaning.specs.Exchange.{Exchange, Move, Greets, Asks, Leaves, Goes, Takes, after_move, new_exchange}
 use Rattle.session_meaning.specs.MessageRows.{text_digest, hello_bytes, call_bytes, bye_bytes}
@@ -192,6 +192,16 @@ pub kept : client_after toy bool_program text_digest new_client bool_events
       } ∷ [];
     }
 kept = refl
+
+-- VERDICTS ON WHAT IS NO SPELLING
+-- a state and an argument that are none are told apart, and with their offsets
+pub no_state : (verdict_step toy unit_program (BadState 3) new_client 1 (record { state = toy []; kept = 0; recent = [] }) (record { role = 1; argument = []; fuel = 1 }) []).answer
+    ≡ StateFault 3
+no_state = refl
+
+pub no_argument : (verdict_step toy unit_program (BadArgument 5) new_client 1 (record { state = toy []; kept = 0; recent = [] }) (record { role = 1; argument = []; fuel = 1 }) []).answer
+    ≡ ArgumentFault 5
+no_argument = refl
 
 -- BOTH SIDES
 -- the answers of a client that asks an honest server

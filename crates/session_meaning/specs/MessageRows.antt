@@ -1,7 +1,7 @@
 -- Worked messages. Each equation holds by computing both sides.
 use Rattle.std.specs.Prelude.{◌≡◌, ℕ, List, [], ◌∷◌, ◌++◌, replicate, refl}
 use Rattle.ideal_meaning.specs.Examples.{toy}
-use Rattle.session_meaning.specs.Messages.{Hello, Call, Go, Bye, Welcome, Proof, Stale, Refused, Closed, AtEnd, IsCut, TooLong, BadMessage, Got, Stops, request_bytes, reply_bytes, read_request, read_reply, rest_of, NoMore, Then, request_of, reply_of, messages}
+use Rattle.session_meaning.specs.Messages.{Hello, Call, Go, Bye, Welcome, Proof, Stale, Refused, Closed, AtEnd, IsCut, TooLong, BadMessage, Got, Stops, request_bytes, reply_bytes, read_request, read_reply, rest_of, NoMore, Then, left_by, request_of, reply_of, messages, u8_in}
 
 -- the digest of a program's text, in these examples
 abbrev pub text_digest : List ℕ
@@ -143,3 +143,29 @@ left_behind_a_length = refl
 
 pub left_behind_a_body : rest_of (read_request (0 ∷ 0 ∷ 0 ∷ 1 ∷ 9 ∷ 5 ∷ 6 ∷ [])) (0 ∷ 0 ∷ 0 ∷ 1 ∷ 9 ∷ 5 ∷ 6 ∷ []) ≡ 5 ∷ 6 ∷ []
 left_behind_a_body = refl
+
+-- a program's digest that ends its body; a body without a session; a byte too many behind WELCOME; frames that are none
+pub hello_behind_its_program : read_request (0 ∷ 0 ∷ 0 ∷ 35 ∷ 1 ∷ 0 ∷ 1 ∷ text_digest) ≡ Stops (BadMessage 1 35)
+hello_behind_its_program = refl
+
+pub go_without_session : read_request (0 ∷ 0 ∷ 0 ∷ 1 ∷ 3 ∷ []) ≡ Stops (BadMessage 3 1)
+go_without_session = refl
+
+pub refusal_without_session : read_reply (0 ∷ 0 ∷ 0 ∷ 1 ∷ 0x84 ∷ []) ≡ Stops (BadMessage 0x84 1)
+refusal_without_session = refl
+
+pub welcome_with_more : read_reply (0 ∷ 0 ∷ 0 ∷ 4 ∷ 0x81 ∷ 0 ∷ 1 ∷ 9 ∷ []) ≡ Stops (BadMessage 0x81 3)
+welcome_with_more = refl
+
+pub proof_without_frames : read_reply (0 ∷ 0 ∷ 0 ∷ 3 ∷ 0x82 ∷ 0 ∷ 1 ∷ []) ≡ Got (Proof 1 []) []
+proof_without_frames = refl
+
+-- of no byte there is no number, and behind an end and a cut nothing is left
+pub no_byte : u8_in [] ≡ 0
+no_byte = refl
+
+pub left_behind_an_end : left_by AtEnd (1 ∷ 2 ∷ 3 ∷ 4 ∷ 5 ∷ []) ≡ []
+left_behind_an_end = refl
+
+pub left_behind_a_cut : rest_of (read_request (0 ∷ 0 ∷ 0 ∷ 3 ∷ 4 ∷ [])) (0 ∷ 0 ∷ 0 ∷ 3 ∷ 4 ∷ []) ≡ []
+left_behind_a_cut = refl

@@ -1,6 +1,6 @@
 -- lists that stand in a relation
 pub mod Rows
--- version_spelling, has_spelling: the spelling of a version, by the types of the code; one more known digest
+-- version_spelling, has_spelling: the spelling of a version, by the types of the code; one more known mark
 pub mod Spellings
 -- newest: the versions behind a place
 pub mod Newest

@@ -14,7 +14,7 @@ use Rattle.value_store.specs.Stores.{nodes_in}
 use Rattle.value_store.specs.declared.node.Ref.{Ref}
 use Rattle.value_store.proofs.Moved.{kept_before}
 use Rattle.session_meaning.proofs.Turns.{extends_at}
-use Rattle.session_turns.specs.Digests.{AreDigests}
+use Rattle.session_turns.specs.Marks.{AreMarks, mark_of}
 use Rattle.session_turns.specs.Rows.{AreAlike}
 use Rattle.session_turns.specs.Sharing.{IsCommit, Shares}
 use Rattle.session_turns.specs.Versions.{AreVersions, IsVersion}
@@ -45,8 +45,8 @@ module _ (hash : Hash) (P : Program) where
   -- one version more, and its commit
   pub committed : (old new : Shared) (same : meant.Shared) (call : RoleCall) (v : Value) (r : Ref) (commit : Commit)
       → Keeps (nodes_in old.store) (nodes_in new.store) → new.versions.items ≡ old.versions.items ++ r ∷ [] → new.commits.items ≡ old.commits.items ++ commit ∷ []
-      → new.digests ≡ old.digests → Shares hash P old same → IsCommit commit call → IsVersion hash P (nodes_in new.store) r v → Shares hash P new (meant.with_commit call v same)
-  committed old new same call v r commit keeps versions commits digests h is stands = record {
+      → new.marks ≡ old.marks → Shares hash P old same → IsCommit commit call → IsVersion hash P (nodes_in new.store) r v → Shares hash P new (meant.with_commit call v same)
+  committed old new same call v r commit keeps versions commits marks h is stands = record {
     versions =
         subst (λ rs. AreVersions hash P (nodes_in new.store) rs (same.versions ++ v ∷ [])) (sym versions)
         (alike_more (IsVersion hash P (nodes_in new.store)) old.versions.items (r ∷ []) same.versions (v ∷ [])
@@ -54,23 +54,23 @@ module _ (hash : Hash) (P : Program) where
     commits =
         subst (λ cs. AreAlike IsCommit cs (same.commits ++ call ∷ [])) (sym commits)
         (alike_more IsCommit old.commits.items (commit ∷ []) same.commits (call ∷ []) h.commits (is, tt));
-    digests =
-        subst (λ ds. AreDigests hash P ds (same.versions ++ v ∷ [])) (sym digests)
-        (λ n d known. let before = h.digests n d known in (
+    marks =
+        subst (λ ds. AreMarks hash P ds (same.versions ++ v ∷ [])) (sym marks)
+        (λ n d known. let before = h.marks n d known in (
           (let more = length-append same.versions (v ∷ []) in let there = before.0 in omega (arith, more, there)),
-          before.1 ∙ ap (λ v. hash (meant.state_spelling hash P v)) (sym (extends_at same.versions (same.versions ++ v ∷ []) n (v ∷ [], refl) before.0)),
+          before.1 ∙ ap (λ v. mark_of hash (meant.state_spelling hash P v)) (sym (extends_at same.versions (same.versions ++ v ∷ []) n (v ∷ [], refl) before.0)),
         ));
   }
 
   -- the same versions and commits over a store that has grown
   pub unchanged : (old new : Shared) (same : meant.Shared) → Keeps (nodes_in old.store) (nodes_in new.store) → new.versions.items ≡ old.versions.items
-      → new.commits.items ≡ old.commits.items → new.digests ≡ old.digests → Shares hash P old same → Shares hash P new same
-  unchanged old new same keeps versions commits digests h = record {
+      → new.commits.items ≡ old.commits.items → new.marks ≡ old.marks → Shares hash P old same → Shares hash P new same
+  unchanged old new same keeps versions commits marks h = record {
     versions =
         subst (λ rs. AreVersions hash P (nodes_in new.store) rs same.versions) (sym versions)
         (versions_kept (nodes_in old.store) (nodes_in new.store) old.versions.items same.versions keeps h.versions);
     commits = subst (λ cs. AreAlike IsCommit cs same.commits) (sym commits) h.commits;
-    digests = subst (λ ds. AreDigests hash P ds same.versions) (sym digests) h.digests;
+    marks = subst (λ ds. AreMarks hash P ds same.versions) (sym marks) h.marks;
   }
 
   -- the last of the nodes stands for the last version

@@ -14,7 +14,6 @@ use Rattle.core_terms.proofs.ReadBack.{shallow_is}
 use Rattle.core_terms.proofs.Spelled.{length_spelling}
 use Rattle.value_store.proofs.ProverNodes.{shown_shallow}
 use Rattle.value_store.proofs.TypedNodes.{ideal_stands, prover_refers}
-use Rattle.core_terms.specs.declared.digest.Digest.{Digest}
 use Rattle.core_terms.specs.declared.program.Program.{Program}
 use Rattle.core_terms.specs.declared.program_types.Types.{Types}
 use Rattle.core_terms.specs.declared.types.TyId.{TyId}
@@ -22,8 +21,9 @@ use Rattle.value_store.specs.Nodes.{Node}
 use Rattle.value_store.specs.Standing.{ProverNodes, StandsFor, VerifierNodes}
 use Rattle.value_store.specs.declared.node.Ref.{Ref}
 use Rattle.session_meaning.specs.Server.{state_spelling, version_at}
-use Rattle.session_turns.specs.Digests.{AreDigests, digest_in}
-use Rattle.session_turns.specs.declared.digests.SpellingDigests.{SpellingDigests}
+use Rattle.session_turns.specs.Marks.{AreMarks, mark_in, mark_of}
+use Rattle.session_turns.specs.declared.marks.Mark.{Mark}
+use Rattle.session_turns.specs.declared.marks.SpellingMarks.{SpellingMarks}
 use Rattle.session_turns.specs.Versions.{IsVersion}
 
 module _ (hash : Hash) (p : Program) (given : Types) (is : given ≡ p.types) (id : TyId) (at : type_at (types_of p) id ≡ (meaning p).state)
@@ -63,14 +63,14 @@ other_bytes xs ys other = by (bytes_eq xs ys) refl
     by false e = refl
     by true e = absurd (other ((bytes_eq-Decides xs ys).0 e))
 
--- One more digest is known, of the spelling of this version.
-pub noted : (hash : Hash) (P : tree.Program) (old new : SpellingDigests) (versions : List Value) (number : ℕ) (digest : Digest) → number < length versions
-    → digest.0 ≡ hash (state_spelling hash P (version_at versions number))
-    → ((n : ℕ) (d : Digest) → digest_in new n ≡ Some d → ((n ≡ number) × (d ≡ digest)) ⊎ (digest_in old n ≡ Some d))
-    → AreDigests hash P old versions → AreDigests hash P new versions
-noted hash P old new versions number digest there is within h n d known = by (within n d known)
+-- One more mark is known, of the spelling of this version.
+pub noted : (hash : Hash) (P : tree.Program) (old new : SpellingMarks) (versions : List Value) (number : ℕ) (mark : Mark) → number < length versions
+    → mark.0 ≡ mark_of hash (state_spelling hash P (version_at versions number))
+    → ((n : ℕ) (d : Mark) → mark_in new n ≡ Some d → ((n ≡ number) × (d ≡ mark)) ⊎ (mark_in old n ≡ Some d))
+    → AreMarks hash P old versions → AreMarks hash P new versions
+noted hash P old new versions number mark there is within h n d known = by (within n d known)
   where
-    by : ((n ≡ number) × (d ≡ digest)) ⊎ (digest_in old n ≡ Some d) → (n < length versions) × (d.0 ≡ hash (state_spelling hash P (version_at versions n)))
+    by : ((n ≡ number) × (d ≡ mark)) ⊎ (mark_in old n ≡ Some d) → (n < length versions) × (d.0 ≡ mark_of hash (state_spelling hash P (version_at versions n)))
     by (inl e) =
-        subst (λ (m : ℕ). (m < length versions) × (d.0 ≡ hash (state_spelling hash P (version_at versions m)))) (sym e.0) (there, ap (λ (d : Digest). d.0) e.1 ∙ is)
+        subst (λ (m : ℕ). (m < length versions) × (d.0 ≡ mark_of hash (state_spelling hash P (version_at versions m)))) (sym e.0) (there, ap (λ (d : Mark). d.0) e.1 ∙ is)
     by (inr e) = h n d e

@@ -1,6 +1,6 @@
 pub mod Rows
 pub mod Versions
-pub mod Digests
+pub mod Marks
 pub mod Refusals
 pub mod Sharing
 pub mod Settling

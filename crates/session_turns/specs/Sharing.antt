@@ -6,7 +6,7 @@ use Rattle.core_terms.specs.Terms.{Program}
 use Rattle.session_meaning.specs.Calls.{RoleCall}
 use Rattle.session_meaning.specs.Server as meant
 use Rattle.value_store.specs.Stores.{nodes_in}
-use Rattle.session_turns.specs.Digests.{AreDigests}
+use Rattle.session_turns.specs.Marks.{AreMarks}
 use Rattle.session_turns.specs.Rows.{AreAlike}
 use Rattle.session_turns.specs.Versions.{AreVersions}
 use Rattle.session_turns.specs.declared.commit.Commit.{Commit}
@@ -19,13 +19,13 @@ pub record IsCommit (commit : Commit) (call : RoleCall) : Type 0 where
   pub fuel : commit.fuel ≡ call.fuel
 
 -- Among the prover's nodes in the store the versions stand for those of the definitions, and the commits are the same calls. What is known
--- of the digests of their spellings is so.
+-- of the marks of their spellings is so.
 pub record Shares (hash : Hash) (P : Program) (shared : Shared) (same : meant.Shared) : Type 0 where
   pub versions : AreVersions hash P (nodes_in shared.store) shared.versions.items same.versions
   pub commits : AreAlike IsCommit shared.commits.items same.commits
-  pub digests : AreDigests hash P shared.digests same.versions
+  pub marks : AreMarks hash P shared.marks same.versions
 
--- All but the known digests stays.
+-- All but the known marks stays.
 pub record AreKept (old new : Shared) : Type 0 where
   pub store : new.store ≡ old.store
   pub versions : new.versions ≡ old.versions

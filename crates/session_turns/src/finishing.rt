@@ -45,7 +45,12 @@ pub struct Finished {
 }
 
 /// The node of the state that a run of a role made; none where it made none.
-fn state_made<N: Nodes>(code: &Code, role: RoleId, store: &N, outcome: Outcome<Ref>) -> Option<Ref>
+pub fn state_made<N: Nodes>(
+    code: &Code,
+    role: RoleId,
+    store: &N,
+    outcome: Outcome<Ref>,
+) -> Option<Ref>
     requires { let P = program_of code.now in (hash : Hash) × (o : ideal.Outcome)
         × IsOutcome (ProverNodes (digest_at hash P)) P.types (N.nodes store.now) (function_at P (role_in P role.0).function).result outcome o }
     ensures { let P = program_of code.now in (hash : Hash) (o : ideal.Outcome)

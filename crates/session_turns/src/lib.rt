@@ -10,12 +10,12 @@
 #![tactic(auto)]
 
 mod commit;
-mod digests;
 mod finishing;
 mod gate;
 mod grants;
 mod greetings;
 pub mod laws;
+mod marks;
 mod refusal;
 mod rounds;
 mod running;
@@ -27,7 +27,7 @@ mod turning;
 mod versions;
 
 pub use commit::Commit;
-pub use finishing::Finished;
+pub use finishing::{Finished, state_made};
 pub use gate::{Gate, NoGate};
 pub use grants::Granted;
 pub use greetings::Room;

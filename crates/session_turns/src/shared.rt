@@ -10,13 +10,14 @@ ghost use Rattle.value_store.specs.Nodes.{AreSound};
 ghost use Rattle.value_store.specs.Overs.{own_nodes};
 ghost use Rattle.value_store.specs.Standing.{Grows};
 ghost use Rattle.value_store.specs.Stores.{nodes_in};
+ghost use Rattle.session_turns.specs.Marks.{mark_of};
 ghost use Rattle.session_turns.specs.Versions.{IsVersion};
 
 use crate::commit::Commit;
-use crate::digests::SpellingDigests;
+use crate::marks::{Mark, SpellingMarks};
 use crate::versions::version_spelling;
 use code_gen::Code;
-use core_terms::{Digest, Hash32, Spelling};
+use core_terms::{Hash32, Spelling};
 use std::alloc::{AllocError, Global};
 use value_store::{Nodes, Own, Ref, Store};
 
@@ -27,7 +28,7 @@ pub struct Shared {
     pub(crate) versions: Vec<Ref>,
     pub(crate) commits: Vec<Commit>,
     /// What greetings have found of the versions' spellings.
-    pub(crate) digests: SpellingDigests,
+    pub(crate) marks: SpellingMarks,
     ghost some: { 0 < length versions.items },
 }
 
@@ -45,8 +46,23 @@ impl Shared {
             store,
             versions,
             commits: Vec::new(alloc),
-            digests: SpellingDigests::new(alloc),
+            marks: SpellingMarks::new(alloc),
         })
+    }
+
+    /// The store, the versions and the commits.
+    pub fn into_parts(self) -> (Store, Vec<Ref>, Vec<Commit>)
+        ensures store { result.0 ≡ self.store }
+        ensures versions { result.1 ≡ self.versions }
+        ensures commits { result.2 ≡ self.commits }
+    {
+        let Shared {
+            store,
+            versions,
+            commits,
+            ..
+        } = self;
+        (store, versions, commits)
     }
 
     /// The store.
@@ -82,12 +98,12 @@ impl Shared {
     /// The number of the newest version with this spelling, if one has it.
     ///
     /// The versions are gone through from the last one back to the first that is equal. One whose spelling has this length is spelled and
-    /// compared, and where it is another, its digest is noted: it isn't spelled again but for a spelling with that digest. So all greetings
+    /// compared, and where it is another, its mark is noted: it isn't spelled again but for a spelling with that mark. So all greetings
     /// together spell each version once, beside those that they are welcomed at; one spelling is held at a time.
     ///
     /// # Errors
     ///
-    /// `AllocError` where there is no memory for the spelling of a version or for its digest.
+    /// `AllocError` where there is no memory for the spelling of a version or for its mark.
     pub fn newest<H: Hash32>(
         &mut self,
         alloc: Global,
@@ -100,28 +116,28 @@ impl Shared {
         ensures shares { let P = program_of code.now in (shared : meant.Shared) → Shares H.hash P self.old shared → Shares H.hash P self.new shared }
         ensures rest { AreKept self.old self.new }
     {
-        let digest = H::of(state);
+        let mark = Mark::of::<H>(state);
         for number in (0..self.versions.len()).rev() {
-            if self.has_spelling::<H>(alloc, code, number, &digest, state)? {
+            if self.has_spelling::<H>(alloc, code, number, &mark, state)? {
                 return Ok(Some(number));
             }
         }
         Ok(None)
     }
 
-    /// Whether the version with this number has this spelling, which has this digest. `AllocError` where there is no memory for the
-    /// version's own spelling, which is made where it has as many bytes and no other digest is known of it, or for its digest.
+    /// Whether the version with this number has this spelling, which has this mark. `AllocError` where there is no memory for the
+    /// version's own spelling, which is made where it has as many bytes and no other mark is known of it, or for its mark.
     fn has_spelling<H: Hash32>(
         &mut self,
         alloc: Global,
         code: &Code,
         number: usize,
-        digest: &Digest,
+        mark: &Mark,
         state: &[u8],
     ) -> Result<bool, AllocError>
         requires shares { (shared : meant.Shared) × Shares H.hash (program_of code.now) self.old shared }
         requires there { number < length self.old.versions.items }
-        requires digest { digest.now.0 ≡ H.hash state.now }
+        requires mark { mark.now.0 ≡ mark_of H.hash state.now }
         ensures same { let P = program_of code.now in IfOk result (λ same. (shared : meant.Shared) → Shares H.hash P self.old shared
             → same ≡ bytes_eq (meant.state_spelling H.hash P (meant.version_at shared.versions number)) state.now) }
         ensures shares { let P = program_of code.now in (shared : meant.Shared) → Shares H.hash P self.old shared → Shares H.hash P self.new shared }
@@ -132,14 +148,14 @@ impl Shared {
         if size != state.len() {
             return Ok(false);
         }
-        if self.digests.is_other(number, digest) {
+        if self.marks.is_other(number, mark) {
             return Ok(false);
         }
         let spelling = version_spelling::<H>(alloc, code, &self.store, version)?;
         if spelling.as_bytes() == state {
             return Ok(true);
         }
-        self.digests.note(number, H::of(spelling.as_bytes()))?;
+        self.marks.note(number, Mark::of::<H>(spelling.as_bytes()))?;
         Ok(false)
     }
 

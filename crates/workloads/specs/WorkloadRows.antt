@@ -1,6 +1,15 @@
 -- Worked workloads on the search tree of the library. Each equation holds by computing both sides.
-use Rattle.std.specs.Prelude.{◌≡◌, ◌≤◌, ℕ, [], ◌∷◌, pos, refl}
+use Rattle.std.specs.Prelude.{◌≡◌, ◌≤◌, ℕ, true, false, [], ◌∷◌, map, pos, refl}
 use Rattle.std.proofs.Common.{arith, lit≤}
+use Rattle.core_terms.specs.Formats.{Hash}
+use Rattle.core_terms.specs.Projection.{projection}
+use Rattle.core_terms.specs.Roles.{argument_type}
+use Rattle.core_terms.specs.Spelling.{spelling}
+use Rattle.core_terms.specs.Terms.{Program}
+use Rattle.core_terms.specs.declared.byte_string.ByteString.{ByteString as Spelling}
+use Rattle.core_terms.specs.declared.outcome.Outcome.TheVariants as told
+use Rattle.core_terms.specs.declared.outcome.Trap.{Trap}
+use Rattle.core_terms.specs.declared.program.FunctionId.{FunctionId}
 use Rattle.core_terms.specs.Values.{Value, UnitV, IntV, PairV, ConV, NoV}
 use Rattle.ideal_meaning.specs.Examples.{toy, values}
 use Rattle.ideal_meaning.specs.Ideal.{Done, Trapped, Out}
@@ -8,8 +17,10 @@ use Rattle.ideal_meaning.specs.Library.{bst}
 use Rattle.ideal_meaning.specs.Run.{Overflow}
 use Rattle.workloads.specs.declared.tally.Tally.{Tally}
 use Rattle.workloads.specs.declared.workload.Workload.{Workload}
-use Rattle.workloads.specs.Sums.{IsBounded}
-use Rattle.workloads.specs.Workloads.{after_rounds, behind_round, done_in, key_in, no_calls, state_behind, value_in}
+use Rattle.workloads.specs.declared.calls.CheckedCall.{CheckedCall}
+use Rattle.verified_calls.specs.Verified.{IsCallOf, IsVerified}
+use Rattle.workloads.specs.Sums.{IsBounded, IsChecked, IsCounted, call_added, is_done, one_if}
+use Rattle.workloads.specs.Workloads.{add_call, after_rounds, behind_round, call_fuel, done_in, file_of, key_in, no_calls, state_behind, value_in}
 
 -- puts and gets on `bst`, whose proofs ask for so many pieces to be kept; an empty tree, and one of a single entry
 abbrev pub workload : (keys kept : ℕ) → Workload
@@ -46,6 +57,25 @@ states v = (refl, refl, refl)
 
 pub done : (v : Value) → (done_in (Done v) ≡ 1) × (done_in (Trapped Overflow) ≡ 0) × (done_in Out ≡ 0)
 done v = (refl, refl, refl)
+
+-- ONE CALL
+pub fuel_of_a_call : call_fuel ≡ 1000000
+fuel_of_a_call = refl
+
+pub counted_if : (one_if true ≡ 1) × (one_if false ≡ 0)
+counted_if = (refl, refl)
+
+pub has_value : (bytes : Spelling) (trap : Trap) → map is_done (told.Done bytes ∷ told.Trapped trap ∷ told.Out ∷ []) ≡ true ∷ false ∷ false ∷ []
+has_value bytes trap = refl
+
+-- every sum grows by a counted call
+pub is_counted : (hash : Hash) (P : Program) (n f : ℕ) (s a : Value) (call : CheckedCall) → IsCounted hash P n f s a call → (t : Tally) → call_added t call ≡ add_call hash P n t f s a
+is_counted hash P n f s a call is = is
+
+-- a checked one was verified, and is the call that was to be made
+pub is_checked : (hash : Hash) (P : Program) (n : ℕ) (role : FunctionId) (s a : Value) (call : CheckedCall) (c : IsChecked hash P n role s a call) → IsVerified hash P call.verified
+    × IsCallOf role (spelling (projection hash P P.state s)) (spelling (projection hash P (argument_type P role.0) a)) call_fuel (file_of hash P n role.0 s a) call.verified
+is_checked hash P n role s a call c = (c.verified, c.is_call)
 
 -- BOUNDS
 -- of one call at most one is done, and each other sum is at most 2^64

@@ -7,18 +7,15 @@ use crate::calls::CheckedCall;
 use core_terms::{Outcome, Spelling};
 
 /// Sums over calls, each of which was proved into a proof file of its own.
+///
+/// They begin at nothing and grow by checked calls alone, so each call that they count has had its file verified.
 #[derive(Clone, Copy)]
 pub struct Tally {
-    /// How many calls there were.
-    pub calls: u64,
-    /// How many of them ended with a value.
-    pub done: u64,
-    /// How many frames have a piece of their own.
-    pub fresh: u128,
-    /// How many frames name a kept piece.
-    pub again: u128,
-    /// The number of bytes of all proof files.
-    pub bytes: u128,
+    calls: u64,
+    done: u64,
+    fresh: u128,
+    again: u128,
+    bytes: u128,
 }
 
 impl Tally {
@@ -34,6 +31,41 @@ impl Tally {
             again: 0,
             bytes: 0,
         }
+    }
+
+    /// How many calls there were.
+    pub fn calls(&self) -> u64
+        ensures { result ≡ self.now.calls }
+    {
+        self.calls
+    }
+
+    /// How many of them ended with a value.
+    pub fn done(&self) -> u64
+        ensures { result ≡ self.now.done }
+    {
+        self.done
+    }
+
+    /// How many frames have a piece of their own.
+    pub fn fresh(&self) -> u128
+        ensures { result ≡ self.now.fresh }
+    {
+        self.fresh
+    }
+
+    /// How many frames name a kept piece.
+    pub fn again(&self) -> u128
+        ensures { result ≡ self.now.again }
+    {
+        self.again
+    }
+
+    /// The number of bytes of all proof files.
+    pub fn bytes(&self) -> u128
+        ensures { result ≡ self.now.bytes }
+    {
+        self.bytes
     }
 
     /// Counts a call.

@@ -9,6 +9,7 @@ use Rattle.value_store.specs.Standing.{ProverNodes}
 use Rattle.value_store.specs.Stores.{nodes_in}
 use Rattle.value_store.specs.declared.node.Ref.{Ref}
 use Rattle.value_store.proofs.StandingNodes.{there_stands}
+use Rattle.session_turns.specs.Marks.{mark_of}
 use Rattle.session_turns.specs.Sharing.{Shares}
 use Rattle.session_turns.specs.Versions.{IsVersion}
 use Rattle.session_turns.proofs.Sharing.{version_stands, versions_counted}
@@ -44,7 +45,7 @@ returns-then-is_other-clause-same g c m shares =
     let v = meant.version_at m.versions c.args.number in
     let other = c.is_other.ensures c.if-is_other.true in
     other_bytes (meant.state_spelling hash P v) c.args.state.now
-    (λ (e : meant.state_spelling hash P v ≡ c.args.state.now). other.2 ((shares.digests c.args.number other.0 other.1).1 ∙ ap hash e ∙ sym c.requires.digest))
+    (λ (e : meant.state_spelling hash P v ≡ c.args.state.now). other.2 ((shares.marks c.args.number other.0 other.1).1 ∙ ap (mark_of hash) e ∙ sym c.requires.mark))
 
 pub version_spelling-requires-after_bounds : goal.version_spelling-requires-after_bounds
 version_spelling-requires-after_bounds g c κs within =
@@ -73,9 +74,9 @@ returns-in_err-note-clause-shares g c m shares =
     record {
       versions = shares.versions;
       commits = shares.commits;
-      digests =
-          noted hash P c.args.self.now.digests c.note.new.self m.versions c.args.number c.of.result (omega (arith, counted, there))
-          (c.of.ensures ∙ ap hash (c.as_bytes-2.ensures ∙ spelled)) c.note.ensures.within shares.digests;
+      marks =
+          noted hash P c.args.self.now.marks c.note.new.self m.versions c.args.number c.of.result (omega (arith, counted, there))
+          (c.of.ensures ∙ ap (mark_of hash) (c.as_bytes-2.ensures ∙ spelled)) c.note.ensures.within shares.marks;
     }
 
 pub returns-clause-same : goal.returns-clause-same
@@ -98,7 +99,7 @@ returns-clause-shares g c m shares =
     record {
       versions = shares.versions;
       commits = shares.commits;
-      digests =
-          noted hash P c.args.self.now.digests c.note.new.self m.versions c.args.number c.of.result (omega (arith, counted, there))
-          (c.of.ensures ∙ ap hash (c.as_bytes-2.ensures ∙ spelled)) c.note.ensures.within shares.digests;
+      marks =
+          noted hash P c.args.self.now.marks c.note.new.self m.versions c.args.number c.of.result (omega (arith, counted, there))
+          (c.of.ensures ∙ ap (mark_of hash) (c.as_bytes-2.ensures ∙ spelled)) c.note.ensures.within shares.marks;
     }

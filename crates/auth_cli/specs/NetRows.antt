@@ -1,0 +1,98 @@
+-- Rows for the counts of a run by its status, and for the commands that use a net. What each word takes, and what it refuses.
+use Rattle.std.specs.Prelude.{◌≡◌, ◌⊎◌, ◌≤◌, ℕ, List, Option, Some, None, refl}
+use Rattle.std.proofs.Common.{arith, ap, inl, inr}
+use Rattle.command_words.specs.Invocations.{Invocation}
+use Rattle.command_words.specs.declared.command.Command.TheVariants.{Check, Init, Ideal, Step, Shallow, Prove, Verify, Audit, Library, Gen, Serve, Ask}
+use Rattle.lam_outside.specs.Causes.{Rose}
+use Rattle.lam_outside.specs.Told.{Contents, Names}
+use Rattle.file_commands.specs.Answer.{Answer, answer_with, usage_answer}
+use Rattle.file_commands.specs.Ending.{EndsAs, Outside}
+use Rattle.file_commands.specs.Reaching.{IsReached}
+use Rattle.auth_cli.specs.Asking.{AskCounts, IsAsk}
+use Rattle.auth_cli.specs.CourseRows.{faults, rose}
+use Rattle.auth_cli.specs.NetFaults.{NetFaults, NetRose}
+use Rattle.auth_cli.specs.NetRuns.{CallsNoDial, CallsNoListen, DialsNone, EndsCommand, EndsRun, IsOffline, IsReadFaultAt, ListensToNone, UsesNoNet}
+use Rattle.auth_cli.specs.OnlineRuns.{CountsBy, NetSeen}
+use Rattle.auth_cli.specs.Serving.{IsServe, ServeCounts}
+use Rattle.file_commands.specs.declared.status.Status.{Status}
+use Rattle.file_commands.specs.declared.status.Status.TheVariants.{Done, ReadFault, WriteFault, NoMemory}
+
+-- COUNTS
+abbrev pub seen : (read_faults store_faults write_faults : ℕ) → Outside
+seen read_faults store_faults write_faults =
+    record { contents = None; stores = None; written = None; read_faults = read_faults; store_faults = store_faults; write_faults = write_faults }
+
+abbrev pub still : NetFaults
+still = faults 3 3 3 3
+
+pub net_rose : NetRose still (faults 4 3 3 3) × NetRose still (faults 3 4 3 3) × NetRose still (faults 3 3 4 3) × NetRose still (faults 3 3 3 4)
+net_rose = (inl rose, inr (inl rose), inr (inr (inl rose)), inr (inr (inr rose)))
+
+pub none_rose : NetRose still still → ⊥
+none_rose (inl r) = let k : 4 ≤ 3 = r in omega (arith, k)
+none_rose (inr (inl r)) = let k : 4 ≤ 3 = r in omega (arith, k)
+none_rose (inr (inr (inl r))) = let k : 4 ≤ 3 = r in omega (arith, k)
+none_rose (inr (inr (inr r))) = let k : 4 ≤ 3 = r in omega (arith, k)
+
+-- a read fault is counted by the files or by the net, a write fault by the sink or by `store`; want of memory lets the sink's and the store's stay
+pub counts : CountsBy (seen 3 5 6) (seen 4 5 6) still still ReadFault × CountsBy (seen 3 5 6) (seen 3 5 6) still (faults 3 4 3 3) ReadFault × CountsBy (seen 3 5 3) (seen 3 5 4) still still WriteFault
+    × CountsBy (seen 3 3 6) (seen 3 4 6) still still WriteFault × CountsBy (seen 3 5 6) (seen 4 5 6) still (faults 4 3 3 3) NoMemory × CountsBy (seen 3 5 6) (seen 3 5 6) still still Done
+counts = ((inl rose, refl, refl), (inr (inr (inl rose)), refl, refl), inl rose, inr rose, (refl, refl), (refl, refl, refl, refl))
+
+-- where no count rose there is no fault of either kind; and where one did it isn't done
+pub no_read_fault : CountsBy (seen 3 5 6) (seen 3 5 6) still still ReadFault → ⊥
+no_read_fault c = by c.0
+  where
+    by : Rose 3 3 ⊎ NetRose still still → ⊥
+    by (inl r) = let k : 4 ≤ 3 = r in omega (arith, k)
+    by (inr r) = none_rose r
+
+pub no_write_fault : CountsBy (seen 3 3 3) (seen 4 3 3) still still WriteFault → ⊥
+no_write_fault (inl r) = let k : 4 ≤ 3 = r in omega (arith, k)
+no_write_fault (inr r) = let k : 4 ≤ 3 = r in omega (arith, k)
+
+pub not_done : CountsBy (seen 3 5 6) (seen 3 5 6) still (faults 3 3 3 4) Done → ⊥
+not_done c = let e : 4 ≡ 3 = ap (λ (f : NetFaults). f.dials) c.1 in omega (arith, e)
+
+-- COMMANDS
+pub use_no_net : UsesNoNet Check × UsesNoNet Init × UsesNoNet Ideal × UsesNoNet Step × UsesNoNet Shallow × UsesNoNet Prove × UsesNoNet Verify × UsesNoNet Audit × UsesNoNet Library × UsesNoNet Gen
+use_no_net = (tt, tt, tt, tt, tt, tt, tt, tt, tt, tt)
+
+pub use_a_net : (UsesNoNet Serve → ⊥) × (UsesNoNet Ask → ⊥)
+use_a_net = ((λ u. u), (λ u. u))
+
+pub dials : DialsNone Serve × DialsNone Verify × (DialsNone Ask → ⊥)
+dials = (tt, tt, (λ d. d))
+
+pub listens : ListensToNone Ask × ListensToNone Verify × (ListensToNone Serve → ⊥)
+listens = (tt, tt, (λ l. l))
+
+-- the same of words that call a command, or none
+pub calls : (called : Invocation) → (UsesNoNet called.command → IsOffline (Some called)) × (DialsNone called.command → CallsNoDial (Some called)) × (ListensToNone called.command → CallsNoListen (Some called))
+calls called = ((λ u. u), (λ d. d), (λ l. l))
+
+pub no_call : IsOffline None × CallsNoDial None × CallsNoListen None
+no_call = (tt, tt, tt)
+
+-- ENDS
+module _ (texts : List (List ℕ)) (old new : Outside) (net net' : NetSeen) (status : Status) where
+  pub ends_serve : IsServe texts old new net net' status → ServeCounts old new net.faults net'.faults status → EndsCommand Serve texts old new net net' status
+  ends_serve is counts = (is, counts)
+
+  pub ends_ask : IsAsk texts old new net net' status → AskCounts old new net.faults net'.faults status → EndsCommand Ask texts old new net net' status
+  ends_ask is counts = (is, counts)
+
+  -- all others leave the net as it was
+  pub ends_others : EndsAs (answer_with Verify texts) old new status → EndsCommand Verify texts old new net net status
+  ends_others ends = (ends, refl)
+
+  pub ends_called : (called : Invocation) → EndsCommand called.command called.texts old new net net' status → EndsRun (Some called) old new net net' status
+  ends_called called ends = ends
+
+  pub ends_uncalled : EndsAs (λ files. Some usage_answer) old new status → EndsRun None old new net net status
+  ends_uncalled ends = (ends, refl)
+
+-- where no count rose a read fault is of a reached file
+pub read_fault_at : (answer : Contents → Option Answer) (contents : Option Contents) (asked : Option Names) (before now : ℕ) → IsReadFaultAt answer contents asked before now ReadFault
+    → (now ≡ before) ⊎ IsReached answer contents asked
+read_fault_at answer contents asked before now at = at refl

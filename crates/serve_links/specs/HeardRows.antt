@@ -1,0 +1,160 @@
+-- Rows for one message of a connection: what is heard of bytes, and what is answered. What each word takes, and what it refuses.
+use Rattle.std.specs.Prelude.{◌≡◌, ◌≤◌, ◌<◌, ℕ, Bool, true, false, List, [], ◌∷◌, ◌++◌, length, take, Option, Some, Ok, Err, refl}
+use Rattle.std.specs.Io.KnownBytes.{append_known}
+use Rattle.std.specs.List.{AllByRecursion}
+use Rattle.std.proofs.Common.{arith, inl, inr, lit<}
+use Rattle.core_terms.specs.Formats.{Hash}
+use Rattle.core_terms.specs.Projection.{Fits}
+use Rattle.core_terms.specs.Terms.{Program}
+use Rattle.core_terms.specs.Values.{AuthWithin, IsIdeal}
+use Rattle.lam_outside.specs.Causes.{Rose}
+use Rattle.session_meaning.specs.MessageRows.{bye_bytes, hello_bytes}
+use Rattle.session_meaning.specs.Messages.{AtEnd, IsCut, BadMessage, Request, Bye, Then, messages, request_of}
+use Rattle.session_meaning.specs.ReplyLaws.{IsHeard}
+use Rattle.session_meaning.specs.Server as meant
+use Rattle.session_meaning.specs.Server.{Server, HearsBad, HearsEnd, Hears, new_server, server_after}
+use Rattle.session_meaning.specs.Stopped.{IsStopped}
+use Rattle.serve_core.specs.Serving.{Serves}
+use Rattle.serve_core.specs.declared.heard.Heard.TheVariants as heard
+use Rattle.serve_core.specs.declared.server.ServeCore.{ServeCore}
+use Rattle.serve_links.specs.Connections.{IsBrokenOff, IsCutAt, bytes_of}
+use Rattle.serve_links.specs.Histories.{HasHistory, HasSameCode, HasServed, own_digest, program_served, step_of, turns_of}
+use Rattle.serve_links.specs.Messages.{Answers, AnswersPart, BreaksOff, ComesNext, CountsMessage, Ends, GoesOn, HaltCause, HearsNext, IsHeardOf, IsReadAs, IsStoppedAt, ServesMessage, StaysServing, Takes, halt_of}
+use Rattle.serve_links.specs.Prompt.{WaitsForOne}
+use Rattle.serve_links.specs.declared.connection.ConnectionEnd.TheVariants.{Over, NoMemory}
+use Rattle.serve_links.specs.declared.halt.Halt.TheVariants as halt
+use Rattle.wire_form.specs.declared.message.WriteStop.TheVariants as write
+
+-- BYTES
+-- a front of the bytes was taken, and what is behind it is left
+pub takes : Takes (hello_bytes ++ bye_bytes) hello_bytes (Some bye_bytes)
+takes = (bye_bytes, refl, refl)
+
+pub takes_no_others : Takes [] bye_bytes (Some []) → ⊥
+takes_no_others (rest, all, left) = let e : [] ≡ 0 ∷ 0 ∷ 0 ∷ 3 ∷ 4 ∷ 0 ∷ 1 ∷ rest = all in cc (e)
+
+-- what is read as a request is so whatever stands behind it
+pub read_as : IsReadAs bye_bytes (Bye 1) → messages request_of (bye_bytes ++ hello_bytes) ≡ Then (Bye 1) (messages request_of hello_bytes)
+read_as reads = reads hello_bytes
+
+pub heard_request : (bytes taken : List ℕ) (r : Request) → IsReadAs taken r → IsHeardOf bytes taken (Hears r)
+heard_request bytes taken r reads = reads
+
+-- an end, an end inside a message, and bytes that are none, whatever comes behind them
+pub ends_heard : IsHeardOf [] [] HearsEnd × IsHeardOf (0 ∷ []) (0 ∷ []) HearsEnd × IsHeardOf (0 ∷ 0 ∷ 0 ∷ 1 ∷ 9 ∷ bye_bytes) (0 ∷ 0 ∷ 0 ∷ 1 ∷ 9 ∷ []) HearsBad
+ends_heard = ((AtEnd, refl, refl, refl), (IsCut, refl, refl, refl), (BadMessage 9 0, refl, refl, refl))
+
+pub comes_next : ComesNext (0 ∷ 0 ∷ 0 ∷ 1 ∷ 9 ∷ bye_bytes) (Some bye_bytes) HearsBad
+comes_next = (0 ∷ 0 ∷ 0 ∷ 1 ∷ 9 ∷ [], (bye_bytes, refl, refl), (BadMessage 9 0, refl, refl, refl))
+
+-- Where the link failed no message stood whole in what was taken; where memory was wanting any front may have been.
+pub heard_next : HearsNext (0 ∷ 0 ∷ 0 ∷ 1 ∷ 9 ∷ bye_bytes) (Some bye_bytes) (Ok heard.Bad)
+    × HearsNext (0 ∷ 0 ∷ bye_bytes) (Some bye_bytes) (Err halt.LinkFault) × HearsNext (hello_bytes ++ bye_bytes) (Some bye_bytes) (Err halt.NoMemory)
+heard_next = (comes_next, (0 ∷ 0 ∷ [], (bye_bytes, refl, refl), refl), (hello_bytes, takes))
+
+-- A message is waited for where none can be read of what was taken.
+pub waits : WaitsForOne bye_bytes (Some []) (record { left = Some (4 ∷ 0 ∷ 1 ∷ []); sent = Some [] })
+waits = (refl, (0 ∷ 0 ∷ 0 ∷ 3 ∷ [], (4 ∷ 0 ∷ 1 ∷ [], refl, refl), refl))
+
+pub waits_unsent : (taken : Option (List ℕ)) → WaitsForOne bye_bytes (Some (9 ∷ [])) (record { left = taken; sent = Some [] }) → ⊥
+waits_unsent taken waits = let e : Some [] ≡ Some (9 ∷ []) = waits.0 in cc (e)
+
+-- COUNTS
+pub causes : (before now : ℕ) → Rose before now → HaltCause {T = Bool} before before (Ok true) × HaltCause {T = Bool} before now (Err halt.LinkFault)
+    × HaltCause {T = Bool} before before (Err halt.NoMemory)
+causes before now rose = (refl, rose, refl)
+
+pub stops : (halt_of write.LinkFault ≡ halt.LinkFault) × (halt_of write.NoMemory ≡ halt.NoMemory)
+stops = (refl, refl)
+
+-- the 1,000,000th message goes on, and none behind it
+pub last_counted : CountsMessage 999999 1000000 (Ok true)
+last_counted = (refl, lit< tt)
+
+pub one_too_many : CountsMessage 1000000 1000001 (Ok true) → ⊥
+one_too_many counts = let k : 1000000 < 1000000 = counts.1 in omega (arith, k)
+
+pub others_uncounted : CountsMessage 9 9 (Ok false) × CountsMessage 9 9 (Err halt.LinkFault)
+others_uncounted = (tt, tt)
+
+-- ANSWERS
+-- A core that served a server, and serves the one behind a message.
+module _ (hash : Hash) {A G : Type 0} (old new : ServeCore A G) (server : Server) (m : meant.Heard) where
+  abbrev pub told : List ℕ
+  told = bytes_of (step_of hash old server m).replies
+
+  -- its replies were sent whole, or a front of them
+  pub answers : Serves hash new (step_of hash old server m).server → Answers hash old new server (Some []) (Some told) m (Ok (step_of hash old server m).closing)
+  answers serves = (refl, refl, serves)
+
+  pub answers_part : Serves hash new (step_of hash old server m).server → (n : ℕ) → n ≤ length told → AnswersPart hash old new server (Some []) (Some (take n told)) m
+  answers_part serves n within = (n, within, refl, serves)
+
+  pub answers_whole : Serves hash new (step_of hash old server m).server → AnswersPart hash old new server (Some []) (Some (take (length told) told)) m
+  answers_whole serves = (length told, omega arith, refl, serves)
+
+  pub answers_fault : (sent sent' : Option (List ℕ)) → AnswersPart hash old new server sent sent' m
+      → Answers hash old new server sent sent' m (Err halt.LinkFault) × Answers hash old new server sent sent' m (Err halt.NoMemory)
+  answers_fault sent sent' part = (part, inl part)
+
+  -- or memory was wanting for it, and nothing was sent
+  pub stopped : (sent : Option (List ℕ)) (behind : Server) → IsStopped hash (program_served old) (turns_of old) server m behind → Serves hash new behind
+      → IsStoppedAt hash old new server sent sent m × Answers hash old new server sent sent m (Err halt.NoMemory)
+  stopped sent behind is serves = ((refl, (behind, is, serves)), inr (refl, (behind, is, serves)))
+
+module _ (hash : Hash) {A G : Type 0} (old new : ServeCore A G) (server : Server) (sent sent' : Option (List ℕ)) where
+  -- a leave was answered, and the connection goes on behind it
+  pub goes_on : IsReadAs bye_bytes (Bye 1) → (step_of hash old server (Hears (Bye 1))).closing ≡ false
+      → sent' ≡ append_known sent (bytes_of (step_of hash old server (Hears (Bye 1))).replies) → Serves hash new (step_of hash old server (Hears (Bye 1))).server
+      → GoesOn hash old new server sent sent' (bye_bytes ++ hello_bytes) (Some hello_bytes)
+  goes_on came stays sends serves =
+      record { request = Bye 1; taken = bye_bytes; rest = hello_bytes; all = refl; came = came; told = refl; stays_open = stays; sends = sends; serves = serves }
+
+  -- it broke off behind bytes that were taken
+  pub broke_off : (heard : List meant.Heard) (out : List ℕ) → sent' ≡ append_known sent out
+      → IsCutAt hash (program_served old) (own_digest old) (turns_of old) server hello_bytes heard out
+      → IsBrokenOff hash (program_served old) (own_digest old) (turns_of old) server (hello_bytes ++ bye_bytes) heard out
+      → Serves hash new (server_after hash (program_served old) (own_digest old) (turns_of old) server heard)
+      → BreaksOff hash old new server sent sent' (hello_bytes ++ bye_bytes) (Some bye_bytes)
+  broke_off heard out sends cut broken serves = record { heard = heard; taken = hello_bytes; out = out; takes = takes; sends = sends; cut = cut; broken = broken; serves = serves }
+
+  -- what a message comes to, by its answer
+  pub went_on : (bytes : List ℕ) (left : Option (List ℕ)) → GoesOn hash old new server sent sent' bytes left → ServesMessage hash old new server sent sent' bytes left (Ok true)
+  went_on bytes left goes = goes
+
+  pub ended : (bytes : List ℕ) (left : Option (List ℕ)) → Ends hash old new server sent sent' bytes left Over → ServesMessage hash old new server sent sent' bytes left (Ok false)
+  ended bytes left ends = ends
+
+  pub broken : (bytes : List ℕ) (left : Option (List ℕ)) → BreaksOff hash old new server sent sent' bytes left
+      → ServesMessage hash old new server sent sent' bytes left (Err halt.LinkFault)
+  broken bytes left breaks = breaks
+
+  pub lacking : (bytes : List ℕ) (left : Option (List ℕ)) → Ends hash old new server sent sent' bytes left NoMemory
+      → ServesMessage hash old new server sent sent' bytes left (Err halt.NoMemory)
+  lacking bytes left ends = ends
+
+-- HISTORIES
+-- a core that goes on has a history; one for which memory was wanting is a server still
+pub goes_on_serving : (hash : Hash) {A G : Type 0} (core : ServeCore A G) → HasServed hash core
+    → StaysServing {T = Bool} hash core (Ok true) × StaysServing {T = Bool} hash core (Err halt.LinkFault)
+goes_on_serving hash core served = (served, served)
+
+pub stays_serving : (hash : Hash) {A G : Type 0} (core : ServeCore A G) (server : Server) → Serves hash core server → StaysServing {T = Bool} hash core (Err halt.NoMemory)
+stays_serving hash core server serves = (server, serves)
+
+-- such a server began with a value within the limits, and heard messages
+pub begins_within : (hash : Hash) (P : Program) (own : List ℕ) (ending : ℕ → ℕ) (server : Server) (h : HasHistory hash P own ending server)
+    → IsIdeal P.types P.state h.first × Fits P P.state h.first × AuthWithin P.format.limit P.types P.state h.first × AllByRecursion IsHeard h.before
+begins_within hash P own ending server h = (h.ideal, h.fits, h.deep, h.messages)
+
+pub went_so : (hash : Hash) (P : Program) (own : List ℕ) (ending : ℕ → ℕ) (server : Server) (h : HasHistory hash P own ending server)
+    → server ≡ server_after hash P own ending (new_server h.first) h.before
+went_so hash P own ending server h = h.is
+
+pub has_served : (hash : Hash) {A G : Type 0} (core : ServeCore A G) (h : HasServed hash core)
+    → HasHistory hash (program_served core) (own_digest core) (turns_of core) h.server × Serves hash core h.server
+has_served hash core h = (h.history, h.serves)
+
+-- and goes on with the same code and turns
+pub same_code : {A G : Type 0} (old new : ServeCore A G) (same : HasSameCode old new) → (new.code ≡ old.code) × (new.slice ≡ old.slice)
+same_code old new same = (same.code, same.slice)

@@ -1,0 +1,14 @@
+pub mod AtGates
+pub mod Gates
+pub mod JournalCauses
+pub mod JournalLaws
+pub mod JournalRows
+pub mod Journals
+pub mod Steps
+pub mod Stops
+pub mod Through
+pub mod JournalParts
+pub mod Keeping
+pub mod Replays
+pub mod Openings
+pub mod Appended
