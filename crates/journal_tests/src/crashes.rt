@@ -6,6 +6,7 @@ use code_gen::Code;
 use lam_outside::{DiskCall, MemDisk};
 use std::alloc::{AllocError, Global};
 use std::test::Fail;
+use version_journal::next_record;
 
 /// What is synced of a file that had no bytes, and where and how much was written to it since.
 #[derive(Drop)]
@@ -178,6 +179,19 @@ fn three_torn_bytes_are_no_commit(rt: HostRuntime) -> Result<(), Fail> {
             let file = laid(alloc, &synced, synced.len(), &bytes)?;
             assert!(rt; keeps(alloc, &code, &file, told)?, "{bytes:?}");
         }
+    }
+    Ok(())
+}
+
+/// The same of all that three bytes can be, by the reading of what stands from the closed gate on.
+#[test]
+fn no_three_bytes_behind_a_closed_gate_are_a_record(rt: HostRuntime) -> Result<(), Fail> {
+    for number in 0..=0xff_ff_ff_u32 {
+        let [_, first, second, third] = number.to_be_bytes();
+        assert!(rt;
+            matches!(next_record(4, &[0, first, second, third]), Ok(None)),
+            "{number:06x}"
+        );
     }
     Ok(())
 }
