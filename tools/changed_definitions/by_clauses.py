@@ -111,8 +111,8 @@ def definitions_in(lines):
         signature, clauses = " ".join(word.strip() for word in [signed["type"], *lines[number + 1 : at]]), []
         while at < len(lines) and lines[at].startswith(" " * indent + signed["name"]) and " =" in lines[at]:
             behind = deeper(lines, at + 1, indent)
-            left, _, right = "\n".join(lines[at:behind]).partition(" =")
-            clauses.append((left.strip(), right))
+            left, *right = parts_of("\n".join(lines[at:behind]), " =")
+            clauses.append((left.strip(), " =".join(right)))
             at = behind
         if clauses:
             yield Definition(signed["name"], signature, clauses)

@@ -5,5 +5,6 @@ LEMMAS, CODE = {}, {}
 
 ENDS = ["Ending", "Reaching", "Statuses", "Storing", "Telling", "Codes"]
 CALLS = ["TrueLines", "SoundPrograms", "AuditedCalls", "ProvedCalls", "ShallowLaws", "GeneratedCalls", "IdealCalls"]
+FOUND = ["Halting", "Arguments", "Reporting"]
 
-CHANGES = changes_by_clause("file_commands", ENDS + CALLS)
+CHANGES = changes_by_clause("file_commands", ENDS + CALLS + FOUND)

@@ -4,6 +4,7 @@ pub mod CallsInStores
 pub mod Codes
 pub mod Ending
 pub mod EndRows
+pub mod FoundRows
 pub mod FueledRoles
 pub mod GeneratedCalls
 pub mod CallRows
