@@ -39,8 +39,8 @@ CHANGES = {
             "IsFunctionWithin: any result",
             "  pub result_type : IsFlatType g.result\n",
             "  pub result_type : IsFlatType UnitTy\n",
-            "use Rattle.core_terms.specs.Types.{Ty, PairTy, AuthTy, Table}",
-            "use Rattle.core_terms.specs.Types.{Ty, UnitTy, PairTy, AuthTy, Table}",
+            "use Rattle.core_terms.specs.Types.{Ty, PairTy, AuthTy, VecTy, Table}",
+            "use Rattle.core_terms.specs.Types.{Ty, UnitTy, PairTy, AuthTy, VecTy, Table}",
         ),
         (
             "IsWithinLimits: 1,025 functions",
@@ -51,8 +51,8 @@ CHANGES = {
             "IsWithinLimits: any state",
             "  pub state_type : IsFlatType P.state\n",
             "  pub state_type : IsFlatType UnitTy\n",
-            "use Rattle.core_terms.specs.Types.{Ty, PairTy, AuthTy, Table}",
-            "use Rattle.core_terms.specs.Types.{Ty, UnitTy, PairTy, AuthTy, Table}",
+            "use Rattle.core_terms.specs.Types.{Ty, PairTy, AuthTy, VecTy, Table}",
+            "use Rattle.core_terms.specs.Types.{Ty, UnitTy, PairTy, AuthTy, VecTy, Table}",
         ),
         ("most_types: 257", "most_types = 256", "most_types = 257"),
         ("most_constructors: 256", "most_constructors = 255", "most_constructors = 256"),
@@ -316,7 +316,6 @@ CHANGES = {
         ("expressions_in_all: of nothing 1", "expressions_in_all [] = 0", "expressions_in_all [] = 1"),
     ],
     "ProgramTrees": [
-        ("program_format: 1,023 kept", "program_format = first_format 1024", "program_format = first_format 1023"),
         ("in_a_row: the first alone", "in_a_row (x ∷ xs) = AndE x (in_a_row xs)", "in_a_row (x ∷ xs) = AndE x NoE"),
         (
             "arms_in_a_row: the first alone",
@@ -350,8 +349,8 @@ CHANGES = {
         ),
         (
             "program_of: the state is unit",
-            "state = type_at types state; functions",
-            "state = UnitTy; functions",
+            "      state = type_at types state;\n",
+            "      state = UnitTy;\n",
             "use Rattle.core_terms.specs.Types.{Ty, Table}",
             "use Rattle.core_terms.specs.Types.{Ty, UnitTy, Table}",
         ),
@@ -397,7 +396,7 @@ CHANGES = {
             "has_types_below count f = are_below count f.parameters.items && nat_lt f.result.0 count",
             "has_types_below count f = nat_lt f.result.0 count",
         ),
-        ("program_of: no function", "functions = map (function_of types) functions }", "functions = [] }"),
+        ("program_of: no function", "functions = map (function_of types) functions;", "functions = [];"),
         ("expression_from_parts: snd is fst", "(Term-F.Snd a b x) = SndE", "(Term-F.Snd a b x) = FstE"),
         ("expression_from_parts: not is len", "(Term-F.Not x) = NotE", "(Term-F.Not x) = LenE"),
         ("expression_from_parts: len is not", "(Term-F.Len x) = LenE", "(Term-F.Len x) = NotE"),
@@ -550,13 +549,13 @@ CHANGES = {
         ("named_table: over no types", "named_table t = table_of (types_by_number t) t.named.items", "named_table t = table_of [] t.named.items"),
         (
             "program_with: no function",
-            "program_with t functions = program_of t.table.forms.keys t.named.items t.state functions",
-            "program_with t functions = program_of t.table.forms.keys t.named.items t.state []",
+            "program_with t functions = program_of t.table.format t.table.forms.keys t.named.items t.state functions",
+            "program_with t functions = program_of t.table.format t.table.forms.keys t.named.items t.state []",
         ),
         (
             "program_with: no named type",
-            "program_with t functions = program_of t.table.forms.keys t.named.items t.state functions",
-            "program_with t functions = program_of t.table.forms.keys [] t.state functions",
+            "program_with t functions = program_of t.table.format t.table.forms.keys t.named.items t.state functions",
+            "program_with t functions = program_of t.table.format t.table.forms.keys [] t.state functions",
         ),
     ],
     "Programs": [

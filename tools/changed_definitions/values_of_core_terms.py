@@ -26,9 +26,9 @@ CHANGES = {
         ("IsFormat: limit_holds 65535", "pub limit_holds : 65536 ≤ format.limit", "pub limit_holds : 65535 ≤ format.limit"),
         ("IsFormat: magic of at most 4 bytes", "pub magic_length : length format.magic ≡ 4", "pub magic_length : length format.magic ≤ 4"),
         ("IsFormat: kept_fits 2^17", "pub kept_fits : format.most_kept < 2 ^ 16", "pub kept_fits : format.most_kept < 2 ^ 17"),
-        ("first_format: limit 65537", "limit = 65536; magic", "limit = 65537; magic"),
+        ("first_format: limit 65537", "  limit = 65536;\n", "  limit = 65537;\n"),
         ("first_format: magic LAP2", "0x4C ∷ 0x41 ∷ 0x50 ∷ 0x31 ∷ []", "0x4C ∷ 0x41 ∷ 0x50 ∷ 0x32 ∷ []"),
-        ("first_format: most_kept + 1", "most_kept = most }", "most_kept = most + 1 }"),
+        ("first_format: most_kept + 1", "most_kept = most;\n  arrays = false", "most_kept = most + 1;\n  arrays = false"),
         ("depth_limit: 513", "depth_limit = 512", "depth_limit = 513"),
         ("message_limit: one more", "message_limit = 16777216", "message_limit = 16777217"),
         (

@@ -1,12 +1,12 @@
 -- More fuel changes nothing but for runs that want it: by induction on the bound of nested calls, and on the expression.
 use Rattle.std.proofs.Common.{◌≡◌, ℕ, zero, suc, ◌+◌, Bool, true, false, ◌++◌, ℤ, pos, negsuc, ◌+ℤ◌, ◌-ℤ◌, ◌*ℤ◌, int_div, int_rem, nat_lt, refl, arith, if◌then◌else◌}
-use Rattle.core_terms.specs.Types.{Ty, PairTy, NamedTy, TextTy}
+use Rattle.core_terms.specs.Types.{Ty, PairTy, NamedTy, TextTy, VecTy}
 use Rattle.core_terms.specs.Formats.{depth_limit}
-use Rattle.core_terms.specs.Values.{Value, TextV, PairV, ConV, Values, NoV, AndV, size, depth, int_fits}
-use Rattle.core_terms.specs.Terms.{Expression, UnitE, BoolE, IntE, TextE, LocalE, PairE, FstE, SndE, NotE, LenE, AuthE, UnauthE, ConE, ArithE, CompareE, TextCompareE, CatE, LetE, IfE, MatchE, CallE, Expressions, NoE, AndE, Arms, NoArm, AndArm, Program, function_at}
+use Rattle.core_terms.specs.Values.{Value, TextV, PairV, ConV, ItemsV, Values, NoV, AndV, size, depth, int_fits}
+use Rattle.core_terms.specs.Terms.{Expression, UnitE, BoolE, IntE, TextE, LocalE, PairE, FstE, SndE, NotE, LenE, AuthE, UnauthE, ConE, ArithE, CompareE, TextCompareE, CatE, LetE, IfE, MatchE, CallE, OperateE, Operation, VecFill, VecGet, VecPut, Expressions, NoE, AndE, Arms, NoArm, AndArm, Program, function_at}
 use Rattle.core_terms.specs.declared.term.Arith.{Arith}
 use Rattle.core_terms.specs.declared.term.Arith.TheVariants.{Add, Sub, Mul, Div, Rem}
-use Rattle.ideal_meaning.specs.Run.{Traps, IsOut, Rejects, Run, Gives, Ends, Opening, Opens, Refuses, with_fuel, Mode, then_run, divided, arith_of, choose, limited, run, run_all, run_arm, call, bool_in, int_in, text_in, tag_in, fields_in, join}
+use Rattle.ideal_meaning.specs.Run.{Traps, IsOut, Rejects, Run, Gives, Ends, Opening, Opens, Refuses, with_fuel, Mode, then_run, divided, arith_of, choose, limited, at_index, operate, local, items_in, repeated, replaced, run, run_all, run_arm, call, bool_in, int_in, text_in, tag_in, fields_in, join}
 use Rattle.ads_library.specs.MoreFuel.{IsWithMore, MoreFuel}
 
 module _ (C W : Type 0) (j : ℕ) where
@@ -49,6 +49,20 @@ module _ (C W : Type 0) (j : ℕ) where
     limited_more t v k w =
         if_more (nat_lt P.format.limit (size P.types t v)) _ _ _ _ refl (if_more (nat_lt depth_limit (depth P.types t v)) _ _ _ _ refl refl)
 
+    index_more : (n : ℕ) (z : ℤ) (f : ℕ → ℕ → W → Run C W Value) (k : ℕ) (w : W) → ((i : ℕ) → IsWithMore j (f i k w) (f i (k + j) w))
+        → IsWithMore j (at_index n z f k w) (at_index n z f (k + j) w)
+    index_more n (pos i) f k w h = if_more (nat_lt i n) _ _ _ _ (h i) refl
+    index_more n (negsuc i) f k w h = refl
+
+    operate_more : (op : Operation) (vs : Values) (k : ℕ) (w : W) → IsWithMore j (operate {C = C} P.format.limit P.types op vs k w)
+        (operate P.format.limit P.types op vs (k + j) w)
+    operate_more (VecFill n t) vs k w = limited_more (VecTy n t) (ItemsV (repeated n (local vs 0))) k w
+    operate_more (VecGet n t) vs k w = index_more n (int_in (local vs 1)) (λ i k w. Gives (local (items_in (local vs 0)) i) k w) k w (λ i. refl)
+    operate_more (VecPut n t) vs k w =
+        index_more n (int_in (local vs 1))
+        (λ i k w. limited P.format.limit P.types (VecTy n t) (ItemsV (replaced (items_in (local vs 0)) i (local vs 2))) k w) k w
+        (λ i. limited_more (VecTy n t) (ItemsV (replaced (items_in (local vs 0)) i (local vs 2))) k w)
+
     module _ (c d : ℕ → Values → ℕ → W → Run C W Value) (more : (f : ℕ) (vs : Values) (k : ℕ) (w : W) → IsWithMore j (c f vs k w) (d f vs (k + j) w)) where
       mutual
         runs : (e : Expression) (env : Values) (k : ℕ) (w : W) → IsWithMore j (run P mode c e env k w) (run P mode d e env (k + j) w)
@@ -77,6 +91,7 @@ module _ (C W : Type 0) (j : ℕ) where
             choose_more (bool_in u) (run P mode c x) (run P mode c y) (run P mode d x) (run P mode d y) env k w (runs x env k w) (runs y env k w))
         runs (MatchE number x arms) env k w = then_more _ _ _ _ (runs x env k w) (λ u k w. arm_runs arms (tag_in u) (join env (fields_in u)) k w)
         runs (CallE f args) env k w = then_more _ _ _ _ (all_runs args env k w) (λ vs k w. more f vs k w)
+        runs (OperateE op xs) env k w = then_more _ _ _ _ (all_runs xs env k w) (λ vs k w. operate_more op vs k w)
 
         all_runs : (xs : Expressions) (env : Values) (k : ℕ) (w : W) → IsWithMore j (run_all P mode c xs env k w) (run_all P mode d xs env (k + j) w)
         all_runs NoE env k w = refl

@@ -18,7 +18,6 @@ use Rattle.mode_vm.specs.StateCalls.{SpellsOutcome}
 use Rattle.session_meaning.specs.Calls.{state_made}
 use Rattle.session_meaning.specs.Client.{state_behind}
 use Rattle.shallow_codec.specs.ProgramTypes.{table, ty_of}
-use Rattle.value_store.specs.Nodes.{size_limit}
 use Rattle.verifier_mode.specs.Verdicts.{IsTold}
 use Rattle.ask_core.proofs.Called.{update_gives}
 
@@ -45,15 +44,15 @@ module _ (p : Program) (role : Role) (shape : HasRoleShape (meaning p) (role_of 
   -- an update's value, by the types and the bytes as they are lent
   module _ (update : role_kind_of role.kind ≡ tree.Update) (types : Types) (same : types ≡ p.types) (bytes lent : List ℕ) (lent_is : lent ≡ bytes) where
     abbrev SpellsLent : Value → Type 0
-    SpellsLent v = Spells size_limit (table types) lent (ty_of types role.result) v
+    SpellsLent v = Spells (types_meaning types).format.limit (table types) lent (ty_of types role.result) v
 
     pair : (answer : Ty) × (t ≡ PairTy P.state answer)
     pair = update_gives P (role_of (types_of p) role) shape update
 
-    to_lent : (v : Value) → Spells size_limit P.types bytes t v → SpellsLent v
+    to_lent : (v : Value) → Spells P.format.limit P.types bytes t v → SpellsLent v
     to_lent v spelled =
-        subst (λ (types : Types). Spells size_limit (table types) lent (ty_of types role.result) v) (sym same)
-        (subst (λ bytes. Spells size_limit P.types bytes t v) (sym lent_is) spelled)
+        subst (λ (types : Types). Spells (types_meaning types).format.limit (table types) lent (ty_of types role.result) v) (sym same)
+        (subst (λ bytes. Spells P.format.limit P.types bytes t v) (sym lent_is) spelled)
 
     pub pair_lent : (answer : Ty) × (ty_of types role.result ≡ PairTy (types_meaning types).state answer)
     pair_lent = (pair.0, subst (λ (types : Types). ty_of types role.result ≡ PairTy (types_meaning types).state pair.0) (sym same) pair.1)
@@ -67,7 +66,7 @@ module _ (p : Program) (role : Role) (shape : HasRoleShape (meaning p) (role_of 
         by v (subst (λ t. IsShallow P.types t v) pair.1 spelled.shape) spelled
         ∙ ap (λ o. state_behind (state_made (role_kind_of role.kind) o) state) (sym done)
       where
-        by : (v : Value) → IsShallow P.types (PairTy P.state pair.0) v → Spells size_limit P.types bytes t v
+        by : (v : Value) → IsShallow P.types (PairTy P.state pair.0) v → Spells P.format.limit P.types bytes t v
             → first ≡ state_behind (state_made (role_kind_of role.kind) (ideal.Done v)) state
         by (PairV x y) shallow spelled =
             spells x y (to_lent (PairV x y) spelled) ∙ ap (λ kind. state_behind (state_made kind (ideal.Done (PairV x y))) state) (sym update)

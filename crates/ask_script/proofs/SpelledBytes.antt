@@ -10,8 +10,8 @@ use Rattle.std.proofs.lemmas.Option.{get_or_from_slice_get, slice_get_within}
 use lib.Dec.{ltb}
 use lib.Utf8.{encode, next, scalar, scalar_cases, scalars}
 use Rattle.core_terms.specs.Spelling.{AreBytes, spelling, spellings}
-use Rattle.core_terms.specs.Types.{Ty, UnitTy, BoolTy, IntTy, TextTy, PairTy, NamedTy, AuthTy, Table, fields_at, has_tags, OnFields}
-use Rattle.core_terms.specs.Values.{AreIdeal, AreShallow, IsIdeal, IsShallow, Value, UnitV, BoolV, IntV, TextV, PairV, ConV, DigestV, Values, NoV, AndV}
+use Rattle.core_terms.specs.Types.{Ty, UnitTy, BoolTy, IntTy, TextTy, PairTy, NamedTy, AuthTy, VecTy, Table, fields_at, has_tags, item_types, OnFields}
+use Rattle.core_terms.specs.Values.{AreIdeal, AreShallow, IsIdeal, IsShallow, Value, UnitV, BoolV, IntV, TextV, PairV, ConV, DigestV, ItemsV, Values, NoV, AndV}
 use Rattle.core_terms.proofs.Fields.{on_fields}
 
 -- bytes behind bytes
@@ -95,6 +95,7 @@ module _ (types : Table) (tags : has_tags types ≡ true) where
     spelled_bytes (NamedTy number) (ConV tag vs) h i =
         let shape = on_fields (fields_at types number tag) (λ ts. AreShallow types ts vs) h in
         (tag_below number tag shape.0 shape.1, fields_bytes (fields_at types number tag) vs h i)
+    spelled_bytes (VecTy n t) (ItemsV vs) h i = fields_bytes (Some (item_types n t)) vs h i
     spelled_bytes t v h i = elim h [ ]
 
     fields_bytes : (ts : Option (List Ty)) (vs : Values) → OnFields ts (λ ts. AreShallow types ts vs) → OnFields ts (λ ts. AreIdeal types ts vs) → AreBytes (spellings vs)

@@ -1,12 +1,12 @@
 -- What is told of an asking of texts is true: for `run`, clause `told_truth`.
-use Rattle.std.proofs.Common.{◌≡◌, ℕ, ◌<◌, ◌≤◌, ◌^◌, true, List, length, nat_le, sym, subst, le-leb, lit<}
+use Rattle.std.proofs.Common.{◌≡◌, ℕ, ◌<◌, ◌≤◌, ◌^◌, true, List, length, nat_le, le-leb}
 use Rattle.sha2.specs.Sha256.{sha256}
 use Rattle.sha2.proofs.Facts256.{length-sha256}
-use Rattle.core_terms.specs.Formats.{Format, IsFormat}
+use Rattle.core_terms.specs.Formats.{IsFormat}
 use Rattle.core_terms.specs.ProgramLimits.{most_constructors}
 use Rattle.core_terms.specs.Terms.{Program}
 use Rattle.core_terms.specs.Types.{Ty, has_tags}
-use Rattle.core_terms.proofs.LawProofs.{first_format_is_format, typing_test_is_exact}
+use Rattle.core_terms.proofs.LawProofs.{typing_test_is_exact}
 use Rattle.core_terms.proofs.Limited.{all_pass}
 use Rattle.auth_syntax.specs.Parsing.{Parsed, Tree, FirstFault, parsed}
 use Rattle.auth_syntax.specs.Syntax as syntax
@@ -20,7 +20,7 @@ use Rattle.session_meaning.proofs.ClientRun.{told_is_true}
 use Rattle.file_commands.specs.Answer.{Asking}
 use Rattle.auth_cli.specs.Asking.{IsOfTexts, TellsTrueOutcomes}
 use Rattle.file_commands.specs.TextPrograms.{IsProgram, of_parsed, program_of_text}
-use Rattle.file_commands.proofs.SoundTexts.{checked_is, text_is_sound}
+use Rattle.file_commands.proofs.SoundTexts.{checked_is, sound_format, text_is_sound}
 
 -- each constructor of a program that is given has a tag of one byte
 passed : (found : Checking Program) (P : Program) → as_checked found ≡ checking.IsProgram P → found ≡ Sound P
@@ -47,7 +47,7 @@ pub texts_truth : (a : Asking) → IsOfTexts a → TellsTrueOutcomes a
 texts_truth a texts = λ ms.
     let P = a.program.digested.program in
     let sound = text_is_sound texts.program.0 P texts.program.1 in
-    let format : IsFormat P.format = subst IsFormat (sym sound.format) (first_format_is_format 1024 (lit< tt)) in
+    let format : IsFormat P.format = sound_format P sound in
     let fits : P.format.limit < 2 ^ 32 = format.limit_fits in
     let tags = text_tags texts.program.0 P texts.program.1 in
     plays_tell_truth told_is_true sha256 length-sha256 P format ((typing_test_is_exact P).0 sound.typed) sound.shaped a.program.digested.digest a.state a.steps

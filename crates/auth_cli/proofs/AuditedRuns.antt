@@ -3,7 +3,6 @@ use Rattle.std.proofs.Common.{◌≡◌, ℕ, List, Option, ap, sym, ◌∙◌, 
 use Rattle.std.specs.List.{concat}
 use Rattle.std.specs.Io.KnownBytes.{append_known}
 use Rattle.sha2.specs.Sha256.{sha256}
-use Rattle.core_terms.specs.Projection.{digest_at}
 use Rattle.core_terms.specs.Roles.{argument_type}
 use Rattle.ideal_meaning.specs.Checked.{BadState, BadArgument, Rejected, Accepted}
 use Rattle.ideal_meaning.specs.Ideal.{Outcome, Done, Trapped, Out, honest_pieces}
@@ -32,7 +31,7 @@ pub audit_says : (call : IdealCall) (proof : List ℕ) (audit : Audit) (old new 
     → new ≡ append_known old (concat (audit_told call.role audit).lines) → AuditSays call proof ended old new
 audit_says call proof (Collides split) old new ended is_so told written =
     subst (λ ended. AuditSays call proof ended old new) told
-    (record { split = split; is_split = is_so; line = written ∙ ap (append_known old) (one_line (collision_line split.place split.offered split.honest)) })
+    (record { split = split; is_split = is_so; line = written ∙ ap (append_known old) (one_line (collision_line split.place split.offered split.honest split.print)) })
 audit_says call proof (Judges (Accepted o)) old new ended is_so told written =
     subst (λ ended. AuditSays call proof ended old new) told (outcome_says call proof o old new (record {
       no_split = is_so.0;
@@ -53,6 +52,6 @@ unfolding call_audit
 split_is_told call proof split is =
     let P = called_program call in
     let r = call.role in
-    let found = (split_is_found (digest_at sha256 P) (offered_in P.format proof) (honest_pieces sha256 P r.role (values_called call) r.fuel) split).1 is in
+    let found = (split_is_found sha256 P.format (offered_in P.format proof) (honest_pieces sha256 P r.role (values_called call) r.fuel) split).1 is in
     let v = verdict_on_projections sha256 P (argument_type P r.role) r.role call.state call.argument r.fuel proof in
     ap (λ found. (audit_told r (unless_split found v)).status) found

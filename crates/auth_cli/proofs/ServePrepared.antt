@@ -16,7 +16,8 @@ use Rattle.session_turns.specs.Versions.{IsVersion}
 use Rattle.session_turns.proofs.Rows.{alike_get, alike_length}
 use Rattle.value_store.specs.Nodes.{AreSound, Node}
 use Rattle.value_store.specs.Standing.{Kind, ProverNodes}
-use Rattle.value_store.specs.Stores.{nodes_in}
+use Rattle.value_store.specs.Markings.{HasLimit}
+use Rattle.value_store.specs.Stores.{nodes_in, store_lent}
 use Rattle.value_store.specs.declared.node.Ref.{Ref}
 use Rattle.value_store.proofs.DeepNodes.{standing_is_deep}
 use Rattle.value_store.proofs.StandingNodes.{within_stands}
@@ -40,7 +41,7 @@ use Rattle.auth_cli.specs.Serving.{last_image, last_version}
 use Rattle.file_commands.proofs.MarkedStates.{saved_by_types}
 
 -- the first server has a history, in which nothing was heard
-module _ {A G : Type 0} (core : ServeCore A G) (code : Code) (same : core.code ≡ code) (nodes : List Node) (sound : AreSound nodes) (root : Ref) (v : Value)
+module _ {A G : Type 0} (core : ServeCore A G) (code : Code) (same : core.code ≡ code) (nodes : List Node) (sound : AreSound (program_of code).format.limit nodes) (root : Ref) (v : Value)
     (stands : IsVersion sha256 (program_of code) nodes root v) where
   abbrev P : Program
   P = program_of code
@@ -54,7 +55,7 @@ module _ {A G : Type 0} (core : ServeCore A G) (code : Code) (same : core.code �
     before = [];
     ideal = ideal_stands kind P.types (prover_refers (digest_at sha256 P) P.types) nodes P.state v root.0 stands;
     fits = within_stands kind P.types nodes P.state v root.0 sound stands;
-    deep = standing_is_deep (digest_at sha256 P) P.types nodes root.0 P.state v sound stands;
+    deep = standing_is_deep P.format.limit (digest_at sha256 P) P.types nodes root.0 P.state v sound stands;
     messages = tt;
     is = refl;
   }
@@ -87,7 +88,7 @@ pub first_version : {A G : Type 0} (core : ServeCore A G) (v : Value) → Serves
 first_version core v serves =
     let one = alike_length (IsVersion sha256 (program_of core.code) (nodes_in core.shared.store)) core.shared.versions.items (v ∷ []) serves.shares.versions in omega (arith, one)
 
--- the node of the last version is that of a state, and its image that of the last version
+-- the node of the last version is that of a state, in a store with the limit of the program's format, and its image that of the last version
 module _ {A G : Type 0} (s : Serving) (core : ServeCore A G) (server : Server) (holds : HoldsProgram s core) (is : IsServer core server) (types : Types) (same : types ≡ (program_in core.code).types) where
   abbrev p : Held
   p = program_in core.code
@@ -104,6 +105,11 @@ module _ {A G : Type 0} (s : Serving) (core : ServeCore A G) (server : Server) (
       subst (λ root. IsStateAt (types_meaning types) store root (last_version server)) (sym found)
       (subst (λ store. IsStateAt (types_meaning types) store (node none) (last_version server)) (sym at)
       (subst (λ (types : Types). IsStateAt (types_meaning types) core.shared.store (node none) (last_version server)) (sym same) (ideal_last none)))
+
+  pub last_has_limit : (store : Store) → store ≡ core.shared.store → HasLimit (types_meaning types) (store_lent store)
+  last_has_limit store at =
+      subst (λ (types : Types). HasLimit (types_meaning types) (store_lent store)) (sym same)
+      (subst (λ (store : Store). HasLimit (types_meaning (program_in core.code).types) (store_lent store)) (sym at) (record { is = is.serves.shares.limit.is }))
 
   pub last_is_saved : (digest : Digest) (result : Result (Vec ℕ Global) SaveFault) → digest ≡ (program_in core.code).text_digest
       → IsSaved (saved_image (types_meaning types) digest.0 (last_version server)) result → IsSaved (last_image s server) result

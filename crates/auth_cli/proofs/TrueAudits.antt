@@ -2,7 +2,7 @@
 use Rattle.std.proofs.Common.{◌≡◌, ℕ, List, refl, sym, ap, ◌∙◌, subst}
 use Rattle.sha2.specs.Sha256.{sha256}
 use Rattle.sha2.proofs.Facts256.{length-sha256}
-use Rattle.core_terms.specs.Projection.{digest_at, projection}
+use Rattle.core_terms.specs.Projection.{projection}
 use Rattle.core_terms.specs.Roles.{argument_type}
 use Rattle.core_terms.specs.Spelling.{spelling}
 use Rattle.core_terms.specs.Terms.{Program, function_at}
@@ -61,7 +61,7 @@ module _ (call : IdealCall) (proof : List ℕ) (meant : IsMeant call) where
   unfolding call_audit
   splits_nowhere v e =
       let none = judges (split_of sha256 P f s x k proof) (verdict_on_projections sha256 P t f s x k proof) v e in
-      ((no_split_is_found (digest_at sha256 P) (offered_in P.format proof) (honest_pieces sha256 P f (call_of s x) k)).0 none.0, none.1)
+      ((no_split_is_found sha256 P.format (offered_in P.format proof) (honest_pieces sha256 P f (call_of s x) k)).0 none.0, none.1)
 
   on_proof : IsOnProof (verdict_on_projections sha256 P t f s x k proof)
   on_proof =
@@ -71,7 +71,7 @@ module _ (call : IdealCall) (proof : List ℕ) (meant : IsMeant call) where
   unfolding call_audit call_pieces projected_outcome outcome_called
   is_so (Collides split) e =
       let found = collides (split_of sha256 P f s x k proof) (verdict_on_projections sha256 P t f s x k proof) split e in
-      (split_is_found (digest_at sha256 P) (offered_in P.format proof) (honest_pieces sha256 P f (call_of s x) k) split).0 found
+      (split_is_found sha256 P.format (offered_in P.format proof) (honest_pieces sha256 P f (call_of s x) k) split).0 found
   is_so (Judges (Accepted o)) e =
       let nowhere = splits_nowhere (Accepted o) e in
       let reader = meant.reader in

@@ -8,7 +8,7 @@ use Rattle.core_terms.specs.TypeTables.{type_of_form, type_at}
 use Rattle.core_terms.specs.declared.program.FunctionId.{FunctionId}
 use Rattle.core_terms.specs.declared.types.NamedId.{NamedId}
 use Rattle.core_terms.specs.declared.types.TyForm.{TyForm}
-use Rattle.core_terms.specs.declared.types.TyForm.TheVariants.{UnitForm, BoolForm, IntForm, TextForm, AuthForm, PairForm, NamedForm}
+use Rattle.core_terms.specs.declared.types.TyForm.TheVariants.{UnitForm, BoolForm, IntForm, TextForm, AuthForm, PairForm, NamedForm, VecForm}
 use Rattle.core_terms.specs.ProgramTrees.{types_at}
 use Rattle.core_terms.specs.declared.types.TyId.{TyId}
 use Rattle.core_terms.specs.declared.term.Constructor.{Constructor}
@@ -79,6 +79,7 @@ module _ (scope : Scope) (at subject : Place) (t : Ty) (names : List (List ℕ))
       by e arms BoolForm other = refl
       by e arms IntForm other = refl
       by e arms TextForm other = refl
+      by e arms (VecForm len part) other = refl
 
   module _ (named : NamedId) (is : t ≡ NamedTy named.0) where
     abbrev match_of : Expression → (List (List Ty) → Checking TypedArms) → Bool → Checking Typed

@@ -4,7 +4,7 @@ use Rattle.std.specs.Bool.{Decides}
 use Rattle.std.proofs.lemmas.Slice.Eq.{bytes_eq-Decides}
 use Rattle.core_terms.specs.declared.term.BinaryOperator.TheVariants.{Arith, Compare, TextCompare, Cat}
 use Rattle.core_terms.specs.declared.term.BinaryOperator.{BinaryOperator}
-use Rattle.core_terms.specs.Types.{Ty, UnitTy, BoolTy, IntTy, TextTy, PairTy, NamedTy, AuthTy}
+use Rattle.core_terms.specs.Types.{Ty, UnitTy, BoolTy, IntTy, TextTy, PairTy, NamedTy, AuthTy, VecTy}
 use Rattle.core_terms.specs.Terms.{Expression, Expressions, AndArm, AuthE, CallE, ConE, LenE, NotE, MatchE, LocalE}
 use Rattle.core_terms.specs.Typing.{same_type}
 use Rattle.lexemes.specs.declared.place.Place.{Place}
@@ -94,6 +94,7 @@ module _ (scope : Scope) where
   first_judged locals at tree e BoolTy h = BrokenRules.FirstOfNoPair h (λ a b same. absurd (cc))
   first_judged locals at tree e IntTy h = BrokenRules.FirstOfNoPair h (λ a b same. absurd (cc))
   first_judged locals at tree e TextTy h = BrokenRules.FirstOfNoPair h (λ a b same. absurd (cc))
+  first_judged locals at tree e (VecTy n t) h = BrokenRules.FirstOfNoPair h (λ a b same. absurd (cc))
   first_judged locals at tree e (NamedTy n) h = BrokenRules.FirstOfNoPair h (λ a b same. absurd (cc))
   first_judged locals at tree e (AuthTy t) h = BrokenRules.FirstOfNoPair h (λ a b same. absurd (cc))
 
@@ -104,6 +105,7 @@ module _ (scope : Scope) where
   second_judged locals at tree e BoolTy h = BrokenRules.SecondOfNoPair h (λ a b same. absurd (cc))
   second_judged locals at tree e IntTy h = BrokenRules.SecondOfNoPair h (λ a b same. absurd (cc))
   second_judged locals at tree e TextTy h = BrokenRules.SecondOfNoPair h (λ a b same. absurd (cc))
+  second_judged locals at tree e (VecTy n t) h = BrokenRules.SecondOfNoPair h (λ a b same. absurd (cc))
   second_judged locals at tree e (NamedTy n) h = BrokenRules.SecondOfNoPair h (λ a b same. absurd (cc))
   second_judged locals at tree e (AuthTy t) h = BrokenRules.SecondOfNoPair h (λ a b same. absurd (cc))
 
@@ -114,6 +116,7 @@ module _ (scope : Scope) where
   opened_judged locals at tree e BoolTy h = BrokenRules.OpensNoAuth h (λ a same. absurd (cc))
   opened_judged locals at tree e IntTy h = BrokenRules.OpensNoAuth h (λ a same. absurd (cc))
   opened_judged locals at tree e TextTy h = BrokenRules.OpensNoAuth h (λ a same. absurd (cc))
+  opened_judged locals at tree e (VecTy n t) h = BrokenRules.OpensNoAuth h (λ a same. absurd (cc))
   opened_judged locals at tree e (NamedTy n) h = BrokenRules.OpensNoAuth h (λ a same. absurd (cc))
   opened_judged locals at tree e (PairTy a b) h = BrokenRules.OpensNoAuth h (λ a same. absurd (cc))
 
@@ -235,6 +238,7 @@ module _ (scope : Scope) where
   match_judged locals at subject arms e IntTy h each whole = BrokenRules.MatchesNoSum h (λ n same. absurd (cc))
   match_judged locals at subject arms e TextTy h each whole = BrokenRules.MatchesNoSum h (λ n same. absurd (cc))
   match_judged locals at subject arms e (PairTy a b) h each whole = BrokenRules.MatchesNoSum h (λ n same. absurd (cc))
+  match_judged locals at subject arms e (VecTy n a) h each whole = BrokenRules.MatchesNoSum h (λ n same. absurd (cc))
   match_judged locals at subject arms e (AuthTy a) h each whole = BrokenRules.MatchesNoSum h (λ n same. absurd (cc))
   match_judged locals at subject arms e (NamedTy number) h each whole =
       let tree = MatchSyntax at subject arms in

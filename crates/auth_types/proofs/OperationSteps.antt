@@ -5,14 +5,17 @@ use Rattle.std.specs.declared.alloc.Global.{Global}
 use Rattle.std.specs.declared.boxed.Box.{Box}
 use Rattle.std.proofs.lemmas.Option.{get_or_from_slice_get}
 use Rattle.core_terms.specs.declared.term.BinaryOperator.{BinaryOperator}
-use Rattle.core_terms.specs.Types.{Ty, UnitTy, BoolTy, IntTy, TextTy, PairTy, AuthTy}
+use Rattle.core_terms.specs.Types.{Ty, is_length, UnitTy, BoolTy, IntTy, TextTy, PairTy, AuthTy}
 use Rattle.core_terms.specs.Terms.{Expression, LenE, NotE}
 use Rattle.core_terms.specs.Typing.{same_type}
-use Rattle.core_terms.specs.TypeTables.{type_at, stands_behind, type_of_form}
+use Rattle.core_terms.specs.ProgramFormats.{arrays_of}
+use Rattle.core_terms.specs.TypeTables.{is_form_in, type_at, stands_behind, type_of_form}
+use Rattle.core_terms.specs.declared.format.Format.{Format}
+use Rattle.core_terms.specs.declared.format.Format.TheVariants.{First, Second}
 use Rattle.core_terms.specs.ProgramTrees.{expression_of}
 use Rattle.core_terms.specs.declared.types.TyId.{TyId}
 use Rattle.core_terms.specs.declared.types.TyForm.{TyForm}
-use Rattle.core_terms.specs.declared.types.TyForm.TheVariants.{UnitForm, BoolForm, IntForm, TextForm, AuthForm, PairForm, NamedForm}
+use Rattle.core_terms.specs.declared.types.TyForm.TheVariants.{UnitForm, BoolForm, IntForm, TextForm, AuthForm, PairForm, NamedForm, VecForm}
 use Rattle.core_terms.specs.declared.term.Term.{Term}
 use Rattle.core_terms.specs.declared.term.Term as term
 use Rattle.core_terms.proofs.TypingSound.{same_sound}
@@ -107,6 +110,7 @@ module _ (types : List Ty) (operand : TypedTerm) (inside : operand.ty.0 < length
           by IntForm other = refl
           by TextForm other = refl
           by (NamedForm named) other = refl
+          by (VecForm len part) other = refl
 
       pub second_refused : unary SndOperation at found ≡ FaultAt NotPair at
       second_refused = ap (unary SndOperation at) (shows_now types typed_of found operand shown)
@@ -121,6 +125,7 @@ module _ (types : List Ty) (operand : TypedTerm) (inside : operand.ty.0 < length
           by IntForm other = refl
           by TextForm other = refl
           by (NamedForm named) other = refl
+          by (VecForm len part) other = refl
 
     -- an operand that is no authenticated value
     pub opened_refused : ((a : TyId) → form ≡ AuthForm a → ⊥) → unary UnauthOperation at found ≡ FaultAt NotAuth at
@@ -136,6 +141,7 @@ module _ (types : List Ty) (operand : TypedTerm) (inside : operand.ty.0 < length
         by IntForm other = refl
         by TextForm other = refl
         by (NamedForm named) other = refl
+        by (VecForm len part) other = refl
 
   -- the type that is wanted, and another one
   module _ (ty : TyId) where
@@ -205,8 +211,19 @@ plain_form types BoolForm plain = refl
 plain_form types IntForm plain = refl
 plain_form types TextForm plain = refl
 plain_form types (NamedForm named) plain = refl
+plain_form types (VecForm len a) plain = absurd (omega (arith, ltb-true a.0 0 (first_true (nat_lt a.0 0) (is_length len) plain)))
 plain_form types (AuthForm a) plain = absurd (omega (arith, ltb-true a.0 0 plain))
 plain_form types (PairForm a b) plain = absurd (omega (arith, ltb-true a.0 0 (first_true (nat_lt a.0 0) (nat_lt b.0 0) plain)))
+
+-- a form without parts is one of each format
+pub leaf_in : (format : Format) (form : TyForm) → stands_behind 0 form ≡ true → is_form_in format form ≡ true
+leaf_in format (VecForm len part) h = absurd (omega (arith, ltb-true part.0 0 (first_true (nat_lt part.0 0) (is_length len) h)))
+leaf_in format form h = refl
+
+-- a format without arrays is the first
+pub plain_is_first : (format : Format) → arrays_of format ≡ false → format ≡ First
+plain_is_first First h = refl
+plain_is_first Second h = absurd (cc)
 
 -- the parts of a form that stand behind it are in the table
 pub pair_inside : (n m : ℕ) (a b : TyId) → stands_behind n (PairForm a b) ≡ true → n < m → (a.0 < m) × (b.0 < m)

@@ -2,7 +2,6 @@
 use Rattle.std.proofs.Common.{◌≡◌, ℕ, List, Result, Ok, Err, refl, sym, ap, ◌∙◌, subst}
 use Rattle.core_terms.specs.Types.{Ty}
 use Rattle.core_terms.specs.Terms as tree
-use Rattle.core_terms.specs.ProgramTrees.{program_format}
 use Rattle.core_terms.specs.declared.program.Program.{Program as CodeProgram}
 use Rattle.core_terms.specs.Programs.{meaning, types_in}
 use Rattle.core_terms.specs.declared.types.TyTable.{TyTable}
@@ -11,7 +10,7 @@ use Rattle.auth_syntax.specs.Syntax.{Program}
 use Rattle.auth_types.specs.Bodies.{checked_functions}
 use Rattle.declared_types.specs.Signatures.{Scope}
 use Rattle.declared_types.specs.Checking.{Checking, Sound, FaultAt, then_checked}
-use Rattle.auth_types.specs.CheckedPrograms.{all_passes, as_checked, fourth_pass}
+use Rattle.auth_types.specs.CheckedPrograms.{all_passes, as_checked, fourth_pass, program_format}
 use Rattle.declared_types.specs.DeclaredPrograms.{names_of, scope_of, state_of, table_of_program, third_pass}
 use Rattle.declared_types.specs.Declarations.{first_pass}
 use Rattle.auth_types.specs.Outcomes.{Checks}

@@ -1,5 +1,5 @@
 -- The program that the passes give, of the parts that the code holds.
-use Rattle.std.proofs.Common.{◌≡◌, ℕ, ◌<◌, true, List, [], ◌∷◌, length, map, nat_lt, refl, sym, ap, ◌∙◌, subst, arith, lt-ltb}
+use Rattle.std.proofs.Common.{◌≡◌, ℕ, ◌<◌, true, List, [], ◌∷◌, length, map, nat_lt, refl, sym, ap, ap₂, ◌∙◌, subst, arith, lt-ltb}
 use Rattle.std.specs.Prelude.{All}
 use Rattle.std.specs.List.{list_all}
 use Rattle.std.proofs.lemmas.List.{length-map}
@@ -11,6 +11,7 @@ use Rattle.core_terms.specs.TypeTables.{type_at, types_of_forms}
 use Rattle.core_terms.specs.Typing.{is_shaped, is_typed}
 use Rattle.core_terms.specs.ProgramTrees.{are_below, function_of, has_fields_below, has_types_below, is_within, program_of, table_of}
 use Rattle.core_terms.specs.Programs.{types_in}
+use Rattle.core_terms.specs.declared.format.Format.TheVariants.{First}
 use Rattle.core_terms.specs.declared.types.TyTable.{TyTable}
 use Rattle.core_terms.specs.declared.types.TyId.{TyId}
 use Rattle.core_terms.specs.declared.types.TyForm.{TyForm}
@@ -25,7 +26,7 @@ use Rattle.auth_types.specs.Bodies.{checked_functions}
 use Rattle.declared_types.specs.Signatures.{Scope as DefinedScope, Signature}
 use Rattle.declared_types.specs.Checking.{Sound}
 use Rattle.auth_types.specs.CheckedLaws.{HasGoodLiterals}
-use Rattle.auth_types.specs.CheckedPrograms.{all_passes, fourth_pass}
+use Rattle.auth_types.specs.CheckedPrograms.{all_passes, fourth_pass, program_format}
 use Rattle.declared_types.specs.DeclaredPrograms.{signature_of, state_of, table_of_program, third_pass}
 use Rattle.declared_types.specs.OverTypes.{Grows}
 use Rattle.declared_types.specs.Passes.{TableStandsFor, names_known}
@@ -41,12 +42,12 @@ use Rattle.auth_types.proofs.SoundPrograms.{checked_is_typed, checked_is_within_
 
 -- the program of these parts is the one that the passes give, and it is what a program has to be
 pub record Passed (program : Program) (forms : List TyForm) (named : List NamedType) (state : TyId) (functions : List Function) : Type 0 where
-  pub gives : all_passes program ≡ Sound (program_of forms named state functions)
-  pub typed : is_typed (program_of forms named state functions) ≡ true
-  pub shaped : is_shaped (program_of forms named state functions) ≡ true
+  pub gives : all_passes program ≡ Sound (program_of First forms named state functions)
+  pub typed : is_typed (program_of First forms named state functions) ≡ true
+  pub shaped : is_shaped (program_of First forms named state functions) ≡ true
   pub within : is_within forms named state functions ≡ true
   pub names : AreNamed named
-  pub limits : programs.IsWithinLimits (program_of forms named state functions)
+  pub limits : programs.IsWithinLimits (program_of First forms named state functions)
 
 -- a head that stands for its function has as many numbers as the function has parameters
 counted_each : (names : List (List ℕ)) (types : List Ty) (heads : List Head)
@@ -108,12 +109,12 @@ module _ (program : Program) (before : List Ty) (forms : List TyForm) (scope : S
   state_made : type_at (types_of_forms forms) state ≡ state_of program
   state_made = type_stays_at before (types_of_forms forms) grows state stands.inside ∙ stands.state
 
-  module _ (gives : all_passes program ≡ Sound (program_of forms scope.named.items state functions)) where
+  module _ (gives : all_passes program ≡ Sound (program_of First forms scope.named.items state functions)) where
     typed_and_shaped : All (λ (f : FunctionSyntax). HasGoodLiterals f.body) (functions_meant scope)
-        → (is_typed (program_of forms scope.named.items state functions) ≡ true)
-        × (is_shaped (program_of forms scope.named.items state functions) ≡ true)
+        → (is_typed (program_of First forms scope.named.items state functions) ≡ true)
+        × (is_shaped (program_of First forms scope.named.items state functions) ≡ true)
     typed_and_shaped good =
-        checked_is_typed program (program_of forms scope.named.items state functions)
+        checked_is_typed program (program_of First forms scope.named.items state functions)
         (subst (All (λ (f : FunctionSyntax). HasGoodLiterals f.body)) stands.functions good) gives
 
   -- what the passes leave of a tree in which they find nothing
@@ -125,8 +126,9 @@ module _ (program : Program) (before : List Ty) (forms : List TyForm) (scope : S
   passed limits known third fourth parameters results good =
       let table = table_made in
       let of_state = state_made in
-      let gives : all_passes program ≡ Sound (program_of forms scope.named.items state functions) =
-      passes_end program known third (map (function_of (types_of_forms forms)) functions) fourth ∙ cc in
+      let gives : all_passes program ≡ Sound (program_of First forms scope.named.items state functions) =
+      passes_end program known third (map (function_of (types_of_forms forms)) functions) fourth
+      ∙ ap₂ (λ types state. Sound (record { format = program_format; types = types; state = state; functions = map (function_of (types_of_forms forms)) functions })) (sym table) (sym of_state) in
       let sound = typed_and_shaped gives good in
       record {
         gives = gives;
@@ -135,7 +137,7 @@ module _ (program : Program) (before : List Ty) (forms : List TyForm) (scope : S
         within = program_within parameters results;
         names = are_named program.declarations scope.named.items limits stands.names
             (ap (λ (s : DefinedScope). s.constructors) stands.scope);
-        limits = checked_is_within_all_limits program (program_of forms scope.named.items state functions) limits gives;
+        limits = checked_is_within_all_limits program (program_of First forms scope.named.items state functions) limits gives;
       }
 
 -- the same as the code tells it, over a table and a scope that are lent and given on

@@ -5,7 +5,6 @@ use Rattle.std.proofs.lemmas.List.{length-map}
 use Rattle.core_terms.specs.Types.{Ty}
 use Rattle.core_terms.specs.Terms.{Expression, Function}
 use Rattle.core_terms.specs.Terms as tree
-use Rattle.core_terms.specs.ProgramTrees.{program_format}
 use Rattle.lexemes.specs.declared.place.Place.{Place}
 use Rattle.auth_syntax.specs.Syntax.{ExpSyntax, ConstructorDeclaration, DeclarationSyntax, TypeDeclaration, StateDeclaration, FunctionDeclaration, FunctionSyntax, ParameterSyntax, Program, place_of}
 use Rattle.declared_types.specs.Checking.{Checking, Sound, FaultAt, then_checked}
@@ -14,7 +13,7 @@ use Rattle.declared_types.specs.WrittenTypes.{functions_in, second_pass, table_o
 use Rattle.declared_types.specs.RoleRules.{kind_meant}
 use Rattle.auth_types.specs.Bodies.{Local, checked_function, checked_functions, elaborated, parameter_locals, wanted}
 use Rattle.declared_types.specs.Signatures.{Scope}
-use Rattle.auth_types.specs.CheckedPrograms.{FirstFault, IsProgram, all_passes, as_checked, checked, fourth_pass}
+use Rattle.auth_types.specs.CheckedPrograms.{FirstFault, IsProgram, all_passes, as_checked, checked, fourth_pass, program_format}
 use Rattle.declared_types.specs.DeclaredPrograms.{constructors_in, names_of, scope_of, state_of, table_of_program, third_pass}
 use Rattle.auth_types.specs.InOrder.{OneBreaks, ThisBreaks, LaterBreaks}
 use Rattle.auth_types.specs.TypingRules.{Elaborates}

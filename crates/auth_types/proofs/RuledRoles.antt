@@ -3,7 +3,7 @@ use Rattle.std.proofs.Common.{◌≡◌, ℕ, zero, suc, Bool, true, false, not,
 use Rattle.std.specs.Bool.{Decides}
 use Rattle.std.specs.List.{Contains}
 use Rattle.std.proofs.lemmas.Bool.Decides.{Decides-and, Decides-not}
-use Rattle.core_terms.specs.Types.{Ty, UnitTy, BoolTy, IntTy, TextTy, PairTy, NamedTy, AuthTy, Table}
+use Rattle.core_terms.specs.Types.{Ty, UnitTy, BoolTy, IntTy, TextTy, PairTy, NamedTy, AuthTy, VecTy, Table}
 use Rattle.core_terms.specs.Typing.{same_type}
 use Rattle.core_terms.specs.Roles.{some_passes, has_auth, has_auth_within}
 use Rattle.core_terms.proofs.Reach.{plain_by_test}
@@ -15,7 +15,7 @@ use Rattle.declared_types.specs.Checking.{Checking, FaultAt, then_checked, unles
 use Rattle.declared_types.specs.RoleRules.{checked_role, checked_roles, is_new_state, plain_argument}
 use Rattle.declared_types.specs.WrittenTypes.{type_meant}
 use Rattle.auth_types.specs.InOrder.{EachMeets, OneBreaks}
-use Rattle.auth_types.specs.RoleShapes.{AuthStandsIn, StandsHere, StandsInFirst, StandsInSecond, StandsInField, HasShape, InitShape, QueryShape, UpdateShape, MeetsRole, IsInner, IsShaped, BreaksRole, IsMisshapen, PassesAuth}
+use Rattle.auth_types.specs.RoleShapes.{AuthStandsIn, StandsHere, StandsInFirst, StandsInSecond, StandsInItem, StandsInField, HasShape, InitShape, QueryShape, UpdateShape, MeetsRole, IsInner, IsShaped, BreaksRole, IsMisshapen, PassesAuth}
 use Rattle.declared_types.specs.declared.fault.TypeKind.{TypeKind}
 use Rattle.declared_types.specs.declared.fault.TypeKind.TheVariants.{RoleShape, AuthInArgument}
 use Rattle.auth_types.proofs.Judging.{type_decides}
@@ -58,6 +58,7 @@ module _ (table : Table) where
   stands_within StandsHere = (zero, refl)
   stands_within (StandsInFirst {a = a} {b = b} h) = let (n, e) = stands_within h in (n, or_first (has_auth_within table n a) (has_auth_within table n b) e)
   stands_within (StandsInSecond {a = a} {b = b} h) = let (n, e) = stands_within h in (n, or_second (has_auth_within table n a) (has_auth_within table n b) e)
+  stands_within (StandsInItem h) = stands_within h
   stands_within (StandsInField {number = number} {constructors = constructors} {fields = fields} {t = t} there in_type in_fields h) =
       let (n, e) = stands_within h in
       let here : some_passes (has_auth_within table n) fields ≡ true = passes_where (has_auth_within table n) fields t in_fields e in
@@ -82,6 +83,7 @@ module _ (table : Table) where
           let (t, in_fields, here) = where_passes (has_auth_within table n) fields some in
           StandsInField there in_type in_fields (find t here)
   within_stands zero (NamedTy number) e = absurd (cc)
+  within_stands n (VecTy len t) e = StandsInItem (within_stands n t e)
   within_stands n UnitTy e = absurd (cc)
   within_stands n BoolTy e = absurd (cc)
   within_stands n IntTy e = absurd (cc)
@@ -107,6 +109,7 @@ new_decides names table state BoolTy = (λ e. absurd (cc), λ (a, is). absurd (c
 new_decides names table state IntTy = (λ e. absurd (cc), λ (a, is). absurd (cc))
 new_decides names table state TextTy = (λ e. absurd (cc), λ (a, is). absurd (cc))
 new_decides names table state (NamedTy number) = (λ e. absurd (cc), λ (a, is). absurd (cc))
+new_decides names table state (VecTy n t) = (λ e. absurd (cc), λ (a, is). absurd (cc))
 new_decides names table state (AuthTy t) = (λ e. absurd (cc), λ (a, is). absurd (cc))
 
 module _ (names : List (List ℕ)) (table : Table) (state : Ty) where

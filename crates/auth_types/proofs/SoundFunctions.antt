@@ -2,7 +2,7 @@
 use Rattle.std.proofs.Common.{◌≡◌, ℕ, Bool, true, false, not, ◌&&◌, List, [], ◌∷◌, map, refl, ap, ap₂, subst}
 use Rattle.std.specs.Prelude.{All}
 use Rattle.std.proofs.lemmas.List.Elements.{All-cons, All-head, All-nil, All-tail}
-use Rattle.core_terms.specs.Types.{Ty, UnitTy, BoolTy, IntTy, TextTy, PairTy, NamedTy, AuthTy}
+use Rattle.core_terms.specs.Types.{Ty, UnitTy, BoolTy, IntTy, TextTy, PairTy, NamedTy, AuthTy, VecTy}
 use Rattle.core_terms.specs.Terms.{Expression, Function, HasType}
 use Rattle.core_terms.specs.Terms as tree
 use Rattle.core_terms.specs.Roles.{has_auth}
@@ -102,6 +102,7 @@ module _ (names : List (List ℕ)) where
     update_sound state argument IntTy h j = absurd (let no = test.second_of (same_type P.state state) false h in cc)
     update_sound state argument TextTy h j = absurd (let no = test.second_of (same_type P.state state) false h in cc)
     update_sound state argument (NamedTy number) h j = absurd (let no = test.second_of (same_type P.state state) false h in cc)
+    update_sound state argument (VecTy n t) h j = absurd (let no = test.second_of (same_type P.state state) false h in cc)
     update_sound state argument (AuthTy t) h j = absurd (let no = test.second_of (same_type P.state state) false h in cc)
 
     role_shaped : (f : FunctionSyntax) (kind : KindSyntax) (parameters : List ParameterSyntax)

@@ -10,13 +10,12 @@ use Rattle.core_terms.specs.Terms.{Function}
 use Rattle.core_terms.specs.Terms as tree
 use Rattle.core_terms.specs.ProgramLimits.{IsFlatType, IsFunctionWithin, expressions_in_all}
 use Rattle.core_terms.specs.Typing.{all_shaped, all_typed}
-use Rattle.core_terms.specs.ProgramTrees.{program_format}
 use Rattle.auth_syntax.specs.Syntax.{ConstructorDeclaration, DeclarationSyntax, FunctionDeclaration, FunctionSyntax, ParameterSyntax, Program, StateDeclaration, TypeDeclaration}
 use Rattle.declared_types.specs.Checking.{Checking, FaultAt, Sound, is_among, then_checked}
 use Rattle.declared_types.specs.Signatures.{Signature}
 use Rattle.declared_types.specs.Declarations.{checked_declarations, first_pass, most_constructors, most_fields, most_parameters, nothing_declared}
 use Rattle.declared_types.specs.WrittenTypes.{functions_in, second_pass, states_in, table_of, type_meant}
-use Rattle.auth_types.specs.CheckedPrograms.{IsProgram, all_passes, as_checked, checked, fourth_pass}
+use Rattle.auth_types.specs.CheckedPrograms.{IsProgram, all_passes, as_checked, checked, fourth_pass, program_format}
 use Rattle.declared_types.specs.DeclaredPrograms.{constructors_in, names_of, scope_of, signature_of, state_of, table_of_program, third_pass}
 use Rattle.auth_types.specs.CheckedLaws.{CheckedIsTyped, CheckedIsWithinAllLimits, CheckedIsWithinLimits, CheckedNamesDiffer, CheckedNamesItsTypes, FunctionNamesTypesBelow, IsScopeOf, ParsedIsTyped, ProgramNamesTypesBelow, ScopeIsOfProgram, signature}
 use Rattle.declared_types.specs.declared.fault.TypeKind.TheVariants.{NoState}

@@ -3,9 +3,9 @@ use Rattle.std.specs.Prelude.{◌≡◌, ℕ, List, [], map}
 use Rattle.std.specs.List.{AllZip}
 use Rattle.core_terms.specs.Terms.{Function}
 use Rattle.core_terms.specs.Terms as tree
-use Rattle.core_terms.specs.ProgramTrees.{program_format}
 use Rattle.lexemes.specs.declared.place.Place.{Place}
 use Rattle.auth_syntax.specs.Syntax.{ParameterSyntax, FunctionSyntax, Program}
+use Rattle.auth_types.specs.CheckedPrograms.{program_format}
 use Rattle.auth_types.specs.Bodies.{parameter_locals}
 use Rattle.declared_types.specs.Signatures.{Scope}
 use Rattle.declared_types.specs.DeclaredPrograms.{names_of, scope_of, state_of, table_of_program}

@@ -1,18 +1,19 @@
 -- The rules of roles: each has the shape of its kind, and no `auth` stands in what its caller passes. What breaks them.
 use Rattle.std.specs.Prelude.{◌≡◌, ℕ, List, [], ◌∷◌, slice_get, Some}
 use Rattle.std.specs.List.{Contains}
-use Rattle.core_terms.specs.Types.{Ty, PairTy, NamedTy, AuthTy, Table}
+use Rattle.core_terms.specs.Types.{Ty, PairTy, NamedTy, AuthTy, Table, VecTy}
 use Rattle.lexemes.specs.declared.place.Place.{Place}
 use Rattle.auth_syntax.specs.Syntax.{TypeSyntax, place_of_type, ParameterSyntax, KindSyntax, InnerSyntax, InitSyntax, QuerySyntax, UpdateSyntax, FunctionSyntax}
 use Rattle.declared_types.specs.WrittenTypes.{type_meant}
 use Rattle.declared_types.specs.declared.fault.TypeKind.{TypeKind}
 use Rattle.declared_types.specs.declared.fault.TypeKind.TheVariants.{RoleShape, AuthInArgument}
 
--- An `auth` stands in a type: it is one, or one stands in a part of a pair, or in a field of a constructor of a named type.
+-- An `auth` stands in a type: it is one, or one stands in a part of a pair, in the elements of an array, or in a field of a constructor of a named type.
 pub data AuthStandsIn (table : Table) : Ty → Type 0 where
   StandsHere : {t : Ty} → AuthStandsIn table (AuthTy t)
   StandsInFirst : {a b : Ty} → AuthStandsIn table a → AuthStandsIn table (PairTy a b)
   StandsInSecond : {a b : Ty} → AuthStandsIn table b → AuthStandsIn table (PairTy a b)
+  StandsInItem : {n : ℕ} {t : Ty} → AuthStandsIn table t → AuthStandsIn table (VecTy n t)
   StandsInField : {number : ℕ} {constructors : List (List Ty)} {fields : List Ty} {t : Ty}
       → slice_get table number ≡ Some constructors → Contains constructors fields → Contains fields t → AuthStandsIn table t
       → AuthStandsIn table (NamedTy number)

@@ -1,10 +1,10 @@
 -- Code has at most four instructions an expression. Two fewer in fact: those are for the end of an arm's fields, and for the jump behind it.
 use Rattle.std.proofs.Common.{ℕ, zero, suc, ◌+◌, ◌*◌, ◌≤◌, List, [], ◌∷◌, ◌++◌, length, map, slice_get, unwrap_or, arith, length-append}
 use Rattle.core_terms.specs.Types.{Ty, Table}
-use Rattle.core_terms.specs.Terms.{Expression, UnitE, BoolE, IntE, TextE, LocalE, PairE, FstE, SndE, NotE, LenE, AuthE, UnauthE, ConE, ArithE, CompareE, TextCompareE, CatE, LetE, IfE, MatchE, CallE, Expressions, NoE, AndE, Arms, NoArm, AndArm, Function}
+use Rattle.core_terms.specs.Terms.{Expression, UnitE, BoolE, IntE, TextE, LocalE, PairE, FstE, SndE, NotE, LenE, AuthE, UnauthE, ConE, ArithE, CompareE, TextCompareE, CatE, LetE, IfE, MatchE, CallE, OperateE, Expressions, NoE, AndE, Arms, NoArm, AndArm, Function}
 use Rattle.core_terms.specs.Programs.{meaning}
 use Rattle.code_gen.specs.Instructions.{Instruction, Fst, Snd, Not, Len, Auth, Unauth, Make, Call, Pair, ArithOp, CompareOp, TextCompareOp, Cat, Bind, Unbind, Branch, Jump, Switch, Return}
-use Rattle.code_gen.specs.Code.{behind, laid, places, match_code, if_code, unbind_code, code_of, code_all, arm_codes, function_code}
+use Rattle.code_gen.specs.Code.{behind, laid, places, match_code, if_code, unbind_code, operation_code, code_of, code_all, arm_codes, function_code}
 use Rattle.core_terms.specs.ProgramLimits.{expressions_in, expressions_in_row, expressions_in_arms, expressions_in_all}
 use Rattle.code_gen.specs.CodeSizes.{code_size, CodeIsShort, CodeHasALimit}
 
@@ -79,6 +79,7 @@ module _ (types : Table) where
         let cs = unwrap_or (slice_get types number) [] in
         match_short (code_of types x) number (arm_codes types arms cs) (expressions_in x) (expressions_in_arms arms) (short x) (short_arms arms cs)
     short (CallE f args) = row (code_all types args) (Call f) (expressions_in_row args) (short_all args)
+    short (OperateE op xs) = row (code_all types xs) (operation_code op) (expressions_in_row xs) (short_all xs)
 
     short_all : (xs : Expressions) → length (code_all types xs) ≤ 4 * expressions_in_row xs
     short_all NoE = omega arith

@@ -1,9 +1,10 @@
 -- The code of expressions, and of programs.
 use Rattle.std.specs.Prelude.{ℕ, zero, suc, ◌+◌, List, [], ◌∷◌, ◌++◌, length, map, unwrap_or, slice_get}
 use Rattle.core_terms.specs.Types.{Ty, UnitTy, Table, fields_at}
-use Rattle.core_terms.specs.Terms.{Expression, UnitE, BoolE, IntE, TextE, LocalE, PairE, FstE, SndE, NotE, LenE, AuthE, UnauthE, ConE, ArithE, CompareE, TextCompareE, CatE, LetE, IfE, MatchE, CallE, Expressions, NoE, AndE, Arms, NoArm, AndArm, Function, Program}
+use Rattle.core_terms.specs.Terms.{Expression, UnitE, BoolE, IntE, TextE, LocalE, PairE, FstE, SndE, NotE, LenE, AuthE, UnauthE, ConE, ArithE, CompareE, TextCompareE, CatE, LetE, IfE, MatchE, CallE, OperateE, Operation, Expressions, NoE, AndE, Arms, NoArm, AndArm, Function, Program}
 use Rattle.code_gen.specs.Instructions.{Instruction, PushUnit, PushBool, PushInt, PushText, Load, Bind, Unbind, Pair, Fst, Snd, Make, Switch, Branch, Jump, Call, Return, Auth, Unauth}
-use Rattle.code_gen.specs.Instructions.{ArithOp, CompareOp, TextCompareOp, Cat, Len, Not}
+use Rattle.code_gen.specs.Instructions.{ArithOp, CompareOp, TextCompareOp, Cat, Len, Not, VecFill, VecGet, VecPut}
+use Rattle.core_terms.specs.Terms as tree
 
 -- A choice between two sides: where the test is false, the first side and the jump behind it are passed over; that jump passes
 -- over the other side.
@@ -43,6 +44,12 @@ match_code number arms = Switch number (places 0 arms) ∷ laid arms
 abbrev pub field_count : Table → ℕ → ℕ → ℕ
 field_count types number tag = length (unwrap_or (fields_at types number tag) [])
 
+-- the instruction of an operation
+abbrev pub operation_code : Operation → Instruction
+operation_code (tree.VecFill n t) = VecFill n
+operation_code (tree.VecGet n t) = VecGet
+operation_code (tree.VecPut n t) = VecPut
+
 module _ (types : Table) where
   abbrev mutual
     -- the operands from left to right, then the instruction
@@ -68,6 +75,7 @@ module _ (types : Table) where
     code_of (IfE test first other) = if_code (code_of test) (code_of first) (code_of other)
     code_of (MatchE number x arms) = code_of x ++ match_code number (arm_codes arms (unwrap_or (slice_get types number) []))
     code_of (CallE f args) = code_all args ++ Call f ∷ []
+    code_of (OperateE op xs) = code_all xs ++ operation_code op ∷ []
 
     pub code_all : Expressions → List Instruction
     code_all NoE = []

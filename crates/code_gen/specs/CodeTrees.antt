@@ -39,6 +39,9 @@ instruction_of types (code.TextCompare op) = meant.TextCompareOp op
 instruction_of types code.Cat = meant.Cat
 instruction_of types code.Len = meant.Len
 instruction_of types code.Not = meant.Not
+instruction_of types (code.VecFill n) = meant.VecFill n
+instruction_of types code.VecGet = meant.VecGet
+instruction_of types code.VecPut = meant.VecPut
 
 abbrev pub instructions_of : List Ty → List Instruction → List meant.Instruction
 instructions_of types = map (instruction_of types)

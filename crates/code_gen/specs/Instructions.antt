@@ -34,4 +34,7 @@ pub data Instruction : Type 0 where
   TextCompareOp : (op : TextCompare) → Instruction
   -- joins two texts; counts the bytes of a text; negates a bool
   Cat Len Not : Instruction
+  -- an array of n times a value; the element of an array at an int; the array with its element at an int replaced
+  VecFill : (n : ℕ) → Instruction
+  VecGet VecPut : Instruction
   deriving IsSet as instructions_set

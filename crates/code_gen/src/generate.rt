@@ -1,15 +1,17 @@
 // The generator: from terms to instructions.
-ghost use Rattle.std.specs.Prelude.{◌≡◌, ◌++◌, ◌∷◌, [], map, IfOk, OnOk};
+ghost use Rattle.std.specs.Prelude.{◌≡◌, ◌++◌, ◌∷◌, [], List, map, IfOk, OnOk};
 ghost use Rattle.core_terms.specs.Programs.{meaning, types_of};
-ghost use Rattle.core_terms.specs.ProgramTrees.{function_of};
-ghost use Rattle.code_gen.specs.CodeTrees.{Adds, arms_code, codes_of, listed, single, term_code, terms_code};
+ghost use Rattle.core_terms.specs.ProgramTrees.{function_of, operation_of};
+ghost use Rattle.core_terms.specs.Types.{Ty};
+ghost use Rattle.code_gen.specs.Code.{operation_code};
+ghost use Rattle.code_gen.specs.CodeTrees.{Adds, arms_code, codes_of, instruction_of, listed, single, term_code, terms_code};
 ghost use Rattle.code_gen.specs.Code as meant;
 ghost use Rattle.code_gen.specs.Instructions as instruction;
 
 use crate::arms::select;
 use crate::instruction::Instruction;
 use crate::pieces::{choose, put, put_text, put_unbind};
-use core_terms::{Function, NamedId, Program, Term};
+use core_terms::{Function, NamedId, Operation, Program, Term};
 use std::alloc::{AllocError, Global};
 
 /// The instructions of each function of a program.
@@ -99,6 +101,20 @@ fn emit(
                 alloc,
             )
         }
+        Term::Operate(operation, operands) => {
+            emit_all(code, program, operands, instruction_for(*operation), alloc)
+        }
+    }
+}
+
+/// The instruction of an operation.
+fn instruction_for(operation: Operation) -> Instruction
+    ensures { (types : List Ty) → instruction_of types result ≡ operation_code (operation_of types operation) }
+{
+    match operation {
+        Operation::VecFill(len, _) => Instruction::VecFill(len),
+        Operation::VecGet(_, _) => Instruction::VecGet,
+        Operation::VecPut(_, _) => Instruction::VecPut,
     }
 }
 

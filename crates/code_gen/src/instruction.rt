@@ -42,4 +42,10 @@ pub enum Instruction {
     /// The number of bytes of a text.
     Len,
     Not,
+    /// An array of so many times the operand.
+    VecFill(u8),
+    /// The element of an array at an int.
+    VecGet,
+    /// The array with its element at an int replaced.
+    VecPut,
 }

@@ -1,9 +1,9 @@
 -- The code of a typed program is accepted.
 use Rattle.std.proofs.Common.{◌≡◌, ℕ, true, zero, suc, ◌+◌, List, [], ◌∷◌, ◌++◌, length, Some, unwrap_or, slice_get, refl, sym, ap, ◌∙◌, subst, arith, append_assoc, append-nil, length-append}
-use Rattle.core_terms.specs.Types.{Ty, BoolTy, IntTy, TextTy, PairTy, NamedTy, AuthTy, fields_at}
-use Rattle.core_terms.specs.Terms.{Expression, UnitE, BoolE, IntE, TextE, LocalE, PairE, FstE, SndE, NotE, LenE, AuthE, UnauthE, ConE, ArithE, CompareE, TextCompareE, CatE, LetE, IfE, MatchE, CallE, Expressions, NoE, AndE, Arms, NoArm, AndArm, Program, function_at, HasType, HaveTypes, HaveArms, IsTyped}
+use Rattle.core_terms.specs.Types.{Ty, BoolTy, IntTy, TextTy, PairTy, NamedTy, AuthTy, VecTy, fields_at}
+use Rattle.core_terms.specs.Terms.{Expression, UnitE, BoolE, IntE, TextE, LocalE, PairE, FstE, SndE, NotE, LenE, AuthE, UnauthE, ConE, ArithE, CompareE, TextCompareE, CatE, LetE, IfE, MatchE, CallE, OperateE, Operation, VecFill, VecGet, VecPut, operand_types, result_type, is_operation, Expressions, NoE, AndE, Arms, NoArm, AndArm, Program, function_at, HasType, HaveTypes, HaveArms, IsTyped}
 use Rattle.code_gen.specs.Instructions.{Instruction, PushUnit, PushBool, PushInt, PushText, Load, Bind, Unbind, Pair, Fst, Snd, Make, Switch, Branch, Jump, Call, Return, Auth, Unauth, ArithOp, CompareOp, TextCompareOp, Cat, Len, Not}
-use Rattle.code_gen.specs.Code.{unbind_code, laid, places, code_of, code_all, arm_codes, generated}
+use Rattle.code_gen.specs.Code.{unbind_code, laid, places, operation_code, code_of, code_all, arm_codes, generated}
 use Rattle.code_meaning.specs.Accept.{Shape, shape, push_types, Fits, IsFine, IsAccepted}
 use Rattle.code_meaning.proofs.Parts.{on_fields, in_table}
 use Rattle.code_meaning.proofs.Follows.{on_function, function_there, code_found, typed_at}
@@ -143,6 +143,12 @@ module _ (P : Program) (z : Ty) where
             (past xs (shape env (t ∷ os) ∷ (L.shapes ++ more)) (length code) (suc r.0) (shape (env ++ ts) os) l r.2),
       )
 
+  operation_fits : (op : Operation) (env os : List Ty) (more : List Shape) → is_operation op ≡ true → At more 0 (shape env (result_type op ∷ os))
+      → fits (operation_code op) (shape env (push_types (operand_types op) os)) more
+  operation_fits (VecFill n t) env os more e h = (e, h)
+  operation_fits (VecGet n t) env os more e h = h
+  operation_fits (VecPut n t) env os more e h = (refl, h)
+
   mutual
     acc : (env : List Ty) (e : Expression) (t : Ty) → HasType P env e t → (os : List Ty) → Acc (shape env os) (shape env (t ∷ os)) (code_of P.types e)
     acc env (IfE test x y) t h os = seq _ (shape env (BoolTy ∷ os)) _ _ _ (acc env test BoolTy h.0 os) (choice env os t _ _ (acc env x t h.1 os) (acc env y t h.2 os))
@@ -191,6 +197,10 @@ module _ (P : Program) (z : Ty) where
         subst (At_type env os (code_of P.types (CallE f args))) h.0
         (seq _ (shape env (push_types (function_at P f).parameters os)) _ _ _ (acc_all env args (function_at P f).parameters h.1 os)
         (single _ _ (Call f) (λ more j. (os, ap (λ c. push_types c.parameters os) (sym (code_found P f)), j ∙ ap (λ c. Some (shape env (c.result ∷ os))) (sym (code_found P f)), there))))
+    acc env (OperateE op xs) t h os =
+        subst (At_type env os (code_of P.types (OperateE op xs))) h.0
+        (seq _ (shape env (push_types (operand_types op) os)) _ _ _ (acc_all env xs (operand_types op) h.2 os)
+        (single _ _ (operation_code op) (λ more j. operation_fits op env os more h.1 j)))
 
     acc_all : (env : List Ty) (xs : Expressions) (ts : List Ty) → HaveTypes P env xs ts → (os : List Ty) → Acc (shape env os) (shape env (push_types ts os)) (code_all P.types xs)
     acc_all env NoE [] h os = none (shape env os)

@@ -1,15 +1,16 @@
 -- Accepted code is never stuck.
 use Rattle.std.proofs.Common.{◌≡◌, ℕ, zero, suc, Bool, true, false, List, [], ◌∷◌, ◌++◌, length, Some, unwrap_or, slice_get, refl, sym, ap, ap₂, ◌∙◌, subst, if◌then◌else◌, nat_lt}
-use Rattle.core_terms.specs.Types.{Ty, UnitTy, BoolTy, IntTy, TextTy, PairTy, NamedTy, AuthTy, fields_at, OnFields}
+use Rattle.core_terms.specs.Types.{Ty, UnitTy, BoolTy, IntTy, TextTy, PairTy, NamedTy, AuthTy, VecTy, fields_at, OnFields}
 use Rattle.core_terms.specs.Formats.{depth_limit}
-use Rattle.core_terms.specs.Values.{Value, IntV, TextV, PairV, ConV, Values, NoV, AndV, size, depth}
-use Rattle.ideal_meaning.specs.Run.{Run, Gives, Ends, Mode, arith_of, limited, with_fuel}
-use Rattle.code_gen.specs.Instructions.{Instruction, PushUnit, PushBool, PushInt, PushText, Load, Bind, Unbind, Pair, Fst, Snd, Make, Switch, Branch, Jump, Call, Return, Auth, Unauth, ArithOp, CompareOp, TextCompareOp, Cat, Len, Not}
+use Rattle.core_terms.specs.Values.{Value, IntV, TextV, PairV, ConV, ItemsV, Values, NoV, AndV, size, depth}
+use Rattle.ideal_meaning.specs.Run.{Run, Gives, Ends, Mode, arith_of, limited, fill_of, get_of, put_of, with_fuel}
+use Rattle.code_gen.specs.Instructions.{Instruction, PushUnit, PushBool, PushInt, PushText, Load, Bind, Unbind, Pair, Fst, Snd, Make, Switch, Branch, Jump, Call, Return, Auth, Unauth, ArithOp, CompareOp, TextCompareOp, Cat, Len, Not, VecFill, VecGet, VecPut}
 use Rattle.code_gen.specs.Code.{Body, field_count}
 use Rattle.code_meaning.specs.Execution.{Coded, Ran, Stuck, Held, held, tie, then_code, then_coded, where_some, Next, act, exec, call_code}
 use Rattle.code_gen.specs.Code.{code_at}
 use Rattle.code_meaning.specs.Right.{IsOf, AreOf, Holds, IsMode}
 use Rattle.code_meaning.specs.Accept.{Shape, shape, push_types, Fits, IsFine, IsAccepted, Goes, NeverStuck}
+use Rattle.code_meaning.proofs.Arrays.{at_items, holds_fill, holds_get, holds_put}
 use Rattle.code_meaning.proofs.Parts.{holds_if, holds_arith, push_all, popped_all, last_dropped, at_bool, at_int, at_text, at_pair, at_con}
 
 module _ (C W : Type 0) (B : Body) (mode : Mode C W) (A : Ty → Value → Bool) (laws : IsMode B.types A mode) where
@@ -184,6 +185,28 @@ module _ (C W : Type 0) (B : Body) (mode : Mode C W) (A : Ty → Value → Bool)
     acts Not ls (BoolTy ∷ os) to s next N env ops e o k w =
         at_one (λ ops. Goes (Of z) (act B mode coded Not next env ops k w)) BoolTy os ops o (λ x rest p q o.
         at_bool B.types A (λ v. Goes (Of z) (act B mode coded Not next env (held x.ty v ∷ rest) k w)) x.value q (λ m. N 0 ls (BoolTy ∷ os) s env _ e (refl, tt, o) k w))
+    acts (VecFill n) ls (t ∷ os) to s next N env ops e o k w =
+        at_one (λ ops. Goes (Of z) (act B mode coded (VecFill n) next env ops k w)) t os ops o (λ x rest p q o.
+        subst (λ u. Goes (Of z) (act B mode coded (VecFill n) next env (held u x.value ∷ rest) k w)) (sym p)
+        (goes_then (Of (VecTy n t)) (Of z) (fill_of B.limit B.types n t x.value k w) _ (holds_fill C W B.types A B.limit n t x.value k w q)
+        (λ v k w h. N 0 ls (VecTy n t ∷ os) s.1 env (held (VecTy n t) v ∷ rest) e (refl, h, o) k w)))
+    acts VecGet ls (IntTy ∷ (VecTy n t ∷ os)) to s next N env ops e o k w =
+        at_one (λ ops. Goes (Of z) (act B mode coded VecGet next env ops k w)) IntTy (VecTy n t ∷ os) ops o (λ y rest p q o.
+        at_one (λ rest. Goes (Of z) (act B mode coded VecGet next env (y ∷ rest) k w)) (VecTy n t) os rest o (λ x rest m r o.
+        subst (λ u. Goes (Of z) (act B mode coded VecGet next env (y ∷ (held u x.value ∷ rest)) k w)) (sym m)
+        (at_items B.types A (λ v. Goes (Of z) (act B mode coded VecGet next env (y ∷ (held (VecTy n t) v ∷ rest)) k w)) n t x.value r (λ es a.
+        at_int B.types A (λ v. Goes (Of z) (act B mode coded VecGet next env (held y.ty v ∷ (held (VecTy n t) (ItemsV es) ∷ rest)) k w)) y.value q (λ c.
+        goes_then (Of t) (Of z) (get_of n es c k w) _ (holds_get C W B.types A n t es c k w a)
+        (λ v k w h. N 0 ls (t ∷ os) s env (held t v ∷ rest) e (refl, h, o) k w))))))
+    acts VecPut ls (u ∷ (IntTy ∷ (VecTy n t ∷ os))) to s next N env ops e o k w =
+        at_one (λ ops. Goes (Of z) (act B mode coded VecPut next env ops k w)) u (IntTy ∷ (VecTy n t ∷ os)) ops o (λ i rest p q o.
+        at_one (λ rest. Goes (Of z) (act B mode coded VecPut next env (i ∷ rest) k w)) IntTy (VecTy n t ∷ os) rest o (λ y rest p' q' o.
+        at_one (λ rest. Goes (Of z) (act B mode coded VecPut next env (i ∷ (y ∷ rest)) k w)) (VecTy n t) os rest o (λ x rest m r o.
+        subst (λ u. Goes (Of z) (act B mode coded VecPut next env (i ∷ (y ∷ (held u x.value ∷ rest))) k w)) (sym m)
+        (at_items B.types A (λ v. Goes (Of z) (act B mode coded VecPut next env (i ∷ (y ∷ (held (VecTy n t) v ∷ rest))) k w)) n t x.value r (λ es a.
+        at_int B.types A (λ v. Goes (Of z) (act B mode coded VecPut next env (i ∷ (held y.ty v ∷ (held (VecTy n t) (ItemsV es) ∷ rest))) k w)) y.value q' (λ c.
+        goes_then (Of (VecTy n t)) (Of z) (put_of B.limit B.types n t es c i.value k w) _ (holds_put C W B.types A B.limit n t es c i.value k w a (subst (λ u. Of u i.value) s.0 q))
+        (λ v k w h. N 0 ls (VecTy n t ∷ os) s.1 env (held (VecTy n t) v ∷ rest) e (refl, h, o) k w)))))))
     acts i ls os to s next N env ops e o k w = elim s [ ]
 
     goes : (is : List Instruction) (shapes : List Shape) → IsFine B z is shapes → (skip : ℕ) (ls os : List Ty) → slice_get shapes skip ≡ Some (shape ls os)

@@ -1,14 +1,14 @@
 -- Code in the ideal mode only adds to what was opened.
-use Rattle.std.proofs.Common.{◌≡◌, ℕ, zero, suc, Bool, List, [], ◌∷◌, ◌++◌, length, ℤ, pos, not, Option, Some, None, unwrap_or, slice_get, refl, sym, ap, ◌∙◌, append_assoc, append-nil, if◌then◌else◌}
-use Rattle.core_terms.specs.Types.{Ty, BoolTy, IntTy, TextTy, PairTy, NamedTy, fields_at}
-use Rattle.core_terms.specs.Values.{Value, BoolV, IntV, TextV, PairV, ConV, Values, NoV, AndV}
+use Rattle.std.proofs.Common.{◌≡◌, ℕ, zero, suc, Bool, List, [], ◌∷◌, ◌++◌, length, ℤ, pos, not, Option, Some, None, unwrap_or, slice_get, refl, sym, ap, ◌∙◌, append_assoc, append-nil, if◌then◌else◌, false}
+use Rattle.core_terms.specs.Types.{Ty, BoolTy, IntTy, TextTy, PairTy, NamedTy, VecTy, fields_at}
+use Rattle.core_terms.specs.Values.{Value, BoolV, IntV, TextV, PairV, ConV, ItemsV, Values, NoV, AndV}
 use Rattle.core_terms.specs.Terms.{Program}
-use Rattle.ideal_meaning.specs.Run.{Run, Gives, Ends, IsOut, limited, arith_of, compare_of, text_compare_of}
+use Rattle.ideal_meaning.specs.Run.{Run, Gives, Ends, IsOut, limited, arith_of, compare_of, text_compare_of, fill_of, get_of, put_of}
 use Rattle.ideal_meaning.specs.Ideal.{Opened, ideal_mode}
-use Rattle.ideal_meaning.proofs.Grows.{Grows, gives, grows_limited, grows_arith}
-use Rattle.code_gen.specs.Instructions.{Instruction, PushUnit, PushBool, PushInt, PushText, Load, Bind, Unbind, Pair, Fst, Snd, Make, Switch, Branch, Jump, Call, Return, Auth, Unauth, ArithOp, CompareOp, TextCompareOp, Cat, Len, Not}
+use Rattle.ideal_meaning.proofs.Grows.{Grows, gives, grows_limited, grows_fill, grows_get, grows_put, grows_arith}
+use Rattle.code_gen.specs.Instructions.{Instruction, PushUnit, PushBool, PushInt, PushText, Load, Bind, Unbind, Pair, Fst, Snd, Make, Switch, Branch, Jump, Call, Return, Auth, Unauth, ArithOp, CompareOp, TextCompareOp, Cat, Len, Not, VecFill, VecGet, VecPut}
 use Rattle.code_gen.specs.Code.{Body, code_at, field_count}
-use Rattle.code_meaning.specs.Execution.{Coded, Ran, Stuck, then_code, then_coded, where_some, Held, held, tie, without_last, popped, Next, on_pair, on_con, on_bool, on_int, on_text, act, exec, call_code}
+use Rattle.code_meaning.specs.Execution.{Coded, Ran, Stuck, then_code, then_coded, where_some, Held, held, tie, without_last, popped, Next, on_pair, on_con, on_bool, on_int, on_text, on_items, act, exec, call_code}
 use Rattle.code_meaning.specs.CodeAgreement.{over}
 
 -- a run as code's, on what was opened
@@ -48,7 +48,7 @@ out k s = record { added = []; is = sym (append-nil s) }
 module _ (B : Body) (called : ℕ → Values → ℕ → List Opened → Coded ⊥ (List Opened)) (calls : (f : ℕ) (vs : Values) (k : ℕ) (s : List Opened) → Adds s (called f vs k s)) where
   -- the types and the limit of the code, as a program's
   abbrev P : Program
-  P = over (record { digest = λ hash t bytes. []; limit = B.limit; magic = []; most_kept = 0 }) B.types
+  P = over (record { digest = λ hash t bytes. []; print = λ hash t. None; limit = B.limit; magic = []; image_magic = []; most_kept = 0; arrays = false }) B.types
 
   adds_pair : (s : List Opened) (t : Ty) (v : Value) (f : Ty → Ty → Value → Value → Result) → ((a b : Ty) (x y : Value) → Adds s (f a b x y)) → Adds s (on_pair B ideal_mode called t v f)
   adds_pair s (PairTy a b) (PairV x y) f h = h a b x y
@@ -69,6 +69,10 @@ module _ (B : Body) (called : ℕ → Values → ℕ → List Opened → Coded �
   adds_text : (s : List Opened) (v : Value) (f : List ℕ → Result) → ((bytes : List ℕ) → Adds s (f bytes)) → Adds s (on_text B ideal_mode called v f)
   adds_text s (TextV bytes) f h = h bytes
   adds_text s v f h = tt
+
+  adds_items : (s : List Opened) (t : Ty) (v : Value) (f : ℕ → Ty → Values → Result) → ((n : ℕ) (t : Ty) (vs : Values) → Adds s (f n t vs)) → Adds s (on_items B ideal_mode called t v f)
+  adds_items s (VecTy n t) (ItemsV vs) f h = h n t vs
+  adds_items s t v f h = tt
 
   adds_act : (i : Instruction) (next : Next ⊥ (List Opened)) → ((n : ℕ) (env ops : List Held) (k : ℕ) (s : List Opened) → Adds s (next n env ops k s))
       → (env ops : List Held) (k : ℕ) (s : List Opened) → Adds s (act B ideal_mode called i next env ops k s)
@@ -132,6 +136,19 @@ module _ (B : Body) (called : ℕ → Values → ℕ → List Opened → Coded �
   adds_act Len next h env [] k s = tt
   adds_act Not next h env (x ∷ ops) k s = adds_bool s x.value _ (λ b. h 0 env (held BoolTy (BoolV (not b)) ∷ ops) k s)
   adds_act Not next h env [] k s = tt
+  adds_act (VecFill n) next h env (x ∷ ops) k s =
+      adds_then s (fill_of B.limit B.types n x.ty x.value k s) (λ v k s. next 0 env (held (VecTy n x.ty) v ∷ ops) k s) (grows_fill P n x.ty x.value k s) (λ v k s. h 0 env _ k s)
+  adds_act (VecFill n) next h env [] k s = tt
+  adds_act VecGet next h env (y ∷ (x ∷ ops)) k s =
+      adds_items s x.ty x.value _ (λ n t vs. adds_int s y.value _ (λ z. adds_then s (get_of n vs z k s) (λ v k s. next 0 env (held t v ∷ ops) k s) (grows_get n vs z k s) (λ v k s. h 0 env _ k s)))
+  adds_act VecGet next h env (y ∷ []) k s = tt
+  adds_act VecGet next h env [] k s = tt
+  adds_act VecPut next h env (e ∷ (y ∷ (x ∷ ops))) k s =
+      adds_items s x.ty x.value _ (λ n t vs. adds_int s y.value _ (λ z. adds_then s (put_of B.limit B.types n t vs z e.value k s) (λ v k s. next 0 env (held (VecTy n t) v ∷ ops) k s)
+      (grows_put P n t vs z e.value k s) (λ v k s. h 0 env _ k s)))
+  adds_act VecPut next h env (e ∷ (y ∷ [])) k s = tt
+  adds_act VecPut next h env (e ∷ []) k s = tt
+  adds_act VecPut next h env [] k s = tt
 
   pub adds_exec : (is : List Instruction) (n : ℕ) (env ops : List Held) (k : ℕ) (s : List Opened) → Adds s (exec B ideal_mode called is n env ops k s)
   adds_exec [] n env ops k s = tt

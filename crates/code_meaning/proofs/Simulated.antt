@@ -1,21 +1,21 @@
 -- The ideal and the checked run of code, side by side: by induction on the instructions left, where it holds of the calls in them.
 use Rattle.std.proofs.Common.{◌≡◌, ◌⊎◌, inl, inr, ℕ, zero, suc, ◌+◌, ◌≤◌, ◌<◌, ◌^◌, Bool, true, false, not, List, [], ◌∷◌, ◌++◌, length, ℤ, pos, Some, unwrap_or, slice_get, refl, sym, ap, ◌∙◌, subst, arith, append_assoc, append-nil, if◌then◌else◌, lt-ltb}
 use Rattle.std.proofs.lemmas.Str.{IsUtf8-append}
-use Rattle.core_terms.specs.Types.{Ty, UnitTy, BoolTy, IntTy, TextTy, PairTy, NamedTy, AuthTy, Table, fields_at}
+use Rattle.core_terms.specs.Types.{Ty, UnitTy, BoolTy, IntTy, TextTy, PairTy, NamedTy, AuthTy, VecTy, Table, fields_at, item_types}
 use Rattle.core_terms.specs.Formats.{Format, Hash, IsFormat}
-use Rattle.core_terms.specs.Values.{Value, UnitV, BoolV, IntV, TextV, PairV, ConV, DigestV, Values, NoV, AndV, IsIdeal}
+use Rattle.core_terms.specs.Values.{Value, UnitV, BoolV, IntV, TextV, PairV, ConV, DigestV, ItemsV, Values, NoV, AndV, IsIdeal}
 use Rattle.core_terms.specs.Spelling.{spelling}
 use Rattle.core_terms.specs.Terms.{Program}
 use Rattle.core_terms.specs.Projection.{digest_at, projection, projections}
-use Rattle.ideal_meaning.specs.Run.{Run, Gives, Ends, IsOut, Rejects, with_fuel, local, join, arith_of, compare_of, text_compare_of, limited, state_of}
+use Rattle.ideal_meaning.specs.Run.{Run, Gives, Ends, IsOut, Rejects, with_fuel, local, join, arith_of, compare_of, text_compare_of, limited, fill_of, get_of, put_of, state_of}
 use Rattle.ideal_meaning.specs.Ideal.{Opened, ideal_mode}
 use Rattle.ideal_meaning.specs.Checked.{Taking, Cause, checked_mode, take_piece, digest_in}
 use Rattle.ideal_meaning.specs.Agreement.{as_checked, OffersOther, IsRefused}
-use Rattle.ideal_meaning.proofs.InHand.{IsHeld, AreHeld, at_con, held_unit, held_bool, held_int, held_text, held_auth, held_local, local_projection, held_join, join_projection, held_pair, held_first, held_second, held_con, held_parts}
+use Rattle.ideal_meaning.proofs.InHand.{IsHeld, AreHeld, at_con, held_unit, held_bool, held_int, held_text, held_auth, held_local, local_projection, held_join, join_projection, held_pair, held_first, held_second, held_con, held_parts, held_elements, at_items}
 use Rattle.ideal_meaning.proofs.Relation.{InStep, Parted}
 use Rattle.ideal_meaning.proofs.Opening.{ReadsBack, opens}
-use Rattle.ideal_meaning.proofs.Simulation.{Both, both_limited, both_arith}
-use Rattle.code_gen.specs.Instructions.{Instruction, PushUnit, PushBool, PushInt, PushText, Load, Bind, Unbind, Pair, Fst, Snd, Make, Switch, Branch, Jump, Call, Return, Auth, Unauth, ArithOp, CompareOp, TextCompareOp, Cat, Len, Not}
+use Rattle.ideal_meaning.proofs.Simulation.{Both, both_limited, both_arith, both_fill, both_get, both_put}
+use Rattle.code_gen.specs.Instructions.{Instruction, PushUnit, PushBool, PushInt, PushText, Load, Bind, Unbind, Pair, Fst, Snd, Make, Switch, Branch, Jump, Call, Return, Auth, Unauth, ArithOp, CompareOp, TextCompareOp, Cat, Len, Not, VecFill, VecGet, VecPut}
 use Rattle.code_gen.specs.Code.{Body, FunctionCode, code_at, field_count}
 use Rattle.code_meaning.specs.Execution.{Coded, Ran, Stuck, then_code, then_coded, where_some, Held, held, tie, without_last, popped, Next, act, exec, call_code}
 use Rattle.code_meaning.specs.Accept.{Shape, shape, push_types, Fits, IsFine, IsAccepted}
@@ -350,6 +350,31 @@ module _ (hash : Hash) (format : Format) (is_format : IsFormat format) (Deep : T
         at_bool types (λ v. Meets z (ideal_act Not next (tie ls vs) (held BoolTy v ∷ tie os us) k s)
         (checked_act Not next' (tie ls (AllProjected ls vs)) (held BoolTy (Projected BoolTy v) ∷ tie os (AllProjected os us)) k w)) v o.0.ideal
         (λ b. go 0 ls (BoolTy ∷ os) fit vs (AndV (BoolV (not b)) us) k s w l (held_bool P is_format Deep (not b), o.1) y)
+    acts (VecFill n) ls (t ∷ os) to fit next next' grow go vs (AndV v us) k s w l o y =
+        after (VecTy n t) z (fill_of format.limit types n t v k s) (fill_of format.limit types n t (Projected t v) k w)
+        (λ x k s. next 0 (tie ls vs) (held (VecTy n t) x ∷ tie os us) k s) (λ x k w. next' 0 (tie ls (AllProjected ls vs)) (held (VecTy n t) x ∷ tie os (AllProjected os us)) k w)
+        (both_fill hash P is_format Deep began n t v k s w o.0 y) (λ x k s. grow 0 _ _ k s) (λ x k s w h y. go 0 ls (VecTy n t ∷ os) fit.1 vs (AndV x us) k s w l (h, o.1) y)
+    acts VecGet ls (IntTy ∷ (VecTy n t ∷ os)) to fit next next' grow go vs (AndV i (AndV u us)) k s w l o y =
+        at_items types (λ u. Known (VecTy n t) u → Meets z (ideal_act VecGet next (tie ls vs) (held IntTy i ∷ (held (VecTy n t) u ∷ tie os us)) k s)
+        (checked_act VecGet next' (tie ls (AllProjected ls vs)) (held IntTy (Projected IntTy i) ∷ (held (VecTy n t) (Projected (VecTy n t) u) ∷ tie os (AllProjected os us))) k w)) n t u o.1.0.ideal
+        (λ es a h. at_int types (λ i. Meets z (ideal_act VecGet next (tie ls vs) (held IntTy i ∷ (held (VecTy n t) (ItemsV es) ∷ tie os us)) k s)
+        (checked_act VecGet next' (tie ls (AllProjected ls vs)) (held IntTy (Projected IntTy i) ∷ (held (VecTy n t) (ItemsV (AllProjected (item_types n t) es)) ∷ tie os (AllProjected os us))) k w)) i o.0.ideal
+        (λ c. after t z (get_of n es c k s) (get_of n (AllProjected (item_types n t) es) c k w)
+        (λ x k s. next 0 (tie ls vs) (held t x ∷ tie os us) k s) (λ x k w. next' 0 (tie ls (AllProjected ls vs)) (held t x ∷ tie os (AllProjected os us)) k w)
+        (both_get hash P is_format Deep began n t es c k s w (held_elements P Deep n t es a h) y) (λ x k s. grow 0 _ _ k s)
+        (λ x k s w h y. go 0 ls (t ∷ os) fit vs (AndV x us) k s w l (h, o.1.1) y))) o.1.0
+    acts VecPut ls (t' ∷ (IntTy ∷ (VecTy n t ∷ os))) to fit next next' grow go vs (AndV v (AndV i (AndV u us))) k s w l o y =
+        subst (λ t'. Known t' v → Meets z (ideal_act VecPut next (tie ls vs) (held t' v ∷ (held IntTy i ∷ (held (VecTy n t) u ∷ tie os us))) k s)
+        (checked_act VecPut next' (tie ls (AllProjected ls vs)) (held t' (Projected t' v) ∷ (held IntTy (Projected IntTy i) ∷ (held (VecTy n t) (Projected (VecTy n t) u) ∷ tie os (AllProjected os us)))) k w)) (sym fit.0)
+        (λ hv. at_items types (λ u. Known (VecTy n t) u → Meets z (ideal_act VecPut next (tie ls vs) (held t v ∷ (held IntTy i ∷ (held (VecTy n t) u ∷ tie os us))) k s)
+        (checked_act VecPut next' (tie ls (AllProjected ls vs)) (held t (Projected t v) ∷ (held IntTy (Projected IntTy i) ∷ (held (VecTy n t) (Projected (VecTy n t) u) ∷ tie os (AllProjected os us)))) k w)) n t u o.1.1.0.ideal
+        (λ es a h. at_int types (λ i. Meets z (ideal_act VecPut next (tie ls vs) (held t v ∷ (held IntTy i ∷ (held (VecTy n t) (ItemsV es) ∷ tie os us))) k s)
+        (checked_act VecPut next' (tie ls (AllProjected ls vs)) (held t (Projected t v) ∷ (held IntTy (Projected IntTy i) ∷ (held (VecTy n t) (ItemsV (AllProjected (item_types n t) es)) ∷ tie os (AllProjected os us)))) k w)) i o.1.0.ideal
+        (λ c. after (VecTy n t) z (put_of format.limit types n t es c v k s) (put_of format.limit types n t (AllProjected (item_types n t) es) c (Projected t v) k w)
+        (λ x k s. next 0 (tie ls vs) (held (VecTy n t) x ∷ tie os us) k s) (λ x k w. next' 0 (tie ls (AllProjected ls vs)) (held (VecTy n t) x ∷ tie os (AllProjected os us)) k w)
+        (both_put hash P is_format Deep began n t es c v k s w (held_elements P Deep n t es a h) hv y) (λ x k s. grow 0 _ _ k s)
+        (λ x k s w h y. go 0 ls (VecTy n t ∷ os) fit.1 vs (AndV x us) k s w l (h, o.1.1.1) y))) o.1.1.0) o.0
+    acts i ls (c ∷ (b ∷ (a ∷ os))) to fit next next' grow go vs (AndV v (AndV u NoV)) k s w l o y = elim o.1.1 [ ]
     acts i ls (b ∷ (a ∷ os)) to fit next next' grow go vs (AndV u NoV) k s w l o y = elim o.1 [ ]
     acts i ls (t ∷ os) to fit next next' grow go vs NoV k s w l o y = elim o [ ]
     acts i ls os to fit next next' grow go vs us k s w l o y = elim fit [ ]

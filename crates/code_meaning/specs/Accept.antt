@@ -1,10 +1,10 @@
 -- Accepted code: at each instruction the types of the locals and of the operands are known, and it finds there what it needs.
 use Rattle.std.specs.Prelude.{◌≡◌, ◌<◌, ◌≤◌, ℕ, Bool, true, List, [], ◌∷◌, ◌++◌, length, Some, slice_get, IsUtf8}
-use Rattle.core_terms.specs.Types.{Ty, UnitTy, BoolTy, IntTy, TextTy, PairTy, NamedTy, AuthTy, fields_at}
+use Rattle.core_terms.specs.Types.{Ty, UnitTy, BoolTy, IntTy, TextTy, PairTy, NamedTy, AuthTy, VecTy, fields_at, is_length}
 use Rattle.core_terms.specs.Values.{Value, Values, int_fits}
 use Rattle.ideal_meaning.specs.Run.{Mode}
 use Rattle.code_gen.specs.Instructions.{Instruction, PushUnit, PushBool, PushInt, PushText, Load, Bind, Unbind, Pair, Fst, Snd, Make, Switch, Branch, Jump, Call, Return, Auth, Unauth}
-use Rattle.code_gen.specs.Instructions.{ArithOp, CompareOp, TextCompareOp, Cat, Len, Not}
+use Rattle.code_gen.specs.Instructions.{ArithOp, CompareOp, TextCompareOp, Cat, Len, Not, VecFill, VecGet, VecPut}
 use Rattle.code_gen.specs.Code.{Body, code_at}
 use Rattle.code_meaning.specs.Execution.{Coded, Ran, Stuck, call_code_from}
 use Rattle.code_meaning.specs.Right.{IsOf, AreOf, Holds, IsMode}
@@ -53,6 +53,9 @@ Fits B z (TextCompareOp op) ls (TextTy ∷ (TextTy ∷ os)) to = to 0 ls (BoolTy
 Fits B z Cat ls (TextTy ∷ (TextTy ∷ os)) to = to 0 ls (TextTy ∷ os)
 Fits B z Len ls (TextTy ∷ os) to = to 0 ls (IntTy ∷ os)
 Fits B z Not ls (BoolTy ∷ os) to = to 0 ls (BoolTy ∷ os)
+Fits B z (VecFill n) ls (t ∷ os) to = (is_length n ≡ true) × to 0 ls (VecTy n t ∷ os)
+Fits B z VecGet ls (IntTy ∷ (VecTy n t ∷ os)) to = to 0 ls (t ∷ os)
+Fits B z VecPut ls (u ∷ (IntTy ∷ (VecTy n t ∷ os))) to = (u ≡ t) × to 0 ls (VecTy n t ∷ os)
 Fits B z _ ls os to = ⊥
 
 -- the instructions left, with the shape before each of them: each one fits, and goes on where its shape stands

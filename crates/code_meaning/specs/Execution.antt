@@ -1,10 +1,10 @@
 -- The meaning of code, for any meaning of `auth` and `unauth`.
 use Rattle.std.specs.Prelude.{ℕ, zero, suc, ◌-◌, Bool, not, ℤ, List, [], ◌∷◌, ◌++◌, length, Option, Some, None, slice_get, take, unwrap_or, pos, nat_le, if◌then◌else◌}
-use Rattle.core_terms.specs.Types.{Ty, UnitTy, BoolTy, IntTy, TextTy, PairTy, NamedTy, AuthTy, fields_at}
-use Rattle.core_terms.specs.Values.{Value, UnitV, BoolV, IntV, TextV, PairV, ConV, Values, NoV, AndV}
-use Rattle.ideal_meaning.specs.Run.{IsOut, Run, Gives, Ends, Mode, limited, with_fuel, arith_of, compare_of, text_compare_of}
+use Rattle.core_terms.specs.Types.{Ty, UnitTy, BoolTy, IntTy, TextTy, PairTy, NamedTy, AuthTy, VecTy, fields_at}
+use Rattle.core_terms.specs.Values.{Value, UnitV, BoolV, IntV, TextV, PairV, ConV, ItemsV, Values, NoV, AndV}
+use Rattle.ideal_meaning.specs.Run.{IsOut, Run, Gives, Ends, Mode, limited, with_fuel, arith_of, compare_of, text_compare_of, fill_of, get_of, put_of}
 use Rattle.code_gen.specs.Instructions.{Instruction, PushUnit, PushBool, PushInt, PushText, Load, Bind, Unbind, Pair, Fst, Snd, Make, Switch, Branch, Jump, Call, Return, Auth, Unauth}
-use Rattle.code_gen.specs.Instructions.{ArithOp, CompareOp, TextCompareOp, Cat, Len, Not}
+use Rattle.code_gen.specs.Instructions.{ArithOp, CompareOp, TextCompareOp, Cat, Len, Not, VecFill, VecGet, VecPut}
 use Rattle.code_gen.specs.Code.{Body, code_at, field_count}
 
 -- How code ends: as a run; or stuck, at an operand, a local or a place that isn't there, or at one of another kind.
@@ -82,6 +82,10 @@ module _ (B : Body) where
     on_text (TextV bytes) go = go bytes
     on_text v go = Stuck
 
+    abbrev pub on_items : Ty → Value → (ℕ → Ty → Values → Coded C W) → Coded C W
+    on_items (VecTy n t) (ItemsV vs) go = go n t vs
+    on_items t v go = Stuck
+
     -- One instruction, and what comes next. It is stuck where none of these lines fits the operands.
     abbrev pub act : Instruction → Next C W → List Held → List Held → ℕ → W → Coded C W
     act PushUnit next env ops k w = next 0 env (held UnitTy UnitV ∷ ops) k w
@@ -111,6 +115,10 @@ module _ (B : Body) where
     act Cat next env (y ∷ (x ∷ ops)) k w = on_text x.value (λ m. on_text y.value (λ n. pushed TextTy (limited B.limit B.types TextTy (TextV (m ++ n)) k w) next env ops))
     act Len next env (x ∷ ops) k w = on_text x.value (λ m. next 0 env (held IntTy (IntV (pos (length m))) ∷ ops) k w)
     act Not next env (x ∷ ops) k w = on_bool x.value (λ b. next 0 env (held BoolTy (BoolV (not b)) ∷ ops) k w)
+    act (VecFill n) next env (x ∷ ops) k w = pushed (VecTy n x.ty) (fill_of B.limit B.types n x.ty x.value k w) next env ops
+    act VecGet next env (y ∷ (x ∷ ops)) k w = on_items x.ty x.value (λ n t vs. on_int y.value (λ z. pushed t (get_of n vs z k w) next env ops))
+    act VecPut next env (e ∷ (y ∷ (x ∷ ops))) k w =
+        on_items x.ty x.value (λ n t vs. on_int y.value (λ z. pushed (VecTy n t) (put_of B.limit B.types n t vs z e.value k w) next env ops))
     act _ next env ops k w = Stuck
 
     -- The instructions that are left, of which so many are passed over first. Behind the last one code is stuck.

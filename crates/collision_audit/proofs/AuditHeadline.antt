@@ -2,7 +2,6 @@
 use Rattle.std.proofs.Common.{◌≡◌, ◌⊎◌, inl, inr, ℕ, List, [], drop, Option, Some, None, refl, sym, ap, ◌∙◌, subst}
 use Rattle.core_terms.specs.Types.{Ty}
 use Rattle.core_terms.specs.Formats.{Hash}
-use Rattle.core_terms.specs.Projection.{digest_at}
 use Rattle.core_terms.specs.Roles.{role_result}
 use Rattle.core_terms.specs.Terms.{Program}
 use Rattle.core_terms.specs.Values.{Value}
@@ -32,11 +31,11 @@ audit_shows_collision hash is_hash P format typed f kind t answer role reads sta
     by : TrueOrSplit hash P f (role_result kind P.state answer) (call_of state argument) k (offered_in P.format bytes) o
         → IsTrueOutcome hash P f (role_result kind P.state answer) state argument k bytes o
         ⊎ ((s : Split) × (audit_of hash P t f state argument k bytes ≡ Collides s)
-        × IsSplit (digest_at hash P) (offered_in P.format bytes) (honest_pieces hash P f (call_of state argument) k) s)
+        × IsSplit hash P.format (offered_in P.format bytes) (honest_pieces hash P f (call_of state argument) k) s)
     by (inl h) = inl h
     by (inr h) =
-        let there = splits_somewhere (digest_at hash P) h.0 (offered_in P.format bytes) (honest_pieces hash P f (call_of state argument) k) h.1 in
-        inr (there.0, ap (λ split. unless_split split (verdict_on_projections hash P t f state argument k bytes)) there.1, (split_is_found (digest_at hash P) (offered_in P.format bytes) (honest_pieces hash P f (call_of state argument) k) there.0).0 there.1)
+        let there = splits_somewhere hash P.format h.0 (offered_in P.format bytes) (honest_pieces hash P f (call_of state argument) k) h.1 in
+        inr (there.0, ap (λ split. unless_split split (verdict_on_projections hash P t f state argument k bytes)) there.1, (split_is_found hash P.format (offered_in P.format bytes) (honest_pieces hash P f (call_of state argument) k) there.0).0 there.1)
 
 -- an audit that comes to a verdict found no split
 pub judges : (found : Option Split) (v v' : Verdict) → unless_split found v ≡ Judges v' → (found ≡ None) × (v ≡ v')
@@ -51,7 +50,7 @@ agreement_is_true hash is_hash P format typed f kind t answer role reads state a
 
     by : IsTrueOutcome hash P f (role_result kind P.state answer) state argument k bytes o
         ⊎ ((s : Split) × (audit_of hash P t f state argument k bytes ≡ Collides s)
-        × IsSplit (digest_at hash P) (offered_in P.format bytes) (honest_pieces hash P f (call_of state argument) k) s)
+        × IsSplit hash P.format (offered_in P.format bytes) (honest_pieces hash P f (call_of state argument) k) s)
         → IsTrueOutcome hash P f (role_result kind P.state answer) state argument k bytes o
     by (inl h) = h
     by (inr h) = let e = sym h.1 ∙ agreed in absurd (cc (e))

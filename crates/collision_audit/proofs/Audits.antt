@@ -22,7 +22,7 @@ use Rattle.ideal_meaning.specs.Ideal.{Outcome, honest_pieces, outcome, outcome_p
 use Rattle.ideal_meaning.specs.Run.{state_of}
 use Rattle.ideal_meaning.specs.Told.{cause_told}
 use Rattle.ideal_meaning.proofs.RoleCalls.{result_is}
-use Rattle.value_store.specs.Nodes.{AreSound, Node, size_limit}
+use Rattle.value_store.specs.Nodes.{AreSound, Node}
 use Rattle.value_store.specs.Standing.{ProverNodes}
 use Rattle.value_store.specs.declared.node.Ref.{Ref}
 use Rattle.prover_mode.specs.Seen.{AreSeen}
@@ -59,18 +59,18 @@ module _ (hash : Hash) (is_hash : IsHash hash) (P : Program) (format : IsFormat 
       let here : o ≡ outcome_seen hash P f state argument k = is_true.1 ∙ ap (λ r. outcome_projection hash P r (outcome (ideal.ideal P f (call_of state argument) k))) (sym (result_is P f kind t answer role)) in (
         subst (λ (o : Outcome). SpellsOutcome P (function_at P f).result o told) here spelled,
         is_true.0,
-        (no_split_is_found (digest_at hash P) (offered_in P.format proof) (honest_pieces hash P f (call_of state argument) k)).0 none.0,
+        (no_split_is_found hash P.format (offered_in P.format proof) (honest_pieces hash P f (call_of state argument) k)).0 none.0,
       )
   audits_truly (Ok (audited.Collision c)) told =
       let split = collides (split_of hash P f state argument k proof) (verdict_on_projections hash P t f state argument k proof) (split_told c) told in
-      (split_is_found (digest_at hash P) (offered_in P.format proof) (honest_pieces hash P f (call_of state argument) k) (split_told c)).0 split
+      (split_is_found hash P.format (offered_in P.format proof) (honest_pieces hash P f (call_of state argument) k) (split_told c)).0 split
   audits_truly (Ok (audited.Rejected cause)) told =
       let none = judges (split_of hash P f state argument k proof) (verdict_on_projections hash P t f state argument k proof) (Rejected (cause_told cause)) told in
-      (no_split_is_found (digest_at hash P) (offered_in P.format proof) (honest_pieces hash P f (call_of state argument) k)).0 none.0
+      (no_split_is_found hash P.format (offered_in P.format proof) (honest_pieces hash P f (call_of state argument) k)).0 none.0
   audits_truly (Err e) told = tt
 
 -- a call of the code
-module _ (hash : Hash) (is_hash : IsHash hash) (p : Coded) (f : ℕ) (takes : TakesState (meaning p) f) (nodes : List Node) (sound : AreSound nodes) (state argument : Ref) (s a : Value)
+module _ (hash : Hash) (is_hash : IsHash hash) (p : Coded) (f : ℕ) (takes : TakesState (meaning p) f) (nodes : List Node) (sound : AreSound (meaning p).format.limit nodes) (state argument : Ref) (s a : Value)
     (call : IsCalledOn hash (meaning p) f nodes state argument s a) (k : ℕ) (bytes : List ℕ) where
   abbrev P : Program
   P = meaning p
@@ -104,10 +104,10 @@ module _ (hash : Hash) (is_hash : IsHash hash) (p : Coded) (f : ℕ) (takes : Ta
       (subst (λ audit. TellsAudit P f audit result) (sym by_run) h)
 
 -- a value is spelled alike by programs with the same types
-pub spells_too : (P Q : Program) (t : Ty) (o : Outcome) (result : code_outcome.Outcome Spelling) → P.types ≡ Q.types → SpellsOutcome P t o result → SpellsOutcome Q t o result
-spells_too P Q t o (told.Done bytes) same (v, is, spells) = (v, is, subst (λ types. Spells size_limit types bytes t v) same spells)
-spells_too P Q t o (told.Trapped trap) same h = h
-spells_too P Q t o told.Out same h = h
+pub spells_too : (P Q : Program) (t : Ty) (o : Outcome) (result : code_outcome.Outcome Spelling) → P.types ≡ Q.types → P.format.limit ≡ Q.format.limit → SpellsOutcome P t o result → SpellsOutcome Q t o result
+spells_too P Q t o (told.Done bytes) same limit (v, is, spells) = (v, is, subst (λ n. Spells n Q.types bytes t v) limit (subst (λ types. Spells P.format.limit types bytes t v) same spells))
+spells_too P Q t o (told.Trapped trap) same limit h = h
+spells_too P Q t o told.Out same limit h = h
 
 -- what comparing a file comes to, by the types of a program
 module _ (hash : Hash) (nodes : List Node) (left left' : Option (List ℕ)) (result : Result (Option Audited) AuditFault) where
@@ -115,7 +115,7 @@ module _ (hash : Hash) (nodes : List Node) (left left' : Option (List ℕ)) (res
   FileTold types opened =
       let P = types_meaning types in
       (seen : List ideal.Opened) → AreSeen hash types nodes opened seen → (bytes : List ℕ) → left ≡ Some bytes
-      → ComparesAll (λ o. audit_file (digest_at hash P) P.format.limit o (map (ideal.honest_piece hash P) seen) (header P.format bytes) bytes) (rest_behind P.format bytes) left' result
+      → ComparesAll (λ o. audit_file hash P.format o (map (ideal.honest_piece hash P) seen) (header P.format bytes) bytes) (rest_behind P.format bytes) left' result
 
   pub file_told : (types types' : Types) (opened opened' : List Opened) → types ≡ types' → opened ≡ opened' → FileTold types opened → FileTold types' opened'
   file_told types types' opened opened' same is h = subst (λ opened. FileTold types' opened) is (subst (λ types. FileTold types opened) same h)

@@ -22,7 +22,7 @@ use Rattle.ideal_meaning.proofs.Projections.{reads_back}
 use Rattle.ideal_meaning.proofs.Relation.{Agree, Parted}
 use Rattle.ideal_meaning.proofs.RoleCalls.{parameters_are, plain_within}
 use Rattle.collision_audit.specs.Audits.{Audit, Collides, Judges, unless_split, verdict_on_projections}
-use Rattle.collision_audit.specs.Splits.{Split, first_split, offered_behind, split_from, split_of}
+use Rattle.collision_audit.specs.Splits.{Split, first_split, offered_behind, split_from, split_of, split_with}
 use Rattle.collision_audit.specs.PieceAudits.{audit_by_pieces, audit_file, audit_frames, audit_from, differing, outcome_seen}
 use Rattle.collision_audit.specs.PieceLaws.{AuditIsByPieces}
 use Rattle.collision_audit.proofs.FirstSplits.{not_same}
@@ -36,11 +36,11 @@ module _ (hash : Hash) (P : Program) (o : Outcome) where
   pieces_of seen = map (honest_piece hash P) seen
 
   abbrev from : Taking → List Piece → Audit
-  from w honest = audit_from digest o w.place honest w.left w.more
+  from w honest = audit_from hash P.format o w.place honest w.left w.more
 
   -- two pieces that differ, as a split
   abbrev shown : ℕ → List ℕ → Opened → Split
-  shown place bytes x = record { place = place; offered = bytes; honest = honest_bytes hash P x }
+  shown place bytes x = split_with hash P.format place (honest_piece hash P x) bytes
 
   same_bytes : (x : List ℕ) → bytes_eq x x ≡ true
   same_bytes x = (bytes_eq-Decides x x).1 refl
@@ -71,40 +71,40 @@ module _ (hash : Hash) (P : Program) (o : Outcome) where
       let rest : offered_pieces more ≡ honest_so_far hash P before ++ offered_pieces b.more = cc in
       let behind = passed before later (record { place = suc a.place; left = left; more = more }) b h rest in
       let On : List ℕ → Audit = λ bytes.
-      if bytes_eq bytes (honest_bytes hash P x) then audit_from digest o (suc a.place) (pieces_of (before ++ later)) left more else differing digest a.place (honest_piece hash P x) bytes in
-      ap (λ m. audit_from digest o a.place (pieces_of ((x ∷ before) ++ later)) a.left m) q
+      if bytes_eq bytes (honest_bytes hash P x) then audit_from hash P.format o (suc a.place) (pieces_of (before ++ later)) left more else differing hash P.format a.place (honest_piece hash P x) bytes in
+      ap (λ m. audit_from hash P.format o a.place (pieces_of ((x ∷ before) ++ later)) a.left m) q
       ∙ (ap On same
-      ∙ (ap (λ (t : Bool). if t then audit_from digest o (suc a.place) (pieces_of (before ++ later)) left more else differing digest a.place (honest_piece hash P x) (honest_bytes hash P x)) (same_bytes (honest_bytes hash P x))
+      ∙ (ap (λ (t : Bool). if t then audit_from hash P.format o (suc a.place) (pieces_of (before ++ later)) left more else differing hash P.format a.place (honest_piece hash P x) (honest_bytes hash P x)) (same_bytes (honest_bytes hash P x))
       ∙ behind))
 
   -- so does the search for a split
   split_passed : (before : List Opened) (later : List Opened) (place : ℕ) (rest : List (List ℕ))
-      → split_from digest place (honest_so_far hash P before ++ rest) (pieces_of (before ++ later)) ≡ split_from digest (place + length before) rest (pieces_of later)
-  split_passed [] later place rest = let e : place ≡ place + 0 = omega arith in ap (λ n. split_from digest n rest (pieces_of later)) e
+      → split_from hash P.format place (honest_so_far hash P before ++ rest) (pieces_of (before ++ later)) ≡ split_from hash P.format (place + length before) rest (pieces_of later)
+  split_passed [] later place rest = let e : place ≡ place + 0 = omega arith in ap (λ n. split_from hash P.format n rest (pieces_of later)) e
   split_passed (x ∷ before) later place rest =
-      let go : Bool → Option Split = λ t. if t then split_from digest (suc place) (honest_so_far hash P before ++ rest) (pieces_of (before ++ later))
+      let go : Bool → Option Split = λ t. if t then split_from hash P.format (suc place) (honest_so_far hash P before ++ rest) (pieces_of (before ++ later))
       else (if bytes_eq (digest x.ty (honest_bytes hash P x)) (digest x.ty (honest_bytes hash P x)) then Some (shown place (honest_bytes hash P x) x) else None) in
       let count : suc place + length before ≡ place + length (x ∷ before) = omega arith in
       ap go (same_bytes (honest_bytes hash P x))
       ∙ (split_passed before later (suc place) rest
-      ∙ ap (λ n. split_from digest n rest (pieces_of later)) count)
+      ∙ ap (λ n. split_from hash P.format n rest (pieces_of later)) count)
 
-  no_honest : (place : ℕ) (rest : List (List ℕ)) → split_from digest place rest [] ≡ None
+  no_honest : (place : ℕ) (rest : List (List ℕ)) → split_from hash P.format place rest [] ≡ None
   no_honest place [] = refl
   no_honest place (p ∷ rest) = refl
 
-  pub none_offered : (place : ℕ) (honest : List Piece) → split_from digest place [] honest ≡ None
+  pub none_offered : (place : ℕ) (honest : List Piece) → split_from hash P.format place [] honest ≡ None
   none_offered place [] = refl
   none_offered place (b ∷ honest) = refl
 
   -- all honest pieces were taken
   all_taken : (seen : List Opened) (began w : Taking) (v : Verdict) → began.place ≡ 0 → ReachesIn (length seen) began w → offered_pieces began.more ≡ honest_so_far hash P seen ++ offered_pieces w.more
-      → v ≡ with_rest o w.left → unless_split (first_split digest (offered_pieces began.more) (pieces_of seen)) v ≡ from began (pieces_of seen)
+      → v ≡ with_rest o w.left → unless_split (first_split hash P.format (offered_pieces began.more) (pieces_of seen)) v ≡ from began (pieces_of seen)
   all_taken seen began w v start reached e is =
       let all : seen ++ [] ≡ seen = append-nil seen in
-      let none : first_split digest (offered_pieces began.more) (pieces_of seen) ≡ None =
-      ap (λ ps. first_split digest ps (pieces_of seen)) e
-      ∙ (ap (λ s. split_from digest 0 (honest_so_far hash P seen ++ offered_pieces w.more) (pieces_of s)) (sym all)
+      let none : first_split hash P.format (offered_pieces began.more) (pieces_of seen) ≡ None =
+      ap (λ ps. first_split hash P.format ps (pieces_of seen)) e
+      ∙ (ap (λ s. split_from hash P.format 0 (honest_so_far hash P seen ++ offered_pieces w.more) (pieces_of s)) (sym all)
       ∙ (split_passed seen [] 0 (offered_pieces w.more) ∙ no_honest (0 + length seen) (offered_pieces w.more))) in
       ap (λ s. unless_split s v) none
       ∙ (ap Judges is
@@ -114,26 +114,26 @@ module _ (hash : Hash) (P : Program) (o : Outcome) where
   -- The audit behind the honest pieces at `b`, where x is opened next and `v` is the verdict: a piece that differs is shown, or v is
   -- its rejection; or there is none, and v is the rejection for that cause.
   abbrev Parts_at : (place : ℕ) (x : Opened) (v : Verdict) → Offer → Type 0
-  Parts_at place x v (NoMore e) = v ≡ Rejected (cause_of e place)
+  Parts_at place x v (NoMore e) = v ≡ Rejected (cause_of e place (digest x.ty (honest_bytes hash P x)))
   Parts_at place x v (Offers bytes left more) =
       (bytes ≢ honest_bytes hash P x)
       × (digest x.ty bytes ≢ digest x.ty (honest_bytes hash P x) → v ≡ Rejected (WrongPiece place (digest x.ty (honest_bytes hash P x)) (digest x.ty bytes)))
 
   parted_there : (after : List Opened) (x : Opened) (v : Verdict) (place left : ℕ) (more : Offer) → Parts_at place x v more
-      → unless_split (split_from digest place (offered_pieces more) (pieces_of (x ∷ after))) v ≡ audit_from digest o place (pieces_of (x ∷ after)) left more
+      → unless_split (split_from hash P.format place (offered_pieces more) (pieces_of (x ∷ after))) v ≡ audit_from hash P.format o place (pieces_of (x ∷ after)) left more
   parted_there after x v place left (NoMore e) h = ap Judges h
   parted_there after x v place left (Offers bytes l more) h =
       let other : bytes_eq bytes (honest_bytes hash P x) ≡ false = not_same bytes (honest_bytes hash P x) h.0 in
       let Found : Bool → Option Split = λ t. if t then Some (shown place bytes x) else None in
-      let Split_if : Bool → Option Split = λ t. if t then split_from digest (suc place) (offered_pieces more) (pieces_of after) else Found (bytes_eq (digest x.ty bytes) (digest x.ty (honest_bytes hash P x))) in
-      let Audit_if : Bool → Audit = λ t. if t then audit_from digest o (suc place) (pieces_of after) l more else differing digest place (honest_piece hash P x) bytes in
+      let Split_if : Bool → Option Split = λ t. if t then split_from hash P.format (suc place) (offered_pieces more) (pieces_of after) else Found (bytes_eq (digest x.ty bytes) (digest x.ty (honest_bytes hash P x))) in
+      let Audit_if : Bool → Audit = λ t. if t then audit_from hash P.format o (suc place) (pieces_of after) l more else differing hash P.format place (honest_piece hash P x) bytes in
       ap (λ t. unless_split (Split_if t) v) other
       ∙ (by (bytes_eq (digest x.ty bytes) (digest x.ty (honest_bytes hash P x))) refl
       ∙ sym (ap Audit_if other))
     where
       by : (t : Bool) → bytes_eq (digest x.ty bytes) (digest x.ty (honest_bytes hash P x)) ≡ t
           → unless_split (if bytes_eq (digest x.ty bytes) (digest x.ty (honest_bytes hash P x)) then Some (shown place bytes x) else None) v
-          ≡ differing digest place (honest_piece hash P x) bytes
+          ≡ differing hash P.format place (honest_piece hash P x) bytes
       by true e =
           ap (λ (t : Bool). unless_split (if t then Some (shown place bytes x) else None) v) e
           ∙ sym (ap (λ (t : Bool). if t then Collides (shown place bytes x) else Judges (Rejected (WrongPiece place (digest x.ty (honest_bytes hash P x)) (digest x.ty bytes)))) e)
@@ -146,12 +146,12 @@ module _ (hash : Hash) (P : Program) (o : Outcome) where
   -- a run that parts from the ideal one
   all_parted : (before after : List Opened) (x : Opened) (began b : Taking) (v : Verdict) → began.place ≡ 0 → ReachesIn (length before) began b
       → offered_pieces began.more ≡ honest_so_far hash P before ++ offered_pieces b.more → Parts_at b.place x v b.more
-      → unless_split (first_split digest (offered_pieces began.more) (pieces_of (before ++ x ∷ after))) v ≡ from began (pieces_of (before ++ x ∷ after))
+      → unless_split (first_split hash P.format (offered_pieces began.more) (pieces_of (before ++ x ∷ after))) v ≡ from began (pieces_of (before ++ x ∷ after))
   all_parted before after x began b v start reached e h =
       let place : 0 + length before ≡ b.place = omega (arith, place_behind (length before) began b reached, start) in
-      let split : first_split digest (offered_pieces began.more) (pieces_of (before ++ x ∷ after)) ≡ split_from digest b.place (offered_pieces b.more) (pieces_of (x ∷ after)) =
-      ap (λ ps. first_split digest ps (pieces_of (before ++ x ∷ after))) e
-      ∙ (split_passed before (x ∷ after) 0 (offered_pieces b.more) ∙ ap (λ n. split_from digest n (offered_pieces b.more) (pieces_of (x ∷ after))) place) in
+      let split : first_split hash P.format (offered_pieces began.more) (pieces_of (before ++ x ∷ after)) ≡ split_from hash P.format b.place (offered_pieces b.more) (pieces_of (x ∷ after)) =
+      ap (λ ps. first_split hash P.format ps (pieces_of (before ++ x ∷ after))) e
+      ∙ (split_passed before (x ∷ after) 0 (offered_pieces b.more) ∙ ap (λ n. split_from hash P.format n (offered_pieces b.more) (pieces_of (x ∷ after))) place) in
       ap (λ s. unless_split s v) split
       ∙ (parted_there after x v b.place b.left b.more h
       ∙ sym (passed before (x ∷ after) began b reached e))
@@ -159,7 +159,7 @@ module _ (hash : Hash) (P : Program) (o : Outcome) where
 -- why a piece is refused: there is none, or its digest isn't the one that is held
 none_refused : (hash : Hash) (P : Program) (t : Ty) (want : List ℕ) (place : ℕ) (more : Offer) (w left : Taking) (cause : Cause) → offered_pieces more ≡ []
     → take_piece hash P t want place more w ≡ Refuses cause left
-    → (e : End) × (more ≡ NoMore e) × (cause ≡ cause_of e place) × (left ≡ w)
+    → (e : End) × (more ≡ NoMore e) × (cause ≡ cause_of e place want) × (left ≡ w)
 none_refused hash P t want place (NoMore e) w left cause none r = (e, refl, cc, cc)
 none_refused hash P t want place (Offers bytes l more) w left cause none r = absurd (cc (none))
 
@@ -189,7 +189,7 @@ module _ (hash : Hash) (is_hash : IsHash hash) (P : Program) (format : IsFormat 
   reached = run_reaches hash P f (projections hash P (function_at P f).parameters args) k began
 
   abbrev Audits : List Opened → Type 0
-  Audits seen = unless_split (first_split (digest_at hash P) (offered_pieces began.more) (map (honest_piece hash P) seen)) (judged run') ≡ audit_from (digest_at hash P) result began.place (map (honest_piece hash P) seen) began.left began.more
+  Audits seen = unless_split (first_split hash P.format (offered_pieces began.more) (map (honest_piece hash P) seen)) (judged run') ≡ audit_from hash P.format result began.place (map (honest_piece hash P) seen) began.left began.more
 
   same_all : IsSame hash P (Unit {0}) began (function_at P f).result (ideal P f args k) run' → Audits seen
   same_all same =
@@ -216,7 +216,7 @@ module _ (hash : Hash) (is_hash : IsHash hash) (P : Program) (format : IsFormat 
 
     -- there is no piece
     no_piece : (e : End) (place left : ℕ) → ReachesIn (length p.parts.before) began (record { place = place; left = left; more = NoMore e }) → offered_pieces at.more ≡ []
-        → IsRefused hash P x at run' → judged run' ≡ Rejected (cause_of e place)
+        → IsRefused hash P x at run' → judged run' ≡ Rejected (cause_of e place want)
     no_piece e place left h none r =
         let why = none_refused hash P x.ty want at.place at.more at r.left r.cause none r.refused in
         let ends : state_of run' ≡ at = ap state_of r.is ∙ why.3 in
@@ -226,7 +226,7 @@ module _ (hash : Hash) (is_hash : IsHash hash) (P : Program) (format : IsFormat 
         let ended : NoMore e ≡ NoMore why.0 = ap (λ (w : Taking). w.more) one ∙ why.1 in
         let e_is : e ≡ why.0 = cc in
         let place_is : place ≡ at.place = ap (λ (w : Taking). w.place) one in
-        ap judged r.is ∙ (ap Rejected why.2 ∙ (ap (λ e. Rejected (cause_of e at.place)) (sym e_is) ∙ ap (λ n. Rejected (cause_of e n)) (sym place_is)))
+        ap judged r.is ∙ (ap Rejected why.2 ∙ (ap (λ e. Rejected (cause_of e at.place want)) (sym e_is) ∙ ap (λ n. Rejected (cause_of e n want)) (sym place_is)))
 
     other : (d : OffersOther hash P x at) (place left : ℕ) (more : Offer) → offered_pieces more ≡ offered_pieces at.more → Parts_at hash P result place x (judged run') more
     other d place left (NoMore e) q = absurd (cc (q, d.next))
@@ -281,8 +281,8 @@ module _ (hash : Hash) (is_hash : IsHash hash) (P : Program) (format : IsFormat 
   shape = parameters_are P f kind t answer role reads
 
   on_frames : (frames : List ℕ) (n : ℕ)
-      → unless_split (first_split (digest_at hash P) (offered_pieces (offered P.format.limit frames n [])) (honest_pieces hash P f (call_of state argument) k)) (judge hash P f (call_of s a) k frames n [])
-      ≡ audit_frames (digest_at hash P) P.format.limit (outcome_seen hash P f state argument k) (honest_pieces hash P f (call_of state argument) k) frames n []
+      → unless_split (first_split hash P.format (offered_pieces (offered P.format.limit frames n [])) (honest_pieces hash P f (call_of state argument) k)) (judge hash P f (call_of s a) k frames n [])
+      ≡ audit_frames hash P.format (outcome_seen hash P f state argument k) (honest_pieces hash P f (call_of state argument) k) frames n []
   on_frames frames n =
       let args = call_of state argument in
       let began = before_all (length frames) (offered P.format.limit frames n []) in
@@ -291,12 +291,12 @@ module _ (hash : Hash) (is_hash : IsHash hash) (P : Program) (format : IsFormat 
       let deep : AuthWithinAll P.format.limit P.types (function_at P f).parameters args =
       subst (λ ts. AuthWithinAll P.format.limit P.types ts args) (sym shape) (state_deep, (plain_within P.format.limit P.types t argument role.plain argument_ideal, tt)) in
       let one = judged_by_pieces hash is_hash P format typed f args k ideals fits deep began refl in
-      subst (λ ts. unless_split (first_split (digest_at hash P) (offered_pieces (offered P.format.limit frames n [])) (honest_pieces hash P f args k)) (judge hash P f (projections hash P ts args) k frames n [])
-      ≡ audit_frames (digest_at hash P) P.format.limit (outcome_seen hash P f state argument k) (honest_pieces hash P f (call_of state argument) k) frames n []) shape one
+      subst (λ ts. unless_split (first_split hash P.format (offered_pieces (offered P.format.limit frames n [])) (honest_pieces hash P f args k)) (judge hash P f (projections hash P ts args) k frames n [])
+      ≡ audit_frames hash P.format (outcome_seen hash P f state argument k) (honest_pieces hash P f (call_of state argument) k) frames n []) shape one
 
   at_header : (h : Option ℕ)
-      → unless_split (first_split (digest_at hash P) (offered_behind P.format h bytes) (honest_pieces hash P f (call_of state argument) k)) (with_header hash P h f (call_of s a) k bytes)
-      ≡ audit_file (digest_at hash P) P.format.limit (outcome_seen hash P f state argument k) (honest_pieces hash P f (call_of state argument) k) h bytes
+      → unless_split (first_split hash P.format (offered_behind P.format h bytes) (honest_pieces hash P f (call_of state argument) k)) (with_header hash P h f (call_of s a) k bytes)
+      ≡ audit_file hash P.format (outcome_seen hash P f state argument k) (honest_pieces hash P f (call_of state argument) k) h bytes
   at_header None = ap (λ o. unless_split o (Rejected Header)) (none_offered hash P (outcome_seen hash P f state argument k) 0 (honest_pieces hash P f (call_of state argument) k))
   at_header (Some n) = on_frames (drop 6 bytes) n
 

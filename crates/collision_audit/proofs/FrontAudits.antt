@@ -74,13 +74,14 @@ pub ends_with_its_frame : EndsWithItsFrame
 ends_with_its_frame hash P t f state argument k front more other s shown left =
     let honest = honest_pieces hash P f (call_of state argument) k in
     let found = collides (split_of hash P f state argument k (front ++ more)) (verdict_on_projections hash P t f state argument k (front ++ more)) s shown in
-    let split = (split_is_found (digest_at hash P) (offered_in P.format (front ++ more)) honest s).0 found in
+    let split = (split_is_found hash P.format (offered_in P.format (front ++ more)) honest s).0 found in
     let head = behind_header (header P.format (front ++ more)) (λ n. left_behind (offered P.format.limit (drop 6 (front ++ more)) n []) s.place) (length more) left in
     let same = same_pieces P.format front more other s.place head.0 head.1 head.2 in
-    let again : IsSplit (digest_at hash P) (offered_in P.format (front ++ other)) honest s =
+    let again : IsSplit hash P.format (offered_in P.format (front ++ other)) honest s =
     record {
       at = splits_alike (digest_at hash P) s.place (offered_in P.format (front ++ more)) (offered_in P.format (front ++ other)) honest same split.at;
       offered_there = piece_alike s.place (offered_in P.format (front ++ more)) (offered_in P.format (front ++ other)) s.offered same split.offered_there;
       honest_there = split.honest_there;
+      print_there = split.print_there;
     } in
-    ap (λ found. unless_split found (verdict_on_projections hash P t f state argument k (front ++ other))) ((split_is_found (digest_at hash P) (offered_in P.format (front ++ other)) honest s).1 again)
+    ap (λ found. unless_split found (verdict_on_projections hash P t f state argument k (front ++ other))) ((split_is_found hash P.format (offered_in P.format (front ++ other)) honest s).1 again)

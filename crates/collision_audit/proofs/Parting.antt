@@ -1,12 +1,12 @@
 -- One honest piece compared with the next that is offered.
-use Rattle.std.proofs.Common.{◌≡◌, ◌≢◌, ℕ, zero, suc, ◌+◌, ◌<◌, ◌≤◌, Bool, true, false, List, [], ◌∷◌, length, map, get_or, drop, Option, Some, None, Result, Ok, Err, IfOk, bytes_eq, if◌then◌else◌, refl, sym, ap, ◌∙◌, subst, arith}
+use Rattle.std.proofs.Common.{◌≡◌, ℕ, zero, suc, ◌+◌, ◌<◌, ◌≤◌, Bool, false, List, [], ◌∷◌, length, map, get_or, drop, Option, Some, None, Result, Ok, Err, IfOk, bytes_eq, if◌then◌else◌, refl, sym, ap, ◌∙◌, subst, arith}
 use Rattle.std.specs.Option.{option_and_then}
 use Rattle.std.specs.Prelude.{Vec}
 use Rattle.std.specs.declared.alloc.Global.{Global}
 use Rattle.std.proofs.lemmas.List.{drop_all}
 use Rattle.std.proofs.lemmas.Slice.Eq.{bytes_eq-Decides}
 use Rattle.core_terms.specs.Types.{Ty}
-use Rattle.core_terms.specs.Formats.{Hash}
+use Rattle.core_terms.specs.Formats.{Format, Hash}
 use Rattle.core_terms.specs.ProgramTypes.{types_by_number, types_meaning}
 use Rattle.core_terms.specs.Projection.{digest_at, projection}
 use Rattle.core_terms.specs.Spelling.{spelling}
@@ -15,7 +15,7 @@ use Rattle.core_terms.specs.declared.cause.Cause.{Cause}
 use Rattle.core_terms.specs.declared.cause.Cause.TheVariants as cause
 use Rattle.core_terms.specs.declared.program_types.Types.{Types}
 use Rattle.ideal_meaning.specs.Checked.{Rejected, cause_of, with_rest}
-use Rattle.ideal_meaning.specs.Frames.{End, NoByte, IsCut, KindIs, LongBy, UseIs, Offer, Offers, offered}
+use Rattle.ideal_meaning.specs.Frames.{End, NoByte, IsCut, KindIs, LongBy, UseIs, Lacks, Breaks, Offer, Offers, offered}
 use Rattle.ideal_meaning.specs.Ideal.{Outcome, Piece, honest_bytes, honest_piece}
 use Rattle.ideal_meaning.specs.Ideal as ideal
 use Rattle.ideal_meaning.specs.Told.{cause_told}
@@ -77,47 +77,49 @@ module _ (hash : Hash) (types : Types) (nodes : List Node) where
       h s.value (subst Stood is.at is.stands) ∙ ap (λ t. spelling (projection hash (types_meaning types) t s.value)) (sym is.at)
 
 -- where a piece is no frame's, nothing is said of what is left
-stops_ended : (behind : ℕ → Option ℕ) (left : Option (List ℕ)) (c : Cause) (e : End) (place : ℕ) → cause_told c ≡ cause_of e place → StopsBehind behind left (audited.Rejected c)
-stops_ended behind left (cause.WrongPiece i want found) NoByte place h = absurd (cc (h))
-stops_ended behind left (cause.WrongPiece i want found) IsCut place h = absurd (cc (h))
-stops_ended behind left (cause.WrongPiece i want found) (KindIs b) place h = absurd (cc (h))
-stops_ended behind left (cause.WrongPiece i want found) (LongBy len) place h = absurd (cc (h))
-stops_ended behind left (cause.WrongPiece i want found) (UseIs k held) place h = absurd (cc (h))
-stops_ended behind left cause.Header e place h = tt
-stops_ended behind left (cause.Short i) e place h = tt
-stops_ended behind left (cause.BadKind i byte) e place h = tt
-stops_ended behind left (cause.Cut i) e place h = tt
-stops_ended behind left (cause.PieceLong i len) e place h = tt
-stops_ended behind left (cause.BadUse i k held) e place h = tt
-stops_ended behind left (cause.BadPiece i offset) e place h = tt
-stops_ended behind left (cause.Leftover bytes) e place h = tt
+stops_ended : (behind : ℕ → Option ℕ) (left : Option (List ℕ)) (c : Cause) (e : End) (place : ℕ) (want : List ℕ) → cause_told c ≡ cause_of e place want → StopsBehind behind left (audited.Rejected c)
+stops_ended behind left (cause.WrongPiece i want found) NoByte place w h = absurd (cc (h))
+stops_ended behind left (cause.WrongPiece i want found) IsCut place w h = absurd (cc (h))
+stops_ended behind left (cause.WrongPiece i want found) (KindIs b) place w h = absurd (cc (h))
+stops_ended behind left (cause.WrongPiece i want found) (LongBy len) place w h = absurd (cc (h))
+stops_ended behind left (cause.WrongPiece i want found) (UseIs k held) place w h = absurd (cc (h))
+stops_ended behind left (cause.WrongPiece i want found) Lacks place w h = absurd (cc (h))
+stops_ended behind left (cause.WrongPiece i want found) (Breaks wire) place w h = absurd (cc (h))
+stops_ended behind left cause.Header e place w h = tt
+stops_ended behind left (cause.Short i) e place w h = tt
+stops_ended behind left (cause.BadKind i byte) e place w h = tt
+stops_ended behind left (cause.Cut i) e place w h = tt
+stops_ended behind left (cause.PieceLong i len) e place w h = tt
+stops_ended behind left (cause.BadUse i k held) e place w h = tt
+stops_ended behind left (cause.BadPiece i offset) e place w h = tt
+stops_ended behind left (cause.Leftover bytes) e place w h = tt
 
 -- Behind i honest pieces, `later` are the honest ones to come. The audit from the first piece on is the one from here on, and so many
 -- bytes are left behind each piece.
-pub record Stands (digest : Ty → List ℕ → List ℕ) (honest : List Piece) (count : ℕ) (o : Offer) (i : ℕ) (later : List Piece) (limit : ℕ) (ring : Kept) (left : Option (List ℕ)) : Type 0 where
+pub record Stands (hash : Hash) (format : Format) (honest : List Piece) (count : ℕ) (o : Offer) (i : ℕ) (later : List Piece) (limit : ℕ) (ring : Kept) (left : Option (List ℕ)) : Type 0 where
   pub bytes_left : ℕ
   pub offer : Offer
   pub ahead : IsAhead limit ring left bytes_left offer
-  pub audit : (outcome : Outcome) → audit_from digest outcome 0 honest count o ≡ audit_from digest outcome i later bytes_left offer
+  pub audit : (outcome : Outcome) → audit_from hash format outcome 0 honest count o ≡ audit_from hash format outcome i later bytes_left offer
   pub behind : (j : ℕ) → left_behind o (i + j) ≡ left_behind offer j
 
-pub stands_first : (digest : Ty → List ℕ → List ℕ) (honest : List Piece) (count : ℕ) (o : Offer) (limit : ℕ) (ring : Kept) (left : Option (List ℕ)) → IsAhead limit ring left count o
-    → Stands digest honest count o 0 honest limit ring left
-stands_first digest honest count o limit ring left ahead =
+pub stands_first : (hash : Hash) (format : Format) (honest : List Piece) (count : ℕ) (o : Offer) (limit : ℕ) (ring : Kept) (left : Option (List ℕ)) → IsAhead limit ring left count o
+    → Stands hash format honest count o 0 honest limit ring left
+stands_first hash format honest count o limit ring left ahead =
     record { bytes_left = count; offer = o; ahead = ahead; audit = λ outcome. refl; behind = λ j. let e : 0 + j ≡ j = omega arith in ap (left_behind o) e }
 
-module _ (digest : Ty → List ℕ → List ℕ) (honest : List Piece) (count : ℕ) (o : Offer) (i : ℕ) (limit : ℕ) (ring : Kept) (left : Option (List ℕ)) where
+module _ (hash : Hash) (format : Format) (honest : List Piece) (count : ℕ) (o : Offer) (i : ℕ) (limit : ℕ) (ring : Kept) (left : Option (List ℕ)) where
   abbrev Audit_now : Outcome → Audit
-  Audit_now outcome = audit_from digest outcome 0 honest count o
+  Audit_now outcome = audit_from hash format outcome 0 honest count o
 
   -- all honest pieces were offered
-  pub stands_last : Stands digest honest count o i [] limit ring left → Compares Audit_now (left_behind o) left (Ok None)
+  pub stands_last : Stands hash format honest count o i [] limit ring left → Compares Audit_now (left_behind o) left (Ok None)
   stands_last s = (s.ahead.bytes, s.ahead.told, λ outcome. s.audit outcome ∙ ap (λ n. Judges (with_rest outcome n)) s.ahead.counted)
 
-  module _ (b : Piece) (later : List Piece) (s : Stands digest honest count o i (b ∷ later) limit ring left) (limit' : ℕ) (ring' : Kept) (left' : Option (List ℕ)) where
+  module _ (b : Piece) (later : List Piece) (s : Stands hash format honest count o i (b ∷ later) limit ring left) (limit' : ℕ) (ring' : Kept) (left' : Option (List ℕ)) where
     compared : (outcome : Outcome) (a : List ℕ) (n : ℕ) (more : Offer) → s.offer ≡ Offers a n more
-        → Audit_now outcome ≡ (if bytes_eq a b.bytes then audit_from digest outcome (suc i) later n more else differing digest i b a)
-    compared outcome a n more e = s.audit outcome ∙ ap (λ offer. audit_from digest outcome i (b ∷ later) s.bytes_left offer) e
+        → Audit_now outcome ≡ (if bytes_eq a b.bytes then audit_from hash format outcome (suc i) later n more else differing hash format i b a)
+    compared outcome a n more e = s.audit outcome ∙ ap (λ offer. audit_from hash format outcome i (b ∷ later) s.bytes_left offer) e
 
     -- what was taken, in these words
     pub taken : (place : ℕ) (bytes : List ℕ) (found found' : Offered) → place ≡ i → bytes ≡ b.bytes → found ≡ found' → TakesPiece place bytes s.offer limit' ring' left' (Ok found)
@@ -128,38 +130,38 @@ module _ (digest : Ty → List ℕ → List ℕ) (honest : List Piece) (count : 
         (subst (λ place. TakesPiece place bytes s.offer limit' ring' left' (Ok found)) at takes))
 
     -- the honest piece is offered
-    next_one : TakesPiece i b.bytes s.offer limit' ring' left' (Ok Same) → Stands digest honest count o (suc i) later limit' ring' left'
+    next_one : TakesPiece i b.bytes s.offer limit' ring' left' (Ok Same) → Stands hash format honest count o (suc i) later limit' ring' left'
     next_one (n, more, e, ahead) = record {
       bytes_left = n;
       offer = more;
       ahead = ahead;
-      audit = λ outcome. compared outcome b.bytes n more e ∙ ap (λ (t : Bool). if t then audit_from digest outcome (suc i) later n more else differing digest i b b.bytes) ((bytes_eq-Decides b.bytes b.bytes).1 refl);
+      audit = λ outcome. compared outcome b.bytes n more e ∙ ap (λ (t : Bool). if t then audit_from hash format outcome (suc i) later n more else differing hash format i b b.bytes) ((bytes_eq-Decides b.bytes b.bytes).1 refl);
       behind = λ j. let count : suc i + j ≡ i + suc j = omega arith in ap (left_behind o) count ∙ (s.behind (suc j) ∙ ap (λ offer. left_behind offer (suc j)) e);
     }
 
-    pub stands_next : TakesPiece i b.bytes s.offer limit' ring' left' (Ok Same) → Stands digest honest count o (i + 1) later limit' ring' left'
-    stands_next takes = let one : suc i ≡ i + 1 = omega arith in subst (λ i. Stands digest honest count o i later limit' ring' left') one (next_one takes)
+    pub stands_next : TakesPiece i b.bytes s.offer limit' ring' left' (Ok Same) → Stands hash format honest count o (i + 1) later limit' ring' left'
+    stands_next takes = let one : suc i ≡ i + 1 = omega arith in subst (λ i. Stands hash format honest count o i later limit' ring' left') one (next_one takes)
 
     -- another piece is offered
-    pub stands_other : (piece : Vec ℕ Global) (answer : Audited) → TakesPiece i b.bytes s.offer limit' ring' left' (Ok (Other piece)) → TellsDifference (differing digest i b piece.items) answer
+    pub stands_other : (piece : Vec ℕ Global) (answer : Audited) → TakesPiece i b.bytes s.offer limit' ring' left' (Ok (Other piece)) → TellsDifference (differing hash format i b piece.items) answer
         → ((behind : ℕ → Option ℕ) (left : Option (List ℕ)) → AreLeft (behind i) left → StopsBehind behind left answer)
         → Compares Audit_now (left_behind o) left' (Ok (Some answer))
     stands_other piece answer (n, more, e, differs, (rest, told, is)) tells stops =
         let apart : bytes_eq piece.items b.bytes ≡ false = not_same piece.items b.bytes differs in
-        let here = λ (outcome : Outcome). compared outcome piece.items n more e ∙ ap (λ (t : Bool). if t then audit_from digest outcome (suc i) later n more else differing digest i b piece.items) apart in
+        let here = λ (outcome : Outcome). compared outcome piece.items n more e ∙ ap (λ (t : Bool). if t then audit_from hash format outcome (suc i) later n more else differing hash format i b piece.items) apart in
         let at : i ≡ i + 0 = omega arith in
         (λ outcome. subst (λ a. TellsDifference a answer) (sym (here outcome)) tells, stops (left_behind o) left' (rest, told, ap (left_behind o) at ∙ (s.behind 0 ∙ (ap (λ offer. left_behind offer 0) e ∙ is))))
 
     -- no piece is offered
     pub stands_ended : (c : Cause) → TakesPiece i b.bytes s.offer limit' ring' left' (Ok (Ended c)) → Compares Audit_now (left_behind o) left' (Ok (Some (audited.Rejected c)))
     stands_ended c (e, is, told) =
-        (λ outcome. s.audit outcome ∙ (ap (λ offer. audit_from digest outcome i (b ∷ later) s.bytes_left offer) is ∙ ap (λ c. Judges (Rejected c)) (sym told)), stops_ended (left_behind o) left' c e i told)
+        (λ outcome. s.audit outcome ∙ (ap (λ offer. audit_from hash format outcome i (b ∷ later) s.bytes_left offer) is ∙ ap (λ c. Judges (Rejected c)) (sym (told (format.digest hash b.ty b.bytes)))), stops_ended (left_behind o) left' c e i [] (told []))
 
 -- The i-th value that was opened, against what was taken for it.
 module _ (hash : Hash) (types : Types) (nodes : List Node) (opened : List Opened) (seen : List ideal.Opened) (count : ℕ) (o : Offer) (i : ℕ) (limit : ℕ) (ring : Kept) (left : Option (List ℕ))
     (h : AreSeen hash types nodes opened seen) (inside : i < length opened) (d : Opened) where
-  abbrev digest : Ty → List ℕ → List ℕ
-  digest = digest_at hash (types_meaning types)
+  abbrev format : Format
+  format = (types_meaning types).format
 
   abbrev pieces : List ideal.Opened → List Piece
   pieces seen = map (honest_piece hash (types_meaning types)) seen
@@ -172,7 +174,7 @@ module _ (hash : Hash) (types : Types) (nodes : List Node) (opened : List Opened
       (v : Value) → StandsFor (ProverNodes (digest_at hash (types_meaning types))) (types_meaning types).types nodes node.value.0 (type_at (types_by_number types) node.ty) v
       → bytes ≡ spelling (projection hash (types_meaning types) (type_at (types_by_number types) node.ty) v)
 
-  module _ (stands : Stands digest (pieces seen) count o i (pieces (drop i seen)) limit ring left) (place : ℕ) (here : place ≡ i) (bytes lent : List ℕ) (spelled : SpelledOf bytes)
+  module _ (stands : Stands hash format (pieces seen) count o i (pieces (drop i seen)) limit ring left) (place : ℕ) (here : place ≡ i) (bytes lent : List ℕ) (spelled : SpelledOf bytes)
       (same : lent ≡ bytes)
       (limit' : ℕ) (ring' : Kept) (left' : Option (List ℕ)) (found : Offered)
       (takes : (n : ℕ) (offer : Offer) → IsAhead limit ring left n offer → TakesPiece place lent offer limit' ring' left' (Ok found)) where
@@ -185,29 +187,30 @@ module _ (hash : Hash) (types : Types) (nodes : List Node) (opened : List Opened
     abbrev later : List Piece
     later = pieces (drop (i + 1) seen)
 
-    now : Stands digest (pieces seen) count o i (b ∷ later) limit ring left
-    now = subst (λ l. Stands digest (pieces seen) count o i (pieces l) limit ring left) at.1 stands
+    now : Stands hash format (pieces seen) count o i (b ∷ later) limit ring left
+    now = subst (λ l. Stands hash format (pieces seen) count o i (pieces l) limit ring left) at.1 stands
 
     honest : bytes ≡ b.bytes
     honest = honest_is hash types nodes node at.0 bytes at.2 spelled
 
     took : (found' : Offered) → found ≡ found' → TakesPiece i b.bytes now.offer limit' ring' left' (Ok found')
-    took found' is = taken digest (pieces seen) count o i limit ring left b later now limit' ring' left' place lent found found' here (same ∙ honest) is (takes now.bytes_left now.offer now.ahead)
+    took found' is = taken hash format (pieces seen) count o i limit ring left b later now limit' ring' left' place lent found found' here (same ∙ honest) is (takes now.bytes_left now.offer now.ahead)
 
-    pub goes_on : found ≡ Same → Stands digest (pieces seen) count o (i + 1) later limit' ring' left'
-    goes_on is = stands_next digest (pieces seen) count o i limit ring left b later now limit' ring' left' (took Same is)
+    pub goes_on : found ≡ Same → Stands hash format (pieces seen) count o (i + 1) later limit' ring' left'
+    goes_on is = stands_next hash format (pieces seen) count o i limit ring left b later now limit' ring' left' (took Same is)
 
-    pub parts : (piece : Vec ℕ Global) (answer : Audited) → found ≡ Other piece → ((ty : Ty) → TellsDifference (differing digest place (record { ty = ty; bytes = bytes }) piece.items) answer)
+    pub parts : (piece : Vec ℕ Global) (answer : Audited) → found ≡ Other piece → TellsDifference (differing hash format place (record { ty = type_at (types_by_number types) node.ty; bytes = bytes }) piece.items) answer
         → ((behind : ℕ → Option ℕ) (left : Option (List ℕ)) → AreLeft (behind place) left → StopsBehind behind left answer)
-        → Compares (λ outcome. audit_from digest outcome 0 (pieces seen) count o) (left_behind o) left' (Ok (Some answer))
+        → Compares (λ outcome. audit_from hash format outcome 0 (pieces seen) count o) (left_behind o) left' (Ok (Some answer))
     parts piece answer is tells stops =
-        let told = subst (λ place. TellsDifference (differing digest place b piece.items) answer) here
-        (subst (λ bytes. TellsDifference (differing digest place (record { ty = b.ty; bytes = bytes }) piece.items) answer) honest (tells b.ty)) in
-        stands_other digest (pieces seen) count o i limit ring left b later now limit' ring' left' piece answer (took (Other piece) is) told
+        let typed = subst (λ t. TellsDifference (differing hash format place (record { ty = t; bytes = bytes }) piece.items) answer) (sym at.2.at) tells in
+        let told = subst (λ place. TellsDifference (differing hash format place b piece.items) answer) here
+        (subst (λ bytes. TellsDifference (differing hash format place (record { ty = b.ty; bytes = bytes }) piece.items) answer) honest typed) in
+        stands_other hash format (pieces seen) count o i limit ring left b later now limit' ring' left' piece answer (took (Other piece) is) told
         (λ behind left stood. stops behind left (subst (λ place. AreLeft (behind place) left) (sym here) stood))
 
-    pub has_none : (c : Cause) → found ≡ Ended c → Compares (λ outcome. audit_from digest outcome 0 (pieces seen) count o) (left_behind o) left' (Ok (Some (audited.Rejected c)))
-    has_none c is = stands_ended digest (pieces seen) count o i limit ring left b later now limit' ring' left' c (took (Ended c) is)
+    pub has_none : (c : Cause) → found ≡ Ended c → Compares (λ outcome. audit_from hash format outcome 0 (pieces seen) count o) (left_behind o) left' (Ok (Some (audited.Rejected c)))
+    has_none c is = stands_ended hash format (pieces seen) count o i limit ring left b later now limit' ring' left' c (took (Ended c) is)
 
 -- the same to the end of the source
 pub counted : (audit : Outcome → Audit) (behind : ℕ → Option ℕ) (left left' : Option (List ℕ)) (result : Result (Option Audited) AuditFault) (h : Compares audit behind left (Ok None))
@@ -218,12 +221,12 @@ counted audit behind left left' (Ok (Some answer)) h c = (λ outcome. subst (λ 
 counted audit behind left left' (Err e) h c = tt
 
 -- a file with a good header is its frames, and one without is told
-module _ (digest : Ty → List ℕ → List ℕ) (limit : ℕ) (honest : List Piece) (bytes : List ℕ) (left : Option (List ℕ)) where
+module _ (hash : Hash) (format : Format) (honest : List Piece) (bytes : List ℕ) (left : Option (List ℕ)) where
   abbrev pub FileCompares : Option ℕ → Result (Option Audited) AuditFault → Type 0
-  FileCompares size result = ComparesAll (λ o. audit_file digest limit o honest size bytes) (λ i. option_and_then (λ n. left_behind (offered limit (drop 6 bytes) n []) i) size) left result
+  FileCompares size result = ComparesAll (λ o. audit_file hash format o honest size bytes) (λ i. option_and_then (λ n. left_behind (offered format.limit (drop 6 bytes) n []) i) size) left result
 
   pub good_file : (size : Option ℕ) (n : ℕ) (result : Result (Option Audited) AuditFault) → size ≡ Some n
-      → ComparesAll (λ o. audit_from digest o 0 honest (length (drop 6 bytes)) (offered limit (drop 6 bytes) n [])) (left_behind (offered limit (drop 6 bytes) n [])) left result
+      → ComparesAll (λ o. audit_from hash format o 0 honest (length (drop 6 bytes)) (offered format.limit (drop 6 bytes) n [])) (left_behind (offered format.limit (drop 6 bytes) n [])) left result
       → FileCompares size result
   good_file size n result e h = subst (λ size. FileCompares size result) (sym e) h
 

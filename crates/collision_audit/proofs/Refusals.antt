@@ -1,8 +1,8 @@
 -- Where the first piece that differs has another digest, the verifier refuses it, or one before it, whatever follows: the verdict is the same.
-use Rattle.std.proofs.Common.{◌≡◌, ◌≢◌, ◌⊎◌, inl, inr, ℕ, zero, suc, ◌+◌, ◌<◌, Bool, true, false, List, [], ◌∷◌, ◌++◌, length, take, drop, map, Option, Some, None, bytes_eq, if◌then◌else◌, refl, sym, ap, ◌∙◌, subst, arith}
+use Rattle.std.proofs.Common.{◌≡◌, ◌⊎◌, inl, inr, ℕ, zero, suc, ◌+◌, ◌<◌, Bool, true, false, List, [], ◌∷◌, ◌++◌, length, take, drop, map, Option, Some, None, bytes_eq, if◌then◌else◌, refl, sym, ap, ◌∙◌, subst, arith}
 use Rattle.std.proofs.lemmas.Slice.Eq.{bytes_eq-Decides}
 use Rattle.core_terms.specs.Types.{Ty}
-use Rattle.core_terms.specs.Formats.{Hash, IsHash, IsFormat}
+use Rattle.core_terms.specs.Formats.{Format, Hash, IsHash, IsFormat}
 use Rattle.core_terms.specs.Projection.{digest_at, projection, projections, Fits, AllFit, read_at}
 use Rattle.core_terms.specs.Reading.{Read, Good, BadAt}
 use Rattle.core_terms.specs.Roles.{IsRole, ReadsState}
@@ -22,30 +22,30 @@ use Rattle.ideal_meaning.proofs.Projections.{reads_back}
 use Rattle.ideal_meaning.proofs.RoleCalls.{parameters_are}
 use Rattle.collision_audit.specs.AuditLaws.{EndsWithTheDifference, FirstDifferAt}
 use Rattle.collision_audit.specs.Audits.{unless_split, verdict_on_projections}
-use Rattle.collision_audit.specs.Splits.{Split, first_split, left_behind, offered_behind, offered_in, split_from, split_of}
+use Rattle.collision_audit.specs.Splits.{Split, first_split, left_behind, offered_behind, offered_in, split_from, split_of, split_with}
 use Rattle.collision_audit.proofs.FirstSplits.{not_same, splits_somewhere}
 use Rattle.collision_audit.proofs.FrontAudits.{behind_header, same_header, same_pieces}
 
 -- the lists differ at one place alone, so what is found there is found in each list that begins alike
-found_alike : (digest : Ty → List ℕ → List ℕ) (place i : ℕ) (xs ys : List (List ℕ)) (honest : List Piece) → take (suc i) xs ≡ take (suc i) ys
-    → FirstDifferAt xs honest i → split_from digest place xs honest ≡ split_from digest place ys honest
-found_alike digest place i [] ys honest same at = elim at [ ]
-found_alike digest place i (x ∷ xs) [] honest same at = absurd (cc (same))
-found_alike digest place i (x ∷ xs) (y ∷ ys) [] same at = elim at [ ]
-found_alike digest place zero (x ∷ xs) (y ∷ ys) (b ∷ honest) same at =
+found_alike : (hash : Hash) (format : Format) (place i : ℕ) (xs ys : List (List ℕ)) (honest : List Piece) → take (suc i) xs ≡ take (suc i) ys
+    → FirstDifferAt xs honest i → split_from hash format place xs honest ≡ split_from hash format place ys honest
+found_alike hash format place i [] ys honest same at = elim at [ ]
+found_alike hash format place i (x ∷ xs) [] honest same at = absurd (cc (same))
+found_alike hash format place i (x ∷ xs) (y ∷ ys) [] same at = elim at [ ]
+found_alike hash format place zero (x ∷ xs) (y ∷ ys) (b ∷ honest) same at =
     let e : x ≡ y = cc in
-    let Here : List ℕ → Option Split = λ z. if bytes_eq (digest b.ty z) (digest b.ty b.bytes) then Some (record { place = place; offered = z; honest = b.bytes }) else None in
+    let Here : List ℕ → Option Split = λ z. if bytes_eq (format.digest hash b.ty z) (format.digest hash b.ty b.bytes) then Some (split_with hash format place b z) else None in
     let other : bytes_eq x b.bytes ≡ false = not_same x b.bytes at in
-    ap (λ (t : Bool). if t then split_from digest (suc place) xs honest else Here x) other
-    ∙ (ap Here e ∙ sym (ap (λ (t : Bool). if t then split_from digest (suc place) ys honest else Here y) (ap (λ z. bytes_eq z b.bytes) (sym e) ∙ other)))
-found_alike digest place (suc i) (x ∷ xs) (y ∷ ys) (b ∷ honest) same at =
+    ap (λ (t : Bool). if t then split_from hash format (suc place) xs honest else Here x) other
+    ∙ (ap Here e ∙ sym (ap (λ (t : Bool). if t then split_from hash format (suc place) ys honest else Here y) (ap (λ z. bytes_eq z b.bytes) (sym e) ∙ other)))
+found_alike hash format place (suc i) (x ∷ xs) (y ∷ ys) (b ∷ honest) same at =
     let e : x ≡ y = cc in
     let later : take (suc i) xs ≡ take (suc i) ys = cc in
-    let Here : List ℕ → Option Split = λ z. if bytes_eq (digest b.ty z) (digest b.ty b.bytes) then Some (record { place = place; offered = z; honest = b.bytes }) else None in
+    let Here : List ℕ → Option Split = λ z. if bytes_eq (format.digest hash b.ty z) (format.digest hash b.ty b.bytes) then Some (split_with hash format place b z) else None in
     let equal : bytes_eq x b.bytes ≡ true = (bytes_eq-Decides x b.bytes).1 at.0 in
-    ap (λ (t : Bool). if t then split_from digest (suc place) xs honest else Here x) equal
-    ∙ (found_alike digest (suc place) i xs ys honest later at.1
-    ∙ sym (ap (λ (t : Bool). if t then split_from digest (suc place) ys honest else Here y) (ap (λ z. bytes_eq z b.bytes) (sym e) ∙ equal)))
+    ap (λ (t : Bool). if t then split_from hash format (suc place) xs honest else Here x) equal
+    ∙ (found_alike hash format (suc place) i xs ys honest later at.1
+    ∙ sym (ap (λ (t : Bool). if t then split_from hash format (suc place) ys honest else Here y) (ap (λ z. bytes_eq z b.bytes) (sym e) ∙ equal)))
 
 -- and each list that begins alike first differs there
 differ_alike : (i : ℕ) (xs ys : List (List ℕ)) (honest : List Piece) → take (suc i) xs ≡ take (suc i) ys → FirstDifferAt xs honest i → FirstDifferAt ys honest i
@@ -110,7 +110,7 @@ module _ (hash : Hash) (P : Program) where
     verdict_is : v ≡ Rejected cause
 
   module _ (began : Taking) (run : Run ⊥ (List Opened) Value) (checked_run : Run Cause Taking Value) (i : ℕ) (differ : FirstDifferAt (offered_pieces began.more) (pieces_of (state_of run)) i)
-      (none : first_split (digest_at hash P) (offered_pieces began.more) (pieces_of (state_of run)) ≡ None) where
+      (none : first_split hash P.format (offered_pieces began.more) (pieces_of (state_of run)) ≡ None) where
     -- the checked run can't follow to the end
     not_followed : (project : Value → Value) (run' : Run ⊥ (List Opened) Value) → FirstDifferAt (offered_pieces began.more) (pieces_of (state_of run')) i → Follows hash P project began run' checked_run → ⊥
     not_followed project (Gives v k seen) at (w, is, honest) = never seen (offered_pieces w.more) i (subst (λ ps. FirstDifferAt ps (pieces_of seen) i) honest.pieces at)
@@ -138,9 +138,9 @@ module _ (hash : Hash) (P : Program) where
         no_split d =
             let split = split_after hash P p.before p.after p.x d.found d.later d.differs d.one_digest in
             let offers = p.honest.pieces ∙ ap (λ ps. honest_so_far hash P p.before ++ ps) d.next in
-            let some = splits_somewhere (digest_at hash P) (length p.before) (honest_so_far hash P p.before ++ d.found ∷ d.later) (pieces_of (p.before ++ p.x ∷ p.after)) split in
-            let found = ap (λ ps. first_split (digest_at hash P) ps (pieces_of (state_of run))) offers
-            ∙ (ap (λ seen. first_split (digest_at hash P) (honest_so_far hash P p.before ++ d.found ∷ d.later) (pieces_of seen)) p.seen ∙ some.1) in
+            let some = splits_somewhere hash P.format (length p.before) (honest_so_far hash P p.before ++ d.found ∷ d.later) (pieces_of (p.before ++ p.x ∷ p.after)) split in
+            let found = ap (λ ps. first_split hash P.format ps (pieces_of (state_of run))) offers
+            ∙ (ap (λ seen. first_split hash P.format (honest_so_far hash P p.before ++ d.found ∷ d.later) (pieces_of seen)) p.seen ∙ some.1) in
             cc (found, none)
 
         by : OffersOther hash P p.x p.at ⊎ IsRefused hash P p.x p.at checked_run → IsRejected began (state_of run) i (judged checked_run)
@@ -232,7 +232,7 @@ module _ (hash : Hash) (is_hash : IsHash hash) (P : Program) (format : IsFormat 
   seen = state_of (ideal P f args k)
 
   judged_rejected : (bytes : List ℕ) (n i : ℕ) → FirstDifferAt (offered_pieces (offered P.format.limit bytes n [])) (pieces_of hash P seen) i
-      → first_split (digest_at hash P) (offered_pieces (offered P.format.limit bytes n [])) (pieces_of hash P seen) ≡ None
+      → first_split hash P.format (offered_pieces (offered P.format.limit bytes n [])) (pieces_of hash P seen) ≡ None
       → IsRejected hash P (before_all (length bytes) (offered P.format.limit bytes n [])) seen i (judge hash P f (projections hash P (function_at P f).parameters args) k bytes n [])
   judged_rejected bytes n i differ none = by (agreement hash is_hash P format typed k f args k began ideals fits)
     where
@@ -248,12 +248,12 @@ module _ (hash : Hash) (is_hash : IsHash hash) (P : Program) (format : IsFormat 
 
   one_judgement : (bytes bytes' : List ℕ) (n i : ℕ) → take (suc i) (offered_pieces (offered P.format.limit bytes n [])) ≡ take (suc i) (offered_pieces (offered P.format.limit bytes' n []))
       → FirstDifferAt (offered_pieces (offered P.format.limit bytes n [])) (pieces_of hash P seen) i
-      → first_split (digest_at hash P) (offered_pieces (offered P.format.limit bytes n [])) (pieces_of hash P seen) ≡ None
+      → first_split hash P.format (offered_pieces (offered P.format.limit bytes n [])) (pieces_of hash P seen) ≡ None
       → judge hash P f (projections hash P (function_at P f).parameters args) k bytes n [] ≡ judge hash P f (projections hash P (function_at P f).parameters args) k bytes' n []
   one_judgement bytes bytes' n i same differ none =
       let offers = offered_pieces (offered P.format.limit bytes n []) in
       let offers' = offered_pieces (offered P.format.limit bytes' n []) in
-      let none' = sym (found_alike (digest_at hash P) 0 i offers offers' (pieces_of hash P seen) same differ) ∙ none in
+      let none' = sym (found_alike hash P.format 0 i offers offers' (pieces_of hash P seen) same differ) ∙ none in
       same_rejection hash P (before_all (length bytes) (offered P.format.limit bytes n [])) (before_all (length bytes') (offered P.format.limit bytes' n [])) seen i _ _ refl same
       (judged_rejected bytes n i differ none) (judged_rejected bytes' n i (differ_alike i offers offers' (pieces_of hash P seen) same differ) none')
 
@@ -283,7 +283,7 @@ module _ (hash : Hash) (is_hash : IsHash hash) (P : Program) (format : IsFormat 
       let one = one_judgement hash is_hash P format typed f (call_of state argument) k ideals fits (drop 6 bytes) (drop 6 bytes') n i
       (ap (take (suc i)) (sym (offers bytes good)) ∙ (same ∙ ap (take (suc i)) (offers bytes' good')))
       (subst (λ ps. FirstDifferAt ps (honest_pieces hash P f (call_of state argument) k) i) (offers bytes good) differ)
-      (ap (λ ps. first_split (digest_at hash P) ps (honest_pieces hash P f (call_of state argument) k)) (sym (offers bytes good)) ∙ none) in
+      (ap (λ ps. first_split hash P.format ps (honest_pieces hash P f (call_of state argument) k)) (sym (offers bytes good)) ∙ none) in
       subst (λ ts. judge hash P f (projections hash P ts (call_of state argument)) k (drop 6 bytes) n [] ≡ judge hash P f (projections hash P ts (call_of state argument)) k (drop 6 bytes') n []) shape one
 
   at_argument : Fits P P.state state → ReadsBack hash P t argument → with_argument hash P s (read_at P t (spelling a)) f k bytes ≡ with_argument hash P s (read_at P t (spelling a)) f k bytes'
@@ -315,7 +315,7 @@ ends_with_the_difference hash is_hash P format typed f kind t answer role reads 
     same = same_pieces P.format front more other i head.0 head.1 head.2
 
     found : split_of hash P f state argument k (front ++ more) ≡ split_of hash P f state argument k (front ++ other)
-    found = found_alike (digest_at hash P) 0 i (offered_in P.format (front ++ more)) (offered_in P.format (front ++ other)) (honest_pieces hash P f (call_of state argument) k) same differ
+    found = found_alike hash P.format 0 i (offered_in P.format (front ++ more)) (offered_in P.format (front ++ other)) (honest_pieces hash P f (call_of state argument) k) same differ
 
     by : (o : Option Split) → split_of hash P f state argument k (front ++ more) ≡ o
         → unless_split (split_of hash P f state argument k (front ++ other)) (verdict_on_projections hash P t f state argument k (front ++ other))

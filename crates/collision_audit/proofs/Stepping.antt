@@ -1,12 +1,12 @@
 -- A run goes on by the steps of its mode: how its state moves at each opening, it moves from beginning to end.
 use Rattle.std.proofs.Common.{ℕ, zero, suc, ◌++◌, Bool, true, false, ℤ, pos, negsuc, int_div, int_rem, ◌+ℤ◌, ◌-ℤ◌, ◌*ℤ◌, if◌then◌else◌, nat_lt}
-use Rattle.core_terms.specs.Types.{Ty, PairTy, NamedTy, TextTy}
-use Rattle.core_terms.specs.Values.{Value, Values, PairV, TextV, ConV, size, depth, int_fits}
-use Rattle.core_terms.specs.Terms.{Expression, UnitE, BoolE, IntE, TextE, LocalE, PairE, FstE, SndE, NotE, LenE, AuthE, UnauthE, ConE, ArithE, CompareE, TextCompareE, CatE, LetE, IfE, MatchE, CallE, Expressions, NoE, AndE, Arms, NoArm, AndArm, Program, function_at}
+use Rattle.core_terms.specs.Types.{Ty, PairTy, NamedTy, TextTy, VecTy}
+use Rattle.core_terms.specs.Values.{Value, Values, PairV, TextV, ConV, ItemsV, size, depth, int_fits}
+use Rattle.core_terms.specs.Terms.{Expression, UnitE, BoolE, IntE, TextE, LocalE, PairE, FstE, SndE, NotE, LenE, AuthE, UnauthE, ConE, ArithE, CompareE, TextCompareE, CatE, LetE, IfE, MatchE, CallE, OperateE, Operation, VecFill, VecGet, VecPut, Expressions, NoE, AndE, Arms, NoArm, AndArm, Program, function_at}
 use Rattle.core_terms.specs.declared.term.Arith.{Arith}
 use Rattle.core_terms.specs.declared.term.Arith.TheVariants.{Add, Sub, Mul, Div, Rem}
 use Rattle.core_terms.specs.Formats.{depth_limit}
-use Rattle.ideal_meaning.specs.Run.{Mode, Run, Gives, Ends, then_run, exact, divided, arith_of, choose, limited, run, run_all, run_arm, call, bool_in, text_in, state_of, with_fuel}
+use Rattle.ideal_meaning.specs.Run.{Mode, Run, Gives, Ends, then_run, exact, divided, arith_of, choose, limited, at_index, operate, int_in, items_in, local, repeated, replaced, run, run_all, run_arm, call, bool_in, text_in, state_of, with_fuel}
 
 module _ (C W : Type 0) (mode : Mode C W) (Goes : W → W → Type 0) (stays : (w : W) → Goes w w) (goes_on : (a b c : W) → Goes a b → Goes b c → Goes a c)
     (opens : (k : ℕ) (t : Ty) (v : Value) (w : W) → Goes w (state_of (with_fuel k (mode.unauth t v w)))) where
@@ -57,6 +57,18 @@ module _ (C W : Type 0) (mode : Mode C W) (Goes : W → W → Type 0) (stays : (
     goes_limited t v k w =
         goes_if w (nat_lt P.format.limit (size P.types t v)) _ _ (ends _ k w) (goes_if w (nat_lt depth_limit (depth P.types t v)) _ _ (ends _ k w) (gives _ k w))
 
+    -- what an operation gives
+    goes_index : (n : ℕ) (z : ℤ) (f : ℕ → ℕ → W → Run C W Value) (k : ℕ) (w : W) → ((i : ℕ) → To w (f i k w)) → To w (at_index n z f k w)
+    goes_index n (pos i) f k w h = goes_if w (nat_lt i n) _ _ (h i) (ends _ k w)
+    goes_index n (negsuc i) f k w h = ends _ k w
+
+    goes_operate : (op : Operation) (vs : Values) (k : ℕ) (w : W) → To w (operate {C = C} P.format.limit P.types op vs k w)
+    goes_operate (VecFill n t) vs k w = goes_limited (VecTy n t) (ItemsV (repeated n (local vs 0))) k w
+    goes_operate (VecGet n t) vs k w = goes_index n (int_in (local vs 1)) (λ i k w. Gives (local (items_in (local vs 0)) i) k w) k w (λ i. gives _ k w)
+    goes_operate (VecPut n t) vs k w =
+        goes_index n (int_in (local vs 1)) (λ i k w. limited P.format.limit P.types (VecTy n t) (ItemsV (replaced (items_in (local vs 0)) i (local vs 2))) k w) k w
+        (λ i. goes_limited (VecTy n t) (ItemsV (replaced (items_in (local vs 0)) i (local vs 2))) k w)
+
     module _ (callee : ℕ → Values → ℕ → W → Run C W Value) (callee_goes : (f : ℕ) (vs : Values) (k : ℕ) (w : W) → To w (callee f vs k w)) where
       mutual
         goes : (e : Expression) (env : Values) (k : ℕ) (w : W) → To w (run P mode callee e env k w)
@@ -83,6 +95,7 @@ module _ (C W : Type 0) (mode : Mode C W) (Goes : W → W → Type 0) (stays : (
         goes (IfE test a b) env k w = goes_then w _ _ (goes test env k w) (λ v k w. goes_choose (bool_in v) _ _ env k w (goes a env k w) (goes b env k w))
         goes (MatchE number x arms) env k w = goes_then w _ _ (goes x env k w) (λ v k w. goes_arm arms _ _ k w)
         goes (CallE f args) env k w = goes_then w _ _ (goes_all args env k w) (λ vs k w. callee_goes f vs k w)
+        goes (OperateE op xs) env k w = goes_then w _ _ (goes_all xs env k w) (λ vs k w. goes_operate op vs k w)
 
         goes_all : (xs : Expressions) (env : Values) (k : ℕ) (w : W) → To w (run_all P mode callee xs env k w)
         goes_all NoE env k w = gives _ k w

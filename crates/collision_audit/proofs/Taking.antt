@@ -1,5 +1,5 @@
 -- A frame that was taken, against the honest piece.
-use Rattle.std.proofs.Common.{◌≡◌, ℕ, List, ◌∷◌, length, Option, Some, None, option_map, slice_get, Result, Ok, Err, refl, sym, ap, ◌∙◌}
+use Rattle.std.proofs.Common.{◌≡◌, ℕ, List, [], ◌∷◌, length, Option, Some, None, option_map, slice_get, Result, Ok, Err, refl, sym, ap, ◌∙◌}
 use Rattle.ideal_meaning.specs.Checked.{cause_of}
 use Rattle.ideal_meaning.specs.Frames.{End, NoMore, Offer, Offers, UseIs, offered, used_piece}
 use Rattle.ideal_meaning.specs.Told.{cause_told}
@@ -75,7 +75,7 @@ module _ (limit : ℕ) (ring : Kept) (left : Option (List ℕ)) (count : ℕ) (o
   )
   takes_kept k piece (Ok (Other other)) (rest, back, told) h =
       (length rest, offered limit rest n ahead.recent, at_kept k rest back (Some other.items) h.0, h.1, (rest, told, refl))
-  takes_kept k piece (Ok (Ended cause)) (rest, back, told) h = (UseIs k (length ring.pieces), at_kept k rest back None h.0, h.1)
+  takes_kept k piece (Ok (Ended cause)) (rest, back, told) h = (UseIs k (length ring.pieces), at_kept k rest back None h.0, λ want. h.1)
   takes_kept k piece (Err e) took h = tt
 
   -- no frame
@@ -91,9 +91,9 @@ module _ (limit : ℕ) (ring : Kept) (left : Option (List ℕ)) (count : ℕ) (o
       → TakesPiece place honest o limit' ring' left' found
   takes_none end ring' (Ok (Ended cause)) ends told = by (end_told end) refl told
     where
-      by : (e : Option End) → end_told end ≡ e → option_map (λ e. cause_of e place) e ≡ Some (cause_told cause) → TakesPiece place honest o limit' ring' left' (Ok (Ended cause))
-      by (Some e) q h = let is : cause_of e place ≡ cause_told cause = cc in (e, nothing end e ends q, sym is)
-      by None q h = absurd (cc (h))
+      by : (e : Option End) → end_told end ≡ e → ((want : List ℕ) → option_map (λ e. cause_of e place want) e ≡ Some (cause_told cause)) → TakesPiece place honest o limit' ring' left' (Ok (Ended cause))
+      by (Some e) q h = (e, nothing end e ends q, λ want. let here = h want in let is : cause_of e place want ≡ cause_told cause = cc in sym is)
+      by None q h = let here = h [] in absurd (cc (here))
   takes_none end ring' (Ok Same) ends told = elim told [ ]
   takes_none end ring' (Ok (Other other)) ends told = elim told [ ]
   takes_none end ring' (Err e) ends told = tt

@@ -1,11 +1,12 @@
 -- How the answers of an audit tell what it comes to.
-use Rattle.std.specs.Prelude.{◌≡◌, ℕ, List, [], length, Option, Some, Result, Ok, Err, ⊤}
+use Rattle.std.specs.Prelude.{◌≡◌, ℕ, List, [], length, Option, Some, option_map, Result, Ok, Err, ⊤}
 use Rattle.lam_outside.specs.Causes.{Rose}
 use Rattle.core_terms.specs.Formats.{Hash}
 use Rattle.core_terms.specs.Projection.{digest_at}
 use Rattle.core_terms.specs.Terms.{Program, function_at}
 use Rattle.core_terms.specs.Values.{Value}
 use Rattle.core_terms.specs.declared.cause.Cause.TheVariants as cause
+use Rattle.core_terms.specs.declared.digest.Digest.{Digest}
 use Rattle.ideal_meaning.specs.Checked as checked
 use Rattle.ideal_meaning.specs.Headline.{call_of}
 use Rattle.ideal_meaning.specs.Ideal.{Outcome, bytes_of, honest_pieces}
@@ -22,7 +23,7 @@ use Rattle.collision_audit.specs.declared.audited.Collision.{Collision as Shown}
 
 -- the split that a collision of the code shows
 abbrev pub split_told : Shown → Split
-split_told c = record { place = c.place; offered = c.offered; honest = c.honest }
+split_told c = record { place = c.place; offered = c.offered; honest = c.honest; print = option_map (λ (digest : Digest). digest.0) c.print }
 
 -- The answer tells the audit of a call of function f, with each field; where the source failed or memory was wanting it tells nothing.
 abbrev pub TellsAudit : Program → ℕ → Audit → Result Audited AuditFault → Type 0
@@ -45,7 +46,7 @@ AuditsTruly hash P f state argument k proof (Ok (Agrees told)) =
     × (offered_in P.format proof ≡ bytes_of (honest_pieces hash P f (call_of state argument) k))
     × HasNoSplit hash P f state argument k proof
 AuditsTruly hash P f state argument k proof (Ok (Collision c)) =
-    IsSplit (digest_at hash P) (offered_in P.format proof) (honest_pieces hash P f (call_of state argument) k) (split_told c)
+    IsSplit hash P.format (offered_in P.format proof) (honest_pieces hash P f (call_of state argument) k) (split_told c)
 AuditsTruly hash P f state argument k proof (Ok (Rejected cause)) = HasNoSplit hash P f state argument k proof
 AuditsTruly hash P f state argument k proof (Err e) = ⊤
 

@@ -1,8 +1,8 @@
 -- Laws of the audit, by which a reader can judge the definitions.
 use Rattle.std.specs.Prelude.{◌≡◌, ◌≢◌, ◌⊎◌, ◌↔◌, ℕ, zero, suc, List, ◌∷◌, ◌++◌, length, Some, None}
 use Rattle.core_terms.specs.Types.{Ty}
-use Rattle.core_terms.specs.Formats.{Hash, IsHash, IsFormat}
-use Rattle.core_terms.specs.Projection.{Fits, digest_at}
+use Rattle.core_terms.specs.Formats.{Format, Hash, IsHash, IsFormat}
+use Rattle.core_terms.specs.Projection.{Fits}
 use Rattle.core_terms.specs.Roles.{IsRole, ReadsState, role_result}
 use Rattle.core_terms.specs.Terms.{Kind, Program, IsTyped}
 use Rattle.core_terms.specs.Values.{Value, IsIdeal}
@@ -14,13 +14,13 @@ use Rattle.collision_audit.specs.Splits.{Split, IsSplit, first_split, offered_in
 
 -- A split that is found is one in the words of the headline, with its two pieces, and each such one is found.
 abbrev pub SplitIsFound : Type 0
-SplitIsFound = (digest : Ty → List ℕ → List ℕ) (offered : List (List ℕ)) (honest : List Piece) (s : Split)
-    → (first_split digest offered honest ≡ Some s) ↔ IsSplit digest offered honest s
+SplitIsFound = (hash : Hash) (format : Format) (offered : List (List ℕ)) (honest : List Piece) (s : Split)
+    → (first_split hash format offered honest ≡ Some s) ↔ IsSplit hash format offered honest s
 
 -- None is found exactly where the lists split at no place.
 abbrev pub NoSplitIsFound : Type 0
-NoSplitIsFound = (digest : Ty → List ℕ → List ℕ) (offered : List (List ℕ)) (honest : List Piece)
-    → (first_split digest offered honest ≡ None) ↔ ((i : ℕ) → IsSplitAt digest offered honest i → ⊥)
+NoSplitIsFound = (hash : Hash) (format : Format) (offered : List (List ℕ)) (honest : List Piece)
+    → (first_split hash format offered honest ≡ None) ↔ ((i : ℕ) → IsSplitAt (format.digest hash) offered honest i → ⊥)
 
 -- The offered pieces are the honest ones, and the outcome of a result of type t is the projection of the ideal one.
 abbrev pub IsTrueOutcome : Hash → Program → ℕ → Ty → (state argument : Value) → ℕ → List ℕ → Outcome → Type 0
@@ -39,7 +39,7 @@ AuditShowsCollision = (hash : Hash) → IsHash hash → (P : Program) → IsForm
     → verdict_on_projections hash P t f state argument k bytes ≡ Accepted o
     → IsTrueOutcome hash P f (role_result kind P.state answer) state argument k bytes o
     ⊎ ((s : Split) × (audit_of hash P t f state argument k bytes ≡ Collides s)
-    × IsSplit (digest_at hash P) (offered_in P.format bytes) (honest_pieces hash P f (call_of state argument) k) s)
+    × IsSplit hash P.format (offered_in P.format bytes) (honest_pieces hash P f (call_of state argument) k) s)
 
 -- An outcome on which the audit agrees is true.
 abbrev pub AgreementIsTrue : Type 0

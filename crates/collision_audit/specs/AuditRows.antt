@@ -1,5 +1,6 @@
 -- Audits of proofs for example programs. Each equation holds by computing both sides, for the digest for examples.
-use Rattle.std.specs.Prelude.{◌≡◌, ℕ, List, [], ◌∷◌, ◌++◌, true, false, replicate, pos, codes, refl}
+use Rattle.std.specs.Prelude.{◌≡◌, ℕ, List, [], ◌∷◌, ◌++◌, Some, None, true, false, replicate, pos, codes, refl}
+use Rattle.core_terms.specs.Formats.{second_format}
 use Rattle.core_terms.specs.Types.{UnitTy, IntTy, AuthTy}
 use Rattle.core_terms.specs.Terms.{LocalE, AuthE, UnauthE, ArithE, Init, Query, Program}
 use Rattle.core_terms.specs.declared.term.Arith.TheVariants.{Add}
@@ -13,11 +14,11 @@ use Rattle.collision_audit.specs.Audits.{Audit, Collides, Judges, audit_of, verd
 -- Two bools under one digest, true and false. The offered piece `00 01` has the digest of the honest one and is accepted as false
 -- and true; the offered piece `03 02` has it too and is no spelling. Both are shown.
 pub forged_piece_is_shown : audit_of toy pair_program UnitTy 1 (PairV (BoolV true) (BoolV false)) UnitV 1 forged_file
-    ≡ Collides (record { place = 0; offered = 0 ∷ 1 ∷ []; honest = 1 ∷ 0 ∷ [] })
+    ≡ Collides (record { place = 0; offered = 0 ∷ 1 ∷ []; honest = 1 ∷ 0 ∷ []; print = None })
 forged_piece_is_shown = refl
 
 pub garbled_piece_is_shown : audit_of toy pair_program UnitTy 1 (PairV (BoolV true) (BoolV false)) UnitV 1 garbled_file
-    ≡ Collides (record { place = 0; offered = 3 ∷ 2 ∷ []; honest = 1 ∷ 0 ∷ [] })
+    ≡ Collides (record { place = 0; offered = 3 ∷ 2 ∷ []; honest = 1 ∷ 0 ∷ []; print = None })
 garbled_piece_is_shown = refl
 
 -- An int under one digest, opened once, or twice.
@@ -50,11 +51,11 @@ on_twice frames = audit_of toy int_program UnitTy 2 (IntV (pos 258)) UnitV 1 (fi
 pub swapped_bytes_are_accepted : verdict_on_projections toy int_program UnitTy 1 (IntV (pos 258)) UnitV 1 (file (0 ∷ 0 ∷ frame_of_8 2 1)) ≡ Accepted (Done (IntV (pos 513)))
 swapped_bytes_are_accepted = refl
 
-pub swapped_bytes_are_shown : on_get (frame_of_8 2 1) ≡ Collides (record { place = 0; offered = piece_of_8 2 1; honest = piece_of_8 1 2 })
+pub swapped_bytes_are_shown : on_get (frame_of_8 2 1) ≡ Collides (record { place = 0; offered = piece_of_8 2 1; honest = piece_of_8 1 2; print = None })
 swapped_bytes_are_shown = refl
 
 -- a piece of one byte with the digest, which is no spelling of an int
-pub one_byte_is_shown : on_get (0 ∷ 0 ∷ 0 ∷ 0 ∷ 1 ∷ 3 ∷ []) ≡ Collides (record { place = 0; offered = 3 ∷ []; honest = piece_of_8 1 2 })
+pub one_byte_is_shown : on_get (0 ∷ 0 ∷ 0 ∷ 0 ∷ 1 ∷ 3 ∷ []) ≡ Collides (record { place = 0; offered = 3 ∷ []; honest = piece_of_8 1 2; print = None })
 one_byte_is_shown = refl
 
 -- the honest piece; with bytes behind it; none; one of another digest
@@ -71,10 +72,10 @@ pub other_digest_is_wrong : on_get (frame_of_8 1 3) ≡ Judges (Rejected (WrongP
 other_digest_is_wrong = refl
 
 -- Of two pieces the second differs. Where the first differs and has another digest, no split stands behind it.
-pub second_piece_is_shown : on_twice (frame_of_8 1 2 ++ frame_of_8 2 1) ≡ Collides (record { place = 1; offered = piece_of_8 2 1; honest = piece_of_8 1 2 })
+pub second_piece_is_shown : on_twice (frame_of_8 1 2 ++ frame_of_8 2 1) ≡ Collides (record { place = 1; offered = piece_of_8 2 1; honest = piece_of_8 1 2; print = None })
 second_piece_is_shown = refl
 
-pub first_of_two_is_shown : on_twice (frame_of_8 2 1 ++ frame_of_8 0 3) ≡ Collides (record { place = 0; offered = piece_of_8 2 1; honest = piece_of_8 1 2 })
+pub first_of_two_is_shown : on_twice (frame_of_8 2 1 ++ frame_of_8 0 3) ≡ Collides (record { place = 0; offered = piece_of_8 2 1; honest = piece_of_8 1 2; print = None })
 first_of_two_is_shown = refl
 
 pub nothing_behind_a_wrong_piece : on_twice (frame_of_8 1 3 ++ frame_of_8 2 1) ≡ Judges (Rejected (WrongPiece 0 (toy (3 ∷ [])) (toy (2 ∷ []))))
@@ -92,3 +93,16 @@ out_agrees = refl
 
 pub piece_without_fuel_is_left : audit_of toy int_program UnitTy 1 (IntV (pos 258)) UnitV 0 (file (0 ∷ 0 ∷ frame_of_8 2 1)) ≡ Judges (Rejected (Leftover 13))
 piece_without_fuel_is_left = refl
+
+-- The same program in the second format: the digest tells the type too, and its fingerprint is shown with the pieces.
+abbrev pub second_program : Program
+second_program = record int_program { format = second_format [] 1024 }
+
+abbrev pub on_second_get : List ℕ → Audit
+on_second_get frames = audit_of toy second_program UnitTy 1 (IntV (pos 258)) UnitV 1 (0x4C ∷ 0x41 ∷ 0x50 ∷ 0x32 ∷ 0 ∷ 0 ∷ frames)
+
+pub fingerprint_is_shown : on_second_get (frame_of_8 2 1) ≡ Collides (record { place = 0; offered = piece_of_8 2 1; honest = piece_of_8 1 2; print = Some (toy (2 ∷ [])) })
+fingerprint_is_shown = refl
+
+pub wrong_digests_tell_the_type : on_second_get (frame_of_8 1 3) ≡ Judges (Rejected (WrongPiece 0 (toy (2 ∷ 3 ∷ [])) (toy (2 ∷ 2 ∷ []))))
+wrong_digests_tell_the_type = refl

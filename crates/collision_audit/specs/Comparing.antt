@@ -49,7 +49,7 @@ TellsDifference audit (audited.Rejected cause) = audit ≡ Judges (checked.Rejec
 
 -- why there is no piece with this number
 abbrev pub EndsAs : FrameEnd → (place : ℕ) → Result Offered AuditFault → Type 0
-EndsAs end place (Ok (Ended cause)) = option_map (λ e. checked.cause_of e place) (end_told end) ≡ Some (cause_told cause)
+EndsAs end place (Ok (Ended cause)) = (want : List ℕ) → option_map (λ e. checked.cause_of e place want) (end_told end) ≡ Some (cause_told cause)
 EndsAs end place (Ok other) = ⊥
 EndsAs end place (Err e) = ⊤
 
@@ -70,7 +70,7 @@ abbrev pub TakesPiece : (place : ℕ) (honest : List ℕ) → Offer → (limit :
 TakesPiece place honest o limit ring left (Ok Same) = (count : ℕ) × (more : Offer) × (o ≡ frames.Offers honest count more) × IsAhead limit ring left count more
 TakesPiece place honest o limit ring left (Ok (Other other)) =
     (count : ℕ) × (more : Offer) × (o ≡ frames.Offers other.items count more) × (other.items ≢ honest) × AreLeft (Some count) left
-TakesPiece place honest o limit ring left (Ok (Ended cause)) = (e : End) × (o ≡ NoMore e) × (cause_told cause ≡ checked.cause_of e place)
+TakesPiece place honest o limit ring left (Ok (Ended cause)) = (e : End) × (o ≡ NoMore e) × ((want : List ℕ) → cause_told cause ≡ checked.cause_of e place want)
 TakesPiece place honest o limit ring left (Err e) = ⊤
 
 -- What comparing comes to, where `audit` tells for an outcome what the audit comes to: a difference, with what is left of the source;

@@ -2,7 +2,7 @@
 ghost use Rattle.std.specs.Prelude.{◌≡◌};
 ghost use Rattle.collision_audit.specs.declared.audited.AuditFault.TheVariants as audit_fault;
 
-use core_terms::{Cause, Outcome, Piece, Spelling};
+use core_terms::{Cause, Digest, Outcome, Piece, Spelling};
 use lam_outside::Failed;
 use std::alloc::AllocError;
 
@@ -15,6 +15,8 @@ pub struct Collision {
     pub offered: Piece,
     /// What an honest prover writes.
     pub honest: Piece,
+    /// The fingerprint of that type, which the digest tells; none in the first format, whose digests tell no type.
+    pub print: Option<Digest>,
 }
 
 /// What an audit of a proof comes to.

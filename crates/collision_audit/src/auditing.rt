@@ -7,6 +7,7 @@ ghost use Rattle.core_terms.specs.Terms.{function_at};
 ghost use Rattle.core_terms.specs.Values.{Value};
 ghost use Rattle.code_gen.specs.Programs.{program_in};
 ghost use Rattle.ideal_meaning.specs.Ideal as ideal;
+ghost use Rattle.value_store.specs.Markings.{HasLimit};
 ghost use Rattle.value_store.specs.Standing.{Keeps, ProverNodes};
 ghost use Rattle.mode_vm.specs.IdealRuns.{IsOutcome};
 ghost use Rattle.mode_vm.specs.Meanings.{program_of};
@@ -19,7 +20,7 @@ ghost use Rattle.collision_audit.specs.PieceAudits.{run_audit};
 use crate::audited::{AuditFault, Audited};
 use crate::comparing::compare_file;
 use code_gen::Code;
-use core_terms::{FunctionId, Hash32};
+use core_terms::{Fronts, FunctionId, Hash32};
 use lam_outside::Source;
 use prover_mode::{ProverRun, prover_run, spelled_outcome};
 use std::alloc::Global;
@@ -47,6 +48,7 @@ pub fn audit<H: Hash32, S: Source, N: Nodes>(
     requires there { role.0 < length (program_of code.now).functions }
     requires role { TakesState (program_of code.now) role.0 }
     requires stand { (s : Value) × (a : Value) × IsCalledOn H.hash (program_of code.now) role.0 (N.nodes store.old) state argument s a }
+    requires limit { HasLimit (program_of code.now) (N.lent store.old) }
     requires fuel_fits { fuel ≤ 10 ^ 12 }
     ensures audit { (s a : Value) → IsCalledOn H.hash (program_of code.now) role.0 (N.nodes store.old) state argument s a → ForSome (S.left proof.old) (λ bytes.
         let P = program_of code.now in
@@ -73,6 +75,7 @@ fn audit_run<H: Hash32, S: Source, N: Nodes>(
     proof: &mut S,
 ) -> Result<Audited, AuditFault>
     requires there { role.0 < length (program_of code.now).functions }
+    requires limit { HasLimit (program_of code.now) (N.lent store.now) }
     requires proved { let P = program_of code.now in
         (o : ideal.Outcome) × IsOutcome (ProverNodes (digest_at H.hash P)) P.types (N.nodes store.now) (function_at P role.0).result run.now.value o }
     requires seen { (seen : List ideal.Opened) × AreSeen H.hash (program_in code.now).types (N.nodes store.now) run.now.opened.items seen }
@@ -84,7 +87,8 @@ fn audit_run<H: Hash32, S: Source, N: Nodes>(
     ensures faults { AuditCause (S.faults proof.old) (S.faults proof.new) result }
     ensures rest { S.rest proof.new ≡ S.rest proof.old }
 {
-    match compare_file::<H, S, N>(alloc, code.types(), store, &run.opened, proof)? {
+    let fronts = Fronts::of_types::<H>(code.types(), alloc)?;
+    match compare_file::<H, S, N>(alloc, code.types(), &fronts, store, &run.opened, proof)? {
         Some(answer) => Ok(answer),
         None => {
             let ty = code.program().function(role).result;

@@ -1,11 +1,11 @@
 // A proof, compared with what a run opened.
 ghost use Rattle.std.specs.Prelude.{◌≡◌, ◌<◌, ◌^◌, ℕ, List, length, map, Option, Some, IfOk};
 ghost use Rattle.std.specs.Option.{ForSome};
+ghost use Rattle.core_terms.specs.Fronts.{AreFronts};
 ghost use Rattle.core_terms.specs.ProgramTypes.{types_by_number, types_meaning};
 ghost use Rattle.core_terms.specs.Projection.{digest_at, projection};
 ghost use Rattle.core_terms.specs.Spelling.{spelling};
 ghost use Rattle.core_terms.specs.TypeTables.{type_at};
-ghost use Rattle.core_terms.specs.Types.{Ty};
 ghost use Rattle.core_terms.specs.Values.{Value};
 ghost use Rattle.ideal_meaning.specs.Frames.{Offer, header, offered};
 ghost use Rattle.ideal_meaning.specs.Ideal as ideal;
@@ -19,7 +19,7 @@ ghost use Rattle.prover_mode.specs.Seen.{AreSeen};
 
 use crate::audited::{AuditFault, Audited, Collision};
 use crate::offers::{Offered, Offers};
-use core_terms::{Cause, Hash32, Piece, Spelling, TyId, Types};
+use core_terms::{Cause, Fronts, Hash32, Piece, Spelling, TyId, Types};
 use lam_outside::Source;
 use prover_mode::Opened;
 use shallow_codec::spell;
@@ -32,14 +32,16 @@ use value_store::{Nodes, Ref};
 pub(crate) fn compare_file<H: Hash32, S: Source, N: Nodes>(
     alloc: Global,
     types: &Types,
+    fronts: &Fronts,
     store: &N,
     opened: &[Opened],
     proof: &mut S,
 ) -> Result<Option<Audited>, AuditFault>
+    requires fronts { AreFronts H.hash types.now fronts.now }
     requires seen { (seen : List ideal.Opened) × AreSeen H.hash types.now (N.nodes store.now) opened.now seen }
     ensures compares { (seen : List ideal.Opened) → AreSeen H.hash types.now (N.nodes store.now) opened.now seen → ForSome (S.left proof.old) (λ bytes.
         let P = types_meaning types.now in
-        ComparesAll (λ o. audit_file (digest_at H.hash P) P.format.limit o (map (ideal.honest_piece H.hash P) seen) (header P.format bytes) bytes) (rest_behind P.format bytes) (S.left proof.new) result) }
+        ComparesAll (λ o. audit_file H.hash P.format o (map (ideal.honest_piece H.hash P) seen) (header P.format bytes) bytes) (rest_behind P.format bytes) (S.left proof.new) result) }
     ensures faults { AuditCause (S.faults proof.old) (S.faults proof.new) result }
     ensures rest { S.rest proof.new ≡ S.rest proof.old }
 {
@@ -47,6 +49,7 @@ pub(crate) fn compare_file<H: Hash32, S: Source, N: Nodes>(
         Some(mut offers) => compare_to_end::<H, S, N>(
             alloc,
             types,
+            fronts,
             store,
             opened,
             &mut offers,
@@ -60,20 +63,22 @@ pub(crate) fn compare_file<H: Hash32, S: Source, N: Nodes>(
 fn compare_to_end<H: Hash32, S: Source, N: Nodes>(
     alloc: Global,
     types: &Types,
+    fronts: &Fronts,
     store: &N,
     opened: &[Opened],
     offers: &mut Offers,
     proof: &mut S,
 ) -> Result<Option<Audited>, AuditFault>
+    requires fronts { AreFronts H.hash types.now fronts.now }
     requires seen { (seen : List ideal.Opened) × AreSeen H.hash types.now (N.nodes store.now) opened.now seen }
     ensures compares { (seen : List ideal.Opened) (count : ℕ) (o : Offer) → AreSeen H.hash types.now (N.nodes store.now) opened.now seen
         → IsAhead (limit_of offers.old.reader) offers.old.ring (S.left proof.old) count o
         → let P = types_meaning types.now in
-        ComparesAll (λ outcome. audit_from (digest_at H.hash P) outcome 0 (map (ideal.honest_piece H.hash P) seen) count o) (left_behind o) (S.left proof.new) result }
+        ComparesAll (λ outcome. audit_from H.hash P.format outcome 0 (map (ideal.honest_piece H.hash P) seen) count o) (left_behind o) (S.left proof.new) result }
     ensures faults { AuditCause (S.faults proof.old) (S.faults proof.new) result }
     ensures rest { S.rest proof.new ≡ S.rest proof.old }
 {
-    match compare::<H, S, N>(alloc, types, store, opened, offers, proof)? {
+    match compare::<H, S, N>(alloc, types, fronts, store, opened, offers, proof)? {
         Some(answer) => Ok(Some(answer)),
         None => offers.count_rest(proof),
     }
@@ -83,16 +88,18 @@ fn compare_to_end<H: Hash32, S: Source, N: Nodes>(
 fn compare<H: Hash32, S: Source, N: Nodes>(
     alloc: Global,
     types: &Types,
+    fronts: &Fronts,
     store: &N,
     opened: &[Opened],
     offers: &mut Offers,
     proof: &mut S,
 ) -> Result<Option<Audited>, AuditFault>
+    requires fronts { AreFronts H.hash types.now fronts.now }
     requires seen { (seen : List ideal.Opened) × AreSeen H.hash types.now (N.nodes store.now) opened.now seen }
     ensures compares { (seen : List ideal.Opened) (count : ℕ) (o : Offer) → AreSeen H.hash types.now (N.nodes store.now) opened.now seen
         → IsAhead (limit_of offers.old.reader) offers.old.ring (S.left proof.old) count o
         → let P = types_meaning types.now in
-        Compares (λ outcome. audit_from (digest_at H.hash P) outcome 0 (map (ideal.honest_piece H.hash P) seen) count o) (left_behind o) (S.left proof.new) result }
+        Compares (λ outcome. audit_from H.hash P.format outcome 0 (map (ideal.honest_piece H.hash P) seen) count o) (left_behind o) (S.left proof.new) result }
     ensures faults { AuditCause (S.faults proof.old) (S.faults proof.new) result }
     ensures rest { S.rest proof.new ≡ S.rest proof.old }
 {
@@ -101,7 +108,9 @@ fn compare<H: Hash32, S: Source, N: Nodes>(
         let honest = projected::<H, N>(alloc, types, store, one.ty, one.value)?;
         match offers.take(proof, place, honest.as_bytes())? {
             Offered::Same => place += 1,
-            Offered::Other(piece) => return Ok(Some(answer_to::<H>(place, piece, honest))),
+            Offered::Other(piece) => {
+                return Ok(Some(answer_to::<H>(types, fronts, one.ty, place, piece, honest)));
+            }
             Offered::Ended(cause) => return Ok(Some(Audited::Rejected(cause))),
         }
     }
@@ -126,12 +135,21 @@ fn projected<H: Hash32, N: Nodes>(
 }
 
 /// The answer to two pieces that differ: a collision where they have one digest, else a rejection.
-fn answer_to<H: Hash32>(place: u64, piece: Vec<u8>, honest: Spelling) -> Audited
-    ensures tells { (ty : Ty) → TellsDifference (differing (λ t bytes. H.hash bytes) place (record { ty = ty; bytes = honest }) piece.items) result }
+fn answer_to<H: Hash32>(
+    types: &Types,
+    fronts: &Fronts,
+    ty: TyId,
+    place: u64,
+    piece: Vec<u8>,
+    honest: Spelling,
+) -> Audited
+    requires fronts { AreFronts H.hash types.now fronts.now }
+    ensures tells { TellsDifference (differing H.hash (types_meaning types.now).format place
+        (record { ty = type_at (types_by_number types.now) ty; bytes = honest }) piece.items) result }
     ensures stops { (behind : ℕ → Option ℕ) (left : Option (List ℕ)) → AreLeft (behind place) left → StopsBehind behind left result }
 {
-    let want = H::of(honest.as_bytes());
-    let found = H::of(&piece);
+    let want = H::of_pair(fronts.front(ty), honest.as_bytes());
+    let found = H::of_pair(fronts.front(ty), &piece);
     if found.0.as_slice() != want.0.as_slice() {
         return Audited::Rejected(Cause::WrongPiece(place, want, found));
     }
@@ -139,5 +157,6 @@ fn answer_to<H: Hash32>(place: u64, piece: Vec<u8>, honest: Spelling) -> Audited
         place,
         offered: Piece::new(piece),
         honest: Piece::new(honest.into_bytes()),
+        print: fronts.print(ty),
     })
 }

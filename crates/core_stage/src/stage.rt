@@ -3,7 +3,8 @@ ghost use Rattle.std.specs.Prelude.{◌≡◌, ◌<◌, IfOk, IsTrue};
 ghost use Rattle.core_terms.specs.Programs.{meaning};
 ghost use Rattle.core_terms.specs.Values.{Value};
 ghost use Rattle.mode_vm.specs.Meanings.{program_of};
-ghost use Rattle.value_store.specs.Stores.{nodes_in};
+ghost use Rattle.value_store.specs.Markings.{HasLimit};
+ghost use Rattle.value_store.specs.Stores.{nodes_in, store_lent};
 ghost use Rattle.session_meaning.specs.Messages.{IsReply};
 ghost use Rattle.session_turns.specs.Versions.{IsVersion};
 ghost use Rattle.session_meaning.specs.Server as meant;
@@ -14,7 +15,7 @@ ghost use Rattle.serve_core.specs.Serving.{Serves};
 use auth_syntax::parser::parse;
 use auth_types::check::check;
 use code_gen::Code;
-use core_terms::{Digest, Hash32, Program};
+use core_terms::{Hash32, Program};
 use digest_layer::{ProverMarker, Sha};
 use images::{Loaded, load_image};
 use lam_outside::MemLink;
@@ -52,12 +53,12 @@ pub fn code_of(alloc: Global, text: &[u8]) -> Result<Code, AllocError> {
 /// The image of a program with so many records.
 fn image(
     alloc: Global,
-    digest: &Digest,
+    program: &Program,
     count: u32,
     records: &[u8],
 ) -> Result<Vec<u8>, AllocError> {
-    let mut bytes = Vec::from_slice(alloc, b"LAI1")?;
-    bytes.extend_from_slice(digest.as_bytes())?;
+    let mut bytes = Vec::from_slice(alloc, &program.types().image_magic())?;
+    bytes.extend_from_slice(program.text_digest().as_bytes())?;
     bytes.extend_from_slice(&count.to_be_bytes())?;
     bytes.extend_from_slice(records)?;
     Ok(bytes)
@@ -65,10 +66,11 @@ fn image(
 
 /// The first version, from an image of the program.
 fn first_version(alloc: Global, program: &Program, bytes: &[u8]) -> Result<Loaded, AllocError>
-    ensures { IfOk result (λ loaded. (v : Value) × IsVersion sha256 (meaning program.now) (nodes_in loaded.store) loaded.root v) }
+    ensures version { IfOk result (λ loaded. (v : Value) × IsVersion sha256 (meaning program.now) (nodes_in loaded.store) loaded.root v) }
+    ensures limit { IfOk result (λ loaded. HasLimit (meaning program.now) (store_lent loaded.store)) }
 {
-    let mut marker = ProverMarker::new(alloc);
     let types = program.types();
+    let mut marker = ProverMarker::new(alloc, types)?;
     let digest = program.text_digest();
     match load_image(alloc, types, digest, &mut marker, bytes) {
         Ok(loaded) => Ok(loaded),
@@ -86,6 +88,7 @@ fn server_at<G: Gate + Drop>(
 ) -> Result<Box<ServeCore<Sha, G>>, AllocError>
     requires some { 0 < slice }
     requires version { (v : Value) × IsVersion sha256 (program_of code) (nodes_in first.store) first.root v }
+    requires limit { HasLimit (program_of code) (store_lent first.store) }
     ensures { IfOk result (λ core. (server : meant.Server) × Serves sha256 core.value server) }
 {
     let Loaded { store, root } = first;
@@ -106,7 +109,7 @@ pub fn server_from<G: Gate + Drop>(
     ensures { IfOk result (λ core. (server : meant.Server) × Serves sha256 core.value server) }
 {
     let code = code_of(alloc, text)?;
-    let bytes = image(alloc, code.program().text_digest(), count, records)?;
+    let bytes = image(alloc, code.program(), count, records)?;
     let first = first_version(alloc, code.program(), &bytes)?;
     server_at(alloc, code, first, slice, gate)
 }

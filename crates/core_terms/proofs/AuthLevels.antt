@@ -9,14 +9,14 @@ use Rattle.std.proofs.Math.Bool.{beq}
 use Rattle.std.proofs.Math.ListN.{get_or-append}
 use Rattle.std.proofs.Math.Seq.{get_or-append_seam}
 use Rattle.std.specs.List.{list_any}
-use Rattle.core_terms.specs.Types.{Ty, UnitTy, BoolTy, IntTy, TextTy, PairTy, NamedTy, AuthTy, Table}
+use Rattle.core_terms.specs.Types.{Ty, UnitTy, BoolTy, IntTy, TextTy, PairTy, NamedTy, AuthTy, VecTy, Table}
 use Rattle.core_terms.specs.Roles.{some_passes, has_auth_within}
 use Rattle.core_terms.specs.TypeTables.{stands_behind, type_at, type_of_form}
 use Rattle.core_terms.specs.ProgramTrees.{table_of, types_at}
 use Rattle.core_terms.specs.AuthMarks.{AreAuthMarks, AreLevelMarks, AreOpenedMarks, is_marked_field, is_marked_type, mark_of_form}
 use Rattle.core_terms.specs.declared.types.TyId.{TyId}
 use Rattle.core_terms.specs.declared.types.TyForm.{TyForm}
-use Rattle.core_terms.specs.declared.types.TyForm.TheVariants.{UnitForm, BoolForm, IntForm, TextForm, AuthForm, PairForm, NamedForm}
+use Rattle.core_terms.specs.declared.types.TyForm.TheVariants.{UnitForm, BoolForm, IntForm, TextForm, AuthForm, PairForm, NamedForm, VecForm}
 use Rattle.core_terms.specs.declared.term.Constructor.{Constructor}
 use Rattle.core_terms.specs.declared.term.NamedType.{NamedType}
 use Rattle.core_terms.proofs.TypingSound.{first_of, second_of}
@@ -46,6 +46,10 @@ pub pair_has : (table : Table) (opened : ℕ) (a b : Ty) → has_auth_within tab
 pair_has table zero a b = refl
 pair_has table (suc opened) a b = refl
 
+pub vec_has : (table : Table) (opened n : ℕ) (t : Ty) → has_auth_within table opened t ≡ has_auth_within table opened (VecTy n t)
+vec_has table zero n t = refl
+vec_has table (suc opened) n t = refl
+
 -- levels that agree on the named types agree on all types
 same_level : (table : Table) (j k : ℕ) → ((n : ℕ) → has_auth_within table j (NamedTy n) ≡ has_auth_within table k (NamedTy n))
     → (t : Ty) → has_auth_within table j t ≡ has_auth_within table k t
@@ -57,6 +61,7 @@ same_level table j k same (AuthTy t) = sym (auth_has_one table j t) ∙ auth_has
 same_level table j k same (PairTy a b) =
     sym (pair_has table j a b) ∙ ap₂ (λ x y. x || y) (same_level table j k same a) (same_level table j k same b) ∙ pair_has table k a b
 same_level table j k same (NamedTy n) = same n
+same_level table j k same (VecTy n t) = sym (vec_has table j n t) ∙ same_level table j k same t ∙ vec_has table k n t
 
 -- tests that agree find the same
 some_same : {A : Type 0} (p q : A → Bool) → ((x : A) → p x ≡ q x) → (xs : List A) → some_passes p xs ≡ some_passes q xs
@@ -97,6 +102,8 @@ form_mark types (PairForm first second) count marks opened_marks s right table o
     ap₂ (λ a b. a || b) (right table opened named first.0 (ltb-true first.0 count (first_of _ _ s)))
     (right table opened named second.0 (ltb-true second.0 count (second_of (nat_lt first.0 count) _ s)))
     ∙ pair_has table opened (type_at types first) (type_at types second)
+form_mark types (VecForm n part) count marks opened_marks s right table opened named =
+    right table opened named part.0 (ltb-true part.0 count (first_of _ _ s)) ∙ vec_has table opened n (type_at types part)
 form_mark types (NamedForm n) count marks opened_marks s right table opened named = named n.0
 
 -- the marks of all types, those that aren't in the table included

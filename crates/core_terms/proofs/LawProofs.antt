@@ -1,6 +1,10 @@
 -- The laws, from the lemmas.
-use Rattle.std.proofs.Common.{refl, lit<, lit≤}
-use Rattle.core_terms.specs.Laws.{FirstFormatIsFormat, NoneIsPrefix, OneIsSpelled, PlainIsOwnProjection, ProjectionIsReadBack, ProjectionIsShallow, ProjectionKeepsLimits, ReadingIsExact, ShapeTestIsExact, SizeIsLength, TypingTestIsExact}
+use Rattle.std.proofs.Common.{ℕ, List, ◌++◌, refl, lit<, lit≤}
+use Rattle.core_terms.specs.Formats.{IsFormat, fingerprint}
+use Rattle.core_terms.specs.ProgramFormats.{format_with}
+use Rattle.core_terms.specs.declared.format.Format.{Format}
+use Rattle.core_terms.specs.declared.format.Format.TheVariants.{First, Second}
+use Rattle.core_terms.specs.Laws.{FirstFormatIsFormat, FormatsAreTheTwo, NoneIsPrefix, OneIsSpelled, PlainIsOwnProjection, ProjectionIsReadBack, ProjectionIsShallow, ProjectionKeepsLimits, ReadingIsExact, SecondFormatIsFormat, ShapeTestIsExact, SizeIsLength, TypingTestIsExact}
 use Rattle.core_terms.proofs.Plain.{own}
 use Rattle.core_terms.proofs.Projection.{size_shallow, depth_shallow}
 use Rattle.core_terms.proofs.ReadBack.{shallow_is, reads_back}
@@ -12,7 +16,27 @@ use Rattle.core_terms.proofs.TypingSound.{typed_sound}
 
 pub first_format_is_format : FirstFormatIsFormat
 first_format_is_format most small =
-    record { digest_length = λ hash is_hash t bytes. is_hash bytes; limit_fits = lit< tt; message_fits = lit≤ tt; limit_holds = lit≤ tt; magic_length = refl; kept_fits = small }
+    record { digest_length = λ hash is_hash t bytes. is_hash bytes; limit_fits = lit< tt; message_fits = lit≤ tt; limit_holds = lit≤ tt; magic_length = refl; image_magic_length = refl; kept_fits = small }
+
+pub second_format_is_format : SecondFormatIsFormat
+second_format_is_format text most small =
+    record {
+      digest_length = λ hash is_hash t bytes. is_hash (fingerprint hash (hash text) t ++ bytes);
+      limit_fits = lit< tt;
+      message_fits = lit≤ tt;
+      limit_holds = lit≤ tt;
+      magic_length = refl;
+      image_magic_length = refl;
+      kept_fits = small;
+    }
+
+pub formats_are_the_two : FormatsAreTheTwo
+formats_are_the_two text = (refl, refl)
+
+-- so each is one that the laws speak of
+pub each_format_is_format : (format : Format) (text : List ℕ) → IsFormat (format_with format text)
+each_format_is_format First text = first_format_is_format 1024 (lit< tt)
+each_format_is_format Second text = second_format_is_format text 1024 (lit< tt)
 
 pub reading_is_exact : ReadingIsExact
 reading_is_exact limit fits types bytes t s h = (λ r. spells_read types limit fits bytes t s r, λ r. read_spells types limit bytes t s _ r.0 h r.1)

@@ -20,6 +20,11 @@ pub mod TypesAlone
 -- the table of types
 pub mod TypeTables
 pub mod TypePushing
+pub mod Arrayless
+-- the printed declarations of types
+pub mod TypeTexts
+-- the fingerprints of types
+pub mod Fingerprints
 -- the marks of types
 pub mod AuthLevels
 -- roles_of, and Program's role

@@ -1,6 +1,6 @@
 -- Which values are within limits: of what is authenticated, of each of some values, and in a program's format. Which formats and names are
 -- none, and what the limits of a program come to in numbers.
-use Rattle.std.proofs.Common.{ℕ, ◌≤◌, ◌<◌, List, [], ◌∷◌, length, true, arith}
+use Rattle.std.proofs.Common.{ℕ, ◌≤◌, ◌<◌, List, [], ◌∷◌, length, true, arith, None, false}
 use Rattle.std.specs.Prelude.{All, pos, replicate}
 use Rattle.core_terms.specs.Types.{Table, BoolTy, IntTy, TextTy, PairTy, NamedTy, AuthTy}
 use Rattle.core_terms.specs.Formats.{Format, IsFormat, first_format}
@@ -55,7 +55,7 @@ nor_in_a_row h = let k : 44 ≤ 9 = h.1.0.size_fits in absurd (omega (arith, k))
 
 -- no format: where a text literal is too long for a spelling, where a spelling is too long for a message, and where a ring's size has no field
 abbrev of_limit : ℕ → Format
-of_limit limit = record { digest = λ hash t bytes. hash bytes; limit = limit; magic = replicate 4 0; most_kept = 0 }
+of_limit limit = record { digest = λ hash t bytes. hash bytes; print = λ hash t. None; limit = limit; magic = replicate 4 0; image_magic = replicate 4 0; most_kept = 0; arrays = false }
 
 too_short_a_limit : IsFormat (of_limit 65535) → ⊥
 too_short_a_limit h = let k : 65536 ≤ 65535 = h.limit_holds in absurd (omega (arith, k))

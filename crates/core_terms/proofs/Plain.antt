@@ -1,8 +1,8 @@
 -- A value of a type without `auth` is its own projection, and a shallow one is ideal.
-use Rattle.std.proofs.Common.{◌≡◌, ℕ, zero, suc, Bool, true, false, ◌||◌, List, [], ◌∷◌, Option, Some, None, unwrap_or, slice_get, refl, sym, ap, ap₂, ◌∙◌}
+use Rattle.std.proofs.Common.{◌≡◌, ℕ, zero, suc, Bool, true, false, ◌||◌, List, [], ◌∷◌, Option, Some, None, unwrap_or, slice_get, refl, sym, ap, ap₂, subst, ◌∙◌}
 use Rattle.std.specs.Option.{option_and_then}
-use Rattle.core_terms.specs.Types.{Ty, UnitTy, BoolTy, IntTy, TextTy, PairTy, NamedTy, AuthTy, Table, fields_at, OnFields}
-use Rattle.core_terms.specs.Values.{Value, UnitV, BoolV, IntV, TextV, PairV, ConV, Values, NoV, AndV, IsIdeal, AreIdeal, IsShallow, AreShallow}
+use Rattle.core_terms.specs.Types.{Ty, UnitTy, BoolTy, IntTy, TextTy, PairTy, NamedTy, AuthTy, VecTy, Table, fields_at, item_types, OnFields}
+use Rattle.core_terms.specs.Values.{Value, UnitV, BoolV, IntV, TextV, PairV, ConV, ItemsV, Values, NoV, AndV, IsIdeal, AreIdeal, IsShallow, AreShallow}
 use Rattle.core_terms.specs.Spelling.{shallow, shallow_all}
 use Rattle.core_terms.specs.Roles.{some_passes, has_auth_within, IsPlain}
 
@@ -30,6 +30,16 @@ fields_none types opened tag (Some constructors) ts e at = none_at (some_passes 
 abbrev ArePlain : Table → List Ty → Type 0
 ArePlain types ts = (opened : ℕ) → some_passes (has_auth_within types opened) ts ≡ false
 
+-- neither passes
+neither : (a b : Bool) → a ≡ false → b ≡ false → a || b ≡ false
+neither false b e f = f
+neither true b e f = cc
+
+-- the elements of an array are plain where its type is
+pub items_plain : (types : Table) (t : Ty) (n : ℕ) → IsPlain types t → ArePlain types (item_types n t)
+items_plain types t zero p opened = refl
+items_plain types t (suc n) p opened = neither (has_auth_within types opened t) _ (p opened) (items_plain types t n p opened)
+
 module _ (digest : Ty → List ℕ → List ℕ) (types : Table) where
   mutual
     pub own : (t : Ty) (v : Value) → IsPlain types t → IsIdeal types t v → shallow digest types t v ≡ v
@@ -40,6 +50,8 @@ module _ (digest : Ty → List ℕ → List ℕ) (types : Table) where
     own TextTy (TextV bytes) p h = refl
     own (PairTy a b) (PairV x y) p h = ap₂ PairV (own a x (λ n. first_no (has_auth_within types n a) _ (p n)) h.0) (own b y (λ n. second_no (has_auth_within types n a) _ (p n)) h.1)
     own (NamedTy number) (ConV tag vs) p h = ap (λ vs. ConV tag vs) (owns (fields_at types number tag) vs (λ ts at n. fields_none types n tag (slice_get types number) ts (p (suc n)) at) h)
+    own (VecTy n t) (ItemsV vs) p h =
+        ap ItemsV (owns (Some (item_types n t)) vs (λ ts at. let same : item_types n t ≡ ts = cc in subst (ArePlain types) same (items_plain types t n p)) h)
     own t v p h = elim h [ ]
 
     owns : (o : Option (List Ty)) (vs : Values) → ((ts : List Ty) → o ≡ Some ts → ArePlain types ts) → OnFields o (λ ts. AreIdeal types ts vs)
@@ -62,6 +74,8 @@ module _ (types : Table) where
     plain_ideal (PairTy a b) (PairV x y) p h =
         (plain_ideal a x (λ n. first_no (has_auth_within types n a) _ (p n)) h.0, plain_ideal b y (λ n. second_no (has_auth_within types n a) _ (p n)) h.1)
     plain_ideal (NamedTy number) (ConV tag vs) p h = plain_ideals (fields_at types number tag) vs (λ ts at n. fields_none types n tag (slice_get types number) ts (p (suc n)) at) h
+    plain_ideal (VecTy n t) (ItemsV vs) p h =
+        plain_ideals (Some (item_types n t)) vs (λ ts at. let same : item_types n t ≡ ts = cc in subst (ArePlain types) same (items_plain types t n p)) h
     plain_ideal t v p h = elim h [ ]
 
     plain_ideals : (o : Option (List Ty)) (vs : Values) → ((ts : List Ty) → o ≡ Some ts → ArePlain types ts)

@@ -2,7 +2,7 @@
 use Rattle.std.proofs.Common.{◌≡◌, ◌⊎◌, inl, inr, ℕ, zero, suc, ◌+◌, ◌<◌, ◌≤◌, Bool, true, false, ◌||◌, List, [], ◌∷◌, length, unwrap_or, slice_get, refl, sym, ap, ap₂, ◌∙◌, subst, arith, nat_eq, nat_le, zero-add, add_comm}
 use Rattle.std.proofs.lemmas.Option.{slice_get_past}
 use Rattle.std.proofs.lemmas.Bool.{eqb-true, eqb-false, leb-true, leb-false}
-use Rattle.core_terms.specs.Types.{Ty, UnitTy, BoolTy, IntTy, TextTy, PairTy, NamedTy, AuthTy, Table}
+use Rattle.core_terms.specs.Types.{Ty, UnitTy, BoolTy, IntTy, TextTy, PairTy, NamedTy, AuthTy, VecTy, Table}
 use Rattle.core_terms.specs.Roles.{some_passes, has_auth_within, has_auth, IsPlain}
 
 -- a choice that passes still passes where each of its sides does
@@ -31,6 +31,7 @@ module _ (types : Table) where
   found_later : (n : ℕ) (t : Ty) → has_auth_within types n t ≡ true → has_auth_within types (suc n) t ≡ true
   found_later n (AuthTy t) e = refl
   found_later n (PairTy a b) e = or_more _ _ _ _ (found_later n a) (found_later n b) e
+  found_later n (VecTy m t) e = found_later n t e
   found_later zero (NamedTy i) e = absurd (cc)
   found_later (suc n) (NamedTy i) e =
       passes_more (some_passes (has_auth_within types n)) (some_passes (has_auth_within types (suc n)))
@@ -54,6 +55,7 @@ module _ (types : Table) where
   stable_type n s (AuthTy t) = refl
   stable_type n s (PairTy a b) = ap₂ (λ a b. a || b) (stable_type n s a) (stable_type n s b)
   stable_type n s (NamedTy i) = s i
+  stable_type n s (VecTy m t) = stable_type n s t
   stable_type n s UnitTy = refl
   stable_type n s BoolTy = refl
   stable_type n s IntTy = refl

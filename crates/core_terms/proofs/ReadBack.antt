@@ -1,7 +1,7 @@
 -- The projection of an ideal value is a shallow value, and is read back from its spelling exactly where it is within the limits.
 use Rattle.std.proofs.Common.{◌≡◌, ◌⊎◌, inl, inr, ℕ, ◌<◌, ◌^◌, List, [], ◌∷◌, length, Option, Some, unwrap_or, ◌∙◌, arith}
-use Rattle.core_terms.specs.Types.{Ty, UnitTy, BoolTy, IntTy, TextTy, PairTy, NamedTy, AuthTy, Table, fields_at, OnFields}
-use Rattle.core_terms.specs.Values.{Value, UnitV, BoolV, IntV, TextV, PairV, ConV, Values, NoV, AndV, IsIdeal, AreIdeal, IsShallow, AreShallow, IsWithin, size}
+use Rattle.core_terms.specs.Types.{Ty, UnitTy, BoolTy, IntTy, TextTy, PairTy, NamedTy, AuthTy, VecTy, Table, fields_at, item_types, OnFields}
+use Rattle.core_terms.specs.Values.{Value, UnitV, BoolV, IntV, TextV, PairV, ConV, ItemsV, Values, NoV, AndV, IsIdeal, AreIdeal, IsShallow, AreShallow, IsWithin, size}
 use Rattle.core_terms.specs.Spelling.{spelling, shallow, shallow_all}
 use Rattle.core_terms.specs.Reading.{Good, BadAt, read}
 use Rattle.core_terms.proofs.Projection.{size_shallow, depth_shallow}
@@ -18,6 +18,7 @@ module _ (digest : Ty → List ℕ → List ℕ) (long : (t : Ty) (bytes : List 
     shallow_is TextTy (TextV bytes) h = h
     shallow_is (PairTy a b) (PairV x y) h = (shallow_is a x h.0, shallow_is b y h.1)
     shallow_is (NamedTy n) (ConV tag vs) h = shallow_are (fields_at types n tag) vs h
+    shallow_is (VecTy n t) (ItemsV vs) h = shallow_are (Some (item_types n t)) vs h
     shallow_is t v h = elim h [ ]
 
     shallow_are : (o : Option (List Ty)) (vs : Values) → OnFields o (λ ts. AreIdeal types ts vs) → OnFields o (λ ts. AreShallow types ts (shallow_all digest types (unwrap_or o []) vs))

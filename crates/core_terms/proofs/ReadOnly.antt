@@ -6,8 +6,8 @@ use Rattle.std.proofs.lemmas.Str.{IsUtf8-from_is_utf8}
 use Rattle.std.proofs.lemmas.Nat.{be_bytes_4, be_bytes_8}
 use Rattle.std.proofs.lemmas.Int.{of_z-to_z}
 use Rattle.std.proofs.Math.Facts.{sfits_to_z}
-use Rattle.core_terms.specs.Types.{Ty, UnitTy, BoolTy, IntTy, TextTy, PairTy, NamedTy, AuthTy, Table, fields_at, OnFields}
-use Rattle.core_terms.specs.Values.{IsShallow, AreShallow, Value, UnitV, BoolV, IntV, TextV, PairV, ConV, DigestV, Values, NoV, AndV, int_fits, depth, depths}
+use Rattle.core_terms.specs.Types.{Ty, UnitTy, BoolTy, IntTy, TextTy, PairTy, NamedTy, AuthTy, VecTy, Table, fields_at, item_types, OnFields}
+use Rattle.core_terms.specs.Values.{IsShallow, AreShallow, Value, UnitV, BoolV, IntV, TextV, PairV, ConV, DigestV, ItemsV, Values, NoV, AndV, int_fits, depth, depths}
 use Rattle.core_terms.specs.Spelling.{AreBytes, spelling, spellings, Spells}
 use Rattle.core_terms.specs.Reading.{Read, Good, BadAt, then_read, read_bool, read_bytes, read_text, read_each, read_fields, read_con, read_value, whole, read}
 use Rattle.core_terms.proofs.Numbers.{of_mag}
@@ -167,6 +167,19 @@ module _ (types : Table) where
             after = subst AreBytes left w.after;
           })
 
+  only_items : (n m : ℕ) (t : Ty)
+      → ((t : Ty) (bytes : List ℕ) (p : ℕ) (s : Value) (rest : List ℕ) (q : ℕ) → AreBytes bytes → read_value types n t bytes p ≡ Good s rest q → Only types n t bytes s rest)
+      → (bytes : List ℕ) (p : ℕ) (s : Value) (rest : List ℕ) (q : ℕ) → AreBytes bytes
+      → then_read (read_each (read_value types n) (item_types m t) bytes p) (λ vs bytes place. Good (ItemsV vs) bytes place) ≡ Good s rest q
+      → Only types (suc n) (VecTy m t) bytes s rest
+  only_items n m t one bytes p s rest q h e =
+      let r = then_good (read_each (read_value types n) (item_types m t) bytes p) _ s rest q e in
+      let w = only_each n one (item_types m t) bytes p r.0 r.1 r.2 h r.3 in
+      let same : ItemsV r.0 ≡ s = cc (r.4) in
+      let left : r.1 ≡ rest = cc (r.4) in
+      subst (λ s. Only types (suc n) (VecTy m t) bytes s rest) same
+      (record { shape = w.shape; is = w.is ∙ ap (λ b. spellings r.0 ++ b) left; deep = omega (arith, w.deep); after = subst AreBytes left w.after })
+
   only : (n : ℕ) (t : Ty) (bytes : List ℕ) (p : ℕ) (s : Value) (rest : List ℕ) (q : ℕ) → AreBytes bytes → read_value types n t bytes p ≡ Good s rest q → Only types n t bytes s rest
   only zero t bytes p s rest q h e = absurd (cc)
   only (suc n) UnitTy bytes p s rest q h e =
@@ -186,6 +199,7 @@ module _ (types : Table) where
       subst (λ s. Only types (suc n) (PairTy a b) bytes s rest) same
       (record { shape = (v.shape, w.shape); is = v.is ∙ ap (λ b. spelling r.0 ++ b) (w.is ∙ ap (λ b. spelling l.0 ++ b) left) ∙ sym (append_assoc (spelling r.0) (spelling l.0) rest); deep = omega (arith, v.deep, w.deep); after = subst AreBytes left w.after })
   only (suc n) (NamedTy number) bytes p s rest q h e = only_con n number (only n) bytes p s rest q h e
+  only (suc n) (VecTy m t) bytes p s rest q h e = only_items n m t (only n) bytes p s rest q h e
   only (suc n) (AuthTy t) bytes p s rest q h e = only_digest n t bytes p s rest q h e
 
   whole_good : (r : Read Value) (s : Value) (rest : List ℕ) (q : ℕ) → whole r ≡ Good s rest q → r ≡ Good s [] q

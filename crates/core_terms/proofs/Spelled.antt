@@ -7,8 +7,8 @@ use Rattle.std.proofs.lemmas.Nat.{from_be_bytes-to_be_bytes_4, from_be_bytes-to_
 use Rattle.std.proofs.lemmas.Int.{to_z-of_z}
 use Rattle.std.proofs.Math.Seq.{take-append_seam, drop-append_seam}
 use Rattle.std.proofs.Math.Facts.{Fits-of_z}
-use Rattle.core_terms.specs.Types.{Ty, UnitTy, BoolTy, IntTy, TextTy, PairTy, NamedTy, AuthTy, Table, fields_at, OnFields}
-use Rattle.core_terms.specs.Values.{IsShallow, AreShallow, Value, UnitV, BoolV, IntV, TextV, PairV, ConV, DigestV, Values, NoV, AndV, IsWithin, int_fits, size, sizes, depth, depths}
+use Rattle.core_terms.specs.Types.{Ty, UnitTy, BoolTy, IntTy, TextTy, PairTy, NamedTy, AuthTy, VecTy, Table, fields_at, item_types, OnFields}
+use Rattle.core_terms.specs.Values.{IsShallow, AreShallow, Value, UnitV, BoolV, IntV, TextV, PairV, ConV, DigestV, ItemsV, Values, NoV, AndV, IsWithin, int_fits, size, sizes, depth, depths}
 use Rattle.core_terms.specs.Spelling.{spelling, spellings, Spells}
 use Rattle.core_terms.specs.Reading.{Read, Good, BadAt, then_read, read_bytes, read_text, read_each, read_fields, read_value, whole, read}
 use Rattle.core_terms.proofs.Numbers.{mag_of}
@@ -63,6 +63,7 @@ module _ (types : Table) where
     length_spelling TextTy (TextV bytes) h = length-append (to_be_bytes w32 (length bytes)) bytes
     length_spelling (PairTy a b) (PairV x y) h = length-append (spelling x) _ ∙ ap₂ (λ m n. m + n) (length_spelling a x h.0) (length_spelling b y h.1)
     length_spelling (NamedTy n) (ConV tag vs) h = let e = lengths_spelling (fields_at types n tag) vs h in omega arith
+    length_spelling (VecTy n t) (ItemsV vs) h = lengths_spelling (Some (item_types n t)) vs h
     length_spelling t s h = elim h [ ]
 
     lengths_spelling : (ts : Option (List Ty)) (vs : Values) → OnFields ts (λ ts. AreShallow types ts vs) → length (spellings vs) ≡ sizes types (unwrap_or ts []) vs
@@ -73,6 +74,7 @@ module _ (types : Table) where
   depth_pos : (t : Ty) (v : Value) → 1 ≤ depth types t v
   depth_pos (PairTy a b) (PairV x y) = omega arith
   depth_pos (NamedTy n) (ConV tag vs) = omega arith
+  depth_pos (VecTy n t) (ItemsV vs) = omega arith
   depth_pos t v = lit≤ tt
 
   -- what is read at n levels where the spelling of v stands
@@ -144,6 +146,16 @@ module _ (types : Table) where
         by (inl h) = inl (omega (arith, h.0), (h.1.0, ap (λ r. then_read r go) h.1.1))
         by (inr h) = inr (omega (arith, h.0), (h.1.0, ap (λ r. then_read r go) h.1.1))
 
+    reads_items : (n m : ℕ) (t : Ty) (vs : Values) (rest : List ℕ) (p : ℕ) → ReadsEach n (item_types m t) vs rest p → ReadsAt (suc n) (VecTy m t) (ItemsV vs) rest p
+    reads_items n m t vs rest p h = by h
+      where
+        go : Values → List ℕ → ℕ → Read Value
+        go vs bytes place = Good (ItemsV vs) bytes place
+
+        by : ReadsEach n (item_types m t) vs rest p → ReadsAt (suc n) (VecTy m t) (ItemsV vs) rest p
+        by (inl h) = inl (omega (arith, h.0), (h.1.0, ap (λ r. then_read r go) h.1.1))
+        by (inr h) = inr (omega (arith, h.0), (h.1.0, ap (λ r. then_read r go) h.1.1))
+
     pub reads_at : (n : ℕ) (t : Ty) (v : Value) (rest : List ℕ) (p : ℕ) → IsShallow types t v → size types t v ≤ limit → ReadsAt n t v rest p
     reads_at zero t v rest p h s = inr (omega (arith, depth_pos t v), (p, refl))
     reads_at (suc n) UnitTy UnitV rest p h s = inl (omega arith, (p, refl))
@@ -157,6 +169,7 @@ module _ (types : Table) where
         let r = on_fields (fields_at types number tag) (λ ts. AreShallow types ts vs) h in
         let s' : 1 + sizes types r.0 vs ≤ limit = subst (λ o. 1 + sizes types (unwrap_or o []) vs ≤ limit) r.1 s in
         reads_con n number tag r.0 vs rest p r.1 (reads_each n (reads_at n) r.0 vs rest (p + 1) r.2 (omega arith))
+    reads_at (suc n) (VecTy m t) (ItemsV vs) rest p h s = reads_items n m t vs rest p (reads_each n (reads_at n) (item_types m t) vs rest p h s)
     reads_at (suc n) (AuthTy t) (DigestV bytes) rest p h s = inl (omega arith, (p + 32, read_front DigestV bytes rest 32 p h))
     reads_at (suc n) t v rest p h s = elim h [ ]
 

@@ -5,15 +5,16 @@ use Rattle.std.proofs.Math.Seq.{get_or-append_seam}
 use Rattle.std.proofs.lemmas.Bool.{ltb-false, eqb-true}
 use Rattle.std.proofs.lemmas.List.{get_or_past}
 use Rattle.std.proofs.lemmas.Option.{slice_get-get_or, slice_get_within, get_or_from_slice_get}
-use Rattle.std.specs.List.{list_any, position}
+use Rattle.std.specs.List.{list_all, list_any, position}
+use Rattle.core_terms.specs.declared.format.Format.{Format}
 use Rattle.std.proofs.lemmas.List.Quantifiers.{position-Some}
 use Rattle.std.proofs.lemmas.List.Folds.{list_any_at}
 use Rattle.indexmap.specs.IndexSet.{insert_key}
 use Rattle.core_terms.specs.contracts.types.TyFormPartialEq.TheImpl.{eq-value}
-use Rattle.core_terms.specs.Types.{Ty, UnitTy, BoolTy, IntTy, TextTy, PairTy, NamedTy, AuthTy}
-use Rattle.core_terms.specs.TypeTables.{type_of_form, types_behind, types_of_forms, HasNoNumber, HasOneNumber, IsWithForm, stands_behind, is_in_order}
+use Rattle.core_terms.specs.Types.{Ty, UnitTy, BoolTy, IntTy, TextTy, PairTy, NamedTy, AuthTy, VecTy}
+use Rattle.core_terms.specs.TypeTables.{type_of_form, types_behind, types_of_forms, HasNoNumber, HasOneNumber, IsWithForm, is_form_in, stands_behind, is_in_order}
 use Rattle.core_terms.specs.declared.types.TyForm.{TyForm}
-use Rattle.core_terms.specs.declared.types.TyForm.TheVariants.{UnitForm, BoolForm, IntForm, TextForm, AuthForm, PairForm, NamedForm}
+use Rattle.core_terms.specs.declared.types.TyForm.TheVariants.{UnitForm, BoolForm, IntForm, TextForm, AuthForm, PairForm, NamedForm, VecForm}
 use Rattle.core_terms.proofs.TypeTables.{length-types_behind, form_means, more_parts}
 use Rattle.core_terms.proofs.TypingSound.{first_of, second_of}
 use Rattle.core_terms.proofs.TypingComplete.{both}
@@ -47,6 +48,7 @@ stands_later m n (AuthForm part) h s = lt-ltb part.0 n (omega (arith, h, ltb-tru
 stands_later m n (PairForm first second) h s =
     both _ _ (lt-ltb first.0 n (omega (arith, h, ltb-true first.0 m (first_of _ _ s)))) (lt-ltb second.0 n (omega (arith, h, ltb-true second.0 m (second_of (nat_lt first.0 m) _ s))))
 stands_later m n (NamedForm named) h s = refl
+stands_later m n (VecForm len part) h s = both _ _ (lt-ltb part.0 n (omega (arith, h, ltb-true part.0 m (first_of _ _ s)))) (second_of (nat_lt part.0 m) _ s)
 stands_later m n UnitForm h s = refl
 stands_later m n BoolForm h s = refl
 stands_later m n IntForm h s = refl
@@ -71,6 +73,7 @@ kind_of TextTy = 3
 kind_of (PairTy a b) = 4
 kind_of (NamedTy n) = 5
 kind_of (AuthTy a) = 6
+kind_of (VecTy n t) = 7
 
 apart : (s t : Ty) → nat_eq (kind_of s) (kind_of t) ≡ false → s ≡ t → ⊥
 apart s t differ e = let same : nat_eq (kind_of s) (kind_of t) ≡ true = eq-eqb (kind_of s) (kind_of t) (ap kind_of e) in no_truth (sym differ ∙ same)
@@ -97,6 +100,11 @@ one_form types one (PairForm p p') (PairForm q q') s t e =
 one_form types one (NamedForm p) (NamedForm q) s t e =
     let same : p.0 ≡ q.0 = cc in
     ap (λ n. NamedForm (record { 0 = n })) same
+one_form types one (VecForm m p) (VecForm n q) s t e =
+    let part : slice_index_or types p.0 UnitTy ≡ slice_index_or types q.0 UnitTy = cc in
+    let len : m ≡ n = cc in
+    let same : p.0 ≡ q.0 = one p.0 q.0 (ltb-true p.0 (length types) (first_of _ _ s)) (ltb-true q.0 (length types) (first_of _ _ t)) part in
+    ap (λ m. VecForm m p) len ∙ ap (λ i. VecForm n (record { 0 = i })) same
 one_form types one f g s t e = absurd (apart (type_of_form types f) (type_of_form types g) refl e)
 
 -- the number of a form that is there is that of its type
@@ -155,6 +163,15 @@ one_number_push forms form h one s new = subst HasOneNumber (sym (types_push for
         by false p false q = last i a p ∙ sym (last j b q)
 
 -- the same of a table to which a form was added or wasn't
+all_push : (format : Format) (old : List TyForm) (form : TyForm) → list_all (is_form_in format) old ≡ true → is_form_in format form ≡ true → list_all (is_form_in format) (old ++ form ∷ []) ≡ true
+all_push format [] form h s = rw s refl
+all_push format (f ∷ fs) form h s = rw (first_of (is_form_in format f) _ h, all_push format fs form (second_of (is_form_in format f) _ h) s) refl
+
+pub format_either : (format : Format) (old new : List TyForm) (form : TyForm) → IsWithForm old form new → list_all (is_form_in format) old ≡ true → is_form_in format form ≡ true
+    → list_all (is_form_in format) new ≡ true
+format_either format old new form (inl e) h s = subst (λ l. list_all (is_form_in format) l ≡ true) (sym e) h
+format_either format old new form (inr e) h s = subst (λ l. list_all (is_form_in format) l ≡ true) (sym e.0) (all_push format old form h s)
+
 pub in_order_either : (old new : List TyForm) (form : TyForm) → IsWithForm old form new → is_in_order 0 old ≡ true
     → stands_behind (length (types_of_forms old)) form ≡ true → is_in_order 0 new ≡ true
 in_order_either old new form (inl e) h s = subst (λ l. is_in_order 0 l ≡ true) (sym e) h
@@ -200,6 +217,7 @@ own_form TextForm = refl
 own_form (AuthForm part) = eq-eqb part.0 part.0 refl
 own_form (PairForm first second) = both _ _ (eq-eqb first.0 first.0 refl) (eq-eqb second.0 second.0 refl)
 own_form (NamedForm named) = eq-eqb named.0 named.0 refl
+own_form (VecForm n part) = both _ _ (eq-eqb n n refl) (eq-eqb part.0 part.0 refl)
 
 -- the types of a table to which a form was added or wasn't
 pub types_either : (old new : List TyForm) (form : TyForm) → IsWithForm old form new
@@ -233,6 +251,9 @@ same_form (PairForm p p') (PairForm q q') e =
     ap (λ n. PairForm (record { 0 = n }) p') (eqb-true p.0 q.0 (first_of _ _ e))
     ∙ ap (λ n. PairForm q (record { 0 = n })) (eqb-true p'.0 q'.0 (second_of (nat_eq p.0 q.0) _ e))
 same_form (NamedForm p) (NamedForm q) e = ap (λ n. NamedForm (record { 0 = n })) (eqb-true p.0 q.0 e)
+same_form (VecForm m p) (VecForm n q) e =
+    ap (λ n. VecForm n p) (eqb-true m n (first_of _ _ e))
+    ∙ ap (λ q. VecForm n (record { 0 = q })) (eqb-true p.0 q.0 (second_of (nat_eq m n) _ e))
 same_form f g e = absurd (no_truth e)
 
 -- the form at the first place where the test says yes

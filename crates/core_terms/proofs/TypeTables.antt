@@ -4,11 +4,11 @@ use Rattle.std.proofs.Math.ListN.{get_or-append}
 use Rattle.std.proofs.Math.Seq.{get_or-append_seam}
 use Rattle.std.proofs.lemmas.Option.{unwrap_or-slice_get, slice_get_past}
 use Rattle.std.proofs.lemmas.Grind.{common_steps}
-use Rattle.core_terms.specs.Types.{Ty, UnitTy, AuthTy, PairTy}
+use Rattle.core_terms.specs.Types.{Ty, UnitTy, AuthTy, PairTy, VecTy}
 use Rattle.core_terms.specs.TypeTables.{type_of_form, types_behind, types_of_forms, stands_behind, is_in_order}
 use Rattle.core_terms.proofs.TypingSound.{first_of, second_of}
 use Rattle.core_terms.specs.declared.types.TyForm.{TyForm}
-use Rattle.core_terms.specs.declared.types.TyForm.TheVariants.{UnitForm, BoolForm, IntForm, TextForm, AuthForm, PairForm, NamedForm}
+use Rattle.core_terms.specs.declared.types.TyForm.TheVariants.{UnitForm, BoolForm, IntForm, TextForm, AuthForm, PairForm, NamedForm, VecForm}
 
 -- the types in front stay
 pub types_behind-front : (before : List Ty) (forms : List TyForm) (i : ℕ) → i < length before → slice_index_or (types_behind before forms) i UnitTy ≡ slice_index_or before i UnitTy
@@ -32,6 +32,7 @@ more_parts before forms IntForm h = refl
 more_parts before forms TextForm h = refl
 more_parts before forms (NamedForm named) h = refl
 more_parts before forms (AuthForm part) h = ap AuthTy (types_behind-front before forms part.0 (ltb-true part.0 (length before) h))
+more_parts before forms (VecForm n part) h = ap (VecTy n) (types_behind-front before forms part.0 (ltb-true part.0 (length before) (first_of _ _ h)))
 more_parts before forms (PairForm first second) h =
     ap (λ a. PairTy a (slice_index_or (types_behind before forms) second.0 UnitTy)) (types_behind-front before forms first.0 (ltb-true first.0 (length before) (first_of _ _ h)))
     ∙ ap (PairTy (slice_index_or before first.0 UnitTy)) (types_behind-front before forms second.0 (ltb-true second.0 (length before) (second_of (nat_lt first.0 (length before)) _ h)))

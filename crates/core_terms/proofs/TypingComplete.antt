@@ -1,8 +1,8 @@
 -- Where the typing rules hold, the typing test says yes.
 use Rattle.std.proofs.Common.{◌≡◌, ℕ, suc, Bool, true, false, ◌&&◌, List, [], ◌∷◌, ◌++◌, length, Option, Some, None, slice_get, unwrap_or, refl, sym, subst, eq-eqb, le-leb}
 use Rattle.std.proofs.lemmas.Str.{is_utf8-from_IsUtf8}
-use Rattle.core_terms.specs.Types.{Ty, UnitTy, BoolTy, IntTy, TextTy, PairTy, NamedTy, AuthTy, fields_at, OnFields}
-use Rattle.core_terms.specs.Terms.{Expression, UnitE, BoolE, IntE, TextE, LocalE, PairE, FstE, SndE, NotE, LenE, AuthE, UnauthE, ConE, ArithE, CompareE, TextCompareE, CatE, LetE, IfE, MatchE, CallE, Expressions, NoE, AndE, Arms, NoArm, AndArm, Program, Function, OnFunction, HasType, HaveTypes, HaveArms, IsTyped}
+use Rattle.core_terms.specs.Types.{Ty, UnitTy, BoolTy, IntTy, TextTy, PairTy, NamedTy, AuthTy, VecTy, fields_at, OnFields}
+use Rattle.core_terms.specs.Terms.{Expression, UnitE, BoolE, IntE, TextE, LocalE, PairE, FstE, SndE, NotE, LenE, AuthE, UnauthE, ConE, ArithE, CompareE, TextCompareE, CatE, LetE, IfE, MatchE, CallE, OperateE, operand_types, result_type, Expressions, NoE, AndE, Arms, NoArm, AndArm, Program, Function, OnFunction, HasType, HaveTypes, HaveArms, IsTyped}
 use Rattle.core_terms.specs.Typing.{same_type, is_at, fields_test, function_test, has_type, have_types, have_arms, all_typed, is_typed}
 
 pub both : (a b : Bool) → a ≡ true → b ≡ true → a && b ≡ true
@@ -17,6 +17,7 @@ same_self TextTy = refl
 same_self (PairTy a b) = both _ _ (same_self a) (same_self b)
 same_self (NamedTy n) = eq-eqb n n refl
 same_self (AuthTy t) = same_self t
+same_self (VecTy n t) = both _ _ (eq-eqb n n refl) (same_self t)
 
 pub same_complete : (a b : Ty) → a ≡ b → same_type a b ≡ true
 same_complete a b e = subst (λ b. same_type a b ≡ true) e (same_self a)
@@ -60,6 +61,7 @@ module _ (P : Program) where
     type_complete env (CallE f args) t h =
         on_function_complete (slice_get P.functions f) (λ g. same_type g.result t && have_types P env args g.parameters) (λ g. (g.result ≡ t) × HaveTypes P env args g.parameters)
         (λ g h. both _ _ (same_complete g.result t h.0) (types_complete env args g.parameters h.1)) h
+    type_complete env (OperateE op xs) t h = both _ _ (same_complete (result_type op) t h.0) (both _ _ h.1 (types_complete env xs (operand_types op) h.2))
 
     types_complete : (env : List Ty) (xs : Expressions) (ts : List Ty) → HaveTypes P env xs ts → have_types P env xs ts ≡ true
     types_complete env NoE [] h = refl

@@ -1,9 +1,9 @@
 -- Where the typing test says yes, the typing rules hold.
-use Rattle.std.proofs.Common.{◌≡◌, ℕ, zero, suc, Bool, true, false, ◌&&◌, List, [], ◌∷◌, ◌++◌, Option, Some, None, slice_get, unwrap_or, refl, ap, ap₂, subst, eqb-true, leb-true}
+use Rattle.std.proofs.Common.{◌≡◌, ℕ, zero, suc, Bool, true, false, ◌&&◌, List, [], ◌∷◌, ◌++◌, Option, Some, None, slice_get, unwrap_or, refl, ap, ap₂, subst, eqb-true, leb-true, nat_eq}
 use Rattle.std.specs.Str.{is_utf8}
 use Rattle.std.proofs.lemmas.Str.{IsUtf8-from_is_utf8}
-use Rattle.core_terms.specs.Types.{Ty, UnitTy, BoolTy, IntTy, TextTy, PairTy, NamedTy, AuthTy, fields_at, OnFields}
-use Rattle.core_terms.specs.Terms.{Expression, UnitE, BoolE, IntE, TextE, LocalE, PairE, FstE, SndE, NotE, LenE, AuthE, UnauthE, ConE, ArithE, CompareE, TextCompareE, CatE, LetE, IfE, MatchE, CallE, Expressions, NoE, AndE, Arms, NoArm, AndArm, Program, Function, OnFunction, HasType, HaveTypes, HaveArms, IsTyped}
+use Rattle.core_terms.specs.Types.{Ty, UnitTy, BoolTy, IntTy, TextTy, PairTy, NamedTy, AuthTy, VecTy, fields_at, OnFields}
+use Rattle.core_terms.specs.Terms.{Expression, UnitE, BoolE, IntE, TextE, LocalE, PairE, FstE, SndE, NotE, LenE, AuthE, UnauthE, ConE, ArithE, CompareE, TextCompareE, CatE, LetE, IfE, MatchE, CallE, OperateE, operand_types, result_type, is_operation, Expressions, NoE, AndE, Arms, NoArm, AndArm, Program, Function, OnFunction, HasType, HaveTypes, HaveArms, IsTyped}
 use Rattle.core_terms.specs.Typing.{same_type, is_at, fields_test, function_test, has_type, have_types, have_arms, all_typed, is_typed}
 
 pub first_of : (a b : Bool) → a && b ≡ true → a ≡ true
@@ -22,6 +22,7 @@ same_sound TextTy TextTy e = refl
 same_sound (PairTy a b) (PairTy c d) e = ap₂ PairTy (same_sound a c (first_of _ _ e)) (same_sound b d (second_of (same_type a c) _ e))
 same_sound (NamedTy m) (NamedTy n) e = ap NamedTy (eqb-true m n e)
 same_sound (AuthTy a) (AuthTy b) e = ap AuthTy (same_sound a b e)
+same_sound (VecTy m a) (VecTy n b) e = ap₂ VecTy (eqb-true m n (first_of _ _ e)) (same_sound a b (second_of (nat_eq m n) _ e))
 same_sound a b e = cc
 
 at_sound : (o : Option Ty) (t : Ty) → is_at o t ≡ true → o ≡ Some t
@@ -78,6 +79,9 @@ module _ (P : Program) where
     type_sound env (CallE f args) t e =
         on_function_sound (slice_get P.functions f) (λ g. same_type g.result t && have_types P env args g.parameters) (λ g. (g.result ≡ t) × HaveTypes P env args g.parameters)
         (λ g e. (same_sound g.result t (first_of _ _ e), types_sound env args g.parameters (second_of (same_type g.result t) _ e))) e
+    type_sound env (OperateE op xs) t e =
+        let r = second_of (same_type (result_type op) t) _ e in
+        (same_sound (result_type op) t (first_of _ _ e), first_of _ _ r, types_sound env xs (operand_types op) (second_of (is_operation op) _ r))
 
     types_sound : (env : List Ty) (xs : Expressions) (ts : List Ty) → have_types P env xs ts ≡ true → HaveTypes P env xs ts
     types_sound env NoE [] e = tt

@@ -6,7 +6,7 @@ use Rattle.core_terms.specs.Roles.{has_auth, has_auth_within}
 use Rattle.core_terms.specs.ProgramTrees.{table_of}
 use Rattle.core_terms.specs.declared.types.TyId.{TyId}
 use Rattle.core_terms.specs.declared.types.TyForm.{TyForm}
-use Rattle.core_terms.specs.declared.types.TyForm.TheVariants.{AuthForm, PairForm, NamedForm}
+use Rattle.core_terms.specs.declared.types.TyForm.TheVariants.{AuthForm, PairForm, NamedForm, VecForm}
 use Rattle.core_terms.specs.declared.term.Constructor.{Constructor}
 use Rattle.core_terms.specs.declared.term.NamedType.{NamedType}
 
@@ -35,5 +35,6 @@ is_marked_type marks declared = list_any (λ (c : Constructor). list_any (is_mar
 abbrev pub mark_of_form : (marks opened_marks : List Bool) → TyForm → Bool
 mark_of_form marks opened_marks (AuthForm part) = true
 mark_of_form marks opened_marks (PairForm first second) = is_marked_field marks first || is_marked_field marks second
+mark_of_form marks opened_marks (VecForm n part) = is_marked_field marks part
 mark_of_form marks opened_marks (NamedForm named) = slice_index_or opened_marks named.0 false
 mark_of_form marks opened_marks form = false

@@ -1,5 +1,5 @@
 -- The first format, what a program's format says of digests and limits, ideal values, and which roles read the state. Each row holds by computing.
-use Rattle.std.specs.Prelude.{◌≡◌, ◌^◌, ℕ, List, [], ◌∷◌, codes, pos, true, replicate, refl}
+use Rattle.std.specs.Prelude.{◌≡◌, ◌^◌, ℕ, List, [], ◌∷◌, codes, pos, true, replicate, refl, None, false}
 use Rattle.core_terms.specs.Types.{Ty, UnitTy, BoolTy, IntTy, TextTy, PairTy, NamedTy, AuthTy}
 use Rattle.core_terms.specs.Formats.{Format, Hash, first_format, message_limit}
 use Rattle.core_terms.specs.Values.{UnitV, BoolV, IntV, TextV, PairV, ConV, DigestV, NoV, AndV, IsIdeal}
@@ -31,7 +31,7 @@ tagged hash (AuthTy t) bytes = 1 ∷ hash bytes
 tagged hash t bytes = 0 ∷ hash bytes
 
 abbrev pub other_format : Format
-other_format = record { digest = tagged; limit = 9; magic = []; most_kept = 0 }
+other_format = record { digest = tagged; print = λ hash t. None; limit = 9; magic = []; image_magic = []; most_kept = 0; arrays = false }
 
 abbrev pub other_program : Program
 other_program = record { format = other_format; types = two_types; state = UnitTy; functions = [] }

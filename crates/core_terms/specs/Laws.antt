@@ -1,17 +1,27 @@
 -- The laws of spelling, projection and typing: what a reader may hold the definitions to.
 use Rattle.std.specs.Prelude.{◌≡◌, ◌⊎◌, ◌↔◌, ◌<◌, ◌^◌, ℕ, true, List, [], ◌++◌, length, Some, slice_get}
 use Rattle.core_terms.specs.Types.{Ty, Table}
-use Rattle.core_terms.specs.Formats.{IsFormat, first_format}
+use Rattle.core_terms.specs.Formats.{IsFormat, first_format, second_format}
 use Rattle.core_terms.specs.Values.{Value, IsIdeal, IsShallow, IsWithin, size, depth}
 use Rattle.core_terms.specs.Spelling.{AreBytes, Spells, spelling, shallow}
 use Rattle.core_terms.specs.Reading.{Good, BadAt, read}
 use Rattle.core_terms.specs.Terms.{Function, Program, IsTyped}
 use Rattle.core_terms.specs.Roles.{IsPlain, IsRole, is_entered}
 use Rattle.core_terms.specs.Typing.{is_typed, is_shaped}
+use Rattle.core_terms.specs.ProgramFormats.{format_with}
+use Rattle.core_terms.specs.declared.format.Format.TheVariants.{First, Second}
 
 -- The first format is one, with whatever greatest ring size fits its field.
 abbrev pub FirstFormatIsFormat : Type 0
 FirstFormatIsFormat = (most : ℕ) → most < 2 ^ 16 → IsFormat (first_format most)
+
+-- So is the second one, whatever type declarations it is of.
+abbrev pub SecondFormatIsFormat : Type 0
+SecondFormatIsFormat = (text : List ℕ) (most : ℕ) → most < 2 ^ 16 → IsFormat (second_format text most)
+
+-- The format of a program of the code is one of the two.
+abbrev pub FormatsAreTheTwo : Type 0
+FormatsAreTheTwo = (text : List ℕ) → (format_with First text ≡ first_format 1024) × (format_with Second text ≡ second_format text 1024)
 
 -- Bytes are read as a value exactly where they spell it, in a format whose limit fits the length field of a text.
 abbrev pub ReadingIsExact : Type 0

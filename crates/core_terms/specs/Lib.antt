@@ -8,6 +8,8 @@ pub mod Roles
 pub mod Projection
 pub mod Typing
 pub mod TypeTables
+pub mod TypeDeclarations
+pub mod ProgramFormats
 pub mod Names
 pub mod Texts
 pub mod ProgramTrees
@@ -15,6 +17,8 @@ pub mod ProgramTypes
 pub mod ProgramLimits
 pub mod TypeNames
 pub mod Programs
+pub mod TypeTexts
+pub mod Fronts
 pub mod Laws
 pub mod AuthMarks
 pub mod RoleViews
@@ -25,3 +29,5 @@ pub mod RoleRows
 pub mod LimitRows
 pub mod FormatRows
 pub mod Faults
+pub mod SecondRows
+pub mod ArrayRows

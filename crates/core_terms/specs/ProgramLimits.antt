@@ -2,8 +2,8 @@
 -- long its names are, and how far its types and expressions are nested.
 use Rattle.std.specs.Prelude.{ℕ, suc, ◌+◌, ◌≤◌, max, List, [], ◌∷◌, length, slice_get, unwrap_or, All}
 pub use Rattle.core_terms.specs.Names.{IsName, longest_name}
-use Rattle.core_terms.specs.Types.{Ty, PairTy, AuthTy, Table}
-use Rattle.core_terms.specs.Terms.{Expression, PairE, FstE, SndE, NotE, LenE, AuthE, UnauthE, ConE, ArithE, CompareE, TextCompareE, CatE, LetE, IfE, MatchE, CallE, Expressions, NoE, AndE, Arms, NoArm, AndArm, Function, Program}
+use Rattle.core_terms.specs.Types.{Ty, PairTy, AuthTy, VecTy, Table}
+use Rattle.core_terms.specs.Terms.{Expression, PairE, FstE, SndE, NotE, LenE, AuthE, UnauthE, ConE, ArithE, CompareE, TextCompareE, CatE, LetE, IfE, MatchE, CallE, OperateE, Expressions, NoE, AndE, Arms, NoArm, AndArm, Function, Program}
 
 -- how many there may be: named types in a program, constructors of a type, fields of a constructor
 abbrev pub most_types : ℕ
@@ -36,6 +36,7 @@ most_levels = 100
 abbrev pub levels_of_type : Ty → ℕ
 levels_of_type (PairTy a b) = suc (max (levels_of_type a) (levels_of_type b))
 levels_of_type (AuthTy t) = suc (levels_of_type t)
+levels_of_type (VecTy n t) = suc (levels_of_type t)
 levels_of_type t = 1
 
 abbrev mutual
@@ -57,6 +58,7 @@ abbrev mutual
   expressions_in (IfE test first other) = suc (expressions_in test + expressions_in first + expressions_in other)
   expressions_in (MatchE number x arms) = suc (expressions_in x + expressions_in_arms arms)
   expressions_in (CallE f args) = suc (expressions_in_row args)
+  expressions_in (OperateE op xs) = suc (expressions_in_row xs)
   expressions_in e = 1
 
   pub expressions_in_row : Expressions → ℕ
@@ -86,6 +88,7 @@ abbrev mutual
   levels_of (IfE test first other) = suc (max (levels_of test) (max (levels_of first) (levels_of other)))
   levels_of (MatchE number x arms) = suc (max (levels_of x) (levels_of_arms arms))
   levels_of (CallE f args) = suc (levels_of_row args)
+  levels_of (OperateE op xs) = suc (levels_of_row xs)
   levels_of e = 1
 
   pub levels_of_row : Expressions → ℕ
@@ -117,6 +120,7 @@ module _ (types : Table) where
     locals_in n (IfE test first other) = max (locals_in n test) (max (locals_in n first) (locals_in n other))
     locals_in n (MatchE number x arms) = max (locals_in n x) (locals_in_arms n (unwrap_or (slice_get types number) []) arms)
     locals_in n (CallE f args) = locals_in_row n args
+    locals_in n (OperateE op xs) = locals_in_row n xs
     locals_in n e = n
 
     pub locals_in_row : ℕ → Expressions → ℕ

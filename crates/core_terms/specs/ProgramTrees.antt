@@ -2,26 +2,27 @@
 use Rattle.std.specs.Prelude.{ℕ, Bool, ◌&&◌, List, [], ◌∷◌, length, map, nat_lt}
 use Rattle.std.specs.List.{list_all}
 use Rattle.core_terms.specs.Types.{Ty, Table}
-use Rattle.core_terms.specs.Formats.{Format, first_format}
-use Rattle.core_terms.specs.Terms.{Expression, UnitE, BoolE, IntE, TextE, LocalE, PairE, FstE, SndE, NotE, LenE, AuthE, UnauthE, ConE, ArithE, CompareE, TextCompareE, CatE, LetE, IfE, MatchE, CallE, Expressions, NoE, AndE, Arms, NoArm, AndArm}
+use Rattle.core_terms.specs.ProgramFormats.{format_with}
+use Rattle.core_terms.specs.Terms.{Expression, UnitE, BoolE, IntE, TextE, LocalE, PairE, FstE, SndE, NotE, LenE, AuthE, UnauthE, ConE, ArithE, CompareE, TextCompareE, CatE, LetE, IfE, MatchE, CallE, Expressions, NoE, AndE, Arms, NoArm, AndArm, OperateE, Operation, VecFill, VecGet, VecPut}
 use Rattle.core_terms.specs.Terms as tree
 use Rattle.core_terms.specs.Roles.{is_entered}
 use Rattle.core_terms.specs.Texts.{bytes_of}
+use Rattle.core_terms.specs.TypeDeclarations.{types_text}
+use Rattle.core_terms.specs.TypeNames.{all_constructor_names, type_names}
 use Rattle.core_terms.specs.TypeTables.{type_at, types_of_forms}
+use Rattle.core_terms.specs.declared.format.Format.{Format}
 use Rattle.core_terms.specs.declared.types.TyId.{TyId}
 use Rattle.core_terms.specs.declared.types.TyForm.{TyForm}
 use Rattle.core_terms.specs.declared.term.Term.{Term}
 use Rattle.core_terms.specs.declared.term.Term.TheOpen.{Term-F}
 use Rattle.core_terms.specs.declared.term.Term.TheFolds.{fold-Term}
+use Rattle.core_terms.specs.declared.term.Operation as code_operation
+use Rattle.core_terms.specs.declared.term.Operation.TheVariants as coded
 use Rattle.core_terms.specs.declared.term.Kind.{Kind}
 use Rattle.core_terms.specs.declared.term.Kind.TheVariants.{Inner, Init, Query, Update}
 use Rattle.core_terms.specs.declared.term.Constructor.{Constructor}
 use Rattle.core_terms.specs.declared.term.NamedType.{NamedType}
 use Rattle.core_terms.specs.declared.term.Function.{Function}
-
--- The format of every program: the first one. A proof may ask that up to 1,024 pieces are kept.
-abbrev pub program_format : Format
-program_format = first_format 1024
 
 -- expressions in a row, and arms in a row, from a list of them
 abbrev pub in_a_row : List Expression → Expressions
@@ -31,6 +32,12 @@ in_a_row (x ∷ xs) = AndE x (in_a_row xs)
 abbrev pub arms_in_a_row : List Expression → Arms
 arms_in_a_row [] = NoArm
 arms_in_a_row (body ∷ bodies) = AndArm body (arms_in_a_row bodies)
+
+-- the operation, over these types
+abbrev pub operation_of : List Ty → code_operation.Operation → Operation
+operation_of types (coded.VecFill n item) = VecFill n (type_at types item)
+operation_of types (coded.VecGet n item) = VecGet n (type_at types item)
+operation_of types (coded.VecPut n item) = VecPut n (type_at types item)
 
 -- the expression of a term over these types, where its parts stand for these expressions already
 abbrev pub expression_from_parts : List Ty → Term-F Expression → Expression
@@ -55,6 +62,7 @@ expression_from_parts types (Term-F.Let a bound body) = LetE (type_at types a) b
 expression_from_parts types (Term-F.If test first other) = IfE test.value first.value other.value
 expression_from_parts types (Term-F.Match named subject arms) = MatchE named.0 subject.value (arms_in_a_row arms.items)
 expression_from_parts types (Term-F.Call f arguments) = CallE f.0 (in_a_row arguments.items)
+expression_from_parts types (Term-F.Operate op operands) = OperateE (operation_of types op) (in_a_row operands.items)
 
 -- a term as an expression, over the types of its program by number
 abbrev pub expression_of : List Ty → Term → Expression
@@ -67,6 +75,10 @@ types_at types ids = map (type_at types) ids
 -- the named types by number, and of each the field types of its constructors by tag
 abbrev pub table_of : List Ty → List NamedType → Table
 table_of types named = map (λ (declared : NamedType). map (λ (constructor : Constructor). types_at types constructor.fields.items) declared.constructors.items) named
+
+-- the declarations of named types, printed
+abbrev pub declared_text : List Ty → List NamedType → List ℕ
+declared_text types named = types_text (type_names named) (all_constructor_names named) (table_of types named)
 
 abbrev pub kind_of : Kind → tree.Kind
 kind_of Inner = tree.Inner
@@ -108,8 +120,13 @@ is_within forms named state functions =
     let count = length (types_of_forms forms) in
     nat_lt state.0 count && (list_all (has_fields_below count) named && list_all (has_types_below count) functions)
 
--- the program
-abbrev pub program_of : List TyForm → List NamedType → TyId → List Function → tree.Program
-program_of forms named state functions =
+-- the program of this format
+abbrev pub program_of : Format → List TyForm → List NamedType → TyId → List Function → tree.Program
+program_of format forms named state functions =
     let types = types_of_forms forms in
-    record { format = program_format; types = table_of types named; state = type_at types state; functions = map (function_of types) functions }
+    record {
+      format = format_with format (declared_text types named);
+      types = table_of types named;
+      state = type_at types state;
+      functions = map (function_of types) functions;
+    }

@@ -1,9 +1,11 @@
 -- The types that the forms of a table stand for.
 use Rattle.std.specs.Prelude.{◌≡◌, ◌≢◌, ◌⊎◌, ℕ, ◌+◌, ◌<◌, Bool, true, ◌&&◌, List, [], ◌∷◌, ◌++◌, length, nat_lt, Some, slice_get, slice_index_or}
-use Rattle.core_terms.specs.Types.{Ty, UnitTy, BoolTy, IntTy, TextTy, AuthTy, PairTy, NamedTy}
+use Rattle.core_terms.specs.Types.{Ty, UnitTy, BoolTy, IntTy, TextTy, AuthTy, PairTy, NamedTy, VecTy, is_length}
+use Rattle.core_terms.specs.ProgramFormats.{arrays_of}
+use Rattle.core_terms.specs.declared.format.Format.{Format}
 use Rattle.core_terms.specs.declared.types.TyId.{TyId}
 use Rattle.core_terms.specs.declared.types.TyForm.{TyForm}
-use Rattle.core_terms.specs.declared.types.TyForm.TheVariants.{UnitForm, BoolForm, IntForm, TextForm, AuthForm, PairForm, NamedForm}
+use Rattle.core_terms.specs.declared.types.TyForm.TheVariants.{UnitForm, BoolForm, IntForm, TextForm, AuthForm, PairForm, NamedForm, VecForm}
 
 -- the type with a number, among these
 abbrev pub type_at : List Ty → TyId → Ty
@@ -18,6 +20,7 @@ type_of_form types TextForm = TextTy
 type_of_form types (AuthForm part) = AuthTy (type_at types part)
 type_of_form types (PairForm first second) = PairTy (type_at types first) (type_at types second)
 type_of_form types (NamedForm named) = NamedTy named.0
+type_of_form types (VecForm n part) = VecTy n (type_at types part)
 
 -- the types of the forms behind these, each with its parts among the earlier ones
 abbrev pub types_behind : List Ty → List TyForm → List Ty
@@ -28,11 +31,17 @@ types_behind before (form ∷ forms) = types_behind (before ++ type_of_form befo
 abbrev pub types_of_forms : List TyForm → List Ty
 types_of_forms forms = types_behind [] forms
 
--- the parts of a form are among the first n types
+-- the parts of a form are among the first n types, and an array has 1 to 64 elements
 abbrev pub stands_behind : ℕ → TyForm → Bool
 stands_behind n (AuthForm part) = nat_lt part.0 n
 stands_behind n (PairForm first second) = nat_lt first.0 n && nat_lt second.0 n
+stands_behind n (VecForm len part) = nat_lt part.0 n && is_length len
 stands_behind n form = true
+
+-- programs of the format may have types of this form
+abbrev pub is_form_in : Format → TyForm → Bool
+is_form_in format (VecForm len part) = arrays_of format
+is_form_in format form = true
 
 -- parts stand before what they are parts of, where n types stand before these forms
 abbrev pub is_in_order : ℕ → List TyForm → Bool

@@ -1,10 +1,12 @@
 //! The laws of the definitions in `specs/`: each is a function without parameters, whose contract is the law.
-ghost use Rattle.core_terms.specs.Laws.{FirstFormatIsFormat, NoneIsPrefix, OneIsSpelled, PlainIsOwnProjection, ProjectionIsReadBack, ProjectionIsShallow, ProjectionKeepsLimits, ReadingIsExact, ShapeTestIsExact, SizeIsLength, TypingTestIsExact};
+ghost use Rattle.core_terms.specs.Laws.{FirstFormatIsFormat, FormatsAreTheTwo, NoneIsPrefix, OneIsSpelled, PlainIsOwnProjection, ProjectionIsReadBack, ProjectionIsShallow, ProjectionKeepsLimits, ReadingIsExact, SecondFormatIsFormat, ShapeTestIsExact, SizeIsLength, TypingTestIsExact};
 
-/// The first format is one that the laws speak of: its numbers fit their fields, its limit holds each text literal, and its
-/// digests are as long as those of the hash.
+/// Both formats are ones that the laws speak of: their numbers fit their fields, their limits hold each text literal, and their
+/// digests are as long as those of the hash. Every program of the code has one of them.
 pub fn formats()
-    ensures { FirstFormatIsFormat }
+    ensures first { FirstFormatIsFormat }
+    ensures second { SecondFormatIsFormat }
+    ensures each { FormatsAreTheTwo }
 {}
 
 /// Bytes are read as a value exactly where they spell it; a string spells one value at a type at most; no spelling at a type

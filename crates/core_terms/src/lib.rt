@@ -7,6 +7,9 @@ pub mod byte_string;
 pub mod cause;
 pub mod digest;
 pub mod fault;
+pub mod format;
+pub mod fronts;
+pub mod items;
 pub mod laws;
 mod marks;
 pub mod outcome;
@@ -14,12 +17,16 @@ pub mod program;
 pub mod program_types;
 pub mod roles;
 pub mod term;
+mod type_texts;
 pub mod types;
 
 pub use byte_string::{ByteString, Piece, Spelling};
 pub use cause::Cause;
 pub use digest::{Digest, Hash32};
 pub use fault::Fault;
+pub use format::Format;
+pub use fronts::Fronts;
+pub use items::item_types;
 pub use marks::{auth_marks, is_marked};
 pub use outcome::{Outcome, Trap};
 pub use program::{FunctionId, Program};
@@ -27,6 +34,6 @@ pub use program_types::Types;
 pub use roles::{Role, RoleId, RoleKind};
 pub use term::{
     Arith, BinaryOperator, Compare, Constructor, Function, Kind, LocalId, Name, NameRef, NamedType,
-    Term, Text, TextCompare,
+    Operation, Term, Text, TextCompare,
 };
 pub use types::{NamedId, Tag, TyForm, TyId, TyTable};

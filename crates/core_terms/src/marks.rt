@@ -80,6 +80,7 @@ fn form_mark(form: TyForm, marks: &[bool], opened: &[bool]) -> bool
         TyForm::AuthForm(_) => true,
         TyForm::PairForm(first, second) => is_marked(marks, first) || is_marked(marks, second),
         TyForm::NamedForm(named) => is_marked(opened, TyId(named.0)),
+        TyForm::VecForm(_, part) => is_marked(marks, part),
         _ => false,
     }
 }

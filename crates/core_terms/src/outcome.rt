@@ -11,6 +11,8 @@ pub enum Trap {
     TooBig,
     /// The depth of a new value would pass its limit.
     TooDeep,
+    /// An index is outside its array.
+    Index,
 }
 
 /// How a run ends.

@@ -15,7 +15,7 @@ ghost use Rattle.core_terms.specs.Typing.{is_shaped, is_typed};
 
 use crate::roles::{place_of, roles_of};
 use crate::{
-    Digest, Function, NamedId, NamedType, Role, RoleId, Tag, TyForm, TyId, TyTable, Types,
+    Digest, Format, Function, NamedId, NamedType, Role, RoleId, Tag, TyForm, TyId, TyTable, Types,
 };
 use std::alloc::{AllocError, Global};
 
@@ -41,6 +41,7 @@ pub struct Program {
 
 impl Program {
     ghost use Rattle.core_terms.specs.Programs.{constructor_names, meaning, types_of};
+    ghost use Rattle.core_terms.specs.ProgramTypes.{text_of};
 
     /// A program of these parts, whose text has this digest. Its roles, and which types have an `auth`, are found here, once.
     ///
@@ -55,12 +56,12 @@ impl Program {
         text_digest: Digest,
         alloc: Global,
     ) -> Result<Self, AllocError>
-        requires typed { is_typed (program_of types.forms.keys named.items state functions.items) ≡ true }
-        requires shaped { is_shaped (program_of types.forms.keys named.items state functions.items) ≡ true }
+        requires typed { is_typed (program_of types.format types.forms.keys named.items state functions.items) ≡ true }
+        requires shaped { is_shaped (program_of types.format types.forms.keys named.items state functions.items) ≡ true }
         requires within { is_within types.forms.keys named.items state functions.items ≡ true }
         requires names { AreNamed named.items }
-        requires limits { IsWithinLimits (program_of types.forms.keys named.items state functions.items) }
-        ensures meaning { IfOk result (λ program. meaning program ≡ program_of types.forms.keys named.items state functions.items) }
+        requires limits { IsWithinLimits (program_of types.format types.forms.keys named.items state functions.items) }
+        ensures meaning { IfOk result (λ program. meaning program ≡ program_of types.format types.forms.keys named.items state functions.items) }
         ensures named { IfOk result (λ program. program.types.named.items ≡ named.items) }
         ensures digest { IfOk result (λ program. program.text_digest ≡ text_digest) }
     {
@@ -86,6 +87,20 @@ impl Program {
         ensures { result.now ≡ self.now.text_digest }
     {
         &self.text_digest
+    }
+
+    /// The format.
+    pub fn format(&self) -> Format
+        ensures { result ≡ self.now.types.table.format }
+    {
+        self.types.format()
+    }
+
+    /// The declarations of the named types, printed, each on its line.
+    pub fn types_text(&self) -> &[u8]
+        ensures { result.now ≡ text_of self.now.types }
+    {
+        self.types.text()
     }
 
     /// The number of types. Their numbers are those below it.

@@ -1,27 +1,30 @@
 // The types of a program: what whoever makes, reads or stores its values must know of it.
-ghost use Rattle.std.specs.Prelude.{◌≡◌, ◌<◌, true, length, Some, slice_get, option_map, bytes_eq, IfOk, IfSome, IsNone};
+ghost use Rattle.std.specs.Prelude.{◌≡◌, ◌<◌, ◌≤◌, true, length, Some, slice_get, option_map, bytes_eq, IfOk, IfSome, IsNone};
 ghost use Rattle.std.specs.List.{list_all, position};
 ghost use Rattle.std.proofs.Props.{props};
 ghost use Rattle.core_terms.specs.AuthMarks.{AreAuthMarks};
 ghost use Rattle.core_terms.specs.TypeNames.{AreNamed};
-ghost use Rattle.core_terms.specs.ProgramTrees.{are_types_within, has_fields_below, table_of, types_at};
+ghost use Rattle.core_terms.specs.ProgramTrees.{are_types_within, declared_text, has_fields_below, table_of, types_at};
 ghost use Rattle.core_terms.specs.TypeTables.{HasNoNumber, stands_behind, type_at, type_of_form, types_of_forms};
 ghost use Rattle.core_terms.specs.Roles.{has_auth};
 ghost use Rattle.core_terms.specs.Types.{fields_at, has_numbers, has_tags};
 
 use crate::marks::{auth_marks, is_marked};
-use crate::{Constructor, NamedId, NamedType, Tag, TyForm, TyId, TyTable};
+use crate::type_texts::declared_text;
+use crate::{Constructor, Format, NamedId, NamedType, Tag, TyForm, TyId, TyTable};
 use std::alloc::{AllocError, Global};
 
-/// The types of a program: a table of types by number, the named types, the type of its state, and which types an `auth` stands
-/// in. The types of its state and fields are in the table. There are at most 256 named types, of at most 255 constructors each, and
+/// The types of a program: its format, the declarations of its named types as they are printed, a table of types by number, the named
+/// types, the type of its state, and which types an `auth` stands in. The types of its state and fields are in the table. There are at most 256 named types, of at most 255 constructors each, and
 /// the names of these have 1 to 64 bytes.
 #[derive(Drop)]
 pub struct Types {
+    text: Vec<u8>,
     table: TyTable,
     named: Vec<NamedType>,
     state: TyId,
     auths: Vec<bool>,
+    ghost printed: { text.items ≡ declared_text (types_of_forms table.forms.keys) named.items },
     ghost marked: { AreAuthMarks (types_of_forms table.forms.keys) named.items auths.items },
     ghost within: { are_types_within (length (types_of_forms table.forms.keys)) named.items state ≡ true },
     ghost numbers: { has_numbers (table_of (types_of_forms table.forms.keys) named.items) ≡ true },
@@ -31,14 +34,14 @@ pub struct Types {
 
 impl Types {
     ghost use Rattle.core_terms.specs.Programs.{constructor_names};
-    ghost use Rattle.core_terms.specs.ProgramTypes.{named_table, types_by_number, types_meaning};
+    ghost use Rattle.core_terms.specs.ProgramTypes.{named_table, text_of, types_by_number, types_meaning};
 
     /// The types of these parts. Which of them have an `auth` is found here, once: each pass over the table and the named types
     /// opens named types once more, and there are at most as many passes as named types.
     ///
     /// # Errors
     ///
-    /// `AllocError` where there is no memory for the marks.
+    /// `AllocError` where there is no memory for the marks or for the printed declarations.
     pub fn new(
         table: TyTable,
         named: Vec<NamedType>,
@@ -54,12 +57,28 @@ impl Types {
         ensures state { IfOk result (λ types. types.state ≡ state) }
     {
         let auths = auth_marks(&table, &named, alloc)?;
+        let text = declared_text(&table, &named, alloc)?;
         Ok(Types {
+            text,
             table,
             named,
             state,
             auths,
         })
+    }
+
+    /// The format of the program.
+    pub fn format(&self) -> Format
+        ensures { result ≡ self.now.table.format }
+    {
+        self.table.format()
+    }
+
+    /// The declarations of the named types, printed, each on its line.
+    pub fn text(&self) -> &[u8]
+        ensures { result.now ≡ text_of self.now }
+    {
+        &self.text
     }
 
     /// The number of types. Their numbers are those below it.
@@ -133,16 +152,34 @@ impl Types {
 
     /// The greatest number of bytes of a spelling, and so of a piece of a proof.
     pub fn spelling_limit(&self) -> usize
-        ensures { result ≡ (types_meaning self.now).format.limit }
+        ensures limit { result ≡ (types_meaning self.now).format.limit }
+        ensures holds { 65536 ≤ result }
+        ensures fits { result ≤ 1048576 }
     {
-        65_536
+        match self.table.format() {
+            Format::First => 65_536,
+            Format::Second => 1_048_576,
+        }
     }
 
     /// The bytes that a proof file begins with.
     pub fn proof_magic(&self) -> [u8; 4]
         ensures { result ≡ (types_meaning self.now).format.magic }
     {
-        *b"LAP1"
+        match self.table.format() {
+            Format::First => *b"LAP1",
+            Format::Second => *b"LAP2",
+        }
+    }
+
+    /// The bytes that an image begins with.
+    pub fn image_magic(&self) -> [u8; 4]
+        ensures { result ≡ (types_meaning self.now).format.image_magic }
+    {
+        match self.table.format() {
+            Format::First => *b"LAI1",
+            Format::Second => *b"LAI2",
+        }
     }
 
     /// The greatest number of pieces that a proof may ask its verifier to keep.

@@ -195,6 +195,17 @@ pub enum BinaryOperator {
     Cat,
 }
 
+/// An operation on operands, with what their types don't show: the number of an array's elements, and their type.
+#[derive(Clone, Copy)]
+pub enum Operation {
+    /// An array of so many times the operand.
+    VecFill(u8, TyId),
+    /// The element of an array at an int.
+    VecGet(u8, TyId),
+    /// The array with its element at an int replaced.
+    VecPut(u8, TyId),
+}
+
 /// An expression. Types stand where those of the parts don't follow.
 #[derive(Drop)]
 pub enum Term {
@@ -242,6 +253,8 @@ pub enum Term {
     },
     /// A call of a function, and its arguments.
     Call(FunctionId, Vec<Term>),
+    /// An operation, and its operands.
+    Operate(Operation, Vec<Term>),
 }
 
 /// A named type, with its constructors by tag.

@@ -1,7 +1,9 @@
 // Types by number, in a table in which equal types have one number.
 ghost use Rattle.std.specs.Prelude.{◌≡◌, ◌≢◌, true, ◌<◌, ◌≤◌, ◌++◌, ◌⊎◌, ◌∷◌, [], ℕ, length, Some, slice_get, IfOk, IfSome, IsNone, IsTrue, OnErr, ◌↔◌, slice_index_or};
-ghost use Rattle.core_terms.specs.TypeTables.{HasNoNumber, HasOneNumber, IsWithForm, is_in_order, stands_behind, type_at, type_of_form, types_of_forms};
+ghost use Rattle.std.specs.List.{list_all};
+ghost use Rattle.core_terms.specs.TypeTables.{HasNoNumber, is_form_in, HasOneNumber, IsWithForm, is_in_order, stands_behind, type_at, type_of_form, types_of_forms};
 
+use crate::Format;
 use indexmap::IndexSet;
 use std::alloc::{AllocError, Global};
 
@@ -27,13 +29,17 @@ pub enum TyForm {
     AuthForm(TyId),
     PairForm(TyId, TyId),
     NamedForm(NamedId),
+    /// An array of so many elements of a type.
+    VecForm(u8, TyId),
 }
 
-/// The types of a program. Parts stand before what they are parts of, and no two are equal, so types are compared by number,
+/// The types of a program, of which only those of the second format have arrays. Parts stand before what they are parts of, and no two are equal, so types are compared by number,
 /// and a type costs one entry however long it is when it is written.
 #[derive(Drop)]
 pub struct TyTable {
+    format: Format,
     forms: IndexSet<TyForm>,
+    ghost of_format: { list_all (is_form_in format) forms.keys ≡ true },
     ghost in_order: { is_in_order 0 forms.keys ≡ true },
     ghost one_number: { HasOneNumber (types_of_forms forms.keys) },
 }
@@ -41,19 +47,30 @@ pub struct TyTable {
 impl TyTable {
     ghost use Rattle.core_terms.specs.Programs.{types_in};
 
-    /// An empty table.
-    pub fn new(alloc: Global) -> Self
-        ensures { types_in result ≡ [] }
+    /// An empty table, of a program of this format.
+    pub fn new(format: Format, alloc: Global) -> Self
+        ensures format { result.format ≡ format }
+        ensures types { types_in result ≡ [] }
     {
         TyTable {
+            format,
             forms: IndexSet::new(alloc),
         }
     }
 
-    /// The number of the type of this form, whose parts are in the table. A type that isn't there yet is added behind all
+    /// The format of the program.
+    pub fn format(&self) -> Format
+        ensures { result ≡ self.now.format }
+    {
+        self.format
+    }
+
+    /// The number of the type of this form, whose parts are in the table; an array has 1 to 64 elements. A type that isn't there yet is added behind all
     /// others, so each earlier number stands for the type that it stood for. Where memory is wanting nothing is changed.
     pub fn intern(&mut self, form: TyForm) -> Result<TyId, AllocError>
         requires parts { stands_behind (length (types_in self.old)) form ≡ true }
+        requires format { is_form_in self.old.format form ≡ true }
+        ensures format { self.new.format ≡ self.old.format }
         ensures number { IfOk result (λ id. slice_get (types_in self.new) id.0 ≡ Some (type_of_form (types_in self.old) form)) }
         ensures types { (types_in self.new ≡ types_in self.old) ⊎ (types_in self.new ≡ types_in self.old ++ type_of_form (types_in self.old) form ∷ []) }
         ensures within { IfOk result (λ id. id.0 < length (types_in self.new)) }

@@ -31,6 +31,7 @@ pub(crate) fn declared_scope<'a>(
 ) -> Result<Box<Scope<'a>>, AllocError>
     requires { checked_declarations nothing_declared (map written.declaration_of declarations.now) ≡ Sound (declared_of declared.value) }
     ensures grows { Grows (types_in types.old) (types_in types.new) }
+    ensures format { types.new.format ≡ types.old.format }
     ensures scope { IfOk result (λ scope. scope_meant (types_in types.new) scope.value ≡ scope_in (map written.declaration_of declarations.now)) }
     ensures functions { IfOk result (λ scope. functions_meant scope.value ≡ functions_written declarations.now) }
     ensures names { IfOk result (λ scope. type_names scope.value.named.items ≡ defined.type_names (map written.declaration_of declarations.now)) }
@@ -62,6 +63,7 @@ pub(crate) fn number(
     tree: &TypeTree,
 ) -> Result<TyId, AllocError>
     ensures grows { Grows (types_in types.old) (types_in types.new) }
+    ensures format { types.new.format ≡ types.old.format }
     ensures found { IfOk result (λ id. slice_get (types_in types.new) id.0 ≡ Some (type_meant (names_in names.now.keys) (written.type_of tree.now))) }
 {
     match tree {
@@ -100,6 +102,7 @@ fn numbers(
     trees: &[TypeTree],
 ) -> Result<Vec<TyId>, AllocError>
     ensures grows { Grows (types_in types.old) (types_in types.new) }
+    ensures format { types.new.format ≡ types.old.format }
     ensures found { IfOk result (λ ids. AreNumbers (types_in types.new) ids.items (map (type_meant (names_in names.now.keys)) (map written.type_of trees.now))) }
 {
     let mut ids = Vec::new(alloc);
@@ -117,6 +120,7 @@ fn parameter_numbers(
     parameters: &[Parameter],
 ) -> Result<Vec<TyId>, AllocError>
     ensures grows { Grows (types_in types.old) (types_in types.new) }
+    ensures format { types.new.format ≡ types.old.format }
     ensures found { IfOk result (λ ids. AreNumbers (types_in types.new) ids.items (map (λ p. type_meant (names_in names.now.keys) p.of_type) (map written.parameter_of parameters.now))) }
 {
     let mut ids = Vec::new(alloc);
@@ -134,6 +138,7 @@ fn named_types(
     declarations: &[Declaration],
 ) -> Result<Vec<NamedType>, AllocError>
     ensures grows { Grows (types_in types.old) (types_in types.new) }
+    ensures format { types.new.format ≡ types.old.format }
     ensures found { IfOk result (λ named. AreNamedOf (names_in names.now.keys) (types_in types.new) (map written.declaration_of declarations.now) named.items) }
 {
     let mut named = Vec::new(alloc);
@@ -153,6 +158,7 @@ fn named_type(
     declared: &TypeDeclaration,
 ) -> Result<NamedType, AllocError>
     ensures grows { Grows (types_in types.old) (types_in types.new) }
+    ensures format { types.new.format ≡ types.old.format }
     ensures found { IfOk result (λ named. IsNamedOf (names_in names.now.keys) (types_in types.new) (record { name = written.name_of declared.now.name; constructors = written.constructors_of declared.now.constructors }) named) }
 {
     let constructors = constructors(alloc, types, names, &declared.constructors)?;
@@ -168,6 +174,7 @@ fn constructors(
     declared: &[ConstructorDeclaration],
 ) -> Result<Vec<Constructor>, AllocError>
     ensures grows { Grows (types_in types.old) (types_in types.new) }
+    ensures format { types.new.format ≡ types.old.format }
     ensures found { IfOk result (λ constructors. AreConstructorsOf (names_in names.now.keys) (types_in types.new) (map written.constructor_of declared.now) constructors.items) }
 {
     let mut constructors = Vec::new(alloc);
@@ -185,6 +192,7 @@ fn constructor(
     declared: &ConstructorDeclaration,
 ) -> Result<Constructor, AllocError>
     ensures grows { Grows (types_in types.old) (types_in types.new) }
+    ensures format { types.new.format ≡ types.old.format }
     ensures found { IfOk result (λ constructor. IsConstructorOf (names_in names.now.keys) (types_in types.new) (written.constructor_of declared.now) constructor) }
 {
     let fields = numbers(alloc, types, names, &declared.fields)?;
@@ -200,6 +208,7 @@ fn heads<'a>(
     declarations: &'a [Declaration],
 ) -> Result<Vec<Head<'a>>, AllocError>
     ensures grows { Grows (types_in types.old) (types_in types.new) }
+    ensures format { types.new.format ≡ types.old.format }
     ensures found { IfOk result (λ heads. AllZip (IsHeadOf (names_in names.now.keys) (types_in types.new)) (functions_written declarations.now) heads.items) }
 {
     let mut heads = Vec::new(alloc);
@@ -219,6 +228,7 @@ fn head<'a>(
     function: &'a Function,
 ) -> Result<Head<'a>, AllocError>
     ensures grows { Grows (types_in types.old) (types_in types.new) }
+    ensures format { types.new.format ≡ types.old.format }
     ensures found { IfOk result (λ head. IsHeadOf (names_in names.now.keys) (types_in types.new) (written.function_of function.now) head) }
 {
     let parameters = parameter_numbers(alloc, types, names, &function.parameters)?;

@@ -1,6 +1,7 @@
 // The first three passes over the tree of a program.
 ghost use Rattle.std.specs.Prelude.{◌≡◌, ◌≢◌, ℕ, List, [], IfOk, map};
 ghost use Rattle.core_terms.specs.Programs.{types_in};
+ghost use Rattle.core_terms.specs.declared.format.Format.TheVariants.{First};
 ghost use Rattle.auth_syntax.specs.Trees as written;
 ghost use Rattle.declared_types.specs.Checking.{Sound};
 ghost use Rattle.declared_types.specs.Declarations.{checked_declarations, nothing_declared};
@@ -18,7 +19,7 @@ use crate::roles::third_pass;
 use crate::scope::Scope;
 use crate::written_types::second_pass;
 use auth_syntax::tree::{Ast, Declaration, TypeTree};
-use core_terms::{TyId, TyTable};
+use core_terms::{Format, TyId, TyTable};
 use std::alloc::Global;
 
 /// What a program declares for its bodies: its types by number, its scope, and the number of its state's type.
@@ -57,9 +58,10 @@ pub fn checked_scope<'a>(
     requires known { names_known (written.program_of ast.now) ≡ Sound tt }
     requires declared { checked_declarations nothing_declared (written.declarations_of ast.now.declarations) ≡ Sound (declared_of declared.value) }
     ensures found { Finds (λ _. tt) (specified.third_pass (written.program_of ast.now)) result }
+    ensures format { IfOk result (λ shaped. shaped.types.value.format ≡ First) }
     ensures shaped { IfOk result (λ shaped. TableStandsFor (written.program_of ast.now) (types_in shaped.types.value) shaped.scope.value shaped.state) }
 {
-    let mut types = Box::new(alloc, TyTable::new(alloc))?;
+    let mut types = Box::new(alloc, TyTable::new(Format::First, alloc))?;
     let state = number(
         &mut types,
         &declared.types,

@@ -23,7 +23,7 @@ one_field declared constructor constructors fields =
 
 pub tree_rows : TreeRows
 tree_rows = record {
-  most_that_are_kept = (refl, refl);
+  most_that_are_kept = λ format text. refl;
   operands_in_a_row = refl;
   arms_by_tag = refl;
   each_kind = (refl, refl, refl, refl);
@@ -53,5 +53,5 @@ tree_rows = record {
   functions_of_program_types = λ t functions. refl;
   functions_of_a_program = λ p. refl;
   types_alone_have_no_function = λ t. refl;
-  program_without_functions = refl;
+  program_without_functions = λ format. refl;
 }

@@ -18,3 +18,6 @@ pub mod PieceRows
 pub mod CauseRows
 pub mod IntRows
 pub mod PartRows
+-- the second format, in both
+pub mod SecondFormatRows
+pub mod ArrayVerdictRows

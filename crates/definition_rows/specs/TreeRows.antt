@@ -1,16 +1,18 @@
 -- What a program of the code stands for (`ProgramTrees`, `ProgramTypes`, `Programs`, `TypeNames`).
-use Rattle.std.specs.Prelude.{◌≡◌, List, [], ◌∷◌, true, false, map}
+use Rattle.std.specs.Prelude.{◌≡◌, ℕ, List, [], ◌∷◌, true, false, map}
 use Rattle.core_terms.specs.Types.{Ty, UnitTy, BoolTy, IntTy, AuthTy}
 use Rattle.core_terms.specs.Names.{IsName}
 use Rattle.core_terms.specs.Terms.{UnitE, LocalE, NoE, AndE, NoArm, AndArm}
 use Rattle.core_terms.specs.Terms as tree
 use Rattle.core_terms.specs.TypeTables.{type_at}
-use Rattle.core_terms.specs.ProgramTrees.{are_types_within, arms_in_a_row, expression_of, function_of, has_fields_below, has_types_below, in_a_row, is_role, is_within, kind_of, program_format, program_of, table_of}
+use Rattle.core_terms.specs.ProgramTrees.{are_types_within, arms_in_a_row, expression_of, function_of, has_fields_below, has_types_below, in_a_row, is_role, is_within, kind_of, program_of, table_of}
+use Rattle.core_terms.specs.ProgramFormats.{format_with}
 use Rattle.core_terms.specs.ProgramTypes.{named_table, program_with, types_by_number, types_meaning}
 use Rattle.core_terms.specs.Programs.{constructor_names, meaning, types_of}
 use Rattle.core_terms.specs.TypeNames.{AreNamed}
 use Rattle.core_terms.specs.declared.types.TyForm.TheVariants.{UnitForm, BoolForm}
 use Rattle.core_terms.specs.declared.program_types.Types.{Types}
+use Rattle.core_terms.specs.declared.format.Format.{Format}
 use Rattle.core_terms.specs.declared.program.Program.{Program}
 use Rattle.core_terms.specs.declared.term.Constructor.{Constructor}
 use Rattle.core_terms.specs.declared.term.Function.{Function}
@@ -18,8 +20,8 @@ use Rattle.core_terms.specs.declared.term.Kind.TheVariants.{Inner, Init, Query, 
 use Rattle.core_terms.specs.declared.term.NamedType.{NamedType}
 
 pub record TreeRows : Type 0 where
-  -- programs are in the first format, and a proof may ask that 1,024 pieces are kept
-  pub most_that_are_kept : (program_format.most_kept ≡ 1024) × (program_format.limit ≡ 65536)
+  -- a proof may ask that 1,024 pieces are kept, in each format
+  pub most_that_are_kept : (format : Format) (text : List ℕ) → (format_with format text).most_kept ≡ 1024
   -- operands and arms, in their order
   pub operands_in_a_row : in_a_row (UnitE ∷ LocalE 1 ∷ []) ≡ AndE UnitE (AndE (LocalE 1) NoE)
   pub arms_by_tag : arms_in_a_row (UnitE ∷ LocalE 1 ∷ []) ≡ AndArm UnitE (AndArm (LocalE 1) NoArm)
@@ -59,4 +61,4 @@ pub record TreeRows : Type 0 where
   pub functions_of_program_types : (t : Types) (functions : List Function) → (program_with t functions).functions ≡ map (function_of (types_by_number t)) functions
   pub functions_of_a_program : (p : Program) → (meaning p).functions ≡ map (function_of (types_of p)) p.functions.items
   pub types_alone_have_no_function : (t : Types) → (types_meaning t).functions ≡ []
-  pub program_without_functions : program_of (UnitForm ∷ BoolForm ∷ []) [] (record { 0 = 1 }) [] ≡ record { format = program_format; types = []; state = BoolTy; functions = [] }
+  pub program_without_functions : (format : Format) → program_of format (UnitForm ∷ BoolForm ∷ []) [] (record { 0 = 1 }) [] ≡ record { format = format_with format []; types = []; state = BoolTy; functions = [] }

@@ -1,6 +1,6 @@
 -- Verdicts on proof files (`Checked`, `Frames`, `Following`): of the fault of a later part, of the second piece, of a length that is cut, and what
 -- no split is. Each equation holds by computing both sides: for every hash where no digest is compared, else for the digest for examples.
-use Rattle.std.specs.Prelude.{◌≡◌, [], ◌∷◌, ◌++◌, replicate, true, false}
+use Rattle.std.specs.Prelude.{◌≡◌, [], ◌∷◌, ◌++◌, replicate, true, false, None}
 use Rattle.core_terms.specs.Types.{UnitTy, BoolTy, IntTy, PairTy, AuthTy}
 use Rattle.core_terms.specs.Formats.{Hash}
 use Rattle.core_terms.specs.Values.{UnitV, BoolV, PairV, DigestV}
@@ -17,7 +17,7 @@ use Rattle.ideal_meaning.specs.ExampleProofs.{file, on_open}
 
 -- a program in a format whose digests tell whether the type is an authenticated one, with spellings of up to 40 bytes
 abbrev pub tagged_program : Program
-tagged_program = record { format = record { digest = tagged; limit = 40; magic = []; most_kept = 0 }; types = []; state = UnitTy; functions = [] }
+tagged_program = record { format = record { digest = tagged; print = λ hash t. None; limit = 40; magic = []; image_magic = replicate 4 0; most_kept = 0; arrays = false }; types = []; state = UnitTy; functions = [] }
 
 -- the honest piece of a pair of true and false
 abbrev pub honest : Piece

@@ -4,6 +4,7 @@
 //! crates. `specs/` has them by what they are about, and `proofs/` has under the same name that they hold.
 #![tactic(auto)]
 
+ghost use Rattle.definition_rows.specs.ArrayVerdictRows.{ArrayVerdictRows};
 ghost use Rattle.definition_rows.specs.CauseRows.{CauseRows};
 ghost use Rattle.definition_rows.specs.EndRows.{EndRows};
 ghost use Rattle.definition_rows.specs.FaultRows.{FaultRows};
@@ -16,6 +17,7 @@ ghost use Rattle.definition_rows.specs.PieceRows.{PieceRows};
 ghost use Rattle.definition_rows.specs.RingRows.{RingRows};
 ghost use Rattle.definition_rows.specs.RoleRows.{RoleRows};
 ghost use Rattle.definition_rows.specs.RuleRows.{RuleRows};
+ghost use Rattle.definition_rows.specs.SecondFormatRows.{SecondFormatRows};
 ghost use Rattle.definition_rows.specs.SpellingRows.{SpellingRows};
 ghost use Rattle.definition_rows.specs.TermRows.{TermRows};
 ghost use Rattle.definition_rows.specs.TreeRows.{TreeRows};
@@ -47,4 +49,14 @@ pub fn ideal_meaning_rows()
     ensures causes { CauseRows }
     ensures ints { IntRows }
     ensures parts { PartRows }
+{}
+
+/// The rows of both on the second format.
+pub fn second_format_rows()
+    ensures { SecondFormatRows }
+{}
+
+/// The rows of both on arrays: verdicts, and runs at the limits.
+pub fn array_rows()
+    ensures { ArrayVerdictRows }
 {}

@@ -1,5 +1,5 @@
 -- A digest for tests, for which collisions are easily found.
-use Rattle.std.specs.Prelude.{List, [], ◌∷◌, ◌++◌, fold, replicate, bit_xor}
+use Rattle.std.specs.Prelude.{[], ◌∷◌, ◌++◌, fold, replicate, bit_xor}
 use Rattle.core_terms.specs.Formats.{Hash}
 
 -- 31 zero bytes, and the XOR of all bytes

@@ -27,6 +27,15 @@ impl Hash32 for Sha {
     fn of(bytes: &[u8]) -> Digest {
         Digest(Sha256::digest(bytes))
     }
+
+    fn of_pair(first: &[u8], second: &[u8]) -> Digest {
+        Digest(
+            Sha256::new()
+                .chain_update(first)
+                .chain_update(second)
+                .finalize(),
+        )
+    }
 }
 
 /// A digest for tests: 31 zero bytes, then the XOR of all bytes.
@@ -43,6 +52,13 @@ impl Hash32 for Toy {
     fn of(bytes: &[u8]) -> Digest {
         let mut digest = [0; 32];
         digest[31] = bytes.iter().fold(0, |folded, byte| folded ^ byte);
+        Digest(digest)
+    }
+
+    fn of_pair(first: &[u8], second: &[u8]) -> Digest {
+        let front = first.iter().fold(0, |folded, byte| folded ^ byte);
+        let mut digest = [0; 32];
+        digest[31] = second.iter().fold(front, |folded, byte| folded ^ byte);
         Digest(digest)
     }
 }

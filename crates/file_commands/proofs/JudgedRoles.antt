@@ -24,7 +24,7 @@ use Rattle.mode_vm.specs.StateCalls.{SpellsOutcome}
 use Rattle.verifier_mode.specs.declared.verdict.Verdict.{Verdict}
 use Rattle.verifier_mode.specs.declared.verdict.Verdict.TheVariants as verdict
 use Rattle.shallow_codec.specs.ProgramTypes.{table, ty_of}
-use Rattle.value_store.specs.Nodes.{size_limit}
+use Rattle.core_terms.proofs.CodePrograms.{is_format}
 use Rattle.file_commands.specs.Answer.{Answer, accepted_answer, callee_of, says, shallow_told, spelling_stored, verdict_answer}
 use Rattle.file_commands.specs.FueledRoles.{FueledRole}
 use Rattle.file_commands.specs.Halting.{JudgementCause, ending_status, of_verdict}
@@ -106,17 +106,18 @@ module _ (callee : Callee) (p : Program) (called : CalledRole) (is : IsCalled ca
       → (o : ideal.Outcome) → SpellsOutcome (meaning p) (result_called r) o (told.Done bytes) → shallow_told r o ≡ says DoneStatus line
   shallow_done bytes lent line same tells o (v, done, spelled) =
       let types = (meaning p).types in
-      let spelled' : Spells size_limit types bytes held v = subst (λ t. Spells size_limit types bytes t v) (sym type_is) spelled in
+      let spelled' : Spells (meaning p).format.limit types bytes held v = subst (λ t. Spells (meaning p).format.limit types bytes t v) (sym type_is) spelled in
       let is = same ∙ spelled'.is in
       let count : length lent ≡ length (spelling v) = ap length is in
       let fits = spelled'.within.size_fits in
+      let short = (is_format p).limit_fits in
       let size = size_is_length types held v spelled'.shape in
-      let line_is = tells v spelled'.shape (omega (arith, count, size, fits)) is in
+      let line_is = tells v spelled'.shape (omega (arith, count, size, fits, short)) is in
       ap (shallow_told r) done ∙ ap (says DoneStatus) (sym (line_is ∙ ap (λ t. named_done_line types (constructor_names p.types.named.items) t v) type_is))
 
   -- the value is told at the type that the code holds
-  pub spelled_as_held : (bytes : List ℕ) → IsTold (meaning p) (result_called r) (told.Done bytes) → (v : Value) × Spells size_limit (meaning p).types bytes held v
-  spelled_as_held bytes (o, (v, done, spelled)) = (v, subst (λ t. Spells size_limit (meaning p).types bytes t v) (sym type_is) spelled)
+  pub spelled_as_held : (bytes : List ℕ) → IsTold (meaning p) (result_called r) (told.Done bytes) → (v : Value) × Spells (meaning p).format.limit (meaning p).types bytes held v
+  spelled_as_held bytes (o, (v, done, spelled)) = (v, subst (λ t. Spells (meaning p).format.limit (meaning p).types bytes t v) (sym type_is) spelled)
 
 -- an update's result is the new state, with an answer
 module _ (p : Program) (called : CalledRole) (is : IsCalled callees.Update p called) where
@@ -138,12 +139,12 @@ module _ (p : Program) (called : CalledRole) (is : IsCalled callees.Update p cal
   -- the value and its spelling by the types of the program, and by the bytes as they are lent
   module _ (types : Types) (same : types ≡ p.types) (bytes lent : List ℕ) (lent_is : lent ≡ bytes) where
     abbrev SpellsLent : Value → Type 0
-    SpellsLent v = Spells size_limit (table types) lent (ty_of types called.result) v
+    SpellsLent v = Spells (types_meaning types).format.limit (table types) lent (ty_of types called.result) v
 
-    to_lent : (v : Value) → Spells size_limit (meaning p).types bytes held_at v → SpellsLent v
+    to_lent : (v : Value) → Spells (meaning p).format.limit (meaning p).types bytes held_at v → SpellsLent v
     to_lent v spelled =
-        subst (λ (types : Types). Spells size_limit (table types) lent (ty_of types called.result) v) (sym same)
-        (subst (λ bytes. Spells size_limit (meaning p).types bytes held_at v) (sym lent_is) spelled)
+        subst (λ (types : Types). Spells (types_meaning types).format.limit (table types) lent (ty_of types called.result) v) (sym same)
+        (subst (λ bytes. Spells (meaning p).format.limit (meaning p).types bytes held_at v) (sym lent_is) spelled)
 
     pub pair_lent : (answer : Ty) × (ty_of types called.result ≡ PairTy (types_meaning types).state answer)
     pair_lent = (is.answer, subst (λ (types : Types). ty_of types called.result ≡ PairTy (types_meaning types).state is.answer) (sym same) pair_held)
@@ -157,11 +158,11 @@ module _ (p : Program) (called : CalledRole) (is : IsCalled callees.Update p cal
         → spelling_stored (role_of p called) (Some name) o ≡ stored_as name (Some file)
     state_stored state file spells file_is name o (v, done, spelled) =
         let types = (meaning p).types in
-        let spelled' : Spells size_limit types bytes held_at v = subst (λ t. Spells size_limit types bytes t v) (sym (result_type_is callees.Update p called is)) spelled in
+        let spelled' : Spells (meaning p).format.limit types bytes held_at v = subst (λ t. Spells (meaning p).format.limit types bytes t v) (sym (result_type_is callees.Update p called is)) spelled in
         let pair : IsShallow types (PairTy (meaning p).state is.answer) v = subst (λ t. IsShallow types t v) pair_held spelled'.shape in
         ap (spelling_stored (role_of p called) (Some name)) done ∙ by v pair spelled'
       where
-        by : (v : Value) → IsShallow (meaning p).types (PairTy (meaning p).state is.answer) v → Spells size_limit (meaning p).types bytes held_at v
+        by : (v : Value) → IsShallow (meaning p).types (PairTy (meaning p).state is.answer) v → Spells (meaning p).format.limit (meaning p).types bytes held_at v
             → spelling_stored (role_of p called) (Some name) (ideal.Done v) ≡ stored_as name (Some file)
         by (PairV x y) shallow spelled =
             ap (λ kind. (name, spelling (state_made kind (PairV x y))) ∷ []) (kind_told callees.Update p called is ∙ is_update)

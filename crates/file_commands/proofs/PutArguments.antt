@@ -1,5 +1,5 @@
 -- The value of a literal, put into a store: it stands there over the prover's nodes, since nothing in it is authenticated.
-use Rattle.std.proofs.Common.{◌≡◌, ℕ, List, [], Option, Result, Ok, Err, IsErrAnd, sym, ap, ◌∙◌, subst, lit<}
+use Rattle.std.proofs.Common.{◌≡◌, ℕ, List, [], Option, Result, Ok, Err, IsErrAnd, sym, ap, ◌∙◌, subst}
 use Rattle.core_terms.specs.Programs.{constructor_names, meaning}
 use Rattle.core_terms.specs.ProgramTypes.{types_meaning}
 use Rattle.core_terms.specs.Projection.{read_at}
@@ -11,6 +11,7 @@ use Rattle.core_terms.specs.declared.fault.Fault.TheVariants as literal_fault
 use Rattle.core_terms.specs.declared.types.TyId.{TyId}
 use Rattle.core_terms.specs.declared.program.Program.{Program}
 use Rattle.core_terms.specs.declared.program_types.Types.{Types}
+use Rattle.core_terms.proofs.CodePrograms.{is_format}
 use Rattle.printed_syntax.specs.LiteralAnswers.{LiteralFault, ReadsLiteral, SpellsLiteral}
 use Rattle.printed_syntax.specs.LiteralLaws.{IsLiteralValue}
 use Rattle.printed_syntax.specs.Literals.{ConstructorNames, literal_in}
@@ -55,7 +56,7 @@ names_of p = constructor_names p.types.named.items
 module _ (p : Program) (t : Ty) (text bytes : List ℕ) (spelled : SpellsLiteral (literal_in (meaning p) (names_of p) t text) bytes) where
   read_back : (place : ℕ) × (read_at (meaning p) t bytes ≡ Good spelled.0 [] place)
   read_back =
-      let written : IsLiteralValue (meaning p) t spelled.0 = literals_are_read_back (meaning p) (lit< tt) (names_of p) t text spelled.0 spelled.1 in
+      let written : IsLiteralValue (meaning p) t spelled.0 = literals_are_read_back (meaning p) (is_format p).limit_fits (names_of p) t text spelled.0 spelled.1 in
       (written.read_back.0, ap (λ bs. read_at (meaning p) t bs) (sym spelled.2) ∙ written.read_back.1)
 
   -- its spelling is not refused

@@ -1,5 +1,5 @@
 -- The line of a value that stands over the prover's nodes, and the state that a role makes.
-use Rattle.std.proofs.Common.{◌≡◌, ℕ, ◌<◌, ◌^◌, List, length, refl, sym, ap, ◌∙◌, subst, arith}
+use Rattle.std.proofs.Common.{◌≡◌, ℕ, ◌<◌, ◌≤◌, ◌^◌, List, length, refl, sym, ap, ◌∙◌, subst, arith}
 use Rattle.sha2.specs.Sha256.{sha256}
 use Rattle.sha2.proofs.Facts256.{length-sha256}
 use Rattle.core_terms.specs.Programs.{constructor_names, meaning, types_of}
@@ -11,10 +11,11 @@ use Rattle.core_terms.specs.TypeTables.{type_at}
 use Rattle.core_terms.specs.Types.{PairTy, Ty}
 use Rattle.core_terms.specs.Values.{IsIdeal, IsShallow, PairV, Value}
 use Rattle.core_terms.specs.declared.program.Program.{Program}
+use Rattle.core_terms.proofs.CodePrograms.{is_format}
 use Rattle.ideal_meaning.proofs.Projections.{length_piece}
 use Rattle.ideal_meaning.specs.Ideal.{Done}
 use Rattle.printed_lines.specs.Lines.{named_done_line}
-use Rattle.value_store.specs.Nodes.{AreSound, Node}
+use Rattle.value_store.specs.Nodes.{AreSound, Node, greatest_limit}
 use Rattle.value_store.specs.Standing.{StandsFor}
 use Rattle.value_store.proofs.StandingNodes.{within_stands}
 use Rattle.value_store.proofs.TypedNodes.{ideal_stands, prover_refers}
@@ -24,25 +25,24 @@ use Rattle.file_commands.specs.RolesCalled.{IsCalled, projection_line, prover_no
 use Rattle.file_commands.specs.declared.roles.CalledRole.{CalledRole}
 use Rattle.file_commands.specs.declared.roles.Callee.{Callee}
 use Rattle.file_commands.specs.declared.status.Status.TheVariants.{Done as DoneStatus}
-use Rattle.file_commands.proofs.MarkedStates.{language_format}
 use Rattle.file_commands.proofs.RoleShapes.{kind_is, result_is}
 use Rattle.file_commands.proofs.StateOutputs.{is_shallow}
 
-module _ (p : Program) (nodes : List Node) (sound : AreSound nodes) (t : Ty) (v : Value) (r : ℕ) (h : StandsFor (prover_nodes p) (meaning p).types nodes r t v) where
+module _ (p : Program) (limit : ℕ) (fits : limit ≤ greatest_limit) (nodes : List Node) (sound : AreSound limit nodes) (t : Ty) (v : Value) (r : ℕ) (h : StandsFor (prover_nodes p) (meaning p).types nodes r t v) where
   ideal : IsIdeal (meaning p).types t v
   ideal = ideal_stands (prover_nodes p) (meaning p).types (prover_refers (digest_at sha256 (meaning p)) (meaning p).types) nodes t v r h
 
   short : length (spelling (projection sha256 (meaning p) t v)) < 2 ^ 32
   short =
       let within = within_stands (prover_nodes p) (meaning p).types nodes t v r sound h in
-      omega (arith, length_piece sha256 length-sha256 (meaning p) (language_format p) t v ideal, within.size_fits)
+      omega (arith, length_piece sha256 length-sha256 (meaning p) (is_format p) t v ideal, within.size_fits, fits)
 
   -- what is printed of the spelling of its projection
   pub line_told : (bytes line : List ℕ) → bytes ≡ spelling (projection sha256 (meaning p) t v)
       → ((w : Value) → IsShallow (meaning p).types t w → length bytes < 2 ^ 32 → bytes ≡ spelling w → line ≡ named_done_line (meaning p).types (constructor_names p.types.named.items) t w)
       → line ≡ projection_line p t v
   line_told bytes line is told =
-      told (projection sha256 (meaning p) t v) (is_shallow (meaning p) (language_format p) t v ideal) (subst (λ bytes. length bytes < 2 ^ 32) (sym is) short) is
+      told (projection sha256 (meaning p) t v) (is_shallow (meaning p) (is_format p) t v ideal) (subst (λ bytes. length bytes < 2 ^ 32) (sym is) short) is
 
 module _ (wanted : Callee) (p : Program) (called : CalledRole) (is : IsCalled wanted p called) where
   abbrev kind : tree.Kind

@@ -1,5 +1,5 @@
 -- Roles of sound programs that read a state, and the headline of a call of one.
-use Rattle.std.proofs.Common.{◌≡◌, ℕ, ◌<◌, true, List, [], drop, length, Some, Option, None, slice_index_or, refl, sym, ap, subst, lit<}
+use Rattle.std.proofs.Common.{◌≡◌, ℕ, ◌<◌, true, List, [], drop, length, Some, Option, None, slice_index_or, refl, sym, ap, subst}
 use Rattle.sha2.specs.Sha256.{sha256}
 use Rattle.sha2.proofs.Facts256.{length-sha256}
 use Rattle.lam_outside.specs.Told.{Contents}
@@ -11,7 +11,7 @@ use Rattle.core_terms.specs.Terms.{Kind, Inner, Init, Query, Update, Program, Is
 use Rattle.core_terms.specs.Roles.{IsRole, ReadsState, argument_type, is_entered, role_result}
 use Rattle.core_terms.specs.Projection.{projection}
 use Rattle.core_terms.proofs.CodePrograms.{there}
-use Rattle.core_terms.proofs.LawProofs.{typing_test_is_exact, shape_test_is_exact, first_format_is_format}
+use Rattle.core_terms.proofs.LawProofs.{typing_test_is_exact, shape_test_is_exact}
 use Rattle.ideal_meaning.specs.Ideal.{Outcome}
 use Rattle.ideal_meaning.specs.Checked.{Accepted}
 use Rattle.ideal_meaning.specs.Frames.{offered, offered_pieces, header}
@@ -27,7 +27,7 @@ use Rattle.file_commands.specs.SoundPrograms.{IsSound}
 use Rattle.file_commands.specs.declared.roles.Callee.{Callee}
 use Rattle.file_commands.proofs.RoleShapes.{calls_reads}
 use Rattle.file_commands.proofs.RolesByName.{role_within}
-use Rattle.file_commands.proofs.SoundTexts.{text_is_sound}
+use Rattle.file_commands.proofs.SoundTexts.{sound_format, text_is_sound}
 
 -- the roles that `verify` calls read a state
 pub callee_reads : (out : Option (List ℕ)) → CallsOnStates (callee_of out)
@@ -56,7 +56,7 @@ reader P f sound within reads =
     let own : argument_type P f ≡ found.0 = ap (λ ts. slice_index_or ts 1 UnitTy) (parameters_are P f g.kind found.0 found.1 found.2 reads) in
     record {
       typed = (typing_test_is_exact P).0 sound.typed;
-      format = subst IsFormat (sym sound.format) (first_format_is_format 1024 (lit< tt));
+      format = sound_format P sound;
       reads = reads;
       answer = found.1;
       role = subst (λ t. IsRole P f g.kind t found.1) (sym own) found.2;

@@ -1,6 +1,9 @@
 -- The programs of texts are sound.
-use Rattle.std.proofs.Common.{◌≡◌, ℕ, List, refl, ap}
+use Rattle.std.proofs.Common.{◌≡◌, ℕ, List, refl, sym, ap, subst, lit<}
+use Rattle.core_terms.specs.Formats.{IsFormat}
+use Rattle.core_terms.specs.ProgramFormats.{most_kept_pieces}
 use Rattle.core_terms.specs.Terms.{Program}
+use Rattle.core_terms.proofs.LawProofs.{first_format_is_format}
 use Rattle.auth_syntax.specs.Parsing.{Parsed, Tree, FirstFault, parsed}
 use Rattle.auth_types.specs.CheckedPrograms.{Checked, checked}
 use Rattle.auth_types.specs.CheckedPrograms as checking
@@ -23,3 +26,7 @@ text_is_sound text P e = by (parsed text) refl e
         let typed = parsed_is_typed text program P is (checked_is (checked program) P e) in
         record { typed = typed.0; shaped = typed.1; format = parsed_format (Tree program) P e }
     by (FirstFault kind at) is e = absurd (cc)
+
+-- their format is one that the laws speak of
+pub sound_format : (P : Program) → IsSound P → IsFormat P.format
+sound_format P sound = subst IsFormat (sym sound.format) (first_format_is_format most_kept_pieces (lit< tt))

@@ -11,7 +11,6 @@ use Rattle.core_terms.specs.Terms.{Program}
 use Rattle.core_terms.specs.Projection.{digest_at, projection}
 use Rattle.core_terms.proofs.LawProofs.{projection_is_shallow}
 use Rattle.ideal_meaning.proofs.Projections.{length_piece}
-use Rattle.value_store.specs.Nodes.{size_limit}
 use Rattle.printed_lines.specs.Lines.{state_line}
 use Rattle.file_commands.specs.Answer.{state_answer, state_projection}
 use Rattle.file_commands.specs.FueledRoles.{NamedProgram}
@@ -26,11 +25,11 @@ pub is_shallow : (P : Program) → IsFormat P.format → (t : Ty) (v : Value) �
 is_shallow P format t v ideal = projection_is_shallow (digest_at sha256 P) (format.digest_length sha256 length-sha256) P.types t v ideal
 
 -- its spelling has fewer than 2^32 bytes, where the value is within the limit
-is_short : (P : Program) → IsFormat P.format → (v : Value) → IsIdeal P.types P.state v → size P.types P.state v ≤ size_limit → length (spelling (projection sha256 P P.state v)) < 2 ^ 32
-is_short P format v ideal fits = omega (arith, length_piece sha256 length-sha256 P format P.state v ideal, fits)
+is_short : (P : Program) → IsFormat P.format → (v : Value) → IsIdeal P.types P.state v → size P.types P.state v ≤ P.format.limit → length (spelling (projection sha256 P P.state v)) < 2 ^ 32
+is_short P format v ideal fits = omega (arith, length_piece sha256 length-sha256 P format P.state v ideal, fits, format.limit_fits)
 
 pub state_output : (p : NamedProgram) → IsFormat p.digested.program.format → (t : Ty) (v : Value) (bytes : List ℕ) (output : Output) (file : Vec ℕ Global)
-    → IsIdeal p.digested.program.types p.digested.program.state v → size p.digested.program.types p.digested.program.state v ≤ size_limit → t ≡ p.digested.program.state
+    → IsIdeal p.digested.program.types p.digested.program.state v → size p.digested.program.types p.digested.program.state v ≤ p.digested.program.format.limit → t ≡ p.digested.program.state
     → bytes ≡ spelling (projection sha256 p.digested.program t v) → output.report.ending ≡ Done
     → ((w : Value) → IsShallow p.digested.program.types t w → length bytes < 2 ^ 32 → bytes ≡ spelling w → output.report.text.items ≡ state_line p.digested.program.types p.names t w)
     → output.file ≡ Some file → file.items ≡ bytes → (name : List ℕ) → IsOutput (state_answer p v name) name output

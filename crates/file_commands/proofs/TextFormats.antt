@@ -1,13 +1,12 @@
 -- The format of the program of a tree.
 use Rattle.std.proofs.Common.{◌≡◌, refl, subst}
-use Rattle.core_terms.specs.ProgramTrees.{program_format}
 use Rattle.core_terms.specs.Terms.{Program}
 use Rattle.auth_syntax.specs.Syntax as syntax
 use Rattle.auth_syntax.specs.Parsing.{Parsed, Tree, FirstFault}
 use Rattle.auth_types.specs.Checking.{Checking, Sound, FaultAt, then_checked}
 use Rattle.auth_types.specs.Declarations.{first_pass}
 use Rattle.auth_types.specs.WrittenTypes.{second_pass}
-use Rattle.auth_types.specs.CheckedPrograms.{all_passes, as_checked, checked, fourth_pass, third_pass}
+use Rattle.auth_types.specs.CheckedPrograms.{all_passes, as_checked, checked, fourth_pass, program_format, third_pass}
 use Rattle.file_commands.specs.TextPrograms.{IsProgram, of_checked, of_parsed}
 
 abbrev HasFormat : Checking Program → Type 0

@@ -2,7 +2,7 @@
 use Rattle.std.proofs.Common.{◌≡◌, ℕ, Bool, true, false, Option, Some, cond, refl, ap, ap₂, ◌∙◌, subst, slice_index_or}
 use Rattle.core_terms.specs.Roles.{IsRole, ReadsState, argument_type}
 use Rattle.core_terms.specs.Terms.{Kind, Inner, Init, Query, Update, Program}
-use Rattle.core_terms.specs.Types.{Ty, UnitTy, BoolTy, IntTy, TextTy, PairTy, NamedTy, AuthTy}
+use Rattle.core_terms.specs.Types.{Ty, UnitTy, BoolTy, IntTy, TextTy, PairTy, NamedTy, AuthTy, VecTy}
 use Rattle.printed_lines.specs.declared.refusal.InputFault.TheVariants.{RoleKind}
 use Rattle.file_commands.specs.Answer.{Answer, input_refused, is_entry, is_get, is_key, is_put, with_shape}
 use Rattle.file_commands.proofs.RoleShapes.{kind_is, reader_takes}
@@ -33,6 +33,7 @@ key_is TextTy is = absurd (cc)
 key_is (PairTy a b) is = absurd (cc)
 key_is (NamedTy n) is = absurd (cc)
 key_is (AuthTy t) is = absurd (cc)
+key_is (VecTy n t) is = absurd (cc)
 
 both : (a b : Bool) → cond a b false ≡ true → (a ≡ true) × (b ≡ true)
 both true b is = (refl, is)
@@ -46,6 +47,7 @@ entry_is BoolTy is = absurd (cc)
 entry_is TextTy is = absurd (cc)
 entry_is (NamedTy n) is = absurd (cc)
 entry_is (AuthTy t) is = absurd (cc)
+entry_is (VecTy n t) is = absurd (cc)
 
 module _ (P : Program) (f : ℕ) where
   pub put_shape : (kind : Kind) (argument answer : Ty) → is_put kind argument ≡ true → IsRole P f kind argument answer → IsRole P f Update (PairTy IntTy IntTy) answer

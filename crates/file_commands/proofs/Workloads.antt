@@ -14,6 +14,9 @@ use Rattle.core_terms.specs.declared.program.Program.{Program}
 use Rattle.ideal_meaning.specs.Ideal.{Outcome, Done, Trapped, Out}
 use Rattle.images.specs.declared.load.Loaded.{Loaded}
 use Rattle.printed_lines.specs.Lines.{calls_line}
+use Rattle.value_store.specs.Markings.{HasLimit}
+use Rattle.value_store.specs.Standing.{StandsFor}
+use Rattle.value_store.specs.Stores.{nodes_in, store_lent}
 use Rattle.workloads.specs.Workloads.{after_rounds, no_calls}
 use Rattle.workloads.specs.declared.tally.Tally.{Tally}
 use Rattle.workloads.specs.declared.workload.Workload.{Workload}
@@ -23,6 +26,7 @@ use Rattle.file_commands.specs.FueledRoles.{FueledRole, NamedProgram}
 use Rattle.file_commands.specs.Halting.{FindsLines, InHand, TellsLines, ending_status}
 use Rattle.file_commands.specs.RoleCalls.{EndedRole, kind_called, state_made}
 use Rattle.file_commands.specs.ReadPrograms.{named_of}
+use Rattle.file_commands.specs.RolesCalled.{prover_nodes}
 use Rattle.file_commands.specs.StoredStates.{IsStoredState}
 use Rattle.file_commands.specs.declared.report.Ending.TheVariants as ending
 use Rattle.file_commands.specs.declared.report.Report.{Report}
@@ -115,6 +119,11 @@ sums_told p t s calls done fresh again bytes is_calls is_done is_fresh is_again 
 -- the last state, by a program that is the same
 pub same_stored : (p q : Program) → q ≡ p → (last : Loaded) (v : Value) → IsStoredState (meaning p) last v → IsStoredState (meaning q) last v
 same_stored p q is last v h = subst (λ p. IsStoredState (meaning p) last v) (sym is) h
+
+-- the state behind a workload, in the store that has grown
+pub stored_behind : (p : Program) (first last : Loaded) (s v : Value) → store_lent last.store ≡ store_lent first.store → IsStoredState (meaning p) first s
+    → StandsFor (prover_nodes p) (meaning p).types (nodes_in last.store) last.root.0 (meaning p).state v → IsStoredState (meaning p) last v
+stored_behind p first last s v lent h stands = record { stands = stands; limit = subst (HasLimit (meaning p)) (sym lent) h.limit }
 
 -- the sums and the last state of a workload, told
 pub workload_told : (p q : Program) → q ≡ p → (numbers : WorkloadNumbers) (w : Workload) (s : Value) (t : Tally) (last : Loaded) (report : Report)

@@ -6,7 +6,7 @@ use Rattle.command_words.specs.declared.command.Command.{Command}
 use Rattle.command_words.specs.declared.command.Command.TheVariants.{Check, Init, Ideal, Step, Shallow, Prove, Verify, Audit, Library, Gen, Serve, Ask}
 use Rattle.ads_library.specs.Texts.{library_text}
 use Rattle.lam_outside.specs.Told.{Contents, Stores}
-use Rattle.core_terms.specs.ProgramTrees.{program_format}
+use Rattle.core_terms.specs.ProgramFormats.{most_kept_pieces}
 use Rattle.core_terms.specs.Types.{Ty, IntTy, PairTy}
 use Rattle.core_terms.specs.Values.{Value, NoV, AndV}
 use Rattle.core_terms.specs.Reading.{Read, Good, BadAt}
@@ -353,7 +353,7 @@ agreeing a = record a { lines = map agrees_line a.lines }
 -- What is answered for what an audit of a call of a role comes to: a collision, or what is answered for its verdict, with agreement on
 -- its outcome. The verdict is one on the proof, since the state and the argument are ideal values within the limits.
 abbrev pub audit_told : FueledRole → audits.Audit → Answer
-audit_told r (Collides split) = says Collision (collision_line split.place split.offered split.honest)
+audit_told r (Collides split) = says Collision (collision_line split.place split.offered split.honest split.print)
 audit_told r (Judges v) = verdict_answer (λ o. agreeing (shallow_told r o)) v
 
 abbrev pub call_audit_answer : IdealCall → List ℕ → Answer
@@ -386,7 +386,7 @@ abbrev pub with_numbers : (seed count kept : List ℕ) → (WorkloadNumbers → 
 with_numbers seed count kept go =
     with_number named.Seed (number_within most_seed seed) (λ x.
     with_number named.Count (number_within most_rounds count) (λ rounds.
-    with_number named.Number (number_within program_format.most_kept kept) (λ n.
+    with_number named.Number (number_within most_kept_pieces kept) (λ n.
     go (record { seed = x; rounds = rounds; kept = n }))))
 
 -- what a workload gets by: an int; and what it puts: two of them, the key and the value

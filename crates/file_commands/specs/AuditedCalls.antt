@@ -6,7 +6,6 @@ use Rattle.sha2.specs.Sha256.{sha256}
 use Rattle.command_words.specs.Invocations.{Invocation, calls}
 use Rattle.command_words.specs.declared.command.Command.TheVariants.{Audit}
 use Rattle.lam_outside.specs.Told.{Contents}
-use Rattle.core_terms.specs.Projection.{digest_at}
 use Rattle.ideal_meaning.specs.Checked.{Cause, Accepted, Rejected}
 use Rattle.ideal_meaning.specs.Ideal.{honest_pieces}
 use Rattle.printed_lines.specs.Lines.{collision_line, rejected_line}
@@ -42,14 +41,14 @@ SplitsNowhere call proof = HasNoSplit sha256 (called_program call) call.role.rol
 -- the pieces that the proof offers split there from the honest ones, and these are the two pieces
 abbrev pub SplitsAt : IdealCall → List ℕ → Split → Type 0
 SplitsAt call proof split =
-    IsSplit (digest_at sha256 (called_program call)) (offered_in (called_program call).format proof)
+    IsSplit sha256 (called_program call).format (offered_in (called_program call).format proof)
     (honest_pieces sha256 (called_program call) call.role.role (values_called call) call.role.fuel) split
 
 -- The collision was told: the first offered piece that differs from the honest one, which has its digest.
 pub record ShowsCollision (call : IdealCall) (proof : List ℕ) (old new : Option (List ℕ)) : Type 0 where
   pub split : Split
   pub is_split : SplitsAt call proof split
-  pub line : new ≡ append_known old (collision_line split.place split.offered split.honest)
+  pub line : new ≡ append_known old (collision_line split.place split.offered split.honest split.print)
 
 -- The verifier, given no more than the spellings of the projected state and of the argument, rejects the proof. Its cause was told.
 pub record RejectsProof (call : IdealCall) (proof : List ℕ) (old new : Option (List ℕ)) : Type 0 where

@@ -6,7 +6,6 @@ use Rattle.std.proofs.Common.{arith, inl, inr}
 use Rattle.sha2.specs.Sha256.{sha256}
 use Rattle.command_words.specs.Invocations.{Invocation, calls}
 use Rattle.command_words.specs.declared.command.Command.TheVariants.{Audit, Prove}
-use Rattle.core_terms.specs.Projection.{digest_at}
 use Rattle.core_terms.specs.Roles.{IsRole}
 use Rattle.core_terms.specs.Terms.{Program, Query, Update}
 use Rattle.core_terms.specs.Types.{IntTy, PairTy}
@@ -53,11 +52,11 @@ module _ (call : IdealCall) (proof : List ℕ) (old new : Option (List ℕ)) whe
   pub splits_nowhere : SplitsNowhere call proof → HasNoSplit sha256 (called_program call) call.role.role call.state call.argument call.role.fuel proof
   splits_nowhere none = none
 
-  pub splits_at : (split : Split) → SplitsAt call proof split → IsSplit (digest_at sha256 (called_program call)) (offered_in (called_program call).format proof)
+  pub splits_at : (split : Split) → SplitsAt call proof split → IsSplit sha256 (called_program call).format (offered_in (called_program call).format proof)
       (honest_pieces sha256 (called_program call) call.role.role (values_called call) call.role.fuel) split
   splits_at split is = is
 
-  pub shows_collision : (s : ShowsCollision call proof old new) → SplitsAt call proof s.split × (new ≡ append_known old (collision_line s.split.place s.split.offered s.split.honest))
+  pub shows_collision : (s : ShowsCollision call proof old new) → SplitsAt call proof s.split × (new ≡ append_known old (collision_line s.split.place s.split.offered s.split.honest s.split.print))
   shows_collision s = (s.is_split, s.line)
 
   pub rejects_proof : (r : RejectsProof call proof old new) → SplitsNowhere call proof × (role_verdict (client_call call) proof ≡ Rejected r.cause)

@@ -4,8 +4,9 @@ use Rattle.lam_outside.specs.Told.{Contents}
 use Rattle.core_terms.specs.Programs.{meaning, types_of}
 use Rattle.core_terms.specs.TypeTables.{type_at}
 use Rattle.core_terms.specs.declared.program.Program.{Program}
+use Rattle.value_store.specs.Markings.{HasLimit}
 use Rattle.value_store.specs.Standing.{StandsFor}
-use Rattle.value_store.specs.Stores.{nodes_in}
+use Rattle.value_store.specs.Stores.{nodes_in, store_lent}
 use Rattle.file_commands.specs.Answer.{Answer, call_audit_answer, proof_answer, with_bytes, with_fueled_role, with_ideal_call, with_kept}
 use Rattle.file_commands.specs.FueledRoles.{NamedProgram}
 use Rattle.file_commands.specs.IdealCalls as def
@@ -15,12 +16,13 @@ use Rattle.file_commands.specs.declared.ideal_calls.IdealCall.{IdealCall}
 use Rattle.file_commands.specs.declared.roles.Callee.{Callee}
 use Rattle.file_commands.specs.declared.roles.Callee.TheVariants.{OfState}
 
--- what is held is this call of a role that the command calls
+-- what is held is this call of a role that the command calls, in a store with the limit of the program's format
 pub record HoldsCall (callee : Callee) (p : Program) (held : IdealCall) (call : def.IdealCall) : Type 0 where
   pub called : IsCalled callee p held.called
   pub role : role_of p held.called ≡ call.role
   pub state : StandsFor (prover_nodes p) (meaning p).types (nodes_in held.store) held.state.0 (meaning p).state call.state
   pub argument : StandsFor (prover_nodes p) (meaning p).types (nodes_in held.store) held.argument.0 (type_at (types_of p) held.called.argument) call.argument
+  pub limit : HasLimit (meaning p) (store_lent held.store)
 
 -- it is some such call
 abbrev pub HoldsSome : Callee → Program → IdealCall → Type 0

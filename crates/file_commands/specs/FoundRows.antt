@@ -1,5 +1,5 @@
 -- Rows for what a command's work found, before it is told, and for the numbers among its arguments. What each word takes, and what it refuses.
-use Rattle.std.specs.Prelude.{◌≡◌, ◌≤◌, ℕ, List, [], ◌∷◌, ◌++◌, map, codes, Option, Some, None, Ok, Err, refl}
+use Rattle.std.specs.Prelude.{◌≡◌, ℕ, List, [], ◌∷◌, ◌++◌, map, codes, Option, Some, None, Ok, Err, refl}
 use Rattle.std.specs.List.{concat}
 use Rattle.std.proofs.Common.{lit≤}
 use Rattle.core_terms.specs.declared.byte_string.ByteString.{ByteString as Spelling}

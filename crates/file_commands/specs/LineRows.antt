@@ -3,9 +3,9 @@ use Rattle.std.specs.Prelude.{◌≡◌, ℕ, true, List, [], ◌∷◌, map, dr
 use Rattle.std.specs.List.{concat}
 use Rattle.std.specs.Io.KnownBytes.{append_known}
 use Rattle.std.proofs.Common.{arith, inl, inr}
+use Rattle.auth_types.specs.CheckedPrograms.{program_format}
 use Rattle.command_words.specs.Invocations.{calls, invocation_of}
 use Rattle.command_words.specs.declared.command.Command.TheVariants.{Verify}
-use Rattle.core_terms.specs.ProgramTrees.{program_format}
 use Rattle.core_terms.specs.Projection.{projection}
 use Rattle.core_terms.specs.Roles.{argument_type, role_named}
 use Rattle.core_terms.specs.Spelling.{spelling}

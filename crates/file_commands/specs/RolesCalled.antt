@@ -13,9 +13,10 @@ use Rattle.core_terms.specs.declared.roles.Role.{Role}
 use Rattle.ideal_meaning.specs.Ideal.{Outcome, Done}
 use Rattle.printed_lines.specs.Lines.{named_done_line}
 use Rattle.mode_vm.specs.IdealRuns.{IsOutcome}
+use Rattle.value_store.specs.Markings.{HasLimit}
 use Rattle.value_store.specs.Nodes.{Node}
 use Rattle.value_store.specs.Standing.{Kind, ProverNodes, StandsFor}
-use Rattle.value_store.specs.Stores.{nodes_in}
+use Rattle.value_store.specs.Stores.{nodes_in, store_lent}
 use Rattle.value_store.specs.declared.node.Ref.{Ref}
 use Rattle.file_commands.specs.FueledRoles.{FueledRole}
 use Rattle.file_commands.specs.ReadPrograms.{named_of}
@@ -53,10 +54,11 @@ abbrev pub projection_line : Program → Ty → Value → List ℕ
 projection_line p t v =
     named_done_line (meaning p).types (constructor_names p.types.named.items) t (projection sha256 (meaning p) t v)
 
--- the role was called and ended in this outcome, whose value stands in the store
+-- the role was called and ended in this outcome, whose value stands in the store, which has the limit of the program's format
 pub record EndsIn (callee : Callee) (p : Program) (ended : Ended) (o : Outcome) : Type 0 where
   pub called : IsCalled callee p ended.called
   pub outcome : IsOutcome (prover_nodes p) (meaning p).types (nodes_in ended.store) (result_called (role_of p ended.called)) ended.outcome o
+  pub limit : HasLimit (meaning p) (store_lent ended.store)
 
 abbrev pub HasEnded : Callee → Program → Ended → Type 0
 HasEnded callee p ended = (o : Outcome) × EndsIn callee p ended o

@@ -2,7 +2,7 @@
 use Rattle.std.specs.Prelude.{◌≡◌, ℕ, true, List}
 use Rattle.core_terms.specs.Terms.{Program}
 use Rattle.core_terms.specs.Typing.{is_typed, is_shaped}
-use Rattle.core_terms.specs.ProgramTrees.{program_format}
+use Rattle.auth_types.specs.CheckedPrograms.{program_format}
 use Rattle.file_commands.specs.TextPrograms.{TextProgram, IsProgram, program_of_text}
 use Rattle.file_commands.specs.declared.status.Status.{Status}
 use Rattle.file_commands.specs.declared.status.Status.TheVariants.{Done, Trap, OutOfFuel}

@@ -1,9 +1,10 @@
 // The command `audit`.
-ghost use Rattle.std.specs.Prelude.{◌≡◌, ℕ, IfOk, Ok, Some, length};
+ghost use Rattle.std.specs.Prelude.{◌≡◌, ℕ, IfOk, Ok, Some, length, option_map};
 ghost use Rattle.std.specs.Option.{ForSome};
 ghost use Rattle.command_words.specs.Commands.{texts};
 ghost use Rattle.command_words.specs.declared.command.Command.TheVariants.{Audit};
 ghost use Rattle.core_terms.specs.Programs.{meaning};
+ghost use Rattle.core_terms.specs.declared.digest.Digest.{Digest};
 ghost use Rattle.code_gen.specs.Programs.{program_in};
 ghost use Rattle.collision_audit.specs.Audits as audits;
 ghost use Rattle.printed_lines.specs.Lines as lines;
@@ -199,10 +200,11 @@ fn agreement(
 /// The report of a collision.
 fn report_collision(alloc: Global, collision: &Collision) -> Result<Report, AllocError>
     ensures ending { IfOk result (λ report. report.ending ≡ Ending.Collision) }
-    ensures line { IfOk result (λ report. report.text.items ≡ lines.collision_line collision.now.place collision.now.offered collision.now.honest) }
+    ensures line { IfOk result (λ report. report.text.items ≡ lines.collision_line collision.now.place collision.now.offered collision.now.honest (option_map (λ (digest : Digest). digest.0) collision.now.print)) }
 {
     let offered = collision.offered.as_bytes();
-    let text = collision_line(alloc, collision.place, offered, collision.honest.as_bytes())?;
+    let honest = collision.honest.as_bytes();
+    let text = collision_line(alloc, collision.place, offered, honest, collision.print)?;
     Ok(Report {
         ending: Ending::Collision,
         text,

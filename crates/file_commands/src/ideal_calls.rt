@@ -5,8 +5,9 @@ ghost use Rattle.lam_outside.specs.Told.{Contents};
 ghost use Rattle.core_terms.specs.Programs.{meaning, types_of};
 ghost use Rattle.core_terms.specs.Roles.{IsPlain};
 ghost use Rattle.core_terms.specs.TypeTables.{type_at};
+ghost use Rattle.value_store.specs.Markings.{HasLimit};
 ghost use Rattle.value_store.specs.Standing.{Keeps, StandsFor};
-ghost use Rattle.value_store.specs.Stores.{nodes_in};
+ghost use Rattle.value_store.specs.Stores.{nodes_in, store_lent};
 ghost use Rattle.file_commands.specs.Answer.{Answer, with_fueled_role, with_ideal_call, with_literal};
 ghost use Rattle.file_commands.specs.CallsInStores.{HoldsCall, HoldsSome, with_called};
 ghost use Rattle.file_commands.specs.FueledRoles.{FueledRole};
@@ -103,10 +104,12 @@ pub fn put_argument(
     ty: TyId,
     text: &str,
 ) -> Result<Ref, Halt>
-    requires { IsPlain (meaning program.now).types (type_at (types_of program.now) ty) }
+    requires plain { IsPlain (meaning program.now).types (type_at (types_of program.now) ty) }
+    requires limit { HasLimit (meaning program.now) (store_lent store.old) }
     ensures goes { let p = program.now in let t = type_at (types_of p) ty in
         InHand (GoesOnFor (with_literal (named_literal (named_of p) t text.now)) (λ value v. StandsFor (prover_nodes p) (meaning p).types (nodes_in store.new) value.0 t v)) result }
     ensures keeps { Keeps (nodes_in store.old) (nodes_in store.new) }
+    ensures limit { HasLimit (meaning program.now) (store_lent store.new) }
 {
     let spelling = parse_literal(alloc, program, ty, text)?;
     match unspell(alloc, program.types(), store, spelling.as_bytes(), ty) {

@@ -89,7 +89,7 @@ fn run_init(alloc: Global, code: &Code, called: CalledRole, argument: &str) -> R
     ensures { let p = program_in code.now in
         InHand (GoesOnFor (λ go. with_passed (role_of p called) argument.now (λ a. go (ended_with (role_of p called) (AndV a NoV)))) (IsEnded Callee.Init p)) result }
 {
-    let mut store = Store::new(alloc);
+    let mut store = Store::new(alloc, code.types().spelling_limit() as u32);
     let ty = called.argument;
     let argument = put_argument(alloc, code.program(), &mut store, ty, argument)?;
     let args = [argument];

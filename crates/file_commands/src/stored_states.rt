@@ -43,8 +43,8 @@ fn load_state(alloc: Global, program: &Program, bytes: &[u8]) -> Result<Loaded, 
     ensures goes { InHand (GoesOnFor (with_image (digested_of program.now) bytes.now) (IsStoredState (meaning program.now))) result }
     ensures stands { IfOk result (λ loaded. (v : Value) × IsStoredState (meaning program.now) loaded v) }
 {
-    let mut marker = ProverMarker::new(alloc);
     let types = program.types();
+    let mut marker = ProverMarker::new(alloc, types)?;
     let digest = program.text_digest();
     Ok(load_image(alloc, types, digest, &mut marker, bytes)?)
 }

@@ -1,12 +1,12 @@
 -- An ideal run only adds to what was opened.
 use Rattle.std.proofs.Common.{◌≡◌, ℕ, zero, suc, Bool, true, false, List, [], ◌++◌, ℤ, pos, negsuc, int_div, int_rem, ◌+ℤ◌, ◌-ℤ◌, ◌*ℤ◌, refl, sym, ap, ◌∙◌, append_assoc, append-nil, if◌then◌else◌, nat_lt}
-use Rattle.core_terms.specs.Types.{Ty, PairTy, NamedTy, TextTy}
-use Rattle.core_terms.specs.Values.{Value, Values, PairV, TextV, ConV, size, depth, int_fits}
-use Rattle.core_terms.specs.Terms.{Expression, UnitE, BoolE, IntE, TextE, LocalE, PairE, FstE, SndE, NotE, LenE, AuthE, UnauthE, ConE, ArithE, CompareE, TextCompareE, CatE, LetE, IfE, MatchE, CallE, Expressions, NoE, AndE, Arms, NoArm, AndArm, Program, function_at}
+use Rattle.core_terms.specs.Types.{Ty, PairTy, NamedTy, TextTy, VecTy}
+use Rattle.core_terms.specs.Values.{Value, Values, PairV, TextV, ConV, ItemsV, size, depth, int_fits}
+use Rattle.core_terms.specs.Terms.{Expression, UnitE, BoolE, IntE, TextE, LocalE, PairE, FstE, SndE, NotE, LenE, AuthE, UnauthE, ConE, ArithE, CompareE, TextCompareE, CatE, LetE, IfE, MatchE, CallE, OperateE, Operation, VecFill, VecGet, VecPut, Expressions, NoE, AndE, Arms, NoArm, AndArm, Program, function_at}
 use Rattle.core_terms.specs.declared.term.Arith.{Arith}
 use Rattle.core_terms.specs.declared.term.Arith.TheVariants.{Add, Sub, Mul, Div, Rem}
 use Rattle.core_terms.specs.Formats.{depth_limit}
-use Rattle.ideal_meaning.specs.Run.{Run, Gives, Ends, then_run, exact, divided, arith_of, choose, limited, run, run_all, run_arm, call, bool_in, text_in, state_of}
+use Rattle.ideal_meaning.specs.Run.{Run, Gives, Ends, then_run, exact, divided, arith_of, choose, limited, at_index, fill_of, get_of, put_of, operate, run, run_all, run_arm, call, bool_in, int_in, text_in, items_in, repeated, replaced, local, state_of}
 use Rattle.ideal_meaning.specs.Ideal.{Opened, ideal_mode}
 
 -- what was opened so far, s, stands at the front of what a run has opened
@@ -57,11 +57,33 @@ pub grows_choose : (b : Bool) (f g : Values → ℕ → List Opened → Run ⊥ 
 grows_choose true f g env k s h j = h
 grows_choose false f g env k s h j = j
 
+-- the element of an array
+grows_index : (n : ℕ) (z : ℤ) (f : ℕ → ℕ → List Opened → Run ⊥ (List Opened) Value) (k : ℕ) (s : List Opened) → ((i : ℕ) → Grows s (f i k s)) → Grows s (at_index n z f k s)
+grows_index n (pos i) f k s h = grows_if s (nat_lt i n) _ _ (h i) (traps _ k s)
+grows_index n (negsuc i) f k s h = traps _ k s
+
+pub grows_get : (n : ℕ) (vs : Values) (z : ℤ) (k : ℕ) (s : List Opened) → Grows s (get_of n vs z k s)
+grows_get n vs z k s = grows_index n z (λ i k w. Gives (local vs i) k w) k s (λ i. gives _ k s)
+
 module _ (P : Program) where
   -- a new value
   pub grows_limited : (t : Ty) (v : Value) (k : ℕ) (s : List Opened) → Grows s (limited P.format.limit P.types t v k s)
   grows_limited t v k s =
       grows_if s (nat_lt P.format.limit (size P.types t v)) _ _ (traps _ k s) (grows_if s (nat_lt depth_limit (depth P.types t v)) _ _ (traps _ k s) (gives v k s))
+
+  -- arrays
+  pub grows_fill : (n : ℕ) (t : Ty) (v : Value) (k : ℕ) (s : List Opened) → Grows s (fill_of P.format.limit P.types n t v k s)
+  grows_fill n t v k s = grows_limited (VecTy n t) (ItemsV (repeated n v)) k s
+
+  pub grows_put : (n : ℕ) (t : Ty) (vs : Values) (z : ℤ) (v : Value) (k : ℕ) (s : List Opened) → Grows s (put_of P.format.limit P.types n t vs z v k s)
+  grows_put n t vs z v k s =
+      grows_index n z (λ i k w. limited P.format.limit P.types (VecTy n t) (ItemsV (replaced vs i v)) k w) k s (λ i. grows_limited (VecTy n t) (ItemsV (replaced vs i v)) k s)
+
+  -- an operation
+  pub grows_operate : (op : Operation) (vs : Values) (k : ℕ) (s : List Opened) → Grows s (operate P.format.limit P.types op vs k s)
+  grows_operate (VecFill n t) vs k s = grows_fill n t (local vs 0) k s
+  grows_operate (VecGet n t) vs k s = grows_get n (items_in (local vs 0)) (int_in (local vs 1)) k s
+  grows_operate (VecPut n t) vs k s = grows_put n t (items_in (local vs 0)) (int_in (local vs 1)) (local vs 2) k s
 
   module _ (callee : ℕ → Values → ℕ → List Opened → Run ⊥ (List Opened) Value) (callee_grows : (f : ℕ) (vs : Values) (k : ℕ) (s : List Opened) → Grows s (callee f vs k s)) where
     -- expressions, where the calls in them only add
@@ -93,6 +115,7 @@ module _ (P : Program) where
       grows (IfE test a b) env k s = grows_then s _ _ (grows test env k s) (λ v k s. grows_choose (bool_in v) _ _ env k s (grows a env k s) (grows b env k s))
       grows (MatchE number x arms) env k s = grows_then s _ _ (grows x env k s) (λ v k s. grows_arm arms _ _ k s)
       grows (CallE f args) env k s = grows_then s _ _ (grows_all args env k s) (λ vs k s. callee_grows f vs k s)
+      grows (OperateE op xs) env k s = grows_then s _ _ (grows_all xs env k s) (λ vs k s. grows_operate op vs k s)
 
       pub grows_all : (xs : Expressions) (env : Values) (k : ℕ) (s : List Opened) → Grows s (run_all P ideal_mode callee xs env k s)
       grows_all NoE env k s = gives _ k s

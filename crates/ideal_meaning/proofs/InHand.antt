@@ -1,12 +1,12 @@
 -- What is known of every value in hand of an ideal run.
-use Rattle.std.proofs.Common.{◌≡◌, ℕ, zero, suc, ◌+◌, ◌≤◌, Bool, true, List, [], ◌∷◌, ◌++◌, length, ℤ, Some, unwrap_or, slice_get, IsUtf8, refl, sym, ap, subst, arith, lit≤}
+use Rattle.std.proofs.Common.{◌≡◌, ℕ, zero, suc, ◌+◌, ◌≤◌, ◌<◌, Bool, true, List, [], ◌∷◌, ◌++◌, length, ℤ, Some, unwrap_or, slice_get, IsUtf8, refl, sym, ap, subst, arith, lit≤}
 use Rattle.core_terms.proofs.Fields.{on_fields}
-use Rattle.core_terms.specs.Types.{Ty, UnitTy, BoolTy, IntTy, TextTy, PairTy, NamedTy, AuthTy, Table, fields_at, OnFields}
-use Rattle.core_terms.specs.Values.{Value, UnitV, BoolV, IntV, TextV, PairV, ConV, Values, NoV, AndV, IsIdeal, AreIdeal, int_fits, size, sizes, depth, depths, AuthWithin, AuthWithinAll}
+use Rattle.core_terms.specs.Types.{Ty, UnitTy, BoolTy, IntTy, TextTy, PairTy, NamedTy, AuthTy, VecTy, Table, fields_at, item_types, OnFields}
+use Rattle.core_terms.specs.Values.{Value, UnitV, BoolV, IntV, TextV, PairV, ConV, ItemsV, Values, NoV, AndV, IsIdeal, AreIdeal, int_fits, size, sizes, depth, depths, AuthWithin, AuthWithinAll}
 use Rattle.core_terms.specs.Formats.{Hash, IsFormat, depth_limit}
 use Rattle.core_terms.specs.Terms.{Program}
 use Rattle.core_terms.specs.Projection.{projection, projections, Fits, AllFit}
-use Rattle.ideal_meaning.specs.Run.{local, join, first_in, second_in, int_in, text_in}
+use Rattle.ideal_meaning.specs.Run.{local, join, first_in, second_in, int_in, text_in, repeated, replaced}
 
 -- the parts of an ideal value of a known type
 module _ (types : Table) where
@@ -39,6 +39,20 @@ module _ (types : Table) where
   at_con Q n (ConV tag vs) h f =
       let r = on_fields (fields_at types n tag) (λ ts. AreIdeal types ts vs) h in f tag vs r.0 r.1 r.2
   at_con Q n _ h f = elim h [ ]
+
+  pub at_int : (Q : Value → Type 0) (v : Value) → IsIdeal types IntTy v → ((z : ℤ) → Q (IntV z)) → Q v
+  at_int Q (IntV z) h f = f z
+  at_int Q _ h f = elim h [ ]
+
+  pub at_items : (Q : Value → Type 0) (n : ℕ) (t : Ty) (v : Value) → IsIdeal types (VecTy n t) v → ((vs : Values) → AreIdeal types (item_types n t) vs → Q (ItemsV vs)) → Q v
+  at_items Q n t (ItemsV vs) h f = f vs h
+  at_items Q n t _ h f = elim h [ ]
+
+-- each element of an array has its type
+pub item_type_at : (n i : ℕ) (t : Ty) → i < n → slice_get (item_types n t) i ≡ Some t
+item_type_at zero i t h = absurd (omega arith)
+item_type_at (suc n) zero t h = refl
+item_type_at (suc n) (suc i) t h = item_type_at n i t (omega arith)
 
 module _ (P : Program) (Deep : Type 0) where
   -- a value in hand: ideal, within the limits, and, under the premise Deep, with all that is authenticated in it within them
@@ -137,6 +151,40 @@ module _ (P : Program) (Deep : Type 0) where
       let s : 1 + sizes P.types ts vs ≤ P.format.limit = subst (λ o. 1 + sizes P.types (unwrap_or o []) vs ≤ P.format.limit) e h.within.size_fits in
       let d : 1 + depths P.types ts vs ≤ depth_limit = subst (λ o. 1 + depths P.types (unwrap_or o []) vs ≤ depth_limit) e h.within.depth_fits in
       held_fields ts vs i (omega arith) (omega arith) (λ l. subst (λ o. OnFields o (λ ts. AuthWithinAll P.format.limit P.types ts vs)) e (h.deep l))
+
+  -- arrays
+  pub held_items : (n : ℕ) (t : Ty) (vs : Values) → AreHeld (item_types n t) vs → size P.types (VecTy n t) (ItemsV vs) ≤ P.format.limit → depth P.types (VecTy n t) (ItemsV vs) ≤ depth_limit → IsHeld (VecTy n t) (ItemsV vs)
+  held_items n t vs h s d =
+      record { ideal = ideals_of (item_types n t) vs h; within = record { size_fits = s; depth_fits = d }; deep = λ l. deeps_of (item_types n t) vs h l }
+
+  pub held_elements : (n : ℕ) (t : Ty) (vs : Values) → AreIdeal P.types (item_types n t) vs → IsHeld (VecTy n t) (ItemsV vs) → AreHeld (item_types n t) vs
+  held_elements n t vs i h =
+      let s : sizes P.types (item_types n t) vs ≤ P.format.limit = h.within.size_fits in
+      let d : 1 + depths P.types (item_types n t) vs ≤ depth_limit = h.within.depth_fits in
+      held_fields (item_types n t) vs i s (omega arith) h.deep
+
+  pub held_repeated : (n : ℕ) (t : Ty) (v : Value) → IsHeld t v → AreHeld (item_types n t) (repeated n v)
+  held_repeated zero t v h = tt
+  held_repeated (suc n) t v h = (h, held_repeated n t v h)
+
+  pub held_replaced : (n i : ℕ) (t : Ty) (vs : Values) (u : Value) → AreHeld (item_types n t) vs → IsHeld t u → AreHeld (item_types n t) (replaced vs i u)
+  held_replaced zero i t NoV u h j = tt
+  held_replaced zero i t (AndV v vs) u h j = elim h [ ]
+  held_replaced (suc n) i t NoV u h j = elim h [ ]
+  held_replaced (suc n) zero t (AndV v vs) u h j = (j, h.1)
+  held_replaced (suc n) (suc i) t (AndV v vs) u h j = (h.0, held_replaced n i t vs u h.1 j)
+
+  pub repeated_projection : (hash : Hash) (n : ℕ) (t : Ty) (v : Value) → repeated n (projection hash P t v) ≡ projections hash P (item_types n t) (repeated n v)
+  repeated_projection hash zero t v = refl
+  repeated_projection hash (suc n) t v = ap (λ r. AndV (projection hash P t v) r) (repeated_projection hash n t v)
+
+  pub replaced_projection : (hash : Hash) (n i : ℕ) (t : Ty) (vs : Values) (u : Value) → AreHeld (item_types n t) vs
+      → replaced (projections hash P (item_types n t) vs) i (projection hash P t u) ≡ projections hash P (item_types n t) (replaced vs i u)
+  replaced_projection hash zero i t NoV u h = refl
+  replaced_projection hash zero i t (AndV v vs) u h = elim h [ ]
+  replaced_projection hash (suc n) i t NoV u h = elim h [ ]
+  replaced_projection hash (suc n) zero t (AndV v vs) u h = refl
+  replaced_projection hash (suc n) (suc i) t (AndV v vs) u h = ap (λ r. AndV (projection hash P t v) r) (replaced_projection hash n i t vs u h.1)
 
 module _ (P : Program) (format : IsFormat P.format) (Deep : Type 0) where
   -- values without parts, and what is authenticated

@@ -5,6 +5,7 @@ pub mod Nesting
 pub mod Splitting
 pub mod Rules
 pub mod Operations
+pub mod ArrayRules
 pub mod Grows
 pub mod InHand
 pub mod Relation
@@ -17,3 +18,4 @@ pub mod RoleCalls
 pub mod Headline
 pub mod NewPieces
 pub mod Companion
+pub mod Fetching

@@ -1,12 +1,12 @@
 -- The bound on nested calls never matters where it isn't below the fuel, since no part of a run gives fuel back.
 use Rattle.std.proofs.Common.{◌≡◌, ℕ, zero, suc, ◌≤◌, Bool, true, false, ◌++◌, ℤ, pos, negsuc, ◌+ℤ◌, ◌-ℤ◌, ◌*ℤ◌, int_div, int_rem, nat_lt, refl, ap, ◌∙◌, arith, if◌then◌else◌, le_refl}
-use Rattle.core_terms.specs.Types.{Ty, PairTy, NamedTy, TextTy}
+use Rattle.core_terms.specs.Types.{Ty, PairTy, NamedTy, TextTy, VecTy}
 use Rattle.core_terms.specs.Formats.{depth_limit}
-use Rattle.core_terms.specs.Values.{Value, TextV, PairV, ConV, Values, NoV, AndV, size, depth, int_fits}
-use Rattle.core_terms.specs.Terms.{Expression, UnitE, BoolE, IntE, TextE, LocalE, PairE, FstE, SndE, NotE, LenE, AuthE, UnauthE, ConE, ArithE, CompareE, TextCompareE, CatE, LetE, IfE, MatchE, CallE, Expressions, NoE, AndE, Arms, NoArm, AndArm, Program, function_at}
+use Rattle.core_terms.specs.Values.{Value, TextV, PairV, ConV, ItemsV, Values, NoV, AndV, size, depth, int_fits}
+use Rattle.core_terms.specs.Terms.{Expression, UnitE, BoolE, IntE, TextE, LocalE, PairE, FstE, SndE, NotE, LenE, AuthE, UnauthE, ConE, ArithE, CompareE, TextCompareE, CatE, LetE, IfE, MatchE, CallE, OperateE, Operation, VecFill, VecGet, VecPut, Expressions, NoE, AndE, Arms, NoArm, AndArm, Program, function_at}
 use Rattle.core_terms.specs.declared.term.Arith.{Arith}
 use Rattle.core_terms.specs.declared.term.Arith.TheVariants.{Add, Sub, Mul, Div, Rem}
-use Rattle.ideal_meaning.specs.Run.{Run, Gives, Ends, Opening, Opens, Refuses, with_fuel, Mode, then_run, fuel_of, divided, arith_of, choose, limited, run, run_all, run_arm, call, call_from, bool_in, int_in, text_in, tag_in, fields_in, join}
+use Rattle.ideal_meaning.specs.Run.{Run, Gives, Ends, Opening, Opens, Refuses, with_fuel, Mode, then_run, fuel_of, divided, arith_of, choose, limited, at_index, fill_of, get_of, put_of, operate, local, items_in, repeated, replaced, run, run_all, run_arm, call, call_from, bool_in, int_in, text_in, tag_in, fields_in, join}
 
 module _ (C W : Type 0) where
   -- two runs are one, which leaves no more fuel than it was given
@@ -55,6 +55,25 @@ module _ (C W : Type 0) where
     limited_low t v k w =
         if_low (nat_lt P.format.limit (size P.types t v)) k _ _ (le_refl k) (if_low (nat_lt depth_limit (depth P.types t v)) k _ _ (le_refl k) (le_refl k))
 
+    pub index_low : (n : ℕ) (z : ℤ) (f : ℕ → ℕ → W → Run C W Value) (k : ℕ) (w : W) → ((i : ℕ) → fuel_of (f i k w) ≤ k) → fuel_of (at_index n z f k w) ≤ k
+    index_low n (pos i) f k w h = if_low (nat_lt i n) k _ _ (h i) (le_refl k)
+    index_low n (negsuc i) f k w h = le_refl k
+
+    pub fill_low : (n : ℕ) (t : Ty) (v : Value) (k : ℕ) (w : W) → fuel_of (fill_of {C = C} P.format.limit P.types n t v k w) ≤ k
+    fill_low n t v k w = limited_low (VecTy n t) (ItemsV (repeated n v)) k w
+
+    pub get_low : (n : ℕ) (vs : Values) (z : ℤ) (k : ℕ) (w : W) → fuel_of (get_of {C = C} n vs z k w) ≤ k
+    get_low n vs z k w = index_low n z (λ i k w. Gives (local vs i) k w) k w (λ i. le_refl k)
+
+    pub put_low : (n : ℕ) (t : Ty) (vs : Values) (z : ℤ) (v : Value) (k : ℕ) (w : W) → fuel_of (put_of {C = C} P.format.limit P.types n t vs z v k w) ≤ k
+    put_low n t vs z v k w =
+        index_low n z (λ i k w. limited P.format.limit P.types (VecTy n t) (ItemsV (replaced vs i v)) k w) k w (λ i. limited_low (VecTy n t) (ItemsV (replaced vs i v)) k w)
+
+    pub operate_low : (op : Operation) (vs : Values) (k : ℕ) (w : W) → fuel_of (operate {C = C} P.format.limit P.types op vs k w) ≤ k
+    operate_low (VecFill n t) vs k w = fill_low n t (local vs 0) k w
+    operate_low (VecGet n t) vs k w = get_low n (items_in (local vs 0)) (int_in (local vs 1)) k w
+    operate_low (VecPut n t) vs k w = put_low n t (items_in (local vs 0)) (int_in (local vs 1)) (local vs 2) k w
+
     module _ (c d : ℕ → Values → ℕ → W → Run C W Value) (most : ℕ) (alike : (f : ℕ) (vs : Values) (k : ℕ) (w : W) → k ≤ most → Alike k (c f vs k w) (d f vs k w)) where
       mutual
         runs : (e : Expression) (env : Values) (k : ℕ) (w : W) → k ≤ most → Alike k (run P mode c e env k w) (run P mode d e env k w)
@@ -85,6 +104,7 @@ module _ (C W : Type 0) where
             then_alike k _ _ _ _ (runs test env k w h) (λ u m w l. choose_alike (bool_in u) (run P mode c x) (run P mode c y) (run P mode d x) (run P mode d y) env m w (runs x env m w (omega (arith, h, l))) (runs y env m w (omega (arith, h, l))))
         runs (MatchE number x arms) env k w h = then_alike k _ _ _ _ (runs x env k w h) (λ u m w l. arm_runs arms (tag_in u) (join env (fields_in u)) m w (omega (arith, h, l)))
         runs (CallE f args) env k w h = then_alike k _ _ _ _ (all_runs args env k w h) (λ vs m w l. alike f vs m w (omega (arith, h, l)))
+        runs (OperateE op xs) env k w h = then_alike k _ _ _ _ (all_runs xs env k w h) (λ vs m w l. self m _ (operate_low op vs m w))
 
         all_runs : (xs : Expressions) (env : Values) (k : ℕ) (w : W) → k ≤ most → Alike k (run_all P mode c xs env k w) (run_all P mode d xs env k w)
         all_runs NoE env k w h = self k _ (le_refl k)

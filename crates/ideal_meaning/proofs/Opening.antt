@@ -122,7 +122,7 @@ module _ (hash : Hash) (P : Program) (reads_back : (t : Ty) (v : Value) → IsId
     opens_at : (place left : ℕ) (more : Offer) → InStep hash P Deep began s (record { place = place; left = left; more = more })
         → Agrees (with_fuel k (take_piece hash P t (digest_at hash P t piece) place more (record { place = place; left = left; more = more })))
     opens_at place left (NoMore e) y =
-        refused _ _ y (record { cause = cause_of e place; fuel = k; left = record { place = place; left = left; more = NoMore e }; is = refl; refused = refl; only = λ later e. absurd (cc) })
+        refused _ _ y (record { cause = cause_of e place (digest_at hash P t piece); fuel = k; left = record { place = place; left = left; more = NoMore e }; is = refl; refused = refl; only = λ later e. absurd (cc) })
     opens_at place left (Offers bytes n more) y = by (bytes_eq (digest_at hash P t bytes) (digest_at hash P t piece)) refl
       where
         by : (b : Bool) → bytes_eq (digest_at hash P t bytes) (digest_at hash P t piece) ≡ b

@@ -1,10 +1,10 @@
 -- The call of a query or update: its parameters and its result, and an argument without `auth`.
-use Rattle.std.proofs.Common.{◌≡◌, ℕ, zero, suc, false, List, [], ◌∷◌, Option, Some, None, unwrap_or, slice_get, refl, ap, ◌∙◌}
-use Rattle.core_terms.specs.Types.{Ty, PairTy, NamedTy, AuthTy, Table, fields_at, OnFields}
-use Rattle.core_terms.specs.Values.{Value, PairV, ConV, Values, AndV, IsIdeal, AreIdeal, AuthWithin, AuthWithinAll}
+use Rattle.std.proofs.Common.{◌≡◌, ℕ, zero, suc, false, List, [], ◌∷◌, Option, Some, None, unwrap_or, slice_get, refl, sym, ap, ◌∙◌}
+use Rattle.core_terms.specs.Types.{Ty, PairTy, NamedTy, AuthTy, VecTy, Table, fields_at, item_types, OnFields}
+use Rattle.core_terms.specs.Values.{Value, PairV, ConV, ItemsV, Values, AndV, IsIdeal, AreIdeal, AuthWithin, AuthWithinAll}
 use Rattle.core_terms.specs.Terms.{Kind, Inner, Init, Query, Update, no_function, Program, function_at}
 use Rattle.core_terms.specs.Roles.{some_passes, has_auth_within, IsPlain, role_parameters, role_result, ReadsState, IsRole}
-use Rattle.core_terms.proofs.Plain.{first_no, second_no, fields_none}
+use Rattle.core_terms.proofs.Plain.{first_no, second_no, fields_none, items_plain}
 
 -- a query or update takes the state and an argument
 state_first : (kind : Kind) (state t : Ty) → ReadsState kind → role_parameters kind state t ≡ state ∷ t ∷ []
@@ -29,6 +29,8 @@ module _ (limit : ℕ) (types : Table) where
         (plain_within a x (λ n. first_no (has_auth_within types n a) (has_auth_within types n b) (plain n)) h.0, plain_within b y (λ n. second_no (has_auth_within types n a) (has_auth_within types n b) (plain n)) h.1)
     plain_within (NamedTy number) (ConV tag vs) plain h =
         plain_within_all (fields_at types number tag) vs (λ n ts e. fields_none types n tag (slice_get types number) ts (plain (suc n)) e) h
+    plain_within (VecTy n t) (ItemsV vs) plain h =
+        plain_within_all (Some (item_types n t)) vs (λ opened ts e. let same : item_types n t ≡ ts = cc in ap (some_passes (has_auth_within types opened)) (sym same) ∙ items_plain types t n plain opened) h
     plain_within t v plain h = tt
 
     plain_within_all : (o : Option (List Ty)) (vs : Values) → ((opened : ℕ) (ts : List Ty) → o ≡ Some ts → some_passes (has_auth_within types opened) ts ≡ false)

@@ -1,25 +1,25 @@
 -- The checked run is the projection of the ideal one, as long as the pieces are honest: by induction on the expression, where
 -- it holds of the calls in it.
-use Rattle.std.proofs.Common.{◌≡◌, ℕ, zero, suc, ◌<◌, ◌≤◌, ◌^◌, Bool, true, false, not, List, [], ◌∷◌, ◌++◌, length, ℤ, pos, negsuc, ◌+ℤ◌, ◌-ℤ◌, ◌*ℤ◌, int_div, int_rem, nat_lt, Option, Some, None, unwrap_or, slice_get, if◌then◌else◌, refl, sym, ap, subst, arith, ltb-false, lt-ltb, lt_of_le_of_lt}
+use Rattle.std.proofs.Common.{◌≡◌, ℕ, zero, suc, ◌<◌, ◌≤◌, ◌^◌, Bool, true, false, not, List, [], ◌∷◌, ◌++◌, length, ℤ, pos, negsuc, ◌+ℤ◌, ◌-ℤ◌, ◌*ℤ◌, int_div, int_rem, nat_lt, ltb-true, Option, Some, None, unwrap_or, slice_get, if◌then◌else◌, refl, sym, ap, subst, arith, ltb-false, lt-ltb, lt_of_le_of_lt}
 use lib.Signed.{mag_rem}
 use Rattle.std.specs.Option.{option_and_then}
 use Rattle.std.proofs.lemmas.Str.{IsUtf8-append}
-use Rattle.core_terms.specs.Types.{Ty, UnitTy, BoolTy, IntTy, TextTy, PairTy, NamedTy, AuthTy, fields_at}
+use Rattle.core_terms.specs.Types.{Ty, UnitTy, BoolTy, IntTy, TextTy, PairTy, NamedTy, AuthTy, VecTy, fields_at, item_types}
 use Rattle.core_terms.specs.Formats.{Hash, IsFormat, depth_limit}
-use Rattle.core_terms.specs.Values.{Value, UnitV, BoolV, IntV, TextV, PairV, ConV, DigestV, Values, NoV, AndV, IsIdeal, int_fits, size, depth}
+use Rattle.core_terms.specs.Values.{Value, UnitV, BoolV, IntV, TextV, PairV, ConV, DigestV, ItemsV, Values, NoV, AndV, IsIdeal, int_fits, size, depth}
 use Rattle.core_terms.specs.Spelling.{spelling}
-use Rattle.core_terms.specs.Terms.{Expression, UnitE, BoolE, IntE, TextE, LocalE, PairE, FstE, SndE, NotE, LenE, AuthE, UnauthE, ConE, ArithE, CompareE, TextCompareE, CatE, LetE, IfE, MatchE, CallE, Expressions, NoE, AndE, Arms, NoArm, AndArm, Function, no_function, OnFunction, Program, function_at, HasType, HaveTypes, HaveArms}
+use Rattle.core_terms.specs.Terms.{Expression, UnitE, BoolE, IntE, TextE, LocalE, PairE, FstE, SndE, NotE, LenE, AuthE, UnauthE, ConE, ArithE, CompareE, TextCompareE, CatE, LetE, IfE, MatchE, CallE, OperateE, Operation, VecFill, VecGet, VecPut, operand_types, result_type, Expressions, NoE, AndE, Arms, NoArm, AndArm, Function, no_function, OnFunction, Program, function_at, HasType, HaveTypes, HaveArms}
 use Rattle.core_terms.specs.declared.term.Arith.{Arith}
 use Rattle.core_terms.specs.declared.term.Arith.TheVariants.{Add, Sub, Mul, Div, Rem}
 use Rattle.core_terms.specs.Projection.{digest_at, projection, projections}
 use Rattle.core_terms.proofs.Numbers.{mag_of, of_mag}
 use Rattle.core_terms.proofs.Fields.{on_fields}
 use Rattle.core_terms.proofs.Projection.{size_shallow, depth_shallow}
-use Rattle.ideal_meaning.specs.Run.{Trap, TooBig, TooDeep, Overflow, Traps, Run, Gives, Ends, then_run, with_fuel, local, join, first_in, second_in, bool_in, int_in, text_in, tag_in, fields_in, divided, arith_of, compare_of, text_compare_of, choose, limited, run, run_all, run_arm}
+use Rattle.ideal_meaning.specs.Run.{Trap, TooBig, TooDeep, Overflow, Index, Traps, Run, Gives, Ends, then_run, with_fuel, local, join, first_in, second_in, bool_in, int_in, text_in, tag_in, fields_in, divided, arith_of, compare_of, text_compare_of, choose, limited, at_index, operate, fill_of, get_of, put_of, items_in, repeated, replaced, run, run_all, run_arm}
 use Rattle.ideal_meaning.specs.Ideal.{Opened, ideal_mode}
 use Rattle.ideal_meaning.specs.Checked.{Taking, Cause, checked_mode, take_piece, digest_in}
-use Rattle.ideal_meaning.proofs.Grows.{Grows, grows, grows_all, grows_arm, grows_then, grows_limited, grows_arith, grows_choose, gives}
-use Rattle.ideal_meaning.proofs.InHand.{int_fits_in, utf8_in, length_in, first_projection, second_projection, at_con, IsHeld, AreHeld, held_unit, held_bool, held_int, held_text, held_local, local_projection, held_join, join_projection, held_pair, held_first, held_second, held_con, held_parts, held_auth}
+use Rattle.ideal_meaning.proofs.Grows.{Grows, grows, grows_all, grows_arm, grows_then, grows_limited, grows_operate, grows_arith, grows_choose, gives}
+use Rattle.ideal_meaning.proofs.InHand.{int_fits_in, utf8_in, length_in, first_projection, second_projection, at_con, IsHeld, AreHeld, held_unit, held_bool, held_int, held_text, held_local, local_projection, held_join, join_projection, held_pair, held_first, held_second, held_con, held_parts, held_auth, at_int, at_items, item_type_at, held_items, held_elements, held_repeated, held_replaced, repeated_projection, replaced_projection}
 use Rattle.ideal_meaning.proofs.Relation.{InStep, Agree, agree_then, agree_gives, agree_traps, agree_if}
 use Rattle.ideal_meaning.proofs.Opening.{ReadsBack, opens}
 
@@ -149,6 +149,56 @@ module _ (hash : Hash) (P : Program) (format : IsFormat P.format) (Deep : Type 0
   both_arith Mul x d k s w fx y = both_int (int_fits (x *ℤ d)) (x *ℤ d) k s w (λ q. q) y
   both_arith Div x d k s w fx y = both_divided (int_div x d) x d k s w (λ q. q) y
   both_arith Rem x d k s w fx y = both_divided (int_rem x d) x d k s w (λ q. rem_fits x d fx) y
+
+  -- operations
+  both_index : (n : ℕ) (t : Ty) (z : ℤ) (f : ℕ → ℕ → List Opened → IdealRun Value) (g : ℕ → ℕ → Taking → CheckedRun Value) (k : ℕ) (s : List Opened) (w : Taking)
+      → ((i : ℕ) → i < n → Both t (f i k s) (g i k w)) → Synced s w → Both t (at_index n z f k s) (at_index n z g k w)
+  both_index n t (pos i) f g k s w h y = both_if t (nat_lt i n) (nat_lt i n) _ _ _ _ refl (λ q. h i (ltb-true i n q)) (λ q. both_traps t Index k s w y)
+  both_index n t (negsuc i) f g k s w h y = both_traps t Index k s w y
+
+  pub both_fill : (n : ℕ) (t : Ty) (v : Value) (k : ℕ) (s : List Opened) (w : Taking) → Held t v → Synced s w
+      → Both (VecTy n t) (fill_of P.format.limit P.types n t v k s) (fill_of P.format.limit P.types n t (Projected t v) k w)
+  both_fill n t v k s w h y =
+      both_limited (VecTy n t) (ItemsV (repeated n v)) (ItemsV (repeated n (Projected t v))) k s w (ap ItemsV (repeated_projection P Deep hash n t v))
+      (λ p d. held_items P Deep n t (repeated n v) (held_repeated P Deep n t v h) p d) y
+
+  pub both_get : (n : ℕ) (t : Ty) (es : Values) (z : ℤ) (k : ℕ) (s : List Opened) (w : Taking) → AreHeld P Deep (item_types n t) es → Synced s w
+      → Both t (get_of n es z k s) (get_of n (AllProjected (item_types n t) es) z k w)
+  both_get n t es z k s w h y =
+      both_index n t z (λ i k s. Gives (local es i) k s) (λ i k w. Gives (local (AllProjected (item_types n t) es) i) k w) k s w
+      (λ i l. both_gives t (local es i) (local (AllProjected (item_types n t) es) i) k s w (held_local P Deep (item_types n t) es i t h (item_type_at n i t l))
+      (local_projection P Deep hash (item_types n t) es i t h (item_type_at n i t l)) y) y
+
+  pub both_put : (n : ℕ) (t : Ty) (es : Values) (z : ℤ) (v : Value) (k : ℕ) (s : List Opened) (w : Taking) → AreHeld P Deep (item_types n t) es → Held t v → Synced s w
+      → Both (VecTy n t) (put_of P.format.limit P.types n t es z v k s) (put_of P.format.limit P.types n t (AllProjected (item_types n t) es) z (Projected t v) k w)
+  both_put n t es z v k s w h j y =
+      both_index n (VecTy n t) z (λ i k s. limited P.format.limit P.types (VecTy n t) (ItemsV (replaced es i v)) k s)
+      (λ i k w. limited P.format.limit P.types (VecTy n t) (ItemsV (replaced (AllProjected (item_types n t) es) i (Projected t v))) k w) k s w
+      (λ i l. both_limited (VecTy n t) (ItemsV (replaced es i v)) (ItemsV (replaced (AllProjected (item_types n t) es) i (Projected t v))) k s w
+      (ap ItemsV (replaced_projection P Deep hash n i t es v h)) (λ p d. held_items P Deep n t (replaced es i v) (held_replaced P Deep n i t es v h j) p d) y) y
+
+  both_operate : (op : Operation) (vs : Values) (k : ℕ) (s : List Opened) (w : Taking) → AreHeld P Deep (operand_types op) vs → Synced s w
+      → Both (result_type op) (operate P.format.limit P.types op vs k s) (operate P.format.limit P.types op (AllProjected (operand_types op) vs) k w)
+  both_operate (VecFill n t) (AndV v NoV) k s w h y = both_fill n t v k s w h.0 y
+  both_operate (VecGet n t) (AndV u (AndV z NoV)) k s w h y =
+      at_int P.types (λ z. Both t (get_of n (items_in u) (int_in z) k s) (get_of n (items_in (Projected (VecTy n t) u)) (int_in (Projected IntTy z)) k w)) z h.1.0.ideal
+      (λ c. at_items P.types (λ u. Held (VecTy n t) u → Both t (get_of n (items_in u) c k s) (get_of n (items_in (Projected (VecTy n t) u)) c k w)) n t u h.0.ideal
+      (λ es i j. both_get n t es c k s w (held_elements P Deep n t es i j) y) h.0)
+  both_operate (VecPut n t) (AndV u (AndV z (AndV v NoV))) k s w h y =
+      at_int P.types (λ z. Both (VecTy n t) (put_of P.format.limit P.types n t (items_in u) (int_in z) v k s)
+      (put_of P.format.limit P.types n t (items_in (Projected (VecTy n t) u)) (int_in (Projected IntTy z)) (Projected t v) k w)) z h.1.0.ideal
+      (λ c. at_items P.types (λ u. Held (VecTy n t) u → Both (VecTy n t) (put_of P.format.limit P.types n t (items_in u) c v k s)
+      (put_of P.format.limit P.types n t (items_in (Projected (VecTy n t) u)) c (Projected t v) k w)) n t u h.0.ideal
+      (λ es i j. both_put n t es c v k s w (held_elements P Deep n t es i j) h.1.1.0 y) h.0)
+  both_operate (VecFill n t) NoV k s w h y = elim h [ ]
+  both_operate (VecFill n t) (AndV v (AndV u vs)) k s w h y = elim h.1 [ ]
+  both_operate (VecGet n t) NoV k s w h y = elim h [ ]
+  both_operate (VecGet n t) (AndV u NoV) k s w h y = elim h.1 [ ]
+  both_operate (VecGet n t) (AndV u (AndV z (AndV v vs))) k s w h y = elim h.1.1 [ ]
+  both_operate (VecPut n t) NoV k s w h y = elim h [ ]
+  both_operate (VecPut n t) (AndV u NoV) k s w h y = elim h.1 [ ]
+  both_operate (VecPut n t) (AndV u (AndV z NoV)) k s w h y = elim h.1.1 [ ]
+  both_operate (VecPut n t) (AndV u (AndV z (AndV v (AndV r vs)))) k s w h y = elim h.1.1.1 [ ]
 
   -- Expressions, where calls agree.
   module _ (reads_back : (t : Ty) (v : Value) → IsIdeal P.types t v → ReadsBack hash P t v)
@@ -316,6 +366,11 @@ module _ (hash : Hash) (P : Program) (format : IsFormat P.format) (Deep : Type 0
           (after_all (function_at P f).parameters (function_at P f).result (ideal_run_all args env k s) (checked_run_all args (AllProjected ts env) k w)
           (λ vs k s. ideal_call f vs k s) (λ vs k w. checked_call f vs k w)
           (sim_all args ts (function_at P f).parameters typed.1 env k s w i y) (λ vs k s. ideal_grows f vs k s) (λ vs k s w hv y. calls f vs k s w hv y))
+      sim (OperateE op xs) ts t h env k s w i y =
+          subst (Agrees (OperateE op xs) ts env k s w) h.0
+          (after_all (operand_types op) (result_type op) (ideal_run_all xs env k s) (checked_run_all xs (AllProjected ts env) k w)
+          (λ vs k s. operate P.format.limit P.types op vs k s) (λ vs k w. operate P.format.limit P.types op vs k w)
+          (sim_all xs ts (operand_types op) h.2 env k s w i y) (λ vs k s. grows_operate P op vs k s) (λ vs k s w hv y. both_operate op vs k s w hv y))
 
       -- operands
       sim_all : (xs : Expressions) (ts us : List Ty) → HaveTypes P ts xs us → (env : Values) (k : ℕ) (s : List Opened) (w : Taking)

@@ -1,7 +1,9 @@
 pub mod Run
 pub mod Ideal
+pub mod Wire
 pub mod Frames
 pub mod Checked
+pub mod Fetched
 pub mod Told
 pub mod Ring
 pub mod Headline
@@ -9,6 +11,7 @@ pub mod Following
 pub mod Agreement
 pub mod Table
 pub mod Operations
+pub mod Arrays
 pub mod Laws
 pub mod Examples
 pub mod ExampleSpellings
@@ -19,3 +22,4 @@ pub mod OperationRows
 pub mod ToldRows
 pub mod Library
 pub mod LibraryRuns
+pub mod ArrayRuns

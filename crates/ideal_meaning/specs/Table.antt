@@ -1,13 +1,13 @@
 -- The ideal meaning, rule by rule, in words that know no mode: for a reader who checks it against the language's own table.
 use Rattle.std.specs.Prelude.{◌≡◌, ℕ, zero, suc, Bool, not, List, [], ◌∷◌, ◌++◌, length, ℤ, pos, ◌+ℤ◌, ◌-ℤ◌, ◌*ℤ◌, int_lt, int_le, int_div, int_rem, nat_lt, bytes_eq, if◌then◌else◌}
 use Rattle.std.specs.Ordering.{int_eq}
-use Rattle.core_terms.specs.Types.{Ty, TextTy, PairTy, NamedTy}
-use Rattle.core_terms.specs.Values.{Value, UnitV, BoolV, IntV, TextV, PairV, ConV, Values, NoV, AndV, int_fits, size, depth}
-use Rattle.core_terms.specs.Terms.{Expression, UnitE, BoolE, IntE, TextE, LocalE, PairE, FstE, SndE, NotE, LenE, AuthE, UnauthE, ConE, ArithE, CompareE, TextCompareE, CatE, LetE, IfE, MatchE, CallE, Expressions, NoE, AndE, Arms, AndArm, Program, function_at}
+use Rattle.core_terms.specs.Types.{Ty, TextTy, PairTy, NamedTy, VecTy}
+use Rattle.core_terms.specs.Values.{Value, UnitV, BoolV, IntV, TextV, PairV, ConV, ItemsV, Values, NoV, AndV, int_fits, size, depth}
+use Rattle.core_terms.specs.Terms.{Expression, UnitE, BoolE, IntE, TextE, LocalE, PairE, FstE, SndE, NotE, LenE, AuthE, UnauthE, ConE, ArithE, CompareE, TextCompareE, CatE, LetE, IfE, MatchE, CallE, OperateE, VecFill, VecGet, VecPut, Expressions, NoE, AndE, Arms, AndArm, Program, function_at}
 use Rattle.core_terms.specs.declared.term.Arith.TheVariants.{Add, Sub, Mul, Div, Rem}
 use Rattle.core_terms.specs.declared.term.Compare.TheVariants.{Eq, Lt, Le}
 use Rattle.core_terms.specs.declared.term.TextCompare.TheVariants.{Eq as TEq, Lt as TLt}
-use Rattle.ideal_meaning.specs.Run.{TooBig, TooDeep, Overflow, DivZero, Traps, IsOut, Run, Gives, Ends, then_run, local, join, first_in, second_in, bool_in, int_in, text_in, text_lt, tag_in, fields_in, run, run_all, run_arm, call}
+use Rattle.ideal_meaning.specs.Run.{TooBig, TooDeep, Overflow, DivZero, Index, Traps, IsOut, Run, Gives, Ends, then_run, local, join, first_in, second_in, bool_in, int_in, text_in, text_lt, tag_in, fields_in, items_in, repeated, replaced, run, run_all, run_arm, call}
 use Rattle.ideal_meaning.specs.Ideal.{Opened, ideal_mode}
 
 -- what an ideal evaluation gives, with the fuel left and what was opened
@@ -37,6 +37,11 @@ abbrev pub made : Program → Ty → Value → ℕ → List Opened → Evaluatio
 made P t v k seen =
     if nat_lt P.format.limit (size P.types t v) then Ends (Traps TooBig) k seen
     else (if nat_lt 512 (depth P.types t v) then Ends (Traps TooDeep) k seen else Gives v k seen)
+
+-- where z is a number below m, what goes on with it; else the trap
+abbrev pub indexed : ℕ → ℤ → (ℕ → ℕ → List Opened → Evaluation Value) → ℕ → List Opened → Evaluation Value
+indexed m (pos i) go k seen = if nat_lt i m then go i k seen else Ends (Traps Index) k seen
+indexed m z go k seen = Ends (Traps Index) k seen
 
 module _ (P : Program) (n : ℕ) where
   -- Each rule of the ideal meaning. Operands come from left to right, each with the fuel that is left; the first that gives no
@@ -98,6 +103,15 @@ module _ (P : Program) (n : ℕ) where
     pub cat : (x y : Expression) (env : Values) (k : ℕ) (s : List Opened)
         → eval P n (CatE x y) env k s ≡ then_run (eval P n x env k s) (λ u k s. then_run (eval P n y env k s) (λ v k s.
         made P TextTy (TextV (text_in u ++ text_in v)) k s))
+    -- an array of m times the operand, the element at an int, and the array with that element replaced; the index is tested first, then the limits
+    pub fill : (m : ℕ) (t : Ty) (x : Expression) (env : Values) (k : ℕ) (s : List Opened)
+        → eval P n (OperateE (VecFill m t) (AndE x NoE)) env k s ≡ then_run (eval P n x env k s) (λ v k s. made P (VecTy m t) (ItemsV (repeated m v)) k s)
+    pub get : (m : ℕ) (t : Ty) (x y : Expression) (env : Values) (k : ℕ) (s : List Opened)
+        → eval P n (OperateE (VecGet m t) (AndE x (AndE y NoE))) env k s ≡ then_run (eval P n x env k s) (λ u k s. then_run (eval P n y env k s) (λ v k s.
+        indexed m (int_in v) (λ i k s. Gives (local (items_in u) i) k s) k s))
+    pub put : (m : ℕ) (t : Ty) (x y z : Expression) (env : Values) (k : ℕ) (s : List Opened)
+        → eval P n (OperateE (VecPut m t) (AndE x (AndE y (AndE z NoE)))) env k s ≡ then_run (eval P n x env k s) (λ u k s. then_run (eval P n y env k s) (λ v k s.
+        then_run (eval P n z env k s) (λ e k s. indexed m (int_in v) (λ i k s. made P (VecTy m t) (ItemsV (replaced (items_in u) i e)) k s) k s)))
     -- the bound part, then the body with one local more; the test, then one branch; the scrutinee, then the arm of its tag with
     -- its fields as locals
     pub let_is : (a : Ty) (x body : Expression) (env : Values) (k : ℕ) (s : List Opened)

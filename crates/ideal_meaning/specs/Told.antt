@@ -4,7 +4,7 @@ use Rattle.core_terms.specs.declared.cause.Cause.TheVariants as cause
 use Rattle.core_terms.specs.declared.outcome.Trap as code_trap
 use Rattle.core_terms.specs.declared.outcome.Trap.TheVariants as trap
 use Rattle.ideal_meaning.specs.Checked.{Cause, Short, Cut, BadKind, PieceLong, BadUse, WrongPiece, BadPiece, Header, Leftover}
-use Rattle.ideal_meaning.specs.Run.{Trap, Overflow, DivZero, TooBig, TooDeep}
+use Rattle.ideal_meaning.specs.Run.{Trap, Overflow, DivZero, TooBig, TooDeep, Index}
 
 -- the cause, with each of its fields; a digest is its 32 bytes
 abbrev pub cause_told : code.Cause → Cause
@@ -23,3 +23,4 @@ trap_told trap.Overflow = Overflow
 trap_told trap.DivZero = DivZero
 trap_told trap.TooBig = TooBig
 trap_told trap.TooDeep = TooDeep
+trap_told trap.Index = Index

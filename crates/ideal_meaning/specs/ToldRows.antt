@@ -3,7 +3,7 @@ use Rattle.std.specs.Prelude.{◌≡◌, refl}
 use Rattle.core_terms.specs.declared.cause.Cause.TheVariants as cause
 use Rattle.core_terms.specs.declared.outcome.Trap.TheVariants as trap
 use Rattle.ideal_meaning.specs.Checked.{Short, Cut, BadKind, PieceLong, BadUse, BadPiece, Header, Leftover}
-use Rattle.ideal_meaning.specs.Run.{Overflow, DivZero, TooBig, TooDeep}
+use Rattle.ideal_meaning.specs.Run.{Overflow, DivZero, TooBig, TooDeep, Index}
 use Rattle.ideal_meaning.specs.Told.{cause_told, trap_told}
 
 pub header_is_told : cause_told cause.Header ≡ Header
@@ -41,3 +41,6 @@ size_is_told = refl
 
 pub depth_is_told : trap_told trap.TooDeep ≡ TooDeep
 depth_is_told = refl
+
+pub index_is_told : trap_told trap.Index ≡ Index
+index_is_told = refl

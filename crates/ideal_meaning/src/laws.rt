@@ -3,8 +3,10 @@
 ghost use Rattle.ideal_meaning.specs.Headline.{HeadlineOfFrames, Headline, Companion};
 ghost use Rattle.ideal_meaning.specs.Following.{CompanionOfFrames, NewPieceBoundIsEnough, NewPiecesAreReadBack, VerdictIsOnFrames};
 ghost use Rattle.ideal_meaning.specs.Agreement.{Agreement};
+ghost use Rattle.ideal_meaning.specs.Fetched.{FetchCompanion, FetchHeadline};
 ghost use Rattle.ideal_meaning.specs.Laws.{BoundIsEnough, FrameBoundIsEnough, OneSplit, ProofFileIsReadBack};
 ghost use Rattle.ideal_meaning.specs.Ring.{RingOfProver, RingOfVerifier};
+ghost use Rattle.ideal_meaning.specs.Arrays.{ArrayTable};
 ghost use Rattle.ideal_meaning.specs.Operations.{OperationTable};
 ghost use Rattle.ideal_meaning.specs.Table.{IdealTable};
 
@@ -46,6 +48,16 @@ pub fn agreement()
     ensures { Agreement }
 {}
 
+/// Pieces that are fetched, each by the digest that is held, from anybody.
+///
+/// `headline` says that what is accepted is true, or the first piece that differs from the honest one has its digest. `complete` says
+/// that whoever has a piece with the digest of each honest one, and answers by that, has the true outcome accepted, or there is such a
+/// piece.
+pub fn fetched_pieces()
+    ensures headline { FetchHeadline }
+    ensures complete { FetchCompanion }
+{}
+
 /// The bound on nested calls never ends a run: in any mode, each bound that isn't below the fuel gives the same run.
 pub fn bound<C, W>()
     ensures { BoundIsEnough C W }
@@ -65,6 +77,11 @@ pub fn ideal_table()
 /// are truncated toward zero; texts are compared byte by byte, and their order is strict; each trap comes exactly where it says.
 pub fn operations()
     ensures { OperationTable }
+{}
+
+/// What the operations on arrays give, in the words of lists.
+pub fn arrays()
+    ensures { ArrayTable }
 {}
 
 /// The bound on the number of frames never ends a proof: each bound that isn't below the number of bytes offers the same pieces.

@@ -1,8 +1,8 @@
 -- Entries that stand behind their parts.
 use Rattle.std.proofs.Common.{◌≡◌, inl, inr, Bool, true, false, List, [], ◌∷◌, ◌++◌, unwrap_or, if◌then◌else◌, refl, sym, subst, append_assoc}
 use Rattle.std.proofs.lemmas.List.{append-nil}
-use Rattle.core_terms.specs.Types.{Ty, PairTy, NamedTy, AuthTy, Table, fields_at}
-use Rattle.core_terms.specs.Values.{Value, PairV, ConV, Values, NoV, AndV}
+use Rattle.core_terms.specs.Types.{Ty, PairTy, NamedTy, AuthTy, VecTy, Table, fields_at, item_types}
+use Rattle.core_terms.specs.Values.{Value, PairV, ConV, ItemsV, Values, NoV, AndV}
 use Rattle.images.specs.Images.{Entry, entry}
 use Rattle.images.specs.SavedImages.{distinct, is_entry_of, walk}
 use Rattle.images.proofs.AmongEntries.{IsAmong, AreAmong, among_push, among_split, are_behind, are_within}
@@ -51,6 +51,7 @@ module _ (types : Table) where
         (behind_append (done ++ walk types a x) (walk types b y) [] (walk_behind b y (done ++ walk types a x)) tt))
     walk_behind (NamedTy number) (ConV tag vs) done =
         whole_behind (NamedTy number) (ConV tag vs) done (fields_behind (unwrap_or (fields_at types number tag) []) vs done)
+    walk_behind (VecTy n t) (ItemsV vs) done = whole_behind (VecTy n t) (ItemsV vs) done (fields_behind (item_types n t) vs done)
     walk_behind (AuthTy t) v done = whole_behind (AuthTy t) v done (behind_append done (walk types t v) [] (walk_behind t v done) tt)
     walk_behind t v done = whole_behind t v done tt
 

@@ -2,10 +2,10 @@
 use Rattle.std.proofs.Common.{◌≡◌, ◌⊎◌, inl, inr, ℕ, zero, suc, ◌+◌, ◌-◌, ◌<◌, ◌≤◌, Bool, true, List, [], length, unwrap_or, Some, slice_get, refl, sym, subst, arith}
 use Rattle.std.proofs.lemmas.Bool.{cases_lt}
 use Rattle.std.proofs.lemmas.Option.{slice_get_past}
-use Rattle.core_terms.specs.Types.{Ty, PairTy, NamedTy, AuthTy, Table}
+use Rattle.core_terms.specs.Types.{Ty, PairTy, NamedTy, AuthTy, VecTy, Table}
 use Rattle.images.specs.Parts.{is_part, is_part_within}
 use Rattle.images.proofs.GrowingTests.{IsStable, stable_or_none}
-use Rattle.images.proofs.PartLevels.{IsBehind, IsField, IsPart, before_or_behind, in_auth, in_first, in_second, itself, one_later, part_of_field, part_of_part}
+use Rattle.images.proofs.PartLevels.{IsBehind, IsField, IsPart, before_or_behind, in_auth, in_first, in_second, in_vec, itself, one_later, part_of_field, part_of_part}
 
 nothing : (i : ℕ) (ts : List Ty) → slice_get [] i ≡ Some ts → ⊥
 nothing i ts h = cc
@@ -67,7 +67,7 @@ module _ (types : Table) where
             let before : IsPart types l (NamedTy n) whole = last_stable l e n there named in
             subst (λ m. IsPart types m f whole) (sym e) (part_of_field types l f f n whole before field (itself types 0 f))
 
-    -- and so are what is authenticated in a part, and the components of one
+    -- and so are what is authenticated in a part, the components of one, and the elements of one
     pub inner_part : (t : Ty) → is_part types (AuthTy t) whole ≡ true → is_part types t whole ≡ true
     inner_part t h = part_of_part types (length types) t (AuthTy t) whole h (in_auth types 0 t t (itself types 0 t))
 
@@ -76,3 +76,6 @@ module _ (types : Table) where
 
     pub second_part : (a b : Ty) → is_part types (PairTy a b) whole ≡ true → is_part types b whole ≡ true
     second_part a b h = part_of_part types (length types) b (PairTy a b) whole h (in_second types 0 b a b (itself types 0 b))
+
+    pub item_part : (n : ℕ) (t : Ty) → is_part types (VecTy n t) whole ≡ true → is_part types t whole ≡ true
+    item_part n t h = part_of_part types (length types) t (VecTy n t) whole h (in_vec types 0 t n t (itself types 0 t))

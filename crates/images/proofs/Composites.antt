@@ -14,7 +14,7 @@ use Rattle.value_store.specs.Nodes.{AreSound, Node, depth_at, size_at}
 use Rattle.value_store.specs.Standing.{StandsFor}
 use Rattle.images.specs.StoredRecords.{AreStored, IsLoaded, IsStored}
 use Rattle.images.specs.declared.stored.StoredRecord.{StoredRecord}
-use Rattle.images.proofs.Checked.{no_part, too_big, too_deep, loaded}
+use Rattle.images.proofs.Checked.{no_part, too_big, too_deep, loaded, limit_in, small_fits}
 use Rattle.images.proofs.Seen.{authenticated_seen, pair_seen}
 use Rattle.images.proofs.StoredLists.{none_there, stored_there}
 use Rattle.images.proofs.StoredNodes.{depth_is, size_is, type_is}
@@ -74,7 +74,7 @@ module _ (marking : Marking) (p : Types) (nodes : List Node) (records : List Sto
         no_part p file_size number (PairTy first_entry.0.of_type second_entry.0.of_type) (PairV first_entry.0.value second_entry.0.value) (at_pair first second) pair_there
         (ap (λ t. is_part (types_meaning p).types t (types_meaning p).state) (sym pair_type) ∙ none)
 
-    module _ (part : is_part (types_meaning p).types (PairTy (type_at (types_by_number p) a.ty) (type_at (types_by_number p) b.ty)) (types_meaning p).state ≡ true) (sound : AreSound nodes) where
+    module _ (part : is_part (types_meaning p).types (PairTy (type_at (types_by_number p) a.ty) (type_at (types_by_number p) b.ty)) (types_meaning p).state ≡ true) {limit : ℕ} (sound : AreSound limit nodes) where
       pair_part : is_part (types_meaning p).types (PairTy first_entry.0.of_type second_entry.0.of_type) (types_meaning p).state ≡ true
       pair_part = ap (λ t. is_part (types_meaning p).types t (types_meaning p).state) (sym pair_type) ∙ part
 
@@ -89,17 +89,17 @@ module _ (marking : Marking) (p : Types) (nodes : List Node) (records : List Sto
           ap₂ (λ m n. 1 + max m n) (depth_is marking (types_meaning p) (types_by_number p) nodes a first_entry.0 first_entry.2 sound)
           (depth_is marking (types_meaning p) (types_by_number p) nodes b second_entry.0 second_entry.2 sound)
 
-      pub pair_big : 65536 < size_at nodes a.value.0 + size_at nodes b.value.0 → (go : Entry → Loading) → at_pair first second go ≡ FaultyImage (TooBig number)
+      pub pair_big : limit_in p < size_at nodes a.value.0 + size_at nodes b.value.0 → (go : Entry → Loading) → at_pair first second go ≡ FaultyImage (TooBig number)
       pair_big big =
           too_big p file_size number (PairTy first_entry.0.of_type second_entry.0.of_type) (PairV first_entry.0.value second_entry.0.value) (at_pair first second) pair_there pair_part
-          (subst (λ (n : ℕ). 65536 < n) pair_size big)
+          (subst (λ (n : ℕ). limit_in p < n) pair_size big)
 
-      module _ (small : size_at nodes a.value.0 + size_at nodes b.value.0 ≤ 65536) where
+      module _ (small : size_at nodes a.value.0 + size_at nodes b.value.0 ≤ limit_in p) where
         pub pair_deep : 512 < 1 + max (depth_at nodes a.value.0) (depth_at nodes b.value.0) → (go : Entry → Loading) → at_pair first second go ≡ FaultyImage (TooDeep number)
         pair_deep deep =
             too_deep p file_size number (PairTy first_entry.0.of_type second_entry.0.of_type) (PairV first_entry.0.value second_entry.0.value)
             (at_pair first second) pair_there pair_part
-            (subst (λ (n : ℕ). n ≤ 65536) pair_size small) (subst (λ (n : ℕ). 512 < n) pair_depth deep)
+            (subst (λ (n : ℕ). n ≤ limit_in p) pair_size small) (subst (λ (n : ℕ). 512 < n) pair_depth deep)
 
         pub pair_loaded : 1 + max (depth_at nodes a.value.0) (depth_at nodes b.value.0) ≤ 512 → (new : List Node) (pair : StoredRecord)
             → slice_get (types_by_number p) pair.ty.0 ≡ Some (PairTy (type_at (types_by_number p) a.ty) (type_at (types_by_number p) b.ty))
@@ -111,7 +111,7 @@ module _ (marking : Marking) (p : Types) (nodes : List Node) (records : List Sto
             → IsLoaded marking (types_meaning p) (types_by_number p) new (at_pair first second) (Ok pair)
         pair_loaded shallow new pair of_type stands =
             loaded p file_size number (PairTy first_entry.0.of_type second_entry.0.of_type) (PairV first_entry.0.value second_entry.0.value) (at_pair first second) pair_there pair_part
-            (subst (λ (n : ℕ). n ≤ 65536) pair_size small) (subst (λ (n : ℕ). n ≤ 512) pair_depth shallow) marking new pair
+            (subst (λ (n : ℕ). n ≤ limit_in p) pair_size small) (subst (λ (n : ℕ). n ≤ 512) pair_depth shallow) marking new pair
             (PairV (seen_as marking (types_meaning p) first_entry.0.of_type first_entry.0.value) (seen_as marking (types_meaning p) second_entry.0.of_type second_entry.0.value))
             (of_type ∙ ap Some pair_type)
             (pair_seen marking (types_meaning p) first_entry.0.of_type second_entry.0.of_type first_entry.0.value second_entry.0.value) (stands first_entry.2.stands second_entry.2.stands)
@@ -145,7 +145,7 @@ module _ (marking : Marking) (p : Types) (nodes : List Node) (records : List Sto
         → IsLoaded marking (types_meaning p) (types_by_number p) new (at_auth inner) (Ok auth)
     auth_loaded part new auth of_type stands =
         loaded p file_size number (AuthTy inner_entry.0.of_type) inner_entry.0.value (at_auth inner) auth_there
-        (ap (λ t. is_part (types_meaning p).types (AuthTy t) (types_meaning p).state) (sym inner_type) ∙ part) (lit≤ tt) (lit≤ tt) marking new auth
+        (ap (λ t. is_part (types_meaning p).types (AuthTy t) (types_meaning p).state) (sym inner_type) ∙ part) (small_fits p 32 (lit≤ tt)) (lit≤ tt) marking new auth
         (authenticated marking (types_meaning p) inner_entry.0.of_type (seen_as marking (types_meaning p) inner_entry.0.of_type inner_entry.0.value))
         (of_type ∙ ap (λ t. Some (AuthTy t)) inner_type)
         (sym (authenticated_seen marking (types_meaning p) inner_entry.0.of_type inner_entry.0.value))

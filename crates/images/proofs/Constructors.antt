@@ -20,7 +20,7 @@ use Rattle.images.specs.StoredRecords.{AreStored, IsLoaded, refs_from}
 use Rattle.images.specs.declared.record.ConstructorRecord.{ConstructorRecord}
 use Rattle.images.specs.declared.record.Record.TheVariants.{Constructor}
 use Rattle.images.specs.declared.stored.StoredRecord.{StoredRecord}
-use Rattle.images.proofs.Checked.{too_big, too_deep, loaded}
+use Rattle.images.proofs.Checked.{too_big, too_deep, loaded, limit_in}
 use Rattle.images.proofs.FieldRefs.{FieldsStand, StandForFields, fields_stand}
 use Rattle.images.proofs.Seen.{all_seen, constructor_seen}
 
@@ -36,7 +36,7 @@ lent found refs slice whole is all same = ap Some same ∙ ap (option_map (λ (r
 pub none_found : (found : Option (Vec Ref Global)) (whole : Option (List Ref)) → found ≡ None → option_map (λ (refs : Vec Ref Global). refs.items) found ≡ whole → None ≡ whole
 none_found found whole none all = ap (option_map (λ (refs : Vec Ref Global). refs.items)) (sym none) ∙ all
 
-module _ (marking : Marking) (p : Types) (nodes : List Node) (sound : AreSound nodes) (records : List StoredRecord) (entries : List Entry)
+module _ {limit : ℕ} (marking : Marking) (p : Types) (nodes : List Node) (sound : AreSound limit nodes) (records : List StoredRecord) (entries : List Entry)
     (stored : AreStored marking (types_meaning p) (types_by_number p) nodes records entries) (file_size number : ℕ) (c : ConstructorRecord) (has : HasConstructor p (Constructor c)) where
   -- what loading goes on with, behind a constructor value
   abbrev pub at_constructor : (Entry → Loading) → Loading
@@ -80,15 +80,15 @@ module _ (marking : Marking) (p : Types) (nodes : List Node) (sound : AreSound n
     constructor_depth : 1 + greatest_depth nodes (numbers_of refs) ≡ depth (types_meaning p).types (NamedTy c.named.0) (ConV c.tag.0 fields.0)
     constructor_depth = ap (λ n. 1 + n) fields.2.depth ∙ ap (λ o. 1 + depths (types_meaning p).types (unwrap_or o []) fields.0) (sym has.1)
 
-    pub constructor_big : 65536 < 1 + total_size nodes (numbers_of refs) → (go : Entry → Loading) → at_constructor go ≡ FaultyImage (TooBig number)
+    pub constructor_big : limit_in p < 1 + total_size nodes (numbers_of refs) → (go : Entry → Loading) → at_constructor go ≡ FaultyImage (TooBig number)
     constructor_big big =
-        too_big p file_size number (NamedTy c.named.0) (ConV c.tag.0 fields.0) at_constructor constructor_there has.0 (subst (λ (n : ℕ). 65536 < n) constructor_size big)
+        too_big p file_size number (NamedTy c.named.0) (ConV c.tag.0 fields.0) at_constructor constructor_there has.0 (subst (λ (n : ℕ). limit_in p < n) constructor_size big)
 
-    module _ (small : 1 + total_size nodes (numbers_of refs) ≤ 65536) where
+    module _ (small : 1 + total_size nodes (numbers_of refs) ≤ limit_in p) where
       pub constructor_deep : 512 < 1 + greatest_depth nodes (numbers_of refs) → (go : Entry → Loading) → at_constructor go ≡ FaultyImage (TooDeep number)
       constructor_deep deep =
           too_deep p file_size number (NamedTy c.named.0) (ConV c.tag.0 fields.0) at_constructor constructor_there has.0
-          (subst (λ (n : ℕ). n ≤ 65536) constructor_size small) (subst (λ (n : ℕ). 512 < n) constructor_depth deep)
+          (subst (λ (n : ℕ). n ≤ limit_in p) constructor_size small) (subst (λ (n : ℕ). 512 < n) constructor_depth deep)
 
       pub constructor_loaded : 1 + greatest_depth nodes (numbers_of refs) ≤ 512 → (new : List Node) (made : StoredRecord)
           → slice_get (types_by_number p) made.ty.0 ≡ Some (NamedTy c.named.0)
@@ -98,6 +98,6 @@ module _ (marking : Marking) (p : Types) (nodes : List Node) (sound : AreSound n
           → IsLoaded marking (types_meaning p) (types_by_number p) new at_constructor (Ok made)
       constructor_loaded shallow new made of_type stands =
           loaded p file_size number (NamedTy c.named.0) (ConV c.tag.0 fields.0) at_constructor constructor_there has.0
-          (subst (λ (n : ℕ). n ≤ 65536) constructor_size small) (subst (λ (n : ℕ). n ≤ 512) constructor_depth shallow) marking new made
+          (subst (λ (n : ℕ). n ≤ limit_in p) constructor_size small) (subst (λ (n : ℕ). n ≤ 512) constructor_depth shallow) marking new made
           (ConV c.tag.0 (all_seen marking (types_meaning p) field_types fields.0)) of_type (constructor_seen marking (types_meaning p) c.named.0 c.tag.0 field_types fields.0 has.1)
           (stands field_types (all_seen marking (types_meaning p) field_types fields.0) has.1 fields.2.stand)

@@ -1,8 +1,8 @@
 -- The parts of a value with their types, and the walk over them.
 use Rattle.std.proofs.Common.{◌≡◌, List, [], ◌∷◌, ◌++◌, unwrap_or, refl, sym, ap}
 use Rattle.std.proofs.lemmas.List.{append-nil}
-use Rattle.core_terms.specs.Types.{Ty, PairTy, NamedTy, AuthTy, Table, fields_at}
-use Rattle.core_terms.specs.Values.{Value, PairV, ConV, Values, NoV, AndV}
+use Rattle.core_terms.specs.Types.{Ty, PairTy, NamedTy, AuthTy, VecTy, Table, fields_at, item_types}
+use Rattle.core_terms.specs.Values.{Value, PairV, ConV, ItemsV, Values, NoV, AndV}
 use Rattle.images.specs.Images.{Entry, entry}
 use Rattle.images.specs.SavedImages.{walk, walk_all}
 use Rattle.images.proofs.AmongEntries.{IsAmong, AreAmong, among_behind, among_here, are_first, are_second}
@@ -16,6 +16,7 @@ module _ (types : Table) where
   abbrev pub parts : Ty → Value → List Entry
   parts (PairTy a b) (PairV x y) = entry a x ∷ entry b y ∷ []
   parts (NamedTy number) (ConV tag vs) = fields (unwrap_or (fields_at types number tag) []) vs
+  parts (VecTy n t) (ItemsV vs) = fields (item_types n t) vs
   parts (AuthTy t) v = entry t v ∷ []
   parts t v = []
 
@@ -35,6 +36,7 @@ module _ (types : Table) where
       ap (λ es. (walk types a x ++ es) ++ entry (PairTy a b) (PairV x y) ∷ []) (sym (append-nil (walk types b y)))
   walk_parts (NamedTy number) (ConV tag vs) =
       ap (λ es. es ++ entry (NamedTy number) (ConV tag vs) ∷ []) (walks_fields (unwrap_or (fields_at types number tag) []) vs)
+  walk_parts (VecTy n t) (ItemsV vs) = ap (λ es. es ++ entry (VecTy n t) (ItemsV vs) ∷ []) (walks_fields (item_types n t) vs)
   walk_parts (AuthTy t) v = ap (λ es. es ++ entry (AuthTy t) v ∷ []) (sym (append-nil (walk types t v)))
   walk_parts t v = refl
 

@@ -39,7 +39,7 @@ module _ (marking : Marking) (p : Types) (nodes : List Node) where
   FieldsStand ts (Some refs) values = (vs : Values) × (values ≡ Some vs) × StandForFields ts (numbers_of refs) vs
   FieldsStand ts None values = values ≡ None
 
-  module _ (sound : AreSound nodes) where
+  module _ {limit : ℕ} (sound : AreSound limit nodes) where
     one_more : (t : Ty) (ts : List Ty) (r : StoredRecord) (e : Entry) → IsStored marking (types_meaning p) (types_by_number p) nodes r e → e.of_type ≡ t
         → (refs : List ℕ) (vs : Values) → StandForFields ts refs vs → StandForFields (t ∷ ts) (r.value.0 ∷ refs) (AndV e.value vs)
     one_more t ts r e is same refs vs h =

@@ -1,25 +1,27 @@
 -- Entries that an image may have: the parts of a state that stands over nodes.
-use Rattle.std.proofs.Common.{◌≡◌, ℕ, suc, true, List, [], ◌∷◌, ◌++◌, Option, Some, None, slice_get, unwrap_or, refl, sym, subst}
+use Rattle.std.proofs.Common.{◌≡◌, ℕ, zero, suc, true, List, [], ◌∷◌, ◌++◌, Option, Some, None, slice_get, unwrap_or, refl, sym, subst}
 use Rattle.std.specs.List.{All}
 use Rattle.std.specs.Option.{option_and_then}
 use Rattle.std.proofs.lemmas.List.Elements.{All-append, All-nil, All-push}
-use Rattle.core_terms.specs.Types.{Ty, UnitTy, BoolTy, IntTy, TextTy, PairTy, NamedTy, AuthTy, fields_at, OnFields}
-use Rattle.core_terms.specs.Values.{Value, UnitV, BoolV, IntV, TextV, PairV, ConV, Values, NoV, AndV, IsIdeal, IsWithin}
+use Rattle.core_terms.specs.Types.{Ty, UnitTy, BoolTy, IntTy, TextTy, PairTy, NamedTy, AuthTy, VecTy, fields_at, item_types, OnFields}
+use Rattle.core_terms.specs.Values.{Value, UnitV, BoolV, IntV, TextV, PairV, ConV, ItemsV, Values, NoV, AndV, IsIdeal, IsWithin}
 use Rattle.core_terms.specs.Terms.{Program}
 use Rattle.images.specs.Images.{Entry, entry}
-use Rattle.images.specs.Parts.{is_part}
+use Rattle.images.specs.Parts.{HasLength, is_part}
 use Rattle.images.specs.SavedImages.{walk, walk_all}
-use Rattle.value_store.specs.Nodes.{AreSound, Node, size_limit}
+use Rattle.value_store.specs.Nodes.{AreSound, Node}
 use Rattle.value_store.specs.Standing.{IdealNodes, StandsFor, AllStandFor}
 use Rattle.value_store.proofs.StandingNodes.{within_stands}
 use Rattle.value_store.proofs.TypedNodes.{ideal_refers, ideal_stands}
-use Rattle.images.proofs.ClosedParts.{field_part, first_part, inner_part, second_part}
+use Rattle.images.proofs.NodeEntries.{length_stands}
+use Rattle.images.proofs.ClosedParts.{field_part, first_part, inner_part, item_part, second_part}
 
 -- the value is an ideal one, within the limits, and its type is a part of the state's
 pub record IsFit (P : Program) (e : Entry) : Type 0 where
   pub ideal : IsIdeal P.types e.of_type e.value
   pub within : IsWithin P.format.limit P.types e.of_type e.value
   pub part : is_part P.types e.of_type P.state ≡ true
+  pub has_length : HasLength e.of_type
 
 module _ (P : Program) where
   abbrev PartOfState : Ty → Type 0
@@ -37,6 +39,10 @@ module _ (P : Program) where
   all_parts [] h = tt
   all_parts (t ∷ ts) h = (h 0 t refl, all_parts ts (λ i u at. h (suc i) u at))
 
+  all_items : (n : ℕ) (t : Ty) → PartOfState t → AllParts (item_types n t)
+  all_items zero t h = tt
+  all_items (suc n) t h = (h, all_items n t h)
+
   -- the types of the fields of a part of the state's type are parts of it
   field_parts : (number tag : ℕ) → PartOfState (NamedTy number) → FieldParts (fields_at P.types number tag)
   field_parts number tag h = by (slice_get P.types number) refl
@@ -50,7 +56,7 @@ module _ (P : Program) where
       by None there = tt
       by (Some constructors) there = at_tag constructors there (slice_get constructors tag) refl
 
-  module _ (nodes : List Node) (sound : AreSound nodes) (limit : P.format.limit ≡ size_limit) where
+  module _ (nodes : List Node) {kept : ℕ} (sound : AreSound kept nodes) (limit : P.format.limit ≡ kept) where
     abbrev Stands : ℕ → Ty → Value → Type 0
     Stands r t v = StandsFor IdealNodes P.types nodes r t v
 
@@ -60,6 +66,7 @@ module _ (P : Program) where
           ideal = ideal_stands IdealNodes P.types (ideal_refers P.types) nodes t v r h;
           within = subst (λ n. IsWithin n P.types t v) (sym limit) (within_stands IdealNodes P.types nodes t v r sound h);
           part = part;
+          has_length = length_stands P.types nodes r t v h;
         }
 
     fit_leaf : (t : Ty) (v : Value) (r : ℕ) → Stands r t v → PartOfState t → All (IsFit P) (entry t v ∷ [])
@@ -83,6 +90,9 @@ module _ (P : Program) where
       fit_walk (NamedTy number) (ConV tag vs) r h part =
           All-push (IsFit P) (walk_all P.types (unwrap_or (fields_at P.types number tag) []) vs) (entry (NamedTy number) (ConV tag vs))
           (fit_fields (fields_at P.types number tag) h.0 vs h.2 (field_parts number tag part)) (fit (NamedTy number) (ConV tag vs) r h part)
+      fit_walk (VecTy n t) (ItemsV vs) r h part =
+          All-push (IsFit P) (walk_all P.types (item_types n t) vs) (entry (VecTy n t) (ItemsV vs))
+          (fit_fields (Some (item_types n t)) h.0 vs h.3 (all_items n t (item_part P.types P.state n t part))) (fit (VecTy n t) (ItemsV vs) r h part)
       fit_walk t v r h part = elim h [ ]
 
       fit_fields : (o : Option (List Ty)) (rs : List ℕ) (vs : Values) → OnFields o (λ ts. AllStandFor IdealNodes P.types nodes rs ts vs) → FieldParts o

@@ -1,5 +1,5 @@
 -- The state that an image keeps: an ideal value of the state's type, within the limits, and with it all that is authenticated in it.
-use Rattle.std.proofs.Common.{◌≡◌, ℕ, zero, suc, ◌+◌, ◌-◌, ◌^◌, ◌==◌, Bool, true, false, not, List, [], ◌∷◌, ◌++◌, length, take, drop, Option, Some, None, option_map, slice_get, slice_index_or, unwrap_or, bytes_eq, if◌then◌else◌, cond, refl, sym, subst, arith, lt-ltb}
+use Rattle.std.proofs.Common.{◌≡◌, ℕ, zero, suc, ◌+◌, ◌*◌, ◌-◌, ◌^◌, ◌==◌, Bool, true, false, not, List, [], ◌∷◌, ◌++◌, length, take, drop, Option, Some, None, option_map, slice_get, slice_index_or, unwrap_or, bytes_eq, if◌then◌else◌, cond, refl, sym, subst, arith, lt-ltb}
 use Rattle.std.specs.Prelude.{pos, negsuc, IsUtf8, nat_lt, nat_le}
 use Rattle.std.specs.Int.{w16, w32, w64, cast_signed, from_be_bytes}
 use Rattle.std.specs.List.{All}
@@ -11,14 +11,14 @@ use Rattle.std.proofs.lemmas.Option.{get_or_from_slice_get, slice_get_within}
 use Rattle.std.proofs.lemmas.Str.{IsUtf8-from_is_utf8}
 use Rattle.core_terms.specs.Formats.{depth_limit}
 use Rattle.core_terms.specs.Terms.{Program}
-use Rattle.core_terms.specs.Types.{Ty, NamedTy, AuthTy, fields_at, OnFields}
+use Rattle.core_terms.specs.Types.{Ty, NamedTy, AuthTy, VecTy, fields_at, item_types, OnFields}
 use Rattle.core_terms.specs.Typing.{same_type}
-use Rattle.core_terms.specs.Values.{Value, ConV, Values, AndV, IsIdeal, AreIdeal, IsWithin, AuthWithin, AuthWithinAll, size, depth, int_fits}
+use Rattle.core_terms.specs.Values.{Value, ConV, ItemsV, Values, AndV, IsIdeal, AreIdeal, IsWithin, AuthWithin, AuthWithinAll, size, depth, int_fits}
 use Rattle.core_terms.proofs.TypingSound.{same_sound}
 use Rattle.images.specs.ImageLaws.{RootsFit}
-use Rattle.images.specs.Images.{Entry, entry, Loading, Loaded, FaultyImage, BadRecord, TooBig, TooDeep, Cut, Image, Root, Refused, Magic, OtherProgram, RootType, Leftover, as_image, checked_entry, field_count, fields_from, image_magic, image_of, last, load_records, pair_from, rooted, stands_for, with_record, within_limits}
+use Rattle.images.specs.Images.{Entry, entry, Loading, Loaded, FaultyImage, BadRecord, TooBig, TooDeep, Cut, Image, Root, Refused, Magic, OtherProgram, RootType, Leftover, array_from, as_image, checked_entry, field_count, fields_from, image_of, last, load_records, pair_from, rooted, stands_for, with_record, within_limits}
 use Rattle.images.specs.Parts.{is_part}
-use Rattle.images.specs.Records.{Record, UnitRecord, BoolRecord, IntRecord, TextRecord, PairRecord, ConRecord, AuthRecord, RecordRead, ReadRecord, CutRecord, NoRecord, bool_record, con_record, fields_record, fixed, number_of, numbers_of, read_record, text_record}
+use Rattle.images.specs.Records.{Record, UnitRecord, BoolRecord, IntRecord, TextRecord, PairRecord, ConRecord, AuthRecord, VecRecord, RecordRead, ReadRecord, CutRecord, NoRecord, bool_record, con_record, fields_record, fixed, number_of, numbers_of, vec_record, read_record, text_record}
 
 -- values that are kept
 
@@ -113,7 +113,11 @@ module _ (P : Program) where
       counted : (number tag : ℕ) (bytes : List ℕ) → OnRead (fields_record number tag (field_count P file_size number tag) bytes)
       counted number tag bytes = by number tag bytes (is_part P.types (NamedTy number) P.state)
 
-  record_read : (file_size : ℕ) (bytes : List ℕ) → OnRead (read_record (field_count P file_size) bytes)
+  vec_read : (bytes : List ℕ) → OnRead (vec_record bytes)
+  vec_read [] = tt
+  vec_read (count ∷ rest) = fixed_read (4 * count) (λ bs. VecRecord (numbers_of count bs)) rest (λ bs. tt)
+
+  record_read : (file_size : ℕ) (bytes : List ℕ) → OnRead (read_record P.format.arrays (field_count P file_size) bytes)
   record_read file_size [] = tt
   record_read file_size (kind ∷ rest) =
       either_read (kind == 0) _ _ tt (either_read (kind == 1) _ _ (bool_read rest)
@@ -121,7 +125,8 @@ module _ (P : Program) where
       (either_read (kind == 3) _ _ (text_read rest)
       (either_read (kind == 4) _ _ (fixed_read 8 (λ bs. PairRecord (number_of (take 4 bs)) (number_of (drop 4 bs))) rest (λ bs. tt))
       (either_read (kind == 5) _ _ (con_read file_size rest)
-      (either_read (kind == 6) _ NoRecord (fixed_read 4 (λ bs. AuthRecord (number_of bs)) rest (λ bs. tt)) tt))))))
+      (either_read (kind == 6) _ _ (fixed_read 4 (λ bs. AuthRecord (number_of bs)) rest (λ bs. tt))
+      (either_read (kind == 7) _ NoRecord (either_read P.format.arrays _ NoRecord (vec_read rest) tt) tt)))))))
 
   -- what records stand for
 
@@ -184,6 +189,18 @@ module _ (P : Program) where
           subst (λ o. OnFields o (λ ts. AuthWithinAll P.format.limit P.types ts vs)) (sym is) good.1,
         )
 
+    vec_found : (items : List ℕ) → OnFound (stands_for P.types entries (VecRecord items))
+    vec_found [] = tt
+    vec_found (i ∷ is) = by (slice_get entries i)
+      where
+        of_type : (t : Ty) (vs : Option Values) → OnValues (item_types (length (i ∷ is)) t) vs → OnFound (option_map (λ vs. entry (VecTy (length (i ∷ is)) t) (ItemsV vs)) vs)
+        of_type t None good = tt
+        of_type t (Some vs) good = good
+
+        by : (a : Option Entry) → OnFound (option_and_then (λ a. array_from entries (i ∷ is) a.of_type) a)
+        by None = tt
+        by (Some a) = of_type a.of_type (fields_from entries (i ∷ is) (item_types (length (i ∷ is)) a.of_type)) (values_found (i ∷ is) (item_types (length (i ∷ is)) a.of_type))
+
     found : (r : Record) → IsRecord r → OnFound (stands_for P.types entries r)
     found UnitRecord good = (tt, tt)
     found (BoolRecord b) good = (tt, tt)
@@ -192,6 +209,7 @@ module _ (P : Program) where
     found (PairRecord i j) good = pair_found i j
     found (ConRecord number tag fields) good = con_found number tag fields good
     found (AuthRecord i) good = auth_found i
+    found (VecRecord items) good = vec_found items
 
   -- what loading gives
 
@@ -232,7 +250,7 @@ module _ (P : Program) where
     loads : (more : ℕ) (entries : List Entry) (bytes : List ℕ) → All (IsKeptEntry P) entries → OnLoading (load_records P file_size more entries bytes)
     loads zero entries bytes kept = kept
     loads (suc more) entries bytes kept =
-        record_loads (length entries) entries kept (read_record (field_count P file_size) bytes) (record_read file_size bytes)
+        record_loads (length entries) entries kept (read_record P.format.arrays (field_count P file_size) bytes) (record_read file_size bytes)
         (λ e rest. load_records P file_size more (entries ++ e ∷ []) rest)
         (λ e rest good. loads more (entries ++ e ∷ []) rest (All-push (IsKeptEntry P) entries e kept good))
 
@@ -269,7 +287,7 @@ module _ (P : Program) where
       let loading = load_records P (length bytes) count [] (drop 40 bytes) in
       let own : Image = if not (bytes_eq (take 32 (drop 4 bytes)) digest) then Refused OtherProgram else as_image P.state loading in
       let long : Image = if nat_lt (length bytes) 40 then Refused (Cut (length bytes)) else own in
-      either_image (not (bytes_eq (take 4 bytes) image_magic)) (Refused Magic) long tt
+      either_image (not (bytes_eq (take 4 bytes) P.format.image_magic)) (Refused Magic) long tt
       (either_image (nat_lt (length bytes) 40) (Refused (Cut (length bytes))) own tt
       (either_image (not (bytes_eq (take 32 (drop 4 bytes)) digest)) (Refused OtherProgram) (as_image P.state loading) tt
       (image_loaded loading (loads (length bytes) count [] (drop 40 bytes) (All-nil (IsKeptEntry P))))))

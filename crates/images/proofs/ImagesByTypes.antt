@@ -30,7 +30,7 @@ module _ (types : Types) (functions : List Function) where
     loads_alike : (count : ℕ) (entries : List Entry) (bytes : List ℕ) → load_records P file_size count entries bytes ≡ load_records Q file_size count entries bytes
     loads_alike zero entries bytes = refl
     loads_alike (suc more) entries bytes =
-        record_alike (length entries) entries (read_record (field_count P file_size) bytes)
+        record_alike (length entries) entries (read_record P.format.arrays (field_count P file_size) bytes)
         (λ e rest. load_records P file_size more (entries ++ e ∷ []) rest) (λ e rest. load_records Q file_size more (entries ++ e ∷ []) rest)
         (λ e rest. loads_alike more (entries ++ e ∷ []) rest)
 
@@ -38,4 +38,4 @@ module _ (types : Types) (functions : List Function) where
   images_alike digest bytes =
       let count = from_be_bytes w32 (take 4 (drop 36 bytes)) in
       let records = drop 40 bytes in
-      ap (λ (loading : Loading). headed digest bytes (λ _ _. as_image P.state loading)) (loads_alike (length bytes) count [] records)
+      ap (λ (loading : Loading). headed P.format.image_magic digest bytes (λ _ _. as_image P.state loading)) (loads_alike (length bytes) count [] records)

@@ -13,6 +13,7 @@ mod PartLevels
 mod PartMarking
 mod PartSpreading
 mod PartSteps
+pub mod ArrayLengths
 mod ClosedParts
 -- what a record stands for: entries, then field_refs
 pub mod TypeNumbers
@@ -24,6 +25,7 @@ pub mod Composites
 pub mod FieldRefs
 pub mod FieldSteps
 pub mod Constructors
+pub mod ArrayRecords
 -- the records that are loaded, by number
 mod KeptRecords
 -- stored, load_records, root, load_image
@@ -59,6 +61,7 @@ mod BehindParts
 mod WholeLast
 mod ReadEntries
 mod LoadedAgain
+mod NoOtherArrays
 mod SavedLoads
 -- a program's images are by its types alone: for callers that have a program
 pub mod ImagesByTypes

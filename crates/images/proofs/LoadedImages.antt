@@ -34,10 +34,10 @@ module _ (marking : Marking) (p : Types) (digest bytes : List ℕ) where
       → TellsFault (λ f. image_of (types_meaning p) digest bytes ≡ Refused f) fault → LoadsOver marking (types_meaning p) (image_of (types_meaning p) digest bytes) result
   fault_told fault result is h = subst (λ r. LoadsOver marking (types_meaning p) (image_of (types_meaning p) digest bytes) r) (sym is) h
 
-  pub header_fault : (fault : ImageFault) → IsHeaded (λ go. headed digest bytes go) (Err fault) → TellsFault (λ f. image_of (types_meaning p) digest bytes ≡ Refused f) fault
+  pub header_fault : (fault : ImageFault) → IsHeaded (λ go. headed (types_meaning p).format.image_magic digest bytes go) (Err fault) → TellsFault (λ f. image_of (types_meaning p) digest bytes ≡ Refused f) fault
   header_fault fault h = h go
 
-  pub with_header : (header : Header) → IsHeaded (λ go. headed digest bytes go) (Ok header) → image_of (types_meaning p) digest bytes ≡ go header.count header.records.now
+  pub with_header : (header : Header) → IsHeaded (λ go. headed (types_meaning p).format.image_magic digest bytes go) (Ok header) → image_of (types_meaning p) digest bytes ≡ go header.count header.records.now
   with_header header h = h go
 
   module _ (count : ℕ) (behind : List ℕ) (is : image_of (types_meaning p) digest bytes ≡ go count behind) where

@@ -26,17 +26,17 @@ module _ (p : Types) (file_size count number : ℕ) (entries : List Entry) (byte
   loading_on e rest = load_records (types_meaning p) file_size (count - (number + 1)) (entries ++ e ∷ []) rest
 
   -- loading, by its next record
-  one_more : loading ≡ with_record (types_meaning p) file_size number entries (read_record (field_count (types_meaning p) file_size) bytes) loading_on
+  one_more : loading ≡ with_record (types_meaning p) file_size number entries (read_record (types_meaning p).format.arrays (field_count (types_meaning p) file_size) bytes) loading_on
   one_more =
       let left : count - number ≡ suc (count - (number + 1)) = omega arith in
       ap (λ left. load_records (types_meaning p) file_size left entries bytes) left
-      ∙ ap (λ i. with_record (types_meaning p) file_size i entries (read_record (field_count (types_meaning p) file_size) bytes) loading_on) counted
+      ∙ ap (λ i. with_record (types_meaning p) file_size i entries (read_record (types_meaning p).format.arrays (field_count (types_meaning p) file_size) bytes) loading_on) counted
 
-  pub front_fault : (fault : ImageFault) → IsRecordFront (types_meaning p) file_size number (read_record (field_count (types_meaning p) file_size) bytes) (Err fault)
+  pub front_fault : (fault : ImageFault) → IsRecordFront (types_meaning p) file_size number (read_record (types_meaning p).format.arrays (field_count (types_meaning p) file_size) bytes) (Err fault)
       → TellsFault (λ f. loading ≡ FaultyImage f) fault
   front_fault fault h = subst (λ l. TellsFault (λ f. l ≡ FaultyImage f) fault) (sym one_more) (h entries loading_on)
 
-  module _ (front : Front) (read : read_record (field_count (types_meaning p) file_size) bytes ≡ ReadRecord (record_told front.record) front.rest.now) where
+  module _ (front : Front) (read : read_record (types_meaning p).format.arrays (field_count (types_meaning p) file_size) bytes ≡ ReadRecord (record_told front.record) front.rest.now) where
     -- what loading goes on with, behind the record
     abbrev pub at_front : (Entry → Loading) → Loading
     at_front go = checked_entry (types_meaning p) file_size number (stands_for (types_meaning p).types entries (record_told front.record)) go
@@ -59,12 +59,12 @@ SoFar marking p file_size count all number nodes records rest =
 module _ (marking : Marking) (p : Types) (file_size count : ℕ) (all : List ℕ) (number : ℕ) (nodes : List Node) (records : List StoredRecord) (rest : List ℕ)
     (so_far : SoFar marking p file_size count all number nodes records rest) (more : number < count) where
   -- the fault of the next record is that of all
-  pub next_fault : (fault : ImageFault) → IsRecordFront (types_meaning p) file_size number (read_record (field_count (types_meaning p) file_size) rest) (Err fault)
+  pub next_fault : (fault : ImageFault) → IsRecordFront (types_meaning p) file_size number (read_record (types_meaning p).format.arrays (field_count (types_meaning p) file_size) rest) (Err fault)
       → TellsFault (λ f. load_records (types_meaning p) file_size count [] all ≡ FaultyImage f) fault
   next_fault fault h =
       subst (λ l. TellsFault (λ f. l ≡ FaultyImage f) fault) so_far.3 (front_fault p file_size count number so_far.0 rest so_far.1 more fault h)
 
-  module _ (front : Front) (read : read_record (field_count (types_meaning p) file_size) rest ≡ ReadRecord (record_told front.record) front.rest.now)
+  module _ (front : Front) (read : read_record (types_meaning p).format.arrays (field_count (types_meaning p) file_size) rest ≡ ReadRecord (record_told front.record) front.rest.now)
       (lent : List StoredRecord) (same : lent ≡ records) (new : List Node) (result : Result StoredRecord ImageFault)
       (loads : (entries : List Entry) → AreStored marking (types_meaning p) (types_by_number p) nodes lent entries → (size : ℕ)
       → IsLoaded marking (types_meaning p) (types_by_number p) new

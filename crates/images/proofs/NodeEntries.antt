@@ -1,12 +1,15 @@
 -- The entry that a node stands for: it is one only, its parts are those of the node, and its record is the node's.
-use Rattle.std.proofs.Common.{◌≡◌, ℕ, Bool, List, [], ◌∷◌, ◌++◌, Option, Some, None, unwrap_or, refl, sym, ap, ap₂, ◌∙◌, subst}
+use Rattle.std.proofs.Common.{◌≡◌, ℕ, zero, suc, ◌%◌, length, nat_le, true, arith, leb-true, Bool, List, [], ◌∷◌, ◌++◌, Option, Some, None, unwrap_or, refl, sym, ap, ap₂, ◌∙◌, subst}
+use Rattle.std.proofs.Math.Nat.{mod-eq_of_lt}
 use Rattle.std.specs.Int.{w32, to_be_bytes}
 use Rattle.std.specs.Option.{option_map_or}
-use Rattle.core_terms.specs.Types.{Ty, UnitTy, BoolTy, IntTy, TextTy, PairTy, NamedTy, AuthTy, Table, fields_at, OnFields}
-use Rattle.core_terms.specs.Values.{Value, UnitV, BoolV, IntV, TextV, PairV, ConV, Values, NoV, AndV}
+use Rattle.core_terms.specs.Types.{Ty, UnitTy, BoolTy, IntTy, TextTy, PairTy, NamedTy, AuthTy, VecTy, Table, fields_at, is_length, item_types, OnFields}
+use Rattle.core_terms.specs.Values.{Value, UnitV, BoolV, IntV, TextV, PairV, ConV, ItemsV, Values, NoV, AndV}
+use Rattle.core_terms.proofs.TypingSound.{second_of}
 use Rattle.images.specs.Images.{Entry, entry}
+use Rattle.images.specs.Parts.{HasLength}
 use Rattle.images.specs.SavedImages.{number_among}
-use Rattle.value_store.specs.Nodes.{Held, InnerHeld, BothHeld, OnlyHeld, Form, UnitNode, BoolNode, IntNode, TextNode, PairNode, ConNode, AuthNode, Node, form_at, inner_refs, refs_in}
+use Rattle.value_store.specs.Nodes.{Held, InnerHeld, BothHeld, OnlyHeld, Form, UnitNode, BoolNode, IntNode, TextNode, PairNode, ConNode, AuthNode, VecNode, Node, form_at, inner_refs, refs_in}
 use Rattle.value_store.specs.Standing.{IdealNodes, Holds, StandsFor, AllStandFor}
 use Rattle.images.specs.FormRecords.{head_of, numbered, record_at}
 use Rattle.images.proofs.EntryParts.{fields, parts}
@@ -55,7 +58,14 @@ module _ (types : Table) (nodes : List Node) where
   parts_stand r (PairTy a b) (PairV x y) h = at_form r (PairNode h.0 h.1) (entry a x ∷ entry b y ∷ []) h.2 (h.3, (h.4, tt))
   parts_stand r (NamedTy number) (ConV tag vs) h =
       at_form r (ConNode number tag h.0) (fields (unwrap_or (fields_at types number tag) []) vs) h.1 (con_stand (fields_at types number tag) h.0 vs h.2)
+  parts_stand r (VecTy n t) (ItemsV vs) h = at_form r (VecNode h.0) (fields (item_types n t) vs) h.1 (fields_stand h.0 (item_types n t) vs h.3)
   parts_stand r t v h = elim h [ ]
+
+  -- an array that stands has a length that is allowed
+  pub length_stands : (r : ℕ) (t : Ty) (v : Value) → StandsFor IdealNodes types nodes r t v → HasLength t
+  length_stands r (VecTy n t) (ItemsV vs) h = h.2
+  length_stands r (VecTy n t) v h = elim h [ ]
+  length_stands r t v h = tt
 
   -- what stands in its record before the numbers of the parts
   abbrev HasHead : Form → Ty → Value → Type 0
@@ -68,6 +78,16 @@ module _ (types : Table) (nodes : List Node) where
   bool_head Bool.true = refl
   bool_head Bool.false = refl
 
+  -- as many nodes as elements
+  stand_count : (rs : List ℕ) (n : ℕ) (t : Ty) (vs : Values) → AllStandFor IdealNodes types nodes rs (item_types n t) vs → length rs ≡ n
+  stand_count [] zero t NoV h = refl
+  stand_count (r ∷ rs) (suc n) t (AndV v vs) h = ap suc (stand_count rs n t vs h.1)
+  stand_count rs n t vs h = elim h [ ]
+
+  -- 1 to 64 are told in a byte
+  few : (n : ℕ) → is_length n ≡ true → n % 256 ≡ n
+  few n l = mod-eq_of_lt {n = n} {m = 256} (let most = leb-true n 64 (second_of (nat_le 1 n) (nat_le n 64) l) in omega (arith, most))
+
   pub head_stands : (r : ℕ) (form : Form) (t : Ty) (v : Value) → form_at nodes r ≡ Some form → StandsFor IdealNodes types nodes r t v → HasHead form t v
   head_stands r form (AuthTy t) v at h = with_form r form (AuthNode h.0) (AuthTy t) v at h.1 refl
   head_stands r form UnitTy UnitV at h = with_form r form UnitNode UnitTy UnitV at h refl
@@ -76,6 +96,8 @@ module _ (types : Table) (nodes : List Node) where
   head_stands r form TextTy (TextV bytes) at h = with_form r form (TextNode bytes) TextTy (TextV bytes) at h.0 refl
   head_stands r form (PairTy a b) (PairV x y) at h = with_form r form (PairNode h.0 h.1) (PairTy a b) (PairV x y) at h.2 refl
   head_stands r form (NamedTy number) (ConV tag vs) at h = with_form r form (ConNode number tag h.0) (NamedTy number) (ConV tag vs) at h.1 refl
+  head_stands r form (VecTy n t) (ItemsV vs) at h =
+      with_form r form (VecNode h.0) (VecTy n t) (ItemsV vs) at h.1 (ap (λ (m : ℕ). 7 ∷ m ∷ []) (ap (λ m. m % 256) (stand_count h.0 n t vs h.3) ∙ few n h.2))
   head_stands r form t v at h = elim h [ ]
 
 -- the nodes have the numbers of the entries

@@ -1,8 +1,8 @@
 -- A node stands for one entry: its form tells the type and the value.
-use Rattle.std.proofs.Common.{◌≡◌, ℕ, List, [], ◌∷◌, Option, Some, refl, sym, ap, ap₂, ◌∙◌, subst}
-use Rattle.core_terms.specs.Types.{Ty, UnitTy, BoolTy, IntTy, TextTy, PairTy, NamedTy, AuthTy, Table, fields_at, OnFields}
-use Rattle.core_terms.specs.Values.{Value, UnitV, BoolV, IntV, TextV, PairV, ConV, Values, NoV, AndV}
-use Rattle.value_store.specs.Nodes.{Held, InnerHeld, BothHeld, OnlyHeld, Form, UnitNode, BoolNode, IntNode, TextNode, PairNode, ConNode, AuthNode, Node, form_at}
+use Rattle.std.proofs.Common.{◌≡◌, ℕ, zero, suc, true, List, [], ◌∷◌, Option, Some, refl, sym, ap, ap₂, ◌∙◌, subst}
+use Rattle.core_terms.specs.Types.{Ty, UnitTy, BoolTy, IntTy, TextTy, PairTy, NamedTy, AuthTy, VecTy, Table, fields_at, is_length, item_types, OnFields}
+use Rattle.core_terms.specs.Values.{Value, UnitV, BoolV, IntV, TextV, PairV, ConV, ItemsV, Values, NoV, AndV}
+use Rattle.value_store.specs.Nodes.{Held, InnerHeld, BothHeld, OnlyHeld, Form, UnitNode, BoolNode, IntNode, TextNode, PairNode, ConNode, AuthNode, VecNode, Node, form_at}
 use Rattle.value_store.specs.Standing.{IdealNodes, Holds, StandsFor, AllStandFor}
 
 module _ (types : Table) (nodes : List Node) where
@@ -30,6 +30,8 @@ module _ (types : Table) (nodes : List Node) where
       (a : Ty) × (b : Ty) × (x : Value) × (y : Value) × (t ≡ PairTy a b) × (v ≡ PairV x y) × Stands first a x × Stands second b y
   Told (ConNode number tag fields) t v =
       (vs : Values) × (t ≡ NamedTy number) × (v ≡ ConV tag vs) × OnFields (fields_at types number tag) (λ ts. AllStandFor IdealNodes types nodes fields ts vs)
+  Told (VecNode items) t v =
+      (n : ℕ) × (u : Ty) × (vs : Values) × (t ≡ VecTy n u) × (v ≡ ItemsV vs) × AllStandFor IdealNodes types nodes items (item_types n u) vs
   Told (AuthNode held) t v = (u : Ty) × (t ≡ AuthTy u) × Refers held u v
 
   by_form : (r : ℕ) (form other : Form) (t : Ty) (v : Value) → form_at nodes r ≡ Some form → form_at nodes r ≡ Some other → Told other t v → Told form t v
@@ -43,6 +45,7 @@ module _ (types : Table) (nodes : List Node) where
   told r form TextTy (TextV bytes) at h = by_form r form (TextNode bytes) TextTy (TextV bytes) at h.0 (refl, refl)
   told r form (PairTy a b) (PairV x y) at h = by_form r form (PairNode h.0 h.1) (PairTy a b) (PairV x y) at h.2 (a, b, x, y, refl, refl, h.3, h.4)
   told r form (NamedTy number) (ConV tag vs) at h = by_form r form (ConNode number tag h.0) (NamedTy number) (ConV tag vs) at h.1 (vs, refl, refl, h.2)
+  told r form (VecTy n t) (ItemsV vs) at h = by_form r form (VecNode h.0) (VecTy n t) (ItemsV vs) at h.1 (n, t, vs, refl, refl, h.3)
   told r form t v at h = elim h [ ]
 
   abbrev IsOne : Ty → Value → Ty → Value → Type 0
@@ -76,7 +79,31 @@ module _ (types : Table) (nodes : List Node) where
     one_entry (NamedTy number) u (ConV tag vs) w r h j =
         let other = told r (ConNode number tag h.0) u w h.1 j in
         (sym other.1, ap (ConV tag) (one_fields (fields_at types number tag) h.0 vs other.0 h.2 other.3) ∙ sym other.2)
+    one_entry (VecTy n t) u (ItemsV vs) w r h j =
+        let other = told r (VecNode h.0) u w h.1 j in
+        let items = one_items n other.0 t other.1 h.0 vs other.2 h.3 other.5 in
+        (ap₂ VecTy items.0 (one_item n other.0 t other.1 h.0 vs other.2 h.2 h.3 other.5) ∙ sym other.3, ap ItemsV items.1 ∙ sym other.4)
     one_entry t u v w r h j = elim h [ ]
+
+    -- elements that stand by the same nodes are the same, and as many
+    one_items : (n m : ℕ) (t u : Ty) (rs : List ℕ) (vs ws : Values)
+        → AllStandFor IdealNodes types nodes rs (item_types n t) vs → AllStandFor IdealNodes types nodes rs (item_types m u) ws → (n ≡ m) × (vs ≡ ws)
+    one_items zero zero t u [] NoV NoV h j = (refl, refl)
+    one_items (suc n) (suc m) t u (r ∷ rs) (AndV v vs) (AndV w ws) h j =
+        let first = one_entry t u v w r h.0 j.0 in
+        let rest = one_items n m t u rs vs ws h.1 j.1 in
+        (ap suc rest.0, ap₂ AndV first.1 rest.1)
+    one_items zero m t u [] NoV ws h j = elim j [ ]
+    one_items (suc n) m t u (r ∷ rs) (AndV v vs) ws h j = elim j [ ]
+    one_items n m t u rs vs ws h j = elim h [ ]
+
+    -- and of one type, as there is one
+    one_item : (n m : ℕ) (t u : Ty) (rs : List ℕ) (vs ws : Values) → is_length n ≡ true
+        → AllStandFor IdealNodes types nodes rs (item_types n t) vs → AllStandFor IdealNodes types nodes rs (item_types m u) ws → t ≡ u
+    one_item (suc n) (suc m) t u (r ∷ rs) (AndV v vs) (AndV w ws) l h j = (one_entry t u v w r h.0 j.0).0
+    one_item zero m t u rs vs ws l h j = absurd (cc)
+    one_item (suc n) m t u (r ∷ rs) (AndV v vs) ws l h j = elim j [ ]
+    one_item n m t u rs vs ws l h j = elim h [ ]
 
     one_fields : (o : Option (List Ty)) (rs : List ℕ) (vs ws : Values)
         → OnFields o (λ ts. AllStandFor IdealNodes types nodes rs ts vs) → OnFields o (λ ts. AllStandFor IdealNodes types nodes rs ts ws) → vs ≡ ws

@@ -1,7 +1,7 @@
 -- The levels on which parts of a type are found: how many named types are opened.
 use Rattle.std.proofs.Common.{◌≡◌, ◌⊎◌, inl, inr, ℕ, zero, suc, Bool, true, List, [], ◌∷◌, unwrap_or, Some, slice_get, refl, sym, subst}
 use Rattle.std.proofs.lemmas.Bool.{or_cases, or_left, or_right}
-use Rattle.core_terms.specs.Types.{Ty, UnitTy, BoolTy, IntTy, TextTy, PairTy, NamedTy, AuthTy, Table}
+use Rattle.core_terms.specs.Types.{Ty, UnitTy, BoolTy, IntTy, TextTy, PairTy, NamedTy, AuthTy, VecTy, Table}
 use Rattle.core_terms.specs.Roles.{some_passes}
 use Rattle.core_terms.specs.Typing.{same_type}
 use Rattle.core_terms.proofs.TypingComplete.{same_self}
@@ -45,10 +45,16 @@ module _ (types : Table) where
   itself (suc k) (NamedTy n) = or_left _ _ (same_self (NamedTy n))
   itself zero (AuthTy a) = or_left _ _ (same_self (AuthTy a))
   itself (suc k) (AuthTy a) = or_left _ _ (same_self (AuthTy a))
+  itself zero (VecTy n a) = or_left _ _ (same_self (VecTy n a))
+  itself (suc k) (VecTy n a) = or_left _ _ (same_self (VecTy n a))
 
   pub in_auth : (k : ℕ) (t a : Ty) → IsPart k t a → IsPart k t (AuthTy a)
   in_auth zero t a h = or_right (same_type t (AuthTy a)) _ h
   in_auth (suc k) t a h = or_right (same_type t (AuthTy a)) _ h
+
+  pub in_vec : (k : ℕ) (t : Ty) (n : ℕ) (a : Ty) → IsPart k t a → IsPart k t (VecTy n a)
+  in_vec zero t n a h = or_right (same_type t (VecTy n a)) _ h
+  in_vec (suc k) t n a h = or_right (same_type t (VecTy n a)) _ h
 
   pub in_first : (k : ℕ) (t a b : Ty) → IsPart k t a → IsPart k t (PairTy a b)
   in_first zero t a b h = or_right (same_type t (PairTy a b)) _ (or_left _ _ h)
@@ -67,6 +73,10 @@ module _ (types : Table) where
   pub auth_cases : (k : ℕ) (t a : Ty) → IsPart k t (AuthTy a) → (t ≡ AuthTy a) ⊎ IsPart k t a
   auth_cases zero t a h = elim (or_cases (same_type t (AuthTy a)) _ h) [ inl e ↦ inl (same_sound t (AuthTy a) e) | inr e ↦ inr e ]
   auth_cases (suc k) t a h = elim (or_cases (same_type t (AuthTy a)) _ h) [ inl e ↦ inl (same_sound t (AuthTy a) e) | inr e ↦ inr e ]
+
+  pub vec_cases : (k : ℕ) (t : Ty) (n : ℕ) (a : Ty) → IsPart k t (VecTy n a) → (t ≡ VecTy n a) ⊎ IsPart k t a
+  vec_cases zero t n a h = elim (or_cases (same_type t (VecTy n a)) _ h) [ inl e ↦ inl (same_sound t (VecTy n a) e) | inr e ↦ inr e ]
+  vec_cases (suc k) t n a h = elim (or_cases (same_type t (VecTy n a)) _ h) [ inl e ↦ inl (same_sound t (VecTy n a) e) | inr e ↦ inr e ]
 
   pub pair_cases : (k : ℕ) (t a b : Ty) → IsPart k t (PairTy a b) → (t ≡ PairTy a b) ⊎ (IsPart k t a ⊎ IsPart k t b)
   pair_cases zero t a b h =
@@ -109,6 +119,7 @@ module _ (types : Table) where
           | inr (inr p) ↦ in_second (up k) s a b (through k b p)
         ]
     through k (AuthTy a) h = elim (auth_cases k t a h) [ inl e ↦ here k (AuthTy a) e | inr p ↦ in_auth (up k) s a (through k a p) ]
+    through k (VecTy n a) h = elim (vec_cases k t n a h) [ inl e ↦ here k (VecTy n a) e | inr p ↦ in_vec (up k) s n a (through k a p) ]
     through zero (NamedTy n) h = here zero (NamedTy n) (same_sound t (NamedTy n) h)
     through (suc k) (NamedTy n) h =
         elim (named_cases k t n h) [
@@ -164,6 +175,14 @@ module _ (types : Table) where
         | inr p ↦ elim (before_or_behind k s a p) [
           | inl q ↦ inl (in_auth k s a q)
           | inr q ↦ inr (q.0, q.1, q.2, in_auth k (NamedTy q.0) a q.3, q.4)
+        ]
+      ]
+  before_or_behind k s (VecTy n a) h =
+      elim (vec_cases (suc k) s n a h) [
+        | inl e ↦ inl (subst (IsPart k s) e (itself k s))
+        | inr p ↦ elim (before_or_behind k s a p) [
+          | inl q ↦ inl (in_vec k s n a q)
+          | inr q ↦ inr (q.0, q.1, q.2, in_vec k (NamedTy q.0) n a q.3, q.4)
         ]
       ]
   before_or_behind zero s (NamedTy n) h =

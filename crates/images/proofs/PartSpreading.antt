@@ -1,21 +1,22 @@
 -- What is marked when marks are spread to parts, with no named type opened.
 use Rattle.std.proofs.Common.{◌≡◌, inl, inr, ℕ, ◌+◌, ◌<◌, ◌≤◌, Bool, true, false, List, length, slice_index_or, nat_eq, nat_lt, refl, sym, ap, ◌∙◌, subst, arith, ltb-true, eqb-true}
 use Rattle.std.proofs.lemmas.Bool.{eqb-false}
-use Rattle.core_terms.specs.Types.{Ty, UnitTy, BoolTy, IntTy, TextTy, PairTy, NamedTy, AuthTy}
+use Rattle.core_terms.specs.Types.{Ty, UnitTy, BoolTy, IntTy, TextTy, PairTy, NamedTy, AuthTy, VecTy}
 use Rattle.core_terms.specs.ProgramTypes.{types_by_number, types_meaning}
 use Rattle.core_terms.specs.TypeTables.{stands_behind, type_of_form}
 use Rattle.core_terms.specs.declared.types.TyForm.{TyForm}
-use Rattle.core_terms.specs.declared.types.TyForm.TheVariants.{UnitForm, BoolForm, IntForm, TextForm, AuthForm, PairForm, NamedForm}
+use Rattle.core_terms.specs.declared.types.TyForm.TheVariants.{UnitForm, BoolForm, IntForm, TextForm, AuthForm, PairForm, NamedForm, VecForm}
 use Rattle.core_terms.specs.declared.program_types.Types.{Types}
 use Rattle.core_terms.proofs.TypingSound.{first_of, second_of, same_sound}
 use Rattle.images.specs.PartMarks.{AddsMarks, IsMarked, IsPartOfForm, IsSpread, type_of}
-use Rattle.images.proofs.PartLevels.{IsPart, itself, in_auth, in_first, in_second, auth_cases, pair_cases, part_of_part}
+use Rattle.images.proofs.PartLevels.{IsPart, itself, in_auth, in_first, in_second, in_vec, auth_cases, pair_cases, part_of_part, vec_cases}
 
 -- a part of a form stands before a type of the form
 part_before : (form : TyForm) (m i : ℕ) → stands_behind m form ≡ true → IsPartOfForm form i → i < m
 part_before (AuthForm part) m i h e = subst (λ i. i < m) e (ltb-true part.0 m h)
 part_before (PairForm first second) m i h (inl e) = subst (λ i. i < m) e (ltb-true first.0 m (first_of _ _ h))
 part_before (PairForm first second) m i h (inr e) = subst (λ i. i < m) e (ltb-true second.0 m (second_of (nat_lt first.0 m) _ h))
+part_before (VecForm len part) m i h e = subst (λ i. i < m) e (ltb-true part.0 m (first_of _ _ h))
 part_before UnitForm m i h e = absurd e
 part_before BoolForm m i h e = absurd e
 part_before IntForm m i h e = absurd e
@@ -34,6 +35,9 @@ module _ (p : Types) where
   part_of_form (PairForm first second) i (inr e) =
       subst (λ i. IsPart (types_meaning p).types 0 (type_of p i) (PairTy (type_of p first.0) (type_of p second.0))) e
       (in_second (types_meaning p).types 0 (type_of p second.0) (type_of p first.0) (type_of p second.0) (itself (types_meaning p).types 0 (type_of p second.0)))
+  part_of_form (VecForm len part) i e =
+      subst (λ i. IsPart (types_meaning p).types 0 (type_of p i) (VecTy len (type_of p part.0))) e
+      (in_vec (types_meaning p).types 0 (type_of p part.0) len (type_of p part.0) (itself (types_meaning p).types 0 (type_of p part.0)))
   part_of_form UnitForm i e = absurd e
   part_of_form BoolForm i e = absurd e
   part_of_form IntForm i e = absurd e
@@ -95,12 +99,13 @@ module _ (p : Types) where
                 | inr part ↦ let small = part_before form m i behind part in absurd (omega (arith, small, from))
               ]
 
-  -- the parts of an `auth`, and of a pair, that are marked
+  -- the parts of an `auth`, of a pair, and of an array, that are marked
   auth_form : (form : TyForm) (a : Ty) (marks : List Bool) → type_of_form (types_by_number p) form ≡ AuthTy a → ((part : ℕ) → IsPartOfForm form part → IsMarked marks part)
       → (x : ℕ) × IsMarked marks x × (type_of p x ≡ a)
   auth_form (AuthForm part) a marks is has = (part.0, has part.0 refl, cc)
   auth_form (PairForm first second) a marks is has = absurd (cc)
   auth_form (NamedForm n) a marks is has = absurd (cc)
+  auth_form (VecForm len part) a marks is has = absurd (cc)
   auth_form UnitForm a marks is has = absurd (cc)
   auth_form BoolForm a marks is has = absurd (cc)
   auth_form IntForm a marks is has = absurd (cc)
@@ -111,10 +116,22 @@ module _ (p : Types) where
   pair_form (PairForm first second) a b marks is has = (first.0, second.0, has first.0 (inl refl), has second.0 (inr refl), cc, cc)
   pair_form (AuthForm part) a b marks is has = absurd (cc)
   pair_form (NamedForm n) a b marks is has = absurd (cc)
+  pair_form (VecForm len part) a b marks is has = absurd (cc)
   pair_form UnitForm a b marks is has = absurd (cc)
   pair_form BoolForm a b marks is has = absurd (cc)
   pair_form IntForm a b marks is has = absurd (cc)
   pair_form TextForm a b marks is has = absurd (cc)
+
+  vec_form : (form : TyForm) (n : ℕ) (a : Ty) (marks : List Bool) → type_of_form (types_by_number p) form ≡ VecTy n a → ((part : ℕ) → IsPartOfForm form part → IsMarked marks part)
+      → (x : ℕ) × IsMarked marks x × (type_of p x ≡ a)
+  vec_form (VecForm len part) n a marks is has = (part.0, has part.0 refl, cc)
+  vec_form (AuthForm part) n a marks is has = absurd (cc)
+  vec_form (PairForm first second) n a marks is has = absurd (cc)
+  vec_form (NamedForm m) n a marks is has = absurd (cc)
+  vec_form UnitForm n a marks is has = absurd (cc)
+  vec_form BoolForm n a marks is has = absurd (cc)
+  vec_form IntForm n a marks is has = absurd (cc)
+  vec_form TextForm n a marks is has = absurd (cc)
 
   -- where the direct parts of all marked types are marked, all their parts are
   module _ (t : Ty) (marks : List Bool) (closed : (i : ℕ) → IsMarked marks i → HasMarkedParts marks i) where
@@ -126,6 +143,10 @@ module _ (p : Types) where
     reached (AuthTy a) j marked is h = elim (auth_cases (types_meaning p).types 0 t a h) [
       | inl same ↦ (j, marked, is ∙ sym same)
       | inr in_part ↦ let form = closed j marked in let part = auth_form form.0 a marks (form.1 ∙ is) form.2 in reached a part.0 part.1 part.2 in_part
+    ]
+    reached (VecTy n a) j marked is h = elim (vec_cases (types_meaning p).types 0 t n a h) [
+      | inl same ↦ (j, marked, is ∙ sym same)
+      | inr in_part ↦ let form = closed j marked in let part = vec_form form.0 n a marks (form.1 ∙ is) form.2 in reached a part.0 part.1 part.2 in_part
     ]
     reached (PairTy a b) j marked is h = elim (pair_cases (types_meaning p).types 0 t a b h) [
       | inl same ↦ (j, marked, is ∙ sym same)

@@ -5,7 +5,7 @@ use Rattle.std.specs.Cmp.{booleans_Decides}
 use Rattle.std.proofs.Math.Bool.{beq}
 use Rattle.std.proofs.lemmas.Slice.Eq.{slice_eq-Decides}
 use Rattle.std.proofs.lemmas.List.{length-map}
-use Rattle.core_terms.specs.Types.{Ty, UnitTy, BoolTy, IntTy, TextTy, PairTy, NamedTy, AuthTy}
+use Rattle.core_terms.specs.Types.{Ty, UnitTy, BoolTy, IntTy, TextTy, PairTy, NamedTy, AuthTy, VecTy}
 use Rattle.core_terms.specs.ProgramTypes.{types_by_number, types_meaning}
 use Rattle.core_terms.specs.declared.program_types.Types.{Types}
 use Rattle.images.specs.Parts.{is_part}
@@ -38,6 +38,7 @@ module _ (p : Types) where
   named_only TextTy i h = absurd (cc)
   named_only (PairTy a b) i h = absurd (cc)
   named_only (AuthTy a) i h = absurd (cc)
+  named_only (VecTy n a) i h = absurd (cc)
 
   module _ (level : ℕ) (old : List Bool) (now : AreLevelMarks p level old) where
     -- a field of a type that is marked is found on the next level

@@ -1,12 +1,12 @@
 -- The search for parts of a type finds each of them, and nothing else.
 use Rattle.std.proofs.Common.{◌≡◌, inl, inr, ℕ, zero, suc, true, List, [], length, Option, Some, None, slice_get, unwrap_or, sym, subst}
 use Rattle.std.specs.Option.{option_and_then}
-use Rattle.core_terms.specs.Types.{Ty, UnitTy, BoolTy, IntTy, TextTy, PairTy, NamedTy, AuthTy, Table}
+use Rattle.core_terms.specs.Types.{Ty, UnitTy, BoolTy, IntTy, TextTy, PairTy, NamedTy, AuthTy, VecTy, Table}
 use Rattle.core_terms.proofs.TypingSound.{same_sound}
 use Rattle.images.specs.Parts.{is_part}
-use Rattle.images.specs.ImageLaws.{IsPartOf, Itself, Authenticated, First, Second, Field, PartsAreFound}
-use Rattle.images.proofs.ClosedParts.{field_part, first_part, inner_part, second_part}
-use Rattle.images.proofs.PartLevels.{IsPart, auth_cases, itself, named_cases, pair_cases}
+use Rattle.images.specs.ImageLaws.{IsPartOf, Itself, Authenticated, First, Second, Element, Field, PartsAreFound}
+use Rattle.images.proofs.ClosedParts.{field_part, first_part, inner_part, item_part, second_part}
+use Rattle.images.proofs.PartLevels.{IsPart, auth_cases, itself, named_cases, pair_cases, vec_cases}
 
 fields_there : (o : Option (List (List Ty))) (tag : ℕ) (fields : List Ty) → option_and_then (λ constructors. slice_get constructors tag) o ≡ Some fields
     → slice_get (unwrap_or o []) tag ≡ Some fields
@@ -24,6 +24,7 @@ module _ (types : Table) (whole : Ty) where
   found (Authenticated {t = t} h) = inner_part types whole t (found h)
   found (First {a = a} {b = b} h) = first_part types whole a b (found h)
   found (Second {a = a} {b = b} h) = second_part types whole a b (found h)
+  found (Element {n = n} {t = t} h) = item_part types whole n t (found h)
   found (Field {t = t} {number = number} h tag place fields there at) =
       field_part types whole t number (tag, fields, fields_there (slice_get types number) tag fields there, place, at) (found h)
 
@@ -47,6 +48,7 @@ module _ (types : Table) (whole : Ty) where
         | inr (inr q) ↦ part opened t b q (Second p)
       ]
   part opened t (AuthTy a) h p = elim (auth_cases types opened t a h) [ inl e ↦ same_part t (AuthTy a) e p | inr q ↦ part opened t a q (Authenticated p) ]
+  part opened t (VecTy n a) h p = elim (vec_cases types opened t n a h) [ inl e ↦ same_part t (VecTy n a) e p | inr q ↦ part opened t a q (Element p) ]
   part zero t (NamedTy number) h p = same_part t (NamedTy number) (same_sound t (NamedTy number) h) p
   part (suc opened) t (NamedTy number) h p =
       elim (named_cases types opened t number h) [

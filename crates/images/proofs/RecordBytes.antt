@@ -2,8 +2,8 @@
 use Rattle.std.proofs.Common.{◌≡◌, ℕ, suc, ◌+◌, true, false, List, [], ◌∷◌, ◌++◌, length, unwrap_or, refl, sym, ap, ◌∙◌, arith, append_assoc, length-append}
 use Rattle.std.proofs.lemmas.List.{append-nil}
 use Rattle.std.specs.Int.{w16, w32, w64, to_be_bytes, cast_unsigned}
-use Rattle.core_terms.specs.Types.{Ty, UnitTy, BoolTy, IntTy, TextTy, PairTy, NamedTy, AuthTy, Table, fields_at}
-use Rattle.core_terms.specs.Values.{Value, UnitV, BoolV, IntV, TextV, PairV, ConV, Values, NoV, AndV}
+use Rattle.core_terms.specs.Types.{Ty, UnitTy, BoolTy, IntTy, TextTy, PairTy, NamedTy, AuthTy, VecTy, Table, fields_at, item_types}
+use Rattle.core_terms.specs.Values.{Value, UnitV, BoolV, IntV, TextV, PairV, ConV, ItemsV, Values, NoV, AndV}
 use Rattle.images.specs.Images.{Entry}
 use Rattle.images.specs.SavedImages.{number_among, record_bytes, records_bytes, reference, references}
 use Rattle.images.proofs.AmongEntries.{AreAmong}
@@ -19,6 +19,7 @@ head_at IntTy (IntV z) = 2 ∷ to_be_bytes w64 (cast_unsigned w64 z)
 head_at TextTy (TextV bytes) = 3 ∷ to_be_bytes w32 (length bytes) ++ bytes
 head_at (PairTy a b) (PairV x y) = 4 ∷ []
 head_at (NamedTy number) (ConV tag vs) = 5 ∷ to_be_bytes w16 number ++ tag ∷ []
+head_at (VecTy n t) (ItemsV vs) = 7 ∷ n ∷ []
 head_at (AuthTy t) v = 6 ∷ []
 head_at t v = []
 
@@ -36,6 +37,7 @@ pub record_parts : (types : Table) (done : List Entry) (t : Ty) (v : Value) → 
 record_parts types done (PairTy a b) (PairV x y) = ap (λ bytes. 4 ∷ reference done a x ++ bytes) (sym (append-nil (reference done b y)))
 record_parts types done (NamedTy number) (ConV tag vs) =
     ap (λ bytes. 5 ∷ to_be_bytes w16 number ++ tag ∷ bytes) (numbers_fields types done (unwrap_or (fields_at types number tag) []) vs)
+record_parts types done (VecTy n t) (ItemsV vs) = ap (λ bytes. 7 ∷ n ∷ bytes) (numbers_fields types done (item_types n t) vs)
 record_parts types done (AuthTy t) v = ap (λ bytes. 6 ∷ bytes) (sym (append-nil (reference done t v)))
 record_parts types done IntTy (IntV z) = ap (λ bytes. 2 ∷ bytes) (sym (append-nil (to_be_bytes w64 (cast_unsigned w64 z))))
 record_parts types done TextTy (TextV bytes) = ap (λ bytes. 3 ∷ bytes) (sym (append-nil (to_be_bytes w32 (length bytes) ++ bytes)))

@@ -1,5 +1,5 @@
 -- Images, computed: each fault, the order of faults, and what is saved loaded back.
-use Rattle.std.proofs.Common.{◌≡◌, refl, List, ℕ, [], ◌∷◌, ◌++◌, true, take}
+use Rattle.std.proofs.Common.{◌≡◌, refl, List, ℕ, [], ◌∷◌, ◌++◌, true, take, None, false}
 use Rattle.std.specs.Prelude.{replicate, pos, negsuc, zero, suc, nat_lt, if◌then◌else◌}
 use Rattle.std.specs.Int.{w32, to_be_bytes}
 use Rattle.std.specs.Str.{is_utf8, chars}
@@ -8,7 +8,7 @@ use Rattle.core_terms.specs.Types.{Ty, UnitTy, BoolTy, IntTy, TextTy, AuthTy, Na
 use Rattle.core_terms.specs.Formats.{first_format}
 use Rattle.core_terms.specs.Values.{Value, UnitV, BoolV, IntV, PairV, ConV, NoV, AndV}
 use Rattle.core_terms.specs.Terms.{Program}
-use Rattle.images.specs.Images.{Image, Root, Refused, Magic, Cut, OtherProgram, BadRecord, TooBig, TooDeep, RootType, Leftover, image_of, image_magic}
+use Rattle.images.specs.Images.{Image, Root, Refused, Magic, Cut, OtherProgram, BadRecord, TooBig, TooDeep, RootType, Leftover, image_of}
 use Rattle.images.specs.SavedImages.{saved_image}
 
 -- programs with a state of this type: without named types, and with these
@@ -20,6 +20,9 @@ with_state = with_types []
 
 abbrev digest : List ℕ
 digest = replicate 32 7
+
+abbrev image_magic : List ℕ
+image_magic = 0x4C ∷ 0x41 ∷ 0x49 ∷ 0x31 ∷ []
 
 -- an image of so many records
 abbrev image : ℕ → List ℕ → List ℕ
@@ -158,7 +161,7 @@ field_of_other_type = refl
 
 -- the limits: of 15 bytes, which a pair of ints passes; and a value of depth 513
 abbrev small : Program
-small = record { format = record { digest = λ hash t bytes. hash bytes; limit = 15; magic = []; most_kept = 0 }; types = []; state = PairTy IntTy IntTy; functions = [] }
+small = record { format = record { digest = λ hash t bytes. hash bytes; print = λ hash t. None; limit = 15; magic = []; image_magic = image_magic; most_kept = 0; arrays = false }; types = []; state = PairTy IntTy IntTy; functions = [] }
 
 too_big : image_of small digest (image 2 (2 ∷ replicate 8 0 ++ 4 ∷ ref 0 ++ ref 0)) ≡ Refused (TooBig 1)
 too_big = refl

@@ -2,7 +2,7 @@
 use Rattle.std.proofs.Common.{◌≡◌, Bool, true, false, pos, negsuc, ℤ, refl, ap, ap₂, eq-eqb}
 use Rattle.std.proofs.lemmas.Bool.{eqb-true}
 use Rattle.std.proofs.lemmas.Slice.Eq.{bytes_eq-Decides}
-use Rattle.core_terms.specs.Values.{Value, UnitV, BoolV, IntV, TextV, PairV, ConV, DigestV, Values, NoV, AndV}
+use Rattle.core_terms.specs.Values.{Value, UnitV, BoolV, IntV, TextV, PairV, ConV, DigestV, ItemsV, Values, NoV, AndV}
 use Rattle.core_terms.specs.Typing.{same_type}
 use Rattle.core_terms.proofs.TypingSound.{first_of, second_of, same_sound}
 use Rattle.core_terms.proofs.TypingComplete.{both, same_self}
@@ -30,6 +30,7 @@ mutual
   value_sound (PairV a b) (PairV c d) h = ap₂ PairV (value_sound a c (first_of _ _ h)) (value_sound b d (second_of (same_value a c) _ h))
   value_sound (ConV tag vs) (ConV other ws) h = ap₂ ConV (eqb-true tag other (first_of _ _ h)) (values_sound vs ws (second_of _ (same_values vs ws) h))
   value_sound (DigestV a) (DigestV b) h = ap DigestV ((bytes_eq-Decides a b).0 h)
+  value_sound (ItemsV vs) (ItemsV ws) h = ap ItemsV (values_sound vs ws h)
   value_sound v w h = absurd (cc)
 
   values_sound : (vs ws : Values) → same_values vs ws ≡ true → vs ≡ ws
@@ -54,6 +55,7 @@ mutual
   value_self (PairV a b) = both _ _ (value_self a) (value_self b)
   value_self (ConV tag vs) = both _ _ (eq-eqb tag tag refl) (values_self vs)
   value_self (DigestV bytes) = (bytes_eq-Decides bytes bytes).1 refl
+  value_self (ItemsV vs) = values_self vs
 
   values_self : (vs : Values) → same_values vs vs ≡ true
   values_self NoV = refl

@@ -3,6 +3,7 @@ use Rattle.std.proofs.Common.{◌≡◌, ℕ, List, [], ◌∷◌, ◌++◌, map
 use Rattle.core_terms.specs.Types.{Table}
 use Rattle.core_terms.specs.Values.{IsIdeal}
 use Rattle.images.specs.Images.{Entry}
+use Rattle.images.specs.Parts.{HasLength}
 use Rattle.images.specs.SavedImages.{distinct, record_bytes, records_bytes, walk}
 use Rattle.value_store.specs.Nodes.{Node}
 use Rattle.images.specs.FormRecords.{joined}
@@ -18,6 +19,7 @@ use Rattle.images.proofs.RecordReading.{record_of}
 -- all that the walk over the entry meets is among these
 pub record IsPlaced (types : Table) (done : List Entry) (e : Entry) : Type 0 where
   pub ideal : IsIdeal types e.of_type e.value
+  pub has_length : HasLength e.of_type
   pub walked : AreAmong done (walk types e.of_type e.value)
 
 -- the records are those of these entries, each behind its parts, and the nodes with numbers stand for them

@@ -4,6 +4,7 @@ use Rattle.std.proofs.lemmas.Bool.{eqb-true}
 use Rattle.core_terms.specs.Types.{Table}
 use Rattle.core_terms.specs.Values.{IsIdeal}
 use Rattle.images.specs.Images.{Entry}
+use Rattle.images.specs.Parts.{HasLength}
 use Rattle.images.specs.SavedImages.{distinct, is_entry_of, number_among, walk}
 use Rattle.value_store.specs.Nodes.{Form, Node, form_at, refs_in}
 use Rattle.value_store.specs.Standing.{IdealNodes}
@@ -14,7 +15,7 @@ use Rattle.images.specs.declared.save.records.Records.{Records}
 use Rattle.images.proofs.AmongEntries.{IsAmong, AreAmong, among_at, among_behind, among_here, among_later, among_split, are_append, are_more}
 use Rattle.images.proofs.DistinctEntries.{distinct_new, distinct_there}
 use Rattle.images.proofs.EntryParts.{among_parts, among_walks, parts, walks, walk_parts}
-use Rattle.images.proofs.NodeEntries.{HaveNumbers, StandsAs, StandAs, parts_stand, record_stands, refs_at}
+use Rattle.images.proofs.NodeEntries.{HaveNumbers, StandsAs, StandAs, length_stands, parts_stand, record_stands, refs_at}
 use Rattle.images.proofs.NumberedEntries.{entry_numbered, once_more}
 use Rattle.images.proofs.RecordBytes.{record_more}
 use Rattle.images.proofs.RecordReading.{one_record, record_of}
@@ -52,18 +53,19 @@ module _ (types : Table) (few_types : length types ≤ 65536) (nodes : List Node
 
   -- the entry with a number has the record with the number
   entry_found : (done : List Entry) (e : Entry) (n : ℕ) → length done ≤ 4294967296 → ((x : Entry) → IsAmong done x → IsPlaced types done x)
-      → IsIdeal types e.of_type e.value → AreAmong done (parts types e.of_type e.value) → slice_get (map (record_of types done) done) n ≡ Some (record_of types done e)
+      → HasLength e.of_type → IsIdeal types e.of_type e.value → AreAmong done (parts types e.of_type e.value) → slice_get (map (record_of types done) done) n ≡ Some (record_of types done e)
       → slice_get done n ≡ Some e
-  entry_found done e n few placed ideal inside at =
+  entry_found done e n few placed long ideal inside at =
       let found = at_map (record_of types done) done n (record_of types done e) at in
       let x : Entry = found.0 in
       let place = placed x (among_at x done n found.1) in
-      found.1 ∙ ap Some (one_record done few types few_types x e place.ideal (among_parts types done x place.walked) ideal inside found.2)
+      found.1 ∙ ap Some (one_record done few types few_types x e place.has_length place.ideal (among_parts types done x place.walked) long ideal inside found.2)
 
   -- a node that waits with all its parts known: what it stands for, and its record
   pub record Whole (done : List Entry) (records : Records) (r : ℕ) (form : Form) (e : Entry) : Type 0 where
     pub stands : StandsAs types nodes r e
     pub ideal : IsIdeal types e.of_type e.value
+    pub has_length : HasLength e.of_type
     pub walked : AreAmong done (walks types (parts types e.of_type e.value))
     pub inside : AreAmong done (parts types e.of_type e.value)
     pub found : record_for records form ≡ record_of types done e
@@ -78,6 +80,7 @@ module _ (types : Table) (few_types : length types ≤ 65536) (nodes : List Node
       record {
         stands = stands;
         ideal = ideal_stands IdealNodes types (ideal_refers types) nodes e.of_type e.value r stands;
+        has_length = length_stands types nodes r e.of_type e.value stands;
         walked = have.1;
         inside = among_walks types done es have.1;
         found = record_stands types nodes (number_or_first records) done r form e at stands have.0;
@@ -107,7 +110,7 @@ module _ (types : Table) (few_types : length types ≤ 65536) (nodes : List Node
       → Extended done new e
   extended_old done old new r n form e numbered is at there now =
       let keys = there ∙ numbered.keys in
-      let found = entry_found done e n (few_of new done (record_of types done) keys) numbered.placed is.ideal is.inside (ap (λ ks. slice_get ks n) (sym keys) ∙ at ∙ ap Some is.found) in
+      let found = entry_found done e n (few_of new done (record_of types done) keys) numbered.placed is.has_length is.ideal is.inside (ap (λ ks. slice_get ks n) (sym keys) ∙ at ∙ ap Some is.found) in
       record {
         all = done;
         numbered = record {
@@ -130,18 +133,18 @@ module _ (types : Table) (few_types : length types ≤ 65536) (nodes : List Node
           ∙ map_at (record_of types done) done (number_among done e) e (entry_numbered e done h) ∙ ap Some (sym is)))
       by false h = refl
 
-  placed_more : (done : List Entry) (e : Entry) → ((x : Entry) → IsAmong done x → IsPlaced types done x) → IsIdeal types e.of_type e.value
+  placed_more : (done : List Entry) (e : Entry) → ((x : Entry) → IsAmong done x → IsPlaced types done x) → HasLength e.of_type → IsIdeal types e.of_type e.value
       → AreAmong done (walks types (parts types e.of_type e.value)) → (x : Entry) → IsAmong (done ++ e ∷ []) x → IsPlaced types (done ++ e ∷ []) x
-  placed_more done e placed ideal walked x h = by (among_split done e x h)
+  placed_more done e placed long ideal walked x h = by (among_split done e x h)
     where
       own : IsPlaced types (done ++ e ∷ []) e
       own =
           let es = walks types (parts types e.of_type e.value) in
           let met = are_append (done ++ e ∷ []) es (e ∷ []) (are_more done (e ∷ []) es walked) (among_behind e done (e ∷ []) (among_here e []), tt) in
-          record { ideal = ideal; walked = subst (λ xs. AreAmong (done ++ e ∷ []) xs) (sym (walk_parts types e.of_type e.value)) met }
+          record { ideal = ideal; has_length = long; walked = subst (λ xs. AreAmong (done ++ e ∷ []) xs) (sym (walk_parts types e.of_type e.value)) met }
 
       by : IsAmong done x ⊎ (e ≡ x) → IsPlaced types (done ++ e ∷ []) x
-      by (inl g) = let place = placed x g in record { ideal = place.ideal; walked = are_more done (e ∷ []) (walk types x.of_type x.value) place.walked }
+      by (inl g) = let place = placed x g in record { ideal = place.ideal; has_length = place.has_length; walked = are_more done (e ∷ []) (walk types x.of_type x.value) place.walked }
       by (inr s) = subst (λ x. IsPlaced types (done ++ e ∷ []) x) s own
 
   -- the record is new
@@ -156,8 +159,8 @@ module _ (types : Table) (few_types : length types ≤ 65536) (nodes : List Node
       let keys : records_in new ≡ map (record_of types all) all =
       behind.1 ∙ ap (λ ks. ks ++ record_for old form ∷ []) (numbered.keys ∙ sym (records_more done (e ∷ []) done inside))
       ∙ ap (λ s. map (record_of types all) done ++ s ∷ []) (is.found ∙ sym own) ∙ sym (map_push (record_of types all) done e) in
-      let placed = placed_more done e numbered.placed is.ideal is.walked in
-      let found = entry_found all e n (few_of new all (record_of types all) keys) placed is.ideal (are_more done (e ∷ []) (parts types e.of_type e.value) is.inside)
+      let placed = placed_more done e numbered.placed is.has_length is.ideal is.walked in
+      let found = entry_found all e n (few_of new all (record_of types all) keys) placed is.has_length is.ideal (are_more done (e ∷ []) (parts types e.of_type e.value) is.inside)
       (ap (λ ks. slice_get ks n) (sym keys) ∙ at ∙ ap Some (is.found ∙ sym own)) in
       let before = λ (s m : ℕ) (h : number_at old s ≡ Some m). (let known = numbered.numbers s m h in moved all done s m known.0 known.1 (at_more done (e ∷ []) m known.0 known.2)) in
       record {

@@ -1,7 +1,7 @@
 -- Values as they are seen over nodes of a kind: their parts, their sizes and their depths.
 use Rattle.std.proofs.Common.{◌≡◌, ℕ, ℤ, Bool, List, [], ◌∷◌, Some, unwrap_or, refl, ap}
-use Rattle.core_terms.specs.Types.{Ty, UnitTy, BoolTy, IntTy, TextTy, PairTy, NamedTy, AuthTy, fields_at}
-use Rattle.core_terms.specs.Values.{Value, UnitV, BoolV, IntV, TextV, PairV, ConV, Values, NoV, AndV, size, depth}
+use Rattle.core_terms.specs.Types.{Ty, UnitTy, BoolTy, IntTy, TextTy, PairTy, NamedTy, AuthTy, VecTy, fields_at, item_types}
+use Rattle.core_terms.specs.Values.{Value, UnitV, BoolV, IntV, TextV, PairV, ConV, ItemsV, Values, NoV, AndV, size, depth}
 use Rattle.core_terms.specs.Terms.{Program}
 use Rattle.core_terms.specs.Projection.{digest_at, projections}
 use Rattle.core_terms.proofs.Projection.{size_shallow, depth_shallow}
@@ -44,6 +44,11 @@ pub constructor_seen : (marking : Marking) (P : Program) (number tag : ℕ) (ts 
 constructor_seen IdealMarking P number tag ts vs e = refl
 constructor_seen (ProverMarking hash) P number tag ts vs e = refl
 constructor_seen (VerifierMarking hash) P number tag ts vs e = ap (λ o. ConV tag (projections hash P (unwrap_or o []) vs)) e
+
+pub items_seen : (marking : Marking) (P : Program) (n : ℕ) (t : Ty) (vs : Values) → seen_as marking P (VecTy n t) (ItemsV vs) ≡ ItemsV (all_seen marking P (item_types n t) vs)
+items_seen IdealMarking P n t vs = refl
+items_seen (ProverMarking hash) P n t vs = refl
+items_seen (VerifierMarking hash) P n t vs = refl
 
 pub fields_seen : (marking : Marking) (P : Program) (t : Ty) (ts : List Ty) (v : Value) (vs : Values)
     → all_seen marking P (t ∷ ts) (AndV v vs) ≡ AndV (seen_as marking P t v) (all_seen marking P ts vs)

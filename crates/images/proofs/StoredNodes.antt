@@ -25,10 +25,10 @@ module _ (marking : Marking) (P : Program) (types : List Ty) (nodes : List Node)
   pub type_is : type_at types r.ty ≡ e.of_type
   type_is = get_or_from_slice_get types r.ty.0 e.of_type UnitTy is.of_type
 
-  pub size_is : AreSound nodes → size_at nodes r.value.0 ≡ size P.types e.of_type e.value
+  pub size_is : {limit : ℕ} → AreSound limit nodes → size_at nodes r.value.0 ≡ size P.types e.of_type e.value
   size_is sound = size_stands nodes sound (kind_of marking P) P.types e.of_type (seen_as marking P e.of_type e.value) r.value.0 is.stands ∙ size_seen marking P e.of_type e.value
 
-  pub depth_is : AreSound nodes → depth_at nodes r.value.0 ≡ depth P.types e.of_type e.value
+  pub depth_is : {limit : ℕ} → AreSound limit nodes → depth_at nodes r.value.0 ≡ depth P.types e.of_type e.value
   depth_is sound = depth_stands nodes sound (kind_of marking P) P.types e.of_type (seen_as marking P e.of_type e.value) r.value.0 is.stands ∙ depth_seen marking P e.of_type e.value
 
 -- the node of a record with a number is there

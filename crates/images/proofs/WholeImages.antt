@@ -4,7 +4,7 @@ use Rattle.std.specs.Int.{w32, to_be_bytes}
 use Rattle.std.specs.declared.alloc.Global.{Global}
 use Rattle.core_terms.specs.Terms.{Program}
 use Rattle.core_terms.specs.Values.{Value}
-use Rattle.images.specs.Images.{Entry, image_magic}
+use Rattle.images.specs.Images.{Entry}
 use Rattle.images.specs.SavedImages.{distinct, records_bytes, saved_image, walk}
 use Rattle.images.specs.Saves.{IsSaved}
 use Rattle.images.specs.declared.fault.SaveFault.{SaveFault}
@@ -12,26 +12,26 @@ use Rattle.images.specs.declared.fault.SaveFault.TheVariants.{TooLong, NoMemory}
 use Rattle.images.specs.SavedRecords.{AreSaved, bytes_in, records_in}
 use Rattle.images.specs.declared.save.records.Records.{Records}
 
-module _ (P : Program) (digest : List ℕ) (digest_length : length digest ≡ 32) (v : Value) where
+module _ (P : Program) (magic_length : length P.format.image_magic ≡ 4) (digest : List ℕ) (digest_length : length digest ≡ 32) (v : Value) where
   abbrev entries : List Entry
   entries = distinct [] (walk P.types P.state v)
 
   length-image : length (saved_image P digest v) ≡ 40 + length (records_bytes P.types entries entries)
   length-image =
-      let front = image_magic ++ digest ++ to_be_bytes w32 (length entries) in
+      let front = P.format.image_magic ++ digest ++ to_be_bytes w32 (length entries) in
       let all = length-append front (records_bytes P.types entries entries) in
-      let header = length-append (image_magic ++ digest) (to_be_bytes w32 (length entries)) in
-      let start = length-append image_magic digest in
-      all ∙ omega (arith, header, start, digest_length)
+      let header = length-append (P.format.image_magic ++ digest) (to_be_bytes w32 (length entries)) in
+      let start = length-append P.format.image_magic digest in
+      all ∙ omega (arith, header, start, magic_length, digest_length)
 
   pub image_refused : (fault : SaveFault) → AreSaved P.types entries (Err fault) → IsSaved (saved_image P digest v) (Err fault)
   image_refused NoMemory h = h
   image_refused TooLong h = let all = length-image in omega (arith, all, h)
 
   pub image_made : (records : Records) (told header : List ℕ) (count : ℕ) (image : Vec ℕ Global) → AreSaved P.types entries (Ok records) → told ≡ digest → count ≡ length (records_in records)
-      → header ≡ image_magic ++ told ++ to_be_bytes w32 count → image.items ≡ header ++ bytes_in records → IsSaved (saved_image P digest v) (Ok image)
+      → header ≡ P.format.image_magic ++ told ++ to_be_bytes w32 count → image.items ≡ header ++ bytes_in records → IsSaved (saved_image P digest v) (Ok image)
   image_made records told header count image h is_told is_count is_header is_image =
-      let front = ap₂ (λ (told : List ℕ) (n : ℕ). image_magic ++ told ++ to_be_bytes w32 n) is_told (is_count ∙ h.0) in
+      let front = ap₂ (λ (told : List ℕ) (n : ℕ). P.format.image_magic ++ told ++ to_be_bytes w32 n) is_told (is_count ∙ h.0) in
       let all = length-image in
       let bytes = ap length h.1 in
       (is_image ∙ ap₂ (λ (a b : List ℕ). a ++ b) (is_header ∙ front) h.1, omega (arith, all, bytes, h.2))

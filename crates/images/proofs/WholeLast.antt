@@ -2,8 +2,8 @@
 use Rattle.std.proofs.Common.{◌≡◌, ℕ, ◌+◌, ◌≤◌, Bool, true, false, List, [], ◌∷◌, ◌++◌, length, unwrap_or, refl, ap, ◌∙◌, arith, length-append}
 use Rattle.std.specs.List.{All}
 use Rattle.std.proofs.lemmas.List.Elements.{All-append, All-nil, All-push, All-same, All-weaker}
-use Rattle.core_terms.specs.Types.{Ty, PairTy, NamedTy, AuthTy, Table, fields_at}
-use Rattle.core_terms.specs.Values.{Value, PairV, ConV, Values, NoV, AndV}
+use Rattle.core_terms.specs.Types.{Ty, PairTy, NamedTy, AuthTy, VecTy, Table, fields_at, item_types}
+use Rattle.core_terms.specs.Values.{Value, PairV, ConV, ItemsV, Values, NoV, AndV}
 use Rattle.images.specs.Images.{Entry, entry}
 use Rattle.images.specs.SavedImages.{distinct, is_entry_of, walk}
 use Rattle.images.proofs.AmongEntries.{all_among}
@@ -45,6 +45,7 @@ module _ (types : Table) where
         short_append (walk types a x) (walk types b y ++ []) (short_whole a x (short_parts a x))
         (short_append (walk types b y) [] (short_whole b y (short_parts b y)) (All-nil (IsShort 0)))
     short_parts (NamedTy number) (ConV tag vs) = short_fields (unwrap_or (fields_at types number tag) []) vs
+    short_parts (VecTy n t) (ItemsV vs) = short_fields (item_types n t) vs
     short_parts (AuthTy t) v = short_append (walk types t v) [] (short_whole t v (short_parts t v)) (All-nil (IsShort 0))
     short_parts t v = All-nil (IsShort 0)
 

@@ -1,7 +1,7 @@
 -- The record of a node, by its form and the numbers of the records of its parts.
-use Rattle.std.specs.Prelude.{ℕ, ◌≤◌, true, false, List, [], ◌∷◌, ◌++◌, length}
+use Rattle.std.specs.Prelude.{ℕ, ◌≤◌, ◌%◌, true, false, List, [], ◌∷◌, ◌++◌, length}
 use Rattle.std.specs.Int.{w16, w32, w64, to_be_bytes, cast_unsigned}
-use Rattle.value_store.specs.Nodes.{Form, UnitNode, BoolNode, IntNode, TextNode, PairNode, ConNode, AuthNode, refs_in}
+use Rattle.value_store.specs.Nodes.{Form, UnitNode, BoolNode, IntNode, TextNode, PairNode, ConNode, AuthNode, VecNode, refs_in, greatest_limit}
 use Rattle.images.specs.declared.save.record.Record.{Record}
 
 -- what stands in the record before the numbers of the parts
@@ -14,6 +14,7 @@ head_of (TextNode bytes) = 3 ∷ to_be_bytes w32 (length bytes) ++ bytes
 head_of (PairNode first second) = 4 ∷ []
 head_of (ConNode number tag fields) = 5 ∷ to_be_bytes w16 number ++ tag ∷ []
 head_of (AuthNode held) = 6 ∷ []
+head_of (VecNode items) = 7 ∷ length items % 256 ∷ []
 
 -- the numbers of the records of some nodes, in 4 bytes each
 abbrev pub numbered : (ℕ → ℕ) → List ℕ → List ℕ
@@ -35,7 +36,7 @@ record_at number form = head_of form ++ numbered number (refs_in form)
 
 -- a text within the limits of the nodes of a store
 abbrev pub HasShortText : Form → Type 0
-HasShortText (TextNode bytes) = length bytes ≤ 65536
+HasShortText (TextNode bytes) = length bytes ≤ greatest_limit
 HasShortText form = Unit {0}
 
 -- the greatest number of bytes of the records of an image that is written

@@ -17,3 +17,4 @@ pub mod NodeNumbers
 pub mod SavedRecords
 pub mod Frames
 pub mod ImageLaws
+pub mod ArrayRows

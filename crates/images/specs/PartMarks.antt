@@ -7,7 +7,7 @@ use Rattle.core_terms.specs.declared.types.TyId.{TyId}
 use Rattle.core_terms.specs.declared.term.Constructor.{Constructor}
 use Rattle.core_terms.specs.declared.term.NamedType.{NamedType}
 use Rattle.core_terms.specs.declared.types.TyForm.{TyForm}
-use Rattle.core_terms.specs.declared.types.TyForm.TheVariants.{AuthForm, PairForm}
+use Rattle.core_terms.specs.declared.types.TyForm.TheVariants.{AuthForm, PairForm, VecForm}
 use Rattle.core_terms.specs.declared.program_types.Types.{Types}
 use Rattle.images.specs.Parts.{is_part, is_part_within}
 use Rattle.images.specs.declared.parts.PartMarks.{PartMarks}
@@ -56,6 +56,7 @@ AddsMarks IsAdded old new = (length new ≡ length old)
 -- the type with this number is a direct part of one of this form
 abbrev pub IsPartOfForm : TyForm → ℕ → Type 0
 IsPartOfForm (AuthForm part) i = part.0 ≡ i
+IsPartOfForm (VecForm len part) i = part.0 ≡ i
 IsPartOfForm (PairForm first second) i = (first.0 ≡ i) ⊎ (second.0 ≡ i)
 IsPartOfForm form i = ⊥
 

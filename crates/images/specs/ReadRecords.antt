@@ -12,7 +12,7 @@ use Rattle.images.specs.Records.{RecordRead, ReadRecord, CutRecord, NoRecord, nu
 use Rattle.images.specs.Records as meant
 use Rattle.images.specs.declared.record.Front.{Front}
 use Rattle.images.specs.declared.record.Record.{Record}
-use Rattle.images.specs.declared.record.Record.TheVariants.{Unit as UnitRecord, Bool as BoolRecord, Int as IntRecord, Text as TextRecord, Pair as PairRecord, Constructor as OfConstructor, Auth as AuthRecord}
+use Rattle.images.specs.declared.record.Record.TheVariants.{Unit as UnitRecord, Bool as BoolRecord, Int as IntRecord, Text as TextRecord, Pair as PairRecord, Constructor as OfConstructor, Auth as AuthRecord, Items as ItemsRecord}
 use Rattle.images.specs.declared.record.RecordFault.{RecordFault}
 use Rattle.images.specs.declared.record.RecordFault.TheVariants.{Cut, Bad}
 
@@ -25,6 +25,7 @@ record_told (TextRecord text) = meant.TextRecord text.now
 record_told (PairRecord first second) = meant.PairRecord first second
 record_told (OfConstructor c) = meant.ConRecord c.named.0 c.tag.0 (numbers_of (length c.fields.now) c.numbers.now)
 record_told (AuthRecord inner) = meant.AuthRecord inner
+record_told (ItemsRecord count numbers) = meant.VecRecord (numbers_of count numbers.now)
 
 -- These are the types of the fields of the constructor, whose type is a part of the state's, and they are in the program's table; or there is no
 -- such constructor.
@@ -41,6 +42,7 @@ HasConstructor types (OfConstructor c) = (is_part (types_meaning types).types (N
     × (fields_at (types_meaning types).types c.named.0 c.tag.0 ≡ Some (types_at (types_by_number types) c.fields.now))
     × (are_below (length (types_by_number types)) c.fields.now ≡ true)
     × (length c.numbers.now ≡ 4 * length c.fields.now)
+HasConstructor types (ItemsRecord count numbers) = length numbers.now ≡ 4 * count
 HasConstructor types r = Unit {0}
 
 -- the result tells what stands at the front: a record and the bytes behind it, or why there is none

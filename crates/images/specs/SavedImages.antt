@@ -1,11 +1,11 @@
 -- The one image that is written for a value.
 use Rattle.std.specs.Prelude.{ℕ, suc, Bool, true, false, ◌&&◌, ◌||◌, List, [], ◌∷◌, ◌++◌, length, unwrap_or, nat_eq, bytes_eq, ℤ, pos, negsuc, if◌then◌else◌}
 use Rattle.std.specs.Int.{w16, w32, w64, to_be_bytes, cast_unsigned}
-use Rattle.core_terms.specs.Types.{Ty, UnitTy, BoolTy, IntTy, TextTy, PairTy, NamedTy, AuthTy, Table, fields_at}
-use Rattle.core_terms.specs.Values.{Value, UnitV, BoolV, IntV, TextV, PairV, ConV, DigestV, Values, NoV, AndV}
+use Rattle.core_terms.specs.Types.{Ty, UnitTy, BoolTy, IntTy, TextTy, PairTy, NamedTy, AuthTy, VecTy, Table, fields_at, item_types}
+use Rattle.core_terms.specs.Values.{Value, UnitV, BoolV, IntV, TextV, PairV, ConV, DigestV, ItemsV, Values, NoV, AndV}
 use Rattle.core_terms.specs.Terms.{Program}
 use Rattle.core_terms.specs.Typing.{same_type}
-use Rattle.images.specs.Images.{Entry, entry, image_magic}
+use Rattle.images.specs.Images.{Entry, entry}
 
 -- two bools, and two numbers, are the same
 abbrev pub same_bool : Bool → Bool → Bool
@@ -28,6 +28,7 @@ abbrev mutual
   same_value (PairV a b) (PairV c d) = same_value a c && same_value b d
   same_value (ConV tag vs) (ConV other ws) = nat_eq tag other && same_values vs ws
   same_value (DigestV a) (DigestV b) = bytes_eq a b
+  same_value (ItemsV vs) (ItemsV ws) = same_values vs ws
   same_value v w = false
 
   pub same_values : Values → Values → Bool
@@ -45,6 +46,7 @@ module _ (types : Table) where
     walk (PairTy a b) (PairV x y) = walk a x ++ walk b y ++ entry (PairTy a b) (PairV x y) ∷ []
     walk (NamedTy number) (ConV tag vs) =
         walk_all (unwrap_or (fields_at types number tag) []) vs ++ entry (NamedTy number) (ConV tag vs) ∷ []
+    walk (VecTy n t) (ItemsV vs) = walk_all (item_types n t) vs ++ entry (VecTy n t) (ItemsV vs) ∷ []
     walk (AuthTy t) v = walk t v ++ entry (AuthTy t) v ∷ []
     walk t v = entry t v ∷ []
 
@@ -86,6 +88,7 @@ module _ (types : Table) (entries : List Entry) where
   record_bytes (PairTy a b) (PairV x y) = 4 ∷ reference entries a x ++ reference entries b y
   record_bytes (NamedTy number) (ConV tag vs) =
       5 ∷ to_be_bytes w16 number ++ tag ∷ references (unwrap_or (fields_at types number tag) []) vs
+  record_bytes (VecTy n t) (ItemsV vs) = 7 ∷ n ∷ references (item_types n t) vs
   record_bytes (AuthTy t) v = 6 ∷ reference entries t v
   record_bytes t v = []
 
@@ -98,4 +101,4 @@ module _ (types : Table) (entries : List Entry) where
 abbrev pub saved_image : Program → List ℕ → Value → List ℕ
 saved_image P digest v =
     let entries = distinct [] (walk P.types P.state v) in
-    image_magic ++ digest ++ to_be_bytes w32 (length entries) ++ records_bytes P.types entries entries
+    P.format.image_magic ++ digest ++ to_be_bytes w32 (length entries) ++ records_bytes P.types entries entries

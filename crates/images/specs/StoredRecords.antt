@@ -49,3 +49,8 @@ refs_from loaded [] [] = Some []
 refs_from loaded (i ∷ is) (t ∷ ts) =
     option_and_then (λ (r : StoredRecord). if nat_eq r.ty.0 t.0 then option_map (λ refs. r.value ∷ refs) (refs_from loaded is ts) else None) (slice_get loaded i)
 refs_from loaded is ts = None
+
+-- the first of the records with these numbers
+abbrev pub first_from : List StoredRecord → List ℕ → Option StoredRecord
+first_from loaded [] = None
+first_from loaded (i ∷ is) = slice_get loaded i

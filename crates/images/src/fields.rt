@@ -1,8 +1,9 @@
-// The fields of a constructor value, as nodes of the store.
-ghost use Rattle.std.specs.Prelude.{◌≡◌, ◌*◌, length, option_map, IfOk};
+// The fields of a constructor value, and the elements of an array, as nodes of the store.
+ghost use Rattle.std.specs.Prelude.{◌≡◌, ◌*◌, length, option_map, IfOk, IfSome, ◌≤◌};
 ghost use Rattle.images.specs.Records.{numbers_of};
-ghost use Rattle.images.specs.StoredRecords.{refs_from};
+ghost use Rattle.images.specs.StoredRecords.{first_from, refs_from};
 
+use crate::stored::StoredRecord;
 use crate::stored_records::StoredRecords;
 use core_terms::TyId;
 use std::alloc::{AllocError, Global};
@@ -34,4 +35,23 @@ pub(crate) fn field_refs(
         rest = behind;
     }
     Ok(Some(refs))
+}
+
+/// The first of so many records with these numbers, of 4 bytes each; none where there is no such, or it is no earlier record.
+pub(crate) fn first_record(
+    loaded: &StoredRecords,
+    count: u8,
+    numbers: &[u8],
+) -> Option<StoredRecord>
+    requires { length numbers.now ≡ 4 * count }
+    ensures found { result ≡ first_from loaded.now (numbers_of count numbers.now) }
+    ensures some { IfSome result (λ _. 1 ≤ count) }
+{
+    if count == 0 {
+        return None;
+    }
+    let Some((number, _)) = numbers.split_first_chunk::<4>() else {
+        unreachable!();
+    };
+    loaded.get(u32::from_be_bytes(*number) as usize)
 }

@@ -1,15 +1,13 @@
 // The header of an image.
 ghost use Rattle.std.specs.Prelude.{◌≡◌, ◌++◌, ℕ, List, length, IfOk};
+ghost use Rattle.core_terms.specs.ProgramTypes.{types_meaning};
 ghost use Rattle.std.specs.Int.{w32, to_be_bytes};
-ghost use Rattle.images.specs.Images.{headed, image_magic};
+ghost use Rattle.images.specs.Images.{headed};
 ghost use Rattle.images.specs.Loads.{IsHeaded};
 
 use crate::ImageFault;
-use core_terms::Digest;
+use core_terms::{Digest, Types};
 use std::alloc::{AllocError, Global};
-
-/// The bytes that an image begins with.
-const MAGIC: [u8; 4] = *b"LAI1";
 
 /// What the header of an image says, and the bytes behind it.
 #[derive(Clone, Copy)]
@@ -19,13 +17,17 @@ pub(crate) struct Header<'a> {
 }
 
 /// The header of an image of the program whose text has this digest. An error is `Magic`, `Cut` or `OtherProgram`.
-pub(crate) fn read_header<'a>(digest: &Digest, bytes: &'a [u8]) -> Result<Header<'a>, ImageFault>
-    ensures { IsHeaded (λ go. headed digest.now.0 bytes.now go) result }
+pub(crate) fn read_header<'a>(
+    types: &Types,
+    digest: &Digest,
+    bytes: &'a [u8],
+) -> Result<Header<'a>, ImageFault>
+    ensures { IsHeaded (λ go. headed (types_meaning types.now).format.image_magic digest.now.0 bytes.now go) result }
 {
     let Some((magic, behind)) = bytes.split_first_chunk::<4>() else {
         return Err(ImageFault::Magic);
     };
-    if *magic != MAGIC {
+    if *magic != types.image_magic() {
         return Err(ImageFault::Magic);
     }
     let Some((of_text, behind)) = behind.split_first_chunk::<32>() else {
@@ -44,10 +46,15 @@ pub(crate) fn read_header<'a>(digest: &Digest, bytes: &'a [u8]) -> Result<Header
 }
 
 /// The header of an image of so many records, of the program whose text has the digest with these 32 bytes.
-pub(crate) fn write_header(alloc: Global, digest: &[u8], count: u32) -> Result<Vec<u8>, AllocError>
-    ensures { IfOk result (λ bytes. bytes.items ≡ image_magic ++ digest.now ++ to_be_bytes w32 count) }
+pub(crate) fn write_header(
+    alloc: Global,
+    types: &Types,
+    digest: &[u8],
+    count: u32,
+) -> Result<Vec<u8>, AllocError>
+    ensures { IfOk result (λ bytes. bytes.items ≡ (types_meaning types.now).format.image_magic ++ digest.now ++ to_be_bytes w32 count) }
 {
-    let mut bytes = MAGIC.to_vec(alloc)?;
+    let mut bytes = types.image_magic().to_vec(alloc)?;
     bytes.extend_from_slice(digest)?;
     bytes.extend_from_slice(&count.to_be_bytes())?;
     Ok(bytes)

@@ -1,5 +1,5 @@
 // Loading the records of an image into a store.
-ghost use Rattle.std.specs.Prelude.{List, [], IfOk};
+ghost use Rattle.std.specs.Prelude.{List, [], IfOk, ◌≡◌};
 ghost use Rattle.core_terms.specs.ProgramTypes.{types_by_number, types_meaning};
 ghost use Rattle.images.specs.Images.{Entry, field_count, image_of, last, rooted};
 ghost use Rattle.images.specs.Images as meant;
@@ -9,13 +9,13 @@ ghost use Rattle.images.specs.LoadedRecords.{AreLoaded, IsRecordFront, IsRoot};
 ghost use Rattle.images.specs.PartMarks.{IsMarksOf};
 ghost use Rattle.images.specs.ReadRecords.{HasConstructor, record_told};
 ghost use Rattle.images.specs.StoredRecords.{AreKept, LoadsEntry};
-ghost use Rattle.value_store.specs.Markings.{Marking};
+ghost use Rattle.value_store.specs.Markings.{Marking, HasLimit};
 ghost use Rattle.value_store.specs.Nodes.{Node};
 ghost use Rattle.value_store.specs.Standing.{Keeps};
-ghost use Rattle.value_store.specs.Stores.{nodes_in};
+ghost use Rattle.value_store.specs.Stores.{nodes_in, store_lent};
 
 use crate::ImageFault;
-use crate::entries::{authenticated, bool, constructor, int, pair, text, unit};
+use crate::entries::{array, authenticated, bool, constructor, int, pair, text, unit};
 use crate::header::{Header, read_header};
 use crate::part_types::PartTypes;
 use crate::parts::PartMarks;
@@ -55,9 +55,12 @@ pub fn load_image<M: Marker>(
     marker: &mut M,
     bytes: &[u8],
 ) -> Result<Loaded, ImageFault>
+    requires knows { M.Knows types.now marker.old }
     ensures loads { LoadsOver M.marking (types_meaning types.now) (image_of (types_meaning types.now) text_digest.now.0 bytes.now) result }
+    ensures limit { IfOk result (λ loaded. HasLimit (types_meaning types.now) (store_lent loaded.store)) }
+    ensures knows { M.Knows types.now marker.new }
 {
-    let header = read_header(text_digest, bytes)?;
+    let header = read_header(types, text_digest, bytes)?;
     let marks = PartMarks::of(alloc, types)?;
     let parts = PartTypes {
         types,
@@ -80,9 +83,12 @@ fn load_records<'a, M: Marker>(
     header: Header<'a>,
 ) -> Result<Records<'a>, ImageFault>
     requires marked { IsMarksOf parts.now.types.now parts.now.marks.now }
-    ensures { AreLoaded M.marking (types_meaning parts.now.types.now) (types_by_number parts.now.types.now) (meant.load_records (types_meaning parts.now.types.now) size header.entry.count [] header.entry.records.now) result }
+    requires knows { M.Knows parts.now.types.now marker.old }
+    ensures loaded { AreLoaded M.marking (types_meaning parts.now.types.now) (types_by_number parts.now.types.now) (meant.load_records (types_meaning parts.now.types.now) size header.entry.count [] header.entry.records.now) result }
+    ensures limit { IfOk result (λ records. HasLimit (types_meaning parts.now.types.now) (store_lent records.store)) }
+    ensures knows { M.Knows parts.now.types.now marker.new }
 {
-    let mut store = Store::new(alloc);
+    let mut store = Store::new(alloc, parts.size_limit());
     let mut loaded = StoredRecords::new(alloc);
     let mut rest = header.records;
     for number in 0..header.count {
@@ -114,10 +120,10 @@ fn next_front<'a>(
     bytes: &'a [u8],
 ) -> Result<Front<'a>, ImageFault>
     requires marked { IsMarksOf parts.now.types.now parts.now.marks.now }
-    ensures front { IsRecordFront (types_meaning parts.now.types.now) size number (defined.read_record (field_count (types_meaning parts.now.types.now) size) bytes.now) result }
+    ensures front { IsRecordFront (types_meaning parts.now.types.now) size number (defined.read_record (types_meaning parts.now.types.now).format.arrays (field_count (types_meaning parts.now.types.now) size) bytes.now) result }
     ensures constructor { IfOk result (λ front. HasConstructor parts.now.types.now front.record) }
 {
-    match read_record(parts.types, parts.marks, bytes) {
+    match read_record(parts.types, parts.marks, parts.has_arrays(), bytes) {
         Ok(front) => Ok(front),
         Err(RecordFault::Cut) => Err(ImageFault::Cut(size)),
         Err(RecordFault::Bad) => Err(ImageFault::BadRecord(number)),
@@ -137,9 +143,13 @@ fn stored<M: Marker>(
     requires marked { IsMarksOf parts.now.types.now parts.now.marks.now }
     requires stored { (entries : List Entry) × AreKept M.marking parts.now.types.now (nodes_in store.old) loaded.now entries }
     requires constructor { HasConstructor parts.now.types.now found }
+    requires limit { HasLimit (types_meaning parts.now.types.now) (store_lent store.old) }
+    requires knows { M.Knows parts.now.types.now marker.old }
     ensures loaded { (entries : List Entry) → AreKept M.marking parts.now.types.now (nodes_in store.old) loaded.now entries
         → LoadsEntry M.marking parts.now.types.now (nodes_in store.new) number (meant.stands_for (types_meaning parts.now.types.now).types entries (record_told found.entry)) result }
     ensures keeps { Keeps (nodes_in store.old) (nodes_in store.new) }
+    ensures lent { store_lent store.new ≡ store_lent store.old }
+    ensures knows { M.Knows parts.now.types.now marker.new }
 {
     match found {
         Record::Unit => unit(parts, store, number),
@@ -149,6 +159,7 @@ fn stored<M: Marker>(
         Record::Pair(first, second) => pair(parts, store, loaded, number, first, second),
         Record::Constructor(found) => constructor(alloc, parts, store, loaded, number, found),
         Record::Auth(inner) => authenticated(parts, marker, store, loaded, number, inner),
+        Record::Items(count, numbers) => array(alloc, parts, store, loaded, number, count, numbers),
     }
 }
 

@@ -171,6 +171,7 @@ fn mark_parts(form: TyForm, marks: &mut [bool])
 {
     match form {
         TyForm::AuthForm(part) => marks[part.0] = true,
+        TyForm::VecForm(_, part) => marks[part.0] = true,
         TyForm::PairForm(first, second) => {
             marks[first.0] = true;
             marks[second.0] = true;

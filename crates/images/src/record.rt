@@ -1,5 +1,5 @@
 // The records of an image, read from their bytes.
-ghost use Rattle.std.specs.Prelude.{ℕ, IfOk};
+ghost use Rattle.std.specs.Prelude.{ℕ, IfOk, if◌then◌else◌};
 ghost use Rattle.core_terms.specs.ProgramTypes.{types_meaning};
 ghost use Rattle.core_terms.specs.declared.program_types.Types as code;
 ghost use Rattle.images.specs.Images.{field_count};
@@ -23,6 +23,8 @@ pub(crate) enum Record<'a> {
     Constructor(ConstructorRecord<'a>),
     /// The number of the record of what is authenticated.
     Auth(u32),
+    /// The number of an array's elements, and the numbers of their records, 4 bytes for each.
+    Items(u8, &'a [u8]),
 }
 
 /// The record of a constructor's value.
@@ -52,14 +54,15 @@ pub(crate) enum RecordFault {
     Bad,
 }
 
-/// The record that the bytes begin with.
+/// The record that the bytes begin with. It may be one of an array where `arrays` says so.
 pub(crate) fn read_record<'a>(
     types: &'a Types,
     parts: &PartMarks,
+    arrays: bool,
     bytes: &'a [u8],
 ) -> Result<Front<'a>, RecordFault>
     requires parts { IsMarksOf types.now parts.now }
-    ensures read { (size : ℕ) → IsRead (meant.read_record (field_count (types_meaning types.now) size) bytes.now) result }
+    ensures read { (size : ℕ) → IsRead (meant.read_record arrays (field_count (types_meaning types.now) size) bytes.now) result }
     ensures constructor { IfOk result (λ front. HasConstructor types.now front.record) }
 {
     let Some((kind, rest)) = bytes.split_first() else {
@@ -76,6 +79,7 @@ pub(crate) fn read_record<'a>(
         4 => read_pair(rest),
         5 => read_constructor(types, parts, rest),
         6 => read_auth(rest),
+        7 => read_items(arrays, rest),
         _ => Err(RecordFault::Bad),
     }
 }
@@ -213,6 +217,26 @@ fn read_auth(bytes: &[u8]) -> Result<Front<'_>, RecordFault>
     };
     Ok(Front {
         record: Record::Auth(u32::from_be_bytes(*inner)),
+        rest,
+    })
+}
+
+/// An array, where there may be one: the number of its elements in a byte, and the number of a record, of 4 bytes, for each.
+fn read_items(arrays: bool, bytes: &[u8]) -> Result<Front<'_>, RecordFault>
+    ensures read { IsRead (if arrays then meant.vec_record bytes.now else meant.NoRecord) result }
+    ensures constructor { (types : code.Types) → IfOk result (λ front. HasConstructor types front.record) }
+{
+    if !arrays {
+        return Err(RecordFault::Bad);
+    }
+    let Some((count, behind)) = bytes.split_first() else {
+        return Err(RecordFault::Cut);
+    };
+    let Some((numbers, rest)) = behind.split_at_checked(4 * usize::from(*count)) else {
+        return Err(RecordFault::Cut);
+    };
+    Ok(Front {
+        record: Record::Items(*count, numbers),
         rest,
     })
 }

@@ -4,6 +4,7 @@ mod record;
 mod records;
 
 ghost use Rattle.std.specs.Prelude.{◌≡◌, true, ◌<◌, ◌≤◌, ◌∷◌, ◌++◌, [], length, IfOk, OnOk};
+ghost use Rattle.value_store.specs.Markings.{HasLimit};
 ghost use Rattle.core_terms.specs.ProgramTypes.{types_meaning};
 ghost use Rattle.core_terms.specs.Types.{Table, Ty, has_numbers};
 ghost use Rattle.core_terms.specs.Values.{Value};
@@ -14,7 +15,7 @@ ghost use Rattle.images.specs.LoadedRoots.{IsStateAt};
 ghost use Rattle.images.specs.SavedRecords.{AreSaved};
 ghost use Rattle.images.specs.Frames.{frame_of};
 ghost use Rattle.value_store.specs.Standing.{IdealNodes, StandsFor};
-ghost use Rattle.value_store.specs.Stores.{nodes_in};
+ghost use Rattle.value_store.specs.Stores.{nodes_in, store_lent};
 
 use crate::SaveFault;
 use crate::header::write_header;
@@ -38,13 +39,14 @@ pub fn save_image(
     store: &Store,
     root: Ref,
 ) -> Result<Vec<u8>, SaveFault>
-    requires { (v : Value) × IsStateAt (types_meaning types.now) store.now root v }
+    requires limit { HasLimit (types_meaning types.now) (store_lent store.now) }
+    requires state { (v : Value) × IsStateAt (types_meaning types.now) store.now root v }
     ensures saved { (v : Value) → IsStateAt (types_meaning types.now) store.now root v → IsSaved (saved_image (types_meaning types.now) text_digest.now.0 v) result }
     ensures loads { (v : Value) → IsStateAt (types_meaning types.now) store.now root v → IfOk result (λ image. image_of (types_meaning types.now) text_digest.now.0 image.items ≡ Root v) }
 {
     let digest = text_digest.as_bytes();
     let records = records_of(alloc, store, root)?;
-    let mut image = write_header(alloc, digest, records.count() as u32)?;
+    let mut image = write_header(alloc, types, digest, records.count() as u32)?;
     records.write(&mut image)?;
     Ok(image)
 }

@@ -62,7 +62,7 @@ pub fn run(alloc: Global, code: &Code, argument: i64, fuel: u64) -> Result<Strin
     if fuel > MAX_FUEL || !takes_int(code.program()) {
         return Err(AllocError);
     }
-    let mut store = Store::new(alloc);
+    let mut store = Store::new(alloc, code.types().spelling_limit() as u32);
     let value = store.put_int(argument)?;
     let outcome = ideal_run(code, &mut store, FIRST, &[value], fuel, alloc)?;
     outcome_text(alloc, &store, outcome)
@@ -82,7 +82,7 @@ pub fn run_counted(
     if fuel > MAX_FUEL || !takes_int(code.program()) {
         return Err(AllocError);
     }
-    let mut store = Store::new(alloc);
+    let mut store = Store::new(alloc, code.types().spelling_limit() as u32);
     let value = store.put_int(argument)?;
     let outcome = ideal_run(code, &mut store, FIRST, &[value], fuel, alloc)?;
     let told = outcome_text(alloc, &store, outcome)?;
@@ -104,7 +104,7 @@ pub fn run_in_slices(
     if fuel > MAX_FUEL || units == 0 || !takes_int(code.program()) {
         return Err(AllocError);
     }
-    let mut store = Store::new(alloc);
+    let mut store = Store::new(alloc, code.types().spelling_limit() as u32);
     let value = store.put_int(argument)?;
     let mut machine = Machine::start(code, FIRST, &[value], fuel, IdealMode, alloc)?;
     for pauses in 0..u64::MAX {
@@ -148,5 +148,6 @@ pub fn trap_word(trap: Trap) -> &'static str {
         Trap::DivZero => "divzero",
         Trap::TooBig => "toobig",
         Trap::TooDeep => "toodeep",
+        Trap::Index => "index",
     }
 }

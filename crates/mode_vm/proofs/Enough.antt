@@ -6,14 +6,14 @@ use Rattle.core_terms.specs.Terms.{Program}
 use Rattle.core_terms.specs.declared.term.Arith.{Arith}
 use Rattle.core_terms.specs.declared.term.Compare.{Compare}
 use Rattle.core_terms.specs.declared.term.TextCompare.{TextCompare}
-use Rattle.code_gen.specs.Instructions.{Instruction, ArithOp, CompareOp, TextCompareOp, Cat, Pair}
+use Rattle.code_gen.specs.Instructions.{Instruction, ArithOp, CompareOp, TextCompareOp, Cat, Pair, VecGet}
 use Rattle.code_gen.specs.Code.{generated}
 use Rattle.value_store.specs.Nodes.{Node}
 use Rattle.value_store.specs.Markings.{Marking, kind_of}
 use Rattle.mode_vm.specs.Machines.{ValueFrame, Before}
 use Rattle.mode_vm.specs.declared.frame.Frame.{Frame}
 use Rattle.mode_vm.proofs.Frames.{ToNext, fits_next}
-use Rattle.mode_vm.proofs.Operands.{TakesTwo, as_many, arith_parts, compare_parts, text_compare_parts, concat_parts, pair_parts}
+use Rattle.mode_vm.proofs.Operands.{TakesTwo, as_many, arith_parts, compare_parts, text_compare_parts, concat_parts, get_parts, pair_parts}
 
 module _ (m : Marking) (P : Program) (nodes : List Node) (frame : Frame) (c : ValueFrame) where
   two_there : (i : Instruction) (b : Before m P nodes frame i c) (s t u : Ty) → TakesTwo (generated P) c.result c.local_types (ToNext (generated P) c.result c.shapes) s t u c.operand_types
@@ -43,3 +43,8 @@ module _ (m : Marking) (P : Program) (nodes : List Node) (frame : Frame) (c : Va
   pair_enough b =
       let parts = pair_parts (generated P) c.result c.local_types (ToNext (generated P) c.result c.shapes) c.operand_types (fits_next m P nodes frame Pair c b) in
       two_there Pair b parts.0 parts.1 _ parts.2
+
+  pub get_enough : Before m P nodes frame VecGet c → 1 < length frame.operands.items
+  get_enough b =
+      let parts = get_parts (generated P) c.result c.local_types (ToNext (generated P) c.result c.shapes) c.operand_types (fits_next m P nodes frame VecGet c b) in
+      two_there VecGet b _ _ _ parts.2

@@ -1,13 +1,13 @@
 -- No code gives fuel back, and a call that is due takes one unit first.
 use Rattle.std.proofs.Common.{◌≡◌, ℕ, zero, suc, ◌≤◌, ◌<◌, Bool, true, false, List, [], ◌∷◌, ◌++◌, length, ℤ, Option, Some, None, unwrap_or, slice_get, subst, arith, le_refl, if◌then◌else◌}
-use Rattle.core_terms.specs.Types.{Ty, BoolTy, IntTy, TextTy, PairTy, NamedTy, fields_at}
-use Rattle.core_terms.specs.Values.{Value, BoolV, IntV, TextV, PairV, ConV, Values, NoV, AndV}
+use Rattle.core_terms.specs.Types.{Ty, BoolTy, IntTy, TextTy, PairTy, NamedTy, VecTy, fields_at}
+use Rattle.core_terms.specs.Values.{Value, BoolV, IntV, TextV, PairV, ConV, ItemsV, Values, NoV, AndV}
 use Rattle.core_terms.specs.Terms.{Program}
-use Rattle.ideal_meaning.specs.Run.{Run, Gives, Ends, Mode, fuel_of, limited, arith_of, compare_of, text_compare_of, with_fuel}
-use Rattle.ideal_meaning.proofs.Nesting.{arith_low, limited_low, with_fuel_low}
-use Rattle.code_gen.specs.Instructions.{Instruction, PushUnit, PushBool, PushInt, PushText, Load, Bind, Unbind, Pair, Fst, Snd, Make, Switch, Branch, Jump, Call, Return, Auth, Unauth, ArithOp, CompareOp, TextCompareOp, Cat, Len, Not}
+use Rattle.ideal_meaning.specs.Run.{Run, Gives, Ends, Mode, fuel_of, limited, arith_of, compare_of, text_compare_of, with_fuel, fill_of, get_of, put_of}
+use Rattle.ideal_meaning.proofs.Nesting.{arith_low, limited_low, with_fuel_low, fill_low, get_low, put_low}
+use Rattle.code_gen.specs.Instructions.{Instruction, PushUnit, PushBool, PushInt, PushText, Load, Bind, Unbind, Pair, Fst, Snd, Make, Switch, Branch, Jump, Call, Return, Auth, Unauth, ArithOp, CompareOp, TextCompareOp, Cat, Len, Not, VecFill, VecGet, VecPut}
 use Rattle.code_gen.specs.Code.{Body, code_at, field_count, generated}
-use Rattle.code_meaning.specs.Execution.{Coded, Ran, Stuck, then_code, then_coded, where_some, Held, held, tie, without_last, popped, Next, on_pair, on_con, on_bool, on_int, on_text, act, exec, call_code}
+use Rattle.code_meaning.specs.Execution.{Coded, Ran, Stuck, then_code, then_coded, where_some, Held, held, tie, without_last, popped, Next, on_pair, on_con, on_bool, on_int, on_text, on_items, act, exec, call_code}
 use Rattle.code_meaning.specs.Steps.{Waiting, left_of, rest_of}
 use Rattle.value_store.specs.Markings.{Marking}
 use Rattle.value_store.specs.Nodes.{Node}
@@ -67,6 +67,10 @@ module _ (C W : Type 0) where
       low_text : (k : ℕ) (v : Value) (f : List ℕ → Coded C W) → ((bytes : List ℕ) → Low k (f bytes)) → Low k (on_text B mode called v f)
       low_text k (TextV bytes) f h = h bytes
       low_text k v f h = tt
+
+      low_items : (k : ℕ) (t : Ty) (v : Value) (f : ℕ → Ty → Values → Coded C W) → ((n : ℕ) (t : Ty) (vs : Values) → Low k (f n t vs)) → Low k (on_items B mode called t v f)
+      low_items k (VecTy n t) (ItemsV vs) f h = h n t vs
+      low_items k t v f h = tt
 
       low_act : (i : Instruction) (next : Next C W) → ((n : ℕ) (env ops : List Held) (k : ℕ) (w : W) → Low k (next n env ops k w))
           → (env ops : List Held) (k : ℕ) (w : W) → Low k (act B mode called i next env ops k w)
@@ -131,6 +135,19 @@ module _ (C W : Type 0) where
       low_act Len next h env [] k w = tt
       low_act Not next h env (x ∷ ops) k w = low_bool k x.value _ (λ b. h 0 env _ k w)
       low_act Not next h env [] k w = tt
+      low_act (VecFill n) next h env (x ∷ ops) k w =
+          low_then k (fill_of B.limit B.types n x.ty x.value k w) (λ v k w. next 0 env (held (VecTy n x.ty) v ∷ ops) k w) (fill_low C W P mode n x.ty x.value k w) (λ v k w. h 0 env _ k w)
+      low_act (VecFill n) next h env [] k w = tt
+      low_act VecGet next h env (y ∷ (x ∷ ops)) k w =
+          low_items k x.ty x.value _ (λ n t vs. low_int k y.value _ (λ z. low_then k (get_of n vs z k w) (λ v k w. next 0 env (held t v ∷ ops) k w) (get_low C W P mode n vs z k w) (λ v k w. h 0 env _ k w)))
+      low_act VecGet next h env (y ∷ []) k w = tt
+      low_act VecGet next h env [] k w = tt
+      low_act VecPut next h env (e ∷ (y ∷ (x ∷ ops))) k w =
+          low_items k x.ty x.value _ (λ n t vs. low_int k y.value _ (λ z. low_then k (put_of B.limit B.types n t vs z e.value k w) (λ v k w. next 0 env (held (VecTy n t) v ∷ ops) k w)
+          (put_low C W P mode n t vs z e.value k w) (λ v k w. h 0 env _ k w)))
+      low_act VecPut next h env (e ∷ (y ∷ [])) k w = tt
+      low_act VecPut next h env (e ∷ []) k w = tt
+      low_act VecPut next h env [] k w = tt
 
       low_exec : (is : List Instruction) (n : ℕ) (env ops : List Held) (k : ℕ) (w : W) → Low k (exec B mode called is n env ops k w)
       low_exec [] n env ops k w = tt

@@ -13,6 +13,8 @@ pub mod IntOperations
 pub mod TextOperations
 pub mod Parts
 pub mod PairOperations
+pub mod ArrayOperations
+pub mod Elements
 -- load
 pub mod LoadedLocals
 -- call, begin, parameter_count and give_back
@@ -36,6 +38,7 @@ pub mod TypesAlone
 pub mod Authenticating
 pub mod Opens
 pub mod Stepping
+pub mod Answering
 pub mod Slicing
 pub mod SparedNodes
 -- the ideal mode, over ideal nodes and the prover's, and runs in it

@@ -21,7 +21,7 @@ use Rattle.mode_vm.specs.Outcomes.{Acts}
 use Rattle.mode_vm.specs.StateParts.{IsAt, Finishes, FinishesOn}
 use Rattle.mode_vm.specs.declared.frame.Frame.{Frame}
 use Rattle.mode_vm.proofs.Frames.{ToNext, pushes, calls, runs_first}
-use Rattle.mode_vm.proofs.Operands.{One, Two, TakesOne, TakesTwo, one_popped, two_popped}
+use Rattle.mode_vm.proofs.Operands.{One, Two, Three, TakesOne, TakesTwo, TakesThree, one_popped, two_popped, three_popped}
 
 -- what an instruction gives of operands of these types, which has type u
 module _ (B : Body) {C W : Type 0} (mode : Mode C W) (call : ℕ → Values → ℕ → W → Coded C W) (i : Instruction) where
@@ -31,6 +31,10 @@ module _ (B : Body) {C W : Type 0} (mode : Mode C W) (call : ℕ → Values → 
   abbrev pub GivesOfTwo : (s t u : Ty) → (Value → Value → ℕ → W → Run C W Value) → Value → Value → Type 0
   GivesOfTwo s t u run x y =
       (next : Next C W) (env ops : List Held) (k : ℕ) (w : W) → act B mode call i next env (held t y ∷ held s x ∷ ops) k w ≡ then_code (run x y k w) (λ v k w. next 0 env (held u v ∷ ops) k w)
+
+  abbrev pub GivesOfThree : (r s t u : Ty) → (Value → Value → Value → ℕ → W → Run C W Value) → Value → Value → Value → Type 0
+  GivesOfThree r s t u run x y z =
+      (next : Next C W) (env ops : List Held) (k : ℕ) (w : W) → act B mode call i next env (held t z ∷ held s y ∷ held r x ∷ ops) k w ≡ then_code (run x y z k w) (λ v k w. next 0 env (held u v ∷ ops) k w)
 
 module _ (frame mid after : Frame) (kept : List Operand) (popped : IsAt frame frame.place frame.locals.items kept mid) where
   pub from_popped : (r : Operand) → IsAt mid (mid.place + 1) mid.locals.items (mid.operands.items ++ r ∷ []) after → IsAt frame (frame.place + 1) frame.locals.items (kept ++ r ∷ []) after
@@ -136,3 +140,40 @@ module _ (m : Marking) (P : Program) (nodes : List Node) (frame : Frame) (i : In
       made_acts m P nodes new keeps frame after i c b last u takes.below on_two.below (run on_two.x on_two.y)
       (λ next k w. acts_two next k w ∙ acts on_two.x on_two.y on_two.first_stands on_two.second_stands next (tie c.local_types c.locals) (tie takes.below on_two.below) k w)
       takes.goes on_two.rest made (makes on_two.x on_two.y on_two.first_stands on_two.second_stands) result (finishes_on frame mid after last at made result finishes)
+
+-- three operands
+module _ (m : Marking) (P : Program) (nodes : List Node) (frame : Frame) (i : Instruction) (c : ValueFrame) (b : Before m P nodes frame i c)
+    (last : List Operand) (first second third : Operand) (top : frame.operands.items ≡ last ++ first ∷ second ∷ third ∷ [])
+    (r s t u : Ty) (takes : TakesThree (generated P) c.result c.local_types (ToNext (generated P) c.result c.shapes) r s t u c.operand_types) where
+  abbrev pub on_three : Three (kind_of m P) P.types nodes first second third (reverse last) r s t takes.below c.operands
+  on_three = three_popped (kind_of m P) P.types nodes frame.operands.items last first second third r s t takes.below c.operands top
+      (subst (λ os. AllHeld (kind_of m P) P.types nodes (reverse frame.operands.items) os c.operands) takes.is b.top.is.operands)
+
+  pub three_operands : (x : Value) × (y : Value) × (z : Value) × IsHeld (kind_of m P) P.types nodes first r x × IsHeld (kind_of m P) P.types nodes second s y
+      × IsHeld (kind_of m P) P.types nodes third t z
+  three_operands = (on_three.x, on_three.y, on_three.z, on_three.first_stands, on_three.second_stands, on_three.third_stands)
+
+  acts_three : (next : Next (CauseOf m) (StateOf m)) (k : ℕ) (w : StateOf m)
+      → act (generated P) (mode_of m P) (calls m P c.depth) i next (tie c.local_types c.locals) (tie c.operand_types c.operands) k w
+      ≡ act (generated P) (mode_of m P) (calls m P c.depth) i next (tie c.local_types c.locals)
+      (held t on_three.z ∷ held s on_three.y ∷ held r on_three.x ∷ tie takes.below on_three.below) k w
+  acts_three next k w =
+      ap (λ os. act (generated P) (mode_of m P) (calls m P c.depth) i next (tie c.local_types c.locals) (tie os c.operands) k w) takes.is
+      ∙ ap (λ us. act (generated P) (mode_of m P) (calls m P c.depth) i next (tie c.local_types c.locals) (tie (t ∷ s ∷ r ∷ takes.below) us) k w) on_three.is
+
+  -- what the instruction gives of its operands
+  abbrev pub ActsOnThree : (Value → Value → Value → ℕ → StateOf m → Run (CauseOf m) (StateOf m) Value) → Type 0
+  ActsOnThree run = (x y z : Value) → IsHeld (kind_of m P) P.types nodes first r x → IsHeld (kind_of m P) P.types nodes second s y
+      → IsHeld (kind_of m P) P.types nodes third t z → GivesOfThree (generated P) (mode_of m P) (calls m P c.depth) i r s t u run x y z
+
+  pub three_acts : {E : Type 0} (run : Value → Value → Value → ℕ → StateOf m → Run (CauseOf m) (StateOf m) Value) → ActsOnThree run
+      → (new : List Node) → Keeps nodes new → (mid after : Frame) → IsAt frame frame.place frame.locals.items last mid → (made : Result Operand Trap)
+      → ((x y z : Value) → IsHeld (kind_of m P) P.types nodes first r x → IsHeld (kind_of m P) P.types nodes second s y
+      → IsHeld (kind_of m P) P.types nodes third t z → Makes m (kind_of m P) P.types new u (run x y z) made)
+      → (result : Result (Option Trap) E) → Finishes mid made after result → Acts m P new c after result
+  three_acts run acts new keeps mid after at made makes result finishes =
+      made_acts m P nodes new keeps frame after i c b last u takes.below on_three.below (run on_three.x on_three.y on_three.z)
+      (λ next k w. acts_three next k w
+      ∙ acts on_three.x on_three.y on_three.z on_three.first_stands on_three.second_stands on_three.third_stands next (tie c.local_types c.locals) (tie takes.below on_three.below) k w)
+      takes.goes on_three.rest made (makes on_three.x on_three.y on_three.z on_three.first_stands on_three.second_stands on_three.third_stands) result
+      (finishes_on frame mid after last at made result finishes)

@@ -1,14 +1,14 @@
 -- The topmost operands, by their types.
 use Rattle.std.proofs.Common.{◌≡◌, ℕ, suc, List, [], ◌∷◌, ◌++◌, length, reverse, nat_lt, refl, ap, ◌∙◌, subst, true, false}
 use Rattle.std.proofs.lemmas.List.{reverse-append}
-use Rattle.core_terms.specs.Types.{Ty, Table, PairTy, IntTy, BoolTy, TextTy}
+use Rattle.core_terms.specs.Types.{Ty, Table, PairTy, IntTy, BoolTy, TextTy, VecTy, is_length}
 use Rattle.core_terms.specs.Values.{Value, Values, NoV, AndV, size, depth}
 use Rattle.core_terms.specs.Formats.{depth_limit}
 use Rattle.core_terms.specs.declared.term.Arith.{Arith}
 use Rattle.core_terms.specs.declared.term.Compare.{Compare}
 use Rattle.core_terms.specs.declared.term.TextCompare.{TextCompare}
 use Rattle.ideal_meaning.specs.Run.{Gives, Ends, Traps, TooBig, TooDeep, limited}
-use Rattle.code_gen.specs.Instructions.{Pair, Fst, Snd, ArithOp, CompareOp, TextCompareOp, Cat, Len, Not}
+use Rattle.code_gen.specs.Instructions.{Pair, Fst, Snd, ArithOp, CompareOp, TextCompareOp, Cat, Len, Not, VecFill, VecGet, VecPut}
 use Rattle.code_gen.specs.Code.{Body}
 use Rattle.code_meaning.specs.Accept.{Fits}
 use Rattle.value_store.specs.Nodes.{Node}
@@ -56,6 +56,32 @@ module _ (kind : Kind) (types : Table) (nodes : List Node) where
       let r : reverse items ≡ second ∷ first ∷ reverse last = ap reverse e ∙ reverse-append last (first ∷ second ∷ []) in
       two_of first second (reverse last) a b ts us (subst (λ l. AllHeld kind types nodes l (b ∷ a ∷ ts) us) r h)
 
+  -- three operands on these
+  pub record Three (first second third : Operand) (rs : List Operand) (a b c : Ty) (ts : List Ty) (us : Values) : Type 0 where
+    pub x : Value
+    pub y : Value
+    pub z : Value
+    pub below : Values
+    pub is : us ≡ AndV z (AndV y (AndV x below))
+    pub first_stands : IsHeld kind types nodes first a x
+    pub second_stands : IsHeld kind types nodes second b y
+    pub third_stands : IsHeld kind types nodes third c z
+    pub rest : AllHeld kind types nodes rs ts below
+
+  three_of : (first second third : Operand) (rs : List Operand) (a b c : Ty) (ts : List Ty) (us : Values) → AllHeld kind types nodes (third ∷ second ∷ first ∷ rs) (c ∷ b ∷ a ∷ ts) us
+      → Three first second third rs a b c ts us
+  three_of first second third rs a b c ts (AndV z (AndV y (AndV x us))) h =
+      record { x = x; y = y; z = z; below = us; is = refl; first_stands = h.1.1.0; second_stands = h.1.0; third_stands = h.0; rest = h.1.1.1 }
+  three_of first second third rs a b c ts (AndV z (AndV y NoV)) h = elim h.1.1 [ ]
+  three_of first second third rs a b c ts (AndV z NoV) h = elim h.1 [ ]
+  three_of first second third rs a b c ts NoV h = elim h [ ]
+
+  pub three_popped : (items last : List Operand) (first second third : Operand) (a b c : Ty) (ts : List Ty) (us : Values) → items ≡ last ++ first ∷ second ∷ third ∷ []
+      → AllHeld kind types nodes (reverse items) (c ∷ b ∷ a ∷ ts) us → Three first second third (reverse last) a b c ts us
+  three_popped items last first second third a b c ts us e h =
+      let r : reverse items ≡ third ∷ second ∷ first ∷ reverse last = ap reverse e ∙ reverse-append last (first ∷ second ∷ third ∷ []) in
+      three_of first second third (reverse last) a b c ts us (subst (λ l. AllHeld kind types nodes l (c ∷ b ∷ a ∷ ts) us) r h)
+
   -- as many as their types
   pub as_many : (rs : List Operand) (ts : List Ty) (vs : Values) → AllHeld kind types nodes rs ts vs → length rs ≡ length ts
   as_many [] [] NoV h = refl
@@ -77,6 +103,24 @@ module _ (B : Body) (z : Ty) (ls : List Ty) (to : ℕ → List Ty → List Ty �
     pub below : List Ty
     pub is : os ≡ t ∷ s ∷ below
     pub goes : to 0 ls (u ∷ below)
+
+  -- three operands of the types r, s and t are taken, and one of type u is given
+  pub record TakesThree (r s t u : Ty) (os : List Ty) : Type 0 where
+    pub below : List Ty
+    pub is : os ≡ t ∷ s ∷ r ∷ below
+    pub goes : to 0 ls (u ∷ below)
+
+  pub fill_parts : (n : ℕ) (os : List Ty) → Fits B z (VecFill n) ls os to → (t : Ty) × (is_length n ≡ true) × TakesOne t (VecTy n t) os
+  fill_parts n (t ∷ os) h = (t, h.0, record { below = os; is = refl; goes = h.1 })
+  fill_parts n [] h = elim h [ ]
+
+  pub get_parts : (os : List Ty) → Fits B z VecGet ls os to → (n : ℕ) × (t : Ty) × TakesTwo (VecTy n t) IntTy t os
+  get_parts (IntTy ∷ (VecTy n t ∷ os)) h = (n, t, record { below = os; is = refl; goes = h })
+  get_parts os h = elim h [ ]
+
+  pub put_parts : (os : List Ty) → Fits B z VecPut ls os to → (n : ℕ) × (t : Ty) × TakesThree (VecTy n t) IntTy t (VecTy n t) os
+  put_parts (u ∷ (IntTy ∷ (VecTy n t ∷ os))) h = (n, t, record { below = os; is = ap (λ u. u ∷ IntTy ∷ VecTy n t ∷ os) h.0; goes = h.1 })
+  put_parts os h = elim h [ ]
 
   pub pair_parts : (os : List Ty) → Fits B z Pair ls os to → (a : Ty) × (b : Ty) × TakesTwo a b (PairTy a b) os
   pair_parts (b ∷ a ∷ os) h = (a, b, record { below = os; is = refl; goes = h })

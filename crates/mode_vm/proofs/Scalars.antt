@@ -1,7 +1,7 @@
 -- What an operand of a scalar type is, whatever holds it; and which operands are nodes.
 use Rattle.std.proofs.Common.{◌≡◌, ℕ, ℤ, Bool, List, refl}
-use Rattle.core_terms.specs.Types.{Ty, BoolTy, IntTy, TextTy, PairTy, NamedTy, AuthTy, Table}
-use Rattle.core_terms.specs.Values.{Value, BoolV, IntV, TextV, PairV}
+use Rattle.core_terms.specs.Types.{Ty, BoolTy, IntTy, TextTy, PairTy, NamedTy, AuthTy, VecTy, Table}
+use Rattle.core_terms.specs.Values.{Value, Values, BoolV, IntV, TextV, PairV, ItemsV}
 use Rattle.value_store.specs.Nodes.{Node}
 use Rattle.value_store.specs.Standing.{Kind, StandsFor}
 use Rattle.value_store.specs.declared.node.Ref.{Ref}
@@ -32,6 +32,11 @@ module _ (kind : Kind) (types : Table) (nodes : List Node) where
   on_pair Q q a b (At r) v h = elim h [ ]
   on_pair Q q a b o v h = elim h [ ]
 
+  pub on_items : (Q : Value → Type 0) → ((vs : Values) → Q (ItemsV vs)) → (n : ℕ) (t : Ty) (o : Operand) (v : Value) → IsHeld kind types nodes o (VecTy n t) v → Q v
+  on_items Q q n t (At r) (ItemsV vs) h = q vs
+  on_items Q q n t (At r) v h = elim h [ ]
+  on_items Q q n t o v h = elim h [ ]
+
   -- the node of an operand
   abbrev pub IsNode : Operand → Ty → Value → Type 0
   IsNode o t v = (r : Ref) × (o ≡ At r) × StandsFor kind types nodes r.0 t v
@@ -51,3 +56,7 @@ module _ (kind : Kind) (types : Table) (nodes : List Node) where
   pub auth_node : (t : Ty) (o : Operand) (v : Value) → IsHeld kind types nodes o (AuthTy t) v → IsNode o (AuthTy t) v
   auth_node t (At r) v h = (r, refl, h)
   auth_node t o v h = elim h [ ]
+
+  pub vec_node : (n : ℕ) (t : Ty) (o : Operand) (v : Value) → IsHeld kind types nodes o (VecTy n t) v → IsNode o (VecTy n t) v
+  vec_node n t (At r) v h = (r, refl, h)
+  vec_node n t o v h = elim h [ ]

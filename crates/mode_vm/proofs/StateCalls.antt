@@ -1,5 +1,5 @@
 -- Calls on a state and an argument, which stand among the prover's nodes.
-use Rattle.std.proofs.Common.{◌≡◌, ℕ, List, [], ◌∷◌, slice_index_or, sym, ap, ◌∙◌, subst, lit<}
+use Rattle.std.proofs.Common.{◌≡◌, ℕ, List, [], ◌∷◌, slice_index_or, sym, ap, ◌∙◌, subst}
 use Rattle.core_terms.specs.Formats.{Hash, IsFormat}
 use Rattle.core_terms.specs.Programs.{meaning}
 use Rattle.core_terms.specs.Projection.{digest_at, Fits}
@@ -8,7 +8,8 @@ use Rattle.core_terms.specs.Terms.{Program, IsTyped, function_at}
 use Rattle.core_terms.specs.Types.{Ty, UnitTy}
 use Rattle.core_terms.specs.Values.{Value, AuthWithin, IsIdeal}
 use Rattle.core_terms.specs.declared.program.Program.{Program as Coded}
-use Rattle.core_terms.proofs.LawProofs.{typing_test_is_exact, first_format_is_format}
+use Rattle.core_terms.proofs.CodePrograms.{every_format}
+use Rattle.core_terms.proofs.LawProofs.{typing_test_is_exact}
 use Rattle.ideal_meaning.specs.Headline.{call_of}
 use Rattle.ideal_meaning.proofs.RoleCalls.{parameters_are}
 use Rattle.value_store.specs.Nodes.{AreSound, Node}
@@ -24,7 +25,7 @@ pub is_typed : (p : Coded) → IsTyped (meaning p)
 is_typed p = (typing_test_is_exact (meaning p)).0 p.typed
 
 pub is_format : (p : Coded) → IsFormat (meaning p).format
-is_format p = first_format_is_format 1024 (lit< tt)
+is_format p = every_format p.types p.functions.items
 
 module _ (P : Program) (f : ℕ) (takes : TakesState P f) where
   parameters : (function_at P f).parameters ≡ P.state ∷ takes.1 ∷ []
@@ -58,7 +59,7 @@ module _ (P : Program) (f : ℕ) (takes : TakesState P f) where
     argument_ideal = ideal_stands prover P.types (prover_refers (digest_at hash P) P.types) nodes takes.1 a argument.0 argument_stands
 
 -- Of a program of the code they are within the limits, with all that is authenticated in the state.
-module _ (hash : Hash) (p : Coded) (f : ℕ) (takes : TakesState (meaning p) f) (nodes : List Node) (sound : AreSound nodes) (state argument : Ref) (s a : Value)
+module _ (hash : Hash) (p : Coded) (f : ℕ) (takes : TakesState (meaning p) f) (nodes : List Node) (sound : AreSound (meaning p).format.limit nodes) (state argument : Ref) (s a : Value)
     (call : IsCalledOn hash (meaning p) f nodes state argument s a) where
   abbrev P : Program
   P = meaning p
@@ -70,4 +71,4 @@ module _ (hash : Hash) (p : Coded) (f : ℕ) (takes : TakesState (meaning p) f) 
   argument_fits = within_stands (ProverNodes (digest_at hash P)) P.types nodes takes.1 a argument.0 sound (argument_stands P f takes hash nodes state argument s a call)
 
   pub state_deep : AuthWithin P.format.limit P.types P.state s
-  state_deep = standing_is_deep (digest_at hash P) P.types nodes state.0 P.state s sound call.state_stands
+  state_deep = standing_is_deep P.format.limit (digest_at hash P) P.types nodes state.0 P.state s sound call.state_stands

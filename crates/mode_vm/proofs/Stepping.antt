@@ -15,6 +15,8 @@ use Rattle.mode_vm.specs.Machines.{ValueStack, Represents, end_of, stack_steps, 
 use Rattle.mode_vm.specs.Outcomes.{Leads}
 use Rattle.mode_vm.specs.Runs.{Ready, WillRun, OnGoes, OutcomeIs, OutcomeStands, StepIs, StepStands}
 use Rattle.value_store.specs.declared.node.Ref.{Ref}
+use Rattle.mode_vm.specs.declared.mode.Stop.{Stop}
+use Rattle.mode_vm.specs.declared.mode.Stop.TheVariants.{Mode as ModeStops, NoMemory}
 use Rattle.mode_vm.specs.declared.state.State.{State}
 use Rattle.mode_vm.specs.declared.state.Step.{Step}
 use Rattle.mode_vm.specs.declared.state.Step.TheVariants.{Paused, Ended}
@@ -49,6 +51,17 @@ module _ (m : Marking) (P : Program) (z : Ty) (nodes : List Node) (new : State) 
 
     pub is_goes : step ≡ Paused → StepIs m P z cause New nodes new (Ok step) run → (w : StateOf m) × New w × WillRun m P z nodes new w run
     is_goes e h = subst (λ s. StepIs m P z cause New nodes new (Ok s) run) e h
+
+-- what is known of the state of the mode behind a step
+module _ (m : Marking) (P : Program) (z : Ty) (nodes : List Node) (new : State) {F : Type 0} (cause : F → Option (CauseOf m)) (New New' : StateOf m → Type 0)
+    (on : (w : StateOf m) → New w → New' w) (run : RunOf m) where
+  pub step_by : (result : Result Step (Stop F)) → StepIs m P z cause New nodes new result run → StepIs m P z cause New' nodes new result run
+  step_by (Ok Paused) h = (h.0, on h.0 h.1, h.2)
+  step_by (Ok (Ended (Done r))) h = (h.0, h.1, on h.1 h.2, h.3, h.4)
+  step_by (Ok (Ended (Trapped trap))) h = (h.0, on h.0 h.1, h.2)
+  step_by (Ok (Ended Out)) h = (h.0, on h.0 h.1, h.2)
+  step_by (Err (ModeStops f)) h = h
+  step_by (Err NoMemory) h = h
 
 -- fewer steps are left
 pub fewer_left : (E : Type 0) (m : Marking) (P : Program) (z : Ty) (nodes new_nodes : List Node) (before after : State) (cs : ValueStack) → Represents m P z nodes before cs

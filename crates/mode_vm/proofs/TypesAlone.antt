@@ -106,3 +106,11 @@ module _ (m : Marking) (p : Program) (given : Types) (is : given ≡ p.types) (i
   opens_by cause From Then old new v result opens x w h from = as_in m p.types fs new cause (Then p.types) (at p.types) x w result
       (subst (λ t. (x : Value) (w : StateOf m) → Stands m (types_meaning t) old v (AuthTy (at t)) x → From t w → OpensAs m (types_meaning t) cause (Then t) new (at t) x w result) is opens x w
       (stands_back m p.types fs old v (AuthTy (at p.types)) x h) from)
+
+  -- the same from one state
+  pub opens_at : {F : Type 0} (cause : F → Option (CauseOf m)) (Then : StateOf m → Type 0) (old new : List Node) (v : ℕ) (result : Result Ref (Stop F)) (w : StateOf m)
+      → ((x : Value) → Stands m (types_meaning given) old v (AuthTy (at given)) x → OpensAs m (types_meaning given) cause Then new (at given) x w result)
+      → (x : Value) → Stands m (meaning p) old v (AuthTy (at p.types)) x → OpensAs m (meaning p) cause Then new (at p.types) x w result
+  opens_at cause Then old new v result w opens x h = as_in m p.types fs new cause Then (at p.types) x w result
+      (subst (λ t. (x : Value) → Stands m (types_meaning t) old v (AuthTy (at t)) x → OpensAs m (types_meaning t) cause Then new (at t) x w result) is opens x
+      (stands_back m p.types fs old v (AuthTy (at p.types)) x h))

@@ -4,20 +4,22 @@ use Rattle.core_terms.specs.Terms.{Program}
 use Rattle.core_terms.specs.declared.outcome.Outcome.{Outcome}
 use Rattle.core_terms.specs.declared.outcome.Outcome.TheVariants.{Done, Trapped, Out}
 use Rattle.code_gen.specs.Code.{code_at, generated}
-use Rattle.code_gen.specs.Instructions.{Instruction, PushText, Pair, Make, Auth, Unauth, Cat}
+use Rattle.code_gen.specs.Instructions.{Instruction, PushText, Pair, Make, Auth, Unauth, Cat, VecFill, VecPut}
 use Rattle.value_store.specs.Nodes.{Node}
 use Rattle.value_store.specs.declared.node.Ref.{Ref}
 use Rattle.mode_vm.specs.declared.state.State.{State}
 use Rattle.mode_vm.specs.declared.state.Step.{Step}
 use Rattle.mode_vm.specs.declared.state.Step.TheVariants.{Paused, Ended}
 
--- The instruction makes no text, pair or constructor value, and asks nothing of the mode: it works on scalars, on locals and on parts of
+-- The instruction makes no text, pair, constructor value or array, and asks nothing of the mode: it works on scalars, on locals and on parts of
 -- values that are there, or it calls or gives back.
 abbrev pub works_in_hand : Instruction → Bool
 works_in_hand (PushText bytes) = false
 works_in_hand Pair = false
 works_in_hand (Make number tag) = false
 works_in_hand Cat = false
+works_in_hand (VecFill n) = false
+works_in_hand VecPut = false
 works_in_hand (Auth t) = false
 works_in_hand (Unauth t) = false
 works_in_hand i = true

@@ -12,7 +12,7 @@ use Rattle.core_terms.specs.declared.outcome.Outcome.{Outcome}
 use Rattle.core_terms.specs.declared.outcome.Outcome.TheVariants as told
 use Rattle.ideal_meaning.specs.Ideal as ideal
 use Rattle.ideal_meaning.specs.Told.{trap_told}
-use Rattle.value_store.specs.Nodes.{Node, size_limit}
+use Rattle.value_store.specs.Nodes.{Node}
 use Rattle.value_store.specs.Standing.{ProverNodes, StandsFor}
 use Rattle.value_store.specs.declared.node.Ref.{Ref}
 
@@ -28,6 +28,6 @@ pub record IsCalledOn (hash : Hash) (P : Program) (f : ℕ) (nodes : List Node) 
 -- The outcome of the definitions that an outcome with a spelling tells: its value is a shallow one of type t within the limits, with this
 -- spelling.
 abbrev pub SpellsOutcome : Program → Ty → ideal.Outcome → Outcome Spelling → Type 0
-SpellsOutcome P t o (told.Done bytes) = (v : Value) × (o ≡ ideal.Done v) × Spells size_limit P.types bytes t v
+SpellsOutcome P t o (told.Done bytes) = (v : Value) × (o ≡ ideal.Done v) × Spells P.format.limit P.types bytes t v
 SpellsOutcome P t o (told.Trapped trap) = o ≡ ideal.Trapped (trap_told trap)
 SpellsOutcome P t o told.Out = o ≡ ideal.Out

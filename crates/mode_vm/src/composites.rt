@@ -1,5 +1,5 @@
 // The instructions on pairs and constructors.
-ghost use Rattle.std.specs.Prelude.{◌≡◌, ◌+◌, ◌<◌, ◌^◌, true, List, IfOk, Some, length, nat_lt};
+ghost use Rattle.std.specs.Prelude.{◌≡◌, ◌+◌, ◌<◌, ◌^◌, ℕ, true, List, IfOk, Some, length, nat_lt};
 ghost use Rattle.code_gen.specs.Instructions as instruction;
 ghost use Rattle.std.specs.List.{list_all};
 ghost use Rattle.core_terms.specs.ProgramTypes.{named_table};
@@ -7,15 +7,14 @@ ghost use Rattle.core_terms.specs.Types.{NamedTy, PairTy, Table, Ty, fields_at};
 ghost use Rattle.core_terms.specs.Values.{ConV, PairV, Value, Values};
 ghost use Rattle.ideal_meaning.specs.Run as meant;
 ghost use Rattle.value_store.specs.CodeNodes.{numbers_of};
-ghost use Rattle.value_store.specs.Markings.{Marking};
-ghost use Rattle.value_store.specs.Nodes.{size_limit};
+ghost use Rattle.value_store.specs.Markings.{HasLimit, Marking};
 ghost use Rattle.value_store.specs.Standing.{AllStandFor, Keeps, Kind, StandsFor};
 ghost use Rattle.code_gen.specs.Code as code_meant;
 ghost use Rattle.mode_vm.specs.Meanings.{program_of};
 ghost use Rattle.mode_vm.specs.Calculations.{Makes};
 
 use crate::frame::Frame;
-use crate::limits::{DEPTH_LIMIT, SIZE_LIMIT};
+use crate::limits::DEPTH_LIMIT;
 use crate::operand::{Operand, place, place_all};
 use crate::values::parts_in;
 use code_gen::Code;
@@ -34,6 +33,7 @@ impl Frame {
         store: &mut N,
     ) -> Result<Option<Trap>, AllocError>
         requires before { IsBefore (program_of code.now) (N.nodes store.old) self.old instruction.Pair }
+        requires limit { HasLimit (program_of code.now) (N.lent store.old) }
         requires room { self.old.place + 1 < 2 ^ 64 }
         ensures does { Does (program_of code.now) instruction.Pair (N.nodes store.old) (N.nodes store.new) self.old self.new result }
         ensures keeps { Keeps (N.nodes store.old) (N.nodes store.new) }
@@ -85,6 +85,7 @@ impl Frame {
         tag: Tag,
     ) -> Result<Option<Trap>, AllocError>
         requires before { IsBefore (program_of code.now) (N.nodes store.old) self.old (instruction.Make named.0 tag.0) }
+        requires limit { HasLimit (program_of code.now) (N.lent store.old) }
         requires room { self.old.place + 1 < 2 ^ 64 }
         ensures does { Does (program_of code.now) (instruction.Make named.0 tag.0) (N.nodes store.old) (N.nodes store.new) self.old self.new result }
         ensures keeps { Keeps (N.nodes store.old) (N.nodes store.new) }
@@ -107,12 +108,12 @@ fn new_pair<N: Nodes>(
 ) -> Result<Result<Operand, Trap>, AllocError>
     requires first { first.0 < length (N.nodes store.old) }
     requires second { second.0 < length (N.nodes store.old) }
-    ensures makes { (m : Marking) (kind : Kind) (types : Table) (a b : Ty) (x y : Value) → StandsFor kind types (N.nodes store.old) first.0 a x → StandsFor kind types (N.nodes store.old) second.0 b y
-        → IfOk result (Makes m kind types (N.nodes store.new) (PairTy a b) (meant.limited size_limit types (PairTy a b) (PairV x y))) }
+    ensures makes { (limit : ℕ) → (N.lent store.old).limit ≡ limit → (m : Marking) (kind : Kind) (types : Table) (a b : Ty) (x y : Value) → StandsFor kind types (N.nodes store.old) first.0 a x → StandsFor kind types (N.nodes store.old) second.0 b y
+        → IfOk result (Makes m kind types (N.nodes store.new) (PairTy a b) (meant.limited limit types (PairTy a b) (PairV x y))) }
     ensures keeps { Keeps (N.nodes store.old) (N.nodes store.new) }
     ensures lent { N.lent store.new ≡ N.lent store.old }
 {
-    if store.shallow_size(first) + store.shallow_size(second) > SIZE_LIMIT {
+    if store.shallow_size(first) + store.shallow_size(second) > store.limit() {
         return Ok(Err(Trap::TooBig));
     }
     if store.shallow_depth(first).max(store.shallow_depth(second)) >= DEPTH_LIMIT {
@@ -140,13 +141,13 @@ fn new_constructor<N: Nodes>(
     fields: &[Ref],
 ) -> Result<Result<Operand, Trap>, AllocError>
     requires fields { list_all (λ r. nat_lt r (length (N.nodes store.old))) (numbers_of fields.now) ≡ true }
-    ensures makes { (m : Marking) (kind : Kind) (types : Table) (ts : List Ty) (vs : Values) → fields_at types named.0 tag.0 ≡ Some ts
+    ensures makes { (limit : ℕ) → (N.lent store.old).limit ≡ limit → (m : Marking) (kind : Kind) (types : Table) (ts : List Ty) (vs : Values) → fields_at types named.0 tag.0 ≡ Some ts
         → AllStandFor kind types (N.nodes store.old) (numbers_of fields.now) ts vs
-        → IfOk result (Makes m kind types (N.nodes store.new) (NamedTy named.0) (meant.limited size_limit types (NamedTy named.0) (ConV tag.0 vs))) }
+        → IfOk result (Makes m kind types (N.nodes store.new) (NamedTy named.0) (meant.limited limit types (NamedTy named.0) (ConV tag.0 vs))) }
     ensures keeps { Keeps (N.nodes store.old) (N.nodes store.new) }
     ensures lent { N.lent store.new ≡ N.lent store.old }
 {
-    if !store.sizes_fit(fields, SIZE_LIMIT - 1) {
+    if !store.sizes_fit(fields, store.limit() - 1) {
         return Ok(Err(Trap::TooBig));
     }
     if !store.depths_fit(fields, DEPTH_LIMIT - 1) {

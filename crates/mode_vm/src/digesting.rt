@@ -1,10 +1,11 @@
 // The ideal mode over the prover's nodes.
 ghost use Rattle.std.specs.Prelude.{◌≡◌, None};
+ghost use Rattle.core_terms.specs.Fronts.{AreFronts};
 ghost use Rattle.value_store.specs.Markings.{ProverMarking};
 
 use crate::ideal::Never;
 use crate::mode::{Mode, Stop};
-use core_terms::{Hash32, TyId, Types};
+use core_terms::{Fronts, Hash32, TyId, Types};
 use shallow_codec::{SpareBuffer, spell_into};
 use std::alloc::Global;
 use std::marker::PhantomData;
@@ -14,14 +15,18 @@ use value_store::{Held, Nodes, Ref, inner_of};
 #[derive(Drop)]
 pub struct DigestingMode<H> {
     spare: SpareBuffer,
+    fronts: Fronts,
     hash: PhantomData<H>,
 }
 
 impl<H: Hash32> DigestingMode<H> {
-    /// A mode that takes the memory of spellings from here.
-    pub fn new(alloc: Global) -> Self {
+    /// A mode that takes the memory of spellings from here, and digests behind these fronts.
+    pub fn new(alloc: Global, fronts: Fronts) -> Self
+        ensures fronts { result.fronts ≡ fronts }
+    {
         DigestingMode {
             spare: SpareBuffer::new(alloc),
+            fronts,
             hash: PhantomData,
         }
     }
@@ -42,9 +47,19 @@ impl<H: Hash32> Mode for DigestingMode<H> {
 
     ghost Rose = { λ old new. ⊥ };
 
+    ghost Asks = { ⊥ };
+
+    ghost Answer = { Unit {0} };
+
+    ghost May = { λ v a w. ⊥ };
+
+    ghost Last = { λ v a f w. ⊥ };
+
+    ghost Expects = { λ mode w got. ⊥ };
+
     ghost opened = { λ mode. 0 };
 
-    ghost Knows = { λ t mode nodes. Unit {0} };
+    ghost Knows = { λ t mode nodes. AreFronts H.hash t mode.fronts };
 
     ghost Rest = { Unit {0} };
 
@@ -69,7 +84,7 @@ impl<H: Hash32> Mode for DigestingMode<H> {
     ) -> Result<Ref, Stop<Never>> {
         let mut spelling = self.spare.take();
         spell_into(types, store, v, ty, &mut spelling)?;
-        let digest = H::of(&spelling);
+        let digest = H::of_pair(self.fronts.front(ty), &spelling);
         self.spare.keep(spelling);
         Ok(store.put_auth(Held::Both(digest, v))?)
     }

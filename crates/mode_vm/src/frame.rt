@@ -1,6 +1,7 @@
 // A frame: a function that runs or waits, and what its instructions do to it.
 ghost use Rattle.std.specs.Prelude.{◌≡◌, ◌+◌, ◌<◌, ◌≤◌, ◌^◌, ◌++◌, ◌∷◌, [], true, IfOk, OnOk, length};
 ghost use Rattle.core_terms.specs.Programs.{types_of};
+ghost use Rattle.value_store.specs.Markings.{HasLimit};
 ghost use Rattle.value_store.specs.Standing.{Keeps};
 ghost use Rattle.code_gen.specs.Code.{code_at, generated};
 ghost use Rattle.code_gen.specs.CodeTrees.{instruction_of};
@@ -61,6 +62,17 @@ impl Frame {
         (first, second)
     }
 
+    /// Pops the three top operands.
+    pub(crate) fn pop_three(&mut self) -> (Operand, Operand, Operand)
+        requires { 2 < length self.old.operands.items }
+        ensures at { IsAt self.old self.old.place self.old.locals.items self.new.operands.items self.new }
+        ensures top { self.old.operands.items ≡ self.new.operands.items ++ result.0 ∷ result.1 ∷ result.2 ∷ [] }
+    {
+        let third = self.pop();
+        let (first, second) = self.pop_two();
+        (first, second, third)
+    }
+
     /// Moves as many of the topmost operands behind a list, the top one last.
     pub(crate) fn pop_into(
         &mut self,
@@ -115,6 +127,7 @@ impl Frame {
         instruction: &Instruction,
     ) -> Result<Option<Trap>, AllocError>
         requires before { IsBefore (program_of code.now) (N.nodes store.old) self.old (instruction_of (types_of (program_in code.now)) instruction.now) }
+        requires limit { HasLimit (program_of code.now) (N.lent store.old) }
         requires own { is_own (instruction_of (types_of (program_in code.now)) instruction.now) ≡ true }
         requires room { self.old.place + 1 < 2 ^ 64 }
         requires length { length (code_at (generated (program_of code.now)) self.old.function.0).code < 2 ^ 64 }
@@ -144,6 +157,9 @@ impl Frame {
             Instruction::Cat => self.concat(code, store),
             Instruction::Len => self.length(code, store),
             Instruction::Not => self.not(code, store),
+            Instruction::VecFill(count) => self.fill(code, store, *count),
+            Instruction::VecGet => self.element(code, store),
+            Instruction::VecPut => self.replace(code, store),
             Instruction::Call(_) => unreachable!(),
             Instruction::Return => unreachable!(),
             Instruction::Auth(_) => unreachable!(),

@@ -29,6 +29,16 @@ impl Mode for IdealMode {
 
     ghost Rose = { λ old new. ⊥ };
 
+    ghost Asks = { ⊥ };
+
+    ghost Answer = { Unit {0} };
+
+    ghost May = { λ v a w. ⊥ };
+
+    ghost Last = { λ v a f w. ⊥ };
+
+    ghost Expects = { λ mode w got. ⊥ };
+
     ghost opened = { λ mode. 0 };
 
     ghost Knows = { λ t mode nodes. Unit {0} };

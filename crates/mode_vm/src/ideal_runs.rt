@@ -4,6 +4,7 @@ ghost use Rattle.core_terms.specs.Projection.{digest_at};
 ghost use Rattle.core_terms.specs.Terms.{function_at};
 ghost use Rattle.core_terms.specs.Values.{Values};
 ghost use Rattle.ideal_meaning.specs.Ideal.{ideal, outcome};
+ghost use Rattle.value_store.specs.Markings.{HasLimit};
 ghost use Rattle.value_store.specs.Standing.{AllStandFor, IdealNodes, Keeps, ProverNodes};
 ghost use Rattle.value_store.specs.CodeNodes.{numbers_of};
 ghost use Rattle.mode_vm.specs.IdealRuns.{IsOutcome};
@@ -13,7 +14,7 @@ use crate::digesting::DigestingMode;
 use crate::ideal::IdealMode;
 use crate::machine::Machine;
 use code_gen::Code;
-use core_terms::{FunctionId, Hash32, Outcome};
+use core_terms::{Fronts, FunctionId, Hash32, Outcome};
 use std::alloc::{AllocError, Global};
 use value_store::{Nodes, Ref};
 
@@ -33,6 +34,7 @@ pub fn ideal_run<N: Nodes>(
 ) -> Result<Outcome<Ref>, AllocError>
     requires there { function.0 < length (program_of code.now).functions }
     requires stand { (vs : Values) × AllStandFor IdealNodes (program_of code.now).types (N.nodes store.old) (numbers_of args.now) (function_at (program_of code.now) function.0).parameters vs }
+    requires limit { HasLimit (program_of code.now) (N.lent store.old) }
     requires fuel_fits { fuel ≤ 10 ^ 12 }
     ensures outcome { IfOk result (λ o. (vs : Values)
         → AllStandFor IdealNodes (program_of code.now).types (N.nodes store.old) (numbers_of args.now) (function_at (program_of code.now) function.0).parameters vs
@@ -63,6 +65,7 @@ pub fn digesting_run<H: Hash32, N: Nodes>(
     requires there { function.0 < length (program_of code.now).functions }
     requires stand { let P = program_of code.now in
         (vs : Values) × AllStandFor (ProverNodes (digest_at H.hash P)) P.types (N.nodes store.old) (numbers_of args.now) (function_at P function.0).parameters vs }
+    requires limit { HasLimit (program_of code.now) (N.lent store.old) }
     requires fuel_fits { fuel ≤ 10 ^ 12 }
     ensures outcome { let P = program_of code.now in let kind = ProverNodes (digest_at H.hash P) in IfOk result (λ o. (vs : Values)
         → AllStandFor kind P.types (N.nodes store.old) (numbers_of args.now) (function_at P function.0).parameters vs
@@ -70,7 +73,8 @@ pub fn digesting_run<H: Hash32, N: Nodes>(
     ensures keeps { Keeps (N.nodes store.old) (N.nodes store.new) }
     ensures lent { N.lent store.new ≡ N.lent store.old }
 {
-    let mode = DigestingMode::<H>::new(alloc);
+    let fronts = Fronts::of_types::<H>(code.types(), alloc)?;
+    let mode = DigestingMode::<H>::new(alloc, fronts);
     let mut machine = Machine::start(code, function, args, fuel, mode, alloc)?;
     match machine.run(code, store, &mut ()) {
         Ok(outcome) => Ok(outcome),

@@ -4,6 +4,7 @@
 //! slices, over any nodes.
 #![tactic(auto)]
 
+mod arrays;
 mod choices;
 mod composites;
 pub mod digesting;

@@ -1,10 +1,11 @@
 // The virtual machine, over a mode.
-ghost use Rattle.std.specs.Prelude.{◌≡◌, ◌<◌, ◌≤◌, ◌+◌, ◌^◌, List, suc, true, IfOk, OnOk, length};
+ghost use Rattle.std.specs.Prelude.{◌≡◌, ◌++◌, ◌<◌, ◌≤◌, ◌+◌, ◌^◌, List, suc, true, IfOk, OnOk, length};
 ghost use Rattle.core_terms.specs.Programs.{types_of};
 ghost use Rattle.core_terms.specs.Types.{Ty};
 ghost use Rattle.core_terms.specs.Values.{Values};
 ghost use Rattle.core_terms.specs.Terms.{function_at};
 ghost use Rattle.ideal_meaning.specs.Run.{call_from};
+ghost use Rattle.value_store.specs.Markings.{HasLimit};
 ghost use Rattle.value_store.specs.Nodes.{Node};
 ghost use Rattle.value_store.specs.Standing.{Keeps};
 ghost use Rattle.code_gen.specs.Programs.{program_in};
@@ -30,7 +31,7 @@ pub struct Machine<M> {
 impl<M: Mode> Machine<M> {
     ghost use Rattle.mode_vm.specs.Machines.{AreArguments, OpensFew, ValueStack, IsNext, Represents, steps_left};
     ghost use Rattle.mode_vm.specs.NodesPut.{NextInHand, RunPuts, StepPuts, WorksInHand};
-    ghost use Rattle.mode_vm.specs.Openings.{Counts, OnlyMemory};
+    ghost use Rattle.mode_vm.specs.Openings.{Came, Counts, OnlyMemory};
     ghost use Rattle.mode_vm.specs.StateParts.{Starts, fuel_after};
     ghost use Rattle.mode_vm.specs.Runs.{OnGoes, Ready, RunIs, RunStands, Slices, StepIs, StepStands, WillRun};
 
@@ -75,6 +76,7 @@ impl<M: Mode> Machine<M> {
         requires before { (z : Ty) × (cs : ValueStack) × Represents M.marking (program_of code.now) z (N.nodes store.old) self.old.state cs
             × IsNext (instruction_of (types_of (program_in code.now)) (Instruction.Auth ty)) cs.top }
         requires entered { self.old.state.entered ≡ true }
+        requires knows { M.Knows (program_in code.now).types self.old.mode (N.nodes store.old) }
         requires room { self.old.state.top.place + 1 < 2 ^ 64 }
         ensures stands { (z : Ty) (cs : ValueStack) → Represents M.marking (program_of code.now) z (N.nodes store.old) self.old.state cs
             → IsNext (instruction_of (types_of (program_in code.now)) (Instruction.Auth ty)) cs.top
@@ -83,6 +85,10 @@ impl<M: Mode> Machine<M> {
             → (will : WillRun M.marking (program_of code.now) z (N.nodes store.old) self.old.state w run)
             → IsNext (instruction_of (types_of (program_in code.now)) (Instruction.Auth ty)) will.stack.top
             → StepIs M.marking (program_of code.now) z M.cause (M.Follows (program_in code.now).types self.new.mode world.now (N.nodes store.new)) (N.nodes store.new) self.new.state result run }
+        ensures stays { (z : Ty) (w : StateOf M.marking) (run : RunOf M.marking)
+            → (will : WillRun M.marking (program_of code.now) z (N.nodes store.old) self.old.state w run)
+            → IsNext (instruction_of (types_of (program_in code.now)) (Instruction.Auth ty)) will.stack.top
+            → StepIs M.marking (program_of code.now) z M.cause (λ after. after ≡ w) (N.nodes store.new) self.new.state result run }
         ensures fewer { OnGoes result (steps_left (program_of code.now) self.new.state < steps_left (program_of code.now) self.old.state) }
         ensures keeps { Keeps (N.nodes store.old) (N.nodes store.new) }
         ensures lent { N.lent store.new ≡ N.lent store.old }
@@ -111,6 +117,7 @@ impl<M: Mode> Machine<M> {
         requires entered { self.old.state.entered ≡ true }
         requires few { M.opened self.old.mode < 2 ^ 63 }
         requires knows { M.Knows (program_in code.now).types self.old.mode (N.nodes store.old) }
+        requires limit { HasLimit (program_of code.now) (N.lent store.old) }
         requires room { self.old.state.top.place + 1 < 2 ^ 64 }
         ensures stands { (z : Ty) (cs : ValueStack) → Represents M.marking (program_of code.now) z (N.nodes store.old) self.old.state cs
             → IsNext (instruction_of (types_of (program_in code.now)) (Instruction.Unauth ty)) cs.top
@@ -119,6 +126,10 @@ impl<M: Mode> Machine<M> {
             → (will : WillRun M.marking (program_of code.now) z (N.nodes store.old) self.old.state w run)
             → IsNext (instruction_of (types_of (program_in code.now)) (Instruction.Unauth ty)) will.stack.top
             → StepIs M.marking (program_of code.now) z M.cause (M.Follows (program_in code.now).types self.new.mode world.new (N.nodes store.new)) (N.nodes store.new) self.new.state result run }
+        ensures answers { M.Asks → Came M.May M.Last M.cause world.old world.new result (λ got. (z : Ty) (w : StateOf M.marking) (run : RunOf M.marking) (more : List M.Answer) → M.Expects self.old.mode w (got ++ more)
+            → (will : WillRun M.marking (program_of code.now) z (N.nodes store.old) self.old.state w run)
+            → IsNext (instruction_of (types_of (program_in code.now)) (Instruction.Unauth ty)) will.stack.top
+            → StepIs M.marking (program_of code.now) z M.cause (λ after. M.Expects self.new.mode after more) (N.nodes store.new) self.new.state result run) }
         ensures fewer { OnGoes result (steps_left (program_of code.now) self.new.state < steps_left (program_of code.now) self.old.state) }
         ensures keeps { Keeps (N.nodes store.old) (N.nodes store.new) }
         ensures lent { N.lent store.new ≡ N.lent store.old }
@@ -145,11 +156,15 @@ impl<M: Mode> Machine<M> {
         requires ready { (z : Ty) × Ready M.marking (program_of code.now) z (N.nodes store.old) self.old.state }
         requires few { M.opened self.old.mode < 2 ^ 63 }
         requires knows { M.Knows (program_in code.now).types self.old.mode (N.nodes store.old) }
+        requires limit { HasLimit (program_of code.now) (N.lent store.old) }
         ensures stands { (z : Ty) → Ready M.marking (program_of code.now) z (N.nodes store.old) self.old.state
             → StepStands M.marking (program_of code.now) z (N.nodes store.new) self.new.state result }
         ensures is { (z : Ty) (w : StateOf M.marking) (run : RunOf M.marking) → M.Follows (program_in code.now).types self.old.mode world.old (N.nodes store.old) w
             → WillRun M.marking (program_of code.now) z (N.nodes store.old) self.old.state w run
             → StepIs M.marking (program_of code.now) z M.cause (M.Follows (program_in code.now).types self.new.mode world.new (N.nodes store.new)) (N.nodes store.new) self.new.state result run }
+        ensures answers { M.Asks → Came M.May M.Last M.cause world.old world.new result (λ got. (z : Ty) (w : StateOf M.marking) (run : RunOf M.marking) (more : List M.Answer) → M.Expects self.old.mode w (got ++ more)
+            → WillRun M.marking (program_of code.now) z (N.nodes store.old) self.old.state w run
+            → StepIs M.marking (program_of code.now) z M.cause (λ after. M.Expects self.new.mode after more) (N.nodes store.new) self.new.state result run) }
         ensures fewer { OnGoes result (steps_left (program_of code.now) self.new.state < steps_left (program_of code.now) self.old.state) }
         ensures keeps { Keeps (N.nodes store.old) (N.nodes store.new) }
         ensures lent { N.lent store.new ≡ N.lent store.old }
@@ -189,12 +204,16 @@ impl<M: Mode> Machine<M> {
         requires ready { (z : Ty) × Ready M.marking (program_of code.now) z (N.nodes store.old) self.old.state }
         requires few { OpensFew (M.opened self.old.mode) (program_of code.now) self.old.state }
         requires knows { M.Knows (program_in code.now).types self.old.mode (N.nodes store.old) }
+        requires limit { HasLimit (program_of code.now) (N.lent store.old) }
         requires some { 0 < units }
         ensures stands { (z : Ty) → Ready M.marking (program_of code.now) z (N.nodes store.old) self.old.state
             → StepStands M.marking (program_of code.now) z (N.nodes store.new) self.new.state result }
         ensures is { (z : Ty) (w : StateOf M.marking) (run : RunOf M.marking) → M.Follows (program_in code.now).types self.old.mode world.old (N.nodes store.old) w
             → WillRun M.marking (program_of code.now) z (N.nodes store.old) self.old.state w run
             → StepIs M.marking (program_of code.now) z M.cause (M.Follows (program_in code.now).types self.new.mode world.new (N.nodes store.new)) (N.nodes store.new) self.new.state result run }
+        ensures answers { M.Asks → Came M.May M.Last M.cause world.old world.new result (λ got. (z : Ty) (w : StateOf M.marking) (run : RunOf M.marking) (more : List M.Answer) → M.Expects self.old.mode w (got ++ more)
+            → WillRun M.marking (program_of code.now) z (N.nodes store.old) self.old.state w run
+            → StepIs M.marking (program_of code.now) z M.cause (λ after. M.Expects self.new.mode after more) (N.nodes store.new) self.new.state result run) }
         ensures few { OnGoes result (OpensFew (M.opened self.new.mode) (program_of code.now) self.new.state) }
         ensures calls { Slices units self.old.state self.new.state result }
         ensures in_hand { WorksInHand (program_of code.now) → StepPuts (N.nodes store.old) (N.nodes store.new) result }
@@ -232,10 +251,14 @@ impl<M: Mode> Machine<M> {
         requires ready { (z : Ty) × Ready M.marking (program_of code.now) z (N.nodes store.old) self.old.state }
         requires few { OpensFew (M.opened self.old.mode) (program_of code.now) self.old.state }
         requires knows { M.Knows (program_in code.now).types self.old.mode (N.nodes store.old) }
+        requires limit { HasLimit (program_of code.now) (N.lent store.old) }
         ensures stands { (z : Ty) → Ready M.marking (program_of code.now) z (N.nodes store.old) self.old.state → RunStands M.marking (program_of code.now) z (N.nodes store.new) result }
         ensures is { (z : Ty) (w : StateOf M.marking) (run : RunOf M.marking) → M.Follows (program_in code.now).types self.old.mode world.old (N.nodes store.old) w
             → WillRun M.marking (program_of code.now) z (N.nodes store.old) self.old.state w run
             → RunIs M.marking (program_of code.now) z M.cause (M.Follows (program_in code.now).types self.new.mode world.new (N.nodes store.new)) (N.nodes store.new) self.new.state result run }
+        ensures answers { M.Asks → Came M.May M.Last M.cause world.old world.new result (λ got. (z : Ty) (w : StateOf M.marking) (run : RunOf M.marking) (more : List M.Answer) → M.Expects self.old.mode w (got ++ more)
+            → WillRun M.marking (program_of code.now) z (N.nodes store.old) self.old.state w run
+            → RunIs M.marking (program_of code.now) z M.cause (λ after. M.Expects self.new.mode after more) (N.nodes store.new) self.new.state result run) }
         ensures in_hand { WorksInHand (program_of code.now) → RunPuts (N.nodes store.old) (N.nodes store.new) result }
         ensures keeps { Keeps (N.nodes store.old) (N.nodes store.new) }
         ensures lent { N.lent store.new ≡ N.lent store.old }

@@ -1,12 +1,12 @@
 // Modes: what `auth` and `unauth` do.
-ghost use Rattle.std.specs.Prelude.{◌≡◌, ℕ, suc, ◌<◌, ◌≤◌, ◌^◌, List, Option, IfOk, OnOk};
+ghost use Rattle.std.specs.Prelude.{◌≡◌, ◌++◌, ℕ, suc, ◌<◌, ◌≤◌, ◌^◌, List, Option, IfOk, OnOk};
 ghost use Rattle.core_terms.specs.ProgramTypes.{types_by_number, types_meaning};
 ghost use Rattle.core_terms.specs.Types.{AuthTy};
 ghost use Rattle.core_terms.specs.TypeTables.{type_at};
 ghost use Rattle.core_terms.specs.Values.{Value};
 ghost use Rattle.core_terms.specs.declared.program_types.Types.{Types as Typed};
 ghost use Rattle.value_store.specs.Nodes.{Node};
-ghost use Rattle.value_store.specs.Markings.{Marking};
+ghost use Rattle.value_store.specs.Markings.{HasLimit, Marking};
 ghost use Rattle.value_store.specs.Standing.{Keeps};
 
 use core_terms::{TyId, Types};
@@ -47,7 +47,7 @@ impl<T: Drop, F> From<AllocFailed<T>> for Stop<F> {
 /// What `auth` and `unauth` do.
 pub trait Mode: Drop {
     ghost use Rattle.mode_vm.specs.Meanings.{CauseOf, StateOf, mode_of};
-    ghost use Rattle.mode_vm.specs.Openings.{Counts, OnlyMemory, OpensAs, OpensSome, Stands};
+    ghost use Rattle.mode_vm.specs.Openings.{Came, Counts, OnlyMemory, OpensAs, OpensSome, Stands};
 
     /// Why the mode may stop a run.
     type Fault;
@@ -79,10 +79,25 @@ pub trait Mode: Drop {
     /// How a mode and its world may go on.
     ghost Moves: { Self → Self.World → Self → Self.World → Type 0 };
 
+    /// Whether the outside answers freely where a value is opened, so that no state of the definitions is known before it has.
+    ghost Asks: { Type 0 };
+
+    /// What it answers.
+    ghost Answer: { Type 0 };
+
+    /// It may give this answer, which is taken, and be so then.
+    ghost May: { Self.World → Answer → Self.World → Type 0 };
+
+    /// It may give this answer, for which the mode stops, and be so then.
+    ghost Last: { Self.World → Answer → Self.Fault → Self.World → Type 0 };
+
+    /// The definitions' state is one of the mode, to which these answers are still to come.
+    ghost Expects: { Self → StateOf marking → List Answer → Type 0 };
+
     /// How many values were opened.
     ghost opened: { Self → ℕ };
 
-    /// What the mode knows of the nodes, whatever comes.
+    /// What the mode knows of the types and of the nodes, whatever comes.
     ghost Knows: { Typed → Self → List Node → Type 0 };
 
     /// Makes the authenticated value of a value.
@@ -94,6 +109,7 @@ pub trait Mode: Drop {
         v: Ref,
     ) -> Result<Ref, Stop<Self::Fault>>
         requires stands { (x : Value) × Stands marking (types_meaning types.now) (N.nodes store.old) v.0 (type_at (types_by_number types.now) ty) x }
+        requires knows { Knows types.now self.old (N.nodes store.old) }
         ensures stands { IfOk result (λ r. (x : Value) → Stands marking (types_meaning types.now) (N.nodes store.old) v.0 (type_at (types_by_number types.now) ty) x
             → Stands marking (types_meaning types.now) (N.nodes store.new) r.0 (AuthTy (type_at (types_by_number types.now) ty))
             ((mode_of marking (types_meaning types.now)).auth (type_at (types_by_number types.now) ty) x)) }
@@ -114,10 +130,14 @@ pub trait Mode: Drop {
         requires stands { (x : Value) × Stands marking (types_meaning types.now) (N.nodes store.old) v.0 (AuthTy (type_at (types_by_number types.now) ty)) x }
         requires few { opened self.old < 2 ^ 63 }
         requires knows { Knows types.now self.old (N.nodes store.old) }
+        requires limit { HasLimit (types_meaning types.now) (N.lent store.old) }
         ensures some { OpensSome marking (types_meaning types.now) (N.nodes store.new) (type_at (types_by_number types.now) ty) result }
         ensures opens { (x : Value) (w : StateOf marking) → Stands marking (types_meaning types.now) (N.nodes store.old) v.0 (AuthTy (type_at (types_by_number types.now) ty)) x
             → Follows types.now self.old world.old (N.nodes store.old) w
             → OpensAs marking (types_meaning types.now) cause (Follows types.now self.new world.new (N.nodes store.new)) (N.nodes store.new) (type_at (types_by_number types.now) ty) x w result }
+        ensures answers { Asks → Came May Last cause world.old world.new result (λ got. (x : Value) (w : StateOf marking) (more : List Answer)
+            → Stands marking (types_meaning types.now) (N.nodes store.old) v.0 (AuthTy (type_at (types_by_number types.now) ty)) x → Expects self.old w (got ++ more)
+            → OpensAs marking (types_meaning types.now) cause (λ after. Expects self.new after more) (N.nodes store.new) (type_at (types_by_number types.now) ty) x w result) }
         ensures keeps { Keeps (N.nodes store.old) (N.nodes store.new) }
         ensures lent { N.lent store.new ≡ N.lent store.old }
         ensures faults { Counts cause Rose (faults world.old) (faults world.new) result }

@@ -5,6 +5,7 @@ ghost use Rattle.core_terms.specs.Terms.{Program as Meant};
 ghost use Rattle.core_terms.specs.Types.{Ty};
 ghost use Rattle.value_store.specs.Nodes.{Node};
 ghost use Rattle.value_store.specs.Markings.{Marking};
+ghost use Rattle.value_store.specs.Markings.{HasLimit};
 ghost use Rattle.value_store.specs.Standing.{Keeps};
 ghost use Rattle.code_gen.specs.Programs.{program_in};
 ghost use Rattle.code_gen.specs.Code.{code_at, generated};
@@ -219,6 +220,7 @@ impl State {
     ) -> Result<Step, AllocError>
         requires before { (m : Marking) × (z : Ty) × (cs : ValueStack) × Represents m (program_of code.now) z (N.nodes store.old) self.old cs
             × IsNext (instruction_of (types_of (program_in code.now)) instruction.now) cs.top }
+        requires limit { HasLimit (program_of code.now) (N.lent store.old) }
         requires plain { is_plain (instruction_of (types_of (program_in code.now)) instruction.now) ≡ true }
         requires entered { self.old.entered ≡ true }
         requires room { self.old.top.place + 1 < 2 ^ 64 }

@@ -1,18 +1,16 @@
 // The instructions on texts.
-ghost use Rattle.std.specs.Prelude.{◌≡◌, ◌+◌, ◌<◌, ◌^◌, ◌++◌, List, IfOk, length};
+ghost use Rattle.std.specs.Prelude.{◌≡◌, ◌+◌, ◌<◌, ◌^◌, ◌++◌, ℕ, List, IfOk, length};
 ghost use Rattle.code_gen.specs.Instructions as instruction;
 ghost use Rattle.core_terms.specs.Types.{Table, TextTy};
 ghost use Rattle.core_terms.specs.Values.{TextV, Value};
 ghost use Rattle.ideal_meaning.specs.Run as meant;
-ghost use Rattle.value_store.specs.Markings.{Marking};
-ghost use Rattle.value_store.specs.Nodes.{size_limit};
+ghost use Rattle.value_store.specs.Markings.{HasLimit, Marking};
 ghost use Rattle.value_store.specs.Standing.{Keeps, Kind};
 ghost use Rattle.mode_vm.specs.Operands.{IsHeld};
 ghost use Rattle.mode_vm.specs.Meanings.{program_of};
 ghost use Rattle.mode_vm.specs.Calculations.{Makes};
 
 use crate::frame::Frame;
-use crate::limits::SIZE_LIMIT;
 use crate::operand::Operand;
 use crate::values::text_in;
 use code_gen::Code;
@@ -51,6 +49,7 @@ impl Frame {
         store: &mut N,
     ) -> Result<Option<Trap>, AllocError>
         requires before { IsBefore (program_of code.now) (N.nodes store.old) self.old instruction.Cat }
+        requires limit { HasLimit (program_of code.now) (N.lent store.old) }
         requires room { self.old.place + 1 < 2 ^ 64 }
         ensures does { Does (program_of code.now) instruction.Cat (N.nodes store.old) (N.nodes store.new) self.old self.new result }
         ensures keeps { Keeps (N.nodes store.old) (N.nodes store.new) }
@@ -86,14 +85,14 @@ fn new_text<N: Nodes>(
 ) -> Result<Result<Operand, Trap>, AllocError>
     requires first { (kind : Kind) × (types : Table) × (v : Value) × IsHeld kind types (N.nodes store.old) first TextTy v }
     requires second { (kind : Kind) × (types : Table) × (v : Value) × IsHeld kind types (N.nodes store.old) second TextTy v }
-    ensures makes { (m : Marking) (kind : Kind) (types : Table) (x y : Value) → IsHeld kind types (N.nodes store.old) first TextTy x → IsHeld kind types (N.nodes store.old) second TextTy y
-        → IfOk result (Makes m kind types (N.nodes store.new) TextTy (meant.limited size_limit types TextTy (TextV (meant.text_in x ++ meant.text_in y)))) }
+    ensures makes { (limit : ℕ) → (N.lent store.old).limit ≡ limit → (m : Marking) (kind : Kind) (types : Table) (x y : Value) → IsHeld kind types (N.nodes store.old) first TextTy x → IsHeld kind types (N.nodes store.old) second TextTy y
+        → IfOk result (Makes m kind types (N.nodes store.new) TextTy (meant.limited limit types TextTy (TextV (meant.text_in x ++ meant.text_in y)))) }
     ensures keeps { Keeps (N.nodes store.old) (N.nodes store.new) }
     ensures lent { N.lent store.new ≡ N.lent store.old }
 {
     let x = text_in(store, first);
     let y = text_in(store, second);
-    if x.len() + y.len() > (SIZE_LIMIT - TEXT_LENGTH_SIZE) as usize {
+    if x.len() + y.len() > (store.limit() - TEXT_LENGTH_SIZE) as usize {
         return Ok(Err(Trap::TooBig));
     }
     let mut text = String::from_str(store.alloc(), x)?;

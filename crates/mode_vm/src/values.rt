@@ -1,8 +1,9 @@
 // The values of operands.
-ghost use Rattle.std.specs.Prelude.{◌≡◌};
-ghost use Rattle.core_terms.specs.Types.{BoolTy, IntTy, PairTy, Table, TextTy, Ty};
-ghost use Rattle.core_terms.specs.Values.{BoolV, IntV, PairV, TextV, Value};
-ghost use Rattle.value_store.specs.Standing.{Kind, StandsFor};
+ghost use Rattle.std.specs.Prelude.{◌≡◌, ℕ};
+ghost use Rattle.core_terms.specs.Types.{BoolTy, IntTy, PairTy, VecTy, Table, TextTy, Ty, item_types};
+ghost use Rattle.core_terms.specs.Values.{BoolV, IntV, ItemsV, PairV, TextV, Value, Values};
+ghost use Rattle.value_store.specs.CodeNodes.{numbers_of};
+ghost use Rattle.value_store.specs.Standing.{AllStandFor, Kind, StandsFor};
 ghost use Rattle.mode_vm.specs.Operands.{IsHeld};
 
 use crate::operand::{Operand, node_in};
@@ -57,6 +58,18 @@ pub(crate) fn parts_in<N: Nodes>(store: &N, operand: Operand) -> (Ref, Ref)
 {
     match store.view(node_in(operand)) {
         View::Pair(first, second) => (first, second),
+        _ => unreachable!(),
+    }
+}
+
+/// The nodes of the elements of an array.
+pub(crate) fn items_in<N: Nodes>(store: &N, operand: Operand) -> &[Ref]
+    requires { (kind : Kind) × (types : Table) × (n : ℕ) × (t : Ty) × (v : Value) × IsHeld kind types (N.nodes store.now) operand (VecTy n t) v }
+    ensures { (kind : Kind) (types : Table) (n : ℕ) (t : Ty) (v : Value) → IsHeld kind types (N.nodes store.now) operand (VecTy n t) v
+        → (vs : Values) × (v ≡ ItemsV vs) × AllStandFor kind types (N.nodes store.now) (numbers_of result.now) (item_types n t) vs }
+{
+    match store.view(node_in(operand)) {
+        View::Items(items) => items,
         _ => unreachable!(),
     }
 }

@@ -1,18 +1,44 @@
--- Lines of audits. Each equation holds by computing both sides.
-use Rattle.std.specs.Prelude.{◌≡◌, [], ◌∷◌, codes, refl}
+-- Lines of audits and of rejections. Each equation holds by computing both sides.
+use Rattle.std.specs.Prelude.{◌≡◌, [], ◌∷◌, Some, None, codes, refl}
 use Rattle.std.specs.Fmt.{digits}
 use Rattle.hex.specs.Hex.{encode_with}
-use Rattle.printed_lines.specs.Lines.{agrees_line, collision_line, out_line}
+use Rattle.ideal_meaning.specs.Checked.{Missing, Broken}
+use Rattle.ideal_meaning.specs.Wire.{AtEnd, IsCut, TooLong, BadMessage}
+use Rattle.printed_lines.specs.Lines.{agrees_line, collision_line, out_line, rejected_line}
 
 -- a piece that differs, and one without bytes
-pub both_pieces_are_told : collision_line 0 (0 ∷ 0 ∷ 0 ∷ 0 ∷ 0 ∷ 0 ∷ 2 ∷ 1 ∷ []) (0 ∷ 0 ∷ 0 ∷ 0 ∷ 0 ∷ 0 ∷ 1 ∷ 2 ∷ []) ≡ codes "collision 0 0000000000000201 0000000000000102\n"
+pub both_pieces_are_told : collision_line 0 (0 ∷ 0 ∷ 0 ∷ 0 ∷ 0 ∷ 0 ∷ 2 ∷ 1 ∷ []) (0 ∷ 0 ∷ 0 ∷ 0 ∷ 0 ∷ 0 ∷ 1 ∷ 2 ∷ []) None ≡ codes "collision 0 0000000000000201 0000000000000102\n"
 unfolding encode_with digits
 both_pieces_are_told = refl
 
-pub empty_piece_is_a_dash : collision_line 12 (0xAF ∷ []) [] ≡ codes "collision 12 af -\n"
+pub empty_piece_is_a_dash : collision_line 12 (0xAF ∷ []) [] None ≡ codes "collision 12 af -\n"
 unfolding encode_with digits
 empty_piece_is_a_dash = refl
+
+-- the fingerprint of a type, where digests tell it
+pub print_is_told_last : collision_line 1 [] (0xAF ∷ []) (Some (0x0B ∷ 0x1C ∷ [])) ≡ codes "collision 1 - af 0b1c\n"
+unfolding encode_with digits
+print_is_told_last = refl
 
 -- agreement is told before the line of the outcome
 pub agreement_is_told : agrees_line out_line ≡ codes "agrees out of fuel\n"
 agreement_is_told = refl
+
+-- a piece that isn't there is told by its digest, and an answer that isn't read as a reply that isn't
+pub missing_is_told : rejected_line (Missing 12 (0xAF ∷ [])) ≡ codes "rejected missing 12 af\n"
+unfolding encode_with digits
+missing_is_told = refl
+
+pub end_is_told : rejected_line (Broken 2 [] AtEnd) ≡ codes "reply ended\n"
+end_is_told = refl
+
+pub cut_is_told : rejected_line (Broken 2 [] IsCut) ≡ codes "reply cut\n"
+cut_is_told = refl
+
+pub length_is_told : rejected_line (Broken 2 [] (TooLong 16777217)) ≡ codes "message too long 16777217\n"
+unfolding digits
+length_is_told = refl
+
+pub bad_message_is_told : rejected_line (Broken 2 [] (BadMessage 134 1)) ≡ codes "bad message 134 1\n"
+unfolding digits
+bad_message_is_told = refl

@@ -1,11 +1,13 @@
 -- The texts of the lines that are printed. Numbers are decimal, digests 64 lower-case hexadecimal digits.
-use Rattle.std.specs.Prelude.{ℕ, List, [], ◌∷◌, ◌++◌, codes, decimal}
+use Rattle.std.specs.Prelude.{ℕ, List, [], ◌∷◌, ◌++◌, Option, Some, None, codes, decimal}
 use Rattle.hex.specs.Hex.{encode_lower}
 use Rattle.core_terms.specs.Types.{Ty, Table}
 use Rattle.core_terms.specs.Values.{Value}
-use Rattle.ideal_meaning.specs.Checked.{Cause, Short, Cut, BadKind, PieceLong, BadUse, WrongPiece, BadPiece, Header, Leftover}
-use Rattle.ideal_meaning.specs.Run.{Trap, Overflow, DivZero, TooBig, TooDeep}
+use Rattle.ideal_meaning.specs.Checked.{Cause, Short, Cut, BadKind, PieceLong, BadUse, WrongPiece, BadPiece, Header, Leftover, Missing, Broken}
+use Rattle.ideal_meaning.specs.Run.{Trap, Overflow, DivZero, TooBig, TooDeep, Index}
 use Rattle.ideal_meaning.specs.Told.{cause_told}
+use Rattle.ideal_meaning.specs.Wire.{Wire}
+use Rattle.ideal_meaning.specs.Wire as wire
 use Rattle.printed_syntax.specs.Literals.{ConstructorNames}
 use Rattle.printed_syntax.specs.PrintedValues.{printed}
 use Rattle.lexemes.specs.declared.fault.LexicalFault.{LexicalFault}
@@ -133,25 +135,46 @@ bad_use_text place k held = codes "bad-use" ++ (also place ++ (also k ++ also he
 abbrev pub wrong_piece_text : ℕ → List ℕ → List ℕ → List ℕ
 wrong_piece_text place want found = codes "wrong-piece" ++ (also place ++ (word want ++ word found))
 
--- why a proof is rejected: the cause and its numbers, a piece's place first
-abbrev pub cause_text : Cause → List ℕ
-cause_text Header = codes "header"
-cause_text (Short place) = codes "short" ++ also place
-cause_text (BadKind place byte) = codes "bad-kind" ++ also place ++ also byte
-cause_text (Cut place) = codes "cut" ++ also place
-cause_text (PieceLong place len) = codes "piece-long" ++ also place ++ also len
-cause_text (BadUse place k held) = bad_use_text place k held
-cause_text (WrongPiece place want found) = wrong_piece_text place (encode_lower want) (encode_lower found)
-cause_text (BadPiece place offset) = codes "bad-piece" ++ also place ++ also offset
-cause_text (Leftover bytes) = codes "leftover" ++ also bytes
-
 -- a line of two parts
 abbrev pub line_of : List ℕ → List ℕ → List ℕ
 line_of front text = front ++ text ++ codes "\n"
 
--- the line of a rejection
+-- why no message is read
+abbrev pub bad_message_line : (kind offset : ℕ) → List ℕ
+bad_message_line kind offset = line_of (codes "bad message") (also kind ++ also offset)
+
+abbrev pub long_message_line : ℕ → List ℕ
+long_message_line len = line_of (codes "message too long") (also len)
+
+abbrev pub cut_line : List ℕ
+cut_line = codes "reply cut\n"
+
+abbrev pub no_reply_line : List ℕ
+no_reply_line = codes "reply ended\n"
+
+abbrev pub wire_line : Wire → List ℕ
+wire_line wire.AtEnd = no_reply_line
+wire_line wire.IsCut = cut_line
+wire_line (wire.TooLong len) = long_message_line len
+wire_line (wire.BadMessage kind offset) = bad_message_line kind offset
+
+-- the line of a rejection for this reason
+abbrev pub reason_line : List ℕ → List ℕ
+reason_line reason = line_of (codes "rejected ") reason
+
+-- The line of a rejection: the cause and its numbers, a piece's place first. Where no answer is read, that of why.
 abbrev pub rejected_line : Cause → List ℕ
-rejected_line cause = line_of (codes "rejected ") (cause_text cause)
+rejected_line Header = reason_line (codes "header")
+rejected_line (Short place) = reason_line (codes "short" ++ also place)
+rejected_line (BadKind place byte) = reason_line (codes "bad-kind" ++ also place ++ also byte)
+rejected_line (Cut place) = reason_line (codes "cut" ++ also place)
+rejected_line (PieceLong place len) = reason_line (codes "piece-long" ++ also place ++ also len)
+rejected_line (BadUse place k held) = reason_line (bad_use_text place k held)
+rejected_line (WrongPiece place want found) = reason_line (wrong_piece_text place (encode_lower want) (encode_lower found))
+rejected_line (BadPiece place offset) = reason_line (codes "bad-piece" ++ also place ++ also offset)
+rejected_line (Leftover bytes) = reason_line (codes "leftover" ++ also bytes)
+rejected_line (Missing place want) = reason_line (codes "missing" ++ (also place ++ word (encode_lower want)))
+rejected_line (Broken place want why) = wire_line why
 
 -- the line of a refusal
 abbrev pub program_line : ProgramKind → ℕ → ℕ → List ℕ
@@ -168,6 +191,7 @@ trap_name Overflow = codes "overflow"
 trap_name DivZero = codes "divzero"
 trap_name TooBig = codes "toobig"
 trap_name TooDeep = codes "toodeep"
+trap_name Index = codes "index"
 
 abbrev pub trap_line : Trap → List ℕ
 trap_line trap = codes "trap " ++ trap_name trap ++ codes "\n"
@@ -209,9 +233,15 @@ abbrev pub piece_text : List ℕ → List ℕ
 piece_text [] = codes "-"
 piece_text (b ∷ bytes) = encode_lower (b ∷ bytes)
 
--- the line of a collision: the number of the piece, what the proof offers and what an honest prover writes
-abbrev pub collision_line : (place : ℕ) (offered honest : List ℕ) → List ℕ
-collision_line place offered honest = line_of (codes "collision") (also place ++ (word (piece_text offered) ++ word (piece_text honest)))
+-- the fingerprint of a type, where digests tell it
+abbrev pub print_text : Option (List ℕ) → List ℕ
+print_text (Some print) = word (encode_lower print)
+print_text None = []
+
+-- The line of a collision: the number of the piece, what the proof offers and what an honest prover writes, and the fingerprint that
+-- stands before both where they are digested
+abbrev pub collision_line : (place : ℕ) (offered honest : List ℕ) (print : Option (List ℕ)) → List ℕ
+collision_line place offered honest print = line_of (codes "collision") (also place ++ (word (piece_text offered) ++ (word (piece_text honest) ++ print_text print)))
 
 -- the line of an audit that agrees on an outcome, behind which the outcome's line stands
 abbrev pub agrees_line : List ℕ → List ℕ

@@ -33,16 +33,3 @@ wrong_reply_line session kind = line_of (codes "bad reply") (also session ++ (co
 -- the end of all sessions, with its cause
 abbrev pub server_closed_line : ℕ → List ℕ
 server_closed_line cause = line_of (codes "server closed") (also cause)
-
--- why no more replies are read
-abbrev pub bad_message_line : (kind offset : ℕ) → List ℕ
-bad_message_line kind offset = line_of (codes "bad message") (also kind ++ also offset)
-
-abbrev pub long_message_line : ℕ → List ℕ
-long_message_line len = line_of (codes "message too long") (also len)
-
-abbrev pub cut_line : List ℕ
-cut_line = codes "reply cut\n"
-
-abbrev pub no_reply_line : List ℕ
-no_reply_line = codes "reply ended\n"

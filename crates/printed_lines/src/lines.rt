@@ -1,11 +1,12 @@
 // The lines of outcomes and refusals.
 
-ghost use Rattle.std.specs.Prelude.{◌≡◌, ◌<◌, ◌^◌, ◌++◌, length, IfOk, string_bytes};
+ghost use Rattle.std.specs.Prelude.{◌≡◌, ◌<◌, ◌^◌, ◌++◌, length, option_map, IfOk, string_bytes};
 ghost use Rattle.hex.specs.Hex.{encode_lower};
 ghost use Rattle.core_terms.specs.Programs.{constructor_names, meaning, types_of};
 ghost use Rattle.core_terms.specs.Spelling.{spelling};
 ghost use Rattle.core_terms.specs.TypeTables.{type_at};
 ghost use Rattle.core_terms.specs.Values.{IsShallow, Value};
+ghost use Rattle.core_terms.specs.declared.digest.Digest.{Digest};
 ghost use Rattle.ideal_meaning.specs.Told.{cause_told, trap_told};
 ghost use Rattle.printed_lines.specs.Lines as def;
 
@@ -90,7 +91,7 @@ fn image_text(alloc: Global, kind: ImageKind) -> Result<String, AllocError>
 
 /// Why a proof is rejected.
 fn cause_text(alloc: Global, cause: Cause) -> Result<String, AllocError>
-    ensures { IfOk result (λ text. string_bytes text ≡ def.cause_text (cause_told cause)) }
+    ensures { IfOk result (λ text. def.reason_line (string_bytes text) ≡ def.rejected_line (cause_told cause)) }
 {
     match cause {
         Cause::Header => format!(in alloc; "header"),
@@ -229,18 +230,20 @@ fn proofs_text(alloc: Global, fresh: u128, again: u128, bytes: u128) -> Result<S
 }
 
 /// The line of a collision: the number of the piece, what the proof offers and what an honest prover writes, each in lower-case
-/// hexadecimal digits, or a dash where it has no bytes.
+/// hexadecimal digits, or a dash where it has no bytes. Then the fingerprint of the pieces' type, where digests tell it.
 pub fn collision_line(
     alloc: Global,
     place: u64,
     offered: &[u8],
     honest: &[u8],
+    print: Option<Digest>,
 ) -> Result<Vec<u8>, AllocError>
-    ensures { IfOk result (λ line. line.items ≡ def.collision_line place offered.now honest.now) }
+    ensures { IfOk result (λ line. line.items ≡ def.collision_line place offered.now honest.now (option_map (λ (digest : Digest). digest.0) print)) }
 {
     let offered = piece_text(alloc, offered)?;
     let honest = piece_text(alloc, honest)?;
-    let text = pieces_text(alloc, place, &offered, &honest)?;
+    let print = print_text(alloc, print)?;
+    let text = pieces_text(alloc, place, &offered, &honest, &print)?;
     between(alloc, b"collision", text.as_bytes())
 }
 
@@ -254,11 +257,28 @@ fn piece_text(alloc: Global, bytes: &[u8]) -> Result<String, AllocError>
     hex::encode(alloc, bytes)
 }
 
-/// A place and two pieces as texts, each behind a blank.
-fn pieces_text(alloc: Global, place: u64, offered: &str, honest: &str) -> Result<String, AllocError>
-    ensures { IfOk result (λ text. string_bytes text ≡ def.also place ++ (def.word offered.now ++ def.word honest.now)) }
+/// The hexadecimal digits of a fingerprint behind a blank, where there is one.
+fn print_text(alloc: Global, print: Option<Digest>) -> Result<String, AllocError>
+    ensures { IfOk result (λ text. string_bytes text ≡ def.print_text (option_map (λ (digest : Digest). digest.0) print)) }
 {
-    format!(in alloc; " {place} {offered} {honest}")
+    let Some(print) = print else {
+        return Ok(String::new(alloc));
+    };
+    let digits = hex::encode(alloc, &print.0)?;
+    format!(in alloc; " {digits}")
+}
+
+/// A place and two pieces as texts, each behind a blank, and what stands behind them.
+fn pieces_text(
+    alloc: Global,
+    place: u64,
+    offered: &str,
+    honest: &str,
+    print: &str,
+) -> Result<String, AllocError>
+    ensures { IfOk result (λ text. string_bytes text ≡ def.also place ++ (def.word offered.now ++ (def.word honest.now ++ print.now))) }
+{
+    format!(in alloc; " {place} {offered} {honest}{print}")
 }
 
 /// The line of an audit that agrees on an outcome, whose own line is this one.
@@ -289,6 +309,7 @@ pub fn trap_line(trap: Trap) -> &'static str
         Trap::DivZero => "trap divzero\n",
         Trap::TooBig => "trap toobig\n",
         Trap::TooDeep => "trap toodeep\n",
+        Trap::Index => "trap index\n",
     }
 }
 

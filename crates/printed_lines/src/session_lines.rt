@@ -120,7 +120,7 @@ pub fn server_closed_line(alloc: Global, cause: u8) -> Result<Vec<u8>, AllocErro
 
 /// The line of a message that is no reply: its kind, and the offset of its first fault.
 pub fn bad_message_line(alloc: Global, kind: u8, offset: u32) -> Result<Vec<u8>, AllocError>
-    ensures { IfOk result (λ line. line.items ≡ def.bad_message_line kind offset) }
+    ensures { IfOk result (λ line. line.items ≡ parts.bad_message_line kind offset) }
 {
     let text = message_text(alloc, kind, offset)?;
     between(alloc, b"bad message", text.as_bytes())
@@ -135,7 +135,7 @@ fn message_text(alloc: Global, kind: u8, offset: u32) -> Result<String, AllocErr
 
 /// The line of a message whose length field says this, which is too much.
 pub fn long_message_line(alloc: Global, len: u32) -> Result<Vec<u8>, AllocError>
-    ensures { IfOk result (λ line. line.items ≡ def.long_message_line len) }
+    ensures { IfOk result (λ line. line.items ≡ parts.long_message_line len) }
 {
     let text = length_text(alloc, len)?;
     between(alloc, b"message too long", text.as_bytes())
@@ -150,14 +150,14 @@ fn length_text(alloc: Global, len: u32) -> Result<String, AllocError>
 
 /// The line of an input that ends inside a reply.
 pub fn cut_line() -> &'static str
-    ensures { result.now ≡ def.cut_line }
+    ensures { result.now ≡ parts.cut_line }
 {
     "reply cut\n"
 }
 
 /// The line of an input that ends where a reply is waited for.
 pub fn no_reply_line() -> &'static str
-    ensures { result.now ≡ def.no_reply_line }
+    ensures { result.now ≡ parts.no_reply_line }
 {
     "reply ended\n"
 }

@@ -4,9 +4,9 @@ pub mod TreeTokens
 pub mod PrintedForms
 -- printing::leaves::push_quoted
 pub mod PrintedTexts
--- printing::leaves and printing; PairDepths has the measure of its cycle
+-- printing::leaves and printing; Composites has the measure of its cycle
 pub mod PrintedFronts
-pub mod PairDepths
+pub mod Composites
 -- the laws printed_is_read_back and parsed_is_read_back of programs
 mod PrintedTokens
 mod BeginAnywhere

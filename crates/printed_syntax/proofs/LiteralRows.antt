@@ -3,7 +3,7 @@ use Rattle.std.proofs.Common.{◌≡◌, ℕ, List, [], ◌∷◌, refl}
 use Rattle.std.specs.Prelude.{true, false, codes, negsuc}
 use Rattle.std.specs.Str.{is_utf8, chars}
 use lib.Utf8.{encode}
-use Rattle.core_terms.specs.Types.{Ty, UnitTy, BoolTy, IntTy, TextTy, PairTy, NamedTy, AuthTy, Table}
+use Rattle.core_terms.specs.Types.{Ty, UnitTy, BoolTy, IntTy, TextTy, PairTy, NamedTy, AuthTy, VecTy, Table}
 use Rattle.core_terms.specs.Values.{Value, UnitV, BoolV, IntV, TextV, PairV, ConV, NoV, AndV}
 use Rattle.lexemes.specs.Tokens.{tokens}
 use Rattle.printed_syntax.specs.Literals.{ConstructorNames, Literal, IsValue, FirstFault, literal_of, whole_literal}
@@ -60,6 +60,15 @@ authenticated_second = refl
 authenticated_field : literal_within (NamedTy 1) (codes "Leaf(true)") ≡ FirstFault Mismatch 5
 unfolding literal_within types names
 authenticated_field = refl
+
+-- nor has an array
+array : literal_within (VecTy 1 UnitTy) (codes "()") ≡ FirstFault Mismatch 0
+unfolding literal_within
+array = refl
+
+array_second : literal_within (PairTy BoolTy (VecTy 1 BoolTy)) (codes "(true, true)") ≡ FirstFault Mismatch 7
+unfolding literal_within
+array_second = refl
 
 -- parentheses without fields, a constructor of another type, and a token too many
 no_parentheses : literal_within (NamedTy 0) (codes "Leaf()") ≡ FirstFault Mismatch 4

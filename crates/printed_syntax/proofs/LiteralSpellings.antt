@@ -1,7 +1,12 @@
 -- The spelling of what is read of a literal, from part to part.
-use Rattle.std.proofs.Common.{◌≡◌, ◌≢◌, ℕ, zero, suc, ◌-◌, ◌∙◌, List, [], ◌∷◌, ◌++◌, Some, None, Result, Ok, Err, bytes_eq, option_map, if◌then◌else◌, refl, ap, ap₂, sym, subst, arith, append_assoc, append-nil}
+use Rattle.std.proofs.Common.{◌≡◌, ◌≢◌, ◌⊎◌, inl, inr, ℕ, zero, suc, ◌-◌, ◌∙◌, List, [], ◌∷◌, ◌++◌, Some, None, Result, Ok, Err, bytes_eq, option_map, if◌then◌else◌, refl, ap, ap₂, sym, subst, arith, append_assoc, append-nil}
 use Rattle.std.specs.List.{position}
-use Rattle.core_terms.specs.Types.{Ty, Table, fields_at}
+use Rattle.core_terms.specs.Types.{Ty, AuthTy, VecTy, Table, fields_at}
+use Rattle.core_terms.specs.TypeTables.{type_at, type_of_form}
+use Rattle.core_terms.specs.Programs.{types_of}
+use Rattle.core_terms.specs.declared.types.TyForm.{TyForm}
+use Rattle.core_terms.specs.declared.types.TyForm.TheVariants.{AuthForm, VecForm}
+use Rattle.core_terms.specs.declared.types.TyId.{TyId}
 use Rattle.core_terms.specs.Values.{Value, UnitV, ConV, Values, AndV}
 use Rattle.core_terms.specs.Spelling.{spelling, spellings}
 use Rattle.core_terms.specs.declared.program.Program.{Program}
@@ -13,7 +18,7 @@ use Rattle.printed_syntax.specs.declared.fault.LiteralKind.TheVariants.{Mismatch
 use Rattle.lexemes.specs.declared.place.Place.{Place}
 use Rattle.lexemes.specs.declared.token.Mark.TheVariants.{LeftParenthesis, RightParenthesis, Comma}
 use Rattle.lexemes.specs.Tokens.{UpperToken, Tokens, Next}
-use Rattle.printed_syntax.specs.Literals.{ConstructorNames, LiteralReading, Means, FaultAt, then_means, behind_mark, pair_literal, more_fields, fields_literal, number_of_name, constructor_with, constructor_named, constructor_literal, too_deep}
+use Rattle.printed_syntax.specs.Literals.{ConstructorNames, LiteralReading, Means, FaultAt, then_means, behind_mark, pair_literal, more_fields, fields_literal, number_of_name, constructor_with, constructor_named, constructor_literal, mismatch, too_deep}
 use Rattle.printed_syntax.specs.LiteralSteps.{ReadsPart, literal_on, spelled}
 
 -- where each value that may be read goes on as here, so does what is read, spelled
@@ -162,6 +167,14 @@ level_is (suc n) some = ap suc (less_one n)
 pub at_level : (program : Program) (levels : ℕ) (t u : Ty) (tokens : Tokens) → levels ≢ 0 → u ≡ t
     → literal_on program (suc (levels - 1)) u tokens ≡ literal_on program levels t tokens
 at_level program levels t u tokens some same = ap₂ (λ n t. literal_on program n t tokens) (sym (level_is levels some)) same
+
+-- the same at a type whose values have no literals
+pub at_no_literal : (program : Program) (levels : ℕ) (t : Ty) (form : TyForm) (tokens : Tokens) → levels ≢ 0 → type_of_form (types_of program) form ≡ t
+    → ((inner : TyId) × (form ≡ AuthForm inner)) ⊎ ((n : ℕ) × (item : TyId) × (form ≡ VecForm n item)) → mismatch tokens ≡ literal_on program levels t tokens
+at_no_literal program levels t form tokens some of_form (inl (inner, is)) =
+    at_level program levels t (AuthTy (type_at (types_of program) inner)) tokens some (ap (type_of_form (types_of program)) (sym is) ∙ of_form)
+at_no_literal program levels t form tokens some of_form (inr (n, item, is)) =
+    at_level program levels t (VecTy n (type_at (types_of program) item)) tokens some (ap (type_of_form (types_of program)) (sym is) ∙ of_form)
 
 -- with no level left a value is refused
 pub on_no_level : (program : Program) (t : Ty) (before : List ℕ) (tokens rest : Tokens) (result : Result (Unit {0}) SyntaxFault) (levels : ℕ) → levels ≡ 0

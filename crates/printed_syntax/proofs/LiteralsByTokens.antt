@@ -4,9 +4,9 @@ use Rattle.std.specs.Prelude.{nat_le}
 use Rattle.std.specs.Bool.{Decides}
 use Rattle.std.proofs.lemmas.Slice.Eq.{bytes_eq-Decides}
 use Rattle.std.proofs.lemmas.Bool.{leb-true, leb-false, le-leb, lt-leb}
-use Rattle.core_terms.specs.Types.{Ty, UnitTy, BoolTy, IntTy, TextTy, PairTy, NamedTy, AuthTy, Table, fields_at}
+use Rattle.core_terms.specs.Types.{Ty, UnitTy, BoolTy, IntTy, TextTy, PairTy, NamedTy, AuthTy, VecTy, Table, fields_at}
 use Rattle.core_terms.specs.Formats.{depth_limit}
-use Rattle.core_terms.specs.Values.{Value, UnitV, BoolV, IntV, TextV, PairV, ConV, DigestV, Values, NoV, AndV, size}
+use Rattle.core_terms.specs.Values.{Value, UnitV, BoolV, IntV, TextV, PairV, ConV, DigestV, ItemsV, Values, NoV, AndV, size}
 use Rattle.lexemes.specs.Tokens.{KeywordToken, UpperToken, IntToken, TextToken, Tokens, Next, End, Faulty, tokens}
 use Rattle.lexemes.specs.declared.place.Place.{Place}
 use Rattle.lexemes.specs.declared.token.Keyword.{Keyword}
@@ -149,6 +149,7 @@ module _ (types : Table) (names : ConstructorNames) where
   bool_passes levels before (PairV x y) after h = absurd h
   bool_passes levels before (ConV tag vs) after h = absurd h
   bool_passes levels before (DigestV bytes) after h = absurd h
+  bool_passes levels before (ItemsV vs) after h = absurd h
 
   word_judged : (levels : ℕ) (at : Place) (rest : Tokens) (keyword : Keyword)
       → Judges (Literally (suc levels) BoolTy (Next at (KeywordToken keyword) rest)) (IsUnfit (Next at (KeywordToken keyword) rest)) (bool_literal (Next at (KeywordToken keyword) rest))
@@ -170,6 +171,7 @@ module _ (types : Table) (names : ConstructorNames) where
   int_passes levels before (PairV x y) after h = absurd h
   int_passes levels before (ConV tag vs) after h = absurd h
   int_passes levels before (DigestV bytes) after h = absurd h
+  int_passes levels before (ItemsV vs) after h = absurd h
 
   int_judged : (levels : ℕ) (before : Tokens) → Judges (Literally (suc levels) IntTy before) (IsUnfit before) (int_literal before)
   int_judged levels (Next at (IntToken z) rest) = (at, refl)
@@ -185,6 +187,7 @@ module _ (types : Table) (names : ConstructorNames) where
   text_passes levels before (PairV x y) after h = absurd h
   text_passes levels before (ConV tag vs) after h = absurd h
   text_passes levels before (DigestV bytes) after h = absurd h
+  text_passes levels before (ItemsV vs) after h = absurd h
 
   text_judged : (levels : ℕ) (before : Tokens) → Judges (Literally (suc levels) TextTy before) (IsUnfit before) (text_literal before)
   text_judged levels (Next at (TextToken bytes) rest) = (at, refl)
@@ -196,6 +199,11 @@ module _ (types : Table) (names : ConstructorNames) where
   none_authenticated levels t (Next at token rest) = (refl, refl)
   none_authenticated levels t (End at) = (refl, refl)
   none_authenticated levels t (Faulty at kind) = (refl, refl)
+
+  no_array : (levels n : ℕ) (t : Ty) (before : Tokens) → Judges (Literally (suc levels) (VecTy n t) before) (IsUnfit before) (mismatch before)
+  no_array levels n t (Next at token rest) = (refl, refl)
+  no_array levels n t (End at) = (refl, refl)
+  no_array levels n t (Faulty at kind) = (refl, refl)
 
   -- types whose literals have parts, where the literals of the parts are by the rules
   module _ (levels : ℕ) (each : (t : Ty) (before : Tokens) → LiteralRuled levels t before (literal_of types names levels t before)) where
@@ -233,6 +241,7 @@ module _ (types : Table) (names : ConstructorNames) where
         unit_passes (PairV x y) after h = absurd h
         unit_passes (ConV tag vs) after h = absurd h
         unit_passes (DigestV bytes) after h = absurd h
+        unit_passes (ItemsV vs) after h = absurd h
 
     abbrev paired : Values → Value
     paired (AndV x (AndV y vs)) = PairV x y
@@ -266,6 +275,7 @@ module _ (types : Table) (names : ConstructorNames) where
         pair_passes (TextV bytes) after h = absurd h
         pair_passes (ConV tag vs) after h = absurd h
         pair_passes (DigestV bytes) after h = absurd h
+        pair_passes (ItemsV vs) after h = absurd h
 
     abbrev behind_head : Head → Tokens → LiteralReading Value
     behind_head h tokens = row one (field_parts h.of) (λ vs tokens. Means (ConV h.tag vs) tokens) tokens
@@ -301,6 +311,7 @@ module _ (types : Table) (names : ConstructorNames) where
     named_passes number before (TextV bytes) after h = absurd h
     named_passes number before (PairV x y) after h = absurd h
     named_passes number before (DigestV bytes) after h = absurd h
+    named_passes number before (ItemsV vs) after h = absurd h
 
     named_tells : (number : ℕ) (before : Tokens) (kind : LiteralKind) (offset : ℕ) → BreaksLiteral types names (suc levels) (NamedTy number) before kind offset
         → then_means (head number before) behind_head ≡ FaultAt kind offset
@@ -325,6 +336,8 @@ module _ (types : Table) (names : ConstructorNames) where
   literal_ruled (suc levels) (NamedTy number) before = named_ruled levels (literal_ruled levels) number before
   literal_ruled (suc levels) (AuthTy t) before =
       head_ruled (Literally (suc levels) (AuthTy t) before) before (mismatch before) (λ v after h. absurd h) (none_authenticated levels t before)
+  literal_ruled (suc levels) (VecTy n t) before =
+      head_ruled (Literally (suc levels) (VecTy n t) before) before (mismatch before) (λ v after h. absurd h) (no_array levels n t before)
 
 -- the whole of some tokens
 module _ (limit : ℕ) (types : Table) (names : ConstructorNames) (t : Ty) where

@@ -1,7 +1,7 @@
 -- The value of a literal is one of its type, and is read back from its spelling.
 use Rattle.std.proofs.Common.{◌≡◌, ℕ, zero, suc, ◌+◌, ◌<◌, ◌≤◌, ◌^◌, Bool, true, false, List, [], ◌∷◌, Option, Some, None, unwrap_or, refl, sym, subst, arith, cond, leb-true}
 use Rattle.std.specs.Prelude.{nat_le}
-use Rattle.core_terms.specs.Types.{Ty, UnitTy, BoolTy, IntTy, TextTy, PairTy, NamedTy, AuthTy, Table, fields_at, OnFields}
+use Rattle.core_terms.specs.Types.{Ty, UnitTy, BoolTy, IntTy, TextTy, PairTy, NamedTy, AuthTy, VecTy, Table, fields_at, OnFields}
 use Rattle.core_terms.specs.Formats.{depth_limit}
 use Rattle.core_terms.specs.Values.{Value, PairV, ConV, Values, NoV, AndV, IsIdeal, AreIdeal, IsShallow, AreShallow, size, depth, depths}
 use Rattle.core_terms.specs.Spelling.{spelling}
@@ -159,6 +159,7 @@ module _ (types : Table) where
   literal_gives names (suc levels) (NamedTy number) tokens h =
       constructor_literal_gives levels (literal_of types names levels) (literal_gives names levels) names number tokens h
   literal_gives names (suc levels) (AuthTy t) tokens h = mismatch_gives (IsOf (suc levels) (AuthTy t)) tokens
+  literal_gives names (suc levels) (VecTy n t) tokens h = mismatch_gives (IsOf (suc levels) (VecTy n t)) tokens
 
 -- the value that the tokens of a text begin with is a shallow one of the type
 pub literal_is_shallow : (types : Table) (names : ConstructorNames) (t : Ty) (text : List ℕ) (v : Value) (rest : Tokens)

@@ -1,11 +1,11 @@
 -- What is printed of bytes that begin with a spelling, by the type.
 use Rattle.std.proofs.Common.{◌≡◌, ℕ, ◌+◌, ◌<◌, ◌≤◌, ℤ, Bool, true, List, [], ◌∷◌, ◌++◌, length, take, drop, get_or, codes, slice_index_or, refl, sym, ap, subst, ◌∙◌, arith, append_assoc, append-nil, length-take-le}
-use Rattle.std.proofs.lemmas.List.{length-map, take_more, map-append}
+use Rattle.std.proofs.lemmas.List.{length-map, length-replicate, take_more, map-append, replicate_more}
 use Rattle.std.proofs.Math.Seq.{take-append_seam, drop-append_seam}
 use Rattle.std.specs.Fmt.{signed_decimal}
 use Rattle.hex.specs.Hex.{encode_lower}
-use Rattle.core_terms.specs.Types.{Ty, BoolTy, IntTy}
-use Rattle.core_terms.specs.Values.{Value, BoolV, IntV, DigestV, Values, NoV, AndV, IsShallow, AreShallow, int_fits}
+use Rattle.core_terms.specs.Types.{Ty, BoolTy, IntTy, VecTy, item_types}
+use Rattle.core_terms.specs.Values.{Value, BoolV, IntV, DigestV, ItemsV, Values, NoV, AndV, IsShallow, AreShallow, int_fits}
 use Rattle.core_terms.specs.Spelling.{spelling, spellings}
 use Rattle.core_terms.specs.Programs.{meaning, types_of}
 use Rattle.core_terms.specs.ProgramTrees.{types_at}
@@ -83,15 +83,16 @@ pub none_printed : (p : Program) (bytes before : List ℕ) → ArePrinted p [] b
 none_printed p bytes before NoV shapes small behind is = (sym (append-nil before), is)
 none_printed p bytes before vs shapes small behind is = elim shapes [ ]
 
--- with one more
-pub more_printed : (p : Program) (ts : List Ty) (t : Ty) (bytes before text left text' left' : List ℕ) → length left ≤ length bytes
-    → ArePrinted p ts bytes before text left → IsPrinted p t left (text ++ comma_before (length ts)) text' left' → ArePrinted p (ts ++ t ∷ []) bytes before text' left'
-more_printed p ts t bytes before text left text' left' shorter so_far here vs shapes small behind is =
+-- with one more, behind what stands before it
+more_printed : (p : Program) (ts : List Ty) (t : Ty) (i : ℕ) (bytes before text left comma text' left' : List ℕ) → length ts ≡ i → comma ≡ text ++ comma_before i
+    → length left ≤ length bytes → ArePrinted p ts bytes before text left → IsPrinted p t left comma text' left' → ArePrinted p (ts ++ t ∷ []) bytes before text' left'
+more_printed p ts t i bytes before text left comma text' left' long added shorter so_far here vs shapes small behind is =
     let parts = parted p t ts vs shapes in
     let front = so_far parts.before parts.shapes small (spelling parts.last ++ behind)
     (is ∙ ap (λ xs. xs ++ behind) parts.spelled ∙ append_assoc (spellings parts.before) (spelling parts.last) behind) in
+    let comma_added = added ∙ ap (λ n. text ++ comma_before n) (sym long) in
     let next = here parts.last parts.shape (omega (arith, small, shorter)) behind front.1 in
-    (rw (next.0, front.0, parts.texts) simp append_assoc, next.1)
+    (rw (next.0, comma_added, front.0, parts.texts) simp append_assoc, next.1)
 
 -- with a field more, of fields by number
 pub field_more : (p : Program) (fields : List TyId) (i : ℕ) (field : TyId) (bytes before text left text' left' comma : List ℕ) → i < length fields
@@ -104,5 +105,19 @@ field_more p fields i field bytes before text left text' left' comma within is a
     ap (λ ids. types_at types ids) (take_more fields i (record { 0 = 0 }) within) ∙ map-append (type_at types) (take i fields) (get_or fields i (record { 0 = 0 }) ∷ [])
     ∙ ap (λ id. types_at types (take i fields) ++ type_at types id ∷ []) (sym is) in
     let long : length (types_at types (take i fields)) ≡ i = length-map (take i fields) (type_at types) ∙ length-take-le i fields (omega (arith, within)) in
-    rw one_more (more_printed p (types_at types (take i fields)) (type_at types field) bytes before text left text' left' shorter so_far
-    (subst (λ xs. IsPrinted p (type_at types field) left xs text' left') (added ∙ ap (λ n. text ++ comma_before n) (sym long)) here))
+    rw one_more (more_printed p (types_at types (take i fields)) (type_at types field) i bytes before text left comma text' left' long added shorter so_far here)
+
+-- with an element more
+pub item_more : (p : Program) (t : Ty) (i : ℕ) (bytes before text left text' left' comma : List ℕ) → comma ≡ text ++ comma_before i → length left ≤ length bytes
+    → ArePrinted p (item_types i t) bytes before text left → IsPrinted p t left comma text' left' → ArePrinted p (item_types (i + 1) t) bytes before text' left'
+item_more p t i bytes before text left text' left' comma added shorter so_far here =
+    subst (λ ts. ArePrinted p ts bytes before text' left') (replicate_more i t)
+    (more_printed p (item_types i t) t i bytes before text left comma text' left' (length-replicate i t) added shorter so_far here)
+
+-- an array, whose elements stand between brackets
+pub items_printed : (p : Program) (n : ℕ) (t : Ty) (bytes before text left closed : List ℕ) → closed ≡ text ++ codes "]"
+    → ArePrinted p (item_types n t) bytes (before ++ codes "[") text left → IsPrinted p (VecTy n t) bytes before closed left
+items_printed p n t bytes before text left closed ended elements (ItemsV vs) shape small behind is =
+    let taken = elements vs shape small behind is in
+    (rw (ended, taken.0) simp append_assoc, taken.1)
+items_printed p n t bytes before text left closed ended elements v shape small behind is = elim shape [ ]

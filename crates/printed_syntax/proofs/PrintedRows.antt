@@ -4,8 +4,8 @@ use Rattle.std.specs.Prelude.{ℕ, true, false, List, [], ◌∷◌, ◌++◌, c
 use Rattle.std.specs.Fmt.{digits}
 use Rattle.std.specs.List.{repeat}
 use Rattle.hex.specs.Hex.{encode_with}
-use Rattle.core_terms.specs.Types.{Ty, UnitTy, BoolTy, IntTy, TextTy, PairTy, NamedTy, AuthTy, Table}
-use Rattle.core_terms.specs.Values.{Value, UnitV, BoolV, IntV, TextV, PairV, ConV, DigestV, NoV, AndV}
+use Rattle.core_terms.specs.Types.{Ty, UnitTy, BoolTy, IntTy, TextTy, PairTy, NamedTy, AuthTy, VecTy, Table}
+use Rattle.core_terms.specs.Values.{Value, UnitV, BoolV, IntV, TextV, PairV, ConV, DigestV, ItemsV, NoV, AndV}
 use Rattle.printed_syntax.specs.Literals.{ConstructorNames}
 use Rattle.printed_syntax.specs.PrintedValues.{printed}
 
@@ -68,3 +68,27 @@ no_fields = refl
 fields : printed trees tree_names (NamedTy 0) (ConV 1 (AndV (ConV 0 NoV) (AndV (TextV (codes "b")) (AndV (ConV 0 NoV) NoV)))) ≡ codes "Node(Leaf, \"b\", Leaf)"
 unfolding trees tree_names
 fields = refl
+
+array : text_of (VecTy 2 IntTy) (ItemsV (AndV (IntV (pos 7)) (AndV (IntV (negsuc 0)) NoV))) ≡ codes "[7, -1]"
+unfolding digits
+array = refl
+
+array_of_one : text_of (VecTy 1 BoolTy) (ItemsV (AndV (BoolV true) NoV)) ≡ codes "[true]"
+array_of_one = refl
+
+-- elements that are spelled by nothing are printed all the same
+blanks : Value
+blanks = ItemsV (AndV UnitV (AndV UnitV NoV))
+
+array_of_blanks : text_of (VecTy 2 UnitTy) blanks ≡ codes "[(), ()]"
+unfolding blanks
+array_of_blanks = refl
+
+array_of_arrays : text_of (VecTy 2 (VecTy 2 UnitTy)) (ItemsV (AndV blanks (AndV blanks NoV))) ≡ codes "[[(), ()], [(), ()]]"
+unfolding blanks
+array_of_arrays = refl
+
+array_of_constructors : printed trees tree_names (VecTy 2 (NamedTy 0)) (ItemsV (AndV (ConV 0 NoV) (AndV (ConV 1 (AndV (ConV 0 NoV) (AndV (TextV (codes "b")) (AndV (ConV 0 NoV) NoV)))) NoV)))
+    ≡ codes "[Leaf, Node(Leaf, \"b\", Leaf)]"
+unfolding trees tree_names
+array_of_constructors = refl

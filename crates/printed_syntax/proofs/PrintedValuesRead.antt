@@ -3,9 +3,9 @@ use Rattle.std.proofs.Common.{◌≡◌, ℕ, zero, suc, ◌+◌, ◌≤◌, Boo
 use Rattle.std.proofs.lemmas.Slice.Eq.{bytes_eq-Decides}
 use Rattle.std.specs.Prelude.{bytes_eq}
 use Rattle.std.specs.Fmt.{signed_decimal}
-use Rattle.core_terms.specs.Types.{Ty, UnitTy, BoolTy, IntTy, TextTy, PairTy, NamedTy, AuthTy, Table, fields_at, OnFields}
+use Rattle.core_terms.specs.Types.{Ty, UnitTy, BoolTy, IntTy, TextTy, PairTy, NamedTy, AuthTy, VecTy, Table, fields_at, OnFields}
 use Rattle.core_terms.specs.Formats.{depth_limit}
-use Rattle.core_terms.specs.Values.{Value, UnitV, BoolV, IntV, TextV, PairV, ConV, DigestV, Values, NoV, AndV, IsShallow, AreShallow, size, sizes, depth, depths}
+use Rattle.core_terms.specs.Values.{Value, UnitV, BoolV, IntV, TextV, PairV, ConV, DigestV, ItemsV, Values, NoV, AndV, IsShallow, AreShallow, size, sizes, depth, depths}
 use Rattle.lexemes.specs.declared.place.Place.{Place}
 use Rattle.lexemes.specs.declared.token.Keyword.TheVariants.{True as TrueWord, False as FalseWord}
 use Rattle.lexemes.specs.declared.token.Mark.TheVariants.{LeftParenthesis, RightParenthesis, Comma}
@@ -14,7 +14,7 @@ use Rattle.lexemes.specs.Tokens.{KeywordToken, MarkToken, UpperToken, IntToken, 
 use Rattle.printed_syntax.specs.Literals.{ConstructorNames, LiteralReading, Means, then_means, behind_mark, bool_literal, int_literal, text_literal, pair_literal, more_fields, fields_literal, number_of_name, constructor_with, constructor_named, constructor_literal, literal_of, whole_literal, value_within, IsValue, FirstFault}
 use Rattle.printed_syntax.specs.declared.fault.LiteralKind.TheVariants.{TooBig}
 use Rattle.printed_syntax.specs.PrintedValues.{printed, printed_fields, quoted_text}
-use Rattle.printed_syntax.specs.PrintedValueLaws.{HasNoDigest, HaveNoDigests, AreNamed, PrintedValuesAreReadBack}
+use Rattle.printed_syntax.specs.PrintedValueLaws.{HasLiteral, HaveLiterals, AreNamed, PrintedValuesAreReadBack}
 use Rattle.printed_syntax.proofs.PrintedTokens.{IsParted, token_read, text_at_head, int_token}
 use Rattle.printed_syntax.proofs.PrintedLines.{mark_at_head, upper_at_head, token_at_head}
 
@@ -106,6 +106,7 @@ module _ (types : Table) (names : ConstructorNames) (named : AreNamed types name
   positive : (t : Ty) (v : Value) → 1 ≤ depth types t v
   positive (PairTy a b) (PairV x y) = omega arith
   positive (NamedTy number) (ConV tag vs) = omega arith
+  positive (VecTy n t) (ItemsV vs) = omega arith
   positive t v = omega arith
 
   -- a constructor, whose fields are read
@@ -150,7 +151,7 @@ module _ (types : Table) (names : ConstructorNames) (named : AreNamed types name
 
   mutual
     -- the text of a value, and of fields in a row, before other bytes
-    read_printed : (levels : ℕ) (t : Ty) (v : Value) (at : Place) (rest : List ℕ) → IsShallow types t v → HasNoDigest v → depth types t v ≤ levels → size types t v ≤ 65536
+    read_printed : (levels : ℕ) (t : Ty) (v : Value) (at : Place) (rest : List ℕ) → IsShallow types t v → HasLiteral v → depth types t v ≤ levels → size types t v ≤ 65536
         → IsParted rest → IsReadTo (literal_of types names levels t (tokens_from at (printed types names t v ++ rest))) v rest
     read_printed zero t v at rest shape plain deep small parted = absurd (omega (arith, deep, positive t v))
     read_printed (suc levels) UnitTy UnitV at rest shape plain deep small parted =
@@ -174,9 +175,10 @@ module _ (types : Table) (names : ConstructorNames) (named : AreNamed types name
         (let h : 1 + depths types (unwrap_or (Some ts) []) vs ≤ suc levels = subst (λ o. 1 + depths types (unwrap_or o []) vs ≤ suc levels) e deep in omega (arith, h))
         (let h : 1 + sizes types (unwrap_or (Some ts) []) vs ≤ 65536 = subst (λ o. 1 + sizes types (unwrap_or o []) vs ≤ 65536) e small in omega (arith, h)))
     read_printed (suc levels) (AuthTy t) (DigestV digest) at rest shape plain deep small parted = absurd plain
+    read_printed (suc levels) (VecTy n t) (ItemsV vs) at rest shape plain deep small parted = absurd plain
     read_printed (suc levels) t v at rest shape plain deep small parted = elim shape [ ]
 
-    read_row : (levels : ℕ) (ts : List Ty) (vs : Values) (at : Place) (rest : List ℕ) → AreShallow types ts vs → HaveNoDigests vs → depths types ts vs ≤ levels → sizes types ts vs ≤ 65536
+    read_row : (levels : ℕ) (ts : List Ty) (vs : Values) (at : Place) (rest : List ℕ) → AreShallow types ts vs → HaveLiterals vs → depths types ts vs ≤ levels → sizes types ts vs ≤ 65536
         → IsReadTo (row_literal (literal_of types names levels) ts (tokens_from at (printed_fields types names ts vs ++ (codes ")" ++ rest)))) vs rest
     read_row levels [] NoV at rest shape plain deep small = then_read _ (λ _ tokens. Means NoV tokens) tt NoV rest rest (right_read at rest) (λ after. (after, refl))
     read_row levels (t ∷ []) (AndV v NoV) at rest shape plain deep small =

@@ -83,7 +83,8 @@ module _ (types : Table) (names : ConstructorNames) where
   IsConstructorAt number tag ts before behind =
       (name : List ℕ) × IsTokenAt (UpperToken name) before behind × IsFirstName (names number) name tag × (fields_at types number tag ≡ Some ts)
 
-  -- A literal of a type stands there, for this value, and these tokens remain; it has so many levels at most. An authenticated value has none.
+  -- A literal of a type stands there, for this value, and these tokens remain; it has so many levels at most. An authenticated value has none,
+  -- and neither has an array.
   abbrev pub IsLiteral : (levels : ℕ) → Ty → Value → (before after : Tokens) → Type 0
   IsLiteral zero t v before after = ⊥
   IsLiteral (suc levels) UnitTy UnitV before after = ArePartsAt (IsLiteral levels) unit_parts NoV before after

@@ -1,6 +1,6 @@
 -- Literals: values of a type, as they are written, with the tokens of programs.
 use Rattle.std.specs.Prelude.{ℕ, zero, suc, true, false, List, [], ◌∷◌, Option, Some, None, bytes_eq, option_map, nat_le, if◌then◌else◌}
-use Rattle.core_terms.specs.Types.{Ty, UnitTy, BoolTy, IntTy, TextTy, PairTy, NamedTy, AuthTy, Table, fields_at}
+use Rattle.core_terms.specs.Types.{Ty, UnitTy, BoolTy, IntTy, TextTy, PairTy, NamedTy, AuthTy, VecTy, Table, fields_at}
 use Rattle.core_terms.specs.Formats.{depth_limit}
 use Rattle.core_terms.specs.Values.{Value, UnitV, BoolV, IntV, TextV, PairV, ConV, Values, NoV, AndV, size}
 use Rattle.core_terms.specs.Terms.{Program}
@@ -106,7 +106,8 @@ module _ (types : Table) (names : ConstructorNames) where
       constructor_named one at.offset number (number_of_name (names number) name) rest
   constructor_literal one number tokens = mismatch tokens
 
-  -- a literal of a type, on a level with so many levels from there on; an authenticated value has none
+  -- a literal of a type, on a level with so many levels from there on; an authenticated value has none, and neither has an array, as long as the
+  -- language has no brackets
   abbrev pub literal_of : ℕ → Ty → Tokens → LiteralReading Value
   literal_of zero t tokens = too_deep tokens
   literal_of (suc levels) UnitTy tokens = unit_literal tokens
@@ -116,6 +117,7 @@ module _ (types : Table) (names : ConstructorNames) where
   literal_of (suc levels) (PairTy a b) tokens = pair_literal (literal_of levels a) (literal_of levels b) tokens
   literal_of (suc levels) (NamedTy number) tokens = constructor_literal (literal_of levels) number tokens
   literal_of (suc levels) (AuthTy t) tokens = mismatch tokens
+  literal_of (suc levels) (VecTy n t) tokens = mismatch tokens
 
 -- what a text gives as a literal: its value, or its first fault with its offset
 pub data Literal : Type 0 where

@@ -29,7 +29,7 @@ abbrev pub ArePrinted : Program → List Ty → (bytes before text left : List �
 ArePrinted p ts bytes before text left =
     (vs : Values) → AreShallow (meaning p).types ts vs → length bytes < 2 ^ 32 → IsTaken (spellings vs) (texts_in p ts vs) bytes before text left
 
--- what stands before a field with a number
+-- what stands before a value with a number in a row
 abbrev pub comma_before : ℕ → List ℕ
 comma_before zero = []
 comma_before (suc index) = codes ", "

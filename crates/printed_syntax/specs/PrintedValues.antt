@@ -1,9 +1,9 @@
--- Values as they are printed: as literals, an authenticated value as `#` and its digest.
+-- Values as they are printed: as literals, an authenticated value as `#` and its digest, an array in brackets.
 use Rattle.std.specs.Prelude.{ℕ, Bool, true, false, ◌==◌, List, [], ◌∷◌, ◌++◌, codes, slice_get, unwrap_or, if◌then◌else◌}
 use Rattle.std.specs.Fmt.{signed_decimal}
 use Rattle.hex.specs.Hex.{encode_lower}
-use Rattle.core_terms.specs.Types.{Ty, UnitTy, BoolTy, IntTy, TextTy, PairTy, NamedTy, AuthTy, Table, fields_at}
-use Rattle.core_terms.specs.Values.{Value, UnitV, BoolV, IntV, TextV, PairV, ConV, DigestV, Values, NoV, AndV}
+use Rattle.core_terms.specs.Types.{Ty, UnitTy, BoolTy, IntTy, TextTy, PairTy, NamedTy, AuthTy, VecTy, Table, fields_at, item_types}
+use Rattle.core_terms.specs.Values.{Value, UnitV, BoolV, IntV, TextV, PairV, ConV, DigestV, ItemsV, Values, NoV, AndV}
 use Rattle.lexemes.specs.Tokens.{is_control}
 use Rattle.printed_syntax.specs.Literals.{ConstructorNames}
 
@@ -46,6 +46,7 @@ module _ (types : Table) (names : ConstructorNames) where
     printed (NamedTy number) (ConV tag vs) =
         with_fields (unwrap_or (slice_get (names number) tag) []) vs (printed_fields (unwrap_or (fields_at types number tag) []) vs)
     printed (AuthTy t) (DigestV digest) = codes "#" ++ encode_lower digest
+    printed (VecTy n t) (ItemsV vs) = codes "[" ++ printed_fields (item_types n t) vs ++ codes "]"
     printed t v = []
 
     -- values in a row, with commas between them

@@ -23,13 +23,14 @@ use std::alloc::Global;
 /// How many levels a value may have. Reading a part calls itself once for each level, so this bounds the stack too.
 const DEPTH_LIMIT: usize = 512;
 
-/// Reads the text of a literal of a type of the program, and gives the spelling of its value. An authenticated value has no literal.
+/// Reads the text of a literal of a type of the program, and gives the spelling of its value. An authenticated value has no literal, and
+/// neither has an array.
 ///
 /// # Errors
 ///
 /// `At` with the first fault, in order of the text: a lexical one, `TooDeep` at the first token of a value on level 513, or
 /// `Mismatch` at a token that no literal of the type has there, in this order where two stand at one token; after all of these
-/// `TooBig` at 0, where the spelling has more bytes than the program's limit, 65,536. `NoMemory` where there is no memory for a
+/// `TooBig` at 0, where the spelling has more bytes than the limit of the program's format. `NoMemory` where there is no memory for a
 /// text or for the spelling.
 pub fn parse_literal(
     alloc: Global,
@@ -75,7 +76,8 @@ fn value(
         TyForm::BoolForm => bool(parser, bytes),
         TyForm::IntForm => int(parser, bytes),
         TyForm::TextForm => text(parser, bytes),
-        TyForm::AuthForm(_) => no_value(parser),
+        // The language has no brackets to write an array with.
+        TyForm::AuthForm(_) | TyForm::VecForm(_, _) => no_value(parser),
         TyForm::PairForm(first, second) => pair(
             parser,
             program,

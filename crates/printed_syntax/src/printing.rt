@@ -7,7 +7,7 @@ ghost use Rattle.core_terms.specs.Programs.{meaning, types_of};
 ghost use Rattle.core_terms.specs.ProgramTrees.{types_at};
 ghost use Rattle.core_terms.specs.Spelling.{spelling};
 ghost use Rattle.core_terms.specs.TypeTables.{type_at};
-ghost use Rattle.core_terms.specs.Types.{NamedTy, PairTy};
+ghost use Rattle.core_terms.specs.Types.{NamedTy, PairTy, VecTy};
 ghost use Rattle.core_terms.specs.Values.{IsShallow, Value};
 ghost use Rattle.printed_syntax.specs.PrintedParts.{ArePrinted, IsPrinted, comma_before, text_in};
 ghost use Rattle.printed_syntax.specs.PrintedValueLaws.{PrintedValuesAreReadBack};
@@ -22,7 +22,8 @@ use std::alloc::{AllocError, Global};
 const BETWEEN: &[u8] = b", ";
 
 /// The text of the value of a type of the program that these bytes, fewer than 2^32, spell: as a literal, an authenticated value as `#`
-/// and 64 hexadecimal digits. Of bytes that spell no value of the type nothing is said. The calls nest as deep as the value.
+/// and 64 hexadecimal digits, an array in brackets. Of bytes that spell no value of the type nothing is said. The calls nest as deep as
+/// the value.
 ///
 /// # Errors
 ///
@@ -63,6 +64,7 @@ fn push_value<'a>(
         TyForm::AuthForm(_) => push_spelled_digest(text, bytes),
         TyForm::PairForm(first, second) => push_pair(text, program, first, second, bytes),
         TyForm::NamedForm(named) => push_named(text, program, named, bytes),
+        TyForm::VecForm(count, item) => push_items(text, program, count, item, bytes),
     }
 }
 
@@ -132,7 +134,29 @@ fn push_fields<'a>(
     Ok(left)
 }
 
-/// Adds what stands before a field with a number: a comma and a blank, where it isn't the first.
+/// Adds the text of an array of so many values of a type: in brackets, with commas between them.
+#[cycle(values)]
+fn push_items<'a>(
+    text: &mut Vec<u8>,
+    program: &Program,
+    count: u8,
+    item: TyId,
+    bytes: &'a [u8],
+) -> Result<&'a [u8], AllocError>
+    ensures printed { IfOk result (λ left. IsPrinted program.now (VecTy count (type_at (types_of program.now) item)) bytes.now text.old.items text.new.items left.now) }
+    ensures left { IfOk result (λ left. length left.now ≤ length bytes.now) }
+{
+    text.push(b'[')?;
+    let mut left = bytes;
+    for index in 0..count {
+        push_comma(text, usize::from(index))?;
+        left = push_value(text, program, item, left)?;
+    }
+    text.push(b']')?;
+    Ok(left)
+}
+
+/// Adds what stands before a value with a number in a row: a comma and a blank, where it isn't the first.
 fn push_comma(text: &mut Vec<u8>, index: usize) -> Result<(), AllocError>
     ensures { OnOk result (text.new.items ≡ text.old.items ++ comma_before index) }
 {
@@ -142,7 +166,7 @@ fn push_comma(text: &mut Vec<u8>, index: usize) -> Result<(), AllocError>
     Ok(())
 }
 
-/// The law of printed values: one in which nothing is authenticated is read back from its text.
+/// The law of printed values: one whose parts all have literals is read back from its text.
 pub fn reading_back()
     ensures { PrintedValuesAreReadBack }
 {}

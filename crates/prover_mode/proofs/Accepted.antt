@@ -21,7 +21,7 @@ use Rattle.mode_vm.specs.StateCalls.{IsCalledOn, TakesState}
 use Rattle.mode_vm.proofs.StateCalls.{argument_fits, argument_ideal, argument_is, is_format, is_typed, state_deep, state_fits, state_ideal}
 use Rattle.prover_mode.specs.Calls.{IsAccepted}
 
-module _ (hash : Hash) (is_hash : IsHash hash) (p : Coded) (f : ℕ) (takes : TakesState (meaning p) f) (nodes : List Node) (sound : AreSound nodes) (state argument : Ref) (s a : Value)
+module _ (hash : Hash) (is_hash : IsHash hash) (p : Coded) (f : ℕ) (takes : TakesState (meaning p) f) (nodes : List Node) (sound : AreSound (meaning p).format.limit nodes) (state argument : Ref) (s a : Value)
     (call : IsCalledOn hash (meaning p) f nodes state argument s a) (k n : ℕ) (fits : n ≤ (meaning p).format.most_kept) where
   abbrev P : Program
   P = meaning p

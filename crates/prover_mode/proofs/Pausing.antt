@@ -1,6 +1,7 @@
 -- Calls that are proved in turns.
 use Rattle.std.proofs.Common.{◌≡◌, ℕ, ◌+◌, ◌≤◌, length, List, Option, None, Some, Ok, ap, subst, arith}
 use Rattle.core_terms.specs.Formats.{Hash}
+use Rattle.core_terms.specs.Fronts.{AreFronts}
 use Rattle.core_terms.specs.Terms.{Program, function_at}
 use Rattle.core_terms.specs.Types.{Ty}
 use Rattle.core_terms.specs.Values.{Values}
@@ -50,6 +51,7 @@ module _ (hash : Hash) (code : Code) where
       runs = will_on (ProverMarking hash) P (function_at P f).result old new keeps proving.machine.state h.seen (ideal.ideal P f vs k) h.runs;
       calls = h.calls;
       due = h.due;
+      knows = h.knows;
       few = h.few;
     }
 
@@ -68,14 +70,14 @@ module _ (hash : Hash) (code : Code) where
     abbrev New : List ideal.Opened → Type 0
     New = AreSeen hash (program_in code).types new_nodes after.machine.mode.opened.items
 
-    pub pauses : (w : List ideal.Opened) → New w → WillRun (ProverMarking hash) P (function_at P f).result new_nodes after.machine.state w (ideal.ideal P f vs k)
+    pub pauses : AreFronts hash (program_in code).types after.machine.mode.fronts → (w : List ideal.Opened) → New w → WillRun (ProverMarking hash) P (function_at P f).result new_nodes after.machine.state w (ideal.ideal P f vs k)
         → Spent units before.machine.state.fuel after.machine.state → OpensFew (length after.machine.mode.opened.items) P after.machine.state
         → TurnEnds hash code new_nodes after f vs k (made + units) None
-    pauses w seen will spent few =
+    pauses knows w seen will spent few =
         let given = h.calls in
         let spends = spent.made in
         let less = due_takes (ProverMarking hash) P (function_at P f).result new_nodes after.machine.state w (ideal.ideal P f vs k) will spent.due spent.some in (
-          record { seen = w; opened = seen; runs = will; calls = omega (arith, given, spends); due = spent.due; few = few },
+          record { seen = w; opened = seen; runs = will; calls = omega (arith, given, spends); due = spent.due; knows = knows; few = few },
           omega (arith, given, spends, less),
         )
 

@@ -24,13 +24,13 @@ pub one_counted : (frames before i : ℕ) → frames ≡ suc before → before �
 one_counted frames before i more is = omega (arith, more, is)
 
 -- the spelling of a shallow value that a node stands for is short
-pub short_spelling : (types : Table) (nodes : List Node) (t : Ty) (v : Value) (r : ℕ) → AreSound nodes → StandsFor VerifierNodes types nodes r t v
+pub short_spelling : {limit : ℕ} → limit ≤ 1048576 → (types : Table) (nodes : List Node) (t : Ty) (v : Value) (r : ℕ) → AreSound limit nodes → StandsFor VerifierNodes types nodes r t v
     → (bytes : List ℕ) → bytes ≡ spelling v → length bytes < 2 ^ 32
-short_spelling types nodes t v r sound h bytes is =
+short_spelling {limit} most types nodes t v r sound h bytes is =
     let same : length bytes ≡ length (spelling v) = ap length is in
     let long = length_spelling types t v (shallow_stands types nodes t v r h) in
     let fits = (within_stands VerifierNodes types nodes t v r sound h).size_fits in
-    omega (arith, same, long, fits)
+    omega (arith, same, long, fits, most)
 
 module _ (hash : Hash) (types : Types) (nodes : List Node) where
   -- none
@@ -81,7 +81,7 @@ module _ (hash : Hash) (types : Types) (nodes : List Node) where
     -- its projection stands over the verifier's nodes
     pub shows : StandsFor VerifierNodes (types_meaning types).types nodes o.value.0 (type_at (types_by_number types) o.ty)
         (projection hash (types_meaning types) (type_at (types_by_number types) o.ty) s.value)
-    shows = shown_shallow (digest_at hash (types_meaning types)) (types_meaning types).types (λ t bytes. is_hash bytes) nodes (type_at (types_by_number types) o.ty) s.value o.value.0 stands_at
+    shows = shown_shallow (digest_at hash (types_meaning types)) (types_meaning types).types (λ t bytes. is_hash _) nodes (type_at (types_by_number types) o.ty) s.value o.value.0 stands_at
 
     -- the spelling of its projection is the honest piece
     pub is_honest : (bytes : List ℕ) → bytes ≡ spelling (projection hash (types_meaning types) (type_at (types_by_number types) o.ty) s.value)

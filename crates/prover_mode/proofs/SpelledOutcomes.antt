@@ -35,16 +35,16 @@ module _ (hash : Hash) (types : Types) (nodes : List Node) (t : Ty) (r : Outcome
       → (v : Value) × StandsFor VerifierNodes (types_meaning types).types nodes value.0 t v
   done_shows is_hash value is o h =
       let done = subst (λ r. Ends r o) is h in
-      (_, shown_shallow (digest_at hash (types_meaning types)) (types_meaning types).types (λ t bytes. is_hash bytes) nodes t done.0 value.0 done.1)
+      (_, shown_shallow (digest_at hash (types_meaning types)) (types_meaning types).types (λ t bytes. is_hash _) nodes t done.0 value.0 done.1)
 
   -- each way to end is told
-  pub tells_done : IsHash hash → AreSound nodes → (value : Ref) (bytes : List ℕ) → r ≡ Done value
+  pub tells_done : IsHash hash → AreSound (types_meaning types).format.limit nodes → (value : Ref) (bytes : List ℕ) → r ≡ Done value
       → ((v : Value) → Stands value.0 v → bytes ≡ spelling (projection hash (types_meaning types) t v)) → (o : ideal.Outcome) → Ends r o → Tells o (Done bytes)
   tells_done is_hash sound value bytes is spelled o h =
       let P = types_meaning types in
       let done = subst (λ r. Ends r o) is h in
       let seen = projection hash P t done.0 in
-      let shown = shown_shallow (digest_at hash P) P.types (λ t bytes. is_hash bytes) nodes t done.0 value.0 done.1 in (
+      let shown = shown_shallow (digest_at hash P) P.types (λ t bytes. is_hash _) nodes t done.0 value.0 done.1 in (
         seen,
         ap (ideal.outcome_projection hash P t) done.2,
         record {

@@ -1,9 +1,10 @@
 // The prover as a mode of the machine.
 ghost use Rattle.std.specs.Prelude.{◌≡◌, [], length, None};
+ghost use Rattle.core_terms.specs.Fronts.{AreFronts};
 ghost use Rattle.value_store.specs.Markings.{ProverMarking};
 
 use crate::opened::Opened;
-use core_terms::{Hash32, TyId, Types};
+use core_terms::{Fronts, Hash32, TyId, Types};
 use mode_vm::{Mode, Never, Stop};
 use shallow_codec::{SpareBuffer, spell_into};
 use std::alloc::Global;
@@ -13,17 +14,20 @@ use value_store::{Held, Nodes, Ref, inner_of};
 /// The prover: `auth` holds a value with the digest of its projection, `unauth` gives the value and notes what is opened.
 #[derive(Drop)]
 pub struct Prover<H> {
+    fronts: Fronts,
     spare: SpareBuffer,
     opened: Vec<Opened>,
     hash: PhantomData<H>,
 }
 
 impl<H: Hash32> Prover<H> {
-    /// A prover that has opened nothing. Takes no memory.
-    pub fn new(alloc: Global) -> Self
-        ensures { result.opened.items ≡ [] }
+    /// A prover that has opened nothing, and digests behind these fronts. Takes no memory.
+    pub fn new(alloc: Global, fronts: Fronts) -> Self
+        ensures opened { result.opened.items ≡ [] }
+        ensures fronts { result.fronts ≡ fronts }
     {
         Prover {
+            fronts,
             spare: SpareBuffer::new(alloc),
             opened: Vec::new(alloc),
             hash: PhantomData,
@@ -35,10 +39,12 @@ impl<H: Hash32> Prover<H> {
         ensures { result ≡ self.opened }
     {
         let Prover {
+            fronts,
             spare,
             opened,
             hash: _,
         } = self;
+        drop(fronts);
         drop(spare);
         opened
     }
@@ -61,9 +67,19 @@ impl<H: Hash32> Mode for Prover<H> {
 
     ghost Rose = { λ old new. ⊥ };
 
+    ghost Asks = { ⊥ };
+
+    ghost Answer = { Unit {0} };
+
+    ghost May = { λ v a w. ⊥ };
+
+    ghost Last = { λ v a f w. ⊥ };
+
+    ghost Expects = { λ mode w got. ⊥ };
+
     ghost opened = { λ mode. length mode.opened.items };
 
-    ghost Knows = { λ t mode nodes. Unit {0} };
+    ghost Knows = { λ t mode nodes. AreFronts H.hash t mode.fronts };
 
     ghost Rest = { Unit {0} };
 
@@ -88,7 +104,7 @@ impl<H: Hash32> Mode for Prover<H> {
     ) -> Result<Ref, Stop<Never>> {
         let mut spelling = self.spare.take();
         spell_into(types, store, v, ty, &mut spelling)?;
-        let digest = H::of(&spelling);
+        let digest = H::of_pair(self.fronts.front(ty), &spelling);
         self.spare.keep(spelling);
         Ok(store.put_auth(Held::Both(digest, v))?)
     }

@@ -7,6 +7,7 @@ ghost use Rattle.code_gen.specs.Programs.{program_in};
 ghost use Rattle.ideal_meaning.specs.Ideal.{ideal, outcome};
 ghost use Rattle.ideal_meaning.specs.Run.{state_of};
 ghost use Rattle.value_store.specs.CodeNodes.{numbers_of};
+ghost use Rattle.value_store.specs.Markings.{HasLimit};
 ghost use Rattle.value_store.specs.Standing.{AllStandFor, Keeps, ProverNodes};
 ghost use Rattle.mode_vm.specs.IdealRuns.{IsOutcome};
 ghost use Rattle.mode_vm.specs.Meanings.{program_of};
@@ -15,7 +16,7 @@ ghost use Rattle.prover_mode.specs.Seen.{AreSeen};
 use crate::opened::Opened;
 use crate::prover::Prover;
 use code_gen::Code;
-use core_terms::{FunctionId, Hash32, Outcome};
+use core_terms::{Fronts, FunctionId, Hash32, Outcome};
 use mode_vm::Machine;
 use std::alloc::{AllocError, Global};
 use value_store::{Nodes, Ref};
@@ -47,6 +48,7 @@ pub fn prover_run<H: Hash32, N: Nodes>(
     requires there { function.0 < length (program_of code.now).functions }
     requires stand { let P = program_of code.now in
         (vs : Values) × AllStandFor (ProverNodes (digest_at H.hash P)) P.types (N.nodes store.old) (numbers_of args.now) (function_at P function.0).parameters vs }
+    requires limit { HasLimit (program_of code.now) (N.lent store.old) }
     requires fuel_fits { fuel ≤ 10 ^ 12 }
     ensures value { let P = program_of code.now in let kind = ProverNodes (digest_at H.hash P) in IfOk result (λ run. (vs : Values)
         → AllStandFor kind P.types (N.nodes store.old) (numbers_of args.now) (function_at P function.0).parameters vs
@@ -57,7 +59,8 @@ pub fn prover_run<H: Hash32, N: Nodes>(
     ensures keeps { Keeps (N.nodes store.old) (N.nodes store.new) }
     ensures lent { N.lent store.new ≡ N.lent store.old }
 {
-    let prover = Prover::<H>::new(alloc);
+    let fronts = Fronts::of_types::<H>(code.types(), alloc)?;
+    let prover = Prover::<H>::new(alloc, fronts);
     let mut machine = Machine::start(code, function, args, fuel, prover, alloc)?;
     match machine.run(code, store, &mut ()) {
         Ok(value) => {

@@ -5,6 +5,7 @@ ghost use Rattle.core_terms.specs.Terms.{function_at};
 ghost use Rattle.core_terms.specs.Values.{Value};
 ghost use Rattle.ideal_meaning.specs.Headline.{call_of};
 ghost use Rattle.ideal_meaning.specs.Ideal as ideal;
+ghost use Rattle.value_store.specs.Markings.{HasLimit};
 ghost use Rattle.value_store.specs.Standing.{Keeps, ProverNodes};
 ghost use Rattle.mode_vm.specs.IdealRuns.{IsOutcome};
 ghost use Rattle.mode_vm.specs.Meanings.{program_of};
@@ -55,6 +56,7 @@ pub fn prove<H: Hash32, N: Nodes>(
     requires there { role.0 < length (program_of code.now).functions }
     requires role { TakesState (program_of code.now) role.0 }
     requires called { (s : Value) × (a : Value) × IsCalledOn H.hash (program_of code.now) role.0 (N.nodes store.old) state argument s a }
+    requires limit { HasLimit (program_of code.now) (N.lent store.old) }
     requires fuel_fits { fuel ≤ 10 ^ 12 }
     ensures value { let P = program_of code.now in IfOk result (λ told. (s a : Value) → IsCalledOn H.hash P role.0 (N.nodes store.old) state argument s a
         → IsOutcome (ProverNodes (digest_at H.hash P)) P.types (N.nodes store.new) (function_at P role.0).result told.0.value (ideal.outcome (ideal.ideal P role.0 (call_of s a) fuel))) }

@@ -4,6 +4,7 @@ ghost use Rattle.core_terms.specs.ProgramTypes.{types_by_number, types_meaning};
 ghost use Rattle.core_terms.specs.Projection.{digest_at};
 ghost use Rattle.core_terms.specs.TypeTables.{type_at};
 ghost use Rattle.ideal_meaning.specs.Ideal as ideal;
+ghost use Rattle.value_store.specs.Markings.{HasLimit};
 ghost use Rattle.value_store.specs.Standing.{ProverNodes};
 ghost use Rattle.mode_vm.specs.IdealRuns.{IsOutcome};
 ghost use Rattle.mode_vm.specs.StateCalls.{SpellsOutcome};
@@ -25,7 +26,8 @@ pub fn spelled_outcome<H: Hash32, N: Nodes>(
     outcome: Outcome<Ref>,
     ty: TyId,
 ) -> Result<Outcome<Spelling>, AllocError>
-    requires { let P = types_meaning types.now in
+    requires limit { HasLimit (types_meaning types.now) (N.lent store.now) }
+    requires ends { let P = types_meaning types.now in
         (o : ideal.Outcome) × IsOutcome (ProverNodes (digest_at H.hash P)) P.types (N.nodes store.now) (type_at (types_by_number types.now) ty) outcome o }
     ensures { let P = types_meaning types.now in let t = type_at (types_by_number types.now) ty in IfOk result (λ told. (o : ideal.Outcome)
         → IsOutcome (ProverNodes (digest_at H.hash P)) P.types (N.nodes store.now) t outcome o

@@ -3,6 +3,7 @@ ghost use Rattle.std.specs.Prelude.{◌≡◌, ◌<◌, ◌≤◌, ◌+◌, ◌-
 ghost use Rattle.core_terms.specs.Values.{Value, Values};
 ghost use Rattle.ideal_meaning.specs.Frames.{frame_bytes};
 ghost use Rattle.ideal_meaning.specs.Headline.{call_of};
+ghost use Rattle.value_store.specs.Markings.{HasLimit};
 ghost use Rattle.value_store.specs.Nodes.{Node};
 ghost use Rattle.value_store.specs.Standing.{Keeps};
 ghost use Rattle.mode_vm.specs.Meanings.{program_of};
@@ -14,7 +15,7 @@ ghost use Rattle.prover_mode.specs.Told.{TellsFrames};
 use crate::frames::{FrameWriter, write_frames};
 use crate::prover::Prover;
 use code_gen::Code;
-use core_terms::{FunctionId, Hash32, Outcome};
+use core_terms::{Fronts, FunctionId, Hash32, Outcome};
 use mode_vm::{Machine, Step};
 use reuse_buffer::Ring;
 use std::alloc::{AllocError, Global};
@@ -56,7 +57,8 @@ impl<H: Hash32> Proving<H> {
         ensures { IfOk result (λ proving. (nodes : List Node) (s a : Value) → IsCalledOn H.hash (program_of code.now) role.0 nodes state argument s a
             → IsProving H.hash code.now nodes proving role.0 (call_of s a) fuel 0) }
     {
-        let prover = Prover::<H>::new(alloc);
+        let fronts = Fronts::of_types::<H>(code.types(), alloc)?;
+        let prover = Prover::<H>::new(alloc, fronts);
         let machine = Machine::start(code, role, &[state, argument], fuel, prover, alloc)?;
         Ok(Proving { machine })
     }
@@ -71,6 +73,7 @@ impl<H: Hash32> Proving<H> {
         units: u64,
     ) -> Result<Option<Outcome<Ref>>, AllocError>
         requires proving { (f : ℕ) × (vs : Values) × (k : ℕ) × (made : ℕ) × IsProving H.hash code.now (N.nodes store.old) self.old f vs k made }
+        requires limit { HasLimit (program_of code.now) (N.lent store.old) }
         requires some { 0 < units }
         ensures ends { IfOk result (λ told. (f : ℕ) (vs : Values) (k made : ℕ) → IsProving H.hash code.now (N.nodes store.old) self.old f vs k made
             → TurnEnds H.hash code.now (N.nodes store.new) self.new f vs k (made + units) told) }

@@ -70,7 +70,7 @@ fn rejected(
     let Err(Verdict::Rejected(cause)) = verdict::<Sha>(alloc, code, FOUR, &mut judged)? else {
         return Ok(None);
     };
-    let mut store = Store::new(alloc);
+    let mut store = Store::new(alloc, code.types().spelling_limit() as u32);
     let mut compared = source(alloc, bytes, most)?;
     let Ok(Audited::Rejected(other)) = audited::<Sha>(alloc, code, &mut store, FOUR, &mut compared)?
     else {
@@ -84,7 +84,7 @@ fn rejected(
 
 /// The proof file of [`FOUR`], which has 56 bytes: a header of 6, two frames of 22 with pieces of their own, and two of 3.
 fn four(alloc: Global, code: &Code) -> Result<Vec<u8>, AllocError> {
-    let mut store = Store::new(alloc);
+    let mut store = Store::new(alloc, code.types().spelling_limit() as u32);
     let told = proved::<Sha>(alloc, code, &mut store, FOUR, 2)?;
     file(alloc, 2, &told.frames)
 }

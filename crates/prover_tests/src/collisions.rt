@@ -170,7 +170,7 @@ fn tells(
     proof: &[u8],
     told: Told,
 ) -> Result<bool, AllocError> {
-    let mut store = Store::new(alloc);
+    let mut store = Store::new(alloc, code.types().spelling_limit() as u32);
     let mut compared = source(alloc, proof, 3)?;
     Ok(
         match &audited::<Toy>(alloc, code, &mut store, twice(fuel), &mut compared)? {
@@ -227,7 +227,7 @@ const FRAMES: &[u8] = b"\0\0\0\0\x08\0\0\0\0\0\0\x01\x02\x01\0\0";
 #[test]
 fn values_opened_are_pieces_of_the_proof(rt: HostRuntime) -> Result<(), Fail> {
     let code = code(rt.alloc())?;
-    let mut store = Store::new(rt.alloc());
+    let mut store = Store::new(rt.alloc(), code.types().spelling_limit() as u32);
     let told = proved::<Toy>(rt.alloc(), &code, &mut store, twice(1), 1)?;
     assert!(rt; told.frames.as_slice() == FRAMES);
     Ok(())

@@ -39,7 +39,7 @@ type Row = (Call, u16, End, [u64; 2]);
 /// Whether a call is proved as its row says.
 fn is_proved(alloc: Global, code: &Code, row: Row) -> Result<bool, AllocError> {
     let (call, size, end, frames) = row;
-    let mut store = Store::new(alloc);
+    let mut store = Store::new(alloc, code.types().spelling_limit() as u32);
     let told = proved::<Sha>(alloc, code, &mut store, call, size)?;
     if [told.fresh, told.again] != frames || !end.is(&told.outcome) {
         return Ok(false);
@@ -144,7 +144,7 @@ const SWAP: Call = Call {
 
 /// The frames of two proofs of [`SWAP`] that follow one another with a ring of two pieces, and how many of the second are new.
 fn two_proofs(alloc: Global, code: &Code) -> Result<(Vec<u8>, Vec<u8>, u64), AllocError> {
-    let mut store = Store::new(alloc);
+    let mut store = Store::new(alloc, code.types().spelling_limit() as u32);
     let ring = Ring::with_size(alloc, 2)?;
     let (first, ring) = proved_on::<Sha>(alloc, code, &mut store, SWAP, ring)?;
     let (second, _ring) = proved_on::<Sha>(alloc, code, &mut store, SWAP, ring)?;

@@ -1,11 +1,12 @@
 // The program of the tests, and its calls: proved, verified and audited.
-ghost use Rattle.std.specs.Prelude.{◌≡◌, ◌<◌, ◌∷◌, [], length, IfOk, IfSome, IsTrue};
+ghost use Rattle.std.specs.Prelude.{◌≡◌, ◌<◌, ◌∷◌, [], length, IfOk, IfSome, IsTrue, OnOk};
 ghost use Rattle.core_terms.specs.Formats.{Hash};
 ghost use Rattle.core_terms.specs.Programs.{meaning};
 ghost use Rattle.core_terms.specs.Terms.{function_at};
 ghost use Rattle.core_terms.specs.Types.{IntTy};
 ghost use Rattle.core_terms.specs.Values.{Value};
-ghost use Rattle.value_store.specs.Stores.{nodes_in};
+ghost use Rattle.value_store.specs.Markings.{HasLimit};
+ghost use Rattle.value_store.specs.Stores.{nodes_in, store_lent};
 ghost use Rattle.mode_vm.specs.Meanings.{program_of};
 ghost use Rattle.mode_vm.specs.StateCalls.{IsCalledOn, TakesState};
 
@@ -107,8 +108,9 @@ fn takes_ints(program: &Program, function: FunctionId) -> bool
     }
 }
 
-/// Puts the state and the argument of a call.
+/// Puts the state and the argument of a call into a store of the program's limit.
 fn put_call(code: &Code, store: &mut Store, call: Call) -> Result<PutCall, AllocError>
+    ensures limit { OnOk result (HasLimit (program_of code.now) (store_lent store.new)) }
     ensures there { IfOk result (λ put. put.role.0 < length (program_of code.now).functions) }
     ensures role { IfOk result (λ put. TakesState (program_of code.now) put.role.0) }
     ensures called { IfOk result (λ put. (hash : Hash) → (s : Value) × (a : Value) × IsCalledOn hash (program_of code.now) put.role.0 (nodes_in store.new) put.state put.argument s a) }
@@ -116,7 +118,9 @@ fn put_call(code: &Code, store: &mut Store, call: Call) -> Result<PutCall, Alloc
     let Some(role) = reading(code.program(), call.role) else {
         return Err(AllocError);
     };
-    if !takes_ints(code.program(), role) {
+    if !takes_ints(code.program(), role)
+        || store.limit() as usize != code.types().spelling_limit()
+    {
         return Err(AllocError);
     }
     let state = store.put_int(call.state)?;

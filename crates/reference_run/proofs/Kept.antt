@@ -1,20 +1,20 @@
 -- What an ideal run of a typed expression gives is an ideal value of its type, within the limits, and so is what is authenticated in it.
-use Rattle.std.proofs.Common.{◌≡◌, ℕ, zero, suc, ◌<◌, ◌≤◌, ◌^◌, Bool, true, false, List, [], ◌∷◌, ◌++◌, length, ℤ, pos, negsuc, ◌+ℤ◌, ◌-ℤ◌, ◌*ℤ◌, int_div, int_rem, nat_lt, Option, Some, None, unwrap_or, slice_get, if◌then◌else◌, refl, subst, arith, ltb-false, lt-ltb, lt_of_le_of_lt}
+use Rattle.std.proofs.Common.{◌≡◌, ℕ, zero, suc, ◌<◌, ◌≤◌, ◌^◌, Bool, true, false, List, [], ◌∷◌, ◌++◌, length, ℤ, pos, negsuc, ◌+ℤ◌, ◌-ℤ◌, ◌*ℤ◌, int_div, int_rem, nat_lt, Option, Some, None, unwrap_or, slice_get, if◌then◌else◌, refl, subst, arith, ltb-true, ltb-false, lt-ltb, lt_of_le_of_lt}
 use lib.Signed.{mag_rem}
 use Rattle.std.specs.Option.{option_and_then}
 use Rattle.std.proofs.lemmas.Str.{IsUtf8-append}
-use Rattle.core_terms.specs.Types.{Ty, BoolTy, IntTy, TextTy, PairTy, NamedTy, AuthTy, fields_at}
+use Rattle.core_terms.specs.Types.{Ty, BoolTy, IntTy, TextTy, PairTy, NamedTy, AuthTy, VecTy, fields_at, item_types}
 use Rattle.core_terms.specs.Formats.{IsFormat, depth_limit}
-use Rattle.core_terms.specs.Values.{Value, UnitV, BoolV, IntV, TextV, PairV, ConV, Values, NoV, AndV, AreIdeal, AuthWithinAll, int_fits, size, depth}
-use Rattle.core_terms.specs.Terms.{Expression, UnitE, BoolE, IntE, TextE, LocalE, PairE, FstE, SndE, NotE, LenE, AuthE, UnauthE, ConE, ArithE, CompareE, TextCompareE, CatE, LetE, IfE, MatchE, CallE, Expressions, NoE, AndE, Arms, NoArm, AndArm, Function, no_function, OnFunction, Program, function_at, HasType, HaveTypes, HaveArms, IsTyped}
+use Rattle.core_terms.specs.Values.{Value, UnitV, BoolV, IntV, TextV, PairV, ConV, ItemsV, Values, NoV, AndV, AreIdeal, AuthWithinAll, int_fits, size, depth}
+use Rattle.core_terms.specs.Terms.{Expression, UnitE, BoolE, IntE, TextE, LocalE, PairE, FstE, SndE, NotE, LenE, AuthE, UnauthE, ConE, ArithE, CompareE, TextCompareE, CatE, LetE, IfE, MatchE, CallE, OperateE, Operation, VecFill, VecGet, VecPut, operand_types, result_type, Expressions, NoE, AndE, Arms, NoArm, AndArm, Function, no_function, OnFunction, Program, function_at, HasType, HaveTypes, HaveArms, IsTyped}
 use Rattle.core_terms.specs.Projection.{AllFit}
 use Rattle.core_terms.specs.declared.term.Arith.{Arith}
 use Rattle.core_terms.specs.declared.term.Arith.TheVariants.{Add, Sub, Mul, Div, Rem}
 use Rattle.core_terms.proofs.Numbers.{mag_of, of_mag}
 use Rattle.core_terms.proofs.Fields.{on_fields}
-use Rattle.ideal_meaning.specs.Run.{Traps, Overflow, Run, Gives, Ends, then_run, join, bool_in, int_in, text_in, tag_in, fields_in, divided, arith_of, choose, limited, run, run_all, run_arm, call}
+use Rattle.ideal_meaning.specs.Run.{Traps, Overflow, Run, Gives, Ends, then_run, local, join, bool_in, int_in, text_in, tag_in, fields_in, items_in, repeated, replaced, divided, arith_of, choose, limited, at_index, get_of, put_of, operate, run, run_all, run_arm, call}
 use Rattle.ideal_meaning.specs.Ideal.{Opened, ideal, ideal_mode}
-use Rattle.ideal_meaning.proofs.InHand.{int_fits_in, utf8_in, length_in, at_con, IsHeld, AreHeld, held_unit, held_bool, held_int, held_text, held_local, held_join, held_pair, held_first, held_second, held_con, held_parts, held_auth, held_inputs}
+use Rattle.ideal_meaning.proofs.InHand.{int_fits_in, utf8_in, length_in, at_con, at_items, item_type_at, IsHeld, AreHeld, held_unit, held_bool, held_int, held_text, held_local, held_join, held_pair, held_first, held_second, held_con, held_parts, held_items, held_elements, held_repeated, held_replaced, held_auth, held_inputs}
 
 abbrev IdealRun : Type 0 → Type 0
 IdealRun A = Run ⊥ (List Opened) A
@@ -74,6 +74,40 @@ module _ (P : Program) (format : IsFormat P.format) where
   arith_holds Mul x d k s fx = int_holds (int_fits (x *ℤ d)) (x *ℤ d) k s (λ q. q)
   arith_holds Div x d k s fx = divided_holds (int_div x d) x d k s (λ q. q)
   arith_holds Rem x d k s fx = divided_holds (int_rem x d) x d k s (λ q. of_mag (int_rem x d) (lt_of_le_of_lt (mag_rem x d) (mag_of x fx)))
+
+  index_holds : (n : ℕ) (t : Ty) (z : ℤ) (f : ℕ → ℕ → List Opened → IdealRun Value) (k : ℕ) (s : List Opened) → ((i : ℕ) → i < n → Holds (Held t) (f i k s))
+      → Holds (Held t) (at_index n z f k s)
+  index_holds n t (pos i) f k s h = holds_if (Held t) (nat_lt i n) _ _ (λ q. h i (ltb-true i n q)) (λ q. tt)
+  index_holds n t (negsuc i) f k s h = tt
+
+  get_holds : (n : ℕ) (t : Ty) (es : Values) (z : ℤ) (k : ℕ) (s : List Opened) → AllHeld (item_types n t) es → Holds (Held t) (get_of n es z k s)
+  get_holds n t es z k s h =
+      index_holds n t z (λ i k s. Gives (local es i) k s) k s (λ i l. held_local P Everywhere (item_types n t) es i t h (item_type_at n i t l))
+
+  put_holds : (n : ℕ) (t : Ty) (es : Values) (z : ℤ) (v : Value) (k : ℕ) (s : List Opened) → AllHeld (item_types n t) es → Held t v
+      → Holds (Held (VecTy n t)) (put_of P.format.limit P.types n t es z v k s)
+  put_holds n t es z v k s h j =
+      index_holds n (VecTy n t) z (λ i k s. limited P.format.limit P.types (VecTy n t) (ItemsV (replaced es i v)) k s) k s (λ i l.
+      limited_holds (VecTy n t) (ItemsV (replaced es i v)) k s (λ p d. held_items P Everywhere n t (replaced es i v) (held_replaced P Everywhere n i t es v h j) p d))
+
+  operate_holds : (op : Operation) (vs : Values) (k : ℕ) (s : List Opened) → AllHeld (operand_types op) vs → Holds (Held (result_type op)) (operate P.format.limit P.types op vs k s)
+  operate_holds (VecFill n t) (AndV v NoV) k s h =
+      limited_holds (VecTy n t) (ItemsV (repeated n v)) k s (λ p d. held_items P Everywhere n t (repeated n v) (held_repeated P Everywhere n t v h.0) p d)
+  operate_holds (VecGet n t) (AndV u (AndV z NoV)) k s h =
+      at_items P.types (λ u. Held (VecTy n t) u → Holds (Held t) (get_of n (items_in u) (int_in z) k s)) n t u h.0.ideal
+      (λ es i j. get_holds n t es (int_in z) k s (held_elements P Everywhere n t es i j)) h.0
+  operate_holds (VecPut n t) (AndV u (AndV z (AndV v NoV))) k s h =
+      at_items P.types (λ u. Held (VecTy n t) u → Holds (Held (VecTy n t)) (put_of P.format.limit P.types n t (items_in u) (int_in z) v k s)) n t u h.0.ideal
+      (λ es i j. put_holds n t es (int_in z) v k s (held_elements P Everywhere n t es i j) h.1.1.0) h.0
+  operate_holds (VecFill n t) NoV k s h = elim h [ ]
+  operate_holds (VecFill n t) (AndV v (AndV u vs)) k s h = elim h.1 [ ]
+  operate_holds (VecGet n t) NoV k s h = elim h [ ]
+  operate_holds (VecGet n t) (AndV u NoV) k s h = elim h.1 [ ]
+  operate_holds (VecGet n t) (AndV u (AndV z (AndV v vs))) k s h = elim h.1.1 [ ]
+  operate_holds (VecPut n t) NoV k s h = elim h [ ]
+  operate_holds (VecPut n t) (AndV u NoV) k s h = elim h.1 [ ]
+  operate_holds (VecPut n t) (AndV u (AndV z NoV)) k s h = elim h.1.1 [ ]
+  operate_holds (VecPut n t) (AndV u (AndV z (AndV v (AndV r vs)))) k s h = elim h.1.1.1 [ ]
 
   choose_holds : (t : Ty) (b : Bool) (f g : Values → ℕ → List Opened → IdealRun Value) (env : Values) (k : ℕ) (s : List Opened)
       → Holds (Held t) (f env k s) → Holds (Held t) (g env k s) → Holds (Held t) (choose b f g env k s)
@@ -181,6 +215,10 @@ module _ (P : Program) (format : IsFormat P.format) where
           subst (λ t. Gave t (eval (CallE f args) env k s)) typed.0
           (holds_then (AllHeld (function_at P f).parameters) (Held (function_at P f).result) (eval_all args env k s) (λ vs k s. called f vs k s)
           (all_hold args ts (function_at P f).parameters typed.1 env k s i) (λ vs k s hv. calls f vs k s hv))
+      holds (OperateE op xs) ts t h env k s i =
+          subst (λ t. Gave t (eval (OperateE op xs) env k s)) h.0
+          (holds_then (AllHeld (operand_types op)) (Held (result_type op)) (eval_all xs env k s) (λ vs k s. operate P.format.limit P.types op vs k s)
+          (all_hold xs ts (operand_types op) h.2 env k s i) (λ vs k s hv. operate_holds op vs k s hv))
 
       all_hold : (xs : Expressions) (ts us : List Ty) → HaveTypes P ts xs us → (env : Values) (k : ℕ) (s : List Opened) → AllHeld ts env → Holds (AllHeld us) (eval_all xs env k s)
       all_hold NoE ts [] h env k s i = tt

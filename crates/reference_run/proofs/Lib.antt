@@ -7,13 +7,13 @@ pub mod Steps
 pub mod Called
 pub mod Rows
 pub mod Weights
--- copies::local, and wherever `get` is called
+-- copies::value_at, and wherever `get` is called
 pub mod Locals
 -- measures
 pub mod ValueViews
 pub mod RowMeasures
 pub mod Limits
--- the operations: values::text_in, then all, then ints::arith
-pub mod EmptyText
+-- the operations: all, then ints::arith, then arrays
 pub mod Calculated
 pub mod PassedInts
+pub mod Elements

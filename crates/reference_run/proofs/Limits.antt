@@ -1,5 +1,5 @@
 -- When a new value is within the limits, by what the code counted.
-use Rattle.std.proofs.Common.{◌≡◌, ℕ, ◌<◌, ◌≤◌, List, nat_lt, true, false, refl, arith}
+use Rattle.std.proofs.Common.{◌≡◌, ℕ, ◌<◌, ◌≤◌, ◌^◌, List, nat_lt, true, false, refl, arith}
 use Rattle.core_terms.specs.Types.{Ty, Table}
 use Rattle.core_terms.specs.Formats.{depth_limit}
 use Rattle.core_terms.specs.Values.{Value, size, depth}
@@ -21,5 +21,5 @@ module _ (limit : ℕ) (types : Table) (t : Ty) (v : Value) (k : ℕ) (seen : Li
 pub above : (n m limit : ℕ) → m ≡ counted n → limit < m → limit < n
 above n m limit e h = omega (arith, e, h)
 
-pub below : (n m limit : ℕ) → m ≡ counted n → m ≤ limit → limit ≤ 65536 → n ≤ limit
+pub below : (n m limit : ℕ) → m ≡ counted n → m ≤ limit → limit < 2 ^ 32 → n ≤ limit
 below n m limit e h l = omega (arith, e, h, l)

@@ -1,11 +1,11 @@
 -- The sizes and depths of values in a row, one more at a time.
-use Rattle.std.proofs.Common.{◌≡◌, ℕ, zero, suc, ◌+◌, ◌<◌, max, List, [], ◌∷◌, length, take, slice_index_or, slice_get, Option, Some, None, refl, sym, ap, ap₂, subst, ◌∙◌, arith}
+use Rattle.std.proofs.Common.{◌≡◌, ℕ, zero, suc, ◌+◌, ◌<◌, ◌≤◌, max, List, [], ◌∷◌, length, take, slice_index_or, slice_get, Option, Some, None, refl, sym, ap, ap₂, subst, ◌∙◌, arith}
 use Rattle.std.specs.Prelude.{option_map}
 use Rattle.std.proofs.lemmas.Option.{slice_get-map}
 use Rattle.core_terms.specs.ProgramTrees.{types_at}
 use Rattle.core_terms.specs.TypeTables.{type_at}
 use Rattle.core_terms.specs.declared.types.TyId.{TyId}
-use Rattle.core_terms.specs.Types.{Ty, Table}
+use Rattle.core_terms.specs.Types.{Ty, Table, item_types}
 use Rattle.core_terms.specs.Values.{Value, NoV, size, sizes, depth, depths}
 use Rattle.reference_run.specs.Measured.{IsMeasured}
 use Rattle.reference_run.specs.declared.measures.Measures.{Measures}
@@ -86,6 +86,12 @@ module _ (types : Table) where
       sym (depths_more ts vs i v inside ∙ ap (λ o. max (depths types ts (plains_of (take i vs))) (depth_at o (plain_of (slice_index_or vs i v)))) at
       ∙ least (depths types ts (plains_of (take i vs)))) in
       subst (λ n. IsMeasured row n (depths types ts (plains_of (take (i + 1) vs)))) s (subst (λ n. IsMeasured row (sizes types ts (plains_of (take i vs))) n) d h)
+
+-- the type at a place of an array, which has so many
+pub no_item_type : (n i : ℕ) (t : Ty) → n ≤ i → slice_get (item_types n t) i ≡ None
+no_item_type zero i t h = refl
+no_item_type (suc n) zero t h = absurd (omega (arith, h))
+no_item_type (suc n) (suc i) t h = let k : n ≤ i = omega (arith, h) in no_item_type n i t k
 
 -- the type at a place
 pub type_there : (types : List Ty) (ids : List TyId) (i : ℕ) (ty : TyId) → slice_get ids i ≡ Some ty → slice_get (types_at types ids) i ≡ Some (type_at types ty)

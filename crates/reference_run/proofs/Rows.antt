@@ -1,10 +1,10 @@
 -- The run of terms in a row, by the values so far and the terms that are left.
-use Rattle.std.proofs.Common.{◌≡◌, ℕ, zero, suc, ◌≤◌, List, [], ◌∷◌, ◌++◌, length, drop, refl, ap, ◌∙◌, arith}
+use Rattle.std.proofs.Common.{◌≡◌, ℕ, zero, suc, ◌+◌, ◌≤◌, List, [], ◌∷◌, ◌++◌, length, drop, refl, ap, ◌∙◌, arith}
 use Rattle.core_terms.specs.Values.{Value, Values, NoV, AndV}
 use Rattle.core_terms.specs.Terms.{Expression, NoE, AndE}
 use Rattle.core_terms.specs.ProgramTrees.{in_a_row}
 use Rattle.core_terms.specs.Terms as tree
-use Rattle.ideal_meaning.specs.Run.{Gives, Ends, then_run, join}
+use Rattle.ideal_meaning.specs.Run.{Gives, Ends, then_run, join, repeated}
 use Rattle.ideal_meaning.specs.Ideal.{Opened}
 use Rattle.ideal_meaning.specs.Table.{eval, eval_all}
 use Rattle.reference_run.specs.PlainValues.{plain_of, plains_of}
@@ -23,6 +23,16 @@ join_one (AndV w vs) us v = ap (AndV w) (join_one vs us v)
 pub joined : (vs ws : List Plain) → plains_of (vs ++ ws) ≡ join (plains_of vs) (plains_of ws)
 joined [] ws = refl
 joined (v ∷ vs) ws = ap (AndV (plain_of v)) (joined vs ws)
+
+-- a value once more
+pub one_more : (n : ℕ) (v : Value) → join (repeated n v) (AndV v NoV) ≡ repeated (n + 1) v
+one_more n v =
+    let e : suc n ≡ n + 1 = omega arith in
+    next n ∙ ap (λ m. repeated m v) e
+  where
+    next : (n : ℕ) → join (repeated n v) (AndV v NoV) ≡ repeated (suc n) v
+    next zero = refl
+    next (suc n) = ap (AndV v) (next n)
 
 -- the values of a run, with these before them
 abbrev pub ahead : Values → Evaluation Values → Evaluation Values

@@ -1,9 +1,7 @@
 -- The values that the code holds, as ideal values of the definitions.
-use Rattle.std.specs.Prelude.{ℕ, List, [], ◌∷◌, map, Option, Some, None}
-use Rattle.std.specs.Borrow.{Bor}
-use Rattle.core_terms.specs.Values.{Value, UnitV, BoolV, IntV, TextV, PairV, ConV, Values, NoV, AndV}
-use Rattle.core_terms.specs.Texts.{bytes_of}
-use Rattle.core_terms.specs.declared.term.Text.{Text}
+use Rattle.std.specs.Prelude.{List, [], ◌∷◌, map}
+use Rattle.std.specs.String.{string_bytes}
+use Rattle.core_terms.specs.Values.{Value, UnitV, BoolV, IntV, TextV, PairV, ConV, ItemsV, Values, NoV, AndV}
 use Rattle.reference_run.specs.declared.values.Plain.{Plain}
 use Rattle.reference_run.specs.declared.values.Plain.TheOpen.{Plain-F}
 use Rattle.reference_run.specs.declared.values.Plain.TheFolds.{fold-Plain}
@@ -18,17 +16,13 @@ abbrev pub value_from_parts : Plain-F Value → Value
 value_from_parts Plain-F.UnitValue = UnitV
 value_from_parts (Plain-F.BoolValue b) = BoolV b
 value_from_parts (Plain-F.IntValue z) = IntV z
-value_from_parts (Plain-F.TextValue text) = TextV (bytes_of text)
+value_from_parts (Plain-F.TextValue text) = TextV (string_bytes text)
 value_from_parts (Plain-F.PairValue x y) = PairV x.value y.value
 value_from_parts (Plain-F.ConstructorValue tag fields) = ConV tag.0 (row_of fields.items)
+value_from_parts (Plain-F.ItemsValue items) = ItemsV (row_of items.items)
 
 abbrev pub plain_of : Plain → Value
 plain_of = fold-Plain Value value_from_parts
 
 abbrev pub plains_of : List Plain → Values
 plains_of vs = row_of (map plain_of vs)
-
--- the bytes of a text, or none
-abbrev pub text_bytes : Option (Bor Text) → List ℕ
-text_bytes (Some text) = bytes_of text.now
-text_bytes None = []

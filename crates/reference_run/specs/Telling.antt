@@ -1,5 +1,5 @@
 -- How the results of the code tell an ideal run.
-use Rattle.std.specs.Prelude.{◌≡◌, ℕ, ℤ, List, Result, Ok, Err, ⊤, Vec}
+use Rattle.std.specs.Prelude.{◌≡◌, ℕ, ℤ, List, Option, Some, None, Result, Ok, Err, ⊤, Vec}
 use Rattle.std.specs.declared.alloc.Global.{Global}
 use Rattle.core_terms.specs.Types.{Ty}
 use Rattle.core_terms.specs.Values.{Value, IntV, Values, IsIdeal, AreIdeal, AuthWithin, AuthWithinAll}
@@ -8,7 +8,7 @@ use Rattle.core_terms.specs.Projection.{Fits, AllFit}
 use Rattle.core_terms.specs.declared.outcome.Trap.{Trap}
 use Rattle.core_terms.specs.declared.outcome.Outcome.{Outcome}
 use Rattle.core_terms.specs.declared.outcome.Outcome.TheVariants as told
-use Rattle.ideal_meaning.specs.Run.{Run, Gives, Ends, Traps, IsOut, then_run}
+use Rattle.ideal_meaning.specs.Run.{Run, Gives, Ends, Traps, Index, IsOut, then_run}
 use Rattle.ideal_meaning.specs.Ideal as ideal
 use Rattle.ideal_meaning.specs.Told.{trap_told}
 use Rattle.reference_run.specs.PlainValues.{plain_of, plains_of}
@@ -33,7 +33,7 @@ module _ {R A : Type 0} (of : R → A) (k : ℕ) where
 abbrev pub GoesOn : {R A : Type 0} → (R → A) → (A → ℕ → List ideal.Opened → Evaluation Value) → Result R Stop → Result Plain Stop → Type 0
 GoesOn of go operands result = (k : ℕ) (run : Evaluation _) → Tells of k operands run → Tells plain_of k result (then_run run go)
 
--- two values, values in a row, and what a calculation on ints gives
+-- two values, values in a row, what a calculation on ints gives, and what goes on at the place of an element
 abbrev pub pair_values : Plain × Plain → Value × Value
 pair_values operands = (plain_of operands.0, plain_of operands.1)
 
@@ -43,6 +43,10 @@ row_values operands = plains_of operands.items
 abbrev pub calculation_of : {C W : Type 0} → Result ℤ Trap → ℕ → W → Run C W Value
 calculation_of (Ok z) k w = Gives (IntV z) k w
 calculation_of (Err trap) k w = Ends (Traps (trap_told trap)) k w
+
+abbrev pub at_place : {C W : Type 0} → Option ℕ → (ℕ → ℕ → W → Run C W Value) → ℕ → W → Run C W Value
+at_place (Some i) go k w = go i k w
+at_place None go k w = Ends (Traps Index) k w
 
 -- an outcome as one of the definitions
 abbrev pub plain_outcome_of : Outcome Plain → ideal.Outcome

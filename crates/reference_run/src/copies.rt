@@ -11,6 +11,7 @@ use crate::stop::Stop;
 use crate::values::{Plain, pair_of};
 use core_terms::{LocalId, Text};
 use std::alloc::{AllocError, Global};
+use std::str::from_utf8;
 
 /// A copy of a value. An error says that memory was wanting.
 #[cycle(copies)]
@@ -21,12 +22,13 @@ fn copied(value: &Plain, alloc: Global) -> Result<Plain, AllocError>
         Plain::UnitValue => Ok(Plain::UnitValue),
         Plain::BoolValue(value) => Ok(Plain::BoolValue(*value)),
         Plain::IntValue(value) => Ok(Plain::IntValue(*value)),
-        Plain::TextValue(text) => Ok(Plain::TextValue(text.copied(alloc)?)),
+        Plain::TextValue(text) => Ok(Plain::TextValue(String::from_str(alloc, text)?)),
         Plain::PairValue(first, second) => copied_pair(first, second, alloc),
         Plain::ConstructorValue(tag, fields) => {
             let fields = all_copied(fields, alloc)?;
             Ok(Plain::ConstructorValue(*tag, fields))
         }
+        Plain::ItemsValue(items) => Ok(Plain::ItemsValue(all_copied(items, alloc)?)),
     }
 }
 
@@ -53,21 +55,43 @@ fn all_copied(values: &[Plain], alloc: Global) -> Result<Vec<Plain>, AllocError>
     Ok(copies)
 }
 
+/// So many copies of a value.
+pub(crate) fn repeated(value: &Plain, count: u8, alloc: Global) -> Result<Vec<Plain>, AllocError>
+    ensures { IfOk result (λ copies. plains_of copies.items ≡ meant.repeated count (plain_of value.now)) }
+{
+    let mut copies = Vec::new(alloc);
+    for _made in 0..count {
+        let copy = copied(value, alloc)?;
+        copies.push(copy)?;
+    }
+    Ok(copies)
+}
+
+/// A copy of the value at a place; where none is there it is `()`, as in the definitions.
+pub(crate) fn value_at(values: &[Plain], place: usize, alloc: Global) -> Result<Plain, AllocError>
+    ensures { IfOk result (λ copy. plain_of copy ≡ meant.local (plains_of values.now) place) }
+{
+    match values.get(place) {
+        Some(value) => copied(value, alloc),
+        None => Ok(Plain::UnitValue),
+    }
+}
+
 /// The value of a text literal.
 pub(crate) fn literal(text: &Text, alloc: Global) -> Result<Plain, Stop>
     ensures { (k : ℕ) (seen : List Opened) → Tells plain_of k result (meant.Gives (TextV (bytes_of text.now)) k seen) }
 {
-    Ok(Plain::TextValue(text.copied(alloc)?))
+    let Ok(text) = from_utf8(text.as_bytes()) else {
+        unreachable!();
+    };
+    Ok(Plain::TextValue(String::from_str(alloc, text)?))
 }
 
 /// A copy of the value of a local; of one that isn't there it is `()`, as in the definitions.
 pub(crate) fn local(locals: &[Plain], id: LocalId, alloc: Global) -> Result<Plain, Stop>
     ensures { (k : ℕ) (seen : List Opened) → Tells plain_of k result (meant.Gives (meant.local (plains_of locals.now) id.0) k seen) }
 {
-    match locals.get(id.0) {
-        Some(value) => Ok(copied(value, alloc)?),
-        None => Ok(Plain::UnitValue),
-    }
+    Ok(value_at(locals, id.0, alloc)?)
 }
 
 /// Copies of the locals, with these behind them.

@@ -6,6 +6,7 @@ ghost use Rattle.reference_run.specs.Evaluations.{ArmEvaluates, BothEvaluate, Ca
 ghost use Rattle.reference_run.specs.PlainValues.{plain_of, plains_of};
 ghost use Rattle.reference_run.specs.Telling.{pair_values, row_values};
 
+use crate::arrays::operate;
 use crate::copies::{literal, local, with_local, with_locals};
 use crate::ints::{arith, compare};
 use crate::measures::{new_constructor, new_pair};
@@ -87,6 +88,10 @@ impl Evaluator<'_> {
             Term::Call(function, arguments) => {
                 let arguments = self.row(arguments, locals, fuel);
                 self.call(*function, arguments, fuel)
+            }
+            Term::Operate(operation, operands) => {
+                let operands = self.row(operands, locals, fuel);
+                operate(self.program, *operation, operands, self.alloc)
             }
         }
     }

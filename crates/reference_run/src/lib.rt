@@ -7,6 +7,7 @@
 //! value that it copies, measures or drops. So it is for small tests: a deep run needs a deep stack.
 #![tactic(auto)]
 
+mod arrays;
 mod calls;
 mod copies;
 mod evaluator;

@@ -3,8 +3,8 @@ ghost use Rattle.std.specs.Prelude.{◌≡◌, ◌+◌, ℕ, List, [], max, unwr
 ghost use Rattle.core_terms.specs.Programs.{meaning, types_of};
 ghost use Rattle.core_terms.specs.ProgramTrees.{types_at};
 ghost use Rattle.core_terms.specs.TypeTables.{type_at};
-ghost use Rattle.core_terms.specs.Types.{NamedTy, PairTy, Table, TextTy, Ty, fields_at};
-ghost use Rattle.core_terms.specs.Values.{ConV, PairV, depth, depths, size, sizes};
+ghost use Rattle.core_terms.specs.Types.{NamedTy, PairTy, Table, TextTy, Ty, VecTy, fields_at, item_types};
+ghost use Rattle.core_terms.specs.Values.{ConV, ItemsV, PairV, depth, depths, size, sizes};
 ghost use Rattle.ideal_meaning.specs.Ideal.{Opened};
 ghost use Rattle.ideal_meaning.specs.Run as meant;
 ghost use Rattle.reference_run.specs.Measured.{IsMeasured};
@@ -68,6 +68,7 @@ fn measured(program: &Program, ty: TyId, value: &Plain) -> Measures
         TyForm::AuthForm(_) => Measures::leaf(32),
         TyForm::PairForm(first, second) => pair_measures(program, first, second, value),
         TyForm::NamedForm(named) => constructor_measures(program, named, value),
+        TyForm::VecForm(count, item) => array_measures(program, count, item, value),
     }
 }
 
@@ -113,12 +114,37 @@ fn row_measures(program: &Program, types: &[TyId], values: &[Plain]) -> Measures
     row
 }
 
+/// Those of a value at the arrays of so many elements of a type.
+#[cycle(measures)]
+fn array_measures(program: &Program, count: u8, item: TyId, value: &Plain) -> Measures
+    ensures { let types = (meaning program.now).types in let t = VecTy count (type_at (types_of program.now) item) in IsMeasured result (size types t (plain_of value.now)) (depth types t (plain_of value.now)) }
+{
+    match value {
+        Plain::ItemsValue(items) => item_measures(program, count, item, items).headed(0),
+        _ => Measures::leaf(0),
+    }
+}
+
+/// Those of the first so many of values in a row, at one type; without parts they are 0.
+#[cycle(measures)]
+fn item_measures(program: &Program, count: u8, item: TyId, items: &[Plain]) -> Measures
+    ensures { let table = (meaning program.now).types in let ts = item_types count (type_at (types_of program.now) item) in IsMeasured result (sizes table ts (plains_of items.now)) (depths table ts (plains_of items.now)) }
+{
+    let mut row = Measures { size: 0, depth: 0 };
+    for (place, value) in items.iter().enumerate() {
+        if place < usize::from(count) {
+            row = row.beside(measured(program, item, value));
+        }
+    }
+    row
+}
+
 /// Those of a text; of another value they are those of no part.
 fn text_measures(value: &Plain) -> Measures
     ensures { (types : Table) → IsMeasured result (size types TextTy (plain_of value.now)) 1 }
 {
     match value {
-        Plain::TextValue(text) => Measures::leaf(4 + text.as_bytes().len() as u64),
+        Plain::TextValue(text) => Measures::leaf(4 + text.len() as u64),
         _ => Measures::leaf(0),
     }
 }
@@ -159,6 +185,21 @@ pub(crate) fn new_constructor(
 {
     let value = Plain::ConstructorValue(tag, fields?);
     let measures = constructor_measures(program, named, &value);
+    limited(program, value, measures)
+}
+
+/// The array of these elements, where it is within the limits. By its type it has so many.
+pub(crate) fn new_array(
+    program: &Program,
+    count: u8,
+    item: TyId,
+    items: Vec<Plain>,
+) -> Result<Plain, Stop>
+    ensures { let P = meaning program.now in let t = VecTy count (type_at (types_of program.now) item) in (k : ℕ) (seen : List Opened)
+        → Tells plain_of k result (meant.limited P.format.limit P.types t (ItemsV (plains_of items.items)) k seen) }
+{
+    let value = Plain::ItemsValue(items);
+    let measures = array_measures(program, count, item, &value);
     limited(program, value, measures)
 }
 

@@ -1,6 +1,5 @@
 // Operations on texts.
-ghost use Rattle.std.specs.Prelude.{◌≡◌, ◌≤◌, ◌++◌, ℕ, List, true, pos, length};
-ghost use Rattle.std.specs.Str.{is_utf8};
+ghost use Rattle.std.specs.Prelude.{◌≡◌, ◌++◌, ℕ, List, pos, length};
 ghost use Rattle.core_terms.specs.Programs.{meaning};
 ghost use Rattle.core_terms.specs.Types.{TextTy};
 ghost use Rattle.core_terms.specs.Values.{BoolV, IntV, TextV};
@@ -11,7 +10,7 @@ ghost use Rattle.reference_run.specs.Telling.{GoesOn, Tells, pair_values};
 
 use crate::stop::Stop;
 use crate::values::{Plain, text_in};
-use core_terms::{Program, Text, TextCompare, Trap};
+use core_terms::{Program, TextCompare, Trap};
 use std::alloc::Global;
 
 /// The number of bytes of the length in the spelling of a text.
@@ -49,23 +48,19 @@ pub(crate) fn cat(
 }
 
 /// Two texts, joined, where that is within the limits.
-fn joined(program: &Program, x: &[u8], y: &[u8], alloc: Global) -> Result<Plain, Stop>
-    requires first { is_utf8 x.now ≡ true }
-    requires second { is_utf8 y.now ≡ true }
-    requires first_fits { length x.now ≤ 65532 }
-    requires second_fits { length y.now ≤ 65532 }
+fn joined(program: &Program, x: &str, y: &str, alloc: Global) -> Result<Plain, Stop>
     ensures { (k : ℕ) (seen : List Opened) → Tells plain_of k result (meant.limited (meaning program.now).format.limit (meaning program.now).types TextTy (TextV (x.now ++ y.now)) k seen) }
 {
-    if TEXT_LENGTH_SIZE + x.len() + y.len() > program.spelling_limit() {
+    if x.len() + y.len() > program.spelling_limit() - TEXT_LENGTH_SIZE {
         return Err(Stop::Trapped(Trap::TooBig));
     }
-    let mut bytes = x.to_vec(alloc)?;
-    bytes.extend_from_slice(y)?;
-    Ok(Plain::TextValue(Text::new(bytes)))
+    let mut text = String::from_str(alloc, x)?;
+    text.push_str(y)?;
+    Ok(Plain::TextValue(text))
 }
 
 /// Whether a comparison of two texts holds, by their bytes.
-fn compared(op: TextCompare, x: &[u8], y: &[u8]) -> bool
+fn compared(op: TextCompare, x: &str, y: &str) -> bool
     ensures { result ≡ meant.text_compare_of op x.now y.now }
 {
     match op {

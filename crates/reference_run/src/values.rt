@@ -2,14 +2,12 @@
 //
 // The readers are total, as those of the definitions: of a value of another kind, which no typed program has there, they give
 // what the definitions give.
-ghost use Rattle.std.specs.Prelude.{◌≡◌, ◌≤◌, true, length, IfOk};
-ghost use Rattle.std.specs.Str.{is_utf8};
+ghost use Rattle.std.specs.Prelude.{◌≡◌, IfOk};
 ghost use Rattle.core_terms.specs.Values.{PairV};
-ghost use Rattle.core_terms.specs.Texts.{bytes_of};
 ghost use Rattle.ideal_meaning.specs.Run as meant;
-ghost use Rattle.reference_run.specs.PlainValues.{plain_of, plains_of, text_bytes};
+ghost use Rattle.reference_run.specs.PlainValues.{plain_of, plains_of};
 
-use core_terms::{Tag, Text};
+use core_terms::Tag;
 use std::alloc::{AllocError, Global};
 
 /// An ideal value. An ideal value of `auth t` is one of `t`.
@@ -21,12 +19,14 @@ pub enum Plain {
     BoolValue(bool),
     /// An int.
     IntValue(i64),
-    /// A text: UTF-8 of at most 65,532 bytes.
-    TextValue(Text),
+    /// A text.
+    TextValue(String),
     /// A pair.
     PairValue(Box<Plain>, Box<Plain>),
     /// A value of a named type: the number of its constructor, and its fields.
     ConstructorValue(Tag, Vec<Plain>),
+    /// An array: its elements.
+    ItemsValue(Vec<Plain>),
 }
 
 /// The pair of two values. An error says that memory was wanting.
@@ -58,26 +58,13 @@ pub(crate) fn int_in(value: &Plain) -> i64
     }
 }
 
-/// The bytes of the text that a value is.
-#[tactic(auto, using(crate::proofs::EmptyText::no_bytes))]
-pub(crate) fn text_in(value: &Plain) -> &[u8]
-    ensures text { result.now ≡ meant.text_in (plain_of value.now) }
-    ensures utf8 { is_utf8 result.now ≡ true }
-    ensures fits { length result.now ≤ 65532 }
-{
-    match text_of(value) {
-        Some(text) => text.as_bytes(),
-        None => &[],
-    }
-}
-
-/// The text that a value is, if it is one.
-fn text_of(value: &Plain) -> Option<&Text>
-    ensures { text_bytes result ≡ meant.text_in (plain_of value.now) }
+/// The text that a value is.
+pub(crate) fn text_in(value: &Plain) -> &str
+    ensures { result.now ≡ meant.text_in (plain_of value.now) }
 {
     match value {
-        Plain::TextValue(text) => Some(text),
-        _ => None,
+        Plain::TextValue(text) => text,
+        _ => "",
     }
 }
 
@@ -117,6 +104,16 @@ pub(crate) fn fields_in(value: Plain, alloc: Global) -> Vec<Plain>
 {
     match value {
         Plain::ConstructorValue(_, fields) => fields,
+        _ => Vec::new(alloc),
+    }
+}
+
+/// The elements of the array that a value is.
+pub(crate) fn items_in(value: Plain, alloc: Global) -> Vec<Plain>
+    ensures { plains_of result.items ≡ meant.items_in (plain_of value) }
+{
+    match value {
+        Plain::ItemsValue(items) => items,
         _ => Vec::new(alloc),
     }
 }

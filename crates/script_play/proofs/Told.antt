@@ -1,6 +1,7 @@
 -- What is told of an answer: for `hear`, `telling_of` and the lines.
 use Rattle.std.proofs.Common.{◌≡◌, ℕ, ◌<◌, ◌^◌, true, false, ◌&&◌, List, Option, Some, None, Result, Ok, Err, IfSome, IsSome, length, refl, sym, ap, ◌∙◌, subst, arith}
 use Rattle.core_terms.proofs.LawProofs.{size_is_length}
+use Rattle.core_terms.specs.Formats.{IsFormat}
 use Rattle.core_terms.specs.RoleViews.{role_kind_of}
 use Rattle.core_terms.specs.Roles.{Role}
 use Rattle.core_terms.specs.Spelling.{spelling}
@@ -35,15 +36,16 @@ use Rattle.script_play.specs.Plays.{goes_behind}
 use Rattle.script_play.specs.Tellings.{IsStop, called_updates, is_outcome, is_update, makes, makes_state, told_done, told_goes}
 
 -- the line of a value, by its bytes as they are lent
-pub done_line : (P : Program) (names : ConstructorNames) (t : Ty) (bytes lent line : List ℕ) → lent ≡ bytes
+pub done_line : (P : Program) → IsFormat P.format → (names : ConstructorNames) (t : Ty) (bytes lent line : List ℕ) → lent ≡ bytes
     → ((v : Value) → IsShallow P.types t v → length lent < 2 ^ 32 → lent ≡ spelling v → line ≡ named_done_line P.types names t v)
     → (o : ideal.Outcome) → SpellsOutcome P t o (told.Done bytes) → line ≡ outcome_line P names t o
-done_line P names t bytes lent line same tells o (v, done, spelled) =
+done_line P format names t bytes lent line same tells o (v, done, spelled) =
     let is = same ∙ spelled.is in
     let count : length lent ≡ length (spelling v) = ap length is in
     let fits = spelled.within.size_fits in
     let size = size_is_length P.types t v spelled.shape in
-    tells v spelled.shape (omega (arith, count, size, fits)) is ∙ ap (outcome_line P names t) (sym done)
+    let limit = format.limit_fits in
+    tells v spelled.shape (omega (arith, count, size, fits, limit)) is ∙ ap (outcome_line P names t) (sym done)
 
 module _ (P : Program) where
   pub called_result : (found : Option meant.Standing) → (called_in P found).result ≡ called_type P found

@@ -140,6 +140,7 @@ impl<H: Hash32, G: Gate + Drop> ServeCore<H, G> {
     ///
     /// In this order: `NoSession`, `CallRuns`, and those of [`Shared::grant`](session_turns::Shared::grant).
     fn admit(&self, number: u16, role: u16, fuel: u64, argument: &[u8]) -> Result<Granted, Denial>
+        requires serves { (server : meant.Server) × Serves H.hash self.now server }
         ensures { let P = program_of self.now.code in let own = (program_in self.now.code).text_digest.0 in (server : meant.Server)
             → Serves H.hash self.now server → IsAdmitted H.hash P (nodes_in self.now.shared.store) role fuel argument.now result
             (meant.call_test H.hash P own (meant.last_turn self.now.slice) server number role fuel argument.now) }

@@ -8,7 +8,8 @@ ghost use Rattle.session_meaning.specs.Stopped.{IsStopped, Reaches};
 ghost use Rattle.session_tables.specs.Tables.{rows_of};
 ghost use Rattle.session_turns.specs.Sharing.{Shares};
 ghost use Rattle.session_turns.specs.Versions.{IsVersion};
-ghost use Rattle.value_store.specs.Stores.{nodes_in};
+ghost use Rattle.value_store.specs.Markings.{HasLimit};
+ghost use Rattle.value_store.specs.Stores.{nodes_in, store_lent};
 ghost use Rattle.wire_form.specs.MessageViews.{reply_meant};
 
 use crate::heard::{Heard, Replies};
@@ -61,7 +62,7 @@ impl<H: Hash32, G: Gate + Drop> ServeCore<H, G> {
         gate: G,
     ) -> Result<Self, AllocError>
         requires { 0 < slice }
-        ensures serves { let P = program_of code in IfOk result (λ core. (v : Value) → IsVersion H.hash P (nodes_in store) root v → Serves H.hash core (meant.new_server v)) }
+        ensures serves { let P = program_of code in IfOk result (λ core. (v : Value) → HasLimit P (store_lent store) → IsVersion H.hash P (nodes_in store) root v → Serves H.hash core (meant.new_server v)) }
         ensures code { IfOk result (λ core. core.code ≡ code) }
         ensures slice { IfOk result (λ core. core.slice ≡ slice) }
     {

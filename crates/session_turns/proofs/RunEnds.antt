@@ -116,6 +116,12 @@ module _ (hash : Hash) (code : Code) {A : Type 0} (base : List Node) (run : Runn
   pub run_over : (over : List Node) → over ≡ nodes_of_call base run → HasRun hash code over run.proving f vs call.fuel
   run_over over is = subst (λ nodes. HasRun hash code nodes run.proving f vs call.fuel) (sym is) has_run.0
 
+  pub outcome_over : (over : List Node) → over ≡ nodes_of_call base run
+      → IsOutcome (ProverNodes (digest_at hash Q)) Q.types over (function_at Q (role_in Q commit.role.0).function).result outcome (outcome_of Q state call)
+  outcome_over over is =
+      subst (λ n. IsOutcome (ProverNodes (digest_at hash Q)) Q.types over (function_at Q (role_in Q n).function).result outcome (outcome_of Q state call)) (sym h.1.role)
+      (subst (λ nodes. IsOutcome (ProverNodes (digest_at hash Q)) Q.types nodes (function_at Q (role_in Q call.role).function).result outcome (outcome_of Q state call)) (sym is) has_run.1)
+
   pub made_so : (over behind : List Node) (r : Option Ref) → over ≡ nodes_of_call base run → over ≡ behind
       → ((o : ideal.Outcome) → IsOutcome (ProverNodes (digest_at hash Q)) Q.types over (function_at Q (role_in Q commit.role.0).function).result outcome o
       → IsMade hash Q over r (state_made (role_in Q commit.role.0).kind o))
@@ -123,9 +129,7 @@ module _ (hash : Hash) (code : Code) {A : Type 0} (base : List Node) (run : Runn
   made_so over behind r is same makes =
       subst (λ nodes. IsMade hash Q nodes r (new_state Q call (outcome_of Q state call))) same
       (subst (λ n. IsMade hash Q over r (state_made (role_in Q n).kind (outcome_of Q state call))) h.1.role
-      (makes (outcome_of Q state call)
-      (subst (λ n. IsOutcome (ProverNodes (digest_at hash Q)) Q.types over (function_at Q (role_in Q n).function).result outcome (outcome_of Q state call)) (sym h.1.role)
-      (subst (λ nodes. IsOutcome (ProverNodes (digest_at hash Q)) Q.types nodes (function_at Q (role_in Q call.role).function).result outcome (outcome_of Q state call)) (sym is) has_run.1))))
+      (makes (outcome_of Q state call) (outcome_over over is)))
 
 -- the frames with a ring of this size
 pub tells_so : (hash : Hash) (P : tree.Program) (state : Value) (call : RoleCall) (n size : ℕ) (recent : List (List ℕ)) (bytes : List ℕ) (fresh again : ℕ) (after : Kept) → size ≡ n

@@ -45,8 +45,10 @@ module _ (hash : Hash) (P : Program) where
   -- one version more, and its commit
   pub committed : (old new : Shared) (same : meant.Shared) (call : RoleCall) (v : Value) (r : Ref) (commit : Commit)
       → Keeps (nodes_in old.store) (nodes_in new.store) → new.versions.items ≡ old.versions.items ++ r ∷ [] → new.commits.items ≡ old.commits.items ++ commit ∷ []
-      → new.marks ≡ old.marks → Shares hash P old same → IsCommit commit call → IsVersion hash P (nodes_in new.store) r v → Shares hash P new (meant.with_commit call v same)
-  committed old new same call v r commit keeps versions commits marks h is stands = record {
+      → new.marks ≡ old.marks → new.store.limit ≡ old.store.limit
+      → Shares hash P old same → IsCommit commit call → IsVersion hash P (nodes_in new.store) r v → Shares hash P new (meant.with_commit call v same)
+  committed old new same call v r commit keeps versions commits marks kept h is stands = record {
+    limit = record { is = kept ∙ h.limit.is };
     versions =
         subst (λ rs. AreVersions hash P (nodes_in new.store) rs (same.versions ++ v ∷ [])) (sym versions)
         (alike_more (IsVersion hash P (nodes_in new.store)) old.versions.items (r ∷ []) same.versions (v ∷ [])
@@ -64,8 +66,9 @@ module _ (hash : Hash) (P : Program) where
 
   -- the same versions and commits over a store that has grown
   pub unchanged : (old new : Shared) (same : meant.Shared) → Keeps (nodes_in old.store) (nodes_in new.store) → new.versions.items ≡ old.versions.items
-      → new.commits.items ≡ old.commits.items → new.marks ≡ old.marks → Shares hash P old same → Shares hash P new same
-  unchanged old new same keeps versions commits marks h = record {
+      → new.commits.items ≡ old.commits.items → new.marks ≡ old.marks → new.store.limit ≡ old.store.limit → Shares hash P old same → Shares hash P new same
+  unchanged old new same keeps versions commits marks kept h = record {
+    limit = record { is = kept ∙ h.limit.is };
     versions =
         subst (λ rs. AreVersions hash P (nodes_in new.store) rs same.versions) (sym versions)
         (versions_kept (nodes_in old.store) (nodes_in new.store) old.versions.items same.versions keeps h.versions);

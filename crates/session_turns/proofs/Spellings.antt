@@ -42,7 +42,7 @@ module _ (hash : Hash) (p : Program) (given : Types) (is : given ≡ p.types) (i
 
   pub shown : IsHash hash → StandsFor VerifierNodes (named_table given) nodes r.0 (type_at (types_by_number given) id) (projection hash (types_meaning given) (type_at (types_by_number given) id) v)
   shown is_hash =
-      shown_shallow (digest_at hash (types_meaning given)) (named_table given) (λ t bytes. is_hash bytes) nodes (type_at (types_by_number given) id) v r.0 stands
+      shown_shallow (digest_at hash (types_meaning given)) (named_table given) (λ t bytes. is_hash _) nodes (type_at (types_by_number given) id) v r.0 stands
 
 -- a spelling has as many bytes as the node keeps
 pub long : (hash : Hash) → IsHash hash → (p : Program) (nodes : List Node) (r : Ref) (v : Value) → IsVersion hash (meaning p) nodes r v
@@ -51,7 +51,7 @@ long hash is_hash p nodes r v h n kept =
     let digest = digest_at hash (meaning p) in
     let projected = shallow digest (meaning p).types (meaning p).state v in
     length_spelling (meaning p).types (meaning p).state projected
-    (shallow_is digest (λ t bytes. is_hash bytes) (meaning p).types (meaning p).state v
+    (shallow_is digest (λ t bytes. is_hash _) (meaning p).types (meaning p).state v
     (ideal_stands (ProverNodes digest) (meaning p).types (prover_refers digest (meaning p).types) nodes (meaning p).state v r.0 h))
     ∙ size_shallow digest (meaning p).types (meaning p).state v ∙ sym kept
 

@@ -37,6 +37,10 @@ not_most n m l = by (nat_le n m) refl
     by true e = absurd (omega (arith, leb-true n m e, l))
     by false e = e
 
+-- sound, among the same nodes with the same limit
+pub sound_as : (m n : ℕ) (ms ns own : List Node) → m ≡ n → ms ≡ ns → AreSound m (ms ++ own) → AreSound n (ns ++ own)
+sound_as m n ms ns own is same h = subst (λ (k : ℕ). AreSound k (ns ++ own)) is (subst (λ (nodes : List Node). AreSound m (nodes ++ own)) same h)
+
 -- what has grown is no shorter
 long : (old new : List Node) → Grows old new → (n : ℕ) → n ≤ length old → n ≤ length new
 long old new grows n within =
@@ -69,7 +73,7 @@ running_stays hash code old new run f vs k made grows h =
     let same = sym (first_stay run.from old new (own_nodes run.own) h.within grows) in
     record {
       within = long old new grows run.from h.within;
-      sound = subst (λ nodes. AreSound nodes) same h.sound;
+      sound = subst (λ nodes. AreSound (program_of code).format.limit nodes) same h.sound;
       stands = subst (λ nodes. StandsAt hash code nodes run.proving f vs k made run.last) same h.stands;
     }
 
@@ -112,7 +116,7 @@ module _ (hash : Hash) (code : Code) where
         (subst (λ last. StandsAt hash code (nodes_of_call base before) before.proving f vs k made last) goes_on h.stands)
 
     pub turned : (units : ℕ) (own : Own) (proving : Proving A) (last : Result (Option (Outcome Ref)) AllocError) (nodes lent : List Node) → nodes ≡ lent ++ own_nodes own
-        → lent ≡ take before.from base → AreSound (lent ++ own_nodes own) → IfOk last (λ told. TurnEnds hash code nodes proving f vs k (made + units) told)
+        → lent ≡ take before.from base → AreSound (program_of code).format.limit (take before.from base ++ own_nodes own) → IfOk last (λ told. TurnEnds hash code nodes proving f vs k (made + units) told)
         → IsRunning hash code base (record { own = own; from = before.from; proving = proving; last = last }) f vs k (made + units)
         × IfOk last (λ told. is_some told ≡ nat_le (calls_made (program_of code) f vs k) (made + units))
     turned units own proving last nodes lent is first sound ends =
@@ -120,4 +124,4 @@ module _ (hash : Hash) (code : Code) where
         let stands =
         ended_so (take before.from base ++ own_nodes own) proving f vs k (made + units) last
         (subst (λ ns. IfOk last (λ told. TurnEnds hash code ns proving f vs k (made + units) told)) same ends) in
-        (record { within = h.within; sound = subst (λ ns. AreSound (ns ++ own_nodes own)) first sound; stands = stands.0 }, stands.1)
+        (record { within = h.within; sound = sound; stands = stands.0 }, stands.1)

@@ -24,7 +24,7 @@ module _ (hash : Hash) (P : Program) where
     pub there : granted.function.0 < length P.functions
     pub takes : TakesState P granted.function.0
     pub all : granted.from ≡ length nodes
-    pub sound : AreSound (take granted.from nodes ++ own_nodes granted.own)
+    pub sound : AreSound P.format.limit (take granted.from nodes ++ own_nodes granted.own)
     pub stands : StandsFor (ProverNodes (digest_at hash P)) P.types (take granted.from nodes ++ own_nodes granted.own) granted.argument.0 (argument_type P granted.function.0) a
 
   -- What is granted is held, and what is refused is refused for the same cause. Where memory is wanting nothing is said.

@@ -28,7 +28,7 @@ module _ (hash : Hash) (code : Code) where
   -- So it is among its nodes.
   pub record IsRunning {A : Type 0} (base : List Node) (run : Running A) (f : ℕ) (vs : Values) (k made : ℕ) : Type 0 where
     pub within : run.from ≤ length base
-    pub sound : AreSound (nodes_of_call base run)
+    pub sound : AreSound (program_of code).format.limit (nodes_of_call base run)
     pub stands : StandsAt (nodes_of_call base run) run.proving f vs k made run.last
 
   -- A call is behind a turn what it is, so many calls of functions further; it has run exactly where it makes no more than those.

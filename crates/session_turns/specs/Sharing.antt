@@ -5,7 +5,8 @@ use Rattle.core_terms.specs.Spelling.{spelling}
 use Rattle.core_terms.specs.Terms.{Program}
 use Rattle.session_meaning.specs.Calls.{RoleCall}
 use Rattle.session_meaning.specs.Server as meant
-use Rattle.value_store.specs.Stores.{nodes_in}
+use Rattle.value_store.specs.Markings.{HasLimit}
+use Rattle.value_store.specs.Stores.{nodes_in, store_lent}
 use Rattle.session_turns.specs.Marks.{AreMarks}
 use Rattle.session_turns.specs.Rows.{AreAlike}
 use Rattle.session_turns.specs.Versions.{AreVersions}
@@ -18,9 +19,10 @@ pub record IsCommit (commit : Commit) (call : RoleCall) : Type 0 where
   pub argument : commit.argument ≡ spelling call.argument
   pub fuel : commit.fuel ≡ call.fuel
 
--- Among the prover's nodes in the store the versions stand for those of the definitions, and the commits are the same calls. What is known
--- of the marks of their spellings is so.
+-- The store has the limit of the program's format. Among the prover's nodes in it the versions stand for those of the definitions, and the
+-- commits are the same calls. What is known of the marks of their spellings is so.
 pub record Shares (hash : Hash) (P : Program) (shared : Shared) (same : meant.Shared) : Type 0 where
+  pub limit : HasLimit P (store_lent shared.store)
   pub versions : AreVersions hash P (nodes_in shared.store) shared.versions.items same.versions
   pub commits : AreAlike IsCommit shared.commits.items same.commits
   pub marks : AreMarks hash P shared.marks same.versions

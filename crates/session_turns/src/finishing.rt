@@ -15,10 +15,11 @@ ghost use Rattle.reuse_buffer.specs.Kept.{kept};
 ghost use Rattle.session_meaning.specs.Calls as meant_calls;
 ghost use Rattle.session_meaning.specs.Calls.{RoleCall, frames_of, new_state, outcome_of, role_in};
 ghost use Rattle.session_meaning.specs.Server as meant;
+ghost use Rattle.value_store.specs.Markings.{HasLimit};
 ghost use Rattle.value_store.specs.Nodes.{AreSound};
 ghost use Rattle.value_store.specs.Overs.{own_nodes};
 ghost use Rattle.value_store.specs.Standing.{ProverNodes};
-ghost use Rattle.value_store.specs.Stores.{nodes_in};
+ghost use Rattle.value_store.specs.Stores.{nodes_in, store_lent};
 ghost use Rattle.value_store.specs.declared.node.Ref.{Ref};
 ghost use Rattle.session_turns.specs.Settling.{IsMade};
 
@@ -90,6 +91,7 @@ impl<H: Hash32> Running<H> {
         version: usize,
         call: Commit,
     ) -> Result<Option<Finished>, AllocError>
+        requires limit { HasLimit (program_of code.now) (store_lent base.now) }
         requires has_run { (outcome : Outcome Ref) × (self.last ≡ Ok (Some outcome)) }
         requires running { (state : Value) × (role_call : RoleCall) × (made : ℕ) × IsRunOf H.hash code.now (nodes_in base.now) self call state role_call made }
         ensures ends { let P = program_of code.now in IfOk result (λ end. IfSome end (λ end. (s : meant.Session) (state : Value) (role_call : RoleCall) (made : ℕ)
@@ -102,7 +104,7 @@ impl<H: Hash32> Running<H> {
             → meant.fits_message (frames_of H.hash P s.kept s.recent state role_call) ≡ false)) }
         ensures version { IfOk result (λ end. IfSome end (λ end. end.ended.version ≡ version)) }
         ensures within { IfOk result (λ end. IfSome end (λ end. end.ended.from ≤ length (nodes_in base.now))) }
-        ensures sound { IfOk result (λ end. IfSome end (λ end. AreSound (take end.ended.from (nodes_in base.now) ++ own_nodes end.ended.own))) }
+        ensures sound { IfOk result (λ end. IfSome end (λ end. AreSound base.now.limit (take end.ended.from (nodes_in base.now) ++ own_nodes end.ended.own))) }
         ensures made { IfOk result (λ end. IfSome end (λ end. IfSome end.ended.made (λ r. r.0 < end.ended.from + length (own_nodes end.ended.own)))) }
     {
         let Running {

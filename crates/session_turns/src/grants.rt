@@ -4,7 +4,8 @@ ghost use Rattle.mode_vm.specs.Meanings.{program_of};
 ghost use Rattle.core_terms.specs.RoleViews.{role_kind_of};
 ghost use Rattle.session_meaning.specs.Calls as meant_calls;
 ghost use Rattle.session_meaning.specs.Server as meant;
-ghost use Rattle.value_store.specs.Stores.{nodes_in};
+ghost use Rattle.value_store.specs.Markings.{HasLimit};
+ghost use Rattle.value_store.specs.Stores.{nodes_in, store_lent};
 
 use crate::refusal::{Denial, Refusal};
 use crate::shared::Shared;
@@ -68,6 +69,7 @@ impl Shared {
         fuel: u64,
         argument: &[u8],
     ) -> Result<Granted, Denial>
+        requires limit { HasLimit (program_of code.now) (store_lent self.now.store) }
         ensures { let P = program_of code.now in (own : List ℕ) (ending : ℕ → ℕ) (s : meant.Session) (shared : meant.Shared)
             → Shares H.hash P self.now shared → s.running ≡ None
             → IsGranted H.hash P s role fuel (nodes_in self.now.store) result (meant.session_test H.hash P own ending (Some s) (length shared.versions) role fuel argument.now) }

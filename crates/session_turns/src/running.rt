@@ -5,8 +5,9 @@ ghost use Rattle.ideal_meaning.specs.Headline.{call_of};
 ghost use Rattle.mode_vm.specs.Meanings.{program_of};
 ghost use Rattle.mode_vm.specs.StateCalls.{TakesState};
 ghost use Rattle.session_meaning.specs.Calls.{role_in};
+ghost use Rattle.value_store.specs.Markings.{HasLimit};
 ghost use Rattle.value_store.specs.Nodes.{Node};
-ghost use Rattle.value_store.specs.Stores.{nodes_in};
+ghost use Rattle.value_store.specs.Stores.{nodes_in, store_lent};
 
 use crate::grants::Granted;
 use code_gen::Code;
@@ -67,6 +68,7 @@ impl<H: Hash32> Running<H> {
     /// wanting the call can't go on.
     pub fn turn(self, code: &Code, base: &Store, units: u64) -> Running<H>
         requires running { (f : ℕ) × (vs : Values) × (k : ℕ) × (made : ℕ) × IsRunning H.hash code.now (nodes_in base.now) self f vs k made }
+        requires limit { HasLimit (program_of code.now) (store_lent base.now) }
         requires goes_on { self.last ≡ Ok None }
         requires some { 0 < units }
         ensures { RunsTo H.hash code.now (nodes_in base.now) units self result }

@@ -68,7 +68,7 @@ impl Shared {
         requires shares { (m : meant.Shared) × Shares H.hash (program_of code.now) self.old m }
         requires version { finished.ended.version < length self.old.versions.items }
         requires within { finished.ended.from ≤ length (nodes_in self.old.store) }
-        requires sound { AreSound (take finished.ended.from (nodes_in self.old.store) ++ own_nodes finished.ended.own) }
+        requires sound { AreSound self.old.store.limit (take finished.ended.from (nodes_in self.old.store) ++ own_nodes finished.ended.own) }
         requires made { IfSome finished.ended.made (λ r. r.0 < finished.ended.from + length (own_nodes finished.ended.own)) }
         ensures turned { let P = program_of code.now in IfOk result
             (λ turned. (slice : ℕ) (m : meant.Shared) (s : meant.Session) (call : RoleCall) (frames : List Frame) (made : Option Value)

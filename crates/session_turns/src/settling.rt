@@ -62,7 +62,7 @@ impl Shared {
         requires shares { (shared : meant.Shared) × Shares H.hash (program_of code.now) self.old shared }
         requires version { ended.version < length self.old.versions.items }
         requires within { ended.from ≤ length (nodes_in self.old.store) }
-        requires sound { AreSound (take ended.from (nodes_in self.old.store) ++ own_nodes ended.own) }
+        requires sound { AreSound self.old.store.limit (take ended.from (nodes_in self.old.store) ++ own_nodes ended.own) }
         requires made { IfSome ended.made (λ r. r.0 < ended.from + length (own_nodes ended.own)) }
         ensures settled { let P = program_of code.now in IfOk result
             (λ settled. (number : ℕ) (s : meant.Session) (call : RoleCall) (frames : List Frame) (made : Option Value) (shared : meant.Shared)

@@ -6,10 +6,11 @@ ghost use Rattle.core_terms.specs.Values.{Value};
 ghost use Rattle.mode_vm.specs.Meanings.{program_of};
 ghost use Rattle.session_meaning.specs.Calls.{RoleCall};
 ghost use Rattle.session_meaning.specs.Server as meant;
+ghost use Rattle.value_store.specs.Markings.{HasLimit};
 ghost use Rattle.value_store.specs.Nodes.{AreSound};
 ghost use Rattle.value_store.specs.Overs.{own_nodes};
 ghost use Rattle.value_store.specs.Standing.{Grows};
-ghost use Rattle.value_store.specs.Stores.{nodes_in};
+ghost use Rattle.value_store.specs.Stores.{nodes_in, store_lent};
 ghost use Rattle.session_turns.specs.Marks.{mark_of};
 ghost use Rattle.session_turns.specs.Versions.{IsVersion};
 
@@ -37,7 +38,7 @@ impl Shared {
 
     /// With this version alone. `AllocError` where there is no memory for the list of versions.
     pub fn new(alloc: Global, store: Store, first: Ref) -> Result<Shared, AllocError>
-        ensures { IfOk result (λ shared. (hash : Hash) (P : Program) (v : Value) → IsVersion hash P (nodes_in store) first v
+        ensures { IfOk result (λ shared. (hash : Hash) (P : Program) (v : Value) → HasLimit P (store_lent store) → IsVersion hash P (nodes_in store) first v
             → Shares hash P shared (meant.new_server v).shared) }
     {
         let mut versions = Vec::new(alloc);
@@ -183,7 +184,7 @@ impl Shared {
         commit: Commit,
     ) -> Result<(), AllocError>
         requires within { from ≤ length (nodes_in self.old.store) }
-        requires sound { AreSound (take from (nodes_in self.old.store) ++ own_nodes own) }
+        requires sound { AreSound self.old.store.limit (take from (nodes_in self.old.store) ++ own_nodes own) }
         requires there { version.0 < from + length (own_nodes own) }
         ensures commits { IfOk result (λ _. (hash : Hash) (P : Program) (shared : meant.Shared) (call : RoleCall) (v : Value)
             → Shares hash P self.old shared → IsCommit commit call

@@ -2,7 +2,9 @@
 ghost use Rattle.std.specs.Prelude.{◌≡◌, ◌<◌};
 ghost use Rattle.std.specs.List.{list_any};
 ghost use Rattle.std.specs.Thread.{IsSync};
-ghost use Rattle.value_store.specs.Stores.{nodes_in};
+ghost use Rattle.mode_vm.specs.Meanings.{program_of};
+ghost use Rattle.value_store.specs.Markings.{HasLimit};
+ghost use Rattle.value_store.specs.Stores.{nodes_in, store_lent};
 ghost use Rattle.session_turns.specs.Rounds.{runs};
 ghost use Rattle.session_turns.specs.Turning.{AllGoOn, AllTurned, GoesOn, IsTurnOf};
 
@@ -28,6 +30,7 @@ pub fn round<H: Hash32, G: Gate, R: Threads + Sync>(
     units: u64,
     gate: &G,
 )
+    requires limit { HasLimit (program_of code.now) (store_lent base.now) }
     requires go_on { AllGoOn H.hash code.now (nodes_in base.now) entries.old }
     requires some { 0 < units }
     ensures { AllTurned H.hash code.now (nodes_in base.now) units entries.old entries.new }
@@ -61,6 +64,7 @@ fn take_turns<H: Hash32, G: Gate, R: Threads + Sync>(
     few: &usize,
     entries: &mut [Entry<Session<H>>],
 )
+    requires limit { HasLimit (program_of code.now) (store_lent base.now) }
     requires go_on { AllGoOn H.hash code.now (nodes_in base.now) entries.old }
     requires some { 0 < units.now }
     ensures { AllTurned H.hash code.now (nodes_in base.now) units.now entries.old entries.new }
@@ -75,11 +79,13 @@ fn take_turns<H: Hash32, G: Gate, R: Threads + Sync>(
                 join_mut(
                     rt,
                     &mut ||
+                        requires limit { HasLimit (program_of code.now) (store_lent base.now) }
                         requires go_on { AllGoOn H.hash code.now (nodes_in base.now) front.now }
                         requires some { IsSync R.row × (0 < units.now) }
                         ensures { AllTurned H.hash code.entry.now (nodes_in base.entry.now) units.entry.now front.entry.now front.exit.now }
                     { take_turns(rt, code, base, units, gate, few, front) },
                     &mut ||
+                        requires limit { HasLimit (program_of code.now) (store_lent base.now) }
                         requires go_on { AllGoOn H.hash code.now (nodes_in base.now) back.now }
                         requires some { IsSync R.row × (0 < units.now) }
                         ensures { AllTurned H.hash code.entry.now (nodes_in base.entry.now) units.entry.now back.entry.now back.exit.now }
@@ -101,6 +107,7 @@ fn take_turn<H: Hash32, G: Gate>(
     gate: &G,
     entry: &mut Entry<Session<H>>,
 )
+    requires limit { HasLimit (program_of code.now) (store_lent base.now) }
     requires goes_on { GoesOn H.hash code.now (nodes_in base.now) entry.old.value.running }
     requires some { 0 < units }
     ensures { IsTurnOf H.hash code.now (nodes_in base.now) units entry.old entry.new }

@@ -22,7 +22,7 @@ pub fn check_spelled(
 ) -> Result<(), UnspellFault>
     ensures { IsRead (read_at (types_meaning types.now) (ty_of types.now ty) bytes.now) result }
 {
-    let mut store = Store::new(alloc);
+    let mut store = Store::new(alloc, types.spelling_limit() as u32);
     unspell(alloc, types, &mut store, bytes, ty)?;
     Ok(())
 }

@@ -2,14 +2,14 @@
 ghost use Rattle.std.specs.Prelude.{◌≡◌, ◌+◌, ◌<◌, ◌≤◌, List, true, length, IfOk};
 ghost use Rattle.core_terms.specs.ProgramTypes.{types_by_number};
 ghost use Rattle.core_terms.specs.TypeTables.{type_at};
-ghost use Rattle.core_terms.specs.Types.{Table, Ty};
+ghost use Rattle.core_terms.specs.Types.{Table, Ty, is_length};
 ghost use Rattle.core_terms.specs.Values.{Value};
 ghost use Rattle.shallow_codec.specs.KnownNothings.{AreKnown};
 ghost use Rattle.shallow_codec.specs.ProgramTypes.{table};
 ghost use Rattle.shallow_codec.specs.PutNodes.{IsThere};
-ghost use Rattle.shallow_codec.specs.PutValues.{ConIsRead, IsHead, PairIsRead};
+ghost use Rattle.shallow_codec.specs.PutValues.{ConIsRead, IsHead, PairIsRead, VecIsRead};
 ghost use Rattle.value_store.specs.CodeNodes.{numbers_of};
-ghost use Rattle.value_store.specs.Nodes.{ConNode, FormFits, PairNode, refers_below, size_limit};
+ghost use Rattle.value_store.specs.Nodes.{ConNode, FormFits, PairNode, greatest_limit, refers_below, VecNode};
 ghost use Rattle.value_store.specs.Standing.{Grows};
 
 use crate::UnspellFault;
@@ -34,7 +34,7 @@ pub(crate) fn read_head<'p, 'a>(
     named: NamedId,
     at: Cursor<'a>,
 ) -> Result<Head<'p, 'a>, UnspellFault>
-    requires { at.offset + length at.rest.now ≤ size_limit }
+    requires { at.offset + length at.rest.now ≤ greatest_limit }
     ensures { IsHead (table types.now) (types_by_number types.now) named.0 at.entry result }
 {
     let Some((tag, behind)) = at.read_tag() else {
@@ -60,7 +60,7 @@ pub(crate) fn put_noted<'a, N: Nodes>(
 ) -> Result<Front<'a>, UnspellFault>
     requires first { first.value.0 < length (N.nodes store.old) }
     requires second { second.value.0 < length (N.nodes store.old) }
-    requires fits { FormFits (N.nodes store.old) (PairNode first.value.0 second.value.0) }
+    requires fits { FormFits (N.lent store.old).limit (N.nodes store.old) (PairNode first.value.0 second.value.0) }
     ensures read { PairIsRead (N.nodes store.old) (N.nodes store.new) first.entry second.entry result }
     ensures known { IfOk result
         (λ front. (types : Table) (tys : List Ty) (v : Value) → AreKnown types tys (N.nodes store.old) nothings.old
@@ -81,7 +81,7 @@ fn put_parts<'a, N: Nodes>(
 ) -> Result<Front<'a>, UnspellFault>
     requires first { first.value.0 < length (N.nodes store.old) }
     requires second { second.value.0 < length (N.nodes store.old) }
-    requires fits { FormFits (N.nodes store.old) (PairNode first.value.0 second.value.0) }
+    requires fits { FormFits (N.lent store.old).limit (N.nodes store.old) (PairNode first.value.0 second.value.0) }
     ensures read { PairIsRead (N.nodes store.old) (N.nodes store.new) first.entry second.entry result }
     ensures inside { IfOk result (λ front. front.value.0 < length (N.nodes store.new)) }
     ensures grows { Grows (N.nodes store.old) (N.nodes store.new) }
@@ -102,7 +102,7 @@ pub(crate) fn put_fields<'a, N: Nodes>(
     fields: Fronts<'a>,
 ) -> Result<Front<'a>, UnspellFault>
     requires fields { refers_below (length (N.nodes store.old)) (ConNode named.0 tag.0 (numbers_of fields.values.items)) ≡ true }
-    requires fits { FormFits (N.nodes store.old) (ConNode named.0 tag.0 (numbers_of fields.values.items)) }
+    requires fits { FormFits (N.lent store.old).limit (N.nodes store.old) (ConNode named.0 tag.0 (numbers_of fields.values.items)) }
     ensures read { ConIsRead (N.nodes store.old) (N.nodes store.new) named.0 tag.0 fields.entry result }
     ensures grows { Grows (N.nodes store.old) (N.nodes store.new) }
     ensures lent { N.lent store.new ≡ N.lent store.old }
@@ -111,5 +111,44 @@ pub(crate) fn put_fields<'a, N: Nodes>(
     Ok(Front {
         value,
         behind: fields.behind,
+    })
+}
+
+/// The array of a type, of elements that were read one after another. It is noted if it is spelled by nothing.
+pub(crate) fn put_items_noted<'a, N: Nodes>(
+    store: &mut N,
+    nothings: &mut Nothings,
+    ty: TyId,
+    items: Fronts<'a>,
+) -> Result<Front<'a>, UnspellFault>
+    requires items { refers_below (length (N.nodes store.old)) (VecNode (numbers_of items.values.items)) ≡ true }
+    requires count { is_length (length items.values.items) ≡ true }
+    requires fits { FormFits (N.lent store.old).limit (N.nodes store.old) (VecNode (numbers_of items.values.items)) }
+    ensures read { VecIsRead (N.nodes store.old) (N.nodes store.new) (length items.entry.values.items) items.entry result }
+    ensures known { IfOk result
+        (λ front. (types : Table) (tys : List Ty) (v : Value) → AreKnown types tys (N.nodes store.old) nothings.old
+        → IsThere types (N.nodes store.new) front.value.0 (type_at tys ty) v → AreKnown types tys (N.nodes store.new) nothings.new) }
+    ensures grows { Grows (N.nodes store.old) (N.nodes store.new) }
+    ensures lent { N.lent store.new ≡ N.lent store.old }
+{
+    let array = put_items(store, items)?;
+    nothings.note(store, ty, array.value)?;
+    Ok(array)
+}
+
+/// The array of elements that were read one after another.
+fn put_items<'a, N: Nodes>(store: &mut N, items: Fronts<'a>) -> Result<Front<'a>, UnspellFault>
+    requires items { refers_below (length (N.nodes store.old)) (VecNode (numbers_of items.values.items)) ≡ true }
+    requires count { is_length (length items.values.items) ≡ true }
+    requires fits { FormFits (N.lent store.old).limit (N.nodes store.old) (VecNode (numbers_of items.values.items)) }
+    ensures read { VecIsRead (N.nodes store.old) (N.nodes store.new) (length items.entry.values.items) items.entry result }
+    ensures inside { IfOk result (λ front. front.value.0 < length (N.nodes store.new)) }
+    ensures grows { Grows (N.nodes store.old) (N.nodes store.new) }
+    ensures lent { N.lent store.new ≡ N.lent store.old }
+{
+    let value = store.put_vec(&items.values)?;
+    Ok(Front {
+        value,
+        behind: items.behind,
     })
 }

@@ -1,5 +1,6 @@
 // The prover's nodes of authenticated values.
 ghost use Rattle.std.specs.Prelude.{◌≡◌, IfOk, OnErr};
+ghost use Rattle.core_terms.specs.Fronts.{AreFronts};
 ghost use Rattle.core_terms.specs.ProgramTypes.{types_meaning};
 ghost use Rattle.core_terms.specs.Projection.{digest_at};
 ghost use Rattle.core_terms.specs.Types.{AuthTy};
@@ -8,7 +9,7 @@ ghost use Rattle.shallow_codec.specs.ProgramTypes.{table, ty_of};
 ghost use Rattle.value_store.specs.Standing.{Grows, Keeps, ProverNodes, StandsFor};
 
 use crate::spell;
-use core_terms::{Hash32, TyId, Types};
+use core_terms::{Fronts, Hash32, TyId, Types};
 use std::alloc::{AllocError, Global};
 use value_store::{Held, Nodes, Ref};
 
@@ -17,11 +18,13 @@ use value_store::{Held, Nodes, Ref};
 pub fn put_digested<H: Hash32, N: Nodes>(
     alloc: Global,
     types: &Types,
+    fronts: &Fronts,
     store: &mut N,
     ty: TyId,
     v: Ref,
 ) -> Result<Ref, AllocError>
-    requires { (x : Value) × StandsFor (ProverNodes (digest_at H.hash (types_meaning types.now))) (table types.now) (N.nodes store.old) v.0 (ty_of types.now ty) x }
+    requires fronts { AreFronts H.hash types.now fronts.now }
+    requires stands { (x : Value) × StandsFor (ProverNodes (digest_at H.hash (types_meaning types.now))) (table types.now) (N.nodes store.old) v.0 (ty_of types.now ty) x }
     ensures stands { IfOk result
         (λ r. (x : Value) → StandsFor (ProverNodes (digest_at H.hash (types_meaning types.now))) (table types.now) (N.nodes store.old) v.0 (ty_of types.now ty) x
         → StandsFor (ProverNodes (digest_at H.hash (types_meaning types.now))) (table types.now) (N.nodes store.new) r.0 (AuthTy (ty_of types.now ty)) x) }
@@ -31,6 +34,6 @@ pub fn put_digested<H: Hash32, N: Nodes>(
     ensures refused { OnErr result (N.nodes store.new ≡ N.nodes store.old) }
 {
     let spelling = spell(alloc, types, store, v, ty)?;
-    let digest = H::of(spelling.as_bytes());
+    let digest = H::of_pair(fronts.front(ty), spelling.as_bytes());
     store.put_auth(Held::Both(digest, v))
 }

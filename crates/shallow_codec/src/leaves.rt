@@ -5,7 +5,6 @@ ghost use Rattle.core_terms.specs.TypeTables.{type_of_form};
 ghost use Rattle.core_terms.specs.Types.{AuthTy, BoolTy, IntTy, Table, TextTy, Ty, UnitTy};
 ghost use Rattle.shallow_codec.specs.KnownNothings.{IsNothingAt};
 ghost use Rattle.shallow_codec.specs.PutValues.{IsRead, is_leaf};
-ghost use Rattle.value_store.specs.Nodes.{size_limit};
 ghost use Rattle.value_store.specs.Standing.{Grows};
 
 use crate::UnspellFault;
@@ -20,7 +19,7 @@ pub(crate) fn put_leaf<'a, N: Nodes>(
     form: TyForm,
     at: Cursor<'a>,
 ) -> Result<Front<'a>, UnspellFault>
-    requires short { at.offset + length at.rest.now ≤ size_limit }
+    requires short { at.offset + length at.rest.now ≤ (N.lent store.old).limit }
     requires leaf { is_leaf form ≡ true }
     ensures read { (types : Table) (tys : List Ty) (levels : ℕ) → IsRead types (N.nodes store.new) (suc levels) (type_of_form tys form) at.entry
         (meant.read_value types (suc levels) (type_of_form tys form) at.entry.rest.now at.entry.offset) result }
@@ -33,7 +32,7 @@ pub(crate) fn put_leaf<'a, N: Nodes>(
         TyForm::IntForm => put_int(store, at),
         TyForm::TextForm => put_text(store, at),
         TyForm::AuthForm(_) => put_digest(store, at),
-        TyForm::PairForm(_, _) | TyForm::NamedForm(_) => unreachable!(),
+        TyForm::PairForm(_, _) | TyForm::NamedForm(_) | TyForm::VecForm(_, _) => unreachable!(),
     }
 }
 
@@ -55,7 +54,7 @@ pub(crate) fn put_bool<'a, N: Nodes>(
     store: &mut N,
     at: Cursor<'a>,
 ) -> Result<Front<'a>, UnspellFault>
-    requires short { at.offset + length at.rest.now ≤ size_limit }
+    requires short { at.offset + length at.rest.now ≤ (N.lent store.old).limit }
     ensures read { (types : Table) (levels : ℕ) → IsRead types (N.nodes store.new) (suc levels) BoolTy at.entry (meant.read_value types (suc levels) BoolTy at.entry.rest.now at.entry.offset) result }
     ensures grows { Grows (N.nodes store.old) (N.nodes store.new) }
     ensures lent { N.lent store.new ≡ N.lent store.old }
@@ -72,7 +71,7 @@ pub(crate) fn put_int<'a, N: Nodes>(
     store: &mut N,
     at: Cursor<'a>,
 ) -> Result<Front<'a>, UnspellFault>
-    requires short { at.offset + length at.rest.now ≤ size_limit }
+    requires short { at.offset + length at.rest.now ≤ (N.lent store.old).limit }
     ensures read { (types : Table) (levels : ℕ) → IsRead types (N.nodes store.new) (suc levels) IntTy at.entry (meant.read_value types (suc levels) IntTy at.entry.rest.now at.entry.offset) result }
     ensures grows { Grows (N.nodes store.old) (N.nodes store.new) }
     ensures lent { N.lent store.new ≡ N.lent store.old }
@@ -89,7 +88,7 @@ pub(crate) fn put_text<'a, N: Nodes>(
     store: &mut N,
     at: Cursor<'a>,
 ) -> Result<Front<'a>, UnspellFault>
-    requires short { at.offset + length at.rest.now ≤ size_limit }
+    requires short { at.offset + length at.rest.now ≤ (N.lent store.old).limit }
     ensures read { (types : Table) (levels : ℕ) → IsRead types (N.nodes store.new) (suc levels) TextTy at.entry (meant.read_value types (suc levels) TextTy at.entry.rest.now at.entry.offset) result }
     ensures grows { Grows (N.nodes store.old) (N.nodes store.new) }
     ensures lent { N.lent store.new ≡ N.lent store.old }
@@ -106,7 +105,7 @@ pub(crate) fn put_digest<'a, N: Nodes>(
     store: &mut N,
     at: Cursor<'a>,
 ) -> Result<Front<'a>, UnspellFault>
-    requires short { at.offset + length at.rest.now ≤ size_limit }
+    requires short { at.offset + length at.rest.now ≤ (N.lent store.old).limit }
     ensures read { (types : Table) (levels : ℕ) (t : Ty) → IsRead types (N.nodes store.new) (suc levels) (AuthTy t) at.entry (meant.read_value types (suc levels) (AuthTy t) at.entry.rest.now at.entry.offset) result }
     ensures grows { Grows (N.nodes store.old) (N.nodes store.new) }
     ensures lent { N.lent store.new ≡ N.lent store.old }

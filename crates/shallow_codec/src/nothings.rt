@@ -1,4 +1,4 @@
-// Pairs that are spelled by nothing.
+// Pairs and arrays that are spelled by nothing.
 ghost use Rattle.std.specs.Prelude.{◌≡◌, ◌<◌, ℕ, None, Some, List, length, IfOk, OnOk};
 ghost use Rattle.core_terms.specs.Types.{Ty, Table};
 ghost use Rattle.core_terms.specs.TypeTables.{type_at};
@@ -11,7 +11,7 @@ use std::alloc::{AllocError, Global};
 use std::collections::HashMap;
 use value_store::{Nodes, Ref};
 
-/// The pairs that are spelled by nothing and were put so far, by the numbers of their types. A type has at most one such value, so each
+/// The pairs and arrays that are spelled by nothing and were put so far, by the numbers of their types. A type has at most one such value, so each
 /// is put once, however often it is a part. A unit, the one other value that is spelled by nothing, isn't kept here: it is one node, and is
 /// put where it is read.
 #[derive(Drop)]

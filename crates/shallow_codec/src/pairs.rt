@@ -5,7 +5,6 @@ ghost use Rattle.core_terms.specs.Spelling.{Spells, spelling};
 ghost use Rattle.core_terms.specs.Types.{PairTy, Ty};
 ghost use Rattle.core_terms.specs.Values.{PairV, Value};
 ghost use Rattle.shallow_codec.specs.ProgramTypes.{table, ty_of};
-ghost use Rattle.value_store.specs.Nodes.{size_limit};
 
 use crate::{UnspellFault, spell, unspell};
 use core_terms::{Spelling, TyId, Types};
@@ -25,10 +24,10 @@ pub fn first_spelled(
     bytes: &[u8],
 ) -> Result<Spelling, AllocError>
     requires pair { (answer : Ty) × (ty_of types.now ty ≡ PairTy (types_meaning types.now).state answer) }
-    requires spelled { (v : Value) × Spells size_limit (table types.now) bytes.now (ty_of types.now ty) v }
-    ensures { IfOk result (λ state. (x y : Value) → Spells size_limit (table types.now) bytes.now (ty_of types.now ty) (PairV x y) → state ≡ spelling x) }
+    requires spelled { (v : Value) × Spells (types_meaning types.now).format.limit (table types.now) bytes.now (ty_of types.now ty) v }
+    ensures { IfOk result (λ state. (x y : Value) → Spells (types_meaning types.now).format.limit (table types.now) bytes.now (ty_of types.now ty) (PairV x y) → state ≡ spelling x) }
 {
-    let mut store = Store::new(alloc);
+    let mut store = Store::new(alloc, types.spelling_limit() as u32);
     let pair = match unspell(alloc, types, &mut store, bytes, ty) {
         Ok(pair) => pair,
         Err(UnspellFault::Bad(_)) => unreachable!(),

@@ -93,6 +93,12 @@ fn write<N: Nodes>(store: &N, r: Ref, bytes: &mut Vec<u8>) -> Result<(), AllocEr
             }
             Ok(())
         }
+        View::Items(items) => {
+            for item in items {
+                write(store, *item, bytes)?;
+            }
+            Ok(())
+        }
         View::Auth(Held::Both(digest, _) | Held::Only(digest)) => {
             bytes.extend_from_slice(digest.as_bytes())
         }

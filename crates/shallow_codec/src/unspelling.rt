@@ -17,9 +17,9 @@ use value_store::{Nodes, Ref};
 /// The greatest number of levels of a value: `depth_limit` of the formats.
 const DEPTH_LIMIT: u32 = 512;
 
-/// Puts the value that the bytes spell at a type into the store. Each digest becomes a verifier's node. A pair that is spelled by
-/// nothing is put once for its type, however often it is a part; each unit that isn't in such a pair is a node of its own. After an error
-/// the store is as it was.
+/// Puts the value that the bytes spell at a type into the store, whose limit is that of the types' format. Each digest becomes a verifier's
+/// node. A pair that is spelled by nothing is put once for its type, however often it is a part; each unit that isn't in such a pair is a
+/// node of its own. After an error the store is as it was.
 ///
 /// # Errors
 ///
@@ -32,8 +32,9 @@ pub fn unspell<N: Nodes>(
     bytes: &[u8],
     ty: TyId,
 ) -> Result<Ref, UnspellFault>
+    requires limit { (N.lent store.old).limit ≡ (types_meaning types.now).format.limit }
     ensures value { IsUnspelled (table types.now) (N.nodes store.new) (ty_of types.now ty) (read_at (types_meaning types.now) (ty_of types.now ty) bytes.now) result }
-    ensures spelled { IfOk result (StandsForSpelled (table types.now) (N.nodes store.new) (ty_of types.now ty) bytes.now) }
+    ensures spelled { IfOk result (StandsForSpelled (types_meaning types.now).format.limit (table types.now) (N.nodes store.new) (ty_of types.now ty) bytes.now) }
     ensures grows { Grows (N.nodes store.old) (N.nodes store.new) }
     ensures lent { N.lent store.new ≡ N.lent store.old }
     ensures keeps { Keeps (N.nodes store.old) (N.nodes store.new) }
@@ -55,6 +56,7 @@ fn read_whole<N: Nodes>(
     bytes: &[u8],
     ty: TyId,
 ) -> Result<Ref, UnspellFault>
+    requires limit { (N.lent store.old).limit ≡ (types_meaning types.now).format.limit }
     ensures value { IsUnspelled (table types.now) (N.nodes store.new) (ty_of types.now ty) (read_at (types_meaning types.now) (ty_of types.now ty) bytes.now) result }
     ensures grows { Grows (N.nodes store.old) (N.nodes store.new) }
     ensures lent { N.lent store.new ≡ N.lent store.old }

@@ -7,6 +7,7 @@ use Rattle.core_terms.specs.TypeTables.{type_at, types_of_forms}
 use Rattle.core_terms.specs.TypeNames.{AreNamed}
 use Rattle.core_terms.specs.ProgramTrees.{program_of}
 use Rattle.core_terms.specs.ProgramLimits.{IsFlatType, IsFunctionWithin, IsName, IsWithinLimits, most_constructors, most_fields}
+use Rattle.core_terms.specs.declared.format.Format.{Format}
 use Rattle.core_terms.specs.declared.types.TyId.{TyId}
 use Rattle.core_terms.specs.declared.types.TyForm.{TyForm}
 use Rattle.core_terms.specs.declared.term.Function.{Function}
@@ -24,8 +25,8 @@ none_named = record { types = All-nil IsName; constructors = All-nil (All IsName
 pub are_named : (named : List NamedType) → named ≡ [] → AreNamed named
 are_named named none = subst AreNamed (sym none) none_named
 
-none_limited : (forms : List TyForm) (state : TyId) → IsFlatType (type_at (types_of_forms forms) state) → IsWithinLimits (program_of forms [] state [])
-none_limited forms state flat = record {
+none_limited : (format : Format) (forms : List TyForm) (state : TyId) → IsFlatType (type_at (types_of_forms forms) state) → IsWithinLimits (program_of format forms [] state [])
+none_limited format forms state flat = record {
   types = omega arith;
   constructors = All-nil (λ (constructors : List (List Ty)). length constructors ≤ most_constructors);
   fields = All-nil (All (λ (fields : List Ty). length fields ≤ most_fields));
@@ -36,12 +37,8 @@ none_limited forms state flat = record {
   expressions = omega arith;
 }
 
-pub is_limited : (forms : List TyForm) (named : List NamedType) (state : TyId) (functions : List Function) → named ≡ [] → functions ≡ []
-    → IsFlatType (type_at (types_of_forms forms) state) → IsWithinLimits (program_of forms named state functions)
-is_limited forms named state functions none nothing flat =
-    subst (λ (fs : List Function). IsWithinLimits (program_of forms named state fs)) (sym nothing)
-    (subst (λ (ns : List NamedType). IsWithinLimits (program_of forms ns state [])) (sym none) (none_limited forms state flat))
-
--- a type that was given a number
-pub is_flat : (ts : List Ty) (id : TyId) (t : Ty) → slice_get ts id.0 ≡ Some t → IsFlatType t → IsFlatType (type_at ts id)
-is_flat ts id t at flat = subst IsFlatType (sym (at_number ts id.0 t at)) flat
+pub is_limited : (format : Format) (forms : List TyForm) (named : List NamedType) (state : TyId) (functions : List Function) → named ≡ [] → functions ≡ []
+    → IsFlatType (type_at (types_of_forms forms) state) → IsWithinLimits (program_of format forms named state functions)
+is_limited format forms named state functions none nothing flat =
+    subst (λ (fs : List Function). IsWithinLimits (program_of format forms named state fs)) (sym nothing)
+    (subst (λ (ns : List NamedType). IsWithinLimits (program_of format forms ns state [])) (sym none) (none_limited format forms state flat))

@@ -4,7 +4,7 @@ ghost use Rattle.core_terms.specs.Programs.{types_in};
 
 use crate::spelled::of_types;
 use crate::stage::program_of;
-use core_terms::{Program, TyForm, TyId, TyTable};
+use core_terms::{Format, Program, TyForm, TyId, TyTable};
 use shallow_codec::{UnspellFault, spell, unspell};
 use std::alloc::{AllocError, Global};
 use std::test::Fail;
@@ -22,7 +22,7 @@ pub fn refused_at(
     ty: TyId,
 ) -> Result<Option<u32>, AllocError> {
     let types = program.types();
-    let mut store = Store::new(alloc);
+    let mut store = Store::new(alloc, types.spelling_limit() as u32);
     store.put_bool(true)?;
     let mark = store.mark();
     match unspell(alloc, types, &mut store, bytes, ty) {
@@ -175,9 +175,8 @@ fn nested_pairs(types: &mut TyTable, inner: TyId, levels: usize) -> Result<TyId,
 
 /// A program, and one of its types: units in pairs of so many levels. Its state is a unit, since a type that is written has at most 100
 /// levels.
-#[tactic(auto, using(crate::proofs::EmptyPrograms::is_flat))]
 fn many_units(alloc: Global, levels: usize) -> Result<(Program, TyId), AllocError> {
-    let mut types = TyTable::new(alloc);
+    let mut types = TyTable::new(Format::First, alloc);
     let unit = types.intern(TyForm::UnitForm)?;
     let long = nested_pairs(&mut types, unit, levels)?;
     let state = types.intern(TyForm::UnitForm)?;

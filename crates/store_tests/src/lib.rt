@@ -2,6 +2,10 @@
 #![tactic(auto)]
 
 #[cfg(test)]
+mod array_images;
+#[cfg(test)]
+mod arrays;
+#[cfg(test)]
 mod codec;
 #[cfg(test)]
 mod faults;

@@ -5,13 +5,22 @@ use std::process::Abort;
 use std::test::Fail;
 use value_store::{Held, Nodes, Ref, Store, View};
 
+/// The greatest size of a value in the first format.
+const LIMIT: u32 = 65_536;
+
+/// Puts a text that is within the limits.
+fn text_of(rt: &impl Abort, store: &mut Store, text: &str) -> Result<Ref, AllocError> {
+    assert!(rt; text.len() < 100);
+    store.put_text(text)
+}
+
 /// Puts a pair that is within the limits.
 fn pair_of(rt: &impl Abort, store: &mut Store, first: Ref, second: Ref) -> Result<Ref, AllocError> {
     assert!(rt; first.0 < store.count());
     assert!(rt; second.0 < store.count());
     let size = store.shallow_size(first) + store.shallow_size(second);
     let depth = store.shallow_depth(first).max(store.shallow_depth(second));
-    assert!(rt; size <= 65_536);
+    assert!(rt; size <= store.limit());
     assert!(rt; depth < 512);
     store.put_pair(first, second)
 }
@@ -28,7 +37,7 @@ fn constructor_of(
     assert!(rt; second.0 < store.count());
     let size = store.shallow_size(first) + store.shallow_size(second);
     let depth = store.shallow_depth(first).max(store.shallow_depth(second));
-    assert!(rt; size < 65_536);
+    assert!(rt; size < store.limit());
     assert!(rt; depth < 512);
     store.put_constructor(NamedId(2), tag, &[first, second])
 }
@@ -41,11 +50,11 @@ fn limits_of(rt: &impl Abort, store: &Store, r: Ref) -> (u32, u32) {
 
 #[test]
 fn leaves_are_viewed(rt: HostRuntime) -> Result<(), Fail> {
-    let mut store = Store::new(rt.alloc());
+    let mut store = Store::new(rt.alloc(), LIMIT);
     let unit = store.put_unit()?;
     let yes = store.put_bool(true)?;
     let int = store.put_int(-5)?;
-    let text = store.put_text("héh")?;
+    let text = text_of(&rt, &mut store, "héh")?;
     assert!(rt; store.count() == 4);
     assert!(rt; unit.0 < 4 && yes.0 < 4 && int.0 < 4 && text.0 < 4);
     assert!(rt; matches!(store.view(unit), View::Unit));
@@ -64,9 +73,9 @@ fn leaves_are_viewed(rt: HostRuntime) -> Result<(), Fail> {
 
 #[test]
 fn a_pair_and_a_constructor_are_viewed(rt: HostRuntime) -> Result<(), Fail> {
-    let mut store = Store::new(rt.alloc());
+    let mut store = Store::new(rt.alloc(), LIMIT);
     let yes = store.put_bool(true)?;
-    let text = store.put_text("ab")?;
+    let text = text_of(&rt, &mut store, "ab")?;
     let pair = pair_of(&rt, &mut store, yes, text)?;
     let value = constructor_of(&rt, &mut store, Tag(3), text, yes)?;
     assert!(rt; pair.0 < store.count() && value.0 < store.count());
@@ -86,8 +95,8 @@ fn a_pair_and_a_constructor_are_viewed(rt: HostRuntime) -> Result<(), Fail> {
 
 #[test]
 fn what_is_authenticated_is_viewed(rt: HostRuntime) -> Result<(), Fail> {
-    let mut store = Store::new(rt.alloc());
-    let text = store.put_text("a longer text, of more than 32 bytes")?;
+    let mut store = Store::new(rt.alloc(), LIMIT);
+    let text = text_of(&rt, &mut store, "a longer text, of more than 32 bytes")?;
     assert!(rt; text.0 < store.count());
     let ideal = store.put_auth(Held::Inner(text))?;
     let only = store.put_auth(Held::Only(Digest([9; 32])))?;
@@ -115,20 +124,20 @@ fn doubled(rt: &impl Abort, store: &mut Store, leaf: Ref, times: u32) -> Result<
 // Parts are shared, and a value may reach the limit of its size.
 #[test]
 fn a_value_of_many_leaves_is_shared(rt: HostRuntime) -> Result<(), Fail> {
-    let mut store = Store::new(rt.alloc());
+    let mut store = Store::new(rt.alloc(), LIMIT);
     let unit = store.put_unit()?;
     let units = doubled(&rt, &mut store, unit, 30)?;
     assert!(rt; store.count() == 31);
     assert!(rt; limits_of(&rt, &store, units) == (0, 31));
     let int = store.put_int(1)?;
     let ints = doubled(&rt, &mut store, int, 13)?;
-    assert!(rt; limits_of(&rt, &store, ints) == (65_536, 14));
+    assert!(rt; limits_of(&rt, &store, ints) == (LIMIT, 14));
     Ok(())
 }
 
 #[test]
 fn later_nodes_are_cut_away(rt: HostRuntime) -> Result<(), Fail> {
-    let mut store = Store::new(rt.alloc());
+    let mut store = Store::new(rt.alloc(), LIMIT);
     let kept = store.put_int(3)?;
     let mark = store.mark();
     store.put_int(4)?;

@@ -1,24 +1,44 @@
-// A node of the prover's, spelled by its digest.
-ghost use Rattle.std.specs.Prelude.{◌≡◌, [], true, IfOk};
+// Programs of types alone, and a node of the prover's, spelled by its digest.
+ghost use Rattle.std.specs.Prelude.{◌≡◌, ◌≤◌, true, length, IfOk, IsTrue};
 ghost use Rattle.core_terms.specs.Programs.{meaning, types_in};
-ghost use Rattle.core_terms.specs.ProgramTrees.{is_within};
-ghost use Rattle.core_terms.specs.ProgramLimits.{IsFlatType};
-ghost use Rattle.core_terms.specs.TypeTables.{type_at};
+ghost use Rattle.core_terms.specs.ProgramLimits.{levels_of_type};
+ghost use Rattle.core_terms.specs.TypeTables.{is_form_in, stands_behind, type_at};
 ghost use Rattle.core_terms.specs.Types.{AuthTy, Ty};
 
-use core_terms::{Digest, Program, TyForm, TyId, TyTable};
+use core_terms::{Digest, Format, Program, TyForm, TyId, TyTable};
 use shallow_codec::spell;
 use std::alloc::{AllocError, Global};
 use std::test::Fail;
 use value_store::{Held, Nodes, Store};
 
-/// A program without functions and named types.
+/// How many levels a type that is written has at most.
+const MOST_LEVELS: u8 = 100;
+
+/// Whether a type has at most so many levels.
+fn is_flat(types: &TyTable, ty: TyId, levels: u8) -> bool
+    ensures { IsTrue result → levels_of_type (type_at (types_in types.now) ty) ≤ levels }
+{
+    if levels == 0 {
+        return false;
+    }
+    match types.form(ty) {
+        TyForm::PairForm(first, second) => {
+            is_flat(types, first, levels - 1) && is_flat(types, second, levels - 1)
+        }
+        TyForm::AuthForm(part) => is_flat(types, part, levels - 1),
+        TyForm::VecForm(_, part) => is_flat(types, part, levels - 1),
+        _ => true,
+    }
+}
+
+/// A program without functions and named types. An error where its state is none of the types, or has more levels than one that is written.
 #[tactic(auto, using(crate::proofs::EmptyPrograms::are_named, crate::proofs::EmptyPrograms::is_limited))]
 pub fn of_types(alloc: Global, types: TyTable, state: TyId) -> Result<Program, AllocError>
-    requires within { is_within types.forms.keys [] state [] ≡ true }
-    requires flat { IsFlatType (type_at (types_in types) state) }
     ensures { IfOk result (λ program. (meaning program).state ≡ type_at (types_in types) state) }
 {
+    if state.0 >= types.len() || !is_flat(&types, state, MOST_LEVELS) {
+        return Err(AllocError);
+    }
     Program::new(
         types,
         Vec::new(alloc),
@@ -29,26 +49,76 @@ pub fn of_types(alloc: Global, types: TyTable, state: TyId) -> Result<Program, A
     )
 }
 
+/// Whether a type of this form may be one of a table: its parts are there, and an array is one of the second format, of 1 to 64 elements.
+fn fits(types: &TyTable, form: TyForm) -> bool
+    ensures parts { IsTrue result → stands_behind (length (types_in types.now)) form ≡ true }
+    ensures format { IsTrue result → is_form_in types.now.format form ≡ true }
+{
+    let count = types.len();
+    match form {
+        TyForm::AuthForm(part) => part.0 < count,
+        TyForm::PairForm(first, second) => first.0 < count && second.0 < count,
+        TyForm::VecForm(len, item) => {
+            types.format() == Format::Second && item.0 < count && len >= 1 && len <= 64
+        }
+        _ => true,
+    }
+}
+
+/// Types of these forms, in a format, and the last one.
+fn table_of(
+    alloc: Global,
+    format: Format,
+    forms: &[TyForm],
+) -> Result<(TyTable, TyId), AllocError> {
+    let mut types = TyTable::new(format, alloc);
+    let mut last = TyId(0);
+    for form in forms {
+        if !fits(&types, *form) {
+            return Err(AllocError);
+        }
+        last = types.intern(*form)?;
+    }
+    Ok((types, last))
+}
+
+/// The program of types of these forms, in a format. The last one is that of its state. It stands in a box: it is wide, and tests hold it over
+/// many calls.
+pub fn of_forms(
+    alloc: Global,
+    format: Format,
+    forms: &[TyForm],
+) -> Result<Box<Program>, AllocError> {
+    let (types, state) = table_of(alloc, format, forms)?;
+    let program = of_types(alloc, types, state)?;
+    Ok(Box::new(alloc, program)?)
+}
+
 /// A program of the type `auth int`.
 fn held_int(alloc: Global) -> Result<Program, AllocError>
     ensures { IfOk result (λ program. (t : Ty) × ((meaning program).state ≡ AuthTy t)) }
 {
-    let mut types = TyTable::new(alloc);
+    let mut types = TyTable::new(Format::First, alloc);
     let int = types.intern(TyForm::IntForm)?;
     let held = types.intern(TyForm::AuthForm(int))?;
     of_types(alloc, types, held)
 }
 
-#[test]
-fn a_provers_node_by_its_digest(rt: HostRuntime) -> Result<(), Fail> {
-    let alloc = rt.alloc();
-    let program = held_int(alloc)?;
+/// Whether the prover's node of an authenticated int is spelled by its digest.
+fn is_spelled_by_its_digest(alloc: Global, program: &Program) -> Result<bool, AllocError>
+    requires { (t : Ty) × ((meaning program.now).state ≡ AuthTy t) }
+{
     let types = program.types();
-    let held = types.state_type();
-    let mut store = Store::new(alloc);
+    let mut store = Store::new(alloc, types.spelling_limit() as u32);
     let inner = store.put_int(5)?;
     let value = store.put_auth(Held::Both(Digest([9; 32]), inner))?;
-    let spelling = spell(alloc, types, &store, value, held)?;
-    assert!(rt; spelling.as_bytes() == [9; 32].as_slice());
+    let spelling = spell(alloc, types, &store, value, types.state_type())?;
+    Ok(spelling.as_bytes() == [9; 32].as_slice())
+}
+
+#[test]
+fn a_provers_node_by_its_digest(rt: HostRuntime) -> Result<(), Fail> {
+    let program = held_int(rt.alloc())?;
+    assert!(rt; is_spelled_by_its_digest(rt.alloc(), &program)?);
     Ok(())
 }

@@ -21,6 +21,8 @@ pub struct Ideal;
 impl Marker for Ideal {
     ghost marking = { IdealMarking };
 
+    ghost Knows = { λ types marker. Unit {0} };
+
     fn mark_auth(
         &mut self,
         _types: &Types,
@@ -90,8 +92,17 @@ pub fn fault_of(alloc: Global, program: &Program, bytes: &[u8]) -> Option<ImageF
     }
 }
 
+/// How many nodes an image loads; none where it doesn't load.
+pub fn nodes_of(alloc: Global, program: &Program, bytes: &[u8]) -> Option<usize> {
+    let types = program.types();
+    match load_image(alloc, types, program.text_digest(), &mut Ideal, bytes) {
+        Ok(loaded) => Some(loaded.store.count()),
+        Err(_) => None,
+    }
+}
+
 /// The image that is saved for the state that an image keeps; none where it doesn't load, or can't be saved.
-fn saved_again(alloc: Global, program: &Program, bytes: &[u8]) -> Option<Vec<u8>> {
+pub fn saved_again(alloc: Global, program: &Program, bytes: &[u8]) -> Option<Vec<u8>> {
     let types = program.types();
     let digest = program.text_digest();
     let Ok(loaded) = load_image(alloc, types, digest, &mut Ideal, bytes) else {

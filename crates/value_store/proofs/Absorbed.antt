@@ -12,14 +12,14 @@ use Rattle.value_store.specs.declared.node.Node.{Node}
 use Rattle.value_store.proofs.Moved.{kept_before}
 use Rattle.value_store.proofs.Renumbered.{absorbed_sound, absorbed_stands}
 
-module _ (from up : ℕ) (base own moved new : List Node) (within : from ≤ length (nodes_of base)) (sound : AreSound (take from (nodes_of base) ++ nodes_of own))
+module _ {limit : ℕ} (from up : ℕ) (base own moved new : List Node) (within : from ≤ length (nodes_of base)) (sound : AreSound limit (take from (nodes_of base) ++ nodes_of own))
     (at : up ≡ length (nodes_of base) - from) (is : nodes_of moved ≡ map (moved_node from up) (nodes_of own)) where
   pub joined : new ≡ base ++ moved → nodes_of new ≡ absorbed from (nodes_of base) (nodes_of own)
   joined e = ap nodes_of e ∙ map-append node_of base moved ∙ ap (λ xs. nodes_of base ++ xs) (is ∙ ap (λ n. map (moved_node from n) (nodes_of own)) at)
 
-  pub joined_sound : (b : Bool) → new ≡ (if b then base ++ moved else base) → AreSound (nodes_of base) → AreSound (nodes_of new)
-  joined_sound true e sound_base = subst AreSound (sym (joined e)) (absorbed_sound from (nodes_of base) (nodes_of own) within sound sound_base)
-  joined_sound false e sound_base = subst (λ items. AreSound (nodes_of items)) (sym e) sound_base
+  pub joined_sound : (b : Bool) → new ≡ (if b then base ++ moved else base) → AreSound limit (nodes_of base) → AreSound limit (nodes_of new)
+  joined_sound true e sound_base = subst (AreSound limit) (sym (joined e)) (absorbed_sound from (nodes_of base) (nodes_of own) within sound sound_base)
+  joined_sound false e sound_base = subst (λ items. AreSound limit (nodes_of items)) (sym e) sound_base
 
   pub joined_keeps : (b : Bool) → new ≡ (if b then base ++ moved else base) → Keeps (nodes_of base) (nodes_of new)
   joined_keeps true e = subst (Keeps (nodes_of base)) (sym (joined e)) (kept_before (nodes_of base) (map (moved_node from (length (nodes_of base) - from)) (nodes_of own)))

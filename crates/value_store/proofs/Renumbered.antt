@@ -4,10 +4,10 @@ use Rattle.std.specs.List.{list_all}
 use Rattle.std.specs.Option.{option_map, option_map_or}
 use Rattle.std.proofs.lemmas.Option.{slice_get_past, slice_get-map, slice_get_within}
 use Rattle.std.proofs.lemmas.List.{length-take, length-map}
-use Rattle.core_terms.specs.Types.{Ty, UnitTy, BoolTy, IntTy, TextTy, PairTy, NamedTy, AuthTy, Table, fields_at, OnFields}
-use Rattle.core_terms.specs.Values.{Value, UnitV, BoolV, IntV, TextV, PairV, ConV, Values, NoV, AndV}
+use Rattle.core_terms.specs.Types.{Ty, UnitTy, BoolTy, IntTy, TextTy, PairTy, NamedTy, AuthTy, VecTy, Table, fields_at, item_types, OnFields}
+use Rattle.core_terms.specs.Values.{Value, UnitV, BoolV, IntV, TextV, PairV, ConV, ItemsV, Values, NoV, AndV}
 use Rattle.core_terms.specs.Formats.{depth_limit}
-use Rattle.value_store.specs.Nodes.{Held, InnerHeld, BothHeld, OnlyHeld, Form, UnitNode, BoolNode, IntNode, TextNode, PairNode, ConNode, AuthNode, FormFits, Node, AreSound, IsSoundNode, depth_at, form_at, form_depth, form_size, greatest_depth, inner_refs, refers_below, refs_in, size_at, size_limit, total_size}
+use Rattle.value_store.specs.Nodes.{Held, InnerHeld, BothHeld, OnlyHeld, Form, UnitNode, BoolNode, IntNode, TextNode, PairNode, ConNode, AuthNode, FormFits, Node, AreSound, IsSoundNode, depth_at, form_at, form_depth, form_size, greatest_depth, inner_refs, refers_below, refs_in, size_at, total_size, VecNode}
 use Rattle.value_store.specs.Standing.{Kind, IdealNodes, ProverNodes, VerifierNodes, Holds, Keeps, StandsFor, AllStandFor}
 use Rattle.value_store.specs.Moving.{absorbed, moved_form, moved_held, moved_node, moved_ref}
 use Rattle.value_store.proofs.SoundNodes.{conjuncts, sound_too, lower_refs}
@@ -35,6 +35,7 @@ same_form from up (PairNode i j) h =
     let both = conjuncts (nat_lt i from) (nat_lt j from && true) h in
     ap₂ PairNode (below_stays from up i (ltb-true i from both.0)) (one_same from up j both.1)
 same_form from up (ConNode number tag fields) h = ap (ConNode number tag) (same_refs from up fields h)
+same_form from up (VecNode items) h = ap VecNode (same_refs from up items h)
 same_form from up (AuthNode (InnerHeld inner)) h = ap (λ i. AuthNode (InnerHeld i)) (one_same from up inner h)
 same_form from up (AuthNode (BothHeld digest inner)) h = ap (λ i. AuthNode (BothHeld digest i)) (one_same from up inner h)
 same_form from up (AuthNode (OnlyHeld digest)) h = refl
@@ -66,6 +67,7 @@ module _ (kind : Kind) (types : Table) (from up : ℕ) (old new : List Node)
     renumbered (PairTy a b) (PairV x y) r h =
         (moved_ref from up h.0, moved_ref from up h.1, agrees r _ h.2, renumbered a x h.0 h.3, renumbered b y h.1 h.4)
     renumbered (NamedTy number) (ConV tag vs) r h = (map (moved_ref from up) h.0, agrees r _ h.1, all_renumbered h.0 (fields_at types number tag) vs h.2)
+    renumbered (VecTy n t) (ItemsV vs) r h = (map (moved_ref from up) h.0, agrees r _ h.1, h.2, all_renumbered h.0 (Some (item_types n t)) vs h.3)
     renumbered t v r h = elim h [ ]
 
     all_renumbered : (rs : List ℕ) (o : Option (List Ty)) (vs : Values)
@@ -85,7 +87,7 @@ get_there (x ∷ xs) zero h = (x, refl)
 get_there (x ∷ xs) (suc r) h = get_there xs r (omega arith)
 
 -- own nodes that were put behind the first `from` nodes of the base, moved behind all of it
-module _ (from : ℕ) (base own : List Node) (within : from ≤ length base) (sound : AreSound (take from base ++ own)) where
+module _ {limit : ℕ} (from : ℕ) (base own : List Node) (within : from ≤ length base) (sound : AreSound limit (take from base ++ own)) where
   abbrev old : List Node
   old = take from base ++ own
 
@@ -165,6 +167,7 @@ module _ (from : ℕ) (base own : List Node) (within : from ≤ length base) (so
     form_size_moved : (form : Form) → refers_below n form ≡ true → form_size (absorbed from base own) (moved_form from up form) ≡ form_size old form
     form_size_moved (PairNode i j) h = ap₂ (λ a b. a + b) (size_moved i (first_in i j h)) (size_moved j (second_in i j h))
     form_size_moved (ConNode number tag fields) h = ap (λ a. 1 + a) (total_moved n le fields h)
+    form_size_moved (VecNode items) h = total_moved n le items h
     form_size_moved UnitNode h = refl
     form_size_moved (BoolNode b) h = refl
     form_size_moved (IntNode z) h = refl
@@ -174,6 +177,7 @@ module _ (from : ℕ) (base own : List Node) (within : from ≤ length base) (so
     form_depth_moved : (form : Form) → refers_below n form ≡ true → form_depth (absorbed from base own) (moved_form from up form) ≡ form_depth old form
     form_depth_moved (PairNode i j) h = ap₂ (λ a b. 1 + max a b) (depth_moved i (first_in i j h)) (depth_moved j (second_in i j h))
     form_depth_moved (ConNode number tag fields) h = ap (λ a. 1 + a) (greatest_moved n le fields h)
+    form_depth_moved (VecNode items) h = ap (λ a. 1 + a) (greatest_moved n le items h)
     form_depth_moved UnitNode h = refl
     form_depth_moved (BoolNode b) h = refl
     form_depth_moved (IntNode z) h = refl
@@ -197,6 +201,7 @@ module _ (from : ℕ) (base own : List Node) (within : from ≤ length base) (so
   refers_moved : (n m : ℕ) → n + up ≤ m → (form : Form) → refers_below n form ≡ true → refers_below m (moved_form from up form) ≡ true
   refers_moved n m le (PairNode i j) h = refs_moved n m le (i ∷ j ∷ []) h
   refers_moved n m le (ConNode number tag fields) h = refs_moved n m le fields h
+  refers_moved n m le (VecNode items) h = refs_moved n m le items h
   refers_moved n m le (AuthNode (InnerHeld inner)) h = refs_moved n m le (inner ∷ []) h
   refers_moved n m le (AuthNode (BothHeld digest inner)) h = refs_moved n m le (inner ∷ []) h
   refers_moved n m le (AuthNode (OnlyHeld digest)) h = refl
@@ -205,7 +210,7 @@ module _ (from : ℕ) (base own : List Node) (within : from ≤ length base) (so
   refers_moved n m le (IntNode z) h = refl
   refers_moved n m le (TextNode bytes) h = refl
 
-  own_sound : (i : ℕ) (node : Node) → slice_get own i ≡ Some node → IsSoundNode (absorbed from base own) (length base + i) (moved_node from up node)
+  own_sound : (i : ℕ) (node : Node) → slice_get own i ≡ Some node → IsSoundNode limit (absorbed from base own) (length base + i) (moved_node from up node)
   own_sound i node e =
       let there : slice_get old (from + i) ≡ Some node = sym (ap (λ n. slice_get old (n + i)) front) ∙ get_past (take from base) own i ∙ e in
       let is = sound (from + i) node there in
@@ -219,20 +224,20 @@ module _ (from : ℕ) (base own : List Node) (within : from ≤ length base) (so
         size = is.size ∙ sym size_is;
         depth = is.depth ∙ sym depth_is;
         fits = record {
-          size_fits = subst (λ s. s ≤ size_limit) (sym size_is) is.fits.size_fits;
+          size_fits = subst (λ s. s ≤ limit) (sym size_is) is.fits.size_fits;
           depth_fits = subst (λ s. s ≤ depth_limit) (sym depth_is) is.fits.depth_fits;
         };
       }
 
   -- the nodes that were absorbed are sound
-  pub absorbed_sound : AreSound base → AreSound (absorbed from base own)
+  pub absorbed_sound : AreSound limit base → AreSound limit (absorbed from base own)
   absorbed_sound sound_base r node e = by (split r)
     where
       split : (r : ℕ) → (r < length base) ⊎ (length base ≤ r)
       split r = grind arith
 
-      mapped : (o : Option Node) (i : ℕ) → slice_get own i ≡ o → option_map (moved_node from up) o ≡ Some node → IsSoundNode (absorbed from base own) (length base + i) node
-      mapped (Some was) i h j = subst (λ n. IsSoundNode (absorbed from base own) (length base + i) n) (one (moved_node from up was) j) (own_sound i was h)
+      mapped : (o : Option Node) (i : ℕ) → slice_get own i ≡ o → option_map (moved_node from up) o ≡ Some node → IsSoundNode limit (absorbed from base own) (length base + i) node
+      mapped (Some was) i h j = subst (λ n. IsSoundNode limit (absorbed from base own) (length base + i) n) (one (moved_node from up was) j) (own_sound i was h)
         where
           one : (x : Node) → Some x ≡ Some node → x ≡ node
           one x h = cc
@@ -241,7 +246,7 @@ module _ (from : ℕ) (base own : List Node) (within : from ≤ length base) (so
           none : None ≡ Some node → ⊥
           none j = cc
 
-      by : (r < length base) ⊎ (length base ≤ r) → IsSoundNode (absorbed from base own) r node
+      by : (r < length base) ⊎ (length base ≤ r) → IsSoundNode limit (absorbed from base own) r node
       by (inl below) =
           let before = slice_get_before base (map (moved_node from up) own) r below in
           let le : r ≤ length base = omega (arith, below) in
@@ -249,7 +254,7 @@ module _ (from : ℕ) (base own : List Node) (within : from ≤ length base) (so
       by (inr past) =
           let here : length base + (r - length base) ≡ r = omega (arith, past) in
           let at = sym (slice_get-map (moved_node from up) own (r - length base)) ∙ sym (get_past base (map (moved_node from up) own) (r - length base)) ∙ ap (slice_get (absorbed from base own)) here ∙ e in
-          subst (λ i. IsSoundNode (absorbed from base own) i node) here (mapped (slice_get own (r - length base)) (r - length base) refl at)
+          subst (λ i. IsSoundNode limit (absorbed from base own) i node) here (mapped (slice_get own (r - length base)) (r - length base) refl at)
 
   -- own nodes refer to the nodes that stood then
   pub own_refers : (i : ℕ) (node : Node) → slice_get own i ≡ Some node → refers_below (from + length own) node.form ≡ true

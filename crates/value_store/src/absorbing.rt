@@ -21,7 +21,7 @@ impl Store {
     /// and gives the node that stands for what r stood for. Where memory is wanting nothing is changed.
     pub fn absorb(&mut self, own: Own, from: usize, r: Ref) -> Result<Ref, AllocError>
         requires within { from ≤ length (nodes_in self.old) }
-        requires sound { AreSound (take from (nodes_in self.old) ++ own_nodes own) }
+        requires sound { AreSound self.old.limit (take from (nodes_in self.old) ++ own_nodes own) }
         requires there { r.0 < from + length (own_nodes own) }
         ensures nodes { IfOk result (λ s. nodes_in self.new ≡ absorbed from (nodes_in self.old) (own_nodes own)) }
         ensures refused { OnErr result (nodes_in self.new ≡ nodes_in self.old) }
@@ -29,6 +29,7 @@ impl Store {
             → StandsFor kind types (take from (nodes_in self.old) ++ own_nodes own) r.0 t v → StandsFor kind types (nodes_in self.new) s.0 t v) }
         ensures keeps { Keeps (nodes_in self.old) (nodes_in self.new) }
         ensures grows { Grows (nodes_in self.old) (nodes_in self.new) }
+        ensures limit { self.new.limit ≡ self.old.limit }
     {
         let up = self.nodes.len() - from;
         let Own {
@@ -70,6 +71,7 @@ fn move_form(form: &mut Form, from: usize, up: usize)
             *second = moved(*second, from, up);
         }
         Form::ConstructorNode(_, _, fields) => move_all(fields, from, up),
+        Form::VecNode(items) => move_all(items, from, up),
         Form::AuthNode(Held::Inner(inner)) => *inner = moved(*inner, from, up),
         Form::AuthNode(Held::Both(_, inner)) => *inner = moved(*inner, from, up),
         _ => {}

@@ -27,6 +27,8 @@ pub enum Form {
     PairNode(Ref, Ref),
     ConstructorNode(NamedId, Tag, Vec<Ref>),
     AuthNode(Held),
+    /// An array, with its elements.
+    VecNode(Vec<Ref>),
 }
 
 /// A node, with the shallow size and depth of the value that it stands for.

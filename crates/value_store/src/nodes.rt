@@ -1,11 +1,11 @@
 // What puts and shows nodes: a store, or nodes of one's own over a store.
 ghost use Rattle.std.specs.Prelude.{◌≡◌, ◌<◌, ◌≤◌, ◌+◌, ℕ, true, List, [], Some, length, take, IfOk, refl, slice_get, nat_le, nat_lt};
 ghost use Rattle.std.specs.List.{list_all};
-ghost use Rattle.core_terms.specs.Types.{Ty, UnitTy, BoolTy, IntTy, TextTy, PairTy, NamedTy, AuthTy, Table, fields_at};
-ghost use Rattle.core_terms.specs.Values.{Value, UnitV, BoolV, IntV, TextV, PairV, ConV, Values, size, depth};
+ghost use Rattle.core_terms.specs.Types.{Ty, UnitTy, BoolTy, IntTy, TextTy, PairTy, NamedTy, AuthTy, VecTy, Table, fields_at, is_length, item_types};
+ghost use Rattle.core_terms.specs.Values.{Value, UnitV, BoolV, IntV, TextV, PairV, ConV, ItemsV, Values, size, depth};
 ghost use Rattle.core_terms.specs.Formats.{depth_limit};
 ghost use Rattle.value_store.specs.CodeNodes.{form_of, held_of, node_of, numbers_of};
-ghost use Rattle.value_store.specs.Nodes.{AreSound, FormFits, form_depth, form_size, UnitNode, BoolNode, IntNode, TextNode, PairNode, ConNode, AuthNode, Node as Meant, depth_at, form_at, greatest_depth, refers_below, size_at, size_limit, total_size};
+ghost use Rattle.value_store.specs.Nodes.{AreSound, FormFits, form_depth, form_size, UnitNode, BoolNode, IntNode, TextNode, PairNode, ConNode, AuthNode, Node as Meant, depth_at, form_at, greatest_depth, refers_below, size_at, total_size, Lent, greatest_limit, least_limit, VecNode};
 ghost use Rattle.value_store.specs.Standing.{AllStandFor, Holds, Keeps, Kind, StandsFor};
 
 use crate::node::{Form, Held, Node, Ref};
@@ -31,15 +31,15 @@ pub trait Nodes {
     /// The nodes, by number.
     ghost nodes: { Self → List Meant };
 
-    /// The first of them, which are another's and are never cut.
-    ghost lent: { Self → List Meant };
+    /// What they are begun with, and keep: the greatest size of a node, and the first of them, which are another's and are never cut.
+    ghost lent: { Self → Lent };
 
     /// Puts a node of this form, which has this size and depth. Where memory is wanting nothing is changed.
     fn put(&mut self, form: Form, size: u32, depth: u32) -> Result<Ref, AllocError>
         requires refers { refers_below (length (nodes self.old)) (form_of form) ≡ true }
         requires size { size ≡ form_size (nodes self.old) (form_of form) }
         requires depth { depth ≡ form_depth (nodes self.old) (form_of form) }
-        requires fits { FormFits (nodes self.old) (form_of form) }
+        requires fits { FormFits (lent self.old).limit (nodes self.old) (form_of form) }
         ensures put { Puts (nodes self.old) (form_of form) result (nodes self.new) }
         ensures keeps { Keeps (nodes self.old) (nodes self.new) }
         ensures lent { lent self.new ≡ lent self.old };
@@ -48,6 +48,10 @@ pub trait Nodes {
     fn node(&self, r: Ref) -> &Node
         requires { r.0 < length (nodes self.now) }
         ensures { slice_get (nodes self.now) r.0 ≡ Some (node_of result.now) };
+
+    /// The greatest size of a node.
+    fn limit(&self) -> u32
+        ensures { result ≡ (lent self.now).limit };
 
     /// Where texts and fields are kept.
     fn alloc(&self) -> Global;
@@ -59,17 +63,23 @@ pub trait Nodes {
     /// Drops the nodes that were put since the mark was made. Takes no memory.
     fn cut_to(&mut self, mark: Mark)
         requires there { mark.0 ≤ length (nodes self.old) }
-        requires lent { length (lent self.old) ≤ mark.0 }
+        requires lent { length (lent self.old).nodes ≤ mark.0 }
         ensures nodes { nodes self.new ≡ take mark.0 (nodes self.old) }
         ensures keeps { (kind : Kind) (types : Table) (r : ℕ) (t : Ty) (v : Value) → r < mark.0
             → StandsFor kind types (nodes self.old) r t v → StandsFor kind types (nodes self.new) r t v }
         ensures lent { lent self.new ≡ lent self.old };
 
     /// Each node refers to earlier ones, keeps its size and its depth, and is within the limits.
-    ghost sound: { (s : Self) → AreSound (nodes s) };
+    ghost sound: { (s : Self) → AreSound (lent s).limit (nodes s) };
+
+    /// The limit holds each text literal.
+    ghost least: { (s : Self) → least_limit ≤ (lent s).limit };
+
+    /// No format has a greater one.
+    ghost greatest: { (s : Self) → (lent s).limit ≤ greatest_limit };
 
     /// What is lent stands first.
-    ghost first: { (s : Self) → take (length (lent s)) (nodes s) ≡ lent s };
+    ghost first: { (s : Self) → take (length (lent s).nodes) (nodes s) ≡ (lent s).nodes };
 
     /// Puts the value of `unit`. Here and in the other puts, where memory is wanting nothing is changed.
     final fn put_unit(&mut self) -> Result<Ref, AllocError>
@@ -101,9 +111,9 @@ pub trait Nodes {
         self.put(Form::IntNode(value), INT_SIZE, 1)
     }
 
-    /// Puts a text of at most 65,532 bytes.
+    /// Puts a text, which is within the limits.
     final fn put_text(&mut self, text: &str) -> Result<Ref, AllocError>
-        requires fits { 4 + length text.now ≤ size_limit }
+        requires fits { 4 + length text.now ≤ (lent self.old).limit }
         ensures put { Puts (nodes self.old) (TextNode text.now) result (nodes self.new) }
         ensures stands { IfOk result (λ r. (kind : Kind) (types : Table) → StandsFor kind types (nodes self.new) r.0 TextTy (TextV text.now)) }
         ensures keeps { Keeps (nodes self.old) (nodes self.new) }
@@ -118,7 +128,7 @@ pub trait Nodes {
     final fn put_pair(&mut self, first: Ref, second: Ref) -> Result<Ref, AllocError>
         requires first { first.0 < length (nodes self.old) }
         requires second { second.0 < length (nodes self.old) }
-        requires fits { FormFits (nodes self.old) (PairNode first.0 second.0) }
+        requires fits { FormFits (lent self.old).limit (nodes self.old) (PairNode first.0 second.0) }
         ensures put { Puts (nodes self.old) (PairNode first.0 second.0) result (nodes self.new) }
         ensures stands { IfOk result
             (λ r. (kind : Kind) (types : Table) (a b : Ty) (x y : Value)
@@ -141,7 +151,7 @@ pub trait Nodes {
         fields: &[Ref],
     ) -> Result<Ref, AllocError>
         requires fields { refers_below (length (nodes self.old)) (ConNode named.0 tag.0 (numbers_of fields.now)) ≡ true }
-        requires fits { FormFits (nodes self.old) (ConNode named.0 tag.0 (numbers_of fields.now)) }
+        requires fits { FormFits (lent self.old).limit (nodes self.old) (ConNode named.0 tag.0 (numbers_of fields.now)) }
         ensures put { Puts (nodes self.old) (ConNode named.0 tag.0 (numbers_of fields.now)) result (nodes self.new) }
         ensures stands { IfOk result
             (λ r. (kind : Kind) (types : Table) (ts : List Ty) (vs : Values)
@@ -154,6 +164,25 @@ pub trait Nodes {
         let depth = 1 + greatest_depth(self, fields);
         let fields = fields.to_vec(self.alloc())?;
         self.put(Form::ConstructorNode(named, tag, fields), size, depth)
+    }
+
+    /// Puts an array of values that stand here, 1 to 64 of one type. It is within the limits.
+    final fn put_vec(&mut self, items: &[Ref]) -> Result<Ref, AllocError>
+        requires items { refers_below (length (nodes self.old)) (VecNode (numbers_of items.now)) ≡ true }
+        requires count { is_length (length items.now) ≡ true }
+        requires fits { FormFits (lent self.old).limit (nodes self.old) (VecNode (numbers_of items.now)) }
+        ensures put { Puts (nodes self.old) (VecNode (numbers_of items.now)) result (nodes self.new) }
+        ensures stands { IfOk result
+            (λ r. (kind : Kind) (types : Table) (t : Ty) (vs : Values)
+            → AllStandFor kind types (nodes self.old) (numbers_of items.now) (item_types (length items.now) t) vs
+            → StandsFor kind types (nodes self.new) r.0 (VecTy (length items.now) t) (ItemsV vs)) }
+        ensures keeps { Keeps (nodes self.old) (nodes self.new) }
+        ensures lent { lent self.new ≡ lent self.old }
+    {
+        let size = total_size(self, items);
+        let depth = 1 + greatest_depth(self, items);
+        let items = items.to_vec(self.alloc())?;
+        self.put(Form::VecNode(items), size, depth)
     }
 
     /// Puts an authenticated value, by what is held of it. A value that is referred to stands here.
@@ -184,7 +213,7 @@ pub trait Nodes {
         requires { r.0 < length (nodes self.now) }
         ensures kept { result ≡ size_at (nodes self.now) r.0 }
         ensures size { (kind : Kind) (types : Table) (t : Ty) (v : Value) → StandsFor kind types (nodes self.now) r.0 t v → result ≡ size types t v }
-        ensures limit { result ≤ size_limit }
+        ensures limit { result ≤ (lent self.now).limit }
     {
         self.node(r).size
     }
@@ -231,7 +260,7 @@ pub trait Nodes {
 
 /// The sum of the sizes of some nodes.
 fn total_size<N: Nodes>(store: &N, refs: &[Ref]) -> u32
-    requires fits { total_size (N.nodes store.now) (numbers_of refs.now) ≤ size_limit }
+    requires fits { total_size (N.nodes store.now) (numbers_of refs.now) ≤ greatest_limit }
     requires refs { list_all (λ r. nat_lt r (length (N.nodes store.now))) (numbers_of refs.now) ≡ true }
     ensures { result ≡ total_size (N.nodes store.now) (numbers_of refs.now) }
 {

@@ -3,20 +3,23 @@ ghost use Rattle.std.specs.Prelude.{◌≡◌, ◌<◌, ◌≤◌, ◌⊎◌, �
 ghost use Rattle.core_terms.specs.Types.{Ty, Table};
 ghost use Rattle.core_terms.specs.Values.{Value};
 ghost use Rattle.value_store.specs.CodeNodes.{form_of, node_of, nodes_of};
-ghost use Rattle.value_store.specs.Nodes.{AreSound, FormFits, form_depth, form_size, refers_below};
+ghost use Rattle.value_store.specs.Nodes.{AreSound, FormFits, form_depth, form_size, greatest_limit, least_limit, refers_below};
 ghost use Rattle.value_store.specs.Standing.{Keeps, Kind, StandsFor};
 
 use crate::node::{Form, Node, Ref};
 use crate::nodes::Nodes;
 use std::alloc::{AllocError, Global};
 
-/// The nodes that were put so far. Each refers to earlier ones and is within the limits: a spelling of at most 65,536 bytes, and
-/// a depth of at most 512.
+/// The nodes that were put so far. Each refers to earlier ones and is within the limits: a spelling of at most as many bytes as the store's
+/// limit, which is that of a format, and a depth of at most 512.
 #[derive(Drop)]
 pub struct Store {
     pub(crate) nodes: Vec<Node>,
+    pub(crate) limit: u32,
     alloc: Global,
-    ghost sound: { AreSound (nodes_of nodes.items) },
+    ghost sound: { AreSound limit (nodes_of nodes.items) },
+    ghost least: { least_limit ≤ limit },
+    ghost greatest: { limit ≤ greatest_limit },
 }
 
 /// A place in a store: the number of nodes before it.
@@ -26,12 +29,16 @@ pub struct Mark(pub(crate) usize);
 impl Store {
     ghost use Rattle.value_store.specs.Stores.{nodes_in};
 
-    /// A store without nodes. Takes no memory.
-    pub fn new(alloc: Global) -> Self
-        ensures { nodes_in result ≡ [] }
+    /// A store without nodes, for values whose spellings have at most so many bytes. Takes no memory.
+    pub fn new(alloc: Global, limit: u32) -> Self
+        requires least { least_limit ≤ limit }
+        requires greatest { limit ≤ greatest_limit }
+        ensures nodes { nodes_in result ≡ [] }
+        ensures limit { result.limit ≡ limit }
     {
         Store {
             nodes: Vec::new(alloc),
+            limit,
             alloc,
         }
     }
@@ -45,13 +52,17 @@ impl Store {
 }
 
 impl Nodes for Store {
-    ghost use Rattle.value_store.specs.Stores.{nodes_in};
+    ghost use Rattle.value_store.specs.Stores.{nodes_in, store_lent};
 
     ghost nodes = { nodes_in };
 
-    ghost lent = { λ s. [] };
+    ghost lent = { store_lent };
 
     ghost sound = { λ s. s.sound };
+
+    ghost least = { λ s. s.least };
+
+    ghost greatest = { λ s. s.greatest };
 
     ghost first = { λ s. refl };
 
@@ -63,6 +74,10 @@ impl Nodes for Store {
 
     fn node(&self, r: Ref) -> &Node {
         &self.nodes[r.0]
+    }
+
+    fn limit(&self) -> u32 {
+        self.limit
     }
 
     fn alloc(&self) -> Global {

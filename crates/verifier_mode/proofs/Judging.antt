@@ -16,7 +16,7 @@ use Rattle.ideal_meaning.specs.Frames.{header}
 use Rattle.ideal_meaning.specs.Following.{after_bytes}
 use Rattle.ideal_meaning.specs.Checked as checked
 use Rattle.ideal_meaning.specs.Told.{cause_told, trap_told}
-use Rattle.value_store.specs.Nodes.{AreSound, Node, size_limit}
+use Rattle.value_store.specs.Nodes.{AreSound, Node}
 use Rattle.value_store.specs.Standing.{StandsFor, VerifierNodes}
 use Rattle.value_store.specs.declared.node.Ref.{Ref}
 use Rattle.value_store.proofs.StandingNodes.{within_stands}
@@ -55,7 +55,7 @@ all_taken bytes left n zero_is counts =
     (none, counts.1 ∙ ap (λ n. Some (drop n bytes)) zero_is ∙ ap Some none)
 
 -- what stands in a store is within the limits
-spelled_stands : (P : Program) (nodes : List Node) → AreSound nodes → (t : Ty) (r : Ref) (v : Value) (bytes : List ℕ) → StandsFor VerifierNodes P.types nodes r.0 t v → bytes ≡ spelling v → Spells size_limit P.types bytes t v
+spelled_stands : (P : Program) (nodes : List Node) → AreSound P.format.limit nodes → (t : Ty) (r : Ref) (v : Value) (bytes : List ℕ) → StandsFor VerifierNodes P.types nodes r.0 t v → bytes ≡ spelling v → Spells P.format.limit P.types bytes t v
 spelled_stands P nodes sound t r v bytes stands is = record {
   shape = shallow_stands P.types nodes t v r.0 stands;
   within = within_stands VerifierNodes P.types nodes t v r.0 sound stands;
@@ -63,7 +63,7 @@ spelled_stands P nodes sound t r v bytes stands is = record {
 }
 
 -- an outcome that stands there is told by its spelling
-pub told_as : (P : Program) (nodes : List Node) → AreSound nodes → (t : Ty) (o : Outcome Ref) (result : Outcome Spelling) → OutcomeStands P nodes t o → IsSpelledAs P.types nodes t o result → IsTold P t result
+pub told_as : (P : Program) (nodes : List Node) → AreSound P.format.limit nodes → (t : Ty) (o : Outcome Ref) (result : Outcome Spelling) → OutcomeStands P nodes t o → IsSpelledAs P.types nodes t o result → IsTold P t result
 told_as P nodes sound t (told.Done r) (told.Done bytes) (v, stands) e = (ideal.Done v, (v, refl, spelled_stands P nodes sound t r v bytes stands (e v stands)))
 told_as P nodes sound t (told.Trapped trap) (told.Trapped trap') h e = (ideal.Trapped (trap_told trap'), refl)
 told_as P nodes sound t told.Out told.Out h e = (ideal.Out, refl)
@@ -74,7 +74,7 @@ told_as P nodes sound t (told.Trapped trap) told.Out h e = absurd e
 told_as P nodes sound t told.Out (told.Done bytes) h e = absurd e
 told_as P nodes sound t told.Out (told.Trapped trap) h e = absurd e
 
-module _ (P : Program) (nodes : List Node) (sound : AreSound nodes) (t : Ty) (left : Option (List ℕ)) (run : Run checked.Cause checked.Taking Value) (bytes : List ℕ) (is_told : left ≡ Some bytes) where
+module _ (P : Program) (nodes : List Node) (sound : AreSound P.format.limit nodes) (t : Ty) (left : Option (List ℕ)) (run : Run checked.Cause checked.Taking Value) (bytes : List ℕ) (is_told : left ≡ Some bytes) where
   is_left : (w : checked.Taking) → IsLeft left w → w.left ≡ length bytes
   is_left w h = h.2 ∙ ap length (some_same h.0 bytes (sym h.1 ∙ is_told))
 

@@ -110,13 +110,13 @@ module _ (hash : Hash) (P : Program) (t : Ty) (want : List ℕ) (place : ℕ) (x
   nothing NoMemory left' m h e = absurd cc
 
   pub ended : (Then : Taking → Type 0) (nodes : List Node) (end : FrameEnd) (left' : Option (List ℕ)) (s : Stop VerifierFault) → EndsBy limit bytes left' end
-      → stop_cause s ≡ option_map (λ e. cause_of e place) (end_told end) → OpenedAs Then nodes (Err s)
+      → stop_cause s ≡ option_map (λ e. cause_of e place want) (end_told end) → OpenedAs Then nodes (Err s)
   ended Then nodes end left' stop.NoMemory ends tells = tt
   ended Then nodes end left' (stop.Mode f) ends tells = λ c e. found (end_told end) refl c (sym e ∙ tells)
     where
-      found : (o : Option meant.End) → end_told end ≡ o → (c : Cause) → Some c ≡ option_map (λ e. cause_of e place) o
+      found : (o : Option meant.End) → end_told end ≡ o → (c : Cause) → Some c ≡ option_map (λ e. cause_of e place want) o
           → (after : Taking) × ((checked_mode hash P).unauth t x w ≡ Refuses c after)
-      found (Some m) e c s = (here, unauth_as (NoMore m) (nothing end left' m ends e) ∙ ap (λ c. Refuses c here) (sym (some_same c (cause_of m place) s)))
+      found (Some m) e c s = (here, unauth_as (NoMore m) (nothing end left' m ends e) ∙ ap (λ c. Refuses c here) (sym (some_same c (cause_of m place want) s)))
       found None e c s = absurd cc
 
   behind_is : (n n' place' : ℕ) (recent : List (List ℕ)) (rest : List ℕ) → n' ≡ n → place' ≡ suc place

@@ -1,5 +1,5 @@
 -- What is put and spelled by the types of a program alone is so by the program.
-use Rattle.std.proofs.Common.{◌≡◌, ℕ, List, Result, Ok, Err, subst}
+use Rattle.std.proofs.Common.{◌≡◌, ℕ, List, Result, Ok, Err, sym, subst}
 use Rattle.core_terms.specs.Programs.{meaning, types_of}
 use Rattle.core_terms.specs.ProgramTypes.{named_table, program_with, types_by_number, types_meaning}
 use Rattle.core_terms.specs.Roles.{argument_type}
@@ -8,13 +8,14 @@ use Rattle.core_terms.specs.TypeTables.{type_at}
 use Rattle.core_terms.specs.declared.types.TyId.{TyId}
 use Rattle.core_terms.specs.declared.byte_string.ByteString.{ByteString as Spelling}
 use Rattle.core_terms.specs.declared.outcome.Outcome.{Outcome}
+use Rattle.core_terms.specs.declared.outcome.Outcome.TheVariants.{Done, Trapped, Out}
 use Rattle.core_terms.specs.declared.term.Function.{Function}
 use Rattle.core_terms.specs.declared.program.Program.{Program}
 use Rattle.core_terms.specs.declared.program_types.Types.{Types}
 use Rattle.value_store.specs.Nodes.{Node}
 use Rattle.value_store.specs.declared.node.Ref.{Ref}
 use Rattle.verifier_mode.specs.CallParts.{ArePut}
-use Rattle.verifier_mode.specs.Spelled.{IsSpelledAs}
+use Rattle.verifier_mode.specs.Spelled.{IsSpelledAs, OutcomeStands}
 use Rattle.verifier_mode.specs.declared.verdict.Verdict.{Verdict}
 use Rattle.verifier_mode.specs.declared.verdict.Verdict.TheVariants.{Rejected, BadState, BadArgument, ReadFault, NoMemory}
 
@@ -27,6 +28,11 @@ module _ (t : Types) (fs : List Function) (nodes : List Node) (u : Ty) where
   put_in state argument (Err NoMemory) h = h
   put_in state argument (Err (Rejected cause)) h = h
   put_in state argument (Err ReadFault) h = h
+
+  stands_in : (o : Outcome Ref) → OutcomeStands (program_with t fs) nodes u o → OutcomeStands (types_meaning t) nodes u o
+  stands_in (Done r) h = h
+  stands_in (Trapped trap) h = h
+  stands_in Out h = h
 
 -- The code gives the types of its program.
 module _ (p : Program) (given : Types) (is : given ≡ p.types) (nodes : List Node) (id : TyId) (u : Ty) (at : type_at (types_of p) id ≡ u) where
@@ -41,6 +47,11 @@ module _ (p : Program) (given : Types) (is : given ≡ p.types) (nodes : List No
       → IsSpelledAs (meaning p).types nodes u o told
   spelled_by o told h =
       subst (λ u. IsSpelledAs (named_table p.types) nodes u o told) at (subst (λ t. IsSpelledAs (named_table t) nodes (type_at (types_by_number t) id) o told) is h)
+
+  pub stands_by : (o : Outcome Ref) → OutcomeStands (meaning p) nodes u o → OutcomeStands (types_meaning given) nodes (type_at (types_by_number given) id) o
+  stands_by o h =
+      subst (λ t. OutcomeStands (types_meaning t) nodes (type_at (types_by_number t) id) o) (sym is)
+      (stands_in p.types p.functions.items nodes (type_at (types_of p) id) o (subst (λ u. OutcomeStands (meaning p) nodes u o) (sym at) h))
 
 -- the type of the argument, by the program that the code gives
 pub argument_by : (p given : Program) (f : ℕ) (id : TyId) → given ≡ p → type_at (types_of given) id ≡ argument_type (meaning given) f → type_at (types_of p) id ≡ argument_type (meaning p) f

@@ -6,6 +6,7 @@ ghost use Rattle.ideal_meaning.specs.Checked.{before_all, checked};
 ghost use Rattle.ideal_meaning.specs.Following.{after_bytes};
 ghost use Rattle.ideal_meaning.specs.Frames.{offered};
 ghost use Rattle.lam_outside.specs.Causes.{Rose};
+ghost use Rattle.value_store.specs.Markings.{HasLimit};
 ghost use Rattle.value_store.specs.Standing.{AllStandFor, VerifierNodes};
 ghost use Rattle.value_store.specs.CodeNodes.{numbers_of};
 ghost use Rattle.mode_vm.specs.Meanings.{program_of};
@@ -17,7 +18,7 @@ ghost use Rattle.verifier_mode.specs.Spelled.{OutcomeStands};
 
 use crate::verifier::{Verifier, VerifierFault};
 use code_gen::Code;
-use core_terms::{FunctionId, Hash32, Outcome};
+use core_terms::{Fronts, FunctionId, Hash32, Outcome};
 use lam_outside::Source;
 use mode_vm::{Machine, Stop};
 use reuse_buffer::Ring;
@@ -43,6 +44,7 @@ pub fn checked_run<H: Hash32, S: Source, N: Nodes>(
 ) -> Result<(Outcome<Ref>, Ring), Stop<VerifierFault>>
     requires there { function.0 < length (program_of code.now).functions }
     requires stand { (vs : Values) × AllStandFor VerifierNodes (program_of code.now).types (N.nodes store.old) (numbers_of args.now) (function_at (program_of code.now) function.0).parameters vs }
+    requires limit { HasLimit (program_of code.now) (N.lent store.old) }
     requires fuel_fits { fuel ≤ 10 ^ 12 }
     ensures is { (vs : Values) (bytes : List ℕ) (recent : List (List ℕ))
         → AllStandFor VerifierNodes (program_of code.now).types (N.nodes store.old) (numbers_of args.now) (function_at (program_of code.now) function.0).parameters vs
@@ -53,9 +55,11 @@ pub fn checked_run<H: Hash32, S: Source, N: Nodes>(
     ensures stands { IfOk result (λ r. OutcomeStands (program_of code.now) (N.nodes store.new) (function_at (program_of code.now) function.0).result r.0) }
     ensures faults { Counts fault_cause Rose (S.faults source.old) (S.faults source.new) result }
     ensures rest { S.rest source.new ≡ S.rest source.old }
+    ensures lent { N.lent store.new ≡ N.lent store.old }
 {
     let limit = code.types().spelling_limit();
-    let verifier = Verifier::<H, S>::new(alloc, limit, ring);
+    let fronts = Fronts::of_types::<H>(code.types(), alloc)?;
+    let verifier = Verifier::<H, S>::new(alloc, limit, ring, fronts);
     let mut machine = Machine::start(code, function, args, fuel, verifier, alloc)?;
     let outcome = machine.run(code, store, source)?;
     Ok((outcome, machine.into_mode().into_ring()))

@@ -12,7 +12,8 @@ ghost use Rattle.ideal_meaning.specs.Following.{after_bytes};
 ghost use Rattle.ideal_meaning.specs.Frames.{header};
 ghost use Rattle.value_store.specs.CodeNodes.{numbers_of};
 ghost use Rattle.value_store.specs.Standing.{AllStandFor, VerifierNodes};
-ghost use Rattle.value_store.specs.Stores.{nodes_in};
+ghost use Rattle.value_store.specs.Markings.{HasLimit};
+ghost use Rattle.value_store.specs.Stores.{nodes_in, store_lent};
 ghost use Rattle.mode_vm.specs.Meanings.{program_of};
 ghost use Rattle.mode_vm.specs.StateCalls.{TakesState};
 ghost use Rattle.proof_stream.specs.TakenFrames.{HeadCause, TakesHeader};
@@ -61,7 +62,7 @@ pub fn verify<H: Hash32, S: Source>(
     ensures faults { VerdictCause (S.faults proof.old) (S.faults proof.new) result }
     ensures rest { S.rest proof.new ≡ S.rest proof.old }
 {
-    let mut store = Store::new(alloc);
+    let mut store = Store::new(alloc, code.types().spelling_limit() as u32);
     let ty = argument_of(code.program(), role);
     let refs = put_call(alloc, code.types(), &mut store, state, argument, ty)?;
     judge_file::<H, S>(alloc, code, &mut store, role, &refs, fuel, proof)
@@ -97,7 +98,7 @@ pub fn verify_on<H: Hash32, S: Source>(
     ensures faults { VerdictCause (S.faults proof.old) (S.faults proof.new) result }
     ensures rest { S.rest proof.new ≡ S.rest proof.old }
 {
-    let mut store = Store::new(alloc);
+    let mut store = Store::new(alloc, code.types().spelling_limit() as u32);
     let ty = argument_of(code.program(), role);
     let refs = put_call(alloc, code.types(), &mut store, state, argument, ty)?;
     judge_call::<H, S>(alloc, code, &mut store, role, &refs, fuel, proof, ring)
@@ -113,7 +114,7 @@ pub fn argument_of(program: &Program, role: FunctionId) -> TyId
 }
 
 /// Puts the state of a call and its argument, which is of this type, into the store.
-fn put_call(
+pub fn put_call(
     alloc: Global,
     types: &Types,
     store: &mut Store,
@@ -121,7 +122,9 @@ fn put_call(
     argument: &[u8],
     ty: TyId,
 ) -> Result<[Ref; 2], Verdict>
-    ensures { ArePut (types_meaning types.now) (nodes_in store.new) (type_at (types_by_number types.now) ty) state.now argument.now result }
+    requires { HasLimit (types_meaning types.now) (store_lent store.old) }
+    ensures limit { store.new.limit ≡ store.old.limit }
+    ensures put { ArePut (types_meaning types.now) (nodes_in store.new) (type_at (types_by_number types.now) ty) state.now argument.now result }
 {
     let state = match unspell(alloc, types, store, state, types.state_type()) {
         Ok(state) => state,
@@ -148,6 +151,7 @@ fn judge_file<H: Hash32, S: Source>(
     requires there { role.0 < length (program_of code.now).functions }
     requires stand { (vs : Values) × AllStandFor VerifierNodes (program_of code.now).types (nodes_in store.old) (numbers_of args.now) (function_at (program_of code.now) role.0).parameters vs }
     requires fuel_fits { fuel ≤ 10 ^ 12 }
+    requires limit { HasLimit (program_of code.now) (store_lent store.old) }
     ensures verdict { (vs : Values) → AllStandFor VerifierNodes (program_of code.now).types (nodes_in store.old) (numbers_of args.now) (function_at (program_of code.now) role.0).parameters vs
         → ForSome (S.left proof.old) (λ bytes. let P = program_of code.now in
         Answers P role.0 (checked.with_header H.hash P (header P.format bytes) role.0 vs fuel bytes) result) }
@@ -189,6 +193,7 @@ fn judge_call<H: Hash32, S: Source>(
     requires there { role.0 < length (program_of code.now).functions }
     requires stand { (vs : Values) × AllStandFor VerifierNodes (program_of code.now).types (nodes_in store.old) (numbers_of args.now) (function_at (program_of code.now) role.0).parameters vs }
     requires fuel_fits { fuel ≤ 10 ^ 12 }
+    requires limit { HasLimit (program_of code.now) (store_lent store.old) }
     ensures verdict { (vs : Values) (bytes : List ℕ) (recent : List (List ℕ))
         → AllStandFor VerifierNodes (program_of code.now).types (nodes_in store.old) (numbers_of args.now) (function_at (program_of code.now) role.0).parameters vs
         → S.left proof.old ≡ Some bytes → ring ≡ kept ring.size recent
@@ -213,7 +218,7 @@ fn judge_call<H: Hash32, S: Source>(
 }
 
 /// The outcome with the spelling of its value, which stands in the store at a type.
-fn spelled(
+pub fn spelled(
     alloc: Global,
     types: &Types,
     store: &Store,

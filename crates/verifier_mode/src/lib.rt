@@ -14,7 +14,7 @@ mod verdict;
 mod verifier;
 
 pub use checked_runs::checked_run;
-pub use judge::{argument_of, verify, verify_on};
+pub use judge::{argument_of, put_call, spelled, verify, verify_on};
 pub use opening::stop_of;
 pub use verdict::Verdict;
 pub use verifier::{Verifier, VerifierFault};

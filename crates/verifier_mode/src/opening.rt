@@ -1,5 +1,5 @@
 // What the next piece of a proof opens.
-ghost use Rattle.std.specs.Prelude.{◌≡◌, ℕ, bytes_eq, option_map, Err, IfOk};
+ghost use Rattle.std.specs.Prelude.{◌≡◌, ℕ, List, bytes_eq, option_map, Err, IfOk};
 ghost use Rattle.core_terms.specs.Formats.{Hash};
 ghost use Rattle.core_terms.specs.ProgramTypes.{types_by_number, types_meaning};
 ghost use Rattle.core_terms.specs.Projection.{digest_at};
@@ -11,7 +11,7 @@ ghost use Rattle.ideal_meaning.specs.Frames.{Offer, Offers};
 ghost use Rattle.lam_outside.specs.Causes.{Rose};
 ghost use Rattle.proof_stream.specs.Incoming.{FrameCause};
 ghost use Rattle.proof_stream.specs.declared.frame.Frame.{Frame};
-ghost use Rattle.value_store.specs.Markings.{VerifierMarking};
+ghost use Rattle.value_store.specs.Markings.{HasLimit, VerifierMarking};
 ghost use Rattle.value_store.specs.Standing.{Keeps, StandsFor, VerifierNodes};
 ghost use Rattle.value_store.specs.declared.node.Ref.{Ref as Refers};
 ghost use Rattle.mode_vm.specs.Openings.{Counts, OpensSome};
@@ -45,7 +45,8 @@ pub(crate) fn open_piece<N: Nodes>(
     found: Digest,
     last: &Option<LastRead>,
 ) -> Result<Ref, Stop<VerifierFault>>
-    requires { KnowsLast types.now (N.nodes store.old) last.now }
+    requires knows { KnowsLast types.now (N.nodes store.old) last.now }
+    requires limit { HasLimit (types_meaning types.now) (N.lent store.old) }
     ensures some { (hash : Hash) → OpensSome (VerifierMarking hash) (types_meaning types.now) (N.nodes store.new) (type_at (types_by_number types.now) ty) result }
     ensures opens { (hash : Hash) (left : ℕ) (more : Offer) (w : Taking) → found.0 ≡ digest_at hash (types_meaning types.now) (type_at (types_by_number types.now) ty) piece.now
         → PieceOpens (types_meaning types.now) (N.nodes store.new) (type_at (types_by_number types.now) ty)
@@ -77,7 +78,7 @@ pub(crate) fn open_piece<N: Nodes>(
 
 /// What stops a run where the piece with this number is asked for, and there is no further frame.
 pub fn stop_of(end: FrameEnd, place: u64) -> Stop<VerifierFault>
-    ensures cause { stop_cause result ≡ option_map (λ e. cause_of e place) (end_told end) }
+    ensures cause { (want : List ℕ) → stop_cause result ≡ option_map (λ e. cause_of e place want) (end_told end) }
     ensures faults { (old new : ℕ) → FrameCause {T = Frame} old new (Err end) → Counts {A = Refers} fault_cause Rose old new (Err result) }
 {
     match end {

@@ -1,5 +1,6 @@
 // The verifier as a mode of the machine.
 ghost use Rattle.std.specs.Prelude.{◌≡◌, None};
+ghost use Rattle.core_terms.specs.Fronts.{AreFronts};
 ghost use Rattle.core_terms.specs.ProgramTypes.{types_meaning};
 ghost use Rattle.lam_outside.specs.Causes.{Rose};
 ghost use Rattle.proof_stream.specs.Readers.{limit_of};
@@ -9,7 +10,7 @@ ghost use Rattle.verifier_mode.specs.Takings.{FollowsFrames, MovesOn};
 
 use crate::last_read::{LastRead, note_read};
 use crate::opening::{Asked, held_digest, open_piece, stop_of};
-use core_terms::{Cause, Hash32, TyId, Types};
+use core_terms::{Cause, Fronts, Hash32, TyId, Types};
 use lam_outside::Source;
 use mode_vm::{Mode, Stop};
 use proof_stream::{Frame, FrameReader};
@@ -39,24 +40,28 @@ pub struct Verifier<H, S> {
     ring: Ring,
     place: u64,
     last: Option<LastRead>,
+    fronts: Fronts,
     spare: SpareBuffer,
     hash: PhantomData<H>,
     source: PhantomData<S>,
 }
 
 impl<H: Hash32, S: Source> Verifier<H, S> {
-    /// A verifier before its first piece, which may have at most `limit` bytes, with the pieces that came before.
-    pub fn new(alloc: Global, limit: usize, ring: Ring) -> Self
+    /// A verifier before its first piece, which may have at most `limit` bytes, with the pieces that came before. It digests behind these
+    /// fronts.
+    pub fn new(alloc: Global, limit: usize, ring: Ring, fronts: Fronts) -> Self
         ensures limit { limit_of result.reader ≡ limit }
         ensures ring { result.ring ≡ ring }
         ensures place { result.place ≡ 0 }
         ensures last { result.last ≡ None }
+        ensures fronts { result.fronts ≡ fronts }
     {
         Verifier {
             reader: FrameReader::new(alloc, limit),
             ring,
             place: 0,
             last: None,
+            fronts,
             spare: SpareBuffer::new(alloc),
             hash: PhantomData,
             source: PhantomData,
@@ -72,12 +77,14 @@ impl<H: Hash32, S: Source> Verifier<H, S> {
             ring,
             place: _,
             last,
+            fronts,
             spare,
             hash: _,
             source: _,
         } = self;
         drop(reader);
         drop(last);
+        drop(fronts);
         drop(spare);
         ring
     }
@@ -112,13 +119,23 @@ impl<H: Hash32, S: Source> Mode for Verifier<H, S> {
     ghost moves_on = { λ a b c v w x h k.
         moves_on (limit_of a.reader) a.ring (S.left v) (limit_of b.reader) b.ring (S.left w) (limit_of c.reader) c.ring (S.left x) h k };
 
+    ghost Asks = { ⊥ };
+
+    ghost Answer = { Unit {0} };
+
+    ghost May = { λ v a w. ⊥ };
+
+    ghost Last = { λ v a f w. ⊥ };
+
+    ghost Expects = { λ mode w got. ⊥ };
+
     ghost opened = { λ mode. mode.place };
 
-    ghost Knows = { λ t mode nodes. KnowsLast t nodes mode.last };
+    ghost Knows = { λ t mode nodes. KnowsLast t nodes mode.last × AreFronts H.hash t mode.fronts };
 
     ghost follows_on = { λ t mode world old new w k h. h };
 
-    ghost knows_on = { λ t mode old new k h. knows_last_on t mode.last old new k h };
+    ghost knows_on = { λ t mode old new k h. (knows_last_on t mode.last old new k h.0, h.1) };
 
     fn auth<N: Nodes>(
         &mut self,
@@ -129,7 +146,7 @@ impl<H: Hash32, S: Source> Mode for Verifier<H, S> {
     ) -> Result<Ref, Stop<VerifierFault>> {
         let mut spelling = self.spare.take();
         spell_into(types, store, v, ty, &mut spelling)?;
-        let digest = H::of(&spelling);
+        let digest = H::of_pair(self.fronts.front(ty), &spelling);
         self.spare.keep(spelling);
         Ok(store.put_auth(Held::Only(digest))?)
     }
@@ -149,7 +166,7 @@ impl<H: Hash32, S: Source> Mode for Verifier<H, S> {
         match self.reader.next(world) {
             Ok(Frame::New) => {
                 let piece = self.reader.take_piece();
-                let found = H::of(&piece);
+                let found = H::of_pair(self.fronts.front(ty), &piece);
                 let fresh = open_piece(types, store, ty, asked, &piece, found, &self.last)?;
                 note_read(&mut self.last, store.alloc(), ty, &piece, fresh);
                 let oldest = self.ring.push(piece);
@@ -166,7 +183,7 @@ impl<H: Hash32, S: Source> Mode for Verifier<H, S> {
                         held,
                     ))));
                 };
-                let kept = H::of(piece);
+                let kept = H::of_pair(self.fronts.front(ty), piece);
                 let used = open_piece(types, store, ty, asked, piece, kept, &self.last)?;
                 self.place += 1;
                 Ok(used)

@@ -1,5 +1,5 @@
 -- Commits that are appended one after another are steps of the law on crashes.
-use Rattle.std.specs.Prelude.{Option, Some, None, IfSome, IsErr, Result, Ok, Err, OnOk, true, false, if◌then◌else◌}
+use Rattle.std.specs.Prelude.{Option, Some, None, IfSome, IsErr, Result, Ok, Err, true, false, if◌then◌else◌}
 use Rattle.std.proofs.Common.{◌≡◌, ◌≤◌, ◌<◌, ◌+◌, ℕ, zero, suc, Bool, List, [], ◌∷◌, ◌++◌, length, take, get_or, refl, sym, ◌∙◌, ap, subst, arith, append_assoc, length-append}
 use Rattle.std.proofs.lemmas.List.{append-nil, map-append, places, take_all, take_more}
 use Rattle.core_terms.specs.Terms.{Program}
@@ -8,7 +8,7 @@ use Rattle.lam_outside.specs.Disks.{DiskFile, Moments}
 use Rattle.session_meaning.specs.Calls.{RoleCall}
 use Rattle.session_meaning.specs.Server.{version_at}
 use Rattle.version_journal.specs.Appended.{AppendedSoFar, AreAppended}
-use Rattle.version_journal.specs.Gates.{Appends, AtLast, ForTold, IsKept, with_record}
+use Rattle.version_journal.specs.Gates.{Appends, AtLast, ForTold, IsKept}
 use Rattle.version_journal.specs.JournalLaws.{AreAppendsTo, AreWritable, IsWritable}
 use Rattle.version_journal.specs.Journals.{journal_front, record_bytes, records_limit}
 use Rattle.version_journal.specs.Steps.{Append, acknowledged_in, moments_in, passed_to}

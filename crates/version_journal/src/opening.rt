@@ -140,10 +140,11 @@ fn first_version<H: Hash32>(
 ) -> Result<Shared, JournalFault>
     ensures { IsFirst H.hash (program_of code.now) (program_in code.now).text_digest.0 image.now result }
 {
-    let mut marker = DigestingMarker::<H>::new(alloc);
+    let types = code.types();
+    let mut marker = DigestingMarker::<H>::new(alloc, types)?;
     match load_image(
         alloc,
-        code.types(),
+        types,
         code.program().text_digest(),
         &mut marker,
         image,

@@ -24,7 +24,7 @@ module _ (hash : Hash) (is_hash : IsHash hash) (p : Program) (lent : Types) (is 
   -- its projection stands over the verifier's nodes
   pub shown_by : (v : Value) → StandsFor (ProverNodes (digest_at hash (meaning p))) (meaning p).types nodes r (type_at (types_of p) id) v
       → (w : Value) × StandsFor VerifierNodes (table lent) nodes r (ty_of lent id) w
-  shown_by v h = (_, shown_shallow (digest_at hash (types_meaning lent)) (table lent) (λ t bytes. is_hash bytes) nodes (ty_of lent id) v r (stands_by v h))
+  shown_by v h = (_, shown_shallow (digest_at hash (types_meaning lent)) (table lent) (λ t bytes. is_hash _) nodes (ty_of lent id) v r (stands_by v h))
 
   -- and has this spelling
   pub spelling_by : (v : Value) (bytes : List ℕ) → bytes ≡ spelling (projection hash (types_meaning lent) (ty_of lent id) v)

@@ -8,6 +8,7 @@ ghost use Rattle.core_terms.specs.Terms.{function_at};
 ghost use Rattle.core_terms.specs.TypeTables.{type_at};
 ghost use Rattle.core_terms.specs.Values.{Value};
 ghost use Rattle.code_gen.specs.Programs.{program_in};
+ghost use Rattle.value_store.specs.Markings.{HasLimit};
 ghost use Rattle.value_store.specs.Standing.{Keeps, ProverNodes, StandsFor};
 ghost use Rattle.mode_vm.specs.IdealRuns.{IsOutcome};
 ghost use Rattle.mode_vm.specs.Meanings.{program_of};
@@ -58,6 +59,7 @@ pub(crate) fn checked_call<H: Hash32, N: Nodes>(
     requires role { TakesState (program_of code.now) role.0 }
     requires called { (s : Value) × (a : Value) × IsCalledOn H.hash (program_of code.now) role.0 (N.nodes store.old) state argument s a }
     requires kept { kept ≤ (program_of code.now).format.most_kept }
+    requires limit { HasLimit (program_of code.now) (N.lent store.old) }
     ensures value { let P = program_of code.now in IfOk result (λ call. (s a : Value) → IsCalledOn H.hash P role.0 (N.nodes store.old) state argument s a
         → IsOutcome (ProverNodes (digest_at H.hash P)) P.types (N.nodes store.new) (function_at P role.0).result call.value (outcome_of P role.0 s a)) }
     ensures counted { let P = program_of code.now in IfOk result (λ call. (s a : Value) → IsCalledOn H.hash P role.0 (N.nodes store.old) state argument s a

@@ -6,6 +6,7 @@ ghost use Rattle.core_terms.specs.Terms.{Query, Update};
 ghost use Rattle.core_terms.specs.Types.{IntTy, PairTy, Table, Ty};
 ghost use Rattle.core_terms.specs.Values.{IntV, PairV, Value};
 ghost use Rattle.ideal_meaning.specs.Ideal as ideal;
+ghost use Rattle.value_store.specs.Markings.{HasLimit};
 ghost use Rattle.value_store.specs.Standing.{Keeps, Kind, ProverNodes, StandsFor};
 ghost use Rattle.mode_vm.specs.IdealRuns.{IsOutcome};
 ghost use Rattle.mode_vm.specs.Meanings.{program_of};
@@ -36,6 +37,7 @@ pub(crate) fn run_round<H: Hash32, N: Nodes>(
     requires get { (answer : Ty) × IsRole (program_of code.now) workload.now.get.0 Query IntTy answer }
     requires keys { 0 < workload.now.keys }
     requires kept { workload.now.kept ≤ (program_of code.now).format.most_kept }
+    requires limit { HasLimit (program_of code.now) (N.lent store.old) }
     requires state { let P = program_of code.now in (s : Value) × StandsFor (ProverNodes (digest_at H.hash P)) P.types (N.nodes store.old) state.0 P.state s }
     requires bounded { IsBounded tally.old }
     requires few { tally.old.calls + 1 < 2 ^ 32 }
@@ -86,6 +88,7 @@ fn put<H: Hash32, N: Nodes>(
 ) -> Result<Ref, AllocError>
     requires put { (answer : Ty) × IsRole (program_of code.now) workload.now.put.0 Update (PairTy IntTy IntTy) answer }
     requires kept { workload.now.kept ≤ (program_of code.now).format.most_kept }
+    requires limit { HasLimit (program_of code.now) (N.lent store.old) }
     requires state { let P = program_of code.now in (s : Value) × StandsFor (ProverNodes (digest_at H.hash P)) P.types (N.nodes store.old) state.0 P.state s }
     requires bounded { IsBounded tally.old }
     requires few { tally.old.calls < 2 ^ 32 }
@@ -119,7 +122,7 @@ fn put<H: Hash32, N: Nodes>(
 /// mark are dropped.
 fn new_state<N: Nodes>(store: &mut N, state: Ref, ended: Outcome<Ref>, before: Mark) -> Ref
     requires there { before.0 ≤ length (N.nodes store.old) }
-    requires lent { length (N.lent store.old) ≤ before.0 }
+    requires lent { length (N.lent store.old).nodes ≤ before.0 }
     requires state { state.0 < before.0 }
     requires pair { (kind : Kind) × (types : Table) × (a : Ty) × (b : Ty) × (o : ideal.Outcome) × IsOutcome kind types (N.nodes store.old) (PairTy a b) ended o }
     ensures state { (kind : Kind) (types : Table) (a b : Ty) (o : ideal.Outcome) (s : Value) → IsOutcome kind types (N.nodes store.old) (PairTy a b) ended o
@@ -149,6 +152,7 @@ fn get<H: Hash32, N: Nodes>(
 ) -> Result<(), AllocError>
     requires get { (answer : Ty) × IsRole (program_of code.now) workload.now.get.0 Query IntTy answer }
     requires kept { workload.now.kept ≤ (program_of code.now).format.most_kept }
+    requires limit { HasLimit (program_of code.now) (N.lent store.old) }
     requires state { let P = program_of code.now in (s : Value) × StandsFor (ProverNodes (digest_at H.hash P)) P.types (N.nodes store.old) state.0 P.state s }
     requires bounded { IsBounded tally.old }
     requires few { tally.old.calls < 2 ^ 32 }

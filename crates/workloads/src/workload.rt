@@ -5,6 +5,7 @@ ghost use Rattle.core_terms.specs.Roles.{IsRole};
 ghost use Rattle.core_terms.specs.Terms.{Query, Update};
 ghost use Rattle.core_terms.specs.Types.{IntTy, PairTy, Ty};
 ghost use Rattle.core_terms.specs.Values.{Value};
+ghost use Rattle.value_store.specs.Markings.{HasLimit};
 ghost use Rattle.value_store.specs.Standing.{Keeps, ProverNodes, StandsFor};
 ghost use Rattle.mode_vm.specs.Meanings.{program_of};
 ghost use Rattle.workloads.specs.Workloads.{after_rounds, no_calls};
@@ -54,6 +55,7 @@ pub fn run_workload<H: Hash32, N: Nodes>(
     requires get { (answer : Ty) × IsRole (program_of code.now) workload.now.get.0 Query IntTy answer }
     requires keys { 0 < workload.now.keys }
     requires kept { workload.now.kept ≤ (program_of code.now).format.most_kept }
+    requires limit { HasLimit (program_of code.now) (N.lent store.old) }
     requires count { count ≤ 100000 }
     requires state { let P = program_of code.now in (s : Value) × StandsFor (ProverNodes (digest_at H.hash P)) P.types (N.nodes store.old) state.0 P.state s }
     ensures tally { let P = program_of code.now in IfOk result (λ told. (s : Value) → StandsFor (ProverNodes (digest_at H.hash P)) P.types (N.nodes store.old) state.0 P.state s

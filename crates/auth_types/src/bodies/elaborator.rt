@@ -1,8 +1,10 @@
 // What elaborates bodies: the types so far, what the program declares, and the locals at the place where it stands.
-ghost use Rattle.std.specs.Prelude.{◌≡◌, ◌<◌, ◌≤◌, ◌∷◌, ◌++◌, [], List, true, bytes_eq, drop, length, take, Some, nat_lt, slice_get, unwrap_or, IfOk, IfSome, OnOk};
+ghost use Rattle.std.specs.Prelude.{◌≡◌, ◌<◌, ◌≤◌, ◌∷◌, ◌++◌, [], List, true, false, bytes_eq, drop, length, take, Some, nat_lt, slice_get, unwrap_or, IfOk, IfSome, OnOk};
 ghost use Rattle.std.specs.List.{list_any};
+ghost use Rattle.core_terms.specs.ProgramFormats.{arrays_of};
 ghost use Rattle.core_terms.specs.Programs.{types_in};
 ghost use Rattle.core_terms.specs.Types.{Ty};
+ghost use Rattle.core_terms.specs.declared.format.Format.TheVariants.{First};
 ghost use Rattle.auth_types.specs.Bodies.{last_named};
 ghost use Rattle.auth_types.specs.Locals.{AreLocalsWithin, locals_meant};
 ghost use Rattle.declared_types.specs.Scopes.{IsWithin};
@@ -49,7 +51,7 @@ fn has_name(locals: &[Local<'_>], outer: usize, name: &Name) -> bool
         .any(|local| local.name == name.as_bytes())
 }
 
-/// Elaborates bodies over the types so far. Each number of a type that it holds is in the table.
+/// Elaborates bodies over the types so far, which are those of a program without arrays. Each number of a type that it holds is in the table.
 #[derive(Drop)]
 pub(super) struct Elaborator<'s, 'a> {
     pub(super) alloc: Global,
@@ -58,11 +60,12 @@ pub(super) struct Elaborator<'s, 'a> {
     locals: Vec<Local<'a>>,
     ghost scope_within: { IsWithin (length (types_in types)) scope.now },
     ghost locals_within: { AreLocalsWithin (length (types_in types)) locals.items },
+    ghost plain: { arrays_of types.format ≡ false },
 }
 
 impl<'s, 'a> Elaborator<'s, 'a> {
     ghost use Rattle.core_terms.specs.ProgramTrees.{expression_of};
-    ghost use Rattle.core_terms.specs.TypeTables.{stands_behind, type_of_form, type_at};
+    ghost use Rattle.core_terms.specs.TypeTables.{is_form_in, stands_behind, type_of_form, type_at};
     ghost use Rattle.core_terms.specs.Texts.{bytes_of};
     ghost use Rattle.core_terms.specs.Terms.{Expression, TextE};
     ghost use Rattle.core_terms.specs.Types.{TextTy, UnitTy};
@@ -81,7 +84,8 @@ impl<'s, 'a> Elaborator<'s, 'a> {
 
     /// Before a body, with no locals.
     pub(super) fn new(alloc: Global, types: TyTable, scope: &'s Scope<'a>) -> Self
-        requires { IsWithin (length (types_in types)) scope.now }
+        requires within { IsWithin (length (types_in types)) scope.now }
+        requires plain { arrays_of types.format ≡ false }
         ensures types { types_of result ≡ types_in types }
         ensures scope { scope_of result ≡ scope_meant (types_in types) scope.now }
         ensures locals { locals_of result ≡ [] }
@@ -96,7 +100,8 @@ impl<'s, 'a> Elaborator<'s, 'a> {
 
     /// The number of the type of this form.
     pub(super) fn intern(&mut self, form: TyForm) -> Result<TyId, AllocError>
-        requires { stands_behind (length (types_of self.old)) form ≡ true }
+        requires parts { stands_behind (length (types_of self.old)) form ≡ true }
+        requires format { is_form_in self.old.types.format form ≡ true }
         ensures keeps { OnOk result (Keeps self.old self.new) }
         ensures number { IfOk result (λ id. slice_get (types_of self.new) id.0 ≡ Some (type_of_form (types_of self.old) form)) }
         ensures inside { IfOk result (λ id. id.0 < length (types_of self.new)) }
@@ -266,7 +271,8 @@ impl<'s, 'a> Elaborator<'s, 'a> {
 
     /// The table, where all bodies are elaborated.
     pub(super) fn into_types(self) -> TyTable
-        ensures { types_in result ≡ types_of self.entry }
+        ensures types { types_in result ≡ types_of self.entry }
+        ensures format { result.format ≡ First }
     {
         self.types
     }

@@ -1,6 +1,8 @@
 // The functions of a program, with their bodies.
-ghost use Rattle.std.specs.Prelude.{◌≡◌, [], length, map, List, ℕ, All, IfOk, OnOk};
+ghost use Rattle.std.specs.Prelude.{◌≡◌, false, [], length, map, List, ℕ, All, IfOk, OnOk};
+ghost use Rattle.core_terms.specs.ProgramFormats.{arrays_of};
 ghost use Rattle.core_terms.specs.Programs.{types_in};
+ghost use Rattle.core_terms.specs.declared.format.Format.TheVariants.{First};
 ghost use Rattle.core_terms.specs.ProgramTrees.{function_of, kind_of, types_at};
 ghost use Rattle.auth_syntax.specs.Trees as written;
 ghost use Rattle.auth_types.specs.Bodies.{checked_function, checked_functions, parameter_locals};
@@ -105,7 +107,9 @@ pub(crate) fn fourth_pass(
 ) -> Result<Bodies, TypeFault>
     requires within { IsWithin (length (types_in types)) scope.now }
     requires counts { All IsCounted scope.now.heads.items }
+    requires plain { arrays_of types.format ≡ false }
     ensures grows { IfOk result (λ bodies. Grows (types_in types) (types_in bodies.types)) }
+    ensures format { IfOk result (λ bodies. bodies.types.format ≡ First) }
     ensures found { (names : List (List ℕ)) → map (signature_meant (types_in types)) scope.now.heads.items ≡ map (signature_of names) (functions_meant scope.now) → Finds (λ bodies. functions_of (types_in bodies.types) bodies.functions) (checked_functions names (scope_meant (types_in types) scope.now) (functions_meant scope.now)) result }
     ensures parameters { IfOk result (λ bodies. map (λ (f : Function). f.parameters.items) bodies.functions.items ≡ map (λ (h : Head). h.parameters.items) scope.now.heads.items) }
     ensures results { IfOk result (λ bodies. map (λ (f : Function). f.result) bodies.functions.items ≡ map (λ (h : Head). h.result) scope.now.heads.items) }

@@ -189,6 +189,7 @@ fn trap_number(trap: Trap) -> u8 {
         Trap::DivZero => 3,
         Trap::TooBig => 4,
         Trap::TooDeep => 5,
+        Trap::Index => 6,
     }
 }
 

@@ -21,6 +21,7 @@ pub(crate) fn part(view: View<'_>, index: usize) -> Option<Ref>
     match view {
         View::Pair(first, second) => [first, second].get(index).copied(),
         View::Constructor(_, _, fields) => fields.get(index).copied(),
+        View::Items(items) => items.get(index).copied(),
         View::Auth(Held::Inner(inner) | Held::Both(_, inner)) if index == 0 => Some(*inner),
         _ => None,
     }
@@ -39,6 +40,7 @@ pub(crate) fn head(alloc: Global, view: View<'_>) -> Result<Vec<u8>, AllocError>
         View::Pair(_, _) => [4].to_vec(alloc),
         View::Constructor(named, tag, _) => constructor_head(alloc, named, tag),
         View::Auth(_) => [6].to_vec(alloc),
+        View::Items(items) => [7, (items.len() % 256) as u8].to_vec(alloc),
     }
 }
 

@@ -1,4 +1,5 @@
-use Rattle.std.proofs.Common.{◌≡◌, Some, Ok, Err, refl, ap, ◌∙◌, subst}
+use Rattle.std.proofs.Common.{◌≡◌, Some, Ok, Err, true, refl, sym, ap, ◌∙◌, subst}
+use Rattle.core_terms.specs.Roles.{HasRoleShape}
 use Rattle.std.proofs.lemmas.Result.{IfOk-weaker}
 use Rattle.code_gen.specs.Programs.{program_in}
 use Rattle.core_terms.specs.Programs.{meaning, types_of}
@@ -9,7 +10,8 @@ use Rattle.core_terms.specs.declared.program.Program.{Program}
 use Rattle.ideal_meaning.specs.Ideal as ideal
 use Rattle.mode_vm.specs.Meanings.{program_of}
 use Rattle.mode_vm.specs.StateCalls.{SpellsOutcome}
-use Rattle.session_meaning.specs.Calls.{state_made}
+use Rattle.verifier_mode.specs.Verdicts.{IsTold}
+use Rattle.session_meaning.specs.Calls.{reads_state, state_made}
 use Rattle.session_meaning.specs.Client.{state_behind}
 use Rattle.session_meaning.specs.Messages as message
 use Rattle.verifier_mode.specs.Verdicts.{Tells}
@@ -18,9 +20,36 @@ use Rattle.ask_core.specs.declared.standing.Known.{Known}
 use Rattle.ask_core.specs.declared.standing.Standing.TheVariants.{Idle, Calling}
 use Rattle.ask_core.specs.declared.told.Told.TheVariants.{Outcome}
 use Rattle.ask_core.specs.declared.replied.Replied.{Replied}
-use Rattle.ask_core.proofs.Called.{call_of_same}
+use Rattle.ask_core.proofs.Called.{call_of_same, result_is, takes_state}
 use Rattle.ask_core.proofs.Judged.{accepted, each_call, lent_verdict, refused, ring_is}
 use Rattle.ask_core.proofs.judging.proof_replied.Goals as goal
+
+pub verify_on-judged-requires-clause-role : goal.verify_on-judged-requires-clause-role
+verify_on-judged-requires-clause-role g c κs within =
+    let hash = g.H.Hash32.hash in
+    let code = c.args.code.now in
+    let P = program_of code in
+    let asked = c.args.asked.now in
+    let role = c.in-Some.role.now in
+    let called = call_of_same c.program.result.now (program_in code) c.program.ensures asked.role role c.in-Some.ensures.called c.in-Some.ensures.shape in
+    takes_state P (role_of (types_of (program_in code)) role) called.2 (subst (λ r. reads_state r.kind ≡ true) (sym called.0) called.1)
+
+pub state_behind-requires-clause-shape : goal.state_behind-requires-clause-shape
+state_behind-requires-clause-shape g c =
+    let role = c.in-Some.role.now in
+    subst (λ (p : Program). HasRoleShape (meaning p) (role_of (types_of p) role)) (c.program.ensures ∙ sym c.program-in-Ok.ensures) c.in-Some.ensures.shape
+
+pub state_behind-requires-clause-told : goal.state_behind-requires-clause-told
+state_behind-requires-clause-told g c =
+    let hash = g.H.Hash32.hash in
+    let code = c.args.code.now in
+    let P = program_of code in
+    let asked = c.args.asked.now in
+    let role = c.in-Some.role.now in
+    let called = call_of_same c.program.result.now (program_in code) c.program.ensures asked.role role c.in-Some.ensures.called c.in-Some.ensures.shape in
+    let told = c.in-Ok.outcome in
+    subst (λ (p : Program). IsTold (meaning p) (type_at (types_of p) role.result) told) (sym c.program-in-Ok.ensures)
+    (subst (λ t. IsTold P t told) (result_is P (role_of (types_of (program_in code)) role) called.2) c.in-Ok.ensures.told)
 
 pub returns-in_ok-state-in-Ok : goal.returns-in_ok-state-in-Ok
 returns-in_ok-state-in-Ok g c client m r =

@@ -3,11 +3,16 @@ use Rattle.value_store.specs.declared.node.Ref.{Ref}
 use Rattle.code_gen.specs.Programs.{program_in}
 use Rattle.core_terms.specs.declared.program.Program.{Program}
 use Rattle.auth_cli.specs.Serving.{last_version}
-use Rattle.auth_cli.proofs.ServePrepared.{last_is_saved, last_is_state}
+use Rattle.auth_cli.proofs.ServePrepared.{last_has_limit, last_is_saved, last_is_state}
 use Rattle.auth_cli.proofs.last_version.last_image.Goals as goal
 
-pub save_image-requires : goal.save_image-requires
-save_image-requires c =
+pub save_image-requires-clause-limit : goal.save_image-requires-clause-limit
+save_image-requires-clause-limit c =
+    let of_core = c.program-program.ensures ∙ ap program_in c.code.ensures in
+    last_has_limit c.requires.0 c.args.core.now c.requires.1 c.requires.2 c.requires.3 c.types.result.now (c.types.ensures ∙ ap (λ (p : Program). p.types) of_core) c.store.result.now c.store.ensures
+
+pub save_image-requires-clause-state : goal.save_image-requires-clause-state
+save_image-requires-clause-state c =
     let s = c.requires.0 in
     let server = c.requires.1 in
     let of_core = c.program-program.ensures ∙ ap program_in c.code.ensures in (

@@ -55,3 +55,6 @@ returns-in-Err-clause-reached g c =
     let words = c.args.words.now in
     program_reached words.program.now (λ p told. with_beginning p.digested words.image.now words.port.now words.connections.now words.slice.now told (λ s. None)) _ _
     (named_of (program_in c.in_ok-code.code)) c.in_ok-code.ensures.goes {T = Beginning} _ (Err c.in-Err.halt) c.in_ok-code.ensures.contents c.in-Err.ensures.reached
+
+pub returns-in_ok-prepare-in-Ok-clause-prepared : goal.returns-in_ok-prepare-in-Ok-clause-prepared
+returns-in_ok-prepare-in-Ok-clause-prepared g c = let stands = c.in-Ok.ensures.stands in (_, c.in_ok-prepare-in-Ok.ensures stands.0 stands.1)

@@ -1,7 +1,13 @@
-use Rattle.std.proofs.Common.{◌∙◌, Err, ap, sym, subst}
+use Rattle.std.proofs.Common.{◌≡◌, ◌∙◌, Err, true, ap, sym, subst}
 use Rattle.std.specs.Prelude.{All}
 use Rattle.std.proofs.lemmas.Result.{err_from_is_err_and}
+use Rattle.core_terms.specs.ProgramFormats.{arrays_of}
+use Rattle.core_terms.specs.ProgramLimits.{IsWithinLimits}
+use Rattle.core_terms.specs.ProgramTrees.{program_of as program_of_forms}
 use Rattle.core_terms.specs.Programs.{meaning, types_in}
+use Rattle.core_terms.specs.Typing.{is_shaped, is_typed}
+use Rattle.core_terms.specs.declared.format.Format.{Format}
+use Rattle.core_terms.specs.declared.types.TyTable.{TyTable}
 use Rattle.auth_syntax.specs.Syntax.{Program}
 use Rattle.auth_syntax.specs.Trees.{program_of}
 use Rattle.declared_types.specs.DeclaredPrograms.{names_of}
@@ -26,6 +32,9 @@ fourth_pass-requires-clause-counts c =
     subst (λ (scope : Scope). All IsCounted scope.heads.items) (sym c.deref.ensures)
     (heads_counted (names_of program) _ s.scope.value (heads_signed program _ s.scope.value s.state c.in_ok-types.ensures.shaped))
 
+pub fourth_pass-requires-clause-plain : goal.fourth_pass-requires-clause-plain
+fourth_pass-requires-clause-plain c = ap (λ (table : TyTable). arrays_of table.format) c.into_inner.ensures ∙ ap arrays_of c.in_ok-types.ensures.format
+
 pub returns-in_err-bodies-clause-answer : goal.returns-in_err-bodies-clause-answer
 returns-in_err-bodies-clause-answer c =
     let p = err_from_is_err_and c.from_residual-in_err-bodies.result c.from_residual-in_err-bodies.ensures.1 in
@@ -46,7 +55,16 @@ new-requires c =
     c.into_inner-named.ensures c.in_ok-bodies.bodies.types.forms.keys c.in_ok-bodies.bodies.functions.items c.in_ok-bodies.ensures.grows
     c.in_ok-declared.ensures.found c.in_ok-types.ensures.found
     c.in_ok-bodies.ensures.found c.in_ok-bodies.ensures.parameters c.in_ok-bodies.ensures.results c.in_ok-bodies.ensures.literals in
-    record { typed = p.typed; shaped = p.shaped; within = p.within; names = p.names; limits = p.limits }
+    let b = c.in_ok-bodies.bodies in
+    let first = sym c.in_ok-bodies.ensures.format in
+    let program = λ (format : Format). program_of_forms format b.types.forms.keys c.into_inner-named.result.named.items s.state b.functions.items in
+    record {
+      typed = subst (λ (format : Format). is_typed (program format) ≡ true) first p.typed;
+      shaped = subst (λ (format : Format). is_shaped (program format) ≡ true) first p.shaped;
+      within = p.within;
+      names = p.names;
+      limits = subst (λ (format : Format). IsWithinLimits (program format)) first p.limits;
+    }
 
 pub returns-clause-answer : goal.returns-clause-answer
 returns-clause-answer c =
@@ -57,4 +75,7 @@ returns-clause-answer c =
     c.into_inner-named.ensures c.in_ok-bodies.bodies.types.forms.keys c.in_ok-bodies.bodies.functions.items c.in_ok-bodies.ensures.grows
     c.in_ok-declared.ensures.found c.in_ok-types.ensures.found
     c.in_ok-bodies.ensures.found c.in_ok-bodies.ensures.parameters c.in_ok-bodies.ensures.results c.in_ok-bodies.ensures.literals in
-    p.gives ∙ ap Sound (sym c.in_ok-new.ensures.meaning)
+    let b = c.in_ok-bodies.bodies in
+    p.gives
+    ∙ ap (λ (format : Format). Sound (program_of_forms format b.types.forms.keys c.into_inner-named.result.named.items s.state b.functions.items)) (sym c.in_ok-bodies.ensures.format)
+    ∙ ap Sound (sym c.in_ok-new.ensures.meaning)

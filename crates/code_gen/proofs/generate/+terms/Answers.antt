@@ -1,10 +1,10 @@
 use Rattle.std.proofs.Common.{subst, sym, ap, ◌∙◌, append-nil, ◌++◌, ◌∷◌, [], map, slice_get, unwrap_or, OnOk, ◌≡◌}
 use Rattle.core_terms.specs.Programs.{meaning, types_of}
-use Rattle.core_terms.specs.ProgramTrees.{arms_in_a_row, expression_of}
-use Rattle.core_terms.proofs.TermViews.{expression-Constructor, expression-Call}
-use Rattle.code_gen.specs.CodeTrees.{all_of, instructions_of}
+use Rattle.core_terms.specs.ProgramTrees.{arms_in_a_row, expression_of, operation_of}
+use Rattle.core_terms.proofs.TermViews.{expression-Constructor, expression-Call, expression-Operate}
+use Rattle.code_gen.specs.CodeTrees.{all_of, instruction_of, instructions_of}
 use Rattle.code_gen.specs.Instructions as instruction
-use Rattle.code_gen.specs.Code.{arm_codes, code_of}
+use Rattle.code_gen.specs.Code.{arm_codes, code_of, operation_code}
 use Rattle.code_gen.proofs.Rows.{all_before, one_more, row_then}
 use Rattle.code_gen.proofs.ArmRows.{arms_more}
 use Rattle.code_gen.proofs.generate.+terms.Goals as goal
@@ -32,6 +32,19 @@ emit-returns-in-Call n c =
     subst (λ l. OnOk c.emit_all-in-Call.result (new ≡ old ++ (all_of types (map (expression_of T) l) ++ i ∷ []))) c.deref-in-Call.ensures.value c.emit_all-in-Call.ensures in
     row_then c.emit_all-in-Call.result types (map (expression_of T) c.in-Call.arguments.items) i old new (code_of types (expression_of T c.args.term.now))
     (ap (code_of types) (sym (expression-Call T c.in-Call.function c.in-Call.arguments) ∙ ap (expression_of T) (sym c.in-Call.is))) row
+
+pub emit-returns-in-Operate : goal.emit-returns-in-Operate
+emit-returns-in-Operate n c =
+    let T = types_of c.args.program.now in
+    let types = (meaning c.args.program.now).types in
+    let i = operation_code (operation_of T c.in-Operate.operation) in
+    let old = instructions_of T c.args.code.now.items in
+    let new = instructions_of T c.emit_all-in-Operate.new.code.items in
+    let row : OnOk c.emit_all-in-Operate.result (new ≡ old ++ (all_of types (map (expression_of T) c.in-Operate.operands.items) ++ i ∷ [])) =
+    subst (λ i. OnOk c.emit_all-in-Operate.result (new ≡ old ++ (all_of types (map (expression_of T) c.in-Operate.operands.items) ++ i ∷ []))) (c.instruction_for.ensures T)
+    (subst (λ l. OnOk c.emit_all-in-Operate.result (new ≡ old ++ (all_of types (map (expression_of T) l) ++ instruction_of T c.instruction_for.result ∷ []))) c.deref-in-Operate.ensures.value c.emit_all-in-Operate.ensures) in
+    row_then c.emit_all-in-Operate.result types (map (expression_of T) c.in-Operate.operands.items) i old new (code_of types (expression_of T c.args.term.now))
+    (ap (code_of types) (sym (expression-Operate T c.in-Operate.operation c.in-Operate.operands) ∙ ap (expression_of T) (sym c.in-Operate.is))) row
 
 pub emit_row-loop-term-init : goal.emit_row-loop-term-init
 emit_row-loop-term-init n c = sym (append-nil (instructions_of (types_of c.args.program.now) c.args.code.now.items))

@@ -1,5 +1,7 @@
 -- The prover's run gives the outcome and what was opened, and what tells the audit by the run tells the audit.
+use Rattle.std.proofs.Common.{subst}
 use Rattle.core_terms.specs.Formats.{IsHash}
+use Rattle.value_store.specs.Nodes.{AreSound}
 use Rattle.code_gen.specs.Programs.{program_in}
 use Rattle.ideal_meaning.specs.Headline.{call_of}
 use Rattle.ideal_meaning.specs.Ideal.{ideal, outcome}
@@ -41,7 +43,7 @@ returns-clause-audit g c s a call bytes told =
     let nodes = g.N.Nodes.nodes c.args.store.now in
     let run = ideal (program_of c.args.code.now) c.args.role.0 (call_of s a) c.args.fuel in
     let stand = both_stand (program_of c.args.code.now) c.args.role.0 c.requires.role g.H.Hash32.hash nodes c.args.state c.args.argument s a call in
-    tells g.H.Hash32.hash is_hash p c.args.role.0 c.requires.role nodes (g.met.N.Nodes.sound c.args.store.now) c.args.state c.args.argument s a call c.args.fuel bytes c.audit_run.result
+    tells g.H.Hash32.hash is_hash p c.args.role.0 c.requires.role nodes (subst (λ n. AreSound n nodes) c.requires.limit.is (g.met.N.Nodes.sound c.args.store.now)) c.args.state c.args.argument s a call c.args.fuel bytes c.audit_run.result
     (c.audit_run.ensures.tells (outcome run) (state_of run) (c.in_ok-run.ensures.value (call_of s a) stand) (c.in_ok-run.ensures.opened (call_of s a) stand) bytes told)
 
 pub returns-clause-headline : goal.returns-clause-headline
@@ -51,5 +53,5 @@ returns-clause-headline g c s a call bytes told =
     let nodes = g.N.Nodes.nodes c.args.store.now in
     let run = ideal (program_of c.args.code.now) c.args.role.0 (call_of s a) c.args.fuel in
     let stand = both_stand (program_of c.args.code.now) c.args.role.0 c.requires.role g.H.Hash32.hash nodes c.args.state c.args.argument s a call in
-    truly g.H.Hash32.hash is_hash p c.args.role.0 c.requires.role nodes (g.met.N.Nodes.sound c.args.store.now) c.args.state c.args.argument s a call c.args.fuel bytes c.audit_run.result
+    truly g.H.Hash32.hash is_hash p c.args.role.0 c.requires.role nodes (subst (λ n. AreSound n nodes) c.requires.limit.is (g.met.N.Nodes.sound c.args.store.now)) c.args.state c.args.argument s a call c.args.fuel bytes c.audit_run.result
     (c.audit_run.ensures.tells (outcome run) (state_of run) (c.in_ok-run.ensures.value (call_of s a) stand) (c.in_ok-run.ensures.opened (call_of s a) stand) bytes told)

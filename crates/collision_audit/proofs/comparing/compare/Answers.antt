@@ -1,7 +1,6 @@
 -- Each honest piece against the next that is offered.
 use Rattle.std.proofs.Common.{map, arith, ◌∙◌, subst}
 use Rattle.core_terms.specs.ProgramTypes.{types_meaning}
-use Rattle.core_terms.specs.Projection.{digest_at}
 use Rattle.ideal_meaning.specs.Ideal.{honest_piece}
 use Rattle.proof_stream.specs.Readers.{limit_of}
 use Rattle.collision_audit.proofs.Parting.{Stands, goes_on, has_none, parts, seen_at, seen_end, stands_last, stands_seen}
@@ -63,10 +62,9 @@ returns-clause-compares g c seen count o h ahead =
     let types = c.args.types.now in
     let P = types_meaning types in
     let i = c.loop-one.one-index in
-    let digest = digest_at hash P in
     let all = map (honest_piece hash P) seen in
     let limit = limit_of c.loop-one.offers.reader in
     let left = g.S.Source.left c.loop-one.proof in
     let none = seen_end hash types (g.N.Nodes.nodes c.args.store.now) c.args.opened.now seen i h c.loop-one-test.false in
-    stands_last digest all count o i limit c.loop-one.offers.ring left
-    (subst (λ l. Stands digest all count o i (map (honest_piece hash P) l) limit c.loop-one.offers.ring left) none (c.loop-one.invariant.3 seen count o h ahead))
+    stands_last hash P.format all count o i limit c.loop-one.offers.ring left
+    (subst (λ l. Stands hash P.format all count o i (map (honest_piece hash P) l) limit c.loop-one.offers.ring left) none (c.loop-one.invariant.3 seen count o h ahead))

@@ -1,6 +1,5 @@
 use Rattle.std.proofs.Common.{◌≡◌, ℕ, List, drop, map}
 use Rattle.core_terms.specs.ProgramTypes.{types_meaning}
-use Rattle.core_terms.specs.Projection.{digest_at}
 use Rattle.ideal_meaning.specs.Frames.{Offer}
 use Rattle.ideal_meaning.specs.Ideal.{honest_piece}
 use Rattle.ideal_meaning.specs.Ideal as ideal
@@ -19,4 +18,4 @@ invariant-loop-one g l =
     × (g.S.Source.rest l.proof ≡ g.S.Source.rest l.initial.proof)
     × ((seen : List ideal.Opened) (count : ℕ) (o : Offer) → AreSeen hash l.types (g.N.Nodes.nodes l.store) l.opened seen
     → IsAhead (limit_of l.initial.offers.reader) l.initial.offers.ring (g.S.Source.left l.initial.proof) count o
-    → Stands (digest_at hash P) (map (honest_piece hash P) seen) count o l.one-index (map (honest_piece hash P) (drop l.one-index seen)) (limit_of l.offers.reader) l.offers.ring (g.S.Source.left l.proof))
+    → Stands hash P.format (map (honest_piece hash P) seen) count o l.one-index (map (honest_piece hash P) (drop l.one-index seen)) (limit_of l.offers.reader) l.offers.ring (g.S.Source.left l.proof))

@@ -1,6 +1,5 @@
 use Rattle.std.proofs.Common.{Ok, [], drop, length, map, subst}
 use Rattle.core_terms.specs.ProgramTypes.{types_meaning}
-use Rattle.core_terms.specs.Projection.{digest_at}
 use Rattle.ideal_meaning.specs.Frames.{header, offered}
 use Rattle.ideal_meaning.specs.Ideal.{honest_piece}
 use Rattle.proof_stream.specs.Readers.{limit_of}
@@ -18,7 +17,7 @@ returns-in-Some-clause-compares g c seen h bytes told =
     let offers = c.in-Some.offers in
     let opens = subst (λ r. Opens format.limit (header format bytes) bytes left (Ok r)) c.in-Some.is (c.in_ok-offers.ensures.opens bytes told) in
     let o = offered P.format.limit (drop 6 bytes) offers.ring.size [] in
-    good_file (digest_at hash P) P.format.limit honest bytes (g.S.Source.left c.compare_to_end.new.proof) (header format bytes) offers.ring.size c.compare_to_end.result opens.0
+    good_file hash P.format honest bytes (g.S.Source.left c.compare_to_end.new.proof) (header format bytes) offers.ring.size c.compare_to_end.result opens.0
     (c.compare_to_end.ensures.compares seen (length (drop 6 bytes)) o h
     (ahead_first P.format.limit (limit_of offers.reader) offers.ring left (drop 6 bytes) opens.2 opens.1 opens.3))
 
@@ -29,4 +28,4 @@ returns-in-None-clause-compares g c seen h bytes told =
     let format = P.format in
     let left = g.S.Source.left c.open.new.proof in
     let opens = subst (λ r. Opens format.limit (header format bytes) bytes left (Ok r)) c.in-None.is (c.in_ok-offers.ensures.opens bytes told) in
-    bad_file (digest_at hash P) P.format.limit (map (honest_piece hash P) seen) bytes left (header format bytes) opens
+    bad_file hash P.format (map (honest_piece hash P) seen) bytes left (header format bytes) opens

@@ -13,7 +13,7 @@ spell-requires g c =
     let P = types_meaning c.args.types.now in
     let t = type_at (types_by_number c.args.types.now) c.args.ty in (
       projection g.H.Hash32.hash P t c.requires.stands.0,
-      shown_shallow (digest_at g.H.Hash32.hash P) P.types (λ t bytes. is_hash bytes) (g.N.Nodes.nodes c.args.store.now) t c.requires.stands.0 c.args.value.0 c.requires.stands.1,
+      shown_shallow (digest_at g.H.Hash32.hash P) P.types (λ t bytes. is_hash _) (g.N.Nodes.nodes c.args.store.now) t c.requires.stands.0 c.args.value.0 c.requires.stands.1,
     )
 
 pub returns : goal.returns

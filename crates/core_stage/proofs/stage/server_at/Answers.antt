@@ -7,4 +7,4 @@ use Rattle.core_stage.proofs.stage.server_at.Goals as goal
 pub returns : goal.returns
 returns g c =
     let v = c.requires.version in
-    (new_server v.0, subst (λ core. Serves sha256 core (new_server v.0)) (sym c.in_ok-new.ensures.ok) (c.in_ok-core.ensures.serves v.0 v.1))
+    (new_server v.0, subst (λ core. Serves sha256 core (new_server v.0)) (sym c.in_ok-new.ensures.ok) (c.in_ok-core.ensures.serves v.0 c.requires.limit v.1))

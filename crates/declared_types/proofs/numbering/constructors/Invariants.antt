@@ -1,4 +1,4 @@
-use Rattle.std.proofs.Common.{map, take}
+use Rattle.std.proofs.Common.{◌≡◌, map, take}
 use Rattle.core_terms.specs.Programs.{types_in}
 use Rattle.auth_syntax.specs.Trees.{constructor_of}
 use Rattle.declared_types.specs.Numbering.{AreConstructorsOf}
@@ -9,5 +9,6 @@ use Rattle.declared_types.proofs.numbering.constructors.Given as goal
 abbrev pub invariant-loop-one : goal.invariant-loop-one
 invariant-loop-one l = record {
   grows : Grows (types_in l.initial.types) (types_in l.types);
+  format : l.types.format ≡ l.initial.types.format;
   found : AreConstructorsOf (names_in l.names.keys) (types_in l.types) (map constructor_of (take l.one-index l.declared)) l.constructors.items;
 }

@@ -1,4 +1,4 @@
-use Rattle.std.proofs.Common.{take}
+use Rattle.std.proofs.Common.{◌≡◌, take}
 use Rattle.std.specs.List.{AllZip}
 use Rattle.core_terms.specs.Programs.{types_in}
 use Rattle.declared_types.specs.Numbering.{IsHeadOf}
@@ -9,5 +9,6 @@ use Rattle.declared_types.proofs.numbering.heads.Given as goal
 abbrev pub invariant-loop-declaration : goal.invariant-loop-declaration
 invariant-loop-declaration l = record {
   grows : Grows (types_in l.initial.types) (types_in l.types);
+  format : l.types.format ≡ l.initial.types.format;
   found : AllZip (IsHeadOf (names_in l.names.keys) (types_in l.types)) (functions_written (take l.declaration-index l.declarations)) l.heads.items;
 }

@@ -1,3 +1,4 @@
+use Rattle.std.proofs.Common.{◌∙◌}
 use Rattle.declared_types.specs.ScopeNames.{names_in}
 use Rattle.declared_types.proofs.NumberedParts.{named_passed, named_taken}
 use Rattle.declared_types.proofs.TypeNumbers.{grows_on}
@@ -8,6 +9,7 @@ pub loop-declaration-preserved : goal.loop-declaration-preserved
 loop-declaration-preserved c = elim c.match-declaration.branch [
   | in-Type+in_ok-named_type+in_ok-push w ↦ record {
     grows = rw w.types-is (grows_on _ _ _ c.loop-declaration.invariant.grows w.named_type.ensures.grows);
+    format = rw w.types-is (w.named_type.ensures.format ∙ c.loop-declaration.invariant.format);
     found = rw (w.types-is, w.named-is, w.in_ok-push.ensures.items)
         (named_taken c.args.declarations.now c.loop-declaration.declaration-index c.declaration-item.result c.loop-declaration-test.true
         c.declaration-item.is (names_in c.args.names.now.keys) _ _ c.loop-declaration.named.items _ _ w.in-Type.declared
@@ -15,6 +17,7 @@ loop-declaration-preserved c = elim c.match-declaration.branch [
   }
   | in_default w ↦ record {
     grows = rw w.types-is c.loop-declaration.invariant.grows;
+    format = rw w.types-is c.loop-declaration.invariant.format;
     found = rw (w.types-is, w.named-is) (named_passed c.args.declarations.now c.loop-declaration.declaration-index c.declaration-item.result
         c.loop-declaration-test.true c.declaration-item.is (names_in c.args.names.now.keys) _ c.loop-declaration.named.items
         w.in_default.not-Type c.loop-declaration.invariant.found);

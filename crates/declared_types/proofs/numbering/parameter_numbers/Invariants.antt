@@ -1,4 +1,4 @@
-use Rattle.std.proofs.Common.{map, take}
+use Rattle.std.proofs.Common.{◌≡◌, map, take}
 use Rattle.core_terms.specs.Programs.{types_in}
 use Rattle.auth_syntax.specs.Syntax.{ParameterSyntax}
 use Rattle.auth_syntax.specs.Trees.{parameter_of}
@@ -10,6 +10,7 @@ use Rattle.declared_types.proofs.numbering.parameter_numbers.Given as goal
 abbrev pub invariant-loop-parameter : goal.invariant-loop-parameter
 invariant-loop-parameter l = record {
   grows : Grows (types_in l.initial.types) (types_in l.types);
+  format : l.types.format ≡ l.initial.types.format;
   found : AreNumbers (types_in l.types) l.ids.items (map (λ (p : ParameterSyntax). type_meant (names_in l.names.keys) p.of_type)
       (map parameter_of (take l.parameter-index l.parameters)));
 }

@@ -18,6 +18,9 @@ audit-requires-clause-stand g c κs within =
     let ideal = c.requires.2.0 in
     (ideal.state, ideal.argument, called_on c.requires.0 (program_in c.args.code.now) c.args.call ideal c.requires.1 c.requires.2.1)
 
+pub audit-requires-clause-limit : goal.audit-requires-clause-limit
+audit-requires-clause-limit g c κs within = c.requires.2.1.limit
+
 pub audit-requires-clause-fuel_fits : goal.audit-requires-clause-fuel_fits
 audit-requires-clause-fuel_fits g c κs within = c.requires.2.1.called.fuel_fits
 

@@ -48,7 +48,7 @@ run_and_tell-requires-clause-state c =
     let p = program_in c.args.code.now in
     let ended = c.in_ok-ended.ensures in
     let made = c.in-Some.ensures p Init ended.0.outcome tt ended.2.1 in
-    (state_made (kind_called (role_of p c.in_ok-ended.ended.called)) made.0, made.2)
+    (state_made (kind_called (role_of p c.in_ok-ended.ended.called)) made.0, record { stands = made.2; limit = ended.2.1.limit })
 
 pub returns-in_ok-run_and_tell-in-Some-clause-finds : goal.returns-in_ok-run_and_tell-in-Some-clause-finds
 returns-in_ok-run_and_tell-in-Some-clause-finds c =
@@ -68,7 +68,7 @@ returns-in_ok-run_and_tell-in-Some-clause-finds c =
     (goes ∙ first_is (named_of p) name call.role.now call.argument.now call.fuel.now is.role is.argument is.fuel (behind_first (named_of p) numbers w)
     ∙ ended.1 (behind_first (named_of p) numbers w))
     (state_found (named_of p) numbers w ended.0 r made.0 report ended.2.0 made.1
-    (c.in_ok-run_and_tell-in-Some.ensures.finds (state_made (kind_called r) made.0) made.2))
+    (c.in_ok-run_and_tell-in-Some.ensures.finds (state_made (kind_called r) made.0) (record { stands = made.2; limit = ended.2.1.limit })))
 
 pub returns-in_ok-role_report-in-None-clause-finds : goal.returns-in_ok-role_report-in-None-clause-finds
 returns-in_ok-role_report-in-None-clause-finds c =

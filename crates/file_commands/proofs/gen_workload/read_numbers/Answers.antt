@@ -1,6 +1,6 @@
 use Rattle.std.proofs.Common.{ℕ, List, Option, ◌∙◌}
 use Rattle.std.proofs.lemmas.Result.{err_from_is_err_and}
-use Rattle.core_terms.specs.ProgramTrees.{program_format}
+use Rattle.core_terms.specs.ProgramFormats.{most_kept_pieces}
 use Rattle.printed_lines.specs.declared.refusal.Argument.TheVariants.{Seed, Count, Number}
 use Rattle.file_commands.specs.Answer.{Answer, WorkloadNumbers, with_number, with_numbers}
 use Rattle.file_commands.specs.Arguments.{most_rounds, most_seed}
@@ -11,7 +11,7 @@ use Rattle.file_commands.proofs.gen_workload.read_numbers.Goals as goal
 
 -- the steps
 abbrev on_kept : (kept : List ℕ) → (x rounds : ℕ) → (WorkloadNumbers → Option Answer) → Option Answer
-on_kept kept x rounds go = with_number Number (number_within program_format.most_kept kept) (λ n. go (record { seed = x; rounds = rounds; kept = n }))
+on_kept kept x rounds go = with_number Number (number_within most_kept_pieces kept) (λ n. go (record { seed = x; rounds = rounds; kept = n }))
 
 abbrev on_count : (count kept : List ℕ) → (x : ℕ) → (WorkloadNumbers → Option Answer) → Option Answer
 on_count count kept x go = with_number Count (number_within most_rounds count) (λ rounds. on_kept kept x rounds go)
@@ -42,5 +42,5 @@ returns-in_err-kept-clause-goes c =
     let err = err_from_is_err_and c.from_residual-in_err-kept.result c.from_residual-in_err-kept.ensures.1 in
     goes_as (on_kept words.kept.now x rounds) (with_numbers words.seed.now words.count.now words.kept.now) numbers_of
     (λ go. c.in_ok-seed.ensures.goes (λ x. on_count words.count.now words.kept.now x go) ∙ c.in_ok-rounds.ensures.goes (λ rounds. on_kept words.kept.now x rounds go)) result
-    (first_halts (with_number Number (number_within program_format.most_kept words.kept.now)) (λ n go. go (record { seed = x; rounds = rounds; kept = n })) (λ (n : ℕ). n) numbers_of
+    (first_halts (with_number Number (number_within most_kept_pieces words.kept.now)) (λ n go. go (record { seed = x; rounds = rounds; kept = n })) (λ (n : ℕ). n) numbers_of
     result _ (cc) c.in_err-kept.ensures.goes)

@@ -1,7 +1,8 @@
-use Rattle.std.proofs.Common.{Ok, Err, sym, ap, ◌∙◌}
+use Rattle.std.proofs.Common.{Ok, Err, sym, ap, ◌∙◌, subst}
 use Rattle.core_terms.specs.Programs.{meaning, types_of}
 use Rattle.core_terms.specs.Projection.{read_at}
 use Rattle.core_terms.specs.TypeTables.{type_at}
+use Rattle.value_store.specs.Markings.{HasLimit}
 use Rattle.value_store.specs.Stores.{nodes_in}
 use Rattle.file_commands.specs.ReadPrograms.{named_of}
 use Rattle.file_commands.proofs.PutArguments.{literal_goes_on, literal_refused_for, put_refused, put_stands, read_by_types}
@@ -20,7 +21,7 @@ returns-in-Ok-clause-goes c =
     let value = read_by_types p c.types.result.now c.types.ensures (nodes_in c.unspell.new.store) c.args.ty c.as_bytes.result.now (Ok c.in-Ok.value) c.in-Ok.ensures.value in (
       c.in_ok-spelling.ensures.0,
       literal_goes_on p t c.args.text.now bytes c.in_ok-spelling.ensures,
-      put_stands p t c.args.text.now bytes c.in_ok-spelling.ensures _ _ value.0 value.1 c.requires
+      put_stands p t c.args.text.now bytes c.in_ok-spelling.ensures _ _ value.0 value.1 c.requires.plain
           (ap (λ bs. read_at (meaning p) t bs) (sym c.as_bytes.ensures) ∙ value.2) value.3,
     )
 
@@ -30,3 +31,9 @@ unreachable-requires c =
     let t = type_at (types_of p) c.args.ty in
     absurd (put_refused p t c.args.text.now c.in_ok-spelling.spelling c.in_ok-spelling.ensures (nodes_in c.unspell.new.store) c.as_bytes.result.now _ _ c.as_bytes.ensures c.in-Err-Bad.field-0-is
     (read_by_types p c.types.result.now c.types.ensures (nodes_in c.unspell.new.store) c.args.ty c.as_bytes.result.now (Err c.in-Err-Bad.field-0) c.in-Err-Bad.ensures.value))
+
+pub returns-in-Ok-clause-limit : goal.returns-in-Ok-clause-limit
+returns-in-Ok-clause-limit c = subst (HasLimit (meaning c.args.program.now)) (sym c.unspell.ensures.lent) c.requires.limit
+
+pub returns-clause-limit : goal.returns-clause-limit
+returns-clause-limit c = subst (HasLimit (meaning c.args.program.now)) (sym c.unspell.ensures.lent) c.requires.limit

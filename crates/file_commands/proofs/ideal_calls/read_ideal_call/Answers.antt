@@ -30,6 +30,9 @@ returns-in_err-loaded-clause-goes g c = λ callee is told known.
     halts_first_for (with_image_file (digested_of p) (told c.args.image.now)) (behind_state (role_of p c.args.called) c.args.argument.now) (HoldsCall callee p)
     c.from_residual.result _ (cc) (c.in_err-loaded.ensures.goes told known)
 
+pub put_argument-requires-clause-limit : goal.put_argument-requires-clause-limit
+put_argument-requires-clause-limit g c = c.in_ok-loaded.ensures.stands.1.limit
+
 pub returns-in_err-argument-clause-goes : goal.returns-in_err-argument-clause-goes
 returns-in_err-argument-clause-goes g c = λ callee is told known.
     let p = c.args.program.now in
@@ -58,8 +61,9 @@ returns-clause-goes g c = λ callee is told known.
       record {
         called = is;
         role = refl;
-        state = c.in_ok-argument.ensures.keeps (prover_nodes p) (meaning p).types c.in_ok-loaded.loaded.root.0 (meaning p).state state.0 state.2;
+        state = c.in_ok-argument.ensures.keeps (prover_nodes p) (meaning p).types c.in_ok-loaded.loaded.root.0 (meaning p).state state.0 state.2.stands;
         argument = put.2;
+        limit = c.in_ok-argument.ensures.limit;
       },
     )
 
@@ -72,7 +76,8 @@ returns-clause-holds g c = λ callee is.
       record {
         called = is;
         role = refl;
-        state = c.in_ok-argument.ensures.keeps (prover_nodes p) (meaning p).types c.in_ok-loaded.loaded.root.0 (meaning p).state state.0 state.1;
+        state = c.in_ok-argument.ensures.keeps (prover_nodes p) (meaning p).types c.in_ok-loaded.loaded.root.0 (meaning p).state state.0 state.1.stands;
         argument = put.2;
+        limit = c.in_ok-argument.ensures.limit;
       },
     )

@@ -4,6 +4,7 @@ use Rattle.core_terms.specs.RoleViews.{role_kind_of}
 use Rattle.core_terms.specs.TypeTables.{type_at}
 use Rattle.code_gen.specs.Programs.{program_in}
 use Rattle.mode_vm.specs.IdealRuns.{IsOutcome}
+use Rattle.value_store.specs.Markings.{HasLimit}
 use Rattle.value_store.specs.Stores.{nodes_in}
 use Rattle.file_commands.specs.IdealCalls.{values_called}
 use Rattle.file_commands.specs.RoleCalls.{outcome_called, result_called}
@@ -23,6 +24,9 @@ pub digesting_run-requires-clause-stand : goal.digesting_run-requires-clause-sta
 digesting_run-requires-clause-stand c = λ κs.
     (values_called c.requires.2.0, call_stands c.requires.0 (program_in c.args.code.now) c.args.call c.requires.2.0 c.requires.1 c.requires.2.1)
 
+pub digesting_run-requires-clause-limit : goal.digesting_run-requires-clause-limit
+digesting_run-requires-clause-limit c = λ κs. c.requires.2.1.limit
+
 pub digesting_run-requires-clause-fuel_fits : goal.digesting_run-requires-clause-fuel_fits
 digesting_run-requires-clause-fuel_fits c = λ κs. c.requires.2.1.called.fuel_fits
 
@@ -36,5 +40,6 @@ returns c = λ callee call calls h.
         called = h.called;
         outcome = subst (λ r'. IsOutcome (prover_nodes p) (meaning p).types (nodes_in c.digesting_run.new.store) (result_called r) c.in_ok-outcome.outcome (outcome_called r' (values_called call))) h.role
             (c.in_ok-outcome.ensures.outcome (values_called call) (call_stands callee p c.args.call call calls h));
+        limit = subst (HasLimit (meaning p)) (sym c.in_ok-outcome.ensures.lent) h.limit;
       },
     )

@@ -1,7 +1,10 @@
-use Rattle.std.proofs.Common.{refl, subst}
+use Rattle.std.proofs.Common.{refl, sym, subst}
+use Rattle.core_terms.specs.Programs.{meaning}
 use Rattle.core_terms.specs.Values.{AndV, NoV}
+use Rattle.core_terms.specs.declared.program.Program.{Program}
 use Rattle.code_gen.specs.Programs.{program_in}
-use Rattle.value_store.specs.Stores.{nodes_in}
+use Rattle.value_store.specs.Markings.{HasLimit}
+use Rattle.value_store.specs.Stores.{nodes_in, store_lent}
 use Rattle.file_commands.specs.RoleCalls.{ended_with, outcome_called}
 use Rattle.file_commands.specs.RolesCalled.{role_of}
 use Rattle.file_commands.specs.declared.roles.Callee.TheVariants.{Init}
@@ -14,6 +17,10 @@ digesting_run-requires-clause-stand c = λ κs.
     let nodes = nodes_in c.put_argument.new.store in
     let put = subst (IsPut c.args.called c.args.argument.now nodes c.in_ok-argument.argument.0) c.program.ensures c.in_ok-argument.ensures.goes in
     (AndV put.0 NoV, init_stands p c.args.called c.requires c.args.argument.now nodes c.in_ok-argument.argument.0 put)
+
+pub digesting_run-requires-clause-limit : goal.digesting_run-requires-clause-limit
+digesting_run-requires-clause-limit c = λ κs.
+    subst (λ (p : Program). HasLimit (meaning p) (store_lent c.put_argument.new.store)) c.program.ensures c.in_ok-argument.ensures.limit
 
 pub returns : goal.returns
 unfolding outcome_called
@@ -29,6 +36,8 @@ returns c =
         record {
           called = c.requires;
           outcome = c.in_ok-outcome.ensures.outcome (AndV put.0 NoV) (init_stands p c.args.called c.requires c.args.argument.now nodes c.in_ok-argument.argument.0 put);
+          limit = subst (HasLimit (meaning p)) (sym c.in_ok-outcome.ensures.lent)
+              (subst (λ (p : Program). HasLimit (meaning p) (store_lent c.put_argument.new.store)) c.program.ensures c.in_ok-argument.ensures.limit);
         },
       ),
     )

@@ -22,6 +22,9 @@ prove_file-requires-clause-called c = λ κs.
     let ideal = c.requires.called.2.0 in
     (ideal.state, ideal.argument, called_on c.requires.called.0 (program_in c.args.code.now) c.args.call ideal c.requires.called.1 c.requires.called.2.1)
 
+pub prove_file-requires-clause-limit : goal.prove_file-requires-clause-limit
+prove_file-requires-clause-limit c = λ κs. c.requires.called.2.1.limit
+
 pub prove_file-requires-clause-fuel_fits : goal.prove_file-requires-clause-fuel_fits
 prove_file-requires-clause-fuel_fits c = λ κs. c.requires.called.2.1.called.fuel_fits
 

@@ -6,7 +6,8 @@ use Rattle.core_terms.specs.Projection.{digest_at}
 use Rattle.core_terms.specs.Values.{Value}
 use Rattle.core_terms.specs.declared.program_types.Types.{Types}
 use Rattle.ideal_meaning.specs.Ideal.{Done}
-use Rattle.value_store.specs.Stores.{nodes_in}
+use Rattle.value_store.specs.Markings.{HasLimit}
+use Rattle.value_store.specs.Stores.{nodes_in, store_lent}
 use Rattle.value_store.proofs.ProverNodes.{shown_ideal}
 use Rattle.images.specs.LoadedRoots.{IsStateAt}
 use Rattle.file_commands.specs.Answer.{outcome_stored, outcome_told, says}
@@ -26,8 +27,13 @@ role_report-requires c = (c.requires.0, c.requires.2)
 pub state_made-requires : goal.state_made-requires
 state_made-requires c = (c.args.program.now, c.requires.0, c.requires.1, c.requires.2)
 
-pub save_image-requires : goal.save_image-requires
-save_image-requires c =
+pub save_image-requires-clause-limit : goal.save_image-requires-clause-limit
+save_image-requires-clause-limit c =
+    let ended = c.args.ended.now in
+    subst (λ (types : Types). HasLimit (types_meaning types) (store_lent ended.store)) (sym c.types-types.ensures) (record { is = c.requires.2.1.limit.is })
+
+pub save_image-requires-clause-state : goal.save_image-requires-clause-state
+save_image-requires-clause-state c =
     let p = c.args.program.now in
     let ended = c.args.ended.now in
     let made = c.in-Some.ensures p c.requires.0 c.requires.2.0 c.requires.1 c.requires.2.1 in

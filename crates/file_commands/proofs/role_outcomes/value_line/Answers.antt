@@ -27,5 +27,5 @@ returns c =
     let t = type_at (types_of p) c.args.ty in
     let by_program = rw c.types.ensures at c.in_ok-spelled.ensures.projected in
     IfOk-weaker c.named_done_line.result _ _
-    (λ line told v h. line_told p (nodes_in c.args.store.now) c.args.store.now.sound t v c.args.value.0 h c.in_ok-spelled.spelled line.items (by_program sha256 v length-sha256 h)
+    (λ line told v h. line_told p c.args.store.now.limit c.args.store.now.greatest (nodes_in c.args.store.now) c.args.store.now.sound t v c.args.value.0 h c.in_ok-spelled.spelled line.items (by_program sha256 v length-sha256 h)
     (λ w shallow short is. told w shallow (subst (λ bytes. length bytes < 2 ^ 32) (sym c.as_bytes.ensures) short) (c.as_bytes.ensures ∙ is))) c.named_done_line.ensures

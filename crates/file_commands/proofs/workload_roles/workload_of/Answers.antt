@@ -1,4 +1,4 @@
-use Rattle.std.proofs.Common.{ℕ, List, Option, codes}
+use Rattle.std.proofs.Common.{ℕ, List, Option, codes, sym, ap, ◌∙◌}
 use Rattle.std.proofs.lemmas.Result.{err_from_is_err_and}
 use Rattle.core_terms.specs.Programs.{meaning}
 use Rattle.core_terms.specs.Terms.{Program}
@@ -33,3 +33,14 @@ returns-in_err-get_role-clause-goes c =
     (λ go. c.in_ok-put_role.ensures.goes (λ put. on_update P name c.args.kept put go)) result
     (first_halts (with_shaped_role is_get P (codes "get")) (on_query name c.args.kept put) (λ (get : FunctionId). get.0) (λ (w : Workload). w) result _ (cc)
     c.in_err-get_role.ensures.goes)
+
+pub returns-clause-goes : goal.returns-clause-goes
+returns-clause-goes c = λ go.
+    let P = meaning c.args.program.now in
+    let name = c.args.name.now in
+    let kept = c.args.kept in
+    let put = c.in_ok-put_role.field-0 in
+    let get = c.in_ok-get_role.field-0 in
+    c.in_ok-put_role.ensures.goes (λ put. on_update P name kept put go)
+    ∙ c.in_ok-get_role.ensures.goes (λ get. on_query name kept put.0 get go)
+    ∙ ap (λ keys. go (record { put = put; get = get; keys = keys; kept = kept })) (sym c.keys_of.ensures)

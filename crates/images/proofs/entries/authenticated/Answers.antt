@@ -24,6 +24,7 @@ returns-in_default-part-clause-loaded g c entries stored size =
 
 pub mark_auth-requires : goal.mark_auth-requires
 mark_auth-requires g c = record {
+  knows = c.requires.knows;
   stands =
       (_, inner_stands g.M.Marker.marking c.args.parts.now.types.now (nodes_in c.args.store.now) c.args.loaded.now c.requires.stored.0 c.requires.stored.1 0 c.args.number c.args.inner c.in-Some.inner c.in-Some.ensures);
 }

@@ -5,7 +5,7 @@ use Rattle.core_terms.specs.Values.{BoolV}
 use Rattle.images.specs.Images.{checked_entry, entry}
 use Rattle.value_store.specs.Markings.{kind_of}
 use Rattle.value_store.specs.Stores.{nodes_in}
-use Rattle.images.proofs.Checked.{loaded}
+use Rattle.images.proofs.Checked.{loaded, small_fits}
 use Rattle.images.proofs.Seen.{bool_seen}
 use Rattle.core_terms.specs.declared.types.TyForm.TheVariants.{BoolForm}
 use Rattle.images.proofs.TypeNumbers.{numbered}
@@ -16,6 +16,6 @@ returns-clause-loaded c marking size =
     let p = c.args.parts.now.types.now in
     loaded p size c.args.number BoolTy (BoolV c.args.value) (λ go. checked_entry (types_meaning p) size c.args.number (Some (entry BoolTy (BoolV c.args.value))) go)
     (λ go. refl) c.in-Some.ensures.0
-    (lit≤ tt) (lit≤ tt) marking (nodes_in c.put_bool.new.self) (record { ty = c.in-Some.ty; value = c.in_ok-value.value }) (BoolV c.args.value)
+    (small_fits p 1 (lit≤ tt)) (lit≤ tt) marking (nodes_in c.put_bool.new.self) (record { ty = c.in-Some.ty; value = c.in_ok-value.value }) (BoolV c.args.value)
     (numbered c.args.parts.now.types.now BoolForm c.in-Some.ty c.in-Some.ensures) (bool_seen marking (types_meaning p) c.args.value)
     (c.in_ok-value.ensures.stands (kind_of marking (types_meaning p)) (types_meaning p).types)

@@ -1,4 +1,5 @@
 use Rattle.std.proofs.Common.{◌<◌, ◌≤◌, ◌+◌, max, arith}
+use Rattle.images.proofs.Checked.{limit_in}
 use Rattle.core_terms.specs.ProgramTypes.{types_by_number, types_meaning}
 use Rattle.core_terms.proofs.TypingComplete.{both}
 use Rattle.value_store.specs.Markings.{kind_of}
@@ -66,19 +67,19 @@ put_pair-requires-clause-second c =
     node_at c.requires.stored.0 (types_meaning p) (types_by_number p) (nodes_in c.args.store.now) c.args.loaded.now c.requires.stored.1 c.requires.stored.2 c.args.second
     c.in-Some-get.second c.in-Some-get.ensures
 
-pub returns-then-shallow_size-size_limit-clause-loaded : goal.returns-then-shallow_size-size_limit-clause-loaded
-returns-then-shallow_size-size_limit-clause-loaded c marking entries stored size =
+pub returns-then-shallow_size-limit-clause-loaded : goal.returns-then-shallow_size-limit-clause-loaded
+returns-then-shallow_size-limit-clause-loaded c marking entries stored size =
     let p = c.args.parts.now.types.now in
-    let big : 65536 < size_at (nodes_in c.args.store.now) c.in-Some.first.value.0 + size_at (nodes_in c.args.store.now) c.in-Some-get.second.value.0 =
-    omega (arith, c.size_limit.ensures, c.shallow_size.ensures.kept, c.shallow_size-2.ensures.kept) in
+    let big : (limit_in p) < size_at (nodes_in c.args.store.now) c.in-Some.first.value.0 + size_at (nodes_in c.args.store.now) c.in-Some-get.second.value.0 =
+    omega (arith, c.limit.ensures, c.requires.limit.is, c.shallow_size.ensures.kept, c.shallow_size-2.ensures.kept) in
     pair_big marking p (nodes_in c.args.store.now) c.args.loaded.now entries stored size c.args.number c.args.first c.args.second c.in-Some.first
     c.in-Some-get.second c.in-Some.ensures c.in-Some-get.ensures c.in-Some-part.ensures.0 c.args.store.now.sound big
 
 pub returns-then-max-ge-MOST_DEPTH-clause-loaded : goal.returns-then-max-ge-MOST_DEPTH-clause-loaded
 returns-then-max-ge-MOST_DEPTH-clause-loaded c marking entries stored size =
     let p = c.args.parts.now.types.now in
-    let small : size_at (nodes_in c.args.store.now) c.in-Some.first.value.0 + size_at (nodes_in c.args.store.now) c.in-Some-get.second.value.0 ≤ 65536 =
-    omega (arith, c.size_limit.ensures, c.shallow_size.ensures.kept, c.shallow_size-2.ensures.kept) in
+    let small : size_at (nodes_in c.args.store.now) c.in-Some.first.value.0 + size_at (nodes_in c.args.store.now) c.in-Some-get.second.value.0 ≤ (limit_in p) =
+    omega (arith, c.limit.ensures, c.requires.limit.is, c.shallow_size.ensures.kept, c.shallow_size-2.ensures.kept) in
     let deep : 512 < 1 + max (depth_at (nodes_in c.args.store.now) c.in-Some.first.value.0) (depth_at (nodes_in c.args.store.now) c.in-Some-get.second.value.0) =
     omega (arith, c.max.ensures, c.shallow_depth.ensures.kept, c.shallow_depth-2.ensures.kept) in
     pair_deep marking p (nodes_in c.args.store.now) c.args.loaded.now entries stored size c.args.number c.args.first c.args.second c.in-Some.first
@@ -87,8 +88,8 @@ returns-then-max-ge-MOST_DEPTH-clause-loaded c marking entries stored size =
 pub returns-clause-loaded : goal.returns-clause-loaded
 returns-clause-loaded c marking entries stored size =
     let p = c.args.parts.now.types.now in
-    let small : size_at (nodes_in c.args.store.now) c.in-Some.first.value.0 + size_at (nodes_in c.args.store.now) c.in-Some-get.second.value.0 ≤ 65536 =
-    omega (arith, c.size_limit.ensures, c.shallow_size.ensures.kept, c.shallow_size-2.ensures.kept) in
+    let small : size_at (nodes_in c.args.store.now) c.in-Some.first.value.0 + size_at (nodes_in c.args.store.now) c.in-Some-get.second.value.0 ≤ (limit_in p) =
+    omega (arith, c.limit.ensures, c.requires.limit.is, c.shallow_size.ensures.kept, c.shallow_size-2.ensures.kept) in
     let shallow : 1 + max (depth_at (nodes_in c.args.store.now) c.in-Some.first.value.0) (depth_at (nodes_in c.args.store.now) c.in-Some-get.second.value.0) ≤ 512 =
     omega (arith, c.max.ensures, c.shallow_depth.ensures.kept, c.shallow_depth-2.ensures.kept) in
     pair_loaded marking p (nodes_in c.args.store.now) c.args.loaded.now entries stored size c.args.number c.args.first c.args.second c.in-Some.first

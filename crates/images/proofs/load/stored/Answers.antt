@@ -8,7 +8,7 @@ use Rattle.core_terms.specs.Values.{IntV}
 use Rattle.images.specs.Images.{checked_entry, entry}
 use Rattle.images.specs.StoredRecords.{IsLoaded}
 use Rattle.value_store.specs.Stores.{nodes_in}
-use Rattle.images.specs.declared.record.Record.TheVariants.{Unit as UnitFound, Bool as BoolFound, Int, Text, Pair, Constructor, Auth}
+use Rattle.images.specs.declared.record.Record.TheVariants.{Unit as UnitFound, Bool as BoolFound, Int, Text, Pair, Constructor, Auth, Items}
 use Rattle.images.proofs.AtRecords.{at_record}
 use Rattle.images.proofs.load.stored.Goals as goal
 
@@ -53,3 +53,9 @@ returns-in-Auth-clause-loaded g c entries stored size =
     at_record g.M.Marker.marking c.args.parts.now.types.now (nodes_in c.authenticated.new.store) entries size c.args.number c.args.found
     (Auth c.in-Auth.inner) c.authenticated.result c.in-Auth.is
     (c.authenticated.ensures.loaded entries stored size)
+
+pub returns-in-Items-clause-loaded : goal.returns-in-Items-clause-loaded
+returns-in-Items-clause-loaded g c entries stored size =
+    at_record g.M.Marker.marking c.args.parts.now.types.now (nodes_in c.array.new.store) entries size c.args.number c.args.found
+    (Items c.in-Items.count c.in-Items.numbers) c.array.result c.in-Items.is
+    (c.array.ensures.loaded g.M.Marker.marking entries stored size)

@@ -1,4 +1,5 @@
 use Rattle.std.proofs.Common.{◌≡◌, ℕ, [], length, Result, Vec, Global, IfOk, sym, ap, ◌∙◌, subst}
+use Rattle.core_terms.proofs.CodePrograms.{every_format}
 use Rattle.core_terms.specs.ProgramTypes.{types_meaning}
 use Rattle.core_terms.specs.Values.{Value}
 use Rattle.images.specs.Images.{image_of, Root}
@@ -18,7 +19,7 @@ use Rattle.images.proofs.save.save_image.Goals as goal
 pub records_of-requires : goal.records_of-requires
 records_of-requires c =
     let P = types_meaning c.args.types.now in
-    there_stands IdealNodes P.types (nodes_in c.args.store.now) P.state c.requires.0 c.args.root.0 c.requires.1
+    there_stands IdealNodes P.types (nodes_in c.args.store.now) P.state c.requires.state.0 c.args.root.0 c.requires.state.1
 
 pub returns-in_err-records : goal.returns-in_err-records
 returns-in_err-records c =
@@ -31,7 +32,7 @@ returns-in_err-records c =
           let entries = distinct [] (walk P.types P.state v) in
           let refused = subst (AreSaved P.types entries) c.in_err-records.was (c.records_of.ensures.saved P.types P.state v c.args.types.now.numbers h) in
           subst (IsSaved (saved_image P digest v)) (sym (same_error c.from_residual.result c.in_err-records.field-0.0 c.from_residual.ensures))
-          (image_refused P digest digest_length v c.in_err-records.field-0.0 refused);
+          (image_refused P (every_format c.args.types.now []).image_magic_length digest digest_length v c.in_err-records.field-0.0 refused);
       loads = λ (v : Value) h.
           subst (λ (r : Result (Vec ℕ Global) SaveFault). IfOk r (λ image. image_of P digest image.items ≡ Root v))
           (sym (same_error c.from_residual.result c.in_err-records.field-0.0 c.from_residual.ensures)) tt;
@@ -44,9 +45,9 @@ returns c =
     let is_digest : c.as_bytes-digest.result.now ≡ digest = c.as_bytes-digest.ensures.bytes in
     let digest_length : length digest ≡ 32 = ap length (sym is_digest) ∙ c.as_bytes-digest.ensures.length in
     let saved = λ (v : Value) (h : IsStateAt P c.args.store.now c.args.root v).
-    image_made P digest digest_length v c.in_ok-records.records c.as_bytes-digest.result.now c.in_ok-image.image.items c.count.result c.write.new.image
+    image_made P (every_format c.args.types.now []).image_magic_length digest digest_length v c.in_ok-records.records c.as_bytes-digest.result.now c.in_ok-image.image.items c.count.result c.write.new.image
     (c.in_ok-records.ensures.saved P.types P.state v c.args.types.now.numbers h) is_digest c.count.ensures.count c.in_ok-image.ensures c.in_ok-write.ensures in
     record {
       saved = saved;
-      loads = λ (v : Value) h. state_loads c.args.types.now digest c.args.store.now c.args.root v c.write.new.image digest_length h (saved v h);
+      loads = λ (v : Value) h. state_loads c.args.types.now digest c.args.store.now c.args.root v c.write.new.image digest_length c.requires.limit h (saved v h);
     }

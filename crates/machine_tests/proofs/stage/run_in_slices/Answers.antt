@@ -1,8 +1,8 @@
-use Rattle.std.proofs.Common.{◌≡◌, ◌∷◌, [], w64, to_z, of_z, subst, rules}
+use Rattle.std.proofs.Common.{◌≡◌, ◌∷◌, [], w64, to_z, of_z, subst, sym, rules}
 use Rattle.core_terms.specs.Programs.{meaning}
 use Rattle.core_terms.specs.Terms.{function_at}
 use Rattle.core_terms.specs.Types.{IntTy}
-use Rattle.value_store.specs.Markings.{IdealMarking}
+use Rattle.value_store.specs.Markings.{HasLimit, IdealMarking}
 use Rattle.value_store.specs.Standing.{IdealNodes}
 use Rattle.value_store.specs.Stores.{nodes_in}
 use Rattle.mode_vm.specs.Meanings.{program_of}
@@ -20,6 +20,7 @@ loop-pauses-init c =
     record {
       ready = ((function_at P 0).result, c.in_ok-machine.ensures.ready (nodes_in c.put_int.new.self) (one_int z) stand);
       few = c.in_ok-machine.ensures.few;
+      limit = search rules;
     }
 
 pub loop-pauses-preserved : goal.loop-pauses-preserved
@@ -33,4 +34,5 @@ loop-pauses-preserved c =
             (c.in-Ok-Paused.ensures.stands ready.0 ready.1),
       );
       few = goes_fewer c.in-Ok-Paused.field-0 _ (Unit {0}) c.in-Ok-Paused.field-0-is c.in-Ok-Paused.ensures.few;
+      limit = subst (HasLimit P) (sym c.run_slice.ensures.lent) c.loop-pauses.invariant.limit;
     }

@@ -5,7 +5,7 @@ use Rattle.core_terms.specs.Programs.{constructor_names, meaning, types_of}
 use Rattle.core_terms.specs.ProgramTrees.{types_at}
 use Rattle.core_terms.specs.Spelling.{spelling, spellings}
 use Rattle.core_terms.specs.TypeTables.{type_at}
-use Rattle.core_terms.specs.Types.{UnitTy, BoolTy, IntTy, TextTy, PairTy, NamedTy, AuthTy}
+use Rattle.core_terms.specs.Types.{UnitTy, BoolTy, IntTy, TextTy, PairTy, NamedTy}
 use Rattle.core_terms.specs.declared.types.TyId.{TyId}
 use Rattle.lexemes.specs.Readings.{SyntaxFault}
 use Rattle.printed_syntax.specs.Literals.{LiteralReading, constructor_literal, fields_literal, mismatch, more_fields, unit_literal}
@@ -13,7 +13,7 @@ use Rattle.printed_syntax.specs.LiteralSteps.{ReadsPart, literal_on, spelled}
 use Rattle.lexemes.specs.Remaining.{remaining}
 use Rattle.lexemes.specs.TokenViews.{token_view}
 use Rattle.lexemes.specs.Tokens.{Next, UpperToken}
-use Rattle.printed_syntax.proofs.LiteralSpellings.{at_level, constructor_spelled, no_constructor_spelled, fields_read, last_read, more_read, no_comma, no_field, unit_spelled}
+use Rattle.printed_syntax.proofs.LiteralSpellings.{at_level, at_no_literal, constructor_spelled, no_constructor_spelled, fields_read, last_read, more_read, no_comma, no_field, unit_spelled}
 use Rattle.printed_syntax.proofs.literal.+value.Goals as goal
 
 pub value-returns-in-BoolForm : goal.value-returns-in-BoolForm
@@ -45,7 +45,7 @@ pub value-returns-in-AuthForm : goal.value-returns-in-AuthForm
 value-returns-in-AuthForm t c =
     let ty = type_at (types_of c.args.program.now) c.args.ty in
     subst (λ reading. ReadsPart (λ (_ : Unit {0}). c.args.bytes.now.items) (spelled spelling c.args.bytes.now.items reading) c.no_value.result (remaining c.no_value.new.parser))
-    (at_level c.args.program.now c.args.levels ty (AuthTy (type_at (types_of c.args.program.now) c.in-AuthForm.field-0)) (remaining c.args.parser.now) c.if-levels-eq0.false c.in-AuthForm.ensures.form)
+    (at_no_literal c.args.program.now c.args.levels ty c.form.result (remaining c.args.parser.now) c.if-levels-eq0.false c.form.ensures.form c.in-AuthForm.is)
     (unit_spelled c.args.bytes.now.items (mismatch (remaining c.args.parser.now)) c.no_value.result (remaining c.no_value.new.parser) c.no_value.ensures)
 
 pub value-returns-in-PairForm : goal.value-returns-in-PairForm

@@ -1,9 +1,10 @@
-use Rattle.std.proofs.Common.{refl, subst, length, slice_index_or, arith}
+use Rattle.std.proofs.Common.{◌≡◌, refl, subst, length, slice_index_or, arith}
 use Rattle.std.proofs.lemmas.Result.{IfOk-weaker}
 use Rattle.core_terms.specs.Programs.{types_of}
+use Rattle.core_terms.specs.TypeTables.{type_at}
 use Rattle.printed_syntax.specs.PrintedParts.{IsPrinted}
-use Rattle.printed_syntax.proofs.PairDepths.{all_pairs, some_pairs, fields_fall}
-use Rattle.printed_syntax.proofs.PrintedFronts.{bool_printed, int_printed, field_more}
+use Rattle.printed_syntax.proofs.Composites.{all_composites, some_composites, fields_fall}
+use Rattle.printed_syntax.proofs.PrintedFronts.{bool_printed, int_printed, field_more, item_more, items_printed}
 use Rattle.printed_syntax.proofs.printing.+values.Invariants.{rate}
 use Rattle.printed_syntax.proofs.printing.+values.Goals as goal
 
@@ -21,8 +22,8 @@ push_value-returns-in-IntForm-clause-printed t c =
 
 pub push_fields-push_value-requires : goal.push_fields-push_value-requires
 push_fields-push_value-requires t c =
-    let within = some_pairs (types_of c.args.program.now) (slice_index_or c.args.fields.now c.loop-index.index (record { 0 = 0 })).0 in
-    let fall = fields_fall (length c.loop-index.left.now) (length c.args.bytes.now) (rate c.args.program.now) _ (all_pairs (types_of c.args.program.now)) c.loop-index.invariant.shorter within in
+    let within = some_composites (types_of c.args.program.now) (slice_index_or c.args.fields.now c.loop-index.index (record { 0 = 0 })).0 in
+    let fall = fields_fall (length c.loop-index.left.now) (length c.args.bytes.now) (rate c.args.program.now) _ (all_composites (types_of c.args.program.now)) c.loop-index.invariant.shorter within in
     (omega (arith, fall, c.decreases), tt)
 
 pub push_fields-loop-index-preserved : goal.push_fields-loop-index-preserved
@@ -32,3 +33,17 @@ push_fields-loop-index-preserved t c = record {
       c.in_ok-left.ensures.printed;
   shorter = omega (arith, c.in_ok-left.ensures.left, c.loop-index.invariant.shorter);
 }
+
+pub push_items-loop-index-preserved : goal.push_items-loop-index-preserved
+push_items-loop-index-preserved t c = record {
+  printed = item_more c.args.program.now (type_at (types_of c.args.program.now) c.args.item) c.loop-index.index c.args.bytes.now _ c.loop-index.text.items c.loop-index.left.now
+      c.push_value.new.text.items c.in_ok-left.left.now _ (rw c.from.ensures at c.in_ok-push_comma.ensures) c.loop-index.invariant.shorter c.loop-index.invariant.printed
+      c.in_ok-left.ensures.printed;
+  shorter = omega (arith, c.in_ok-left.ensures.left, c.loop-index.invariant.shorter);
+}
+
+pub push_items-returns-clause-printed : goal.push_items-returns-clause-printed
+push_items-returns-clause-printed t c =
+    let all : c.loop-index.index ≡ c.args.count = omega (arith, c.loop-index-test.false, c.loop-index.auto.index-end) in
+    items_printed c.args.program.now c.args.count (type_at (types_of c.args.program.now) c.args.item) c.args.bytes.now c.args.text.now.items c.loop-index.text.items
+    c.loop-index.left.now c.push-2.new.self.items c.in_ok-push-2.ensures.items (rw all at c.loop-index.invariant.printed)

@@ -33,7 +33,7 @@ put-requires-clause-short g c =
     let nodes = g.N.Nodes.nodes c.args.store.now in
     let s = seen_at hash types nodes c.args.opened.now c.requires.seen.0 c.loop-ty.ty-index _ c.requires.seen.1 c.loop-ty-test.true in
     let shown = shows hash types nodes is_hash _ s.0 s.1 in
-    short_spelling (types_meaning types).types nodes _ _ _ (g.met.N.Nodes.sound c.args.store.now) shown c.spell_into.new.buffer.items
+    short_spelling (g.met.N.Nodes.greatest c.args.store.now) (types_meaning types).types nodes _ _ _ (g.met.N.Nodes.sound c.args.store.now) shown c.spell_into.new.buffer.items
     (c.in_ok-spell_into.ensures.spelling _ shown)
 
 pub loop-ty-preserved : goal.loop-ty-preserved

@@ -1,9 +1,11 @@
 use Rattle.std.proofs.Common.{◌≡◌, [], ◌++◌, List, ℕ, sym, ap, ◌∙◌, subst}
 use Rattle.std.specs.Int.{w16, to_be_bytes}
 use Rattle.core_terms.specs.Formats.{IsHash}
+use Rattle.core_terms.specs.ProgramTypes.{types_meaning}
 use Rattle.code_gen.specs.Programs.{program_in}
 use Rattle.ideal_meaning.specs.Frames.{frame_bytes}
 use Rattle.ideal_meaning.specs.Headline.{call_of}
+use Rattle.value_store.specs.Nodes.{AreSound}
 use Rattle.mode_vm.specs.Meanings.{program_of}
 use Rattle.reuse_buffer.specs.Kept.{Kept}
 use Rattle.prover_mode.specs.Calls.{IsAccepted, run_frames}
@@ -34,13 +36,13 @@ pub returns-clause-file : goal.returns-clause-file
 returns-clause-file g c s a called =
     let P = program_of c.args.code.now in
     let frames = returns-clause-frames g c s a called in
-    c.in_ok-file.ensures ∙ ap (λ (b : List ℕ). P.format.magic ++ (to_be_bytes w16 c.args.size ++ b)) (c.deref.ensures.value ∙ frames)
+    c.in_ok-file.ensures ∙ ap (λ t. (types_meaning t).format.magic ++ (to_be_bytes w16 c.args.size ++ c.deref.result.now)) c.types.ensures ∙ ap (λ (b : List ℕ). P.format.magic ++ (to_be_bytes w16 c.args.size ++ b)) (c.deref.ensures.value ∙ frames)
 
 pub returns-clause-accepted : goal.returns-clause-accepted
 returns-clause-accepted g c s a called =
     let hash = g.H.Hash32.hash in
     -- the law of the bound holds in every world like this one, and this one is like itself
     let is_hash : IsHash hash = (g.met.H.Hash32 g.world.𝓛 g.world.𝓜 g.world.𝓡 ((λ s x. x), (λ x. x), (λ x. x), (λ x. x))).digest_length in
-    let accepted = file_accepted hash is_hash (program_in c.args.code.now) c.args.role.0 c.requires.role (g.N.Nodes.nodes c.args.store.now) (g.met.N.Nodes.sound c.args.store.now)
+    let accepted = file_accepted hash is_hash (program_in c.args.code.now) c.args.role.0 c.requires.role (g.N.Nodes.nodes c.args.store.now) (subst (λ n. AreSound n (g.N.Nodes.nodes c.args.store.now)) c.requires.limit.is (g.met.N.Nodes.sound c.args.store.now))
     c.args.state c.args.argument s a called c.args.fuel c.args.size c.requires.size in
     subst (IsAccepted hash (program_of c.args.code.now) c.args.role.0 s a c.args.fuel) (sym (returns-clause-file g c s a called)) accepted

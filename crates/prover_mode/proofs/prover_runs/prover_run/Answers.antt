@@ -24,7 +24,7 @@ returns-in-Ok-clause-value g c vs stand =
     let z = (function_at P c.args.function.0).result in
     let run = ideal P c.args.function.0 vs c.args.fuel in
     let begun = c.in_ok-machine.machine.mode.opened.items in
-    let none : begun ≡ [] = ap (λ m. m.opened.items) c.in_ok-machine.ensures.mode ∙ c.new-prover.ensures in
+    let none : begun ≡ [] = ap (λ m. m.opened.items) c.in_ok-machine.ensures.mode ∙ c.new-prover.ensures.opened in
     let follows = subst (λ (os : List Opened). AreSeen hash types (g.N.Nodes.nodes c.args.store.now) os []) (sym none) tt in
     tells_digested P z {F = Unit {0}} hash (λ f. None) (AreSeen hash types (g.N.Nodes.nodes c.run.new.store) c.run.new.self.mode.opened.items) (g.N.Nodes.nodes c.run.new.store) _ c.in-Ok.value run
     (c.in-Ok.ensures.is z [] run follows (c.in_ok-machine.ensures.will (g.N.Nodes.nodes c.args.store.now) vs [] stand))
@@ -39,7 +39,7 @@ returns-in-Ok-clause-opened g c vs stand =
     let run = ideal P c.args.function.0 vs c.args.fuel in
     let begun = c.in_ok-machine.machine.mode.opened.items in
     let ended = c.run.new.self.mode.opened.items in
-    let none : begun ≡ [] = ap (λ m. m.opened.items) c.in_ok-machine.ensures.mode ∙ c.new-prover.ensures in
+    let none : begun ≡ [] = ap (λ m. m.opened.items) c.in_ok-machine.ensures.mode ∙ c.new-prover.ensures.opened in
     let follows = subst (λ (os : List Opened). AreSeen hash types (g.N.Nodes.nodes c.args.store.now) os []) (sym none) tt in
     let last : c.into_opened-opened.result.items ≡ ended = ap (λ v. v.items) c.into_opened-opened.ensures ∙ ap (λ m. m.opened.items) c.into_mode.ensures in
     let will = c.in_ok-machine.ensures.will (g.N.Nodes.nodes c.args.store.now) vs [] stand in

@@ -1,5 +1,6 @@
-use Rattle.std.proofs.Common.{◌≡◌, ap, subst, arith}
+use Rattle.std.proofs.Common.{◌≡◌, ◌∙◌, ap, sym, subst, arith}
 use Rattle.core_terms.specs.Programs.{meaning, types_of}
+use Rattle.core_terms.specs.ProgramTypes.{types_meaning}
 use Rattle.core_terms.specs.ProgramTrees.{function_of}
 use Rattle.core_terms.specs.Terms.{function_at}
 use Rattle.core_terms.specs.Terms as tree
@@ -27,8 +28,12 @@ unreachable-requires g c =
     is_told g.H.Hash32.hash c.args.code.now c.turn.new.self (g.N.Nodes.nodes c.turn.new.store) c.args.role.0 (call_of s a) c.args.fuel _ c.in_ok-value.field-0
     (c.in_ok-value.ensures.ends c.args.role.0 (call_of s a) c.args.fuel 0 starts) (omega (arith, fits)) c.in_default.is
 
-pub spelled_outcome-requires-after_bounds : goal.spelled_outcome-requires-after_bounds
-spelled_outcome-requires-after_bounds g c κs within =
+pub spelled_outcome-requires-clause-limit : goal.spelled_outcome-requires-clause-limit
+spelled_outcome-requires-clause-limit g c κs within =
+    record { is = ap (λ l. l.limit) c.in_ok-value.ensures.lent ∙ c.requires.limit.is ∙ ap (λ t. (types_meaning t).format.limit) (sym c.types.ensures) }
+
+pub spelled_outcome-requires-clause-ends : goal.spelled_outcome-requires-clause-ends
+spelled_outcome-requires-clause-ends g c κs within =
     let hash = g.H.Hash32.hash in
     let p = program_in c.args.code.now in
     let P = program_of c.args.code.now in

@@ -1,6 +1,8 @@
 use Rattle.std.proofs.Common.{take}
 use Rattle.core_terms.specs.Programs.{meaning, types_of}
 use Rattle.core_terms.specs.ProgramTrees.{types_at}
+use Rattle.core_terms.specs.TypeTables.{type_at}
+use Rattle.core_terms.specs.Types.{item_types}
 use Rattle.core_terms.specs.Values.{depths, sizes}
 use Rattle.reference_run.specs.Measured.{IsMeasured}
 use Rattle.reference_run.specs.PlainValues.{plains_of}
@@ -12,3 +14,9 @@ invariant-row_measures-loop-place l =
     let table = (meaning l.program).types in
     let ts = types_at (types_of l.program) l.types in
     IsMeasured l.row (sizes table ts (plains_of (take l.place l.values))) (depths table ts (plains_of (take l.place l.values)))
+
+abbrev pub invariant-item_measures-loop-place : goal.invariant-item_measures-loop-place
+invariant-item_measures-loop-place l =
+    let table = (meaning l.program).types in
+    let ts = item_types l.count (type_at (types_of l.program) l.item) in
+    IsMeasured l.row (sizes table ts (plains_of (take l.place l.items))) (depths table ts (plains_of (take l.place l.items)))

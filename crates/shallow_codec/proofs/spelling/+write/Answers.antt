@@ -1,6 +1,6 @@
 use Rattle.std.proofs.Common.{◌∙◌, arith, rules, sym}
 use Rattle.shallow_codec.proofs.SpelledForms.{nothing_behind}
-use Rattle.shallow_codec.proofs.SpelledNodes.{con_spelled, field_below, field_shown, more_spelled, none_spelled, second_below, second_shown, shown_below}
+use Rattle.shallow_codec.proofs.SpelledNodes.{con_spelled, first_below, first_shown, field_below, field_shown, item_below, item_shown, items_spelled, more_spelled, none_spelled, second_below, second_shown, shown_below}
 use Rattle.shallow_codec.proofs.spelling.+write.Goals as goal
 
 pub shallow_size-requires : goal.shallow_size-requires
@@ -12,6 +12,12 @@ returns-then-shallow_size-eq0 g t c =
 
 pub view-requires : goal.view-requires
 view-requires g t c = shown_below (g.N.Nodes.nodes c.args.store.now) c.args.r.0 c.requires
+
+pub write-requires : goal.write-requires
+write-requires g t c κs sub =
+    let below = first_below c.args.r.0 c.in-Pair.first.0 c.in-Pair.second.0 c.in-Pair.ensures.refers in
+    let shown = first_shown (g.N.Nodes.nodes c.args.store.now) c.args.r.0 c.in-Pair.first.0 c.in-Pair.second.0 c.in-Pair.ensures.form c.requires in
+    search (rules, below, shown)
 
 pub write-requires-in-Pair : goal.write-requires-in-Pair
 write-requires-in-Pair g t c κs sub =
@@ -42,3 +48,26 @@ returns-after-loop-field g t c =
     con_spelled (g.N.Nodes.nodes c.args.store.now) c.args.r.0 c.in-Constructor.field-0.0 c.in-Constructor.tag.0 c.in-Constructor.fields.now c.loop-field.field-index
     c.args.bytes.now.items _ c.loop-field.bytes.items
     c.in-Constructor.ensures.form (omega arith) c.in_ok-push-in-Constructor.ensures.items c.loop-field.invariant
+
+pub write-requires-in-loop-item : goal.write-requires-in-loop-item
+write-requires-in-loop-item g t c κs sub =
+    let below =
+    item_below (g.N.Nodes.nodes c.args.store.now) c.args.r.0 c.in-Items.items.now c.loop-item.item-index
+    (record { 0 = 0 }) c.in-Items.ensures.refers (omega arith) in
+    let shown =
+    item_shown (g.N.Nodes.nodes c.args.store.now) c.args.r.0 c.in-Items.items.now c.loop-item.item-index
+    (record { 0 = 0 }) c.in-Items.ensures.form c.requires (omega arith) in
+    search (rules, below, shown)
+
+pub loop-item-init : goal.loop-item-init
+loop-item-init g t c = none_spelled (g.N.Nodes.nodes c.args.store.now) c.in-Items.items.now _
+
+pub loop-item-preserved : goal.loop-item-preserved
+loop-item-preserved g t c =
+    more_spelled (g.N.Nodes.nodes c.args.store.now) c.in-Items.items.now c.loop-item.item-index (record { 0 = 0 }) _ c.loop-item.bytes.items _ (omega arith)
+    c.loop-item.invariant c.in_ok-write-in-Items.ensures
+
+pub returns-after-loop-item : goal.returns-after-loop-item
+returns-after-loop-item g t c =
+    items_spelled (g.N.Nodes.nodes c.args.store.now) c.args.r.0 c.in-Items.items.now c.loop-item.item-index c.args.bytes.now.items c.loop-item.bytes.items
+    c.in-Items.ensures.form (omega arith) c.loop-item.invariant

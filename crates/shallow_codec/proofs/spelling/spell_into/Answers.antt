@@ -14,5 +14,5 @@ pub returns-clause-projected : goal.returns-clause-projected
 returns-clause-projected g c = λ hash v long h.
     let P = types_meaning c.args.types.now in
     let t = ty_of c.args.types.now c.args.ty in
-    let shown = shown_shallow (digest_at hash P) (table c.args.types.now) (λ t bytes. long bytes) (g.N.Nodes.nodes c.args.store.now) t v c.args.r.0 h in
+    let shown = shown_shallow (digest_at hash P) (table c.args.types.now) (λ t bytes. long _) (g.N.Nodes.nodes c.args.store.now) t v c.args.r.0 h in
     c.in_ok-write.ensures (table c.args.types.now) t (projection hash P t v) shown ∙ ap (λ bs. bs ++ spelling (projection hash P t v)) (c.in_ok-reserve_exact.ensures.items ∙ c.clear.ensures.items)

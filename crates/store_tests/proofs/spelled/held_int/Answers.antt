@@ -1,10 +1,9 @@
-use Rattle.std.proofs.Common.{◌≡◌, ◌∙◌, Result, Ok, Err, ap, arith, subst, sym}
+use Rattle.std.proofs.Common.{◌≡◌, ◌∙◌, Result, Ok, Err}
 use Rattle.std.specs.Prelude.{IfOk}
 use Rattle.core_terms.specs.Programs.{meaning, types_in}
 use Rattle.core_terms.specs.TypeTables.{type_at}
 use Rattle.core_terms.specs.Types.{AuthTy, Ty}
 use Rattle.core_terms.specs.declared.program.Program.{Program}
-use Rattle.core_terms.specs.ProgramLimits.{IsFlatType}
 use Rattle.store_tests.proofs.EmptyPrograms.{at_number}
 use Rattle.store_tests.proofs.spelled.held_int.Goals as goal
 
@@ -12,12 +11,6 @@ is_auth : {E : Type 0} (result : Result Program E) (a t : Ty) → IfOk result (�
     → IfOk result (λ program. (t : Ty) × ((meaning program).state ≡ AuthTy t))
 is_auth (Ok program) a t h e = (t, h ∙ e)
 is_auth (Err e) a t h f = tt
-
-pub of_types-requires-clause-flat : goal.of_types-requires-clause-flat
-of_types-requires-clause-flat c =
-    let int = at_number (types_in c.intern.new.self) c.in_ok-int.int.0 _ c.in_ok-int.ensures.number in
-    let held = at_number (types_in c.intern-2.new.self) c.in_ok-held.held.0 _ c.in_ok-held.ensures.number in
-    subst IsFlatType (sym (held ∙ ap AuthTy int)) (omega arith)
 
 pub returns : goal.returns
 returns c =

@@ -1,5 +1,5 @@
 -- The state is read first, at its type, and then the argument.
-use Rattle.std.proofs.Common.{◌≡◌, Ok, Err, subst}
+use Rattle.std.proofs.Common.{◌≡◌, ◌∙◌, Ok, Err, ap, subst}
 use Rattle.core_terms.specs.ProgramTypes.{types_by_number, types_meaning}
 use Rattle.core_terms.specs.Projection.{read_at}
 use Rattle.core_terms.specs.Reading.{BadAt}
@@ -11,8 +11,8 @@ use Rattle.value_store.specs.Stores.{nodes_in}
 use Rattle.verifier_mode.proofs.Parameters.{read_there}
 use Rattle.verifier_mode.proofs.judge.put_call.Goals as goal
 
-pub returns-in-Err-Bad : goal.returns-in-Err-Bad
-returns-in-Err-Bad c =
+pub returns-in-Err-Bad-clause-put : goal.returns-in-Err-Bad-clause-put
+returns-in-Err-Bad-clause-put c =
     let P = types_meaning c.args.types.now in
     let t = type_at (types_by_number c.args.types.now) c.state_type.result in
     let nodes = nodes_in c.unspell.new.store in
@@ -21,8 +21,8 @@ returns-in-Err-Bad c =
     let same = c.in-Err-Bad.offset-is in
     cc
 
-pub returns-in-Err-Bad-unspell : goal.returns-in-Err-Bad-unspell
-returns-in-Err-Bad-unspell c =
+pub returns-in-Err-Bad-unspell-clause-put : goal.returns-in-Err-Bad-unspell-clause-put
+returns-in-Err-Bad-unspell-clause-put c =
     let P = types_meaning c.args.types.now in
     let t = type_at (types_by_number c.args.types.now) c.state_type.result in
     let u = type_at (types_by_number c.args.types.now) c.args.ty in
@@ -33,8 +33,8 @@ returns-in-Err-Bad-unspell c =
     let same = c.in-Err-Bad-unspell.offset-is in
     (state.0, (state.1, state.2), cc)
 
-pub returns-in-Ok-unspell : goal.returns-in-Ok-unspell
-returns-in-Ok-unspell c =
+pub returns-in-Ok-unspell-clause-put : goal.returns-in-Ok-unspell-clause-put
+returns-in-Ok-unspell-clause-put c =
     let P = types_meaning c.args.types.now in
     let t = type_at (types_by_number c.args.types.now) c.state_type.result in
     let s = read_there P t P.state (nodes_in c.unspell.new.store) c.args.state.now (Ok c.in-Ok.state) c.state_type.ensures.state c.in-Ok.ensures.value in
@@ -45,3 +45,9 @@ returns-in-Ok-unspell c =
       (a.1, a.2),
       (c.in-Ok-unspell.ensures.keeps VerifierNodes P.types c.in-Ok.state.0 P.state s.0 s.3, (a.3, tt)),
     )
+
+pub returns-in-Err-Bad-unspell-clause-limit : goal.returns-in-Err-Bad-unspell-clause-limit
+returns-in-Err-Bad-unspell-clause-limit c = ap (λ l. l.limit) (c.in-Err-Bad-unspell.ensures.lent ∙ c.in-Ok.ensures.lent)
+
+pub returns-in-Ok-unspell-clause-limit : goal.returns-in-Ok-unspell-clause-limit
+returns-in-Ok-unspell-clause-limit c = ap (λ l. l.limit) (c.in-Ok-unspell.ensures.lent ∙ c.in-Ok.ensures.lent)

@@ -3,6 +3,8 @@ use Rattle.std.proofs.Common.{Ok, Err, sym, subst}
 use Rattle.core_terms.specs.Formats.{IsHash}
 use Rattle.core_terms.specs.Roles.{argument_type}
 use Rattle.core_terms.specs.Values.{AndV, NoV}
+use Rattle.core_terms.specs.Programs.{meaning}
+use Rattle.mode_vm.specs.StateCalls.{TakesState}
 use Rattle.code_gen.specs.Programs.{program_in}
 use Rattle.ideal_meaning.specs.Checked as checked
 use Rattle.value_store.specs.Stores.{nodes_in}
@@ -19,9 +21,9 @@ pub returns-in_err-refs-clause-verdict : goal.returns-in_err-refs-clause-verdict
 returns-in_err-refs-clause-verdict g c recent holds bytes told =
     let P = program_of c.args.code.now in
     let hash = g.H.Hash32.hash in
-    let put = put_by (program_in c.args.code.now) c.types.result.now c.types.ensures (nodes_in c.put_call.new.store) c.argument_of-ty.result _
+    let put = put_by (program_in c.args.code.now) c.types-2.result.now c.types-2.ensures (nodes_in c.put_call.new.store) c.argument_of-ty.result _
     (argument_by (program_in c.args.code.now) c.program.result.now c.args.role.0 c.argument_of-ty.result c.program.ensures c.argument_of-ty.ensures)
-    c.args.state.now c.args.argument.now (Err c.in_err-refs.field-0.0) c.in_err-refs.ensures in
+    c.args.state.now c.args.argument.now (Err c.in_err-refs.field-0.0) c.in_err-refs.ensures.put in
     gives_with (AnswersWithRing P c.args.role.0 (checked.verdict_on hash P (argument_type P c.args.role.0) c.args.role.0 c.args.state.now c.args.argument.now c.args.fuel bytes c.args.ring.size recent))
     _ _ c.from_residual.ensures.1
     (refused_on hash P c.args.role.0 c.args.state.now c.args.argument.now c.args.fuel bytes c.args.ring.size recent (nodes_in c.put_call.new.store) c.in_err-refs.field-0.0 put)
@@ -30,26 +32,26 @@ pub returns-in_err-refs-clause-faults : goal.returns-in_err-refs-clause-faults
 returns-in_err-refs-clause-faults g c =
     let P = program_of c.args.code.now in
     let before = g.S.Source.faults c.args.proof.now in
-    let put = put_by (program_in c.args.code.now) c.types.result.now c.types.ensures (nodes_in c.put_call.new.store) c.argument_of-ty.result _
+    let put = put_by (program_in c.args.code.now) c.types-2.result.now c.types-2.ensures (nodes_in c.put_call.new.store) c.argument_of-ty.result _
     (argument_by (program_in c.args.code.now) c.program.result.now c.args.role.0 c.argument_of-ty.result c.program.ensures c.argument_of-ty.ensures)
-    c.args.state.now c.args.argument.now (Err c.in_err-refs.field-0.0) c.in_err-refs.ensures in
+    c.args.state.now c.args.argument.now (Err c.in_err-refs.field-0.0) c.in_err-refs.ensures.put in
     gives_with (VerdictCause before before) _ _ c.from_residual.ensures.1
     (put_cause (Unit {0}) P (nodes_in c.put_call.new.store) (argument_type P c.args.role.0) c.args.state.now c.args.argument.now before c.in_err-refs.field-0.0 put)
 
 pub judge_call-requires-clause-stand : goal.judge_call-requires-clause-stand
 judge_call-requires-clause-stand g c κs within =
     let P = program_of c.args.code.now in
-    let put = put_by (program_in c.args.code.now) c.types.result.now c.types.ensures (nodes_in c.put_call.new.store) c.argument_of-ty.result _
+    let put = put_by (program_in c.args.code.now) c.types-2.result.now c.types-2.ensures (nodes_in c.put_call.new.store) c.argument_of-ty.result _
     (argument_by (program_in c.args.code.now) c.program.result.now c.args.role.0 c.argument_of-ty.result c.program.ensures c.argument_of-ty.ensures)
-    c.args.state.now c.args.argument.now (Ok c.in_ok-refs.refs) c.in_ok-refs.ensures in
+    c.args.state.now c.args.argument.now (Ok c.in_ok-refs.refs) c.in_ok-refs.ensures.put in
     (AndV put.0 (AndV put.1 NoV), both_stand P c.args.role.0 c.requires.role (nodes_in c.put_call.new.store) _ (AndV put.0 (AndV put.1 NoV)) put.4)
 
 pub returns-clause-verdict : goal.returns-clause-verdict
 returns-clause-verdict g c recent holds bytes told =
     let P = program_of c.args.code.now in
-    let put = put_by (program_in c.args.code.now) c.types.result.now c.types.ensures (nodes_in c.put_call.new.store) c.argument_of-ty.result _
+    let put = put_by (program_in c.args.code.now) c.types-2.result.now c.types-2.ensures (nodes_in c.put_call.new.store) c.argument_of-ty.result _
     (argument_by (program_in c.args.code.now) c.program.result.now c.args.role.0 c.argument_of-ty.result c.program.ensures c.argument_of-ty.ensures)
-    c.args.state.now c.args.argument.now (Ok c.in_ok-refs.refs) c.in_ok-refs.ensures in
+    c.args.state.now c.args.argument.now (Ok c.in_ok-refs.refs) c.in_ok-refs.ensures.put in
     let stand = both_stand P c.args.role.0 c.requires.role (nodes_in c.put_call.new.store) _ (AndV put.0 (AndV put.1 NoV)) put.4 in
     let same = on_good_call g.H.Hash32.hash P c.args.role.0 c.args.state.now c.args.argument.now c.args.fuel bytes c.args.ring.size recent put.0 put.1 put.2 put.3 in
     subst (λ v. AnswersWithRing P c.args.role.0 v c.judge_call.result) (sym same) (c.judge_call.ensures.verdict (AndV put.0 (AndV put.1 NoV)) bytes recent stand told holds)
@@ -63,3 +65,6 @@ returns-clause-headline g c recent holds bytes told =
 
 pub returns-clause-end : goal.returns-clause-end
 returns-clause-end g c recent holds bytes told = c.judge_call.ensures.end bytes recent told holds
+
+pub argument_of-ty-requires-clause-role : goal.argument_of-ty-requires-clause-role
+argument_of-ty-requires-clause-role g c = subst (λ p. TakesState (meaning p) c.args.role.0) (sym c.program.ensures) c.requires.role

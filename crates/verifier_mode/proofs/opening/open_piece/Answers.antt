@@ -50,7 +50,7 @@ pub returns-in-Ok-clause-read : goal.returns-in-Ok-clause-read
 returns-in-Ok-clause-read g c = let v = c.in-Ok.ensures.value in record { value = v.0; end = v.1; reads = v.2; stands = v.3 }
 
 pub returns-in-Some-clause-some : goal.returns-in-Some-clause-some
-returns-in-Some-clause-some g c hash = let r = c.in-Some.ensures c.args.types.now (g.N.Nodes.nodes c.args.store.now) c.requires in (r.value, r.stands)
+returns-in-Some-clause-some g c hash = let r = c.in-Some.ensures c.args.types.now (g.N.Nodes.nodes c.args.store.now) c.requires.knows in (r.value, r.stands)
 
 pub returns-in-Some-clause-opens : goal.returns-in-Some-clause-opens
 returns-in-Some-clause-opens g c hash left more w is =
@@ -58,8 +58,8 @@ returns-in-Some-clause-opens g c hash left more w is =
     let t = type_at (types_by_number c.args.types.now) c.args.ty in
     let want = c.args.asked.want.0 in
     let same : bytes_eq (digest_at hash P t c.args.piece.now) want ≡ true = ap (λ d. bytes_eq d want) (sym is) ∙ sym c.are_same.ensures ∙ c.if-not-are_same.false in
-    let r = c.in-Some.ensures c.args.types.now (g.N.Nodes.nodes c.args.store.now) c.requires in
+    let r = c.in-Some.ensures c.args.types.now (g.N.Nodes.nodes c.args.store.now) c.requires.knows in
     (r.value, is_good hash P t want c.args.asked.place c.args.piece.now left more w same r.value r.end r.reads, r.stands)
 
 pub returns-in-Some-clause-read : goal.returns-in-Some-clause-read
-returns-in-Some-clause-read g c = c.in-Some.ensures c.args.types.now (g.N.Nodes.nodes c.args.store.now) c.requires
+returns-in-Some-clause-read g c = c.in-Some.ensures c.args.types.now (g.N.Nodes.nodes c.args.store.now) c.requires.knows

@@ -1,15 +1,19 @@
-use Rattle.std.proofs.Common.{◌≡◌, ◌∙◌, refl, sym, ap, subst}
+use Rattle.std.proofs.Common.{◌≡◌, ◌∙◌, refl, sym, subst}
 use Rattle.core_terms.specs.Programs.{meaning, types_of}
 use Rattle.core_terms.specs.Roles.{argument_type}
 use Rattle.core_terms.specs.TypeTables.{type_at}
 use Rattle.code_gen.specs.Programs.{program_in}
 use Rattle.mode_vm.specs.Meanings.{program_of}
+use Rattle.mode_vm.specs.StateCalls.{TakesState}
 use Rattle.prover_mode.specs.Calls.{IsAccepted}
 use Rattle.workloads.specs.Workloads.{call_fuel}
 use Rattle.workloads.proofs.SpelledParts.{same_spelling}
 use Rattle.workloads.proofs.CountedCalls.{same_sums}
 use Rattle.workloads.proofs.VerifiedFiles.{called_as, verified_done}
 use Rattle.workloads.proofs.calls.checked_call.Goals as goal
+
+pub argument_of-argument_type-requires-clause-role : goal.argument_of-argument_type-requires-clause-role
+argument_of-argument_type-requires-clause-role g c = subst (λ q. TakesState (meaning q) c.args.role.0) (sym c.program-2.ensures) c.requires.role
 
 pub verified-requires-clause-accepted : goal.verified-requires-clause-accepted
 verified-requires-clause-accepted g c κs within =

@@ -3,6 +3,7 @@ use Rattle.core_terms.specs.Projection.{digest_at}
 use Rattle.core_terms.specs.Terms.{Update}
 use Rattle.core_terms.specs.Types.{IntTy, PairTy}
 use Rattle.core_terms.specs.Values.{IntV, PairV}
+use Rattle.value_store.specs.Nodes.{Lent}
 use Rattle.value_store.specs.Standing.{IdealNodes, ProverNodes}
 use Rattle.value_store.proofs.StandingNodes.{there_stands}
 use Rattle.mode_vm.specs.Meanings.{program_of}
@@ -55,10 +56,10 @@ new_state-requires-clause-there g c =
 
 pub new_state-requires-clause-lent : goal.new_state-requires-clause-lent
 new_state-requires-clause-lent g c =
-    let first = lent_first (g.N.Nodes.lent c.args.store.now) (g.N.Nodes.nodes c.args.store.now) (g.met.N.Nodes.first c.args.store.now) in
+    let first = lent_first (g.N.Nodes.lent c.args.store.now).nodes (g.N.Nodes.nodes c.args.store.now) (g.met.N.Nodes.first c.args.store.now) in
     let same = c.checked_call.ensures.lent ∙ c.put_pair.ensures.lent ∙ c.put_int-2.ensures.lent ∙ c.put_int.ensures.lent in
-    subst (λ n. length (g.N.Nodes.lent c.checked_call.new.store) ≤ n) (sym c.mark-before.ensures)
-    (subst (λ lent. length lent ≤ length (g.N.Nodes.nodes c.args.store.now)) (sym same) first)
+    subst (λ n. length (g.N.Nodes.lent c.checked_call.new.store).nodes ≤ n) (sym c.mark-before.ensures)
+    (subst (λ (lent : Lent). length lent.nodes ≤ length (g.N.Nodes.nodes c.args.store.now)) (sym same) first)
 
 pub new_state-requires-clause-state : goal.new_state-requires-clause-state
 new_state-requires-clause-state g c =

@@ -103,7 +103,7 @@ returns-clause-found c =
     ap (λ s. checked_functions names s fs) (sym c.new-elaborator.ensures.scope)
     ∙ functions_last (types_of e) names (scope_of first) fs i c.loop-head.functions.items
     _ (none_mapped (λ (h : Head). function_of h.function.now) heads i past) (c.loop-head.invariant.found names same')
-    ∙ ap (λ l. Sound (map (term_function l) c.loop-head.functions.items)) (sym c.into_types.ensures)
+    ∙ ap (λ l. Sound (map (term_function l) c.loop-head.functions.items)) (sym c.into_types.ensures.types)
 
 pub returns-clause-literals : goal.returns-clause-literals
 returns-clause-literals c =

@@ -18,6 +18,6 @@ returns-clause-opens g c bytes told =
     let size = ap (λ (r : Kept). r.size) ring in (
       takes.0 (types_meaning c.args.types.now).format (sym c.proof_magic.ensures) (sym c.most_kept.ensures) ∙ ap Some (sym size),
       subst (λ n. c.in_ok-ring.ring ≡ kept n []) (sym size) ring,
-      c.in-Ok.ensures.limit ∙ c.new-reader.ensures.limit ∙ c.spelling_limit.ensures,
+      c.in-Ok.ensures.limit ∙ c.new-reader.ensures.limit ∙ c.spelling_limit.ensures.limit,
       takes.1,
     )

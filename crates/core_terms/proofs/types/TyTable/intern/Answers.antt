@@ -1,11 +1,12 @@
 use Rattle.std.proofs.Common.{◌∙◌, ap, Some}
-use Rattle.core_terms.proofs.TypePushing.{in_order_either, one_number_either, types_either, form_either, grows_either, type_there}
+use Rattle.core_terms.proofs.TypePushing.{format_either, in_order_either, one_number_either, types_either, form_either, grows_either, type_there}
 use Rattle.core_terms.specs.TypeTables.{types_of_forms}
 use Rattle.std.proofs.lemmas.Option.{slice_get_within}
 use Rattle.core_terms.proofs.types.TyTable.intern.Goals as goal
 
 pub invariant_of-self : goal.invariant_of-self
 invariant_of-self c = record {
+  of_format = format_either c.args.self.now.format c.args.self.now.forms.keys _ c.args.form c.add.ensures.either c.args.self.now.of_format c.requires.format;
   in_order = in_order_either c.args.self.now.forms.keys _ c.args.form c.add.ensures.either c.args.self.now.in_order c.requires.parts;
   one_number = one_number_either c.args.self.now.forms.keys _ c.args.form c.add.ensures.either c.args.self.now.in_order c.args.self.now.one_number c.requires.parts;
 }

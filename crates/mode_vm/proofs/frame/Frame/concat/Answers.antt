@@ -25,7 +25,7 @@ returns-clause-does g c m values b =
     let P = program_of c.args.code.now in
     let nodes = g.N.Nodes.nodes c.args.store.now in
     concat_acts m P nodes c.args.self.now values b c.pop_two-first.new.self.operands.items _ _ c.pop_two-first.ensures.top (g.N.Nodes.nodes c.new_text.new.store) c.new_text.ensures.keeps
-    c.pop_two-first.new.self c.finish.new.self c.pop_two-first.ensures.at c.in_ok-made.made (λ x y h j. c.in_ok-made.ensures.makes m (kind_of m P) P.types x y h j)
+    c.pop_two-first.new.self c.finish.new.self c.pop_two-first.ensures.at c.in_ok-made.made (λ x y h j. c.in_ok-made.ensures.makes P.format.limit c.requires.limit.is m (kind_of m P) P.types x y h j)
     c.finish.result c.finish.ensures
 
 pub pop_two-first-requires : goal.pop_two-first-requires

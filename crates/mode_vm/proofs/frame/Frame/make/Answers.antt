@@ -1,4 +1,4 @@
-use Rattle.std.proofs.Common.{◌≡◌, ◌-◌, ◌∙◌, length, take, drop, nat_lt, true, refl, sym, subst, arith, List}
+use Rattle.std.proofs.Common.{◌≡◌, ◌-◌, ◌∙◌, length, take, drop, nat_lt, true, refl, sym, ap, subst, arith, List}
 use Rattle.std.specs.List.{list_all}
 use Rattle.value_store.specs.CodeNodes.{numbers_of}
 use Rattle.value_store.specs.Markings.{kind_of}
@@ -48,7 +48,7 @@ returns-clause-does g c m values b =
     make_acts m P nodes c.args.self.now c.args.named.0 c.args.tag.0 values b (drop kept operands.items) (take kept operands.items) (many ∙ count) (under_top operands.items kept)
     (g.N.Nodes.nodes c.new_constructor.new.store) (λ kind types r t v h. c.new_constructor.ensures.keeps kind types r t v (c.in_ok-fields.ensures.keeps kind types r t v h))
     popped c.finish.new.self (record { function = refl; place = refl; locals = refl; operands = c.truncate.ensures.items }) c.in_ok-made.made
-    (λ ts vs at h. c.in_ok-made.ensures.makes m (kind_of m P) P.types ts vs at
+    (λ ts vs at h. c.in_ok-made.ensures.makes P.format.limit (ap (λ l. l.limit) c.in_ok-fields.ensures.lent ∙ c.requires.limit.is) m (kind_of m P) P.types ts vs at
     (subst (λ (rs : List Ref). AllStandFor (kind_of m P) P.types (g.N.Nodes.nodes c.place_all.new.store) (numbers_of rs) ts vs) (sym c.deref-2.ensures.value)
     (c.in_ok-fields.ensures.stand (kind_of m P) P.types ts vs (subst (λ os. AllHeld (kind_of m P) P.types nodes os ts vs) (sym (top_lent c.deref.result.now operands.items kept c.deref.ensures.value)) h))))
     c.finish.result c.finish.ensures

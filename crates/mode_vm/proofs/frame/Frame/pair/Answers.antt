@@ -1,3 +1,4 @@
+use Rattle.std.proofs.Common.{◌∙◌, ap}
 use Rattle.value_store.specs.Markings.{kind_of}
 use Rattle.value_store.proofs.StandingNodes.{there_stands}
 use Rattle.mode_vm.specs.Meanings.{program_of}
@@ -32,7 +33,7 @@ returns-clause-does g c m values b =
     (g.N.Nodes.nodes c.new_pair.new.store)
     (λ kind types r t v h. c.new_pair.ensures.keeps kind types r t v (c.in_ok-second.ensures.keeps kind types r t v (c.in_ok-first.ensures.keeps kind types r t v h)))
     c.pop_two-first.new.self c.finish.new.self c.pop_two-first.ensures.at c.in_ok-made.made
-    (λ s t x y h j. c.in_ok-made.ensures.makes m kind P.types s t x y
+    (λ s t x y h j. c.in_ok-made.ensures.makes P.format.limit (ap (λ l. l.limit) (c.in_ok-second.ensures.lent ∙ c.in_ok-first.ensures.lent) ∙ c.requires.limit.is) m kind P.types s t x y
     (c.in_ok-second.ensures.keeps kind P.types c.in_ok-first.first.0 s x (c.in_ok-first.ensures.stands kind P.types s x h))
     (c.in_ok-second.ensures.stands kind P.types t y (held_keeps kind P.types _ _ c.in_ok-first.ensures.keeps _ t y j))) c.finish.result c.finish.ensures
 

@@ -35,4 +35,5 @@ put_text-requires g c =
     let same : c.in-Ok.text.now ≡ bytes_of c.args.text.now = c.in-Ok.ensures.cases.0 ∙ c.as_bytes.ensures in
     let long = ap length same in
     let fits = c.args.text.now.fits in
-    record { fits = omega (arith, long, fits) }
+    let least = g.met.N.Nodes.least c.args.store.now in
+    record { fits = omega (arith, long, fits, least) }

@@ -1,8 +1,9 @@
-use Rattle.std.proofs.Common.{◌+◌, ◌<◌, ◌≤◌, ◌≡◌, ◌^◌, false}
+use Rattle.std.proofs.Common.{◌+◌, ◌<◌, ◌≤◌, ◌≡◌, ◌^◌, ◌++◌, List, false}
 use Rattle.core_terms.specs.Types.{Ty}
 use Rattle.value_store.specs.Standing.{Keeps}
 use Rattle.code_gen.specs.Programs.{program_in}
 use Rattle.mode_vm.specs.Machines.{steps_left}
+use Rattle.mode_vm.specs.Openings.{GaveAll}
 use Rattle.mode_vm.proofs.Slicing.{Begun}
 use Rattle.mode_vm.specs.Meanings.{RunOf, StateOf, program_of}
 use Rattle.mode_vm.specs.Runs.{Ready, WillRun}
@@ -27,6 +28,10 @@ invariant-loop-units g l =
     × g.M.Mode.Moves l.fn.self.mode l.fn.world l.self.mode l.world
     × (g.N.Nodes.lent l.store ≡ g.N.Nodes.lent l.fn.store)
     × g.M.Mode.Knows (program_in l.code).types l.self.mode (g.N.Nodes.nodes l.store)
+    × (g.M.Mode.Asks → (got : List g.M.Mode.Answer) × GaveAll g.M.Mode.May l.fn.world got l.world
+    × ((z : Ty) (w : StateOf g.M.Mode.marking) (run : RunOf g.M.Mode.marking) (more : List g.M.Mode.Answer) → g.M.Mode.Expects l.fn.self.mode w (got ++ more)
+    → WillRun g.M.Mode.marking (program_of l.code) z (g.N.Nodes.nodes l.fn.store) l.fn.self.state w run
+    → (w' : StateOf g.M.Mode.marking) × g.M.Mode.Expects l.self.mode w' more × WillRun g.M.Mode.marking (program_of l.code) z (g.N.Nodes.nodes l.store) l.self.state w' run))
     × (WorksInHand (program_of l.code) → g.N.Nodes.nodes l.store ≡ g.N.Nodes.nodes l.fn.store)
 
 abbrev pub decreases-loop-units : goal.decreases-loop-units

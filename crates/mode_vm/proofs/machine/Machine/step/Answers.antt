@@ -1,5 +1,5 @@
 use Rattle.std.specs.declared.alloc.AllocError.{AllocError}
-use Rattle.std.proofs.Common.{subst, arith, true, false, refl, ap, sym, ◌∙◌, ◌≡◌}
+use Rattle.std.proofs.Common.{subst, arith, true, false, [], refl, ap, sym, ◌∙◌, ◌≡◌}
 use Rattle.core_terms.specs.Programs.{types_of}
 use Rattle.code_gen.specs.Programs.{program_in}
 use Rattle.code_gen.specs.CodeTrees.{instruction_of}
@@ -9,7 +9,8 @@ use Rattle.code_meaning.specs.Execution.{Ran}
 use Rattle.mode_vm.specs.Meanings.{program_of}
 use Rattle.mode_vm.proofs.OwnInstructions.{asked, opened, plain}
 use Rattle.mode_vm.proofs.SparedNodes.{same_puts}
-use Rattle.mode_vm.proofs.Stepping.{leads_stands, leads_is, fewer_left, on_ok}
+use Rattle.mode_vm.proofs.Stepping.{leads_stands, leads_is, fewer_left, on_ok, step_by}
+use Rattle.mode_vm.proofs.Answering.{came_on, came_none}
 use Rattle.mode_vm.proofs.machine.Machine.step.Goals as goal
 
 pub unauth-requires-clause-before : goal.unauth-requires-clause-before
@@ -37,6 +38,7 @@ act-requires g c =
     let r = c.requires.ready in
     record {
       before = (g.M.Mode.marking, r.0, r.1.0, r.1.1, c.next-instruction.ensures.next g.M.Mode.marking r.0 (g.N.Nodes.nodes c.args.store.now) r.1.0 r.1.1);
+      limit = c.requires.limit;
       plain = plain (types_of (program_in c.args.code.now)) c.next-instruction.result.now c.in_default.not-Auth c.in_default.not-Unauth;
       entered = c.if-not-self.false;
       room = c.next-instruction.ensures.room;
@@ -77,7 +79,43 @@ returns-in_ok-act-in_default g c = record {
   rest = refl;
   moves = g.met.M.Mode.moves_not c.args.self.now.mode c.args.world.now;
   knows = g.met.M.Mode.knows_on (program_in c.args.code.now).types c.args.self.now.mode (g.N.Nodes.nodes c.args.store.now) (g.N.Nodes.nodes c.act.new.store) c.in_ok-act-in_default.ensures.keeps c.requires.knows;
+  answers = λ asks. (
+    [],
+    refl,
+    λ z w run more expects will.
+        leads_is g.M.Mode.marking (program_of c.args.code.now) z (g.N.Nodes.nodes c.act.new.store) true c.args.self.now.state.fuel will.stack c.act.new.self g.M.Mode.cause
+        (λ after. g.M.Mode.Expects c.args.self.now.mode after more) w expects run
+        (subst (λ b. end_of g.M.Mode.marking (program_of c.args.code.now) b will.stack c.args.self.now.state.fuel w ≡ Ran run) c.if-not-self.false will.ends)
+        (Unit {0}) c.in_ok-act-in_default.field-0
+        (c.in_ok-act-in_default.ensures.leads g.M.Mode.marking z will.stack will.shows (c.next-instruction.ensures.next g.M.Mode.marking z (g.N.Nodes.nodes c.args.store.now) will.stack will.shows)),
+  );
 }
+
+pub returns-then-not-self-clause-answers : goal.returns-then-not-self-clause-answers
+returns-then-not-self-clause-answers g c asks = (
+  [],
+  refl,
+  λ z w run more expects will.
+      leads_is g.M.Mode.marking (program_of c.args.code.now) z (g.N.Nodes.nodes c.args.store.now) false c.args.self.now.state.fuel will.stack c.enter.new.self g.M.Mode.cause
+      (λ after. g.M.Mode.Expects c.args.self.now.mode after more) w expects run
+      (subst (λ b. end_of g.M.Mode.marking (program_of c.args.code.now) b will.stack c.args.self.now.state.fuel w ≡ Ran run) c.if-not-self.true will.ends)
+      AllocError c.enter.result (c.enter.ensures.leads g.M.Mode.marking (program_of c.args.code.now) z (g.N.Nodes.nodes c.args.store.now) will.stack will.shows),
+)
+
+pub returns-in-Unauth-clause-answers : goal.returns-in-Unauth-clause-answers
+returns-in-Unauth-clause-answers g c asks =
+    came_on g.M.Mode.May g.M.Mode.Last g.M.Mode.cause _ c.unauth.result c.args.world.now c.unauth.new.world _ _ (c.unauth.ensures.answers asks)
+    (λ got h z w run more expects will. h z w run more expects will (subst (λ i. IsNext (instruction_of (types_of (program_in c.args.code.now)) i) will.stack.top) c.in-Unauth.is
+    (c.next-instruction.ensures.next g.M.Mode.marking z (g.N.Nodes.nodes c.args.store.now) will.stack will.shows)))
+
+pub returns-in-Auth-clause-answers : goal.returns-in-Auth-clause-answers
+returns-in-Auth-clause-answers g c asks =
+    came_none g.M.Mode.May g.M.Mode.Last g.M.Mode.cause _ c.auth.result c.auth.ensures.memory c.args.world.now _
+    (λ z w run more expects will. step_by g.M.Mode.marking (program_of c.args.code.now) z (g.N.Nodes.nodes c.auth.new.store) c.auth.new.self.state g.M.Mode.cause (λ after. after ≡ w)
+    (λ after. g.M.Mode.Expects c.auth.new.self.mode after more)
+    (λ after same. subst (λ u. g.M.Mode.Expects c.auth.new.self.mode u more) (sym same) (subst (λ mode. g.M.Mode.Expects mode w more) (sym c.auth.ensures.mode) expects)) run c.auth.result
+    (c.auth.ensures.stays z w run will (subst (λ i. IsNext (instruction_of (types_of (program_in c.args.code.now)) i) will.stack.top) c.in-Auth.is
+    (c.next-instruction.ensures.next g.M.Mode.marking z (g.N.Nodes.nodes c.args.store.now) will.stack will.shows))))
 
 pub returns-then-not-self-clause-fewer : goal.returns-then-not-self-clause-fewer
 returns-then-not-self-clause-fewer g c =

@@ -42,3 +42,7 @@ returns-in_ok-trapped-in_default g c = record {
 
 pub act-requires-clause-own : goal.act-requires-clause-own
 act-requires-clause-own g c = own (types_of (program_in c.args.code.now)) c.args.instruction.now c.in_default.not-Call c.in_default.not-Return c.requires.plain
+
+pub returns-in-Call-clause-leads : goal.returns-in-Call-clause-leads
+returns-in-Call-clause-leads g c m z cs shows next =
+    c.call.ensures.leads m z (g.N.Nodes.nodes c.args.store.now) cs shows (subst (λ i. IsNext (instruction_of (types_of (program_in c.args.code.now)) i) cs.top) c.in-Call.is next)

@@ -1,4 +1,5 @@
-use Rattle.std.proofs.Common.{ap, ◌∙◌}
+use Rattle.std.proofs.Common.{◌++◌, ap₂, ◌∙◌}
+use Rattle.core_terms.proofs.Fingerprints.{front_is}
 use Rattle.core_terms.specs.ProgramTypes.{types_by_number, types_meaning}
 use Rattle.core_terms.specs.Projection.{digest_at, projection}
 use Rattle.core_terms.specs.TypeTables.{type_at}
@@ -14,7 +15,7 @@ spell_into-requires g c =
     let t = type_at (types_by_number c.args.types.now) c.args.ty in
     let x = c.requires.stands.0 in (
       projection hash P t x,
-      shown_shallow (digest_at hash P) P.types (λ t bytes. g.met.H.Hash32.digest_length bytes) (g.N.Nodes.nodes c.args.store.now) t x c.args.v.0 c.requires.stands.1,
+      shown_shallow (digest_at hash P) P.types (λ t bytes. g.met.H.Hash32.digest_length _) (g.N.Nodes.nodes c.args.store.now) t x c.args.v.0 c.requires.stands.1,
     )
 
 pub put_auth-requires : goal.put_auth-requires
@@ -31,4 +32,4 @@ returns-clause-stands g c x stands =
     let P = types_meaning c.args.types.now in
     let t = type_at (types_by_number c.args.types.now) c.args.ty in
     let spelled = c.deref.ensures.value ∙ c.in_ok-spell_into.ensures.projected hash x g.met.H.Hash32.digest_length stands in
-    c.in_ok-put_auth.ensures.stands (ProverNodes (digest_at hash P)) P.types t x (stands, c.of-digest.ensures ∙ ap (digest_at hash P t) spelled)
+    c.in_ok-put_auth.ensures.stands (ProverNodes (digest_at hash P)) P.types t x (stands, c.of_pair-digest.ensures ∙ ap₂ (λ f b. hash (f ++ b)) (c.front.ensures ∙ front_is hash c.args.types.now c.args.self.now.fronts c.requires.knows c.args.ty) spelled)

@@ -14,6 +14,9 @@ run_slice-requires-clause-ready g c =
     let h = c.requires.proving.4 in
     ((function_at (program_of c.args.code.now) c.requires.proving.0).result, (h.runs.stack, h.runs.shows))
 
+pub run_slice-requires-clause-knows : goal.run_slice-requires-clause-knows
+run_slice-requires-clause-knows g c = c.requires.proving.4.knows
+
 pub run_slice-requires-clause-few : goal.run_slice-requires-clause-few
 run_slice-requires-clause-few g c = c.requires.proving.4.few
 
@@ -29,7 +32,7 @@ returns-in-Ok-Paused-clause-ends g c f vs k made h =
     let is = c.in-Ok-Paused.field-0-is in
     let goes = is_goes (ProverMarking hash) P z nodes machine.state step {F = Unit {0}} (λ x. None) (AreSeen hash (program_in c.args.code.now).types nodes machine.mode.opened.items) run is
     (c.in-Ok-Paused.ensures.is z h.seen run h.opened h.runs) in
-    pauses hash c.args.code.now c.args.self.now _ (g.N.Nodes.nodes c.args.store.now) nodes c.args.units f vs k made h goes.0 goes.1 goes.2
+    pauses hash c.args.code.now c.args.self.now _ (g.N.Nodes.nodes c.args.store.now) nodes c.args.units f vs k made h c.in-Ok-Paused.ensures.knows goes.0 goes.1 goes.2
     (spent_paused (Unit {0}) c.args.units c.args.self.now.machine.state machine.state step is c.in-Ok-Paused.ensures.calls)
     (goes_fewer step _ (Unit {0}) is c.in-Ok-Paused.ensures.few)
 

@@ -5,7 +5,7 @@ use Rattle.core_terms.specs.Programs.{types_of}
 use Rattle.core_terms.specs.ProgramTrees.{arms_in_a_row, in_a_row}
 use Rattle.core_terms.specs.Values.{IntV}
 use Rattle.core_terms.specs.declared.term.Term.TheViews.{size-Term}
-use Rattle.core_terms.proofs.TermViews.{expression-UnitLiteral, expression-BoolLiteral, expression-IntLiteral, expression-TextLiteral, expression-Local, expression-Pair, expression-Fst, expression-Snd, expression-Not, expression-Len, expression-Auth, expression-Unauth, expression-Constructor, expression-Arith, expression-Compare, expression-TextCompare, expression-Cat, expression-Let, expression-If, expression-Match, expression-Call}
+use Rattle.core_terms.proofs.TermViews.{expression-UnitLiteral, expression-BoolLiteral, expression-IntLiteral, expression-TextLiteral, expression-Local, expression-Pair, expression-Fst, expression-Snd, expression-Not, expression-Len, expression-Auth, expression-Unauth, expression-Constructor, expression-Arith, expression-Compare, expression-TextCompare, expression-Cat, expression-Let, expression-If, expression-Match, expression-Call, expression-Operate}
 use Rattle.ideal_meaning.specs.Ideal.{ideal_mode}
 use Rattle.ideal_meaning.specs.Run as meant
 use Rattle.ideal_meaning.specs.Run.{Gives, then_run}
@@ -246,6 +246,15 @@ eval-returns-in-Call-clause-value t c = λ whole nesting seen h.
     let le : c.row-arguments.new.fuel ≤ nesting = omega (arith, c.row-arguments.ensures.fuel, h) in
     as_term e env nesting k c.call.new.fuel seen c.call.result c.args.term.now _ (ap (expression e) c.in-Call.is ∙ expression-Call T _ c.in-Call.arguments)
     (c.call.ensures.value whole nesting _ le row)
+
+pub eval-returns-in-Operate-clause-value : goal.eval-returns-in-Operate-clause-value
+eval-returns-in-Operate-clause-value t c = λ whole nesting seen h.
+    let e = c.args.self.now in
+    let T = types_of e.program.now in
+    let env = plains_of c.args.locals.now in
+    row_parts e env nesting c.args.fuel.now c.row-operands.new.fuel seen c.row-operands.result c.operate.result c.deref-in-Operate.result.now c.in-Operate.operands.items c.args.term.now _ _
+    c.deref-in-Operate.ensures.value (ap (expression e) c.in-Operate.is ∙ expression-Operate T _ c.in-Operate.operands)
+    c.operate.ensures refl (c.row-operands.ensures.value whole nesting seen h)
 
 pub both-returns-in_err-x-clause-value : goal.both-returns-in_err-x-clause-value
 both-returns-in_err-x-clause-value t c = λ whole nesting seen h.
@@ -630,6 +639,9 @@ eval-returns-in-Match-clause-fuel t c = c.arm.ensures.fuel
 
 pub eval-returns-in-Call-clause-fuel : goal.eval-returns-in-Call-clause-fuel
 eval-returns-in-Call-clause-fuel t c = omega (arith, c.row-arguments.ensures.fuel, c.call.ensures.fuel)
+
+pub eval-returns-in-Operate-clause-fuel : goal.eval-returns-in-Operate-clause-fuel
+eval-returns-in-Operate-clause-fuel t c = c.row-operands.ensures.fuel
 
 pub both-returns-in_err-x-clause-fuel : goal.both-returns-in_err-x-clause-fuel
 both-returns-in_err-x-clause-fuel t c = c.eval.ensures.fuel

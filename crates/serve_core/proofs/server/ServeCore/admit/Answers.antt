@@ -40,3 +40,6 @@ returns g c server h =
     let idle = is_none s.0.running (sym (runs_alike hash core.code core.slice nodes _ c.in-Some.session.now.running s.0.running s.2.runs) ∙ sym c.is_some.ensures ∙ c.if-is_some.false) in
     admitted hash P own ending nodes server c.args.number c.args.role c.args.fuel c.args.argument.now s.0 c.grant.result s.1
     (are_bytes c.args.argument.now (λ i. (c.type_inv.argument i).fits)) (c.grant.ensures own ending s.0 server.shared h.shares idle)
+
+pub grant-requires-clause-limit : goal.grant-requires-clause-limit
+grant-requires-clause-limit g c κs within = c.requires.serves.1.shares.limit

@@ -8,9 +8,25 @@ use Rattle.session_meaning.specs.Calls.{frames_of, new_state, outcome_of, role_i
 use Rattle.value_store.specs.Nodes.{AreSound, Node}
 use Rattle.value_store.specs.Overs.{own_nodes}
 use Rattle.value_store.specs.Stores.{nodes_in}
+use Rattle.session_turns.specs.Running.{nodes_of_call}
 use Rattle.session_turns.proofs.Rows.{of_none, of_some}
-use Rattle.session_turns.proofs.RunEnds.{made_so, made_there, made_within, run_over, tells_so, too_many}
+use Rattle.session_turns.proofs.Turns.{sound_as}
+use Rattle.session_turns.proofs.RunEnds.{made_so, made_there, made_within, outcome_over, run_over, tells_so, too_many}
 use Rattle.session_turns.proofs.running.Running.finish.Goals as goal
+
+pub on-over-requires-clause-sound : goal.on-over-requires-clause-sound
+on-over-requires-clause-sound g c = subst (λ (n : ℕ). AreSound n (nodes_of_call (nodes_in c.args.base.now) c.args.self)) (sym c.requires.limit.is) c.requires.running.3.0.sound
+
+pub state_made-made-requires : goal.state_made-made-requires
+state_made-made-requires g c =
+    let ran : c.args.self.last ≡ Ok (Some c.in-Ok-Some.outcome) = search rules in
+    let hash = g.H.Hash32.hash in
+    let P = program_of c.args.code.now in
+    let h = c.requires.running in (
+      hash,
+      outcome_of P h.0 h.1,
+      outcome_over hash c.args.code.now (nodes_in c.args.base.now) c.args.self c.args.call h.0 h.1 h.2 h.3 c.in-Ok-Some.outcome ran _ c.on-over.ensures.nodes,
+    )
 
 pub returns-clause-ends : goal.returns-clause-ends
 returns-clause-ends g c s state call made h on ring =
@@ -55,7 +71,8 @@ returns-in_default-2-clause-too_long g c s state call made h on ring =
     (subst (λ (n : ℕ). 16777213 < length (frame_bytes (frames_of hash P n s.recent state call))) size long)
 
 pub returns-clause-sound : goal.returns-clause-sound
-returns-clause-sound g c = subst (λ (ns : List Node). AreSound (ns ++ own_nodes c.off.result)) c.on-over.ensures.lent c.off.ensures.sound
+returns-clause-sound g c =
+    sound_as _ _ _ _ (own_nodes c.off.result) c.on-over.ensures.limit c.on-over.ensures.lent c.off.ensures.sound
 
 pub returns-clause-made : goal.returns-clause-made
 returns-clause-made g c =

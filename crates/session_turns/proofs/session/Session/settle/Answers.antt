@@ -23,6 +23,9 @@ returns-then-is_none-clause-turned g c slice m s shares h =
     on_turn g.H.Hash32.hash c.args.code.now slice c.args.shared.now m c.args.self s h c.args.number call c.in-Some.is told last shares
     (none_told told c.is_none.result c.is_none.ensures c.if-is_none.true)
 
+pub finish-requires-clause-limit : goal.finish-requires-clause-limit
+finish-requires-clause-limit g c κs within = c.requires.3.limit
+
 pub finish-requires-clause-running : goal.finish-requires-clause-running
 finish-requires-clause-running g c κs within =
     let slice = c.requires.0 in

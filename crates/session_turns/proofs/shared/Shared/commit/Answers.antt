@@ -13,4 +13,4 @@ returns-clause-commits c hash P same call v shares is stands =
     committed hash P c.args.self.now (record { store = c.absorb.new.self; versions = c.push.new.self; commits = c.push-2.new.self; marks = c.args.self.now.marks; some = c.self-2-1.given.0 }) same call v r c.args.commit
     c.absorb.ensures.keeps more
     (c.in_ok-push-2.ensures.items ∙ ap (λ (cs : List Commit). cs ++ c.args.commit ∷ []) c.reserve-2.ensures.items)
-    refl shares is (c.in_ok-version.ensures.stands (ProverNodes (digest_at hash P)) P.types P.state v stands)
+    refl c.absorb.ensures.limit shares is (c.in_ok-version.ensures.stands (ProverNodes (digest_at hash P)) P.types P.state v stands)

@@ -10,7 +10,7 @@ use Rattle.code_gen.specs.Programs.{program_in}
 use Rattle.mode_vm.specs.Meanings.{program_of}
 use Rattle.session_meaning.specs.Calls.{changes_state}
 use Rattle.session_meaning.specs.Server as meant
-use Rattle.value_store.specs.Nodes.{AreSound, Node}
+use Rattle.value_store.specs.Nodes.{AreSound, Lent, Node}
 use Rattle.value_store.specs.Overs.{own_nodes}
 use Rattle.value_store.specs.Standing.{ProverNodes, StandsFor}
 use Rattle.value_store.specs.Stores.{nodes_in}
@@ -18,12 +18,13 @@ use Rattle.session_turns.specs.Versions.{IsVersion}
 use Rattle.session_turns.proofs.Granting.{refused_as, full, granted, of_role, takes}
 use Rattle.session_turns.proofs.Rows.{alike_length}
 use Rattle.session_turns.proofs.Sharing.{all_first}
+use Rattle.session_turns.proofs.Turns.{sound_as}
 use Rattle.session_turns.proofs.shared.Shared.grant.Goals as goal
 use Rattle.session_turns.proofs.shared.Shared.grant.Goals.{else-changes_state-via-then-changes_state+else-len-ge-MAX_VERSIONS, else-changes_state-via-else-changes_state}
 
 pub on-over-requires-clause-sound : goal.on-over-requires-clause-sound
 on-over-requires-clause-sound g c =
-    subst (λ (nodes : List Node). AreSound nodes) (sym (all_first (nodes_in c.args.self.now.store) c.count-from.result c.count-from.ensures _ c.new.ensures)) c.args.self.now.store.sound
+    subst (λ (nodes : List Node). AreSound c.args.self.now.store.limit nodes) (sym (all_first (nodes_in c.args.self.now.store) c.count-from.result c.count-from.ensures _ c.new.ensures)) c.args.self.now.store.sound
 
 pub returns-in_err-argument : goal.returns-in_err-argument
 returns-in_err-argument g c own ending s shared shares idle =
@@ -79,7 +80,8 @@ returns g c own ending s shared shares idle =
     let is =
     granted hash (program_in c.args.code.now) c.types.result.now c.types.ensures roles coded shapes role c.args.role at reads c.args.fuel few own ending s idle
     (length shared.versions) c.args.argument.now _ c.in_ok-argument.argument c.in_ok-argument.ensures.value room in
-    let lent = c.in_ok-argument.ensures.lent ∙ c.on-over.ensures.lent in
+    let lent = ap (λ (l : Lent). l.nodes) c.in_ok-argument.ensures.lent ∙ c.on-over.ensures.lent in
+    let limit = ap (λ (l : Lent). l.limit) c.in_ok-argument.ensures.lent ∙ c.on-over.ensures.limit ∙ c.requires.limit.is in
     let facts = c.off.ensures in
     let can =
     takes hash (program_in c.args.code.now) c.types.result.now c.types.ensures roles coded shapes role c.args.role at reads
@@ -93,7 +95,7 @@ returns g c own ending s shared shares idle =
         there = can.0;
         takes = can.1;
         all = c.count-from.ensures;
-        sound = subst (λ (ns : List Node). AreSound (ns ++ own_nodes c.off.result)) lent facts.sound;
+        sound = sound_as _ P.format.limit _ _ (own_nodes c.off.result) limit lent facts.sound;
         stands =
             subst (λ (ns : List Node). StandsFor (ProverNodes (digest_at hash P)) P.types ns c.in_ok-argument.argument.0 (argument_type P role.function.0) is.0)
             (facts.nodes ∙ ap (λ (ns : List Node). ns ++ own_nodes c.off.result) lent) is.2;

@@ -1,17 +1,13 @@
-use Rattle.std.proofs.Common.{◌≡◌, ℕ, List, length, sym, ap, ◌∙◌, subst, arith}
+use Rattle.std.proofs.Common.{◌≡◌, ℕ, List, length, bytes_eq, sym, ap, ◌∙◌, arith}
 use Rattle.core_terms.specs.Formats.{IsHash}
 use Rattle.core_terms.specs.Projection.{digest_at}
-use Rattle.core_terms.specs.Values.{UnitV}
 use Rattle.code_gen.specs.Programs.{program_in}
 use Rattle.mode_vm.specs.Meanings.{program_of}
 use Rattle.session_meaning.specs.Server as meant
 use Rattle.value_store.specs.Standing.{ProverNodes}
 use Rattle.value_store.specs.Stores.{nodes_in}
-use Rattle.value_store.specs.declared.node.Ref.{Ref}
 use Rattle.value_store.proofs.StandingNodes.{there_stands}
 use Rattle.session_turns.specs.Marks.{mark_of}
-use Rattle.session_turns.specs.Sharing.{Shares}
-use Rattle.session_turns.specs.Versions.{IsVersion}
 use Rattle.session_turns.proofs.Sharing.{version_stands, versions_counted}
 use Rattle.session_turns.proofs.Spellings.{long, noted, other_bytes}
 use Rattle.session_turns.proofs.shared.Shared.has_spelling.Goals as goal
@@ -60,8 +56,7 @@ returns-then-eq-clause-same g c m shares =
     let P = program_of c.args.code.now in
     let v = meant.version_at m.versions c.args.number in
     let spelled = c.in_ok-spelling.ensures v (version_stands hash P c.args.self.now m shares c.args.number c.requires.there c.index-version.result.now c.index-version.ensures) in
-    let same = c.if-eq.true in
-    cc (spelled, same)
+    sym c.if-eq.true ∙ c.eq.ensures ∙ ap (λ (bytes : List ℕ). bytes_eq bytes c.args.state.now) (c.as_bytes.ensures ∙ spelled)
 
 pub returns-in_err-note-clause-shares : goal.returns-in_err-note-clause-shares
 returns-in_err-note-clause-shares g c m shares =
@@ -72,6 +67,7 @@ returns-in_err-note-clause-shares g c m shares =
     let there = c.requires.there in
     let spelled = c.in_ok-spelling.ensures v (version_stands hash P c.args.self.now m shares c.args.number there c.index-version.result.now c.index-version.ensures) in
     record {
+      limit = shares.limit;
       versions = shares.versions;
       commits = shares.commits;
       marks =
@@ -85,8 +81,7 @@ returns-clause-same g c m shares =
     let P = program_of c.args.code.now in
     let v = meant.version_at m.versions c.args.number in
     let spelled = c.in_ok-spelling.ensures v (version_stands hash P c.args.self.now m shares c.args.number c.requires.there c.index-version.result.now c.index-version.ensures) in
-    let same = c.if-eq.false in
-    cc (spelled, same)
+    sym c.if-eq.false ∙ c.eq.ensures ∙ ap (λ (bytes : List ℕ). bytes_eq bytes c.args.state.now) (c.as_bytes.ensures ∙ spelled)
 
 pub returns-clause-shares : goal.returns-clause-shares
 returns-clause-shares g c m shares =
@@ -97,6 +92,7 @@ returns-clause-shares g c m shares =
     let there = c.requires.there in
     let spelled = c.in_ok-spelling.ensures v (version_stands hash P c.args.self.now m shares c.args.number there c.index-version.result.now c.index-version.ensures) in
     record {
+      limit = shares.limit;
       versions = shares.versions;
       commits = shares.commits;
       marks =

@@ -7,6 +7,9 @@ use Rattle.session_turns.proofs.Rows.{alike_length, if_err}
 use Rattle.session_turns.proofs.TurnedRows.{all_ahead, all_go_on, all_written}
 use Rattle.session_turns.proofs.shared.Shared.round.Goals as goal
 
+pub round-requires-clause-limit : goal.round-requires-clause-limit
+round-requires-clause-limit g c κs within = c.requires.shares.2.limit
+
 pub round-requires-clause-go_on : goal.round-requires-clause-go_on
 round-requires-clause-go_on g c κs within =
     let hash = g.H.Hash32.hash in

@@ -46,6 +46,8 @@ pub invariant_of-self : goal.invariant_of-self
 invariant_of-self c = record {
   sound =
       joined_sound c.args.from (c.len.result - c.args.from) c.args.self.now.nodes.items c.args.own.nodes.items (back c) c.append.new.self.items c.requires.within c.requires.sound (at c) (is_back c) _ c.append.ensures.items c.args.self.now.sound;
+  least = c.args.self.now.least;
+  greatest = c.args.self.now.greatest;
 }
 
 -- the same at the end

@@ -14,7 +14,11 @@ cut n old new is = ap nodes_of is ∙ sym (take-map node_of n old)
 
 pub invariant_of-self : goal.invariant_of-self
 invariant_of-self c =
-    record { sound = subst AreSound (sym (cut c.args.mark.0 c.args.self.now.nodes.items c.truncate.new.self.items c.truncate.ensures.items)) (sound_front (nodes_in c.args.self.now) c.args.mark.0 c.args.self.now.sound) }
+    record {
+      sound = subst (AreSound c.args.self.now.limit) (sym (cut c.args.mark.0 c.args.self.now.nodes.items c.truncate.new.self.items c.truncate.ensures.items)) (sound_front (nodes_in c.args.self.now) c.args.mark.0 c.args.self.now.sound);
+      least = c.args.self.now.least;
+      greatest = c.args.self.now.greatest;
+    }
 
 pub returns-clause-nodes : goal.returns-clause-nodes
 returns-clause-nodes c = cut c.args.mark.0 c.args.self.now.nodes.items c.truncate.new.self.items c.truncate.ensures.items

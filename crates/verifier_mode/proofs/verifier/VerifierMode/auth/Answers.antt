@@ -1,6 +1,8 @@
 -- The digest of the spelling is that of the definitions.
-use Rattle.std.proofs.Common.{sym, ap, ◌∙◌, length, ◌≡◌, subst}
+use Rattle.std.proofs.Common.{◌++◌, sym, ap, ap₂, ◌∙◌, length, ◌≡◌, subst}
+use Rattle.core_terms.proofs.Fingerprints.{front_is}
 use Rattle.core_terms.specs.ProgramTypes.{types_by_number, types_meaning}
+use Rattle.core_terms.specs.Projection.{digest_at}
 use Rattle.core_terms.specs.TypeTables.{type_at}
 use Rattle.core_terms.specs.Values.{DigestV}
 use Rattle.core_terms.specs.Spelling.{spelling}
@@ -11,6 +13,8 @@ pub returns-clause-stands : goal.returns-clause-stands
 returns-clause-stands g c x stands =
     let P = types_meaning c.args.types.now in
     let t = type_at (types_by_number c.args.types.now) c.args.ty in
-    let is : c.of-digest.result.0 ≡ g.H.Hash32.hash (spelling x) = c.of-digest.ensures ∙ ap g.H.Hash32.hash (c.deref.ensures.value ∙ c.in_ok-spell_into.ensures.spelling x stands) in
-    c.in_ok-put_auth.ensures.stands VerifierNodes P.types t (DigestV (g.H.Hash32.hash (spelling x)))
-    (ap DigestV (sym is), subst (λ d. length d ≡ 32) (sym is) (g.met.H.Hash32.digest_length (spelling x)))
+    let hash = g.H.Hash32.hash in
+    let is : c.of_pair-digest.result.0 ≡ digest_at hash P t (spelling x) =
+    c.of_pair-digest.ensures ∙ ap₂ (λ f b. hash (f ++ b)) (c.front.ensures ∙ front_is hash c.args.types.now c.args.self.now.fronts c.requires.knows.1 c.args.ty) (c.deref.ensures.value ∙ c.in_ok-spell_into.ensures.spelling x stands) in
+    c.in_ok-put_auth.ensures.stands VerifierNodes P.types t (DigestV (digest_at hash P t (spelling x)))
+    (ap DigestV (sym is), subst (λ d. length d ≡ 32) (sym is) (g.met.H.Hash32.digest_length _))

@@ -1,6 +1,8 @@
 -- The piece that is taken is the one that the definitions take, a new one or a kept one; or there is none.
-use Rattle.std.proofs.Common.{◌≡◌, ◌+◌, ◌∷◌, suc, length, sym, ap, ◌∙◌, subst, arith}
+use Rattle.std.proofs.Common.{◌≡◌, ◌+◌, ◌∷◌, ◌++◌, suc, length, sym, ap, ap₂, ◌∙◌, subst, arith}
+use Rattle.core_terms.proofs.Fingerprints.{front_is}
 use Rattle.core_terms.specs.ProgramTypes.{types_by_number, types_meaning}
+use Rattle.core_terms.specs.Projection.{digest_at}
 use Rattle.core_terms.specs.TypeTables.{type_at}
 use Rattle.ideal_meaning.specs.Frames.{Offers}
 use Rattle.proof_stream.specs.Readers.{limit_of, piece_of}
@@ -29,7 +31,8 @@ returns-in_err-fresh-in-Ok-New-clause-opens g c x w stands follows =
     let more = new_more hash P t want place x w held limit ring left follows piece r.0 r.1 in
     let behind = behind_piece place (length r.0) more in
     let offer = new_offer hash P t want place x w held limit ring left follows piece r.0 r.1 in
-    let found : c.of-found.result.0 ≡ hash piece = c.of-found.ensures ∙ ap hash (c.deref.ensures.value ∙ sym c.deref-in-Ok-New.ensures.value) in
+    let found : c.of_pair-found.result.0 ≡ digest_at hash P t piece =
+    c.of_pair-found.ensures ∙ ap₂ (λ f b. hash (f ++ b)) (c.front.ensures ∙ front_is hash c.args.types.now c.args.self.now.fronts c.requires.knows.1 c.args.ty) (c.deref.ensures.value ∙ sym c.deref-in-Ok-New.ensures.value) in
     let nodes = g.N.Nodes.nodes c.open_piece.new.store in
     ends_with (OpenedAs hash P t want place x w held limit ring left follows (FollowsFrames P (limit_of c.take_piece-piece.new.self) ring place left') nodes) _ _ c.from_residual.ensures.1
     (stops hash P t want place x w held limit ring left follows (FollowsFrames P (limit_of c.take_piece-piece.new.self) ring place left') nodes (Offers piece (length r.0) more) behind _ offer
@@ -74,7 +77,7 @@ returns-in_err-used-in-Ok-Back-clause-opens g c x w stands follows =
     let nodes = g.N.Nodes.nodes c.open_piece-in-Ok-Back.new.store in
     ends_with (OpenedAs hash P t want place x w held limit ring left follows (FollowsFrames P (limit_of c.next.new.self) ring place left') nodes) _ _ c.from_residual-in_err-used-in-Ok-Back.ensures.1
     (stops hash P t want place x w held limit ring left follows (FollowsFrames P (limit_of c.next.new.self) ring place left') nodes (Offers piece (length r.0) more) behind _ offer
-    (c.in_err-used-in-Ok-Back.ensures.opens hash (length r.0) more here c.of-kept.ensures))
+    (c.in_err-used-in-Ok-Back.ensures.opens hash (length r.0) more here (c.of_pair-kept.ensures ∙ ap (λ f. hash (f ++ piece)) (c.front-in-Ok-Back.ensures ∙ front_is hash c.args.types.now c.args.self.now.fronts c.requires.knows.1 c.args.ty))))
 
 pub returns-in_ok-fresh-in-Ok-New-clause-some : goal.returns-in_ok-fresh-in-Ok-New-clause-some
 returns-in_ok-fresh-in-Ok-New-clause-some g c =
@@ -99,7 +102,8 @@ returns-in_ok-fresh-in-Ok-New-clause-opens g c x w stands follows =
     let more = new_more hash P t want place x w held limit ring left follows piece r.0 r.1 in
     let behind = behind_piece place (length r.0) more in
     let offer = new_offer hash P t want place x w held limit ring left follows piece r.0 r.1 in
-    let found : c.of-found.result.0 ≡ hash piece = c.of-found.ensures ∙ ap hash (c.deref.ensures.value ∙ sym c.deref-in-Ok-New.ensures.value) in
+    let found : c.of_pair-found.result.0 ≡ digest_at hash P t piece =
+    c.of_pair-found.ensures ∙ ap₂ (λ f b. hash (f ++ b)) (c.front.ensures ∙ front_is hash c.args.types.now c.args.self.now.fronts c.requires.knows.1 c.args.ty) (c.deref.ensures.value ∙ sym c.deref-in-Ok-New.ensures.value) in
     let one : place + 1 ≡ suc place = omega arith in
     let same : limit_of c.reuse.new.self ≡ limit = c.reuse.ensures.limit ∙ c.take_piece-piece.ensures.limit ∙ c.in-Ok-New.ensures.limit in
     let holds = c.push-oldest.ensures.last follows.recent follows.holds ∙ ap (λ q. kept ring.size (q ∷ follows.recent)) (sym c.deref-in-Ok-New.ensures.value) in
@@ -149,7 +153,7 @@ returns-in_ok-used-in-Ok-Back-clause-opens g c x w stands follows =
     opens hash P t want place x w held limit ring left follows (FollowsFrames P (limit_of c.next.new.self) ring (place + 1) left') (g.N.Nodes.nodes c.open_piece-in-Ok-Back.new.store)
     (Offers piece (length r.0) more) behind c.in_ok-used-in-Ok-Back.used offer
     (follows_back hash P t want place x w held limit ring left follows k r.0 r.1 (limit_of c.next.new.self) (place + 1) left' c.in-Ok-Back.ensures.limit one r.2)
-    (c.in_ok-used-in-Ok-Back.ensures.opens hash (length r.0) more here c.of-kept.ensures)
+    (c.in_ok-used-in-Ok-Back.ensures.opens hash (length r.0) more here (c.of_pair-kept.ensures ∙ ap (λ f. hash (f ++ piece)) (c.front-in-Ok-Back.ensures ∙ front_is hash c.args.types.now c.args.self.now.fronts c.requires.knows.1 c.args.ty)))
 
 pub returns-in_ok-used-in-Ok-Back-clause-moves : goal.returns-in_ok-used-in-Ok-Back-clause-moves
 returns-in_ok-used-in-Ok-Back-clause-moves g c =
@@ -175,7 +179,7 @@ returns-in-Err-clause-opens g c x w stands follows =
     let left' = g.S.Source.left c.next.new.source in
     let held = c.held_digest.ensures P.types t x stands in
     ended hash P t want place x w held limit ring left follows (λ w. Unit {0}) (g.N.Nodes.nodes c.args.store.now) c.in-Err.end left' c.stop_of.result
-    (c.in-Err.ensures.takes follows.bytes follows.told) c.stop_of.ensures.cause
+    (c.in-Err.ensures.takes follows.bytes follows.told) (c.stop_of.ensures.cause want)
 
 pub returns-in-Err-clause-faults : goal.returns-in-Err-clause-faults
 returns-in-Err-clause-faults g c =
@@ -184,12 +188,16 @@ returns-in-Err-clause-faults g c =
 pub returns-in_ok-fresh-in-Ok-New-clause-knows : goal.returns-in_ok-fresh-in-Ok-New-clause-knows
 returns-in_ok-fresh-in-Ok-New-clause-knows g c =
     let types = c.args.types.now in
-    let new = g.N.Nodes.nodes c.open_piece.new.store in
-    c.note_read.ensures types new
-    (knows_last_on types c.args.self.now.last (g.N.Nodes.nodes c.args.store.now) new c.in_ok-fresh-in-Ok-New.ensures.keeps c.requires.knows)
-    (subst (λ p. IsRead types new c.args.ty p c.in_ok-fresh-in-Ok-New.fresh) (c.deref-in-Ok-New.ensures.value ∙ sym c.deref-in-Ok-New-2.ensures.value) c.in_ok-fresh-in-Ok-New.ensures.read)
+    let new = g.N.Nodes.nodes c.open_piece.new.store in (
+      c.note_read.ensures types new
+          (knows_last_on types c.args.self.now.last (g.N.Nodes.nodes c.args.store.now) new c.in_ok-fresh-in-Ok-New.ensures.keeps c.requires.knows.0)
+          (subst (λ p. IsRead types new c.args.ty p c.in_ok-fresh-in-Ok-New.fresh) (c.deref-in-Ok-New.ensures.value ∙ sym c.deref-in-Ok-New-2.ensures.value) c.in_ok-fresh-in-Ok-New.ensures.read),
+      c.requires.knows.1,
+    )
 
 pub returns-in_ok-used-in-Ok-Back-clause-knows : goal.returns-in_ok-used-in-Ok-Back-clause-knows
-returns-in_ok-used-in-Ok-Back-clause-knows g c =
-    knows_last_on c.args.types.now c.args.self.now.last (g.N.Nodes.nodes c.args.store.now) (g.N.Nodes.nodes c.open_piece-in-Ok-Back.new.store)
-    c.in_ok-used-in-Ok-Back.ensures.keeps c.requires.knows
+returns-in_ok-used-in-Ok-Back-clause-knows g c = (
+  knows_last_on c.args.types.now c.args.self.now.last (g.N.Nodes.nodes c.args.store.now) (g.N.Nodes.nodes c.open_piece-in-Ok-Back.new.store)
+      c.in_ok-used-in-Ok-Back.ensures.keeps c.requires.knows.0,
+  c.requires.knows.1,
+)

@@ -3,7 +3,7 @@ use Rattle.core_terms.specs.ProgramTrees.{expression_of}
 use Rattle.core_terms.specs.TypeTables.{type_of_form}
 use Rattle.auth_types.specs.Bodies.{typed}
 use Rattle.auth_types.specs.Elaborators.{types_of}
-use Rattle.auth_types.proofs.OperationSteps.{plain_form}
+use Rattle.auth_types.proofs.OperationSteps.{leaf_in, plain_form}
 use Rattle.declared_types.proofs.TypeNumbers.{type_stays}
 use Rattle.auth_types.proofs.bodies.elaborator.Elaborator.plain.Goals as goal
 
@@ -16,3 +16,6 @@ returns-clause-found c = λ found is.
     (λ more. is c.in_ok-ty.ensures.keeps more
     ∙ ap (typed (expression_of (new ++ more) c.args.term)) (sym (plain_form old form c.requires)
     ∙ sym (type_stays new c.in_ok-ty.ty.0 (type_of_form old form) c.in_ok-ty.ensures.number more)))
+
+pub intern-requires-clause-format : goal.intern-requires-clause-format
+intern-requires-clause-format c = leaf_in _ c.args.form c.requires

@@ -1,0 +1,59 @@
+-- The second format (`Formats`, `TypeDeclarations`, `ProgramFormats`), and what verdicts and runs are in it. Each equation holds by computing both sides: for
+-- every hash where no digest is compared, else for a hash that gives the number of bytes.
+use Rattle.std.specs.Prelude.{◌≡◌, ◌<◌, ◌^◌, ℕ, List, [], ◌∷◌, ◌++◌, codes, length, pos, replicate, true, false, Some, None}
+use Rattle.core_terms.specs.Types.{Ty, UnitTy, BoolTy, IntTy, TextTy, PairTy, NamedTy, AuthTy}
+use Rattle.core_terms.specs.Formats.{Format, Hash, fingerprint, first_format, second_format}
+use Rattle.core_terms.specs.ProgramFormats.{format_with}
+use Rattle.core_terms.specs.Projection.{digest_at, read_at}
+use Rattle.core_terms.specs.Reading.{BadAt}
+use Rattle.core_terms.specs.Terms.{Program}
+use Rattle.core_terms.specs.Values.{Value, UnitV, BoolV, IntV, PairV, DigestV}
+use Rattle.core_terms.specs.declared.format.Format.TheVariants.{First, Second}
+use Rattle.ideal_meaning.specs.Run.{Run, Gives, Ends, Traps, TooBig}
+use Rattle.ideal_meaning.specs.Ideal.{Done, Opened, ideal, honest_pieces}
+use Rattle.ideal_meaning.specs.Frames.{proof_file, offered, offered_pieces}
+use Rattle.ideal_meaning.specs.Checked.{BadPiece, Header, Verdict, WrongPiece, Accepted, Rejected, verdict, IsSplitAt}
+use Rattle.ideal_meaning.specs.Headline.{call_of}
+use Rattle.ideal_meaning.specs.Examples.{unit_program, pair_program, expression_program, values}
+use Rattle.ideal_meaning.specs.ExampleProofs.{file}
+use Rattle.ideal_meaning.specs.ExampleRuns.{doublings}
+
+-- a digest that tells the number of bytes: of none, of 32, and of the 32 of one of these with 32 behind them
+abbrev pub counting : Hash
+counting bytes = replicate 31 0 ++ length bytes ∷ []
+
+abbrev pub in_second : Program → Program
+in_second P = record P { format = second_format [] 1024 }
+
+-- a proof file of the second format
+abbrev pub second_file : List ℕ → List ℕ
+second_file bytes = 0x4C ∷ 0x41 ∷ 0x50 ∷ 0x32 ∷ bytes
+
+-- the verdict on opening a unit in the second format, where the state is the digest of so many bytes
+abbrev pub on_open_second : ℕ → List ℕ → Verdict
+on_open_second n bytes = verdict counting (in_second unit_program) UnitTy 1 (replicate 31 0 ++ n ∷ []) [] 1 bytes
+
+abbrev pub doubled_second : ℕ → Run ⊥ (List Opened) Value
+doubled_second n = ideal (in_second (expression_program (IntTy ∷ []) UnitTy (doublings n IntTy 0))) 0 (values (IntV (pos 7) ∷ [])) 1
+
+pub record SecondFormatRows : Type 0 where
+  -- what the format fixes
+  pub second_magic : (text : List ℕ) (most : ℕ) → ((second_format text most).magic ≡ codes "LAP2") × ((second_format text most).image_magic ≡ codes "LAI2")
+  pub first_magic : (most : ℕ) → ((first_format most).magic ≡ codes "LAP1") × ((first_format most).image_magic ≡ codes "LAI1")
+  pub second_limit : (text : List ℕ) (most : ℕ) → ((second_format text most).limit ≡ 2 ^ 20) × ((second_format text most).most_kept ≡ most)
+  pub second_print : (text : List ℕ) (most : ℕ) (hash : Hash) (t : Ty) → ((second_format text most).print hash t ≡ Some (fingerprint hash (hash text) t)) × ((first_format most).print hash t ≡ None)
+  pub second_digest : (text : List ℕ) (most : ℕ) (hash : Hash) (bytes : List ℕ) → (second_format text most).digest hash BoolTy bytes ≡ hash (hash (1 ∷ []) ++ bytes)
+  -- the formats of the code
+  pub each_keeps : (text : List ℕ) → ((format_with First text).most_kept ≡ 1024) × ((format_with Second text).most_kept ≡ 1024)
+  -- opening a unit: its digest is that of the fingerprint, and of nothing behind it
+  pub empty_piece_is_accepted : on_open_second 32 (second_file (0 ∷ 0 ∷ 0 ∷ 0 ∷ 0 ∷ 0 ∷ 0 ∷ [])) ≡ Accepted (Done UnitV)
+  pub digest_of_the_spelling_alone : on_open_second 0 (second_file (0 ∷ 0 ∷ 0 ∷ 0 ∷ 0 ∷ 0 ∷ 0 ∷ [])) ≡ Rejected (WrongPiece 0 (counting []) (counting (counting [])))
+  pub first_magic_is_refused : (n : ℕ) → on_open_second n (file (0 ∷ 0 ∷ 0 ∷ 0 ∷ 0 ∷ 0 ∷ 0 ∷ [])) ≡ Rejected Header
+  -- more bytes than the limit
+  pub too_many_bytes : (bytes : List ℕ) → length bytes ≡ 1048577 → read_at (in_second unit_program) IntTy bytes ≡ BadAt 1048576
+  -- an int doubled 17 times spells 1,048,576 bytes
+  pub seventeen_doublings_fit : doubled_second 17 ≡ Gives UnitV 0 []
+  pub eighteen_doublings_are_too_big : doubled_second 18 ≡ Ends (Traps TooBig) 0 []
+  -- two pieces that differ behind one fingerprint and have one digest split; the same pieces have one at another type too, by this hash
+  pub pieces_split : IsSplitAt (digest_at counting (in_second pair_program)) ((0 ∷ 1 ∷ []) ∷ [])
+      (honest_pieces counting (in_second pair_program) 1 (call_of (PairV (BoolV true) (BoolV false)) UnitV) 1) 0
