@@ -6,5 +6,7 @@ LEMMAS, CODE = {}, {}
 ENDS = ["Ending", "Reaching", "Statuses", "Storing", "Telling", "Codes"]
 CALLS = ["TrueLines", "SoundPrograms", "AuditedCalls", "ProvedCalls", "ShallowLaws", "GeneratedCalls", "IdealCalls"]
 FOUND = ["Halting", "Arguments", "Reporting"]
+ANSWERS = ["Answer", "CallsInStores", "ReadPrograms", "RoleCalls", "RolesCalled", "StoredStates", "TextPrograms"]
 
-CHANGES = changes_by_clause("file_commands", ENDS + CALLS + FOUND)
+# the numbers in `with_workload` are names of fields
+CHANGES = changes_by_clause("file_commands", ENDS + CALLS + FOUND + ANSWERS, without=("with_workload",))

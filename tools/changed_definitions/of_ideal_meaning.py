@@ -1,8 +1,9 @@
 """Changes of the definitions of `ideal_meaning`, of one clause each.
 
 By file of `specs/`: what is changed, the text that stands there once, and what stands there instead. Further pairs of texts, as of an import,
-belong to the same change.
+belong to the same change. Those of `Fetched` are told from its text.
 """
+from by_clauses import changes_by_clause
 
 LEMMAS, CODE = {}, {}
 
@@ -706,3 +707,5 @@ CHANGES = {
         ("AreFramesOf: not of no piece", "AreFramesOf n so_far [] [] = Unit {0}", "AreFramesOf n so_far [] [] = ⊥"),
     ],
 }
+
+CHANGES.update(changes_by_clause("ideal_meaning", ["Fetched"]))

@@ -9,6 +9,8 @@ pub mod RoleRows
 pub mod TermRows
 pub mod RuleRows
 pub mod FaultRows
+pub mod ArrayRows
+pub mod FrontRows
 -- rows of ideal_meaning
 pub mod EndRows
 pub mod HeadlineRows
@@ -16,6 +18,7 @@ pub mod RingRows
 pub mod VerdictRows
 pub mod PieceRows
 pub mod CauseRows
+pub mod FetchedRows
 pub mod IntRows
 pub mod PartRows
 -- the second format, in both

@@ -7,12 +7,6 @@ use Rattle.definition_rows.specs.SecondFormatRows.{SecondFormatRows}
 
 pub second_format_rows : SecondFormatRows
 second_format_rows = record {
-  second_magic = λ text most. (refl, refl);
-  first_magic = λ most. (refl, refl);
-  second_limit = λ text most. (refl, refl);
-  second_print = λ text most hash t. (refl, refl);
-  second_digest = λ text most hash bytes. refl;
-  each_keeps = λ text. (refl, refl);
   empty_piece_is_accepted = refl;
   digest_of_the_spelling_alone = refl;
   first_magic_is_refused = λ n. refl;

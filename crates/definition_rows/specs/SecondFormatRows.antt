@@ -1,18 +1,15 @@
--- The second format (`Formats`, `TypeDeclarations`, `ProgramFormats`), and what verdicts and runs are in it. Each equation holds by computing both sides: for
--- every hash where no digest is compared, else for a hash that gives the number of bytes.
-use Rattle.std.specs.Prelude.{◌≡◌, ◌<◌, ◌^◌, ℕ, List, [], ◌∷◌, ◌++◌, codes, length, pos, replicate, true, false, Some, None}
-use Rattle.core_terms.specs.Types.{Ty, UnitTy, BoolTy, IntTy, TextTy, PairTy, NamedTy, AuthTy}
-use Rattle.core_terms.specs.Formats.{Format, Hash, fingerprint, first_format, second_format}
-use Rattle.core_terms.specs.ProgramFormats.{format_with}
+-- What verdicts and runs are in the second format. Each equation holds by computing both sides: for every hash where no digest is compared, else for
+-- a hash that gives the number of bytes.
+use Rattle.std.specs.Prelude.{◌≡◌, ℕ, List, [], ◌∷◌, ◌++◌, length, pos, replicate, true, false}
+use Rattle.core_terms.specs.Types.{UnitTy, IntTy}
+use Rattle.core_terms.specs.Formats.{Hash, second_format}
 use Rattle.core_terms.specs.Projection.{digest_at, read_at}
 use Rattle.core_terms.specs.Reading.{BadAt}
 use Rattle.core_terms.specs.Terms.{Program}
-use Rattle.core_terms.specs.Values.{Value, UnitV, BoolV, IntV, PairV, DigestV}
-use Rattle.core_terms.specs.declared.format.Format.TheVariants.{First, Second}
+use Rattle.core_terms.specs.Values.{Value, UnitV, BoolV, IntV, PairV}
 use Rattle.ideal_meaning.specs.Run.{Run, Gives, Ends, Traps, TooBig}
 use Rattle.ideal_meaning.specs.Ideal.{Done, Opened, ideal, honest_pieces}
-use Rattle.ideal_meaning.specs.Frames.{proof_file, offered, offered_pieces}
-use Rattle.ideal_meaning.specs.Checked.{BadPiece, Header, Verdict, WrongPiece, Accepted, Rejected, verdict, IsSplitAt}
+use Rattle.ideal_meaning.specs.Checked.{Header, Verdict, WrongPiece, Accepted, Rejected, verdict, IsSplitAt}
 use Rattle.ideal_meaning.specs.Headline.{call_of}
 use Rattle.ideal_meaning.specs.Examples.{unit_program, pair_program, expression_program, values}
 use Rattle.ideal_meaning.specs.ExampleProofs.{file}
@@ -37,14 +34,6 @@ abbrev pub doubled_second : ℕ → Run ⊥ (List Opened) Value
 doubled_second n = ideal (in_second (expression_program (IntTy ∷ []) UnitTy (doublings n IntTy 0))) 0 (values (IntV (pos 7) ∷ [])) 1
 
 pub record SecondFormatRows : Type 0 where
-  -- what the format fixes
-  pub second_magic : (text : List ℕ) (most : ℕ) → ((second_format text most).magic ≡ codes "LAP2") × ((second_format text most).image_magic ≡ codes "LAI2")
-  pub first_magic : (most : ℕ) → ((first_format most).magic ≡ codes "LAP1") × ((first_format most).image_magic ≡ codes "LAI1")
-  pub second_limit : (text : List ℕ) (most : ℕ) → ((second_format text most).limit ≡ 2 ^ 20) × ((second_format text most).most_kept ≡ most)
-  pub second_print : (text : List ℕ) (most : ℕ) (hash : Hash) (t : Ty) → ((second_format text most).print hash t ≡ Some (fingerprint hash (hash text) t)) × ((first_format most).print hash t ≡ None)
-  pub second_digest : (text : List ℕ) (most : ℕ) (hash : Hash) (bytes : List ℕ) → (second_format text most).digest hash BoolTy bytes ≡ hash (hash (1 ∷ []) ++ bytes)
-  -- the formats of the code
-  pub each_keeps : (text : List ℕ) → ((format_with First text).most_kept ≡ 1024) × ((format_with Second text).most_kept ≡ 1024)
   -- opening a unit: its digest is that of the fingerprint, and of nothing behind it
   pub empty_piece_is_accepted : on_open_second 32 (second_file (0 ∷ 0 ∷ 0 ∷ 0 ∷ 0 ∷ 0 ∷ 0 ∷ [])) ≡ Accepted (Done UnitV)
   pub digest_of_the_spelling_alone : on_open_second 0 (second_file (0 ∷ 0 ∷ 0 ∷ 0 ∷ 0 ∷ 0 ∷ 0 ∷ [])) ≡ Rejected (WrongPiece 0 (counting []) (counting (counting [])))

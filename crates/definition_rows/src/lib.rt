@@ -4,11 +4,14 @@
 //! crates. `specs/` has them by what they are about, and `proofs/` has under the same name that they hold.
 #![tactic(auto)]
 
+ghost use Rattle.definition_rows.specs.ArrayRows.{ArrayRows};
 ghost use Rattle.definition_rows.specs.ArrayVerdictRows.{ArrayVerdictRows};
 ghost use Rattle.definition_rows.specs.CauseRows.{CauseRows};
 ghost use Rattle.definition_rows.specs.EndRows.{EndRows};
 ghost use Rattle.definition_rows.specs.FaultRows.{FaultRows};
+ghost use Rattle.definition_rows.specs.FetchedRows.{FetchedRows};
 ghost use Rattle.definition_rows.specs.FormatRows.{FormatRows};
+ghost use Rattle.definition_rows.specs.FrontRows.{FrontRows};
 ghost use Rattle.definition_rows.specs.HeadlineRows.{HeadlineRows};
 ghost use Rattle.definition_rows.specs.IntRows.{IntRows};
 ghost use Rattle.definition_rows.specs.MarkRows.{MarkRows};
@@ -25,7 +28,7 @@ ghost use Rattle.definition_rows.specs.TypeRows.{TypeRows};
 ghost use Rattle.definition_rows.specs.ValueRows.{ValueRows};
 ghost use Rattle.definition_rows.specs.VerdictRows.{VerdictRows};
 
-/// The rows of `core_terms`: types, formats, values and their spellings, programs of the code, marks and roles, terms and typing rules, faults.
+/// The rows of `core_terms`: types, formats, values and their spellings, programs of the code, marks and roles, terms and typing rules, faults, arrays, fingerprints.
 pub fn core_terms_rows()
     ensures types { TypeRows }
     ensures formats { FormatRows }
@@ -37,9 +40,11 @@ pub fn core_terms_rows()
     ensures terms { TermRows }
     ensures rules { RuleRows }
     ensures faults { FaultRows }
+    ensures arrays { ArrayRows }
+    ensures fronts { FrontRows }
 {}
 
-/// The rows of `ideal_meaning`: how runs end, the words of the headline and of the ring, verdicts, offered and new pieces, causes, ints and texts, and the parts of values of another form.
+/// The rows of `ideal_meaning`: how runs end, the words of the headline and of the ring, verdicts, offered, new and fetched pieces, causes, ints and texts, and the parts of values of another form.
 pub fn ideal_meaning_rows()
     ensures ends { EndRows }
     ensures headline { HeadlineRows }
@@ -47,6 +52,7 @@ pub fn ideal_meaning_rows()
     ensures verdicts { VerdictRows }
     ensures pieces { PieceRows }
     ensures causes { CauseRows }
+    ensures fetched { FetchedRows }
     ensures ints { IntRows }
     ensures parts { PartRows }
 {}

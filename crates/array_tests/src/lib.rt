@@ -1,0 +1,23 @@
+//! Random programs with arrays, on which the machine is compared with the reference.
+#![tactic(auto)]
+
+#[cfg(test)]
+mod drawn;
+#[cfg(test)]
+mod flat;
+#[cfg(test)]
+mod judge;
+#[cfg(test)]
+mod kinds;
+#[cfg(test)]
+mod limits;
+#[cfg(test)]
+mod maker;
+#[cfg(test)]
+mod numbers;
+#[cfg(test)]
+mod parts;
+#[cfg(test)]
+mod random;
+#[cfg(test)]
+mod stage;
