@@ -24,7 +24,7 @@ impl<'a> HostFiles<'a> {
         HostFiles {
             rt,
             started: None,
-            ahead: ReadAhead::new(),
+            ahead: ReadAhead::new(rt.alloc()),
             read_faults: 0,
             store_faults: 0,
         }

@@ -55,7 +55,7 @@ impl<'a> HostNet<'a> {
             listening: None,
             linked: None,
             standing: None,
-            ahead: ReadAhead::new(),
+            ahead: ReadAhead::new(rt.alloc()),
             faults: 0,
             listen_faults: 0,
             accept_faults: 0,

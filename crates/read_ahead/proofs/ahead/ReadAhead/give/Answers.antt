@@ -11,4 +11,4 @@ returns-clause-bytes c =
     let within : w.begin + n ≤ w.end = grind (arith, common_steps) in
     let front : take n (c.copy_from_slice.new.self ++ drop n c.args.into.now) ≡ take n (held w) = grind (arith, common_steps) in
     sym (take-append-drop n (held w)) ∙ ap (λ l. l ++ drop n (held w)) (sym front)
-    ∙ ap (λ l. take n (c.copy_from_slice.new.self ++ drop n c.args.into.now) ++ l) (sym (behind w.bytes w.begin w.end n within))
+    ∙ ap (λ l. take n (c.copy_from_slice.new.self ++ drop n c.args.into.now) ++ l) (sym (behind w.bytes.items w.begin w.end n within))
