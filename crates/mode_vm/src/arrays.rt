@@ -1,4 +1,4 @@
-// The instructions on arrays.
+// The instructions on arrays. They are rare, so they are not inlined into the loop that does every instruction.
 ghost use Rattle.std.specs.Prelude.{◌≡◌, ◌+◌, ◌<◌, ◌^◌, ℕ, true, IfOk, length, nat_lt, replicate, slice_set};
 ghost use Rattle.std.specs.List.{list_all};
 ghost use Rattle.code_gen.specs.Instructions as instruction;
@@ -26,6 +26,7 @@ impl Frame {
     ghost use Rattle.mode_vm.specs.Outcomes.{Does, IsBefore};
 
     /// Pushes an array of so many times the top operand, where it is within the limits.
+    #[inline(never)]
     pub(crate) fn fill<N: Nodes>(
         &mut self,
         code: &Code,
@@ -46,6 +47,7 @@ impl Frame {
     }
 
     /// Pushes the element of an array at an int, where it has one there.
+    #[inline(never)]
     pub(crate) fn element<N: Nodes>(
         &mut self,
         code: &Code,
@@ -61,6 +63,7 @@ impl Frame {
     }
 
     /// Pushes an array with its element at an int replaced, where it has one there and the array is within the limits.
+    #[inline(never)]
     pub(crate) fn replace<N: Nodes>(
         &mut self,
         code: &Code,

@@ -133,6 +133,8 @@ impl Reader<'_> {
     /// The array of a type, of so many elements of another, which have at most so many levels. One that is spelled by nothing is read once
     /// for its type.
     #[cycle(values)]
+    // Arrays are rare: inlined, this would slow each value.
+    #[inline(never)]
     fn array<'a, N: Nodes>(
         &self,
         store: &mut N,

@@ -94,6 +94,8 @@ impl Nodes for Store {
 }
 
 /// Adds a node at the end.
+// Each call that puts a node ends in it, so LLVM would not inline it by itself.
+#[inline(always)]
 pub(crate) fn add(nodes: &mut Vec<Node>, node: Node) -> Result<(), AllocError>
     ensures either { (nodes.new.items ≡ nodes.old.items) ⊎ (nodes.new.items ≡ nodes.old.items ++ node ∷ []) }
     ensures ok { OnOk result (nodes.new.items ≡ nodes.old.items ++ node ∷ []) }
