@@ -1,4 +1,5 @@
 pub mod Answer
+pub mod AnswerRows
 pub mod Arguments
 pub mod CallsInStores
 pub mod Codes
