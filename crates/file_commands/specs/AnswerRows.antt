@@ -3,6 +3,7 @@
 use Rattle.std.specs.Prelude.{◌≡◌, ◌≤◌, ◌^◌, ℕ, true, false, List, [], ◌∷◌, map, codes, length, nat_le, if◌then◌else◌, Option, Some, None, Ok, Err, refl}
 use Rattle.sha2.specs.Sha256.{sha256}
 use Rattle.auth_syntax.specs.Parsing as parsing
+use Rattle.auth_syntax.specs.Syntax.{Program as ProgramSyntax}
 use Rattle.auth_types.specs.CheckedPrograms.{constructors_in}
 use Rattle.command_words.specs.Invocations.{Invocation}
 use Rattle.command_words.specs.declared.command.Command.TheVariants.{Check, Init, Ideal, Step, Shallow, Prove, Verify, Audit, Library, Gen, Serve, Ask}
@@ -174,7 +175,7 @@ module _ {A : Type 0} (means : A → tree.Program) (found : TextProgram) (p : A)
   pub reads_nothing : ReadsProgram means found (Err program_fault.NoMemory)
   reads_nothing = tt
 
-pub constructors : (program : parsing.Program) → constructors_of_parsed (parsing.Tree program) ≡ constructors_in program.declarations
+pub constructors : (program : ProgramSyntax) → constructors_of_parsed (parsing.Tree program) ≡ constructors_in program.declarations
 constructors program = refl
 
 -- WHAT THE CODE HOLDS
