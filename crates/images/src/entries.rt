@@ -216,8 +216,8 @@ pub(crate) fn constructor(
 }
 
 /// An array of so many elements, by the numbers of their records, which must be earlier ones of one type.
-// Arrays are rare: inlined, this would slow each record.
-#[inline(never)]
+// It answers through memory where it is called, and with it all other kinds of record.
+#[inline(always)]
 pub(crate) fn array(
     alloc: Global,
     parts: &PartTypes,

@@ -10,6 +10,8 @@ use std::alloc::{AllocError, Global};
 use value_store::Ref;
 
 /// The nodes of the records with these numbers, of 4 bytes each; none where one is no earlier record, or not of the type beside it.
+// Of its two callers arrays are rare.
+#[inline(always)]
 pub(crate) fn field_refs(
     alloc: Global,
     loaded: &StoredRecords,

@@ -17,6 +17,8 @@ pub(crate) struct PartTypes<'a> {
 
 impl<'a> PartTypes<'a> {
     /// The type of this form, where it is the state's or a part of it. The form's parts are types of the program.
+    // As `part_of`, which it calls.
+    #[inline(always)]
     pub fn part(&self, form: TyForm) -> Option<TyId>
         requires marked { IsMarksOf self.now.types.now self.now.marks.now }
         requires behind { stands_behind (length (types_by_number self.now.types.now)) form ≡ true }

@@ -42,6 +42,8 @@ impl PartMarks {
     }
 
     /// The type of this form, where it is the state's or a part of it. The form's parts are types of the program.
+    // Where it is called the kind of form is known: inlined, most of its hash is too.
+    #[inline(always)]
     pub fn part_of(&self, types: &Types, form: TyForm) -> Option<TyId>
         requires marks { IsMarksOf types.now self.now }
         requires parts { stands_behind (length (types_by_number types.now)) form ≡ true }

@@ -222,8 +222,8 @@ fn read_auth(bytes: &[u8]) -> Result<Front<'_>, RecordFault>
 }
 
 /// An array, where there may be one: the number of its elements in a byte, and the number of a record, of 4 bytes, for each.
-// Arrays are rare: inlined, this would slow each record.
-#[inline(never)]
+// It answers through memory where it is called, and with it all other kinds of record.
+#[inline(always)]
 fn read_items(arrays: bool, bytes: &[u8]) -> Result<Front<'_>, RecordFault>
     ensures read { IsRead (if arrays then meant.vec_record bytes.now else meant.NoRecord) result }
     ensures constructor { (types : code.Types) → IfOk result (λ front. HasConstructor types front.record) }

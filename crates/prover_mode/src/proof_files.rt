@@ -72,6 +72,9 @@ pub fn prove_file<H: Hash32, N: Nodes>(
     Ok((proved, file))
 }
 
+/// The number of bytes of a header: the magic, and how many pieces are to be kept.
+const HEADER_BYTES: usize = 6;
+
 /// A proof file of these frames, for a program with these types.
 fn behind_header(
     alloc: Global,
@@ -82,6 +85,8 @@ fn behind_header(
     ensures { IfOk result (λ file. file.items ≡ (types_meaning types.now).format.magic ++ (to_be_bytes w16 size ++ frames.now)) }
 {
     let mut file = Vec::new(alloc);
+    // All of it at once, where there is memory: else the file asks for it as it grows.
+    let _ = file.reserve(frames.len().saturating_add(HEADER_BYTES));
     put_header(&mut file, types.proof_magic(), size)?;
     file.extend_from_slice(frames)?;
     Ok(file)

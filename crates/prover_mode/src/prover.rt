@@ -11,6 +11,9 @@ use std::alloc::Global;
 use std::marker::PhantomData;
 use value_store::{Held, Nodes, Ref, inner_of};
 
+/// How many openings there is room for at first, where there is memory: else it is asked for as values are opened.
+const FIRST_OPENED: usize = 16;
+
 /// The prover: `auth` holds a value with the digest of its projection, `unauth` gives the value and notes what is opened.
 #[derive(Drop)]
 pub struct Prover<H> {
@@ -21,15 +24,17 @@ pub struct Prover<H> {
 }
 
 impl<H: Hash32> Prover<H> {
-    /// A prover that has opened nothing, and digests behind these fronts. Takes no memory.
+    /// A prover that has opened nothing, and digests behind these fronts.
     pub fn new(alloc: Global, fronts: Fronts) -> Self
         ensures opened { result.opened.items ≡ [] }
         ensures fronts { result.fronts ≡ fronts }
     {
+        let mut opened = Vec::new(alloc);
+        let _ = opened.reserve(FIRST_OPENED);
         Prover {
             fronts,
             spare: SpareBuffer::new(alloc),
-            opened: Vec::new(alloc),
+            opened,
             hash: PhantomData,
         }
     }
