@@ -60,7 +60,7 @@ module _ (hash : Hash) (P : Program) where
         subst (λ ds. AreMarks hash P ds (same.versions ++ v ∷ [])) (sym marks)
         (λ n d known. let before = h.marks n d known in (
           (let more = length-append same.versions (v ∷ []) in let there = before.0 in omega (arith, more, there)),
-          before.1 ∙ ap (λ v. mark_of hash (meant.state_spelling hash P v)) (sym (extends_at same.versions (same.versions ++ v ∷ []) n (v ∷ [], refl) before.0)),
+          before.1 ∙ ap (λ v. mark_of (meant.state_spelling hash P v)) (sym (extends_at same.versions (same.versions ++ v ∷ []) n (v ∷ [], refl) before.0)),
         ));
   }
 

@@ -65,12 +65,12 @@ other_bytes xs ys other = by (bytes_eq xs ys) refl
 
 -- One more mark is known, of the spelling of this version.
 pub noted : (hash : Hash) (P : tree.Program) (old new : SpellingMarks) (versions : List Value) (number : ℕ) (mark : Mark) → number < length versions
-    → mark.0 ≡ mark_of hash (state_spelling hash P (version_at versions number))
+    → mark.0 ≡ mark_of (state_spelling hash P (version_at versions number))
     → ((n : ℕ) (d : Mark) → mark_in new n ≡ Some d → ((n ≡ number) × (d ≡ mark)) ⊎ (mark_in old n ≡ Some d))
     → AreMarks hash P old versions → AreMarks hash P new versions
 noted hash P old new versions number mark there is within h n d known = by (within n d known)
   where
-    by : ((n ≡ number) × (d ≡ mark)) ⊎ (mark_in old n ≡ Some d) → (n < length versions) × (d.0 ≡ mark_of hash (state_spelling hash P (version_at versions n)))
+    by : ((n ≡ number) × (d ≡ mark)) ⊎ (mark_in old n ≡ Some d) → (n < length versions) × (d.0 ≡ mark_of (state_spelling hash P (version_at versions n)))
     by (inl e) =
-        subst (λ (m : ℕ). (m < length versions) × (d.0 ≡ mark_of hash (state_spelling hash P (version_at versions m)))) (sym e.0) (there, ap (λ (d : Mark). d.0) e.1 ∙ is)
+        subst (λ (m : ℕ). (m < length versions) × (d.0 ≡ mark_of (state_spelling hash P (version_at versions m)))) (sym e.0) (there, ap (λ (d : Mark). d.0) e.1 ∙ is)
     by (inr e) = h n d e

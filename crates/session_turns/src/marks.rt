@@ -2,27 +2,26 @@
 ghost use Rattle.std.specs.Prelude.{◌≡◌, ◌≢◌, ◌⊎◌, ◌<◌, ℕ, length, Some, None, OnOk, IsTrue};
 ghost use Rattle.session_turns.specs.Marks.{mark_in, mark_of};
 
-use core_terms::Hash32;
 use std::alloc::{AllocError, Global};
 
-/// The most bytes of a spelling that is its own mark.
-const MOST_OWN: usize = 32;
-
-/// The mark of a spelling: where it has at most 32 bytes these, and zeros behind them, else its digest. So a spelling with another mark is
-/// another one.
+/// The mark of a spelling: where it has fewer than 32 bytes these, and zeros behind them, else its first 31 bytes, and the XOR of all. So a
+/// spelling with another mark is another one. That several have one mark costs no more than comparing them, so it needn't be a digest, which
+/// would make the first greeting at a long spelling dear.
 #[derive(Clone, Copy)]
 pub(crate) struct Mark([u8; 32]);
 
 impl Mark {
     /// The mark of this spelling.
-    pub fn of<H: Hash32>(spelling: &[u8]) -> Mark
-        ensures { result.0 ≡ mark_of H.hash spelling.now }
+    pub fn of(spelling: &[u8]) -> Mark
+        ensures { result.0 ≡ mark_of spelling.now }
     {
-        if spelling.len() > MOST_OWN {
-            return Mark(H::of(spelling).0);
-        }
-        let mut bytes = [0; 32];
-        bytes[..spelling.len()].copy_from_slice(spelling);
+        let Some((first, _)) = spelling.split_first_chunk::<32>() else {
+            let mut bytes = [0; 32];
+            bytes[..spelling.len()].copy_from_slice(spelling);
+            return Mark(bytes);
+        };
+        let mut bytes = *first;
+        bytes[31] = spelling.iter().fold(0, |folded, byte| folded ^ byte);
         Mark(bytes)
     }
 }

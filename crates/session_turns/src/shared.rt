@@ -117,7 +117,7 @@ impl Shared {
         ensures shares { let P = program_of code.now in (shared : meant.Shared) → Shares H.hash P self.old shared → Shares H.hash P self.new shared }
         ensures rest { AreKept self.old self.new }
     {
-        let mark = Mark::of::<H>(state);
+        let mark = Mark::of(state);
         for number in (0..self.versions.len()).rev() {
             if self.has_spelling::<H>(alloc, code, number, &mark, state)? {
                 return Ok(Some(number));
@@ -138,7 +138,7 @@ impl Shared {
     ) -> Result<bool, AllocError>
         requires shares { (shared : meant.Shared) × Shares H.hash (program_of code.now) self.old shared }
         requires there { number < length self.old.versions.items }
-        requires mark { mark.now.0 ≡ mark_of H.hash state.now }
+        requires mark { mark.now.0 ≡ mark_of state.now }
         ensures same { let P = program_of code.now in IfOk result (λ same. (shared : meant.Shared) → Shares H.hash P self.old shared
             → same ≡ bytes_eq (meant.state_spelling H.hash P (meant.version_at shared.versions number)) state.now) }
         ensures shares { let P = program_of code.now in (shared : meant.Shared) → Shares H.hash P self.old shared → Shares H.hash P self.new shared }
@@ -156,7 +156,7 @@ impl Shared {
         if spelling.as_bytes() == state {
             return Ok(true);
         }
-        self.marks.note(number, Mark::of::<H>(spelling.as_bytes()))?;
+        self.marks.note(number, Mark::of(spelling.as_bytes()))?;
         Ok(false)
     }
 

@@ -41,7 +41,7 @@ returns-then-is_other-clause-same g c m shares =
     let v = meant.version_at m.versions c.args.number in
     let other = c.is_other.ensures c.if-is_other.true in
     other_bytes (meant.state_spelling hash P v) c.args.state.now
-    (λ (e : meant.state_spelling hash P v ≡ c.args.state.now). other.2 ((shares.marks c.args.number other.0 other.1).1 ∙ ap (mark_of hash) e ∙ sym c.requires.mark))
+    (λ (e : meant.state_spelling hash P v ≡ c.args.state.now). other.2 ((shares.marks c.args.number other.0 other.1).1 ∙ ap mark_of e ∙ sym c.requires.mark))
 
 pub version_spelling-requires-after_bounds : goal.version_spelling-requires-after_bounds
 version_spelling-requires-after_bounds g c κs within =
@@ -72,7 +72,7 @@ returns-in_err-note-clause-shares g c m shares =
       commits = shares.commits;
       marks =
           noted hash P c.args.self.now.marks c.note.new.self m.versions c.args.number c.of.result (omega (arith, counted, there))
-          (c.of.ensures ∙ ap (mark_of hash) (c.as_bytes-2.ensures ∙ spelled)) c.note.ensures.within shares.marks;
+          (c.of.ensures ∙ ap mark_of (c.as_bytes-2.ensures ∙ spelled)) c.note.ensures.within shares.marks;
     }
 
 pub returns-clause-same : goal.returns-clause-same
@@ -97,5 +97,5 @@ returns-clause-shares g c m shares =
       commits = shares.commits;
       marks =
           noted hash P c.args.self.now.marks c.note.new.self m.versions c.args.number c.of.result (omega (arith, counted, there))
-          (c.of.ensures ∙ ap (mark_of hash) (c.as_bytes-2.ensures ∙ spelled)) c.note.ensures.within shares.marks;
+          (c.of.ensures ∙ ap mark_of (c.as_bytes-2.ensures ∙ spelled)) c.note.ensures.within shares.marks;
     }
