@@ -1,4 +1,4 @@
-use Rattle.std.proofs.Common.{◌+◌, ◌≤◌, ℕ, List, length, drop, sym, ap, ◌∙◌, subst, arith}
+use Rattle.std.proofs.Common.{◌+◌, ℕ, List, drop, sym, ap, ◌∙◌, subst, arith}
 use Rattle.core_terms.specs.ProgramTypes.{types_meaning}
 use Rattle.core_terms.specs.Projection.{digest_at}
 use Rattle.core_terms.specs.declared.types.TyId.{TyId}
@@ -30,7 +30,7 @@ loop-ty-init g c = λ v h.
     (begins hash p nodes c.args.root.0 v h (bytes_of c.args.self.now.pieces) entries c.in_ok-order.order.items (c.in_ok-order.ensures.order v ideal) c.in_ok-order.ensures.reached)
 
 pub piece_at-requires-clause-stands : goal.piece_at-requires-clause-stands
-piece_at-requires-clause-stands g c =
+piece_at-requires-clause-stands g c κs within =
     let hash = g.H.Hash32.hash in
     let p = c.args.types.now in
     let P = types_meaning p in
