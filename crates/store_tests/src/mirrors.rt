@@ -43,7 +43,13 @@ enum Of {
 }
 
 /// An image of so many records, the nodes of what is authenticated in it, in order, and the pieces of these.
-type Row = (Of, u32, &'static [u8], &'static [usize], &'static [&'static [u8]]);
+type Row = (
+    Of,
+    u32,
+    &'static [u8],
+    &'static [usize],
+    &'static [&'static [u8]],
+);
 
 static ROWS: [Row; 9] = [
     (
@@ -159,7 +165,12 @@ fn is_in_order(
         return Ok(false);
     };
     let order = auth_order(alloc, types, &loaded.store, loaded.root)?;
-    Ok(order.iter().map(|(_, node)| node.0).eq(nodes.iter().copied()))
+    Ok(
+        order
+            .iter()
+            .map(|(_, node)| node.0)
+            .eq(nodes.iter().copied()),
+    )
 }
 
 #[test]
@@ -218,7 +229,9 @@ fn a_mirror_has_the_pieces_of_a_state(rt: HostRuntime) -> Result<(), Fail> {
         let (program, bytes) = state(alloc, *of, *count, records)?;
         let mut mirror = filled(alloc, &program, &bytes)?;
         let wanted = file(alloc, pieces)?;
-        let saved = mirror.save().is_ok_and(|saved| saved.as_slice() == wanted.as_slice());
+        let saved = mirror
+            .save()
+            .is_ok_and(|saved| saved.as_slice() == wanted.as_slice());
         if !saved || !answers(alloc, &mut mirror, pieces) {
             return Err(Fail::new(format_args!("row {number}")));
         }
@@ -241,6 +254,10 @@ fn a_state_that_is_filled_in_again_adds_nothing(rt: HostRuntime) -> Result<(), F
     mirror.fill(types, &loaded.store, loaded.root)?;
     mirror.fill(types, &loaded.store, loaded.root)?;
     let wanted = file(alloc, &[b"\0", b"\x01"])?;
-    assert!(rt; mirror.save().is_ok_and(|saved| saved.as_slice() == wanted.as_slice()));
+    assert!(rt;
+        mirror
+            .save()
+            .is_ok_and(|saved| saved.as_slice() == wanted.as_slice())
+    );
     Ok(())
 }
