@@ -2,7 +2,7 @@
 use Rattle.std.proofs.Common.{◌≡◌, ℕ, zero, suc, true, List, [], ◌∷◌, ◌++◌, Option, Some, None, slice_get, unwrap_or, refl, sym, subst}
 use Rattle.std.specs.List.{All}
 use Rattle.std.specs.Option.{option_and_then}
-use Rattle.std.proofs.lemmas.List.Elements.{All-append, All-nil, All-push}
+use Rattle.std.proofs.lemmas.List.Elements.{All-append, All-nil, All-push, All-weaker}
 use Rattle.core_terms.specs.Types.{Ty, UnitTy, BoolTy, IntTy, TextTy, PairTy, NamedTy, AuthTy, VecTy, fields_at, item_types, OnFields}
 use Rattle.core_terms.specs.Values.{Value, UnitV, BoolV, IntV, TextV, PairV, ConV, ItemsV, Values, NoV, AndV, IsIdeal, IsWithin}
 use Rattle.core_terms.specs.Terms.{Program}
@@ -101,3 +101,27 @@ module _ (P : Program) where
       fit_fields (Some (t ∷ ts)) (r ∷ rs) (AndV v vs) h parts =
           All-append (IsFit P) (walk P.types t v) (walk_all P.types ts vs) (fit_walk t v r h.0 parts.0) (fit_fields (Some ts) rs vs h.1 parts.1)
       fit_fields o rs vs h parts = elim h [ ]
+
+-- the same program, where spellings may have so many bytes
+abbrev with_limit : Program → ℕ → Program
+with_limit P limit = record {
+  format = record {
+    digest = P.format.digest;
+    print = P.format.print;
+    limit = limit;
+    magic = P.format.magic;
+    image_magic = P.format.image_magic;
+    most_kept = P.format.most_kept;
+    arrays = P.format.arrays;
+  };
+  types = P.types;
+  state = P.state;
+  functions = P.functions;
+}
+
+-- The types of all that a walk meets are parts of the state's, whatever the limit of the nodes is.
+pub part_walk : (P : Program) (nodes : List Node) {kept : ℕ} → AreSound kept nodes → (v : Value) (r : ℕ) → StandsFor IdealNodes P.types nodes r P.state v
+    → is_part P.types P.state P.state ≡ true → All (λ (e : Entry). is_part P.types e.of_type P.state ≡ true) (walk P.types P.state v)
+part_walk P nodes {kept = kept} sound v r h whole =
+    All-weaker (IsFit (with_limit P kept)) (λ (e : Entry). is_part P.types e.of_type P.state ≡ true) (λ e f. f.part) (walk P.types P.state v)
+    (fit_walk (with_limit P kept) nodes sound refl P.state v r h whole)

@@ -69,3 +69,8 @@ pub mod ImagesByTypes
 mod SavedOnce
 mod PartsFound
 pub mod ImageRoots
+-- auth_order
+mod OrderedEntries
+mod ReachedNodes
+-- fill of a mirror, in a crate above
+pub mod ReachedOver

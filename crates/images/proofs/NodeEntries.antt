@@ -12,6 +12,7 @@ use Rattle.images.specs.SavedImages.{number_among}
 use Rattle.value_store.specs.Nodes.{Held, InnerHeld, BothHeld, OnlyHeld, Form, UnitNode, BoolNode, IntNode, TextNode, PairNode, ConNode, AuthNode, VecNode, Node, form_at, inner_refs, refs_in}
 use Rattle.value_store.specs.Standing.{IdealNodes, Holds, StandsFor, AllStandFor}
 use Rattle.images.specs.FormRecords.{head_of, numbered, record_at}
+pub use Rattle.images.specs.KeptNodes.{StandsAs, StandAs}
 use Rattle.images.proofs.EntryParts.{fields, parts}
 use Rattle.images.proofs.RecordBytes.{head_at, part_numbers, record_parts}
 use Rattle.images.proofs.RecordReading.{record_of}
@@ -21,35 +22,25 @@ abbrev pub refs_at : List Node → ℕ → List ℕ
 refs_at nodes r = option_map_or refs_in (form_at nodes r) []
 
 module _ (types : Table) (nodes : List Node) where
-  -- the node stands for the entry
-  abbrev pub StandsAs : ℕ → Entry → Type 0
-  StandsAs r e = StandsFor IdealNodes types nodes r e.of_type e.value
-
-  -- the nodes stand for the entries, one for one
-  abbrev pub StandAs : List ℕ → List Entry → Type 0
-  StandAs [] [] = Unit {0}
-  StandAs (r ∷ rs) (e ∷ es) = StandsAs r e × StandAs rs es
-  StandAs rs es = ⊥
-
-  fields_stand : (rs : List ℕ) (ts : List Ty) (vs : Values) → AllStandFor IdealNodes types nodes rs ts vs → StandAs rs (fields ts vs)
+  fields_stand : (rs : List ℕ) (ts : List Ty) (vs : Values) → AllStandFor IdealNodes types nodes rs ts vs → StandAs types nodes rs (fields ts vs)
   fields_stand [] [] NoV h = tt
   fields_stand (r ∷ rs) (t ∷ ts) (AndV v vs) h = (h.0, fields_stand rs ts vs h.1)
   fields_stand rs ts vs h = elim h [ ]
 
-  con_stand : (o : Option (List Ty)) (rs : List ℕ) (vs : Values) → OnFields o (λ ts. AllStandFor IdealNodes types nodes rs ts vs) → StandAs rs (fields (unwrap_or o []) vs)
+  con_stand : (o : Option (List Ty)) (rs : List ℕ) (vs : Values) → OnFields o (λ ts. AllStandFor IdealNodes types nodes rs ts vs) → StandAs types nodes rs (fields (unwrap_or o []) vs)
   con_stand (Some ts) rs vs h = fields_stand rs ts vs h
   con_stand None rs vs h = elim h [ ]
 
-  held_stands : (held : Held) (t : Ty) (v : Value) → Holds IdealNodes types held t v (λ r. StandsFor IdealNodes types nodes r t v) → StandAs (inner_refs held) (entry t v ∷ [])
+  held_stands : (held : Held) (t : Ty) (v : Value) → Holds IdealNodes types held t v (λ r. StandsFor IdealNodes types nodes r t v) → StandAs types nodes (inner_refs held) (entry t v ∷ [])
   held_stands (InnerHeld inner) t v h = (h, tt)
   held_stands (BothHeld digest inner) t v h = (h, tt)
   held_stands (OnlyHeld digest) t v h = elim h [ ]
 
-  at_form : (r : ℕ) (form : Form) (es : List Entry) → form_at nodes r ≡ Some form → StandAs (refs_in form) es → StandAs (refs_at nodes r) es
-  at_form r form es at h = subst (λ rs. StandAs rs es) (sym (ap (λ o. option_map_or refs_in o []) at)) h
+  at_form : (r : ℕ) (form : Form) (es : List Entry) → form_at nodes r ≡ Some form → StandAs types nodes (refs_in form) es → StandAs types nodes (refs_at nodes r) es
+  at_form r form es at h = subst (λ rs. StandAs types nodes rs es) (sym (ap (λ o. option_map_or refs_in o []) at)) h
 
   -- the parts of a node stand for the parts of its value
-  pub parts_stand : (r : ℕ) (t : Ty) (v : Value) → StandsFor IdealNodes types nodes r t v → StandAs (refs_at nodes r) (parts types t v)
+  pub parts_stand : (r : ℕ) (t : Ty) (v : Value) → StandsFor IdealNodes types nodes r t v → StandAs types nodes (refs_at nodes r) (parts types t v)
   parts_stand r (AuthTy t) v h = at_form r (AuthNode h.0) (entry t v ∷ []) h.1 (held_stands h.0 t v h.2)
   parts_stand r UnitTy UnitV h = at_form r UnitNode [] h tt
   parts_stand r BoolTy (BoolV b) h = at_form r (BoolNode b) [] h tt
@@ -79,13 +70,13 @@ module _ (types : Table) (nodes : List Node) where
   bool_head Bool.false = refl
 
   -- as many nodes as elements
-  stand_count : (rs : List ℕ) (n : ℕ) (t : Ty) (vs : Values) → AllStandFor IdealNodes types nodes rs (item_types n t) vs → length rs ≡ n
+  pub stand_count : (rs : List ℕ) (n : ℕ) (t : Ty) (vs : Values) → AllStandFor IdealNodes types nodes rs (item_types n t) vs → length rs ≡ n
   stand_count [] zero t NoV h = refl
   stand_count (r ∷ rs) (suc n) t (AndV v vs) h = ap suc (stand_count rs n t vs h.1)
   stand_count rs n t vs h = elim h [ ]
 
   -- 1 to 64 are told in a byte
-  few : (n : ℕ) → is_length n ≡ true → n % 256 ≡ n
+  pub few : (n : ℕ) → is_length n ≡ true → n % 256 ≡ n
   few n l = mod-eq_of_lt {n = n} {m = 256} (let most = leb-true n 64 (second_of (nat_le 1 n) (nat_le n 64) l) in omega (arith, most))
 
   pub head_stands : (r : ℕ) (form : Form) (t : Ty) (v : Value) → form_at nodes r ≡ Some form → StandsFor IdealNodes types nodes r t v → HasHead form t v

@@ -7,12 +7,13 @@ use Rattle.images.specs.Parts.{HasLength}
 use Rattle.images.specs.SavedImages.{distinct, record_bytes, records_bytes, walk}
 use Rattle.value_store.specs.Nodes.{Node}
 use Rattle.images.specs.FormRecords.{joined}
-use Rattle.images.specs.SavedRecords.{bytes_in, number_at, records_in}
+use Rattle.images.specs.SavedRecords.{bytes_in, node_numbers, number_at, records_in}
 use Rattle.images.specs.declared.save.Frame.{Frame}
 use Rattle.images.specs.declared.save.records.Records.{Records}
 use Rattle.images.proofs.AmongEntries.{IsAmong, AreAmong}
 use Rattle.images.proofs.EntryParts.{parts, walks}
-use Rattle.images.proofs.NodeEntries.{StandsAs}
+use Rattle.images.specs.KeptNodes.{AllHave}
+use Rattle.images.proofs.NodeEntries.{StandsAs, StandAs}
 use Rattle.images.proofs.NumberedEntries.{AreOnce}
 use Rattle.images.proofs.RecordReading.{record_of}
 
@@ -27,6 +28,8 @@ pub record AreNumbered (types : Table) (nodes : List Node) (done : List Entry) (
   pub keys : records_in records ≡ map (record_of types done) done
   pub placed : (e : Entry) → IsAmong done e → IsPlaced types done e
   pub once : AreOnce done
+  pub have : AllHave types nodes records (node_numbers records)
+  pub stand : StandAs types nodes (node_numbers records) done
   pub numbers : (r n : ℕ) → number_at records r ≡ Some n → (e : Entry) × StandsAs types nodes r e × (slice_get done n ≡ Some e)
 
 -- the entries that are still to be met, where these nodes wait, the one that is walked now first

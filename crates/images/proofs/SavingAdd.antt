@@ -10,8 +10,9 @@ use Rattle.value_store.specs.Nodes.{Form, Node, form_at, refs_in}
 use Rattle.value_store.specs.Standing.{IdealNodes}
 use Rattle.value_store.proofs.TypedNodes.{ideal_refers, ideal_stands}
 use Rattle.images.specs.FormRecords.{bytes_of}
-use Rattle.images.specs.SavedRecords.{HaveRecords, IsAdded, IsAmongOld, IsBehindOld, IsNew, number_at, number_or_first, record_for, records_in}
+use Rattle.images.specs.SavedRecords.{HaveRecords, IsAdded, IsAmongOld, IsBehindOld, IsNew, node_numbers, number_at, number_or_first, record_for, records_in}
 use Rattle.images.specs.declared.save.records.Records.{Records}
+use Rattle.images.specs.KeptNodes.{AllHave}
 use Rattle.images.proofs.AmongEntries.{IsAmong, AreAmong, among_at, among_behind, among_here, among_later, among_split, are_append, are_more}
 use Rattle.images.proofs.DistinctEntries.{distinct_new, distinct_there}
 use Rattle.images.proofs.EntryParts.{among_parts, among_walks, parts, walks, walk_parts}
@@ -27,7 +28,7 @@ few_of : (records : Records) (done : List Entry) (f : Entry → List ℕ) → re
 few_of records done f keys =
     let same = ap length keys ∙ length-map f done in
     let all = length-map bytes_of records.records.keys in
-    omega (arith, same, all, records.few, records.short)
+    omega (arith, same, all, records.few)
 
 module _ (types : Table) (few_types : length types ≤ 65536) (nodes : List Node) where
   -- the parts have the numbers of what they stand for, and all that walks over them meet is there
@@ -69,6 +70,7 @@ module _ (types : Table) (few_types : length types ≤ 65536) (nodes : List Node
     pub walked : AreAmong done (walks types (parts types e.of_type e.value))
     pub inside : AreAmong done (parts types e.of_type e.value)
     pub found : record_for records form ≡ record_of types done e
+    pub have : HaveRecords records (refs_at nodes r)
 
   pub whole : (done : List Entry) (records : Records) (r : ℕ) (form : Form) (e : Entry) → AreNumbered types nodes done records → StandsAs types nodes r e
       → form_at nodes r ≡ Some form → HaveRecords records (refs_in form) → Whole done records r form e
@@ -84,7 +86,28 @@ module _ (types : Table) (few_types : length types ≤ 65536) (nodes : List Node
         walked = have.1;
         inside = among_walks types done es have.1;
         found = record_stands types nodes (number_or_first records) done r form e at stands have.0;
+        have = subst (HaveRecords records) (sym refs) h;
       }
+
+  -- a node that has a record keeps one, where another node gets one
+  some_more : (old new : Records) (r n : ℕ) → ((s : ℕ) → number_at new s ≡ (if nat_eq r s then Some n else number_at old s)) → (s : ℕ) → IsSome (number_at old s) → IsSome (number_at new s)
+  some_more old new r n now s h = by (nat_eq r s) refl
+    where
+      by : (b : Bool) → nat_eq r s ≡ b → IsSome (number_at new s)
+      by true is = subst (λ o. IsSome o) (sym (now s ∙ ap (λ b. if b then Some n else number_at old s) is)) refl
+      by false is = subst (λ o. IsSome o) (sym (now s ∙ ap (λ b. if b then Some n else number_at old s) is)) h
+
+  have_more : (old new : Records) (r n : ℕ) → ((s : ℕ) → number_at new s ≡ (if nat_eq r s then Some n else number_at old s)) → (rs : List ℕ) → HaveRecords old rs → HaveRecords new rs
+  have_more old new r n now [] h = tt
+  have_more old new r n now (s ∷ rs) h = (some_more old new r n now s h.0, have_more old new r n now rs h.1)
+
+  all_more : (old new : Records) (r n : ℕ) → ((s : ℕ) → number_at new s ≡ (if nat_eq r s then Some n else number_at old s)) → (rs : List ℕ) → AllHave types nodes old rs → AllHave types nodes new rs
+  all_more old new r n now [] h = tt
+  all_more old new r n now (s ∷ rs) h = (have_more old new r n now (refs_at nodes s) h.0, all_more old new r n now rs h.1)
+
+  all_push : (new : Records) (rs : List ℕ) (r : ℕ) → AllHave types nodes new rs → HaveRecords new (refs_at nodes r) → AllHave types nodes new (rs ++ r ∷ [])
+  all_push new [] r h last = (last, tt)
+  all_push new (s ∷ rs) r h last = (h.0, all_push new rs r h.1 last)
 
   -- the entries with the one that is added, if it wasn't there
   pub record Extended (done : List Entry) (new : Records) (e : Entry) : Type 0 where
@@ -109,7 +132,7 @@ module _ (types : Table) (few_types : length types ≤ 65536) (nodes : List Node
       → slice_get (records_in new) n ≡ Some (record_for old form) → IsAmongOld old new → ((s : ℕ) → number_at new s ≡ (if nat_eq r s then Some n else number_at old s))
       → Extended done new e
   extended_old done old new r n form e numbered is at there now =
-      let keys = there ∙ numbered.keys in
+      let keys = there.0 ∙ numbered.keys in
       let found = entry_found done e n (few_of new done (record_of types done) keys) numbered.placed is.has_length is.ideal is.inside (ap (λ ks. slice_get ks n) (sym keys) ∙ at ∙ ap Some is.found) in
       record {
         all = done;
@@ -117,6 +140,8 @@ module _ (types : Table) (few_types : length types ≤ 65536) (nodes : List Node
           keys = keys;
           placed = numbered.placed;
           once = numbered.once;
+          have = subst (λ rs. AllHave types nodes new rs) (sym there.1) (all_more old new r n now (node_numbers old) numbered.have);
+          stand = subst (λ rs. StandAs types nodes rs done) (sym there.1) numbered.stand;
           numbers = numbers_new done old new r n e is.stands found numbered.numbers now;
         };
         met = λ ys. distinct_there done e ys (among_at e done n found);
@@ -147,9 +172,16 @@ module _ (types : Table) (few_types : length types ≤ 65536) (nodes : List Node
       by (inl g) = let place = placed x g in record { ideal = place.ideal; has_length = place.has_length; walked = are_more done (e ∷ []) (walk types x.of_type x.value) place.walked }
       by (inr s) = subst (λ x. IsPlaced types (done ++ e ∷ []) x) s own
 
+  stand_more : (rs : List ℕ) (es : List Entry) (r : ℕ) (e : Entry) → StandAs types nodes rs es → StandsAs types nodes r e
+      → StandAs types nodes (rs ++ r ∷ []) (es ++ e ∷ [])
+  stand_more [] [] r e h last = (last, tt)
+  stand_more [] (x ∷ es) r e h last = elim h [ ]
+  stand_more (s ∷ rs) [] r e h last = elim h [ ]
+  stand_more (s ∷ rs) (x ∷ es) r e h last = (h.0, stand_more rs es r e h.1 last)
+
   -- the record is new
   extended_new : (done : List Entry) (old new : Records) (r n : ℕ) (form : Form) (e : Entry) → AreNumbered types nodes done old → Whole done old r form e
-      → slice_get (records_in new) n ≡ Some (record_for old form) → IsBehindOld (record_for old form) old new
+      → slice_get (records_in new) n ≡ Some (record_for old form) → IsBehindOld r (record_for old form) old new
       → ((s : ℕ) → number_at new s ≡ (if nat_eq r s then Some n else number_at old s)) → Extended done new e
   extended_new done old new r n form e numbered is at behind now =
       let fresh = not_there done old (record_for old form) e numbered.keys is.found behind.0 in
@@ -169,6 +201,9 @@ module _ (types : Table) (few_types : length types ≤ 65536) (nodes : List Node
           keys = keys;
           placed = placed;
           once = once_more done e numbered.once fresh;
+          have = subst (λ rs. AllHave types nodes new rs) (sym behind.2)
+              (all_push new (node_numbers old) r (all_more old new r n now (node_numbers old) numbered.have) (have_more old new r n now (refs_at nodes r) is.have));
+          stand = subst (λ rs. StandAs types nodes rs all) (sym behind.2) (stand_more (node_numbers old) done r e numbered.stand is.stands);
           numbers = numbers_new all old new r n e is.stands found before now;
         };
         met = λ ys. distinct_new done e ys fresh;
@@ -181,6 +216,6 @@ module _ (types : Table) (few_types : length types ≤ 65536) (nodes : List Node
       → IsAdded r form old new → Extended done new e
   extended done old new r form e numbered is added = by added.1.1
     where
-      by : IsAmongOld old new ⊎ IsBehindOld (record_for old form) old new → Extended done new e
+      by : IsAmongOld old new ⊎ IsBehindOld r (record_for old form) old new → Extended done new e
       by (inl there) = extended_old done old new r added.0 form e numbered is added.1.0 there added.2
       by (inr behind) = extended_new done old new r added.0 form e numbered is added.1.0 behind added.2

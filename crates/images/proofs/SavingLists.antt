@@ -1,5 +1,5 @@
 -- Lists, and what a function makes of their members.
-use Rattle.std.proofs.Common.{◌≡◌, ◌⊎◌, inl, inr, ℕ, zero, suc, List, [], ◌∷◌, ◌++◌, length, map, Some, slice_get, refl, ap}
+use Rattle.std.proofs.Common.{◌≡◌, ◌⊎◌, inl, inr, ℕ, zero, suc, ◌<◌, List, [], ◌∷◌, ◌++◌, length, map, Some, slice_get, arith, refl, ap}
 
 module _ {A B : Type 0} (f : A → B) where
   pub length-map : (xs : List A) → length (map f xs) ≡ length xs
@@ -30,3 +30,8 @@ pub at_more : {A : Type 0} (xs ys : List A) (i : ℕ) (x : A) → slice_get xs i
 at_more [] ys i x h = absurd (cc)
 at_more (z ∷ zs) ys zero x h = h
 at_more (z ∷ zs) ys (suc i) x h = at_more zs ys i x h
+
+pub at_within : {A : Type 0} (xs : List A) (i : ℕ) (x : A) → slice_get xs i ≡ Some x → i < length xs
+at_within [] i x h = absurd (cc)
+at_within (y ∷ ys) zero x h = omega arith
+at_within (y ∷ ys) (suc i) x h = let rest = at_within ys i x h in omega (arith, rest)

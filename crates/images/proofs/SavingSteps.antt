@@ -53,7 +53,7 @@ module _ (types : Table) (nodes : List Node) where
         }
 
     -- or it is too long, and then so is the image
-    pub saving_refused : (fault : SaveFault) → IsTooMuch (record_for records form) records fault → AreSaved types wanted (Err fault)
+    pub saving_refused : (fault : SaveFault) → IsTooMuch (record_for records form) records fault → AreSaved records.most types wanted (Err fault)
     saving_refused NoMemory h = h
     saving_refused TooLong h =
         let e : Entry = saving.are_left.0 in

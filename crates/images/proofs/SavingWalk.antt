@@ -6,8 +6,8 @@ use Rattle.images.specs.SavedImages.{distinct, records_bytes, walk}
 use Rattle.value_store.specs.Nodes.{Node}
 use Rattle.value_store.specs.declared.node.Ref.{Ref}
 use Rattle.images.specs.Frames.{frame_of}
-use Rattle.images.specs.SavedRecords.{AreSaved, bytes_in, number_at, records_in}
-use Rattle.images.specs.FormRecords.{most_bytes}
+use Rattle.images.specs.SavedRecords.{AreSaved, bytes_in, node_numbers, number_at, records_in}
+use Rattle.images.specs.KeptNodes.{AllHave, AreKeptFor}
 use Rattle.images.specs.declared.save.Frame.{Frame}
 use Rattle.images.specs.declared.save.records.Records.{Records}
 use Rattle.images.proofs.AmongEntries.{among_at}
@@ -107,8 +107,8 @@ module _ (types : Table) (nodes : List Node) where
 
   -- the beginning: nothing is saved
   pub saving_first : (records : Records) (root : Ref) (e : Entry) → StandsAs types nodes root.0 e → records_in records ≡ []
-      → ((r : ℕ) → number_at records r ≡ None) → Saving types nodes (distinct [] (walk types e.of_type e.value)) records (frame_of root 0 ∷ [])
-  saving_first records root e stands keys none =
+      → node_numbers records ≡ [] → ((r : ℕ) → number_at records r ≡ None) → Saving types nodes (distinct [] (walk types e.of_type e.value)) records (frame_of root 0 ∷ [])
+  saving_first records root e stands keys none_stand none =
       let es = parts types e.of_type e.value in
       record {
         done = [];
@@ -116,6 +116,8 @@ module _ (types : Table) (nodes : List Node) where
           keys = keys;
           placed = λ x h. absurd (true≢false (sym h));
           once = λ i x h. absurd (nothing_at i x h);
+          have = subst (λ rs. AllHave types nodes records rs) (sym none_stand) tt;
+          stand = subst (λ rs. StandAs types nodes rs []) (sym none_stand) tt;
           numbers = λ r n h. absurd (none_some (number_at records r) n (none r) h);
         };
         left = walk types e.of_type e.value;
@@ -124,7 +126,13 @@ module _ (types : Table) (nodes : List Node) where
       }
 
   -- the end: all that is wanted is saved
-  pub saving_last : (wanted : List Entry) (records : Records) → length (bytes_in records) ≤ most_bytes → Saving types nodes wanted records [] → AreSaved types wanted (Ok records)
-  saving_last wanted records short h =
+  pub saving_last : (most : ℕ) (wanted : List Entry) (records : Records) → length (bytes_in records) ≤ most → Saving types nodes wanted records [] → AreSaved most types wanted (Ok records)
+  saving_last most wanted records short h =
       let same : h.done ≡ wanted = ap (distinct h.done) (sym h.are_left) ∙ h.met in
       (ap length h.numbered.keys ∙ length-map (record_of types h.done) h.done ∙ ap length same, bytes_numbered types nodes h.done records h.numbered ∙ ap (λ es. records_bytes types es es) same, short)
+
+  pub saving_kept : (wanted : List Entry) (records : Records) → Saving types nodes wanted records [] → AreKeptFor types nodes wanted records
+  saving_kept wanted records h =
+      let same : h.done ≡ wanted = ap (distinct h.done) (sym h.are_left) ∙ h.met in
+      let P : List Entry → Type 0 = λ es. AreKeptFor types nodes es records in
+      subst P same (record { stand = h.numbered.stand; have = h.numbered.have; once = h.numbered.once; numbers = h.numbered.numbers })

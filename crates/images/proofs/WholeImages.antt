@@ -9,6 +9,7 @@ use Rattle.images.specs.SavedImages.{distinct, records_bytes, saved_image, walk}
 use Rattle.images.specs.Saves.{IsSaved}
 use Rattle.images.specs.declared.fault.SaveFault.{SaveFault}
 use Rattle.images.specs.declared.fault.SaveFault.TheVariants.{TooLong, NoMemory}
+use Rattle.images.specs.FormRecords.{most_bytes}
 use Rattle.images.specs.SavedRecords.{AreSaved, bytes_in, records_in}
 use Rattle.images.specs.declared.save.records.Records.{Records}
 
@@ -24,11 +25,11 @@ module _ (P : Program) (magic_length : length P.format.image_magic ≡ 4) (diges
       let start = length-append P.format.image_magic digest in
       all ∙ omega (arith, header, start, magic_length, digest_length)
 
-  pub image_refused : (fault : SaveFault) → AreSaved P.types entries (Err fault) → IsSaved (saved_image P digest v) (Err fault)
+  pub image_refused : (fault : SaveFault) → AreSaved most_bytes P.types entries (Err fault) → IsSaved (saved_image P digest v) (Err fault)
   image_refused NoMemory h = h
   image_refused TooLong h = let all = length-image in omega (arith, all, h)
 
-  pub image_made : (records : Records) (told header : List ℕ) (count : ℕ) (image : Vec ℕ Global) → AreSaved P.types entries (Ok records) → told ≡ digest → count ≡ length (records_in records)
+  pub image_made : (records : Records) (told header : List ℕ) (count : ℕ) (image : Vec ℕ Global) → AreSaved most_bytes P.types entries (Ok records) → told ≡ digest → count ≡ length (records_in records)
       → header ≡ P.format.image_magic ++ told ++ to_be_bytes w32 count → image.items ≡ header ++ bytes_in records → IsSaved (saved_image P digest v) (Ok image)
   image_made records told header count image h is_told is_count is_header is_image =
       let front = ap₂ (λ (told : List ℕ) (n : ℕ). P.format.image_magic ++ told ++ to_be_bytes w32 n) is_told (is_count ∙ h.0) in

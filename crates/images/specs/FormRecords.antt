@@ -39,6 +39,10 @@ abbrev pub HasShortText : Form → Type 0
 HasShortText (TextNode bytes) = length bytes ≤ greatest_limit
 HasShortText form = Unit {0}
 
+-- the greatest number of records, which have numbers of 4 bytes
+abbrev pub most_records : ℕ
+most_records = 4294967295
+
 -- the greatest number of bytes of the records of an image that is written
 abbrev pub most_bytes : ℕ
 most_bytes = 67108824

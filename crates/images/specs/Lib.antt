@@ -15,6 +15,10 @@ pub mod LoadedRecords
 pub mod FormRecords
 pub mod NodeNumbers
 pub mod SavedRecords
+pub mod KeptNodes
+pub mod FormTypes
+pub mod Reached
 pub mod Frames
 pub mod ImageLaws
 pub mod ArrayRows
+pub mod AuthOrders

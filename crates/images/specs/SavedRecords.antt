@@ -6,9 +6,10 @@ use Rattle.images.specs.SavedImages.{records_bytes}
 use Rattle.images.specs.declared.fault.SaveFault.{SaveFault}
 use Rattle.images.specs.declared.fault.SaveFault.TheVariants.{TooLong, NoMemory}
 use Rattle.value_store.specs.Nodes.{Form}
-use Rattle.images.specs.FormRecords.{bytes_of, joined, most_bytes, record_at}
+use Rattle.images.specs.FormRecords.{bytes_of, joined, record_at}
 use Rattle.images.specs.NodeNumbers.{number_in}
 use Rattle.images.specs.declared.save.records.Records.{Records}
+use Rattle.value_store.specs.declared.node.Ref.{Ref}
 
 -- the records as bytes, in the order of the image
 abbrev pub records_in : Records → List (List ℕ)
@@ -17,6 +18,10 @@ records_in records = map bytes_of records.records.keys
 -- and one behind the other
 abbrev pub bytes_in : Records → List ℕ
 bytes_in records = joined (records_in records)
+
+-- a node of each record
+abbrev pub node_numbers : Records → List ℕ
+node_numbers records = map (λ (r : Ref). r.0) records.nodes.items
 
 -- the number of the record of a node that has one
 abbrev pub number_at : Records → ℕ → Option ℕ
@@ -38,30 +43,32 @@ record_for records form = record_at (number_or_first records) form
 abbrev pub IsNew : List ℕ → Records → Type 0
 IsNew found records = (i : ℕ) → slice_get (records_in records) i ≢ Some found
 
--- the record was there, or is added behind the others
+-- the record was there, or is added behind the others with its node
 abbrev pub IsAmongOld : (old new : Records) → Type 0
-IsAmongOld old new = records_in new ≡ records_in old
+IsAmongOld old new = (records_in new ≡ records_in old) × (node_numbers new ≡ node_numbers old)
 
-abbrev pub IsBehindOld : List ℕ → (old new : Records) → Type 0
-IsBehindOld found old new = IsNew found old × (records_in new ≡ records_in old ++ found ∷ [])
+abbrev pub IsBehindOld : ℕ → List ℕ → (old new : Records) → Type 0
+IsBehindOld node found old new =
+    IsNew found old × (records_in new ≡ records_in old ++ found ∷ []) × (node_numbers new ≡ node_numbers old ++ node ∷ [])
 
--- the record is there once, with this number
-abbrev pub HasNumber : List ℕ → (old new : Records) → ℕ → Type 0
-HasNumber found old new number = (slice_get (records_in new) number ≡ Some found) × (IsAmongOld old new ⊎ IsBehindOld found old new)
+-- the record of a node is there once, with this number
+abbrev pub HasNumber : ℕ → List ℕ → (old new : Records) → ℕ → Type 0
+HasNumber node found old new number =
+    (slice_get (records_in new) number ≡ Some found) × (IsAmongOld old new ⊎ IsBehindOld node found old new)
 
 -- the record of the node of this form is there once, and the node has its number
 abbrev pub IsAdded : ℕ → Form → (old new : Records) → Type 0
 IsAdded node form old new =
-    (number : ℕ) × HasNumber (record_for old form) old new number × ((r : ℕ) → number_at new r ≡ (if nat_eq node r then Some number else number_at old r))
+    (number : ℕ) × HasNumber node (record_for old form) old new number × ((r : ℕ) → number_at new r ≡ (if nat_eq node r then Some number else number_at old r))
 
 -- why a record isn't added: it is new, and too long to stand behind the others
 abbrev pub IsTooMuch : List ℕ → Records → SaveFault → Type 0
-IsTooMuch found records TooLong = IsNew found records × (most_bytes < length (bytes_in records) + length found)
+IsTooMuch found records TooLong = IsNew found records × (records.most < length (bytes_in records) + length found)
 IsTooMuch found records NoMemory = ⊤
 
--- the records are those of these entries, where they aren't too long
-abbrev pub AreSaved : Table → List Entry → Result Records SaveFault → Type 0
-AreSaved types entries (Ok records) =
-    (length (records_in records) ≡ length entries) × (bytes_in records ≡ records_bytes types entries entries) × (length (bytes_in records) ≤ most_bytes)
-AreSaved types entries (Err TooLong) = most_bytes < length (records_bytes types entries entries)
-AreSaved types entries (Err NoMemory) = ⊤
+-- the records are those of these entries, where they have no more than so many bytes
+abbrev pub AreSaved : ℕ → Table → List Entry → Result Records SaveFault → Type 0
+AreSaved most types entries (Ok records) =
+    (length (records_in records) ≡ length entries) × (bytes_in records ≡ records_bytes types entries entries) × (length (bytes_in records) ≤ most)
+AreSaved most types entries (Err TooLong) = most < length (records_bytes types entries entries)
+AreSaved most types entries (Err NoMemory) = ⊤

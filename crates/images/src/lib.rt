@@ -12,6 +12,7 @@ mod fields;
 mod header;
 pub mod laws;
 mod load;
+mod order;
 mod part_types;
 mod parts;
 mod record;
@@ -21,4 +22,5 @@ mod stored_records;
 
 pub use fault::{ImageFault, SaveFault};
 pub use load::{Loaded, load_image};
+pub use order::auth_order;
 pub use save::save_image;

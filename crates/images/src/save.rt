@@ -1,7 +1,7 @@
 // Writing the image of a value that stands in a store.
 mod numbers;
-mod record;
-mod records;
+pub(crate) mod record;
+pub(crate) mod records;
 
 ghost use Rattle.std.specs.Prelude.{◌≡◌, true, ◌<◌, ◌≤◌, ◌∷◌, ◌++◌, [], length, IfOk, OnOk};
 ghost use Rattle.value_store.specs.Markings.{HasLimit};
@@ -12,7 +12,9 @@ ghost use Rattle.images.specs.Images.{image_of, Root};
 ghost use Rattle.images.specs.Saves.{IsSaved};
 ghost use Rattle.images.specs.SavedImages.{distinct, saved_image, walk};
 ghost use Rattle.images.specs.LoadedRoots.{IsStateAt};
-ghost use Rattle.images.specs.SavedRecords.{AreSaved};
+ghost use Rattle.images.specs.KeptNodes.{AreKeptFor};
+ghost use Rattle.images.specs.Reached.{AllReached};
+ghost use Rattle.images.specs.SavedRecords.{AreSaved, node_numbers};
 ghost use Rattle.images.specs.Frames.{frame_of};
 ghost use Rattle.value_store.specs.Standing.{IdealNodes, StandsFor};
 ghost use Rattle.value_store.specs.Stores.{nodes_in, store_lent};
@@ -24,6 +26,9 @@ use record::part;
 use records::Records;
 use std::alloc::{AllocError, Global};
 use value_store::{Nodes, Ref, Store};
+
+/// The greatest number of bytes of the records of an image that is written.
+const MOST_BYTES: usize = 67_108_824;
 
 /// The image of the state that a node stands for: the distinct parts of the value, each once, in the order in which a walk that visits
 /// parts from left to right before the whole first completes them. The node is read over ideal nodes or the prover's. What is written
@@ -45,7 +50,7 @@ pub fn save_image(
     ensures loads { (v : Value) → IsStateAt (types_meaning types.now) store.now root v → IfOk result (λ image. image_of (types_meaning types.now) text_digest.now.0 image.items ≡ Root v) }
 {
     let digest = text_digest.as_bytes();
-    let records = records_of(alloc, store, root)?;
+    let records = records_of(alloc, store, root, MOST_BYTES)?;
     let mut image = write_header(alloc, types, digest, records.count() as u32)?;
     records.write(&mut image)?;
     Ok(image)
@@ -58,13 +63,22 @@ struct Frame {
     next: usize,
 }
 
-/// The records of what a node stands for, each once. Nodes on the way to their records wait in a list, so the depth of the value costs no
-/// stack; a node that has its record is not walked again.
-fn records_of(alloc: Global, store: &Store, root: Ref) -> Result<Records, SaveFault>
+/// The records of what a node stands for, each once, where all have no more than so many bytes. Nodes on the way to their records wait in
+/// a list, so the depth of the value costs no stack; a node that has its record is not walked again.
+pub(crate) fn records_of(
+    alloc: Global,
+    store: &Store,
+    root: Ref,
+    most: usize,
+) -> Result<Records, SaveFault>
     requires { root.0 < length (nodes_in store.now) }
-    ensures saved { (types : Table) (t : Ty) (v : Value) → has_numbers types ≡ true → StandsFor IdealNodes types (nodes_in store.now) root.0 t v → AreSaved types (distinct [] (walk types t v)) result }
+    ensures saved { (types : Table) (t : Ty) (v : Value) → has_numbers types ≡ true → StandsFor IdealNodes types (nodes_in store.now) root.0 t v
+        → AreSaved most types (distinct [] (walk types t v)) result }
+    ensures reached { IfOk result (λ records. AllReached (nodes_in store.now) root.0 (node_numbers records)) }
+    ensures kept { (types : Table) (t : Ty) (v : Value) → has_numbers types ≡ true → StandsFor IdealNodes types (nodes_in store.now) root.0 t v
+        → IfOk result (λ records. AreKeptFor types (nodes_in store.now) (distinct [] (walk types t v)) records) }
 {
-    let mut records = Records::new(alloc);
+    let mut records = Records::new(alloc, most);
     let mut frames = Vec::new(alloc);
     add(&mut frames, root, 0)?;
     while let Some(frame) = frames.pop() {

@@ -1,3 +1,5 @@
 pub mod Places
 pub mod FilePieces
 pub mod FileBack
+pub mod Answered
+pub mod Filling

@@ -6,7 +6,9 @@
 #![tactic(auto)]
 
 mod fault;
+mod fetch;
 mod file;
+mod fill;
 mod mirror;
 
 pub use fault::MirrorFault;

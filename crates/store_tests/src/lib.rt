@@ -1,4 +1,4 @@
-//! Tests of values in a store: how they are put and viewed, spelled and read, and kept in images.
+//! Tests of values in a store: how they are put and viewed, spelled and read, kept in images, and put into a mirror piece by piece.
 #![tactic(auto)]
 
 #[cfg(test)]
@@ -11,6 +11,8 @@ mod codec;
 mod faults;
 #[cfg(test)]
 mod large;
+#[cfg(test)]
+mod mirrors;
 #[cfg(test)]
 mod nodes;
 #[cfg(test)]

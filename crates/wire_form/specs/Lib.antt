@@ -5,3 +5,6 @@ pub mod ReadMessages
 pub mod TakenFields
 pub mod Waits
 pub mod WrittenMessages
+pub mod Gots
+pub mod SentAnswers
+pub mod Fetches

@@ -149,7 +149,7 @@ fn closed(body: &[u8]) -> Result<Reply, BodyFault>
 }
 
 /// A copy of the bytes.
-fn piece(alloc: Global, bytes: &[u8]) -> Result<Piece, AllocError>
+pub fn piece(alloc: Global, bytes: &[u8]) -> Result<Piece, AllocError>
     ensures { IfOk result (λ piece. piece ≡ bytes.now) }
 {
     Ok(Piece::new(Vec::from_slice(alloc, bytes)?))

@@ -1,7 +1,9 @@
 // The fields of a message's body, each taken from the front of what is left.
-ghost use Rattle.std.specs.Prelude.{◌≡◌, nat_eq, if◌then◌else◌};
+ghost use Rattle.std.specs.Prelude.{ℕ, List};
 ghost use Rattle.session_meaning.specs.Messages as meant;
 ghost use Rattle.session_meaning.specs.Messages.{Request, Reply};
+ghost use Rattle.session_meaning.specs.FetchMessages as asked;
+ghost use Rattle.ideal_meaning.specs.Fetched.{Got};
 ghost use Rattle.wire_form.specs.TakenFields.{Ends, Takes, TakesNothing};
 
 use crate::body::BodyFault;
@@ -12,6 +14,8 @@ use core_terms::Digest;
 pub fn number_of_two(body: &[u8], offset: u32) -> Result<(u16, &[u8]), BodyFault>
     ensures requests { Takes {A = Request} (λ taken. taken.0) (λ taken. taken.1.now) (meant.field 2 meant.u16_in offset body.now) result }
     ensures replies { Takes {A = Reply} (λ taken. taken.0) (λ taken. taken.1.now) (meant.field 2 meant.u16_in offset body.now) result }
+    ensures fetches { Takes {A = List ℕ} (λ taken. taken.0) (λ taken. taken.1.now) (meant.field 2 meant.u16_in offset body.now) result }
+    ensures answers { Takes {A = Got} (λ taken. taken.0) (λ taken. taken.1.now) (meant.field 2 meant.u16_in offset body.now) result }
 {
     match body.split_at_checked(2) {
         Some((number, behind)) => Ok((BigEndian::read_u16(number), behind)),
@@ -63,7 +67,9 @@ pub fn session_field(body: &[u8]) -> Result<(u16, &[u8]), BodyFault>
 
 /// The session of a message that is for none, and so 0; the bytes behind it.
 pub fn zero_field(body: &[u8]) -> Result<&[u8], BodyFault>
-    ensures { TakesNothing {A = Request} (λ behind. behind.now) (λ go. meant.field 2 meant.u16_in 1 body.now (λ session rest. if nat_eq session 0 then go rest else meant.FaultAt 1)) result }
+    ensures requests { TakesNothing {A = Request} (λ behind. behind.now) (asked.zero_field body.now) result }
+    ensures fetches { TakesNothing {A = List ℕ} (λ behind. behind.now) (asked.zero_field body.now) result }
+    ensures answers { TakesNothing {A = Got} (λ behind. behind.now) (asked.zero_field body.now) result }
 {
     let (session, behind) = number_of_two(body, 1)?;
     if session != 0 {
@@ -72,9 +78,10 @@ pub fn zero_field(body: &[u8]) -> Result<&[u8], BodyFault>
     Ok(behind)
 }
 
-/// The digest of a program's text, and the bytes behind it.
+/// A digest, and the bytes behind it.
 pub fn digest_field(body: &[u8]) -> Result<(Digest, &[u8]), BodyFault>
-    ensures { Takes {A = Request} (λ taken. taken.0.0) (λ taken. taken.1.now) (meant.program_field body.now) result }
+    ensures requests { Takes {A = Request} (λ taken. taken.0.0) (λ taken. taken.1.now) (meant.program_field body.now) result }
+    ensures fetches { Takes {A = List ℕ} (λ taken. taken.0.0) (λ taken. taken.1.now) (asked.digest_field body.now) result }
 {
     match body.split_first_chunk::<32>() {
         Some((digest, behind)) => Ok((Digest(*digest), behind)),
@@ -86,6 +93,8 @@ pub fn digest_field(body: &[u8]) -> Result<(Digest, &[u8]), BodyFault>
 pub fn end(body: &[u8], offset: u32) -> Result<(), BodyFault>
     ensures requests { Ends {A = Request} (meant.ends_at offset body.now) result }
     ensures replies { Ends {A = Reply} (meant.ends_at offset body.now) result }
+    ensures fetches { Ends {A = List ℕ} (meant.ends_at offset body.now) result }
+    ensures answers { Ends {A = Got} (meant.ends_at offset body.now) result }
 {
     if body.is_empty() {
         return Ok(());

@@ -5,12 +5,18 @@
 #![tactic(auto)]
 
 mod body;
+mod fetch;
 mod fields;
+mod got;
 mod incoming;
 mod message;
+mod pieces;
 mod reading;
 mod writing;
 
+pub use fetch::{Fetch, FetchStop, LinkFetch};
+pub use got::{Got, Wire};
 pub use message::{ReadStop, Reply, Request, WriteStop};
+pub use pieces::{read_fetch, read_piece, write_fetch, write_piece};
 pub use reading::{read_reply, read_request};
 pub use writing::{write_reply, write_request};

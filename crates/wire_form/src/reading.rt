@@ -53,7 +53,7 @@ pub fn read_reply<L: Link>(alloc: Global, link: &mut L) -> Result<Reply, ReadSto
 }
 
 /// The body of the next message, with its kind.
-fn read_whole<L: Link>(alloc: Global, link: &mut L) -> Result<Vec<u8>, ReadStop>
+pub fn read_whole<L: Link>(alloc: Global, link: &mut L) -> Result<Vec<u8>, ReadStop>
     ensures came { ForSome (L.left link.old) (λ bytes. WholeCame bytes (L.left link.new) result) }
     ensures fits { IfOk result (λ body. length body.items ≤ meant.message_limit) }
     ensures waits { ForSome (L.left link.old) (λ bytes. AtEachRead (WaitsInside bytes (L.sent link.old)) (L.reads link.old) (L.reads link.new)) }

@@ -49,7 +49,7 @@ const JOINED: usize = 16_384;
 
 /// Writes the length of a body, its first fields, and its last one. So that a short message is sent at once, the first bytes of the last
 /// field go with the fields before it.
-fn write_message<L: Link>(
+pub fn write_message<L: Link>(
     alloc: Global,
     link: &mut L,
     fields: &[u8],
@@ -160,7 +160,7 @@ fn tail_of_reply(message: &Reply) -> &[u8]
 }
 
 /// Puts the kind of a message and its session.
-fn put_start(head: &mut Vec<u8>, kind: u8, session: u16) -> Result<(), AllocError>
+pub fn put_start(head: &mut Vec<u8>, kind: u8, session: u16) -> Result<(), AllocError>
     ensures { OnOk result (head.new.items ≡ head.old.items ++ kind ∷ to_be_bytes w16 session) }
 {
     head.push(kind)?;

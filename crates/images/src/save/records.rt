@@ -3,7 +3,7 @@ ghost use Rattle.std.specs.Prelude.{◌≡◌, ◌<◌, ◌≤◌, ◌++◌, ℕ
 ghost use Rattle.indexmap.specs.IndexSet.{index_set_len};
 ghost use Rattle.value_store.specs.Nodes.{refs_in};
 ghost use Rattle.value_store.specs.Views.{form_shown};
-ghost use Rattle.images.specs.FormRecords.{HasShortText, bytes_of, joined, most_bytes};
+ghost use Rattle.images.specs.FormRecords.{HasShortText, bytes_of, joined, most_records};
 ghost use Rattle.images.specs.NodeNumbers.{number_in};
 
 use super::numbers::Numbers;
@@ -13,8 +13,8 @@ use indexmap::IndexSet;
 use std::alloc::{AllocError, Global};
 use value_store::{Ref, View};
 
-/// The greatest number of bytes of the records of an image that is written.
-const MOST_BYTES: usize = 67_108_824;
+/// The greatest number of records: each has a number in 4 bytes.
+const MOST_RECORDS: usize = 4_294_967_295;
 
 /// The distinct records of some nodes, each behind those of its parts.
 #[derive(Drop)]
@@ -22,27 +22,36 @@ pub(crate) struct Records {
     records: IndexSet<Record>,
     /// The number of the record of each node that has one.
     numbers: Numbers,
+    /// To each record the first node that got it.
+    nodes: Vec<Ref>,
     /// The number of bytes of all records.
     byte_count: usize,
+    /// The greatest number of them.
+    most: usize,
     alloc: Global,
     ghost counted: { byte_count ≡ length (joined (map bytes_of records.keys)) },
-    ghost short: { byte_count ≤ most_bytes },
-    ghost few: { index_set_len records ≤ byte_count },
+    ghost short: { byte_count ≤ most },
+    ghost few: { index_set_len records ≤ most_records },
+    ghost some: { index_set_len records ≤ byte_count },
     ghost within: { (r n : ℕ) → number_in numbers r ≡ Some n → n < index_set_len records },
 }
 
 impl Records {
-    ghost use Rattle.images.specs.SavedRecords.{HasNumber, HaveRecords, IsAdded, IsTooMuch, bytes_in, number_at, record_for, records_in};
+    ghost use Rattle.images.specs.SavedRecords.{HasNumber, HaveRecords, IsAdded, IsTooMuch, bytes_in, node_numbers, number_at, record_for, records_in};
 
-    /// No records.
-    pub fn new(alloc: Global) -> Self
+    /// No records, where all may have so many bytes.
+    pub fn new(alloc: Global, most: usize) -> Self
+        ensures most { result.most ≡ most }
         ensures records { records_in result ≡ [] }
+        ensures nodes { node_numbers result ≡ [] }
         ensures numbers { (r : ℕ) → number_at result r ≡ None }
     {
         Records {
             records: IndexSet::new(alloc),
             numbers: Numbers::new(alloc),
+            nodes: Vec::new(alloc),
             byte_count: 0,
+            most,
             alloc,
         }
     }
@@ -50,7 +59,7 @@ impl Records {
     /// The number of records.
     pub fn count(&self) -> usize
         ensures count { result ≡ length (records_in self.now) }
-        ensures bound { result ≤ most_bytes }
+        ensures bound { result ≤ most_records }
     {
         self.records.len()
     }
@@ -63,6 +72,13 @@ impl Records {
             image.extend_from_slice(&record.0)?;
         }
         Ok(())
+    }
+
+    /// A node of each record, in the order of the image.
+    pub fn nodes(&self) -> &[Ref]
+        ensures { result.now ≡ self.now.nodes.items }
+    {
+        &self.nodes
     }
 
     /// The number of the record of a node, where it has one.
@@ -78,9 +94,10 @@ impl Records {
         requires parts { HaveRecords self.old (refs_in (form_shown view)) }
         ensures added { IfOk result (λ _. IsAdded node.0 (form_shown view.entry) self.old self.new) }
         ensures long { IfErr result (IsTooMuch (record_for self.old (form_shown view.entry)) self.old) }
+        ensures most { self.new.most ≡ self.old.most }
     {
         let record = self.record_of(view)?;
-        let number = self.number_for(record)?;
+        let number = self.number_for(node, record)?;
         self.numbers.set(node.0, number as u32)?;
         Ok(())
     }
@@ -103,20 +120,28 @@ impl Records {
         Ok(Record(bytes))
     }
 
-    /// The number of a record, which is added behind the others where it isn't there.
-    fn number_for(&mut self, found: Record) -> Result<usize, SaveFault>
+    /// The number of a node's record, which is added behind the others where it isn't there.
+    fn number_for(&mut self, node: Ref, found: Record) -> Result<usize, SaveFault>
         requires some { 0 < length (bytes_of found) }
-        ensures number { IfOk result (HasNumber (bytes_of found) self.old self.new) }
+        ensures number { IfOk result (HasNumber node.0 (bytes_of found) self.old self.new) }
         ensures same { (r : ℕ) → number_at self.new r ≡ number_at self.old r }
         ensures long { IfErr result (IsTooMuch (bytes_of found) self.old) }
+        ensures most { self.new.most ≡ self.old.most }
     {
         if let Some(number) = self.records.get_index_of(&found) {
             return Ok(number);
         }
         let added = found.0.len();
-        if added > MOST_BYTES - self.byte_count {
+        if added > self.most - self.byte_count {
             return Err(SaveFault::TooLong);
         }
+        if self.records.len() >= MOST_RECORDS {
+            return Err(SaveFault::NoMemory);
+        }
+        // Where no memory is left behind this, all records are given up.
+        let Ok(_) = self.nodes.push(node) else {
+            return Err(SaveFault::NoMemory);
+        };
         let Ok((number, _)) = self.records.insert_full(found) else {
             return Err(SaveFault::NoMemory);
         };

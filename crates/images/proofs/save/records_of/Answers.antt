@@ -1,17 +1,21 @@
-use Rattle.std.proofs.Common.{◌≡◌, ◌<◌, ◌≤◌, ◌∷◌, ◌++◌, [], length, ℕ, ◌+◌, Option, Some, None, IsSome, is_some, true, reverse, refl, sym, ap, ◌∙◌, subst, arith, leb-true}
+use Rattle.std.proofs.Common.{◌≡◌, ◌<◌, ◌≤◌, ◌∷◌, ◌++◌, [], length, ℕ, ◌+◌, Option, Some, None, Result, Err, IfOk, IsSome, is_some, true, reverse, refl, sym, ap, ◌∙◌, subst, arith, leb-true}
 use Rattle.core_terms.specs.Types.{Table, Ty, has_numbers}
 use Rattle.core_terms.specs.Values.{Value}
 use Rattle.images.specs.Images.{entry}
 use Rattle.images.specs.SavedImages.{distinct, walk}
 use Rattle.value_store.specs.Stores.{nodes_in}
 use Rattle.value_store.specs.Views.{form_shown}
-use Rattle.images.specs.FormRecords.{most_bytes}
 use Rattle.images.specs.Frames.{frame_of}
-use Rattle.images.specs.SavedRecords.{AreSaved, HaveRecords, bytes_in, number_at}
+use Rattle.images.specs.KeptNodes.{AreKeptFor}
+use Rattle.images.specs.SavedRecords.{AreSaved, HaveRecords, bytes_in, node_numbers, number_at}
+use Rattle.images.specs.declared.fault.SaveFault.{SaveFault}
+use Rattle.images.specs.declared.save.records.Records.{Records}
 use Rattle.images.proofs.LoopFacts.{emptied, same_error, none_shown, part_below, part_shown, popped, refs_shown, turned}
+use Rattle.images.specs.Reached.{AllReached, Itself}
+use Rattle.images.proofs.ReachedNodes.{FramesReached, reached_add, reached_part}
 use Rattle.images.proofs.Saving.{Saving}
 use Rattle.images.proofs.SavingSteps.{has_more, saving_add, saving_refused}
-use Rattle.images.proofs.SavingWalk.{saving_first, saving_last, saving_next, saving_part}
+use Rattle.images.proofs.SavingWalk.{saving_first, saving_kept, saving_last, saving_next, saving_part}
 use Rattle.images.proofs.WaitingFrames.{AreWaiting, HasRecord, waiting_first, waiting_next, waiting_part, waiting_rest, waiting_whole}
 use Rattle.images.proofs.Weights.{less_done, less_next, less_part}
 use Rattle.images.proofs.save.records_of.Goals as goal
@@ -24,10 +28,12 @@ loop-frame-init c =
     let items : c.add.new.frames.items ≡ frame_of root 0 ∷ [] = c.in_ok-add.ensures ∙ ap (λ xs. xs ++ frame_of root 0 ∷ []) c.new-frames.ensures.items in
     let back : frame_of root 0 ∷ [] ≡ reverse c.add.new.frames.items = sym (ap reverse items) in
     record {
+      most = c.new-records.ensures.most;
+      reached = (subst (FramesReached nodes root.0) back (Itself, tt), subst (AllReached nodes root.0) (sym c.new-records.ensures.nodes) tt);
       waiting = subst (AreWaiting nodes (HasRecord records)) back (waiting_first nodes (HasRecord records) root c.requires);
       saving = λ (types : Table) (t : Ty) (v : Value) numbers h.
           subst (Saving types nodes (distinct [] (walk types t v)) records) back
-          (saving_first types nodes records root (entry t v) h c.new-records.ensures.records c.new-records.ensures.numbers);
+          (saving_first types nodes records root (entry t v) h c.new-records.ensures.records c.new-records.ensures.nodes c.new-records.ensures.numbers);
     }
 
 pub loop-frame-smaller-in-Continue-branch-3 : goal.loop-frame-smaller-in-Continue-branch-3
@@ -58,6 +64,8 @@ loop-frame-preserved-in-Continue-branch-3 c =
     let back : frame_of p 0 ∷ frame_of f.node (f.next + 1) ∷ reverse rest ≡ reverse c.add-then-is_none.new.frames.items =
     sym (turned c.add-then-is_none.new.frames.items c.add-in-Some-part.new.frames.items (frame_of p 0) c.in_ok-add-in-Some-part-2.ensures ∙ ap (λ xs. frame_of p 0 ∷ xs) middle) in
     record {
+      most = c.loop-frame.invariant.most;
+      reached = (subst (FramesReached nodes c.args.root.0) back (reached_part nodes c.args.root.0 f (reverse rest) p at (subst (FramesReached nodes c.args.root.0) was c.loop-frame.invariant.reached.0)), c.loop-frame.invariant.reached.1);
       waiting = subst (AreWaiting nodes (HasRecord records)) back (waiting_part nodes (HasRecord records) (reverse rest) f p at inside waited);
       saving = λ (types : Table) (t : Ty) (v : Value) numbers h.
           subst (Saving types nodes (distinct [] (walk types t v)) records) back
@@ -98,6 +106,8 @@ loop-frame-preserved-else-is_none c =
     let back : frame_of f.node (f.next + 1) ∷ reverse rest ≡ reverse c.add-in-Some-part.new.frames.items =
     sym (turned c.add-in-Some-part.new.frames.items rest (frame_of f.node (f.next + 1)) c.in_ok-add-in-Some-part.ensures) in
     record {
+      most = c.loop-frame.invariant.most;
+      reached = (subst (FramesReached nodes c.args.root.0) back (subst (FramesReached nodes c.args.root.0) was c.loop-frame.invariant.reached.0), c.loop-frame.invariant.reached.1);
       waiting = subst (AreWaiting nodes (HasRecord records)) back
           (waiting_next nodes (HasRecord records) (reverse rest) f p.0 at has (subst (AreWaiting nodes (HasRecord records)) was c.loop-frame.invariant.waiting));
       saving = λ (types : Table) (t : Ty) (v : Value) numbers h.
@@ -137,6 +147,8 @@ loop-frame-preserved c =
     let have = subst (HaveRecords records) (refs_shown nodes f.node.0 form c.view-view.ensures.form) (waiting_whole nodes records (reverse rest) f over waited) in
     let added = c.in_ok-add-in-None.ensures.added in
     record {
+      most = c.in_ok-add-in-None.ensures.most ∙ c.loop-frame.invariant.most;
+      reached = (let met = subst (FramesReached nodes c.args.root.0) was c.loop-frame.invariant.reached.0 in (met.1, reached_add nodes c.args.root.0 f.node.0 form records new added met.0 c.loop-frame.invariant.reached.1));
       waiting = waiting_rest nodes (HasRecord records) (HasRecord new) (reverse rest) f (has_more form f records new added) waited;
       saving = λ (types : Table) (t : Ty) (v : Value) numbers h.
           saving_add types nodes (few_types types numbers) (distinct [] (walk types t v)) records form f (reverse rest) c.view-view.ensures.form over have
@@ -155,12 +167,18 @@ returns-in_err-add-in-None c =
     let waited = subst (AreWaiting nodes (HasRecord records)) was c.loop-frame.invariant.waiting in
     let have = subst (HaveRecords records) (refs_shown nodes f.node.0 form c.view-view.ensures.form) (waiting_whole nodes records (reverse rest) f over waited) in
     record {
+      reached = subst (λ (r : Result Records SaveFault). IfOk r (λ records. AllReached nodes c.args.root.0 (node_numbers records)))
+          (sym (same_error c.from_residual-in_err-add-in-None.result c.in_err-add-in-None.field-0.0 c.from_residual-in_err-add-in-None.ensures)) tt;
       saved = λ (types : Table) (t : Ty) (v : Value) numbers h.
-          subst (AreSaved types (distinct [] (walk types t v)))
+          subst (AreSaved c.args.most types (distinct [] (walk types t v)))
           (sym (same_error c.from_residual-in_err-add-in-None.result c.in_err-add-in-None.field-0.0 c.from_residual-in_err-add-in-None.ensures))
+          (subst (λ n. AreSaved n types (distinct [] (walk types t v)) (Err c.in_err-add-in-None.field-0.0)) c.loop-frame.invariant.most
           (saving_refused types nodes (few_types types numbers) (distinct [] (walk types t v)) records form f (reverse rest) c.view-view.ensures.form over have
           (subst (Saving types nodes (distinct [] (walk types t v)) records) was (c.loop-frame.invariant.saving types t v numbers h))
-          c.in_err-add-in-None.field-0.0 c.in_err-add-in-None.ensures.long);
+          c.in_err-add-in-None.field-0.0 c.in_err-add-in-None.ensures.long));
+      kept = λ (types : Table) (t : Ty) (v : Value) numbers h.
+          subst (λ (r : Result Records SaveFault). IfOk r (λ records. AreKeptFor types nodes (distinct [] (walk types t v)) records))
+          (sym (same_error c.from_residual-in_err-add-in-None.result c.in_err-add-in-None.field-0.0 c.from_residual-in_err-add-in-None.ensures)) tt;
     }
 
 pub returns : goal.returns
@@ -168,9 +186,13 @@ returns c =
     let nodes = nodes_in c.args.store.now in
     let records = c.loop-frame.records in
     let none : c.loop-frame.frames.items ≡ [] = emptied c.loop-frame.frames.items (omega (arith, c.in_default.ensures.cases.0, c.loop-frame.frames.ok.0)) in
-    let short : length (bytes_in records) ≤ most_bytes = omega (arith, records.counted, records.short) in
+    let short : length (bytes_in records) ≤ c.args.most = omega (arith, records.counted, records.short, c.loop-frame.invariant.most) in
     record {
+      reached = c.loop-frame.invariant.reached.1;
       saved = λ (types : Table) (t : Ty) (v : Value) numbers h.
-          saving_last types nodes (distinct [] (walk types t v)) records short
+          saving_last types nodes c.args.most (distinct [] (walk types t v)) records short
+          (subst (Saving types nodes (distinct [] (walk types t v)) records) (ap reverse none) (c.loop-frame.invariant.saving types t v numbers h));
+      kept = λ (types : Table) (t : Ty) (v : Value) numbers h.
+          saving_kept types nodes (distinct [] (walk types t v)) records
           (subst (Saving types nodes (distinct [] (walk types t v)) records) (ap reverse none) (c.loop-frame.invariant.saving types t v numbers h));
     }

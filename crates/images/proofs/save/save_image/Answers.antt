@@ -10,6 +10,7 @@ use Rattle.value_store.specs.Standing.{IdealNodes}
 use Rattle.value_store.specs.Stores.{nodes_in}
 use Rattle.value_store.proofs.StandingNodes.{there_stands}
 use Rattle.images.specs.LoadedRoots.{IsStateAt}
+use Rattle.images.specs.FormRecords.{most_bytes}
 use Rattle.images.specs.SavedRecords.{AreSaved}
 use Rattle.images.proofs.LoopFacts.{same_error}
 use Rattle.images.proofs.SavedLoads.{state_loads}
@@ -30,7 +31,7 @@ returns-in_err-records c =
     record {
       saved = λ (v : Value) h.
           let entries = distinct [] (walk P.types P.state v) in
-          let refused = subst (AreSaved P.types entries) c.in_err-records.was (c.records_of.ensures.saved P.types P.state v c.args.types.now.numbers h) in
+          let refused = subst (AreSaved most_bytes P.types entries) c.in_err-records.was (c.records_of.ensures.saved P.types P.state v c.args.types.now.numbers h) in
           subst (IsSaved (saved_image P digest v)) (sym (same_error c.from_residual.result c.in_err-records.field-0.0 c.from_residual.ensures))
           (image_refused P (every_format c.args.types.now []).image_magic_length digest digest_length v c.in_err-records.field-0.0 refused);
       loads = λ (v : Value) h.

@@ -1,0 +1,45 @@
+-- The pieces of a state, put into a mirror.
+use Rattle.std.specs.Prelude.{◌≡◌, ℕ, List, [], ◌∷◌, ◌++◌, map, refl, unwrap_or}
+use Rattle.core_terms.specs.Formats.{Hash}
+use Rattle.core_terms.specs.ProgramTypes.{types_meaning}
+use Rattle.core_terms.specs.Projection.{digest_at, projection}
+use Rattle.core_terms.specs.Spelling.{spelling}
+use Rattle.core_terms.specs.Terms.{Program}
+use Rattle.core_terms.specs.Types.{Ty}
+use Rattle.core_terms.specs.Values.{Value}
+use Rattle.core_terms.specs.declared.program_types.Types.{Types}
+use Rattle.value_store.specs.Nodes.{Node}
+use Rattle.value_store.specs.Standing.{ProverNodes, StandsFor}
+use Rattle.images.specs.AuthOrders.{auth_entries}
+use Rattle.images.specs.Images.{Entry}
+use Rattle.piece_mirror.specs.Mirrors.{added}
+
+module _ (hash : Hash) (P : Program) where
+  -- the node stands, over the prover's nodes, for this value of the type
+  abbrev pub IsProverValue : List Node → ℕ → Ty → Value → Type 0
+  IsProverValue nodes r t v = StandsFor (ProverNodes (digest_at hash P)) P.types nodes r t v
+
+  -- for this value of the state's type
+  abbrev pub IsProverState : List Node → ℕ → Value → Type 0
+  IsProverState nodes root v = IsProverValue nodes root P.state v
+
+  -- The piece of a value: the spelling of its projection, behind the fingerprint that digests at its type tell, where they tell one.
+  abbrev pub piece_of : Ty → Value → List ℕ
+  piece_of t v = unwrap_or (P.format.print hash t) [] ++ spelling (projection hash P t v)
+
+  abbrev pub pieces_of : List Entry → List (List ℕ)
+  pieces_of entries = map (λ e. piece_of e.of_type e.value) entries
+
+  -- the pieces of a state that a verifier may ask for, in the order of its image
+  abbrev pub pieces_in : Value → List (List ℕ)
+  pieces_in v = pieces_of (auth_entries P.types P.state v)
+
+-- the pieces after these were put, one after another
+abbrev pub all_added : List (List ℕ) → List (List ℕ) → List (List ℕ)
+all_added pieces [] = pieces
+all_added pieces (p ∷ ps) = all_added (added pieces p) ps
+
+-- In both formats a piece is found by the digest of the spelling at the type, which is what a verifier holds of the value.
+found_by_its_digest : (hash : Hash) (types : Types) (t : Ty) (v : Value)
+    → hash (piece_of hash (types_meaning types) t v) ≡ digest_at hash (types_meaning types) t (spelling (projection hash (types_meaning types) t v))
+found_by_its_digest hash types t v = refl
