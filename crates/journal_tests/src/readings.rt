@@ -1,7 +1,8 @@
 // Journals that are cut or changed, opened and read by the plain reader.
 
-use crate::plain::{Reading, holding, opened, read};
-use crate::stage::{ADDED, FIRST, code, journal_bytes, record, sound_disk};
+use crate::opening::opened;
+use crate::plain::{Reading, holding, read};
+use crate::stage::{ADDED, code, journal_bytes, record, sound_disk};
 use code_gen::Code;
 use core_terms::Hash32;
 use digest_layer::Sha;
@@ -32,15 +33,28 @@ fn each_changed_byte_is_read_as_plainly(rt: HostRuntime) -> Result<(), Fail> {
     let code = code(alloc)?;
     let bytes = journal_bytes(alloc, &ADDED)?;
     for place in 0..bytes.len() {
-        for change in [1, 2, 3, 0x80, 0xff] {
-            let mut changed = bytes.clone()?;
-            if let Some(byte) = changed.get_mut(place) {
-                *byte ^= change;
-            }
-            assert!(rt; agrees(alloc, &code, &changed)?, "{change} at {place}");
-        }
+        assert!(rt; agrees_changed(alloc, &code, &bytes, place)?, "at {place}");
     }
     Ok(())
+}
+
+/// Whether `open` gives what the plain reader does, whatever stands in this place.
+fn agrees_changed(
+    alloc: Global,
+    code: &Code,
+    bytes: &[u8],
+    place: usize,
+) -> Result<bool, AllocError> {
+    let mut changed = Vec::from_slice(alloc, bytes)?;
+    for value in 0..=255 {
+        if let Some(byte) = changed.get_mut(place) {
+            *byte = value;
+        }
+        if !agrees(alloc, code, &changed)? {
+            return Ok(false);
+        }
+    }
+    Ok(true)
 }
 
 #[test]
@@ -99,9 +113,10 @@ fn many(alloc: Global, commits: u32) -> Result<Vec<u8>, AllocError> {
 fn a_journal_has_at_most_4_095_records(rt: HostRuntime) -> Result<(), Fail> {
     let alloc = rt.alloc();
     let code = code(alloc)?;
+    let mut ones = Vec::new(alloc);
+    ones.resize(4_095, 1)?;
     let mut disk = sound_disk(alloc, &many(alloc, 4_095)?)?;
-    let full = holding(4_095, FIRST + 4_095);
-    assert!(rt; opened(alloc, &code, &mut disk)? == Some(full));
+    assert!(rt; opened(alloc, &code, &mut disk)? == Some(holding(&ones)));
     let mut disk = sound_disk(alloc, &many(alloc, 4_096)?)?;
     assert!(rt; opened(alloc, &code, &mut disk)? == Some(Reading::BadRecord(4_095)));
     Ok(())
