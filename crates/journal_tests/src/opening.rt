@@ -1,6 +1,7 @@
 // What `open` gives, in the words of the plain reader.
 
 use crate::plain::{Reading, UPDATE};
+use crate::stage::sound_disk;
 use code_gen::Code;
 use core_terms::Digest;
 use digest_layer::Sha;
@@ -8,6 +9,11 @@ use lam_outside::Disk;
 use session_turns::Commit;
 use std::alloc::{AllocError, Global};
 use version_journal::{JournalFault, Opened, open};
+
+/// What `open` gives of a file with these bytes.
+pub fn found(alloc: Global, code: &Code, bytes: &[u8]) -> Result<Option<Reading>, AllocError> {
+    opened(alloc, code, &mut sound_disk(alloc, bytes)?)
+}
 
 /// What `open` gives of the chosen file; none where the disk failed, or where it gives another thing than any reading.
 ///
@@ -20,28 +26,28 @@ pub fn opened<D: Disk>(
     disk: &mut D,
 ) -> Result<Option<Reading>, AllocError> {
     match open::<Sha, D>(alloc, disk, code) {
-        Ok(opened) => held(alloc, code, &opened),
+        Ok(opened) => {
+            let spelling = opened.shared.last_spelling::<Sha>(alloc, code)?;
+            Ok(held(&opened, spelling.as_bytes()))
+        }
         Err(fault) => told(fault),
     }
 }
 
-/// What was opened; none where its counts differ, or where a commit is no update.
-fn held(alloc: Global, code: &Code, opened: &Opened) -> Result<Option<Reading>, AllocError> {
-    let spelling = opened.shared.last_spelling::<Sha>(alloc, code)?;
-    let Some((last, _)) = spelling.as_bytes().split_first_chunk::<32>() else {
-        return Ok(None);
-    };
+/// What was opened, whose last version has this spelling; none where its counts differ, or where a commit is no update.
+fn held(opened: &Opened, spelling: &[u8]) -> Option<Reading> {
+    let (last, _) = spelling.split_first_chunk::<32>()?;
     let commits = u64::from(opened.journal.records());
     let calls = opened.shared.commits();
     let versions = opened.shared.versions().len() as u64;
     if calls.len() as u64 != commits || versions != commits + 1 {
-        return Ok(None);
+        return None;
     }
-    Ok(fuel_of(calls).map(|fuel| Reading::Holds {
+    Some(Reading::Holds {
         commits,
-        fuel,
+        fuel: fuel_of(calls)?,
         last: Digest(*last),
-    }))
+    })
 }
 
 /// The fuel of all commits; none where one is no update.

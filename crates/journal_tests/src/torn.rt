@@ -1,9 +1,9 @@
 // The files that a crash may leave of a disk that stopped, opened.
 
-use crate::opening::opened;
+use crate::opening::found;
 use crate::pending::{Pending, laid};
 use crate::plain::{Reading, holding};
-use crate::stage::{ADDED, sound_disk};
+use crate::stage::ADDED;
 use code_gen::Code;
 use std::alloc::{AllocError, Global};
 
@@ -31,8 +31,7 @@ impl<'a> Crash<'a> {
 
     /// Whether the file opens as it may.
     pub fn opens(&self, file: &[u8]) -> Result<bool, AllocError> {
-        let mut disk = sound_disk(self.alloc, file)?;
-        let found = opened(self.alloc, self.code, &mut disk)?;
+        let found = found(self.alloc, self.code, file)?;
         Ok(found == self.told || found == self.more)
     }
 
