@@ -50,18 +50,17 @@ impl Tally {
     }
 }
 
-/// Tries the values of three bytes whose number is a multiple of `step`, all of them where it is 0 or 1, and says how the files opened.
+/// Tries the values of three bytes whose number is a multiple of `step`, and says how the files opened.
 pub fn try_torn(rt: &HostRuntime, step: u64) -> Result<(), Trouble> {
     let alloc = rt.alloc();
     let code = code(alloc)?;
     let journal = two_puts(alloc, &code)?;
-    let tally = tally(alloc, &code, &journal, step.max(1))?;
     let Tally {
         files,
         kept,
         grown,
         other,
-    } = tally;
+    } = tally(alloc, &code, &journal, step)?;
     println!(rt; "files {files} kept {kept} grown {grown} other {other}")?;
     Ok(())
 }
@@ -133,16 +132,17 @@ fn found(alloc: Global, code: &Code, file: &[u8], last: &[u8]) -> Result<Found, 
 
 /// What was opened, where the last version is that of the two puts or another.
 fn judged(shared: &Shared, is_last: bool) -> Found {
+    let versions = shared.versions().len();
     match shared.commits() {
-        [first, second, more @ ..] if is_put(first, KEY) && is_put(second, KEY + 1) => {
-            match (more, shared.versions().len(), is_last) {
-                ([], 3, true) => Found::Kept,
-                ([_], 4, _) => Found::Grown,
-                _ => Found::Other,
-            }
-        }
+        [first, second] if are_puts(first, second) && versions == 3 && is_last => Found::Kept,
+        [first, second, _] if are_puts(first, second) && versions == 4 => Found::Grown,
         _ => Found::Other,
     }
+}
+
+/// Whether these are the two puts.
+fn are_puts(first: &Commit, second: &Commit) -> bool {
+    is_put(first, KEY) && is_put(second, KEY + 1)
 }
 
 /// Whether the commit is the put of this key, with itself as the value.
