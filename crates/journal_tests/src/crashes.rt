@@ -18,7 +18,7 @@ struct Stopped {
 }
 
 /// A journal on a disk that stops after so many calls of three appends.
-fn stopped(alloc: Global, code: &Code, stop: u64) -> Result<Stopped, AllocError> {
+fn stopped_after(alloc: Global, code: &Code, stop: u64) -> Result<Stopped, AllocError> {
     // choose, len, and the two calls of make come first
     let mut disk = disk(alloc, b"", calls(alloc, stop.saturating_add(4), 40)?)?;
     let told = told(alloc, code, &mut disk)?;
@@ -48,7 +48,7 @@ fn a_disk_that_stops_leaves_the_commits_that_were_told(rt: HostRuntime) -> Resul
     let alloc = rt.alloc();
     let code = code(alloc)?;
     for stop in 0..13 {
-        let stopped = stopped(alloc, &code, stop)?;
+        let stopped = stopped_after(alloc, &code, stop)?;
         assert_eq!(rt; stopped.told as u64, stop / 4);
         let crash = Crash::new(alloc, &code, &stopped.left, stopped.told);
         assert!(rt; crash.opens(&stopped.reads)?, "stopped after {stop}");
@@ -62,8 +62,8 @@ fn a_write_that_fails_leaves_what_one_that_is_made_does(rt: HostRuntime) -> Resu
     let alloc = rt.alloc();
     let code = code(alloc)?;
     for stop in [0, 2, 4, 6, 8, 10] {
-        let failed = stopped(alloc, &code, stop)?.left;
-        let made = stopped(alloc, &code, stop + 1)?.left;
+        let failed = stopped_after(alloc, &code, stop)?.left;
+        let made = stopped_after(alloc, &code, stop + 1)?.left;
         assert_eq!(rt; failed.synced.as_slice(), made.synced.as_slice());
         assert_eq!(rt; failed.at, made.at);
         assert_eq!(rt; failed.written.as_slice(), made.written.as_slice());
@@ -77,7 +77,7 @@ fn a_torn_byte_makes_no_other_commit(rt: HostRuntime) -> Result<(), Fail> {
     let alloc = rt.alloc();
     let code = code(alloc)?;
     for (stop, size) in [(1, 23), (3, 1), (5, 23), (7, 1), (9, 23), (11, 1), (12, 0)] {
-        let stopped = stopped(alloc, &code, stop)?;
+        let stopped = stopped_after(alloc, &code, stop)?;
         assert_eq!(rt; stopped.left.written.len(), size);
         let crash = Crash::new(alloc, &code, &stopped.left, stopped.told);
         assert!(rt; crash.keeps_fronts()?, "stopped after {stop}");
@@ -90,7 +90,7 @@ fn two_or_three_torn_bytes_make_no_commit(rt: HostRuntime) -> Result<(), Fail> {
     let alloc = rt.alloc();
     let code = code(alloc)?;
     for stop in [1, 5, 9] {
-        let stopped = stopped(alloc, &code, stop)?;
+        let stopped = stopped_after(alloc, &code, stop)?;
         let crash = Crash::new(alloc, &code, &stopped.left, stopped.told);
         assert!(rt; crash.keeps_few()?, "stopped after {stop}");
     }

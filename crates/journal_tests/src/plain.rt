@@ -40,6 +40,30 @@ struct Held {
     last: i64,
 }
 
+impl Held {
+    fn reading(self) -> Reading {
+        Reading::Holds {
+            commits: self.commits,
+            fuel: self.fuel,
+            last: Sha::of(&self.last.to_be_bytes()),
+        }
+    }
+
+    /// What is left with one record more; none where that is no update, or does not end.
+    fn with(self, record: Record<'_>) -> Option<Held> {
+        let is_update = self.commits < MOST_RECORDS && record.role == UPDATE;
+        let can_end = LEAST_FUEL <= record.fuel && record.fuel <= MOST_FUEL;
+        if !is_update || !can_end || record.argument.len() != 8 {
+            return None;
+        }
+        Some(Held {
+            commits: self.commits.saturating_add(1),
+            fuel: self.fuel.saturating_add(record.fuel),
+            last: self.last.checked_add(int(record.argument)?)?,
+        })
+    }
+}
+
 /// The parts of a record, and the bytes behind it.
 #[derive(Clone, Copy)]
 struct Record<'a> {
@@ -52,21 +76,14 @@ struct Record<'a> {
 /// What a journal is of commits that add so much.
 pub fn holding(added: &[i64]) -> Reading {
     let commits = added.len() as u64;
-    reading(Held {
+    let held = Held {
         commits,
         fuel: FUEL.wrapping_mul(commits),
         last: added
             .iter()
             .fold(FIRST, |last, int| last.wrapping_add(*int)),
-    })
-}
-
-fn reading(held: Held) -> Reading {
-    Reading::Holds {
-        commits: held.commits,
-        fuel: held.fuel,
-        last: Sha::of(&held.last.to_be_bytes()),
-    }
+    };
+    held.reading()
 }
 
 /// So many bytes, and those behind them.
@@ -143,12 +160,12 @@ fn read_records(cut: Reading, int: i64, bytes: &[u8]) -> Reading {
             return cut;
         };
         if *gate != 1 {
-            return reading(held);
+            return held.reading();
         }
-        let Some(record) = record(behind) else {
+        let Some(record) = first_record(behind) else {
             return cut;
         };
-        let Some(next) = with_record(held, record) else {
+        let Some(next) = held.with(record) else {
             return Reading::BadRecord(held.commits);
         };
         held = next;
@@ -158,7 +175,7 @@ fn read_records(cut: Reading, int: i64, bytes: &[u8]) -> Reading {
 }
 
 /// The record that the bytes begin with.
-fn record(bytes: &[u8]) -> Option<Record<'_>> {
+fn first_record(bytes: &[u8]) -> Option<Record<'_>> {
     let (role, rest) = part(bytes, 2)?;
     let (fuel, rest) = part(rest, 8)?;
     let (size, rest) = part(rest, 4)?;
@@ -168,19 +185,5 @@ fn record(bytes: &[u8]) -> Option<Record<'_>> {
         fuel: number(fuel),
         argument,
         rest,
-    })
-}
-
-/// What is left with one record more.
-fn with_record(held: Held, record: Record<'_>) -> Option<Held> {
-    let is_update = held.commits < MOST_RECORDS && record.role == UPDATE;
-    let can_end = LEAST_FUEL <= record.fuel && record.fuel <= MOST_FUEL;
-    if !is_update || !can_end || record.argument.len() != 8 {
-        return None;
-    }
-    Some(Held {
-        commits: held.commits.saturating_add(1),
-        fuel: held.fuel.saturating_add(record.fuel),
-        last: held.last.checked_add(int(record.argument)?)?,
     })
 }
