@@ -1,6 +1,7 @@
 // Journals that are made and appended to.
 
-use crate::plain::{holding, opened};
+use crate::opening::{found, opened};
+use crate::plain::holding;
 use crate::stage::{ADDED, append, calls, code, commit, disk, journal_bytes, made, sound_disk};
 use lam_outside::Disk;
 use std::test::Fail;
@@ -24,8 +25,7 @@ fn what_is_appended_stands_byte_by_byte(rt: HostRuntime) -> Result<(), Fail> {
     }
     assert_eq!(rt; disk.bytes(), journal_bytes(alloc, &ADDED)?.as_slice());
     assert_eq!(rt; disk.calls().len(), 14);
-    let all = holding(3, 328);
-    assert!(rt; opened(alloc, &code, &mut disk)? == Some(all));
+    assert!(rt; found(alloc, &code, disk.bytes())? == Some(holding(&ADDED)));
     Ok(())
 }
 

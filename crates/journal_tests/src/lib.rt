@@ -6,6 +6,10 @@ mod appended;
 #[cfg(test)]
 mod crashes;
 #[cfg(test)]
+mod opening;
+#[cfg(test)]
+mod pending;
+#[cfg(test)]
 mod plain;
 #[cfg(test)]
 mod readings;
@@ -13,3 +17,5 @@ mod readings;
 mod real;
 #[cfg(test)]
 mod stage;
+#[cfg(test)]
+mod torn;

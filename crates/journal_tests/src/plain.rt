@@ -1,28 +1,90 @@
-// A plain reader of journals of the program, and what `open` gives, in the same words.
+// A plain reader of journals of the program.
 
-use crate::stage::digest;
-use code_gen::Code;
+use crate::stage::{FIRST, FUEL, digest};
 use core_terms::{Digest, Hash32};
 use digest_layer::Sha;
-use lam_outside::Disk;
-use std::alloc::{AllocError, Global};
-use version_journal::{JournalFault, open};
 
 /// What a journal of the program is.
 #[derive(Clone, Copy, PartialEq)]
 pub enum Reading {
-    /// It holds so many commits, which leave a version with this digest.
-    Holds { commits: u32, last: Digest },
+    /// It holds so many updates, with so much fuel in all, which leave a version with this digest.
+    Holds {
+        commits: u64,
+        fuel: u64,
+        last: Digest,
+    },
     Magic,
     Cut(u64),
     OtherProgram,
     /// Its image isn't that of an int.
     Image,
-    BadRecord(u32),
+    BadRecord(u64),
 }
 
-/// The least fuel of an update that ends.
-pub const LEAST_FUEL: u64 = 1;
+/// The number of the update among the roles.
+pub const UPDATE: u64 = 2;
+
+/// The least fuel of an update that ends, and the most that is allowed.
+const LEAST_FUEL: u64 = 1;
+
+const MOST_FUEL: u64 = 1_000_000_000_000;
+
+/// The most records.
+const MOST_RECORDS: u64 = 4_095;
+
+/// What the records of a journal leave.
+#[derive(Clone, Copy)]
+struct Held {
+    commits: u64,
+    fuel: u64,
+    last: i64,
+}
+
+impl Held {
+    fn reading(self) -> Reading {
+        Reading::Holds {
+            commits: self.commits,
+            fuel: self.fuel,
+            last: Sha::of(&self.last.to_be_bytes()),
+        }
+    }
+
+    /// What is left with one record more; none where that is no update, or does not end.
+    fn with(self, record: Record<'_>) -> Option<Held> {
+        let is_update = self.commits < MOST_RECORDS && record.role == UPDATE;
+        let can_end = LEAST_FUEL <= record.fuel && record.fuel <= MOST_FUEL;
+        if !is_update || !can_end || record.argument.len() != 8 {
+            return None;
+        }
+        Some(Held {
+            commits: self.commits.saturating_add(1),
+            fuel: self.fuel.saturating_add(record.fuel),
+            last: self.last.checked_add(int(record.argument)?)?,
+        })
+    }
+}
+
+/// The parts of a record, and the bytes behind it.
+#[derive(Clone, Copy)]
+struct Record<'a> {
+    role: u64,
+    fuel: u64,
+    argument: &'a [u8],
+    rest: &'a [u8],
+}
+
+/// What a journal is of commits that add so much.
+pub fn holding(added: &[i64]) -> Reading {
+    let commits = added.len() as u64;
+    let held = Held {
+        commits,
+        fuel: FUEL.wrapping_mul(commits),
+        last: added
+            .iter()
+            .fold(FIRST, |last, int| last.wrapping_add(*int)),
+    };
+    held.reading()
+}
 
 /// So many bytes, and those behind them.
 fn part(bytes: &[u8], count: u64) -> Option<(&[u8], &[u8])> {
@@ -43,14 +105,6 @@ fn number(bytes: &[u8]) -> u64 {
     bytes
         .iter()
         .fold(0, |number, byte| (number << 8) | u64::from(*byte))
-}
-
-/// So many commits, which leave this int.
-pub fn holding(commits: u32, last: i64) -> Reading {
-    Reading::Holds {
-        commits,
-        last: Sha::of(&last.to_be_bytes()),
-    }
 }
 
 /// What the bytes are.
@@ -95,87 +149,41 @@ fn int_of(image: &[u8]) -> Option<i64> {
 
 /// What the records leave of an int.
 fn read_records(cut: Reading, int: i64, bytes: &[u8]) -> Reading {
-    let mut last = int;
+    let mut held = Held {
+        commits: 0,
+        fuel: 0,
+        last: int,
+    };
     let mut rest = bytes;
-    for commits in 0..5_000 {
-        let Some((gate, behind)) = part(rest, 1) else {
+    for _ in 0..=MOST_RECORDS {
+        let Some((gate, behind)) = rest.split_first() else {
             return cut;
         };
-        if gate != b"\x01".as_slice() {
-            return holding(commits, last);
+        if *gate != 1 {
+            return held.reading();
         }
-        let Some((front, argument, behind)) = record(behind) else {
+        let Some(record) = first_record(behind) else {
             return cut;
         };
-        let Some(next) = raised(commits, last, front, argument) else {
-            return Reading::BadRecord(commits);
+        let Some(next) = held.with(record) else {
+            return Reading::BadRecord(held.commits);
         };
-        last = next;
-        rest = behind;
+        held = next;
+        rest = record.rest;
     }
     cut
 }
 
-/// The role and the fuel of a record, its argument, and what is behind it.
-fn record(bytes: &[u8]) -> Option<(&[u8], &[u8], &[u8])> {
-    let (front, rest) = part(bytes, 10)?;
+/// The record that the bytes begin with.
+fn first_record(bytes: &[u8]) -> Option<Record<'_>> {
+    let (role, rest) = part(bytes, 2)?;
+    let (fuel, rest) = part(rest, 8)?;
     let (size, rest) = part(rest, 4)?;
     let (argument, rest) = part(rest, number(size))?;
-    Some((front, argument, rest))
-}
-
-/// What the record with this number leaves of an int.
-fn raised(commits: u32, last: i64, front: &[u8], argument: &[u8]) -> Option<i64> {
-    let (role, fuel) = part(front, 2)?;
-    let fuel = number(fuel);
-    let allowed = commits <= 4_094 && number(role) == 2 && fuel <= 1_000_000_000_000;
-    if !allowed || argument.len() != 8 || fuel < LEAST_FUEL {
-        return None;
-    }
-    last.checked_add(int(argument)?)
-}
-
-/// What `open` gives of the chosen file; none where the disk failed, or where it gives another thing than any reading.
-///
-/// # Errors
-///
-/// `AllocError` where memory runs out.
-pub fn opened<D: Disk>(
-    alloc: Global,
-    code: &Code,
-    disk: &mut D,
-) -> Result<Option<Reading>, AllocError> {
-    match open::<Sha, D>(alloc, disk, code) {
-        Ok(opened) => {
-            let commits = opened.journal.records();
-            let spelling = opened.shared.last_spelling::<Sha>(alloc, code)?;
-            let versions = opened.shared.versions().len();
-            if opened.shared.commits().len() as u64 != u64::from(commits)
-                || versions as u64 != u64::from(commits) + 1
-            {
-                return Ok(None);
-            }
-            match spelling.as_bytes().split_first_chunk::<32>() {
-                Some((last, _)) => Ok(Some(Reading::Holds {
-                    commits,
-                    last: Digest(*last),
-                })),
-                None => Ok(None),
-            }
-        }
-        Err(fault) => told(fault),
-    }
-}
-
-/// A fault in the words of readings.
-fn told(fault: JournalFault) -> Result<Option<Reading>, AllocError> {
-    match fault {
-        JournalFault::Magic => Ok(Some(Reading::Magic)),
-        JournalFault::Cut(size) => Ok(Some(Reading::Cut(size))),
-        JournalFault::OtherProgram => Ok(Some(Reading::OtherProgram)),
-        JournalFault::Image(_) => Ok(Some(Reading::Image)),
-        JournalFault::BadRecord(number) => Ok(Some(Reading::BadRecord(number))),
-        JournalFault::DiskFault | JournalFault::NotEmpty | JournalFault::Failed => Ok(None),
-        JournalFault::NoMemory => Err(AllocError),
-    }
+    Some(Record {
+        role: number(role),
+        fuel: number(fuel),
+        argument,
+        rest,
+    })
 }

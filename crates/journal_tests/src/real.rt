@@ -1,5 +1,7 @@
 // Three appends to the disk of the machine, which stops after each of its calls, and its file opened again.
-use crate::plain::{Reading, opened};
+
+use crate::opening::opened;
+use crate::plain::Reading;
 use crate::stage::{ADDED, append, code, made};
 use host_disk::{HostDisk, StoppingDisk};
 use lam_outside::Disk;
@@ -42,7 +44,7 @@ fn the_file_of_a_disk_that_stopped_opens(rt: HostRuntime) -> Result<(), Fail> {
             return Err(Fail::new(format_args!("no journal after {stop}")));
         };
         // What was written is there, synced or not, where the machine goes on: with the third call of an append its gate is open.
-        assert_eq!(rt; u64::from(commits), (stop + 1) / 4);
+        assert_eq!(rt; commits, (stop + 1) / 4);
     }
     let _ = fs::remove_file(&rt, name);
     Ok(())

@@ -28,12 +28,12 @@ pub const FUEL: u64 = 100;
 pub const NAME: &str = "journal";
 
 /// The code of the program.
-pub fn code(alloc: Global) -> Result<Code, AllocError> {
+pub fn code(alloc: Global) -> Result<Box<Code>, AllocError> {
     let Ok(ast) = parse(alloc, TEXT) else {
         return Err(AllocError);
     };
     match check(alloc, ast, Sha::of(TEXT)) {
-        Ok(program) => Code::generate(program, alloc),
+        Ok(program) => Ok(Box::new(alloc, Code::generate(program, alloc)?)?),
         Err(_) => Err(AllocError),
     }
 }
@@ -64,23 +64,26 @@ pub fn commit(alloc: Global, added: i64) -> Result<Commit, AllocError>
     })
 }
 
-/// The record of a commit, byte by byte.
-pub fn record(alloc: Global, added: i64) -> Result<Vec<u8>, AllocError> {
-    let mut bytes = Vec::from_slice(alloc, &[0, 2, 0, 0, 0, 0, 0, 0, 0, 100, 0, 0, 0, 8])?;
-    bytes.extend_from_slice(&added.to_be_bytes())?;
+/// What stands before the first gate of a journal, byte by byte.
+pub fn head(alloc: Global) -> Result<Vec<u8>, AllocError> {
+    let mut bytes = Vec::from_slice(alloc, b"LAJ1")?;
+    bytes.extend_from_slice(digest().as_bytes())?;
+    bytes.extend_from_slice(&[0, 0, 0, 54])?;
+    bytes.extend_from_slice(&image(alloc, FIRST)?)?;
     Ok(bytes)
+}
+
+/// Puts an open gate behind a journal, and the record of a commit that adds.
+pub fn put_record(bytes: &mut Vec<u8>, added: i64) -> Result<(), AllocError> {
+    bytes.extend_from_slice(&[1, 0, 2, 0, 0, 0, 0, 0, 0, 0, 100, 0, 0, 0, 8])?;
+    bytes.extend_from_slice(&added.to_be_bytes())
 }
 
 /// A journal of commits that add so much, byte by byte.
 pub fn journal_bytes(alloc: Global, added: &[i64]) -> Result<Vec<u8>, AllocError> {
-    let image = image(alloc, FIRST)?;
-    let mut bytes = Vec::from_slice(alloc, b"LAJ1")?;
-    bytes.extend_from_slice(digest().as_bytes())?;
-    bytes.extend_from_slice(&[0, 0, 0, 54])?;
-    bytes.extend_from_slice(&image)?;
+    let mut bytes = head(alloc)?;
     for int in added {
-        bytes.push(1)?;
-        bytes.extend_from_slice(&record(alloc, *int)?)?;
+        put_record(&mut bytes, *int)?;
     }
     bytes.push(0)?;
     Ok(bytes)

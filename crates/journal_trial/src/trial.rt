@@ -17,8 +17,14 @@ use version_journal::{Journal, JournalFault, make, open};
 /// The longest text of a program, in bytes.
 const MAX_PROGRAM: usize = 262_144;
 
+/// The fuel of each put.
+pub const FUEL: u64 = 1_000_000;
+
+/// The number of `put` among the roles of the search tree.
+pub const PUT: usize = 2;
+
 /// The code of the library's search tree.
-fn code(alloc: Global) -> Result<Code, AllocError> {
+pub fn code(alloc: Global) -> Result<Code, AllocError> {
     if BST.len() > MAX_PROGRAM {
         return Err(AllocError);
     }
@@ -52,12 +58,17 @@ fn chosen<'a>(rt: &'a HostRuntime, file: &str) -> Result<HostDisk<'a>, Trouble> 
 pub fn make_empty(rt: &HostRuntime, file: &str) -> Result<(), Trouble> {
     let alloc = rt.alloc();
     let code = code(alloc)?;
+    made(alloc, &mut chosen(rt, file)?, &code)?;
+    Ok(())
+}
+
+/// A new journal of an empty tree, in the chosen file, which has no bytes.
+pub fn made<D: Disk>(alloc: Global, disk: &mut D, code: &Code) -> Result<Journal, Trouble> {
     let image = image(alloc)?;
     if image.len() > 100 {
         return Err(Trouble::Outside);
     }
-    make(alloc, &mut chosen(rt, file)?, &code, &image)?;
-    Ok(())
+    Ok(make(alloc, disk, code, &image)?)
 }
 
 /// Opens a journal, and says what it holds.
@@ -91,8 +102,8 @@ pub fn append_puts(
     Ok(())
 }
 
-/// How many of so many puts were appended, up to the first that failed.
-fn appended<D: Disk>(
+/// How many of so many puts of keys from this one on were appended, up to the first that failed.
+pub fn appended<D: Disk>(
     alloc: Global,
     journal: &mut Journal,
     disk: &mut D,
@@ -120,8 +131,8 @@ fn put(alloc: Global, key: u64) -> Result<Commit, AllocError>
     let mut argument = Vec::from_slice(alloc, &key.to_be_bytes())?;
     argument.extend_from_slice(&key.to_be_bytes())?;
     Ok(Commit {
-        role: RoleId(2),
+        role: RoleId(PUT),
         argument: Spelling::new(argument),
-        fuel: 1_000_000,
+        fuel: FUEL,
     })
 }

@@ -21,7 +21,9 @@ impl Trouble {
     /// What is printed.
     pub fn text(self) -> &'static str {
         match self {
-            Trouble::Usage => "journal_trial make FILE | append FILE KEY COUNT CALLS | open FILE",
+            Trouble::Usage => {
+                "journal_trial make FILE | append FILE KEY COUNT CALLS | open FILE | torn STEP"
+            }
             Trouble::Unchosen => "not chosen",
             Trouble::Outside => "the outside failed",
             Trouble::Journal(fault) => fault_text(fault),
