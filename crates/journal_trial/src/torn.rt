@@ -60,7 +60,7 @@ pub fn try_torn(rt: &HostRuntime, step: u64) -> Result<(), Trouble> {
         kept,
         grown,
         other,
-    } = tally(alloc, &code, &journal, step)?;
+    } = tally_of(alloc, &code, &journal, step)?;
     println!(rt; "files {files} kept {kept} grown {grown} other {other}")?;
     Ok(())
 }
@@ -90,14 +90,14 @@ fn disk(alloc: Global, bytes: &[u8]) -> Result<MemDisk, AllocError> {
 }
 
 /// How the files open that have three bytes behind the journal.
-fn tally(alloc: Global, code: &Code, journal: &[u8], step: u64) -> Result<Tally, AllocError> {
+fn tally_of(alloc: Global, code: &Code, journal: &[u8], step: u64) -> Result<Tally, AllocError> {
     let last = last_spelling(alloc, code, journal)?;
     let mut tally = Tally::default();
     for number in 0..VALUES {
         if number.is_multiple_of(step) {
             let [.., first, second, third] = number.to_be_bytes();
             let file = with_torn(alloc, journal, &[first, second, third])?;
-            tally.count(found(alloc, code, &file, last.as_bytes())?);
+            tally.count(found_in(alloc, code, &file, last.as_bytes())?);
         }
     }
     Ok(tally)
@@ -119,7 +119,7 @@ fn with_torn(alloc: Global, journal: &[u8], torn: &[u8]) -> Result<Vec<u8>, Allo
 }
 
 /// What the file opens with, where the two puts leave a version with this spelling.
-fn found(alloc: Global, code: &Code, file: &[u8], last: &[u8]) -> Result<Found, AllocError> {
+fn found_in(alloc: Global, code: &Code, file: &[u8], last: &[u8]) -> Result<Found, AllocError> {
     match open::<Sha, MemDisk>(alloc, &mut disk(alloc, file)?, code) {
         Ok(opened) => {
             let spelling = opened.shared.last_spelling::<Sha>(alloc, code)?;
