@@ -7,6 +7,21 @@ from by_clauses import changes_by_clause
 
 LEMMAS, CODE = {}, {}
 
+# What an expression says that is one field of a record, of what its clause can't be told.
+FORMS = [
+    ("as_spelled: digested without the type", "digest = digest_at hash P; reading", "digest = λ t bytes. hash bytes; reading"),
+    ("as_spelled: a piece has the front", "piece = λ t bytes. bytes }", "piece = λ t bytes. front_at t ++ bytes }"),
+    ("as_whole: digested behind the front", "digest = λ t bytes. hash bytes;", "digest = λ t bytes. hash (front_at t ++ bytes);"),
+    ("as_whole: read without the front", "read_behind (front_at t) (read_at P t) bytes;", "read_at P t bytes;"),
+    ("as_whole: a piece is the spelling", "piece = λ t bytes. front_at t ++ bytes;", "piece = λ t bytes. bytes;"),
+    ("as_whole: the front stands behind", "piece = λ t bytes. front_at t ++ bytes;", "piece = λ t bytes. bytes ++ front_at t;"),
+    ("read_behind: offsets are counted from the spelling", "then further 1 (read_behind front reading bytes)", "then read_behind front reading bytes"),
+    ("read_behind: any byte in front", "if nat_eq c b then", "if nat_eq c c then"),
+    ("read_behind: a front alone is whole", "read_behind (c ∷ front) reading [] = BadAt 0", "read_behind (c ∷ front) reading [] = reading []"),
+    ("further: a fault stays", "further n (BadAt offset) = BadAt (n + offset)", "further n (BadAt offset) = BadAt offset"),
+    ("front_at: none", "front_at t = unwrap_or (P.format.print hash t) []", "front_at t = []"),
+]
+
 CHANGES = {
     "Run": [
         ("then_run: an end loses its fuel", "then_run (Ends stop k w) go = Ends stop k w", "then_run (Ends stop k w) go = Ends stop zero w"),
@@ -359,18 +374,18 @@ CHANGES = {
         ),
         ("cause_of: held comes before the number", "= BadUse place k held", "= BadUse place held k"),
         ("opened: the offset comes first", "Refuses (BadPiece place offset) w", "Refuses (BadPiece offset place) w"),
-        ("take_piece: any digest", "if bytes_eq (digest_at hash P t bytes) want", "if bytes_eq want want"),
+        ("take_piece: any digest", "if bytes_eq (form.digest t bytes) want", "if bytes_eq want want"),
         (
             "take_piece: the digest at unit",
-            "if bytes_eq (digest_at hash P t bytes) want",
+            "if bytes_eq (form.digest t bytes) want",
             "if bytes_eq (digest_at hash P UnitTy bytes) want",
             "use Rattle.core_terms.specs.Types.{Ty}",
             "use Rattle.core_terms.specs.Types.{Ty, UnitTy}",
         ),
         (
             "take_piece: found comes before want",
-            "WrongPiece place want (digest_at hash P t bytes)",
-            "WrongPiece place (digest_at hash P t bytes) want",
+            "WrongPiece place want (form.digest t bytes)",
+            "WrongPiece place (form.digest t bytes) want",
         ),
         (
             "take_piece: the place stands still",
@@ -474,7 +489,7 @@ CHANGES = {
             "opened (Good v rest end) place w = Refuses (BadPiece place end) w",
         ),
         ("take_piece: the end at the first place", "Refuses (cause_of e place want) w", "Refuses (cause_of e zero want) w"),
-        ("checked_mode: each piece is the first", "take_piece t (digest_in v) w.place w.more w", "take_piece t (digest_in v) zero w.more w"),
+        ("checked_mode: each piece is the first", "take_as t (digest_in v) w.place w.more w", "take_piece t (digest_in v) zero w.more w"),
         ("with_rest: nothing is left over", "with_rest o zero = Accepted o", "with_rest o zero = Rejected (Leftover zero)"),
         ("judged: any cause is a header", "judged (Ends (Rejects c) k w) = Rejected c", "judged (Ends (Rejects c) k w) = Rejected Header"),
         (
@@ -496,12 +511,12 @@ CHANGES = {
         ),
         (
             "take_piece: the digest of the spelling alone",
-            "if bytes_eq (digest_at hash P t bytes) want",
+            "if bytes_eq (form.digest t bytes) want",
             "if bytes_eq (hash bytes) want",
         ),
         (
             "take_piece: the spelling's own digest is told",
-            "Refuses (WrongPiece place want (digest_at hash P t bytes)) w",
+            "Refuses (WrongPiece place want (form.digest t bytes)) w",
             "Refuses (WrongPiece place want (hash bytes)) w",
         ),
         (
@@ -605,13 +620,13 @@ CHANGES = {
         ("TookHonest: any place", "    pub place : w.place ≡ began.place + length seen\n", "    pub place : Unit {0}\n"),
         (
             "OffersOther: of any digest",
-            "    pub one_digest : digest_at hash P x.ty found ≡ digest_at hash P x.ty (honest_bytes hash P x)\n",
+            "    pub one_digest : form.digest x.ty found ≡ form.digest x.ty (honest_as x)\n",
             "    pub one_digest : Unit {0}\n",
         ),
         (
             "Follows: with any fuel",
-            "Follows project began (Gives a k seen) checked = (w : Taking) × (checked ≡ Gives (project a) k w) × TookHonest began seen w",
-            "Follows project began (Gives a k seen) checked = (w : Taking) × (fuel : ℕ) × (checked ≡ Gives (project a) fuel w) × TookHonest began seen w",
+            "FollowsAs project began (Gives a k seen) checked = (w : Taking) × (checked ≡ Gives (project a) k w) × TookHonestAs began seen w",
+            "FollowsAs project began (Gives a k seen) checked = (w : Taking) × (fuel : ℕ) × (checked ≡ Gives (project a) fuel w) × TookHonestAs began seen w",
         ),
     ],
     "Operations": [
@@ -708,4 +723,5 @@ CHANGES = {
     ],
 }
 
-CHANGES.update(changes_by_clause("ideal_meaning", ["Fetched"]))
+CHANGES.update(changes_by_clause("ideal_meaning", ["Fetched", "PieceForms"]))
+CHANGES["PieceForms"] += FORMS

@@ -7,6 +7,7 @@ use Rattle.core_terms.specs.Terms.{Program}
 use Rattle.core_terms.specs.Projection.{digest_at, projection, projections, AllFit}
 use Rattle.core_terms.proofs.ReadBack.{shallow_is}
 use Rattle.ideal_meaning.specs.Ideal.{Opened, ideal_mode}
+use Rattle.ideal_meaning.specs.PieceForms.{as_spelled}
 use Rattle.ideal_meaning.specs.Checked.{Taking, Cause, checked_mode}
 use Rattle.ideal_meaning.specs.Agreement.{Follows, Parts}
 use Rattle.ideal_meaning.proofs.InHand.{IsHeld, held_inputs}
@@ -44,7 +45,7 @@ module _ (hash : Hash) (is_hash : IsHash hash) (format : Format) (is_format : Is
     both_ran t Q R (Ran r) Stuck g h m = elim h [ ]
     both_ran t Q R Stuck d g h m = elim g [ ]
 
-    at_start : InStep hash (over format types) ⊥ began [] began
+    at_start : InStep hash (over format types) (as_spelled hash (over format types)) ⊥ began [] began
     at_start = record { honest = record { pieces = refl; place = omega arith; fit = tt }; lefts = refl; ideals = tt; coherent = λ c. c }
 
     pub agreed : IsAccepted (record { limit = format.limit; types = types; functions = functions }) → (n f : ℕ) (args : Values) (k : ℕ)

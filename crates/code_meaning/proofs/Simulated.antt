@@ -9,6 +9,7 @@ use Rattle.core_terms.specs.Terms.{Program}
 use Rattle.core_terms.specs.Projection.{digest_at, projection, projections}
 use Rattle.ideal_meaning.specs.Run.{Run, Gives, Ends, IsOut, Rejects, with_fuel, local, join, arith_of, compare_of, text_compare_of, limited, fill_of, get_of, put_of, state_of}
 use Rattle.ideal_meaning.specs.Ideal.{Opened, ideal_mode}
+use Rattle.ideal_meaning.specs.PieceForms.{as_spelled}
 use Rattle.ideal_meaning.specs.Checked.{Taking, Cause, checked_mode, take_piece, digest_in}
 use Rattle.ideal_meaning.specs.Agreement.{as_checked, OffersOther, IsRefused}
 use Rattle.ideal_meaning.proofs.InHand.{IsHeld, AreHeld, at_con, held_unit, held_bool, held_int, held_text, held_auth, held_local, local_projection, held_join, join_projection, held_pair, held_first, held_second, held_con, held_parts, held_elements, at_items}
@@ -68,14 +69,14 @@ module _ (hash : Hash) (format : Format) (is_format : IsFormat format) (Deep : T
   AllProjected ts vs = projections hash P ts vs
 
   abbrev Synced : List Opened → Taking → Type 0
-  Synced s w = InStep hash P Deep began s w
+  Synced s w = InStep hash P (as_spelled hash P) Deep began s w
 
   abbrev Same : Ty → Run ⊥ (List Opened) Value → Run Cause Taking Value → Type 0
-  Same t r q = Both hash P is_format Deep began t r q
+  Same t r q = Both hash P (as_spelled hash P) is_format Deep began t r q
 
   -- where neither is stuck, the runs agree at a value of type t
   abbrev pub Meets : Ty → Coded ⊥ (List Opened) → Coded Cause Taking → Type 0
-  Meets t c d = (r : Run ⊥ (List Opened) Value) (q : Run Cause Taking Value) → c ≡ Ran r → d ≡ Ran q → Both hash P is_format Deep began t r q
+  Meets t c d = (r : Run ⊥ (List Opened) Value) (q : Run Cause Taking Value) → c ≡ Ran r → d ≡ Ran q → Both hash P (as_spelled hash P) is_format Deep began t r q
 
   meets : (t : Ty) (r : Run ⊥ (List Opened) Value) (q : Run Cause Taking Value) → Same t r q → Meets t (Ran r) (Ran q)
   meets t r q h r' q' e d =
@@ -86,7 +87,7 @@ module _ (hash : Hash) (format : Format) (is_format : IsFormat format) (Deep : T
   -- runs that have parted stay so, whatever follows
   parted_later : (t z : Ty) (ideal : Run ⊥ (List Opened) Value) (checked : Run Cause Taking Value) (g : Value → ℕ → Taking → Coded Cause Taking)
       (r : Run ⊥ (List Opened) Value) (q : Run Cause Taking Value)
-      → Parted hash P Deep began ideal checked → (added : List Opened) → state_of r ≡ state_of ideal ++ added → then_code checked g ≡ Ran q → Same z r q
+      → Parted hash P (as_spelled hash P) Deep began ideal checked → (added : List Opened) → state_of r ≡ state_of ideal ++ added → then_code checked g ≡ Ran q → Same z r q
   parted_later t z ideal checked g r q p added grown d =
       inr (record {
         parts = record {
@@ -210,7 +211,7 @@ module _ (hash : Hash) (format : Format) (is_format : IsFormat format) (Deep : T
   -- Instructions, where calls agree.
   module _ (z : Ty) (ideal_call : ℕ → Values → ℕ → List Opened → Coded ⊥ (List Opened)) (checked_call : ℕ → Values → ℕ → Taking → Coded Cause Taking)
       (adds : (f : ℕ) (vs : Values) (k : ℕ) (s : List Opened) → Adds s (ideal_call f vs k s))
-      (calls : (f : ℕ) (vs : Values) (k : ℕ) (s : List Opened) (w : Taking) → AreHeld P Deep (code_at B f).parameters vs → InStep hash P Deep began s w
+      (calls : (f : ℕ) (vs : Values) (k : ℕ) (s : List Opened) (w : Taking) → AreHeld P Deep (code_at B f).parameters vs → InStep hash P (as_spelled hash P) Deep began s w
       → Meets (code_at B f).result (ideal_call f vs k s) (checked_call f (projections hash P (code_at B f).parameters vs) k w)) where
     -- one instruction, in each run
     abbrev ideal_act : Instruction → Next ⊥ (List Opened) → List Held → List Held → ℕ → List Opened → Coded ⊥ (List Opened)
@@ -246,7 +247,7 @@ module _ (hash : Hash) (format : Format) (is_format : IsFormat format) (Deep : T
     acts Pair ls (b ∷ (a ∷ os)) to fit next next' grow go vs (AndV v (AndV u us)) k s w l o y =
         after (PairTy a b) z (limited format.limit types (PairTy a b) (PairV u v) k s) (limited format.limit types (PairTy a b) (PairV (Projected a u) (Projected b v)) k w)
         (λ x k s. next 0 (tie ls vs) (held (PairTy a b) x ∷ tie os us) k s) (λ x k w. next' 0 (tie ls (AllProjected ls vs)) (held (PairTy a b) x ∷ tie os (AllProjected os us)) k w)
-        (both_limited hash P is_format Deep began (PairTy a b) (PairV u v) (PairV (Projected a u) (Projected b v)) k s w refl (λ p q. held_pair P Deep a b u v o.1.0 o.0 p q) y)
+        (both_limited hash P (as_spelled hash P) is_format Deep began (PairTy a b) (PairV u v) (PairV (Projected a u) (Projected b v)) k s w refl (λ p q. held_pair P Deep a b u v o.1.0 o.0 p q) y)
         (λ x k s. grow 0 _ _ k s) (λ x k s w h y. go 0 ls (PairTy a b ∷ os) fit vs (AndV x us) k s w l (h, o.1.1) y)
     acts Fst ls (PairTy a b ∷ os) to fit next next' grow go vs (AndV v us) k s w l o y =
         at_pair types (λ v. Known (PairTy a b) v → Meets z (ideal_act Fst next (tie ls vs) (held (PairTy a b) v ∷ tie os us) k s)
@@ -264,7 +265,7 @@ module _ (hash : Hash) (format : Format) (is_format : IsFormat format) (Deep : T
         (λ xs rest a r. after (NamedTy number) z (limited format.limit types (NamedTy number) (ConV tag xs) k s) (limited format.limit types (NamedTy number) (ConV tag (AllProjected ts xs)) k w)
         (λ x k s. next 0 (tie ls vs) (held (NamedTy number) x ∷ tie fit.1 rest) k s)
         (λ x k w. next' 0 (tie ls (AllProjected ls vs)) (held (NamedTy number) x ∷ tie fit.1 (AllProjected fit.1 rest)) k w)
-        (both_limited hash P is_format Deep began (NamedTy number) (ConV tag xs) (ConV tag (AllProjected ts xs)) k s w (ap (λ o. ConV tag (AllProjected (unwrap_or o []) xs)) (sym fit.2))
+        (both_limited hash P (as_spelled hash P) is_format Deep began (NamedTy number) (ConV tag xs) (ConV tag (AllProjected ts xs)) k s w (ap (λ o. ConV tag (AllProjected (unwrap_or o []) xs)) (sym fit.2))
         (λ p q. held_con P Deep number tag ts xs fit.2 a p q) y)
         (λ x k s. grow 0 _ _ k s) (λ x k s w h y. go 0 ls (NamedTy number ∷ fit.1) fit.4 vs (AndV x rest) k s w l (h, r) y)) us o
     acts (Switch number places) ls (NamedTy m ∷ os) to fit next next' grow go vs (AndV v us) k s w l o y =
@@ -309,7 +310,7 @@ module _ (hash : Hash) (format : Format) (is_format : IsFormat format) (Deep : T
         let seen : List Opened = s ++ record { ty = t; value = v } ∷ [] in
         subst (λ u. Known (AuthTy u) v → Meets z (then_code (Gives v k seen) F) (then_code (with_fuel k (take_piece hash P t (digest_in (Projected (AuthTy u) v)) w.place w.more w)) G)) (sym fit.0)
         (λ h. after t z (Gives v k seen) (with_fuel k (take_piece hash P t (digest_in (Projected (AuthTy t) v)) w.place w.more w)) F G
-        (opens hash P reads_back Deep began t v h k s w y) (λ x k s. grow 0 _ _ k s) (λ x k s w h y. go 0 ls (t ∷ os) fit.1 vs (AndV x us) k s w l (h, o.1) y)) o.0
+        (opens hash P (as_spelled hash P) (λ t bytes. refl) reads_back Deep began t v h k s w y) (λ x k s. grow 0 _ _ k s) (λ x k s w h y. go 0 ls (t ∷ os) fit.1 vs (AndV x us) k s w l (h, o.1) y)) o.0
     acts (ArithOp op) ls (IntTy ∷ (IntTy ∷ os)) to fit next next' grow go vs (AndV v (AndV u us)) k s w l o y =
         at_int types (λ u. Known IntTy u → Meets z (ideal_act (ArithOp op) next (tie ls vs) (held IntTy v ∷ (held IntTy u ∷ tie os us)) k s)
         (checked_act (ArithOp op) next' (tie ls (AllProjected ls vs)) (held IntTy (Projected IntTy v) ∷ (held IntTy (Projected IntTy u) ∷ tie os (AllProjected os us))) k w)) u o.1.0.ideal
@@ -317,7 +318,7 @@ module _ (hash : Hash) (format : Format) (is_format : IsFormat format) (Deep : T
         (checked_act (ArithOp op) next' (tie ls (AllProjected ls vs)) (held IntTy (Projected IntTy v) ∷ (held IntTy (IntV m) ∷ tie os (AllProjected os us))) k w)) v o.0.ideal
         (λ n. after IntTy z (arith_of op m n k s) (arith_of op m n k w) (λ x k s. next 0 (tie ls vs) (held IntTy x ∷ tie os us) k s)
         (λ x k w. next' 0 (tie ls (AllProjected ls vs)) (held IntTy x ∷ tie os (AllProjected os us)) k w)
-        (both_arith hash P is_format Deep began op m n k s w h.ideal y) (λ x k s. grow 0 _ _ k s) (λ x k s w h y. go 0 ls (IntTy ∷ os) fit vs (AndV x us) k s w l (h, o.1.1) y))) o.1.0
+        (both_arith hash P (as_spelled hash P) is_format Deep began op m n k s w h.ideal y) (λ x k s. grow 0 _ _ k s) (λ x k s w h y. go 0 ls (IntTy ∷ os) fit vs (AndV x us) k s w l (h, o.1.1) y))) o.1.0
     acts (CompareOp op) ls (IntTy ∷ (IntTy ∷ os)) to fit next next' grow go vs (AndV v (AndV u us)) k s w l o y =
         at_int types (λ u. Meets z (ideal_act (CompareOp op) next (tie ls vs) (held IntTy v ∷ (held IntTy u ∷ tie os us)) k s)
         (checked_act (CompareOp op) next' (tie ls (AllProjected ls vs)) (held IntTy (Projected IntTy v) ∷ (held IntTy (Projected IntTy u) ∷ tie os (AllProjected os us))) k w)) u o.1.0.ideal
@@ -337,7 +338,7 @@ module _ (hash : Hash) (format : Format) (is_format : IsFormat format) (Deep : T
         (checked_act Cat next' (tie ls (AllProjected ls vs)) (held TextTy (Projected TextTy v) ∷ (held TextTy (TextV m) ∷ tie os (AllProjected os us))) k w)) v o.0.ideal
         (λ n j. after TextTy z (limited format.limit types TextTy (TextV (m ++ n)) k s) (limited format.limit types TextTy (TextV (m ++ n)) k w)
         (λ x k s. next 0 (tie ls vs) (held TextTy x ∷ tie os us) k s) (λ x k w. next' 0 (tie ls (AllProjected ls vs)) (held TextTy x ∷ tie os (AllProjected os us)) k w)
-        (both_limited hash P is_format Deep began TextTy (TextV (m ++ n)) (TextV (m ++ n)) k s w refl (λ p q. held_text P is_format Deep (m ++ n) (IsUtf8-append m n i.ideal j.ideal) p) y)
+        (both_limited hash P (as_spelled hash P) is_format Deep began TextTy (TextV (m ++ n)) (TextV (m ++ n)) k s w refl (λ p q. held_text P is_format Deep (m ++ n) (IsUtf8-append m n i.ideal j.ideal) p) y)
         (λ x k s. grow 0 _ _ k s) (λ x k s w h y. go 0 ls (TextTy ∷ os) fit vs (AndV x us) k s w l (h, o.1.1) y)) o.0) o.1.0
     acts Len ls (TextTy ∷ os) to fit next next' grow go vs (AndV v us) k s w l o y =
         at_text types (λ v. Known TextTy v → Meets z (ideal_act Len next (tie ls vs) (held TextTy v ∷ tie os us) k s)
@@ -353,7 +354,7 @@ module _ (hash : Hash) (format : Format) (is_format : IsFormat format) (Deep : T
     acts (VecFill n) ls (t ∷ os) to fit next next' grow go vs (AndV v us) k s w l o y =
         after (VecTy n t) z (fill_of format.limit types n t v k s) (fill_of format.limit types n t (Projected t v) k w)
         (λ x k s. next 0 (tie ls vs) (held (VecTy n t) x ∷ tie os us) k s) (λ x k w. next' 0 (tie ls (AllProjected ls vs)) (held (VecTy n t) x ∷ tie os (AllProjected os us)) k w)
-        (both_fill hash P is_format Deep began n t v k s w o.0 y) (λ x k s. grow 0 _ _ k s) (λ x k s w h y. go 0 ls (VecTy n t ∷ os) fit.1 vs (AndV x us) k s w l (h, o.1) y)
+        (both_fill hash P (as_spelled hash P) is_format Deep began n t v k s w o.0 y) (λ x k s. grow 0 _ _ k s) (λ x k s w h y. go 0 ls (VecTy n t ∷ os) fit.1 vs (AndV x us) k s w l (h, o.1) y)
     acts VecGet ls (IntTy ∷ (VecTy n t ∷ os)) to fit next next' grow go vs (AndV i (AndV u us)) k s w l o y =
         at_items types (λ u. Known (VecTy n t) u → Meets z (ideal_act VecGet next (tie ls vs) (held IntTy i ∷ (held (VecTy n t) u ∷ tie os us)) k s)
         (checked_act VecGet next' (tie ls (AllProjected ls vs)) (held IntTy (Projected IntTy i) ∷ (held (VecTy n t) (Projected (VecTy n t) u) ∷ tie os (AllProjected os us))) k w)) n t u o.1.0.ideal
@@ -361,7 +362,7 @@ module _ (hash : Hash) (format : Format) (is_format : IsFormat format) (Deep : T
         (checked_act VecGet next' (tie ls (AllProjected ls vs)) (held IntTy (Projected IntTy i) ∷ (held (VecTy n t) (ItemsV (AllProjected (item_types n t) es)) ∷ tie os (AllProjected os us))) k w)) i o.0.ideal
         (λ c. after t z (get_of n es c k s) (get_of n (AllProjected (item_types n t) es) c k w)
         (λ x k s. next 0 (tie ls vs) (held t x ∷ tie os us) k s) (λ x k w. next' 0 (tie ls (AllProjected ls vs)) (held t x ∷ tie os (AllProjected os us)) k w)
-        (both_get hash P is_format Deep began n t es c k s w (held_elements P Deep n t es a h) y) (λ x k s. grow 0 _ _ k s)
+        (both_get hash P (as_spelled hash P) is_format Deep began n t es c k s w (held_elements P Deep n t es a h) y) (λ x k s. grow 0 _ _ k s)
         (λ x k s w h y. go 0 ls (t ∷ os) fit vs (AndV x us) k s w l (h, o.1.1) y))) o.1.0
     acts VecPut ls (t' ∷ (IntTy ∷ (VecTy n t ∷ os))) to fit next next' grow go vs (AndV v (AndV i (AndV u us))) k s w l o y =
         subst (λ t'. Known t' v → Meets z (ideal_act VecPut next (tie ls vs) (held t' v ∷ (held IntTy i ∷ (held (VecTy n t) u ∷ tie os us))) k s)
@@ -372,7 +373,7 @@ module _ (hash : Hash) (format : Format) (is_format : IsFormat format) (Deep : T
         (checked_act VecPut next' (tie ls (AllProjected ls vs)) (held t (Projected t v) ∷ (held IntTy (Projected IntTy i) ∷ (held (VecTy n t) (ItemsV (AllProjected (item_types n t) es)) ∷ tie os (AllProjected os us)))) k w)) i o.1.0.ideal
         (λ c. after (VecTy n t) z (put_of format.limit types n t es c v k s) (put_of format.limit types n t (AllProjected (item_types n t) es) c (Projected t v) k w)
         (λ x k s. next 0 (tie ls vs) (held (VecTy n t) x ∷ tie os us) k s) (λ x k w. next' 0 (tie ls (AllProjected ls vs)) (held (VecTy n t) x ∷ tie os (AllProjected os us)) k w)
-        (both_put hash P is_format Deep began n t es c v k s w (held_elements P Deep n t es a h) hv y) (λ x k s. grow 0 _ _ k s)
+        (both_put hash P (as_spelled hash P) is_format Deep began n t es c v k s w (held_elements P Deep n t es a h) hv y) (λ x k s. grow 0 _ _ k s)
         (λ x k s w h y. go 0 ls (VecTy n t ∷ os) fit.1 vs (AndV x us) k s w l (h, o.1.1.1) y))) o.1.1.0) o.0
     acts i ls (c ∷ (b ∷ (a ∷ os))) to fit next next' grow go vs (AndV v (AndV u NoV)) k s w l o y = elim o.1.1 [ ]
     acts i ls (b ∷ (a ∷ os)) to fit next next' grow go vs (AndV u NoV) k s w l o y = elim o.1 [ ]
@@ -395,7 +396,7 @@ module _ (hash : Hash) (format : Format) (is_format : IsFormat format) (Deep : T
     goes (i ∷ is) (sh ∷ shapes) f (suc skip) ls os at vs us k s w l o y = goes is shapes f.1 skip ls os at vs us k s w l o y
 
   -- calls of accepted code, with any bound on nesting, wherever the runs stand
-  pub called : IsAccepted B → (n f : ℕ) (vs : Values) (k : ℕ) (s : List Opened) (w : Taking) → AreHeld P Deep (code_at B f).parameters vs → InStep hash P Deep began s w
+  pub called : IsAccepted B → (n f : ℕ) (vs : Values) (k : ℕ) (s : List Opened) (w : Taking) → AreHeld P Deep (code_at B f).parameters vs → InStep hash P (as_spelled hash P) Deep began s w
       → Meets (code_at B f).result (call_code B ideal_mode n f vs k s) (call_code B (checked_mode hash P) n f (projections hash P (code_at B f).parameters vs) k w)
   called accepted zero f vs k s w h y = meets (code_at B f).result (Ends IsOut k s) (Ends IsOut k w) (inl (w, refl, y))
   called accepted (suc n) f vs zero s w h y = meets (code_at B f).result (Ends IsOut 0 s) (Ends IsOut 0 w) (inl (w, refl, y))

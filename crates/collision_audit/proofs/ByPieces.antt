@@ -13,6 +13,7 @@ use Rattle.ideal_meaning.specs.Checked.{Cause, Header, Rejected, Taking, Verdict
 use Rattle.ideal_meaning.specs.Frames.{End, NoMore, Offer, Offers, header, offered, offered_pieces}
 use Rattle.ideal_meaning.specs.Headline.{call_of}
 use Rattle.ideal_meaning.specs.Ideal.{Opened, Outcome, Piece, honest_bytes, honest_piece, honest_pieces, ideal, outcome, outcome_projection}
+use Rattle.ideal_meaning.specs.PieceForms.{as_spelled}
 use Rattle.ideal_meaning.specs.Run.{Refuses, Run, state_of}
 use Rattle.ideal_meaning.proofs.Calls.{calls_agree}
 use Rattle.ideal_meaning.proofs.InHand.{IsHeld}
@@ -191,14 +192,14 @@ module _ (hash : Hash) (is_hash : IsHash hash) (P : Program) (format : IsFormat 
   abbrev Audits : List Opened → Type 0
   Audits seen = unless_split (first_split hash P.format (offered_pieces began.more) (map (honest_piece hash P) seen)) (judged run') ≡ audit_from hash P.format result began.place (map (honest_piece hash P) seen) began.left began.more
 
-  same_all : IsSame hash P (Unit {0}) began (function_at P f).result (ideal P f args k) run' → Audits seen
+  same_all : IsSame hash P (as_spelled hash P) (Unit {0}) began (function_at P f).result (ideal P f args k) run' → Audits seen
   same_all same =
-      let y = same_state hash P (Unit {0}) began (function_at P f).result (ideal P f args k) run' same in
+      let y = same_state hash P (as_spelled hash P) (Unit {0}) began (function_at P f).result (ideal P f args k) run' same in
       let count : reached.0 ≡ length seen = omega (arith, place_behind reached.0 began (state_of run') reached.1, y.honest.place) in
       all_taken hash P result seen began (state_of run') (judged run') start (subst (λ j. ReachesIn j began (state_of run')) count reached.1) y.honest.pieces
-      (same_judged hash P (Unit {0}) began (function_at P f).result (ideal P f args k) run' same)
+      (same_judged hash P (as_spelled hash P) (Unit {0}) began (function_at P f).result (ideal P f args k) run' same)
 
-  module _ (p : Parted hash P (Unit {0}) began (ideal P f args k) run') where
+  module _ (p : Parted hash P (as_spelled hash P) (Unit {0}) began (ideal P f args k) run') where
     abbrev x : Opened
     x = p.parts.x
 
@@ -259,7 +260,7 @@ module _ (hash : Hash) (is_hash : IsHash hash) (P : Program) (format : IsFormat 
   pub judged_by_pieces : Audits seen
   judged_by_pieces = by (calls_agree hash P format typed (reads_back hash is_hash P format) (Unit {0}) began k f args k ideals fits (λ l. deep))
     where
-      by : Agree hash P (Unit {0}) began (IsHeld P (Unit {0}) (function_at P f).result) (projection hash P (function_at P f).result) (ideal P f args k) run' → Audits seen
+      by : Agree hash P (as_spelled hash P) (Unit {0}) began (IsHeld P (Unit {0}) (function_at P f).result) (projection hash P (function_at P f).result) (ideal P f args k) run' → Audits seen
       by (inl same) = same_all same
       by (inr p) = parts p
 

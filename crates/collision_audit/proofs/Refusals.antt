@@ -11,6 +11,7 @@ use Rattle.core_terms.specs.Terms.{Kind, Program, IsTyped, function_at}
 use Rattle.core_terms.specs.Values.{Value, Values, IsIdeal, AreIdeal}
 use Rattle.ideal_meaning.specs.Agreement.{AllOpenedFit, Follows, IsRefused, OffersOther, Parts, TookHonest, honest_so_far}
 use Rattle.ideal_meaning.specs.Checked.{Cause, Rejected, Taking, Verdict, WrongPiece, before_all, checked, judge, judged, opened, take_piece, with_argument, with_header, with_state}
+use Rattle.ideal_meaning.specs.PieceForms.{as_spelled}
 use Rattle.ideal_meaning.specs.Frames.{NoMore, Offer, Offers, header, offered, offered_pieces}
 use Rattle.ideal_meaning.specs.Headline.{call_of}
 use Rattle.ideal_meaning.specs.Ideal.{Opened, Piece, honest_bytes, honest_piece, honest_pieces, ideal}
@@ -136,7 +137,7 @@ module _ (hash : Hash) (P : Program) where
 
         no_split : OffersOther hash P p.x p.at → ⊥
         no_split d =
-            let split = split_after hash P p.before p.after p.x d.found d.later d.differs d.one_digest in
+            let split = split_after hash P (as_spelled hash P) p.before p.after p.x d.found d.later d.differs d.one_digest in
             let offers = p.honest.pieces ∙ ap (λ ps. honest_so_far hash P p.before ++ ps) d.next in
             let some = splits_somewhere hash P.format (length p.before) (honest_so_far hash P p.before ++ d.found ∷ d.later) (pieces_of (p.before ++ p.x ∷ p.after)) split in
             let found = ap (λ ps. first_split hash P.format ps (pieces_of (state_of run))) offers

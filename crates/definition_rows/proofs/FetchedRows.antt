@@ -5,6 +5,19 @@ use Rattle.definition_rows.specs.FetchedRows.{FetchedRows}
 
 pub fetched_rows : FetchedRows
 fetched_rows = record {
+  spelled_form = λ hash P t bytes. (refl, refl, refl);
+  whole_form = λ hash P t bytes. (refl, refl, refl);
+  fronts = λ hash P text most t. (refl, refl);
+  both_formats_are_of_whole = λ hash P text most. ((λ t bytes. refl), (λ t bytes. refl));
+  behind_a_front = λ r. refl;
+  behind_no_front = λ r. refl;
+  bad_front = λ r. (refl, refl, refl, refl);
+  read_further = λ v rest n place. (refl, refl);
+  whole_unit_is_accepted = refl;
+  spelling_alone_is_no_piece = refl;
+  front_is_cut = refl;
+  front_is_another = refl;
+  spelling_is_too_long = refl;
   offered_by_answers = λ bytes wire more. (refl, refl, refl, refl);
   first_is_asked = λ answers. refl;
   each_end = λ v trap cause k w. (refl, refl, refl, refl);

@@ -1,17 +1,20 @@
 -- Pieces that are fetched (`Fetched`): what is offered and told, and what each word of the headline and the companion takes and refuses.
-use Rattle.std.specs.Prelude.{◌≡◌, ◌⊎◌, ℕ, suc, List, [], ◌∷◌, ◌++◌, map, replicate}
+use Rattle.std.specs.Prelude.{◌≡◌, ◌⊎◌, ℕ, suc, ◌+◌, List, [], ◌∷◌, ◌++◌, map, replicate}
 use Rattle.core_terms.specs.Types.{Ty, UnitTy}
-use Rattle.core_terms.specs.Formats.{Hash}
-use Rattle.core_terms.specs.Projection.{digest_at}
+use Rattle.core_terms.specs.Formats.{Hash, fingerprint, first_format, second_format}
+use Rattle.core_terms.specs.Projection.{digest_at, read_at}
+use Rattle.core_terms.specs.Reading.{Read, Good, BadAt}
 use Rattle.core_terms.specs.Terms.{Program}
 use Rattle.core_terms.specs.Values.{Value, UnitV, Values}
 use Rattle.ideal_meaning.specs.Run.{Trap, Gives, Ends, Traps, IsOut, Rejects}
-use Rattle.ideal_meaning.specs.Ideal.{Outcome, Done, Trapped, Out, Opened, bytes_of, honest_bytes, honest_pieces, ideal, outcome, outcome_projection}
+use Rattle.ideal_meaning.specs.Ideal.{Outcome, Done, Trapped, Out, Opened, bytes_of, honest_bytes, ideal, outcome, outcome_projection}
+use Rattle.ideal_meaning.specs.PieceForms.{IsOfWhole, as_spelled, as_whole, front_at, further, read_behind}
 use Rattle.ideal_meaning.specs.Wire.{Wire}
 use Rattle.ideal_meaning.specs.Frames.{Breaks, Lacks, NoMore, Offers}
 use Rattle.ideal_meaning.specs.Checked.{Accepted, BadArgument, BadPiece, BadState, Broken, Cause, IsSplitAt, Missing, Rejected, Short, Taking, Verdict, WrongPiece, before_all}
 use Rattle.ideal_meaning.specs.Examples.{toy, unit_program}
-use Rattle.ideal_meaning.specs.Fetched.{Answered, Gave, GaveLast, Got, HasDigest, HoldsAll, IsBroken, IsLack, IsPiece, IsStore, TrueFromOrSplit, answered, asking, ended, verdict_from}
+use Rattle.ideal_meaning.specs.Fetched.{Answered, Gave, GaveLast, Got, HasDigest, HoldsAll, IsBroken, IsLack, IsPiece, IsStore, TrueFromOrSplit, answered, asking, ended, verdict_from, whole_pieces}
+use Rattle.definition_rows.specs.SecondFormatRows.{in_second}
 
 -- the verdict on opening a unit, where these are the answers
 abbrev pub on_answers : List Got → Verdict
@@ -21,7 +24,32 @@ on_answers answers = verdict_from toy unit_program UnitTy 1 (toy []) [] 1 answer
 abbrev pub May : ℕ → List ℕ → Got → ℕ → Type 0
 May old d a new = (suc old ≡ new) × HasDigest toy a d
 
+-- the verdict on the same call of a program in the second format
+abbrev pub on_whole_answers : List Got → Verdict
+on_whole_answers answers = verdict_from toy (in_second unit_program) UnitTy 1 (replicate 32 0) [] 1 answers
+
 pub record FetchedRows : Type 0 where
+  -- a piece of a proof is a spelling; one that is fetched has the type's fingerprint in front, where there is one
+  pub spelled_form : (hash : Hash) (P : Program) (t : Ty) (bytes : List ℕ)
+      → ((as_spelled hash P).digest t bytes ≡ digest_at hash P t bytes) × ((as_spelled hash P).reading t bytes ≡ read_at P t bytes) × ((as_spelled hash P).piece t bytes ≡ bytes)
+  pub whole_form : (hash : Hash) (P : Program) (t : Ty) (bytes : List ℕ)
+      → ((as_whole hash P).digest t bytes ≡ hash bytes) × ((as_whole hash P).reading t bytes ≡ read_behind (front_at hash P t) (read_at P t) bytes)
+      × ((as_whole hash P).piece t bytes ≡ front_at hash P t ++ bytes)
+  pub fronts : (hash : Hash) (P : Program) (text : List ℕ) (most : ℕ) (t : Ty)
+      → (front_at hash (record P { format = first_format most }) t ≡ []) × (front_at hash (record P { format = second_format text most }) t ≡ fingerprint hash (hash text) t)
+  pub both_formats_are_of_whole : (hash : Hash) (P : Program) (text : List ℕ) (most : ℕ)
+      → IsOfWhole hash (record P { format = first_format most }) × IsOfWhole hash (record P { format = second_format text most })
+  -- the first byte that is missing or another one is the fault, and offsets behind a front are those in the piece
+  pub behind_a_front : (r : Read Value) → read_behind (7 ∷ 8 ∷ []) (λ bytes. r) (7 ∷ 8 ∷ 9 ∷ []) ≡ further 1 (further 1 r)
+  pub behind_no_front : (r : Read Value) → read_behind [] (λ bytes. r) (7 ∷ []) ≡ r
+  pub bad_front : (r : Read Value) → (read_behind (7 ∷ 8 ∷ []) (λ bytes. r) [] ≡ BadAt 0) × (read_behind (7 ∷ 8 ∷ []) (λ bytes. r) (7 ∷ []) ≡ BadAt 1)
+      × (read_behind (7 ∷ 8 ∷ []) (λ bytes. r) (6 ∷ 8 ∷ []) ≡ BadAt 0) × (read_behind (7 ∷ 8 ∷ []) (λ bytes. r) (7 ∷ 9 ∷ 9 ∷ []) ≡ BadAt 1)
+  pub read_further : (v : Value) (rest : List ℕ) (n place : ℕ) → (further n (Good v rest place) ≡ Good v rest (n + place)) × (further n (BadAt place) ≡ BadAt (n + place))
+  pub whole_unit_is_accepted : on_whole_answers (IsPiece (replicate 32 0) ∷ []) ≡ Accepted (Done UnitV)
+  pub spelling_alone_is_no_piece : on_whole_answers (IsPiece [] ∷ []) ≡ Rejected (BadPiece 0 0)
+  pub front_is_cut : on_whole_answers (IsPiece (0 ∷ 0 ∷ 0 ∷ []) ∷ []) ≡ Rejected (BadPiece 0 3)
+  pub front_is_another : on_whole_answers (IsPiece (0 ∷ 5 ∷ 5 ∷ replicate 29 0) ∷ []) ≡ Rejected (BadPiece 0 1)
+  pub spelling_is_too_long : on_whole_answers (IsPiece (replicate 33 0) ∷ []) ≡ Rejected (BadPiece 0 32)
   -- what is offered, from the first piece on
   pub offered_by_answers : (bytes : List ℕ) (wire : Wire) (more : List Got) → (answered [] ≡ NoMore Lacks) × (answered (IsPiece bytes ∷ more) ≡ Offers bytes 0 (answered more))
       × (answered (IsLack ∷ more) ≡ NoMore Lacks) × (answered (IsBroken wire ∷ more) ≡ NoMore (Breaks wire))
@@ -68,10 +96,10 @@ pub record FetchedRows : Type 0 where
   -- what is accepted is true, with pieces that aren't asked for behind the honest ones; or there is a split
   pub true_or_split : (hash : Hash) (P : Program) (f : ℕ) (t : Ty) (args : Values) (k : ℕ) (pieces more : List (List ℕ)) (o : Outcome)
       → (TrueFromOrSplit hash P f t args k pieces more o
-      → ((pieces ≡ bytes_of (honest_pieces hash P f args k) ++ more) × (o ≡ outcome_projection hash P t (outcome (ideal P f args k))))
-      ⊎ ((i : ℕ) × IsSplitAt (digest_at hash P) pieces (honest_pieces hash P f args k) i))
-      × (pieces ≡ bytes_of (honest_pieces hash P f args k) ++ more → o ≡ outcome_projection hash P t (outcome (ideal P f args k)) → TrueFromOrSplit hash P f t args k pieces more o)
-      × ((i : ℕ) → IsSplitAt (digest_at hash P) pieces (honest_pieces hash P f args k) i → TrueFromOrSplit hash P f t args k pieces more o)
+      → ((pieces ≡ bytes_of (whole_pieces hash P f args k) ++ more) × (o ≡ outcome_projection hash P t (outcome (ideal P f args k))))
+      ⊎ ((i : ℕ) × IsSplitAt (λ t bytes. hash bytes) pieces (whole_pieces hash P f args k) i))
+      × (pieces ≡ bytes_of (whole_pieces hash P f args k) ++ more → o ≡ outcome_projection hash P t (outcome (ideal P f args k)) → TrueFromOrSplit hash P f t args k pieces more o)
+      × ((i : ℕ) → IsSplitAt (λ t bytes. hash bytes) pieces (whole_pieces hash P f args k) i → TrueFromOrSplit hash P f t args k pieces more o)
   -- a store gives a piece to its digest alone, and may lack one
   pub digest_of_a_piece : (hash : Hash) (b d : List ℕ) (wire : Wire) → (HasDigest hash (IsPiece b) d → hash b ≡ d) × (hash b ≡ d → HasDigest hash (IsPiece b) d)
       × HasDigest hash IsLack d × HasDigest hash (IsBroken wire) d

@@ -1,10 +1,8 @@
 -- The operations on arrays do what the words of lists say.
-use Rattle.std.proofs.Common.{◌≡◌, ◌≢◌, ℕ, zero, suc, ◌<◌, ◌≤◌, List, [], ◌∷◌, length, replicate, slice_get, Some, ℤ, pos, negsuc, refl, ap, subst, arith, lt-ltb, le-ltb}
-use Rattle.core_terms.specs.Types.{Ty, VecTy}
-use Rattle.core_terms.specs.Values.{Value, IntV, ItemsV, Values, NoV, AndV}
-use Rattle.core_terms.specs.Terms.{Program}
+use Rattle.std.proofs.Common.{◌≡◌, ◌≢◌, ℕ, zero, suc, ◌<◌, ◌∷◌, length, replicate, slice_get, Some, ℤ, pos, negsuc, refl, ap, arith, lt-ltb, le-ltb}
+use Rattle.core_terms.specs.Values.{Value, Values, NoV, AndV}
 use Rattle.ideal_meaning.specs.Run.{Run, Gives, Ends, Traps, Index, at_index, local, repeated, replaced}
-use Rattle.ideal_meaning.specs.Arrays.{ArrayRules, ArrayTable, IsOutside, IsWithAt, listed}
+use Rattle.ideal_meaning.specs.Arrays.{ArrayTable, IsOutside, IsWithAt, listed}
 
 listed_repeated : (m : ℕ) (v : Value) → listed (repeated m v) ≡ replicate m v
 listed_repeated zero v = refl

@@ -11,6 +11,7 @@ use Rattle.core_terms.specs.Roles.{role_result, IsRole, ReadsState}
 use Rattle.core_terms.specs.Projection.{projection, projections, Fits, AllFit, read_at}
 use Rattle.ideal_meaning.specs.Run.{Run, state_of}
 use Rattle.ideal_meaning.specs.Ideal.{Opened, ideal, outcome, outcome_projection, honest_bytes, honest_pieces, bytes_of}
+use Rattle.ideal_meaning.specs.PieceForms.{as_spelled}
 use Rattle.ideal_meaning.specs.Frames.{Offer, NoMore, Offers, offered, offered_pieces, honest_frames, frame_bytes, proof_file}
 use Rattle.ideal_meaning.specs.Checked.{Taking, Cause, checked, before_all, Verdict, Accepted, with_rest, judge, with_header, with_argument, with_state, on_argument, on_state, verdict_on}
 use Rattle.ideal_meaning.specs.Headline.{call_of, Companion}
@@ -29,7 +30,7 @@ use Rattle.ideal_meaning.proofs.RoleCalls.{parameters_are, result_is, plain_with
 module _ (hash : Hash) (is_hash : IsHash hash) (P : Program) (format : IsFormat P.format) where
   -- on the honest pieces the two runs never part
   never_parted : (began : Taking) (ideal : Run ⊥ (List Opened) Value) (checked : Run Cause Taking Value) → offered_pieces began.more ≡ honest_so_far hash P (state_of ideal)
-      → Parted hash P (Unit {0}) began ideal checked → ⊥
+      → Parted hash P (as_spelled hash P) (Unit {0}) began ideal checked → ⊥
   never_parted began ideal checked honest p =
       by (append_cancel_left (honest_so_far hash P p.parts.before) _ _ (sym p.parts.honest.pieces ∙ honest ∙ ap (honest_so_far hash P) p.parts.seen ∙ map-append (honest_bytes hash P) p.parts.before (p.parts.x ∷ p.parts.after))) p.parts.why
     where
@@ -58,13 +59,13 @@ module _ (hash : Hash) (is_hash : IsHash hash) (P : Program) (format : IsFormat 
   Honest = honest_so_far hash P (state_of (ideal P f args k))
 
   abbrev SameTo : Taking → Type 0
-  SameTo began = IsSame hash P (Unit {0}) began (function_at P f).result (ideal P f args k) (run_from began)
+  SameTo began = IsSame hash P (as_spelled hash P) (Unit {0}) began (function_at P f).result (ideal P f args k) (run_from began)
 
   -- on the honest pieces the runs are the same to the end
   same_on : (left : ℕ) (offer : Offer) → offered_pieces offer ≡ Honest → SameTo (before_all left offer)
   same_on left offer honest = by (calls_agree hash P format typed (reads_back hash is_hash P format) (Unit {0}) (before_all left offer) k f args k ideals fits (λ l. deep))
     where
-      by : Agree hash P (Unit {0}) (before_all left offer) (IsHeld P (Unit {0}) (function_at P f).result) (projection hash P (function_at P f).result) (ideal P f args k) (run_from (before_all left offer))
+      by : Agree hash P (as_spelled hash P) (Unit {0}) (before_all left offer) (IsHeld P (Unit {0}) (function_at P f).result) (projection hash P (function_at P f).result) (ideal P f args k) (run_from (before_all left offer))
           → SameTo (before_all left offer)
       by (inl h) = h
       by (inr p) = absurd (never_parted hash is_hash P format (before_all left offer) (ideal P f args k) _ honest p)
@@ -72,12 +73,12 @@ module _ (hash : Hash) (is_hash : IsHash hash) (P : Program) (format : IsFormat 
   honest_short : AllShort P.format.limit Honest
   honest_short =
       let same = same_on 0 (offer_of Honest) (offers_of Honest) in
-      let y = same_state hash P (Unit {0}) (before_all 0 (offer_of Honest)) (function_at P f).result (ideal P f args k) _ same in
+      let y = same_state hash P (as_spelled hash P) (Unit {0}) (before_all 0 (offer_of Honest)) (function_at P f).result (ideal P f args k) _ same in
       honest_are_short hash is_hash P format (state_of (ideal P f args k)) y.ideals y.honest.fit
 
   -- the value of the outcome is in hand, with all that is authenticated in it
   honest_held : OnDone (IsHeld P (Unit {0}) (function_at P f).result) (outcome (ideal P f args k))
-  honest_held = same_held hash P (Unit {0}) (before_all 0 (offer_of Honest)) (function_at P f).result (ideal P f args k) _ (same_on 0 (offer_of Honest) (offers_of Honest))
+  honest_held = same_held hash P (as_spelled hash P) (Unit {0}) (before_all 0 (offer_of Honest)) (function_at P f).result (ideal P f args k) _ (same_on 0 (offer_of Honest) (offers_of Honest))
 
   -- the frames of the honest pieces are accepted
   honest_judged : (n : ℕ) → n ≤ P.format.most_kept → (recent : List (List ℕ))
@@ -89,10 +90,10 @@ module _ (hash : Hash) (is_hash : IsHash hash) (P : Program) (format : IsFormat 
       let offers = frames_back P.format.limit n format.limit_fits low (length bytes) recent Honest honest_short (omega arith) in
       let began = before_all (length bytes) (offered P.format.limit bytes n recent) in
       let same = same_on (length bytes) (offered P.format.limit bytes n recent) offers.pieces in
-      let y = same_state hash P (Unit {0}) began (function_at P f).result (ideal P f args k) _ same in
+      let y = same_state hash P (as_spelled hash P) (Unit {0}) began (function_at P f).result (ideal P f args k) _ same in
       let empty = append_cancel_left Honest _ [] (sym y.honest.pieces ∙ offers.pieces ∙ sym (append-nil Honest)) in
       let none = no_rest (state_of (run_from began)).more ((state_of (run_from began)).left) empty (sym y.lefts ∙ offers.lefts) in
-      same_judged hash P (Unit {0}) began (function_at P f).result (ideal P f args k) _ same
+      same_judged hash P (as_spelled hash P) (Unit {0}) began (function_at P f).result (ideal P f args k) _ same
       ∙ ap (with_rest (outcome_projection hash P (function_at P f).result (outcome (ideal P f args k)))) none
 
 -- A call of a role that reads the state, on a state and an argument within the limits, and with all that is authenticated in the
@@ -131,7 +132,7 @@ module _ (hash : Hash) (is_hash : IsHash hash) (P : Program) (format : IsFormat 
       (state_deep, (plain_within P.format.limit P.types t argument role.plain argument_ideal, tt))
 
   pieces_are : pieces ≡ honest_so_far hash P (state_of (ideal P f args k))
-  pieces_are = bytes_are hash P (state_of (ideal P f args k))
+  pieces_are = bytes_are hash P (as_spelled hash P) (state_of (ideal P f args k))
 
   pub pieces_short : AllShort P.format.limit pieces
   pieces_short = subst (AllShort P.format.limit) (sym pieces_are) (honest_short hash is_hash P format typed f args k ideals fits deep)

@@ -8,6 +8,7 @@ use Rattle.core_terms.specs.Terms.{Kind, Program, function_at, IsTyped}
 use Rattle.core_terms.specs.Roles.{role_result, IsRole, ReadsState}
 use Rattle.core_terms.specs.Projection.{projection, projections, Fits, AllFit, read_at}
 use Rattle.ideal_meaning.specs.Ideal.{Outcome, ideal}
+use Rattle.ideal_meaning.specs.PieceForms.{as_spelled}
 use Rattle.ideal_meaning.specs.Frames.{offered, offered_pieces, header}
 use Rattle.ideal_meaning.specs.Checked.{checked, before_all, Accepted, judge, with_header, with_argument, with_state, verdict}
 use Rattle.ideal_meaning.specs.Agreement.{Agreement}
@@ -29,7 +30,7 @@ agreement hash is_hash P format typed nesting f args k began ideals fits =
 pub headline_of_frames : HeadlineOfFrames
 headline_of_frames hash is_hash P format typed f args k bytes n recent o ideals fits accepted =
     let began = before_all (length bytes) (offered P.format.limit bytes n recent) in
-    judged_well hash P ⊥ began (function_at P f).result (ideal P f args k) (checked hash P f (projections hash P (function_at P f).parameters args) k began) o
+    judged_well hash P (as_spelled hash P) ⊥ began (function_at P f).result (ideal P f args k) (checked hash P f (projections hash P (function_at P f).parameters args) k began) o
     (frames_coherent P.format.limit (length bytes) n recent bytes)
     (calls_agree hash P format typed (reads_back hash is_hash P format) ⊥ began k f args k ideals fits (λ l. absurd l)) accepted
 

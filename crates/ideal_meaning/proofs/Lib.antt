@@ -14,6 +14,7 @@ pub mod Simulation
 pub mod Calls
 pub mod Judged
 pub mod Projections
+pub mod WholePieces
 pub mod RoleCalls
 pub mod Headline
 pub mod NewPieces

@@ -8,31 +8,40 @@ use Rattle.core_terms.specs.Values.{Value, IsIdeal}
 use Rattle.core_terms.specs.Spelling.{spelling}
 use Rattle.core_terms.specs.Reading.{Good, BadAt}
 use Rattle.core_terms.specs.Terms.{Program}
-use Rattle.core_terms.specs.Projection.{digest_at, projection, Fits, read_at}
+use Rattle.core_terms.specs.Projection.{digest_at, projection, Fits}
 use Rattle.ideal_meaning.specs.Run.{Run, Gives, Refuses, with_fuel}
-use Rattle.ideal_meaning.specs.Ideal.{Opened, honest_bytes}
+use Rattle.ideal_meaning.specs.Ideal.{Opened}
+use Rattle.ideal_meaning.specs.PieceForms.{PieceForm, as_spelled}
 use Rattle.ideal_meaning.specs.Frames.{Offer, NoMore, Offers, offered_pieces}
-use Rattle.ideal_meaning.specs.Checked.{Taking, Cause, WrongPiece, BadPiece, cause_of, opened, take_piece, digest_in}
-use Rattle.ideal_meaning.specs.Agreement.{IsRefused, honest_so_far}
+use Rattle.ideal_meaning.specs.Checked.{Taking, Cause, WrongPiece, BadPiece, cause_of, opened, take_as, digest_in}
+use Rattle.ideal_meaning.specs.Agreement.{IsRefusedAs, honest_as, honest_all_as}
 use Rattle.ideal_meaning.proofs.InHand.{IsHeld}
 use Rattle.ideal_meaning.proofs.Relation.{fit_next, ideal_next, InStep, Agree}
 
+-- the piece of a spelling has the digest of the spelling
+abbrev pub IsFormOf : Hash → Program → PieceForm → Type 0
+IsFormOf hash P form = (t : Ty) (bytes : List ℕ) → form.digest t (form.piece t bytes) ≡ digest_at hash P t bytes
+
 -- The honest piece of a value is read back as its projection, and the value is within the limits; or the piece is refused, and
 -- the value isn't.
-abbrev pub ReadsBack : Hash → Program → Ty → Value → Type 0
-ReadsBack hash P t v =
-    (Fits P t v × ((place : ℕ) × (read_at P t (spelling (projection hash P t v)) ≡ Good (projection hash P t v) [] place)))
-    ⊎ ((Fits P t v → ⊥) × ((place : ℕ) × (read_at P t (spelling (projection hash P t v)) ≡ BadAt place)))
+abbrev pub ReadsBackAs : Hash → Program → PieceForm → Ty → Value → Type 0
+ReadsBackAs hash P form t v =
+    (Fits P t v × ((place : ℕ) × (form.reading t (form.piece t (spelling (projection hash P t v))) ≡ Good (projection hash P t v) [] place)))
+    ⊎ ((Fits P t v → ⊥) × ((place : ℕ) × (form.reading t (form.piece t (spelling (projection hash P t v))) ≡ BadAt place)))
 
-module _ (hash : Hash) (P : Program) (reads_back : (t : Ty) (v : Value) → IsIdeal P.types t v → ReadsBack hash P t v) (Deep : Type 0) (began : Taking) where
+-- as a spelling
+abbrev pub ReadsBack : Hash → Program → Ty → Value → Type 0
+ReadsBack hash P t v = ReadsBackAs hash P (as_spelled hash P) t v
+
+module _ (hash : Hash) (P : Program) (form : PieceForm) (is_form : IsFormOf hash P form) (reads_back : (t : Ty) (v : Value) → IsIdeal P.types t v → ReadsBackAs hash P form t v) (Deep : Type 0) (began : Taking) where
   -- one more piece that is the honest one
   in_step_next : (s : List Opened) (x : Opened) → IsIdeal P.types x.ty x.value → Fits P x.ty x.value → (place left n : ℕ) (more : Offer)
-      → InStep hash P Deep began s (record { place = place; left = left; more = Offers (honest_bytes hash P x) n more })
-      → InStep hash P Deep began (s ++ x ∷ []) (record { place = suc place; left = n; more = more })
+      → InStep hash P form Deep began s (record { place = place; left = left; more = Offers (honest_as hash P form x) n more })
+      → InStep hash P form Deep began (s ++ x ∷ []) (record { place = suc place; left = n; more = more })
   in_step_next s x ideal fits place left n more y =
-      let e : honest_so_far hash P (s ++ x ∷ []) ++ offered_pieces more ≡ honest_so_far hash P s ++ (honest_bytes hash P x ∷ offered_pieces more) =
-      ap (λ l. l ++ offered_pieces more) (map-append (honest_bytes hash P) s (x ∷ []))
-      ∙ append_assoc (honest_so_far hash P s) (honest_bytes hash P x ∷ []) (offered_pieces more) in
+      let e : honest_all_as hash P form (s ++ x ∷ []) ++ offered_pieces more ≡ honest_all_as hash P form s ++ (honest_as hash P form x ∷ offered_pieces more) =
+      ap (λ l. l ++ offered_pieces more) (map-append (honest_as hash P form) s (x ∷ []))
+      ∙ append_assoc (honest_all_as hash P form s) (honest_as hash P form x ∷ []) (offered_pieces more) in
       let p : place ≡ began.place + length s = y.honest.place in
       record {
         honest = record { pieces = y.honest.pieces ∙ sym e; place = omega (arith, length-append s (x ∷ [])); fit = fit_next P s x y.honest.fit fits };
@@ -43,15 +52,18 @@ module _ (hash : Hash) (P : Program) (reads_back : (t : Ty) (v : Value) → IsId
 
   -- v is opened at t, after s, with fuel k
   module _ (t : Ty) (v : Value) (h : IsHeld P Deep (AuthTy t) v) (k : ℕ) (s : List Opened) where
+    abbrev spelled : List ℕ
+    spelled = spelling (projection hash P t v)
+
     abbrev piece : List ℕ
-    piece = spelling (projection hash P t v)
+    piece = form.piece t spelled
 
     -- the digest that is held
     abbrev want : List ℕ
-    want = digest_at hash P t piece
+    want = digest_at hash P t spelled
 
-    same_want : bytes_eq want want ≡ true
-    same_want = (bytes_eq-Decides want want).1 refl
+    same_want : bytes_eq (form.digest t piece) want ≡ true
+    same_want = (bytes_eq-Decides (form.digest t piece) want).1 (is_form t spelled)
 
     -- the verifier with n bytes left and more to come behind this piece
     abbrev At : ℕ → ℕ → List ℕ → ℕ → Offer → Taking
@@ -61,9 +73,9 @@ module _ (hash : Hash) (P : Program) (reads_back : (t : Ty) (v : Value) → IsId
     Next place n more = record { place = suc place; left = n; more = more }
 
     abbrev Agrees : Run Cause Taking Value → Type 0
-    Agrees checked = Agree hash P Deep began (IsHeld P Deep t) (projection hash P t) (Gives v k (s ++ record { ty = t; value = v } ∷ [])) checked
+    Agrees checked = Agree hash P form Deep began (IsHeld P Deep t) (projection hash P t) (Gives v k (s ++ record { ty = t; value = v } ∷ [])) checked
 
-    refused : (w : Taking) (checked : Run Cause Taking Value) → InStep hash P Deep began s w → IsRefused hash P (record { ty = t; value = v }) w checked → Agrees checked
+    refused : (w : Taking) (checked : Run Cause Taking Value) → InStep hash P form Deep began s w → IsRefusedAs hash P form (record { ty = t; value = v }) w checked → Agrees checked
     refused w checked y r =
         inr (record {
           parts = record { before = s; x = record { ty = t; value = v }; after = []; seen = refl; at = w; honest = y.honest; why = inr r };
@@ -72,10 +84,10 @@ module _ (hash : Hash) (P : Program) (reads_back : (t : Ty) (v : Value) → IsId
 
     module _ (place left n : ℕ) (more : Offer) where
       -- the piece is the honest one
-      honest : InStep hash P Deep began s (At place left piece n more) → Agrees (with_fuel k (opened hash P (read_at P t piece) place (Next place n more)))
+      honest : InStep hash P form Deep began s (At place left piece n more) → Agrees (with_fuel k (opened hash P (form.reading t piece) place (Next place n more)))
       honest y = by (reads_back t v h.ideal)
         where
-          by : ReadsBack hash P t v → Agrees (with_fuel k (opened hash P (read_at P t piece) place (Next place n more)))
+          by : ReadsBackAs hash P form t v → Agrees (with_fuel k (opened hash P (form.reading t piece) place (Next place n more)))
           by (inl r) =
               inl (
                 record { ideal = h.ideal; within = r.0; deep = λ l. (h.deep l).1 },
@@ -92,17 +104,17 @@ module _ (hash : Hash) (P : Program) (reads_back : (t : Ty) (v : Value) → IsId
                 fuel = k;
                 left = Next place n more;
                 is = ap (λ q. with_fuel k (opened hash P q place (Next place n more))) r.1.1;
-                refused = ap (λ b. if b then opened hash P (read_at P t piece) place (Next place n more) else Refuses (WrongPiece place want want) (At place left piece n more)) same_want
+                refused = ap (λ b. if b then opened hash P (form.reading t piece) place (Next place n more) else Refuses (WrongPiece place want (form.digest t piece)) (At place left piece n more)) same_want
                     ∙ ap (λ q. opened hash P q place (Next place n more)) r.1.1;
                 only = λ later e. (r.1.0, refl, r.0);
               })
 
       -- some piece with the digest of the honest one
-      same_digest : (bytes : List ℕ) → digest_at hash P t bytes ≡ digest_at hash P t piece → (b : Bool) → bytes_eq bytes piece ≡ b → InStep hash P Deep began s (At place left bytes n more)
-          → Agrees (with_fuel k (opened hash P (read_at P t bytes) place (Next place n more)))
+      same_digest : (bytes : List ℕ) → form.digest t bytes ≡ form.digest t piece → (b : Bool) → bytes_eq bytes piece ≡ b → InStep hash P form Deep began s (At place left bytes n more)
+          → Agrees (with_fuel k (opened hash P (form.reading t bytes) place (Next place n more)))
       same_digest bytes e true q y =
           let same : piece ≡ bytes = sym ((bytes_eq-Decides bytes piece).0 q) in
-          let F : List ℕ → Type 0 = λ bs. InStep hash P Deep began s (At place left bs n more) → Agrees (with_fuel k (opened hash P (read_at P t bs) place (Next place n more))) in
+          let F : List ℕ → Type 0 = λ bs. InStep hash P form Deep began s (At place left bs n more) → Agrees (with_fuel k (opened hash P (form.reading t bs) place (Next place n more))) in
           subst F same honest y
       same_digest bytes e false q y =
           let differs : bytes ≢ piece = λ r. true≢false (sym ((bytes_eq-Decides bytes piece).1 r) ∙ q) in
@@ -119,26 +131,26 @@ module _ (hash : Hash) (P : Program) (reads_back : (t : Ty) (v : Value) → IsId
             fits = λ l. (h.deep l).0;
           })
 
-    opens_at : (place left : ℕ) (more : Offer) → InStep hash P Deep began s (record { place = place; left = left; more = more })
-        → Agrees (with_fuel k (take_piece hash P t (digest_at hash P t piece) place more (record { place = place; left = left; more = more })))
+    opens_at : (place left : ℕ) (more : Offer) → InStep hash P form Deep began s (record { place = place; left = left; more = more })
+        → Agrees (with_fuel k (take_as hash P form t want place more (record { place = place; left = left; more = more })))
     opens_at place left (NoMore e) y =
-        refused _ _ y (record { cause = cause_of e place (digest_at hash P t piece); fuel = k; left = record { place = place; left = left; more = NoMore e }; is = refl; refused = refl; only = λ later e. absurd (cc) })
-    opens_at place left (Offers bytes n more) y = by (bytes_eq (digest_at hash P t bytes) (digest_at hash P t piece)) refl
+        refused _ _ y (record { cause = cause_of e place want; fuel = k; left = record { place = place; left = left; more = NoMore e }; is = refl; refused = refl; only = λ later e. absurd (cc) })
+    opens_at place left (Offers bytes n more) y = by (bytes_eq (form.digest t bytes) want) refl
       where
-        by : (b : Bool) → bytes_eq (digest_at hash P t bytes) (digest_at hash P t piece) ≡ b
-            → Agrees (with_fuel k (if b then opened hash P (read_at P t bytes) place (Next place n more) else Refuses (WrongPiece place (digest_at hash P t piece) (digest_at hash P t bytes)) (At place left bytes n more)))
-        by true e = same_digest place left n more bytes ((bytes_eq-Decides (digest_at hash P t bytes) (digest_at hash P t piece)).0 e) (bytes_eq bytes piece) refl y
+        by : (b : Bool) → bytes_eq (form.digest t bytes) want ≡ b
+            → Agrees (with_fuel k (if b then opened hash P (form.reading t bytes) place (Next place n more) else Refuses (WrongPiece place want (form.digest t bytes)) (At place left bytes n more)))
+        by true e = same_digest place left n more bytes ((bytes_eq-Decides (form.digest t bytes) want).0 e ∙ sym (is_form t spelled)) (bytes_eq bytes piece) refl y
         by false e =
             refused (At place left bytes n more) _ y
             (record {
-              cause = WrongPiece place (digest_at hash P t piece) (digest_at hash P t bytes);
+              cause = WrongPiece place want (form.digest t bytes);
               fuel = k;
               left = At place left bytes n more;
               is = refl;
-              refused = ap (λ b. if b then opened hash P (read_at P t bytes) place (Next place n more) else Refuses (WrongPiece place want (digest_at hash P t bytes)) (At place left bytes n more)) e;
-              only = λ later q. let same : bytes ≡ piece = cc in absurd (true≢false (sym ((bytes_eq-Decides (digest_at hash P t bytes) (digest_at hash P t piece)).1 (ap (digest_at hash P t) same)) ∙ e));
+              refused = ap (λ b. if b then opened hash P (form.reading t bytes) place (Next place n more) else Refuses (WrongPiece place want (form.digest t bytes)) (At place left bytes n more)) e;
+              only = λ later q. let same : bytes ≡ piece = cc in absurd (true≢false (sym ((bytes_eq-Decides (form.digest t bytes) want).1 (ap (form.digest t) same ∙ is_form t spelled)) ∙ e));
             })
 
     -- what `unauth` gives in both runs
-    pub opens : (w : Taking) → InStep hash P Deep began s w → Agrees (with_fuel k (take_piece hash P t (digest_in (projection hash P (AuthTy t) v)) w.place w.more w))
+    pub opens : (w : Taking) → InStep hash P form Deep began s w → Agrees (with_fuel k (take_as hash P form t (digest_in (projection hash P (AuthTy t) v)) w.place w.more w))
     opens w y = opens_at w.place w.left w.more y

@@ -7,7 +7,8 @@ use Rattle.core_terms.specs.Projection.{Fits}
 use Rattle.ideal_meaning.specs.Run.{Trap, Traps, Run, Gives, Ends, then_run, state_of}
 use Rattle.ideal_meaning.specs.Ideal.{Opened}
 use Rattle.ideal_meaning.specs.Checked.{Taking, Cause}
-use Rattle.ideal_meaning.specs.Agreement.{as_checked, AllOpenedFit, TookHonest, OffersOther, IsRefused, Parts}
+use Rattle.ideal_meaning.specs.PieceForms.{PieceForm}
+use Rattle.ideal_meaning.specs.Agreement.{as_checked, AllOpenedFit, TookHonestAs, OffersOtherAs, IsRefusedAs, PartsAs}
 use Rattle.ideal_meaning.proofs.Grows.{Grows}
 use Rattle.ideal_meaning.proofs.FramesBack.{last_left, Coherent}
 
@@ -24,18 +25,18 @@ pub fit_next : (P : Program) (s : List Opened) (x : Opened) → AllOpenedFit P s
 fit_next P [] x h w = (w, tt)
 fit_next P (y ∷ s) x h w = (h.0, fit_next P s x h.1 w)
 
--- Of a run that began with the verifier at `began`. `Deep` is the premise under which each authenticated value is within the limits.
-module _ (hash : Hash) (P : Program) (Deep : Type 0) (began : Taking) where
+-- Of a run that began with the verifier at `began`, where the pieces have this form. `Deep` is the premise under which each authenticated value is within the limits.
+module _ (hash : Hash) (P : Program) (form : PieceForm) (Deep : Type 0) (began : Taking) where
   -- the verifier took the honest pieces so far, and what it has left fits what was offered
   pub record InStep (s : List Opened) (w : Taking) : Type 0 where
-    pub honest : TookHonest hash P began s w
+    pub honest : TookHonestAs hash P form began s w
     pub lefts : last_left began.left began.more ≡ last_left w.left w.more
     pub ideals : AllOpenedIdeal P s
     pub coherent : Coherent began.left began.more → Coherent w.left w.more
 
   -- the runs parted at an opening, under the premise at that of a value within the limits
   pub record Parted {A B : Type 0} (ideal : Run ⊥ (List Opened) A) (checked : Run Cause Taking B) : Type 0 where
-    pub parts : Parts hash P began ideal checked
+    pub parts : PartsAs hash P form began ideal checked
     pub fits : Deep → Fits P parts.x.ty parts.x.value
 
   -- the runs do the same so far, the checked one in projection; of the value that they give, `Known` holds
@@ -66,7 +67,7 @@ module _ (hash : Hash) (P : Program) (Deep : Type 0) (began : Taking) where
       more : (more : List Opened) × (state_of (then_run ideal f) ≡ p.parts.before ++ p.parts.x ∷ (p.parts.after ++ more))
       more = opened_later ideal f p.parts.before p.parts.x p.parts.after grow p.parts.seen
 
-      later : OffersOther hash P p.parts.x p.parts.at ⊎ IsRefused hash P p.parts.x p.parts.at checked → OffersOther hash P p.parts.x p.parts.at ⊎ IsRefused hash P p.parts.x p.parts.at (then_run checked g)
+      later : OffersOtherAs hash P form p.parts.x p.parts.at ⊎ IsRefusedAs hash P form p.parts.x p.parts.at checked → OffersOtherAs hash P form p.parts.x p.parts.at ⊎ IsRefusedAs hash P form p.parts.x p.parts.at (then_run checked g)
       later (inl h) = inl h
       later (inr h) = inr (record { cause = h.cause; fuel = h.fuel; left = h.left; is = ap (λ r. then_run r g) h.is; refused = h.refused; only = h.only })
 

@@ -1,11 +1,11 @@
 -- The rules of the ideal meaning: nearly all hold as the definitions compute.
-use Rattle.std.proofs.Common.{◌≡◌, ℕ, zero, suc, Bool, true, false, pos, negsuc, ℤ, List, ◌∙◌, sym, int_div, int_rem, if◌then◌else◌, refl}
+use Rattle.std.proofs.Common.{◌≡◌, ℕ, zero, suc, Bool, true, false, pos, negsuc, ℤ, List, ◌∙◌, int_div, int_rem, if◌then◌else◌, refl}
 use Rattle.core_terms.specs.Values.{Value, ItemsV, Values, NoV, AndV}
 use Rattle.core_terms.specs.Types.{VecTy}
 use Rattle.core_terms.specs.Terms.{Expression, NoE, AndE, VecGet, VecPut, VecFill, Program}
 use Rattle.core_terms.specs.declared.term.Arith.{Arith}
 use Rattle.core_terms.specs.declared.term.Arith.TheVariants.{Div, Rem}
-use Rattle.ideal_meaning.specs.Run.{Gives, Ends, IsOut, then_run, choose, bool_in, int_in, items_in, repeated, replaced, local, arith_of, divided, at_index, operate, limited, call}
+use Rattle.ideal_meaning.specs.Run.{Gives, Ends, IsOut, then_run, choose, bool_in, int_in, items_in, replaced, local, arith_of, divided, at_index, operate, call}
 use Rattle.ideal_meaning.specs.Ideal.{Opened, ideal_mode}
 use Rattle.ideal_meaning.specs.Table.{IdealTable, Evaluation, eval, eval_all, divides, indexed, made}
 

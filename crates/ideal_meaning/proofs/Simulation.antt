@@ -17,11 +17,12 @@ use Rattle.core_terms.proofs.Fields.{on_fields}
 use Rattle.core_terms.proofs.Projection.{size_shallow, depth_shallow}
 use Rattle.ideal_meaning.specs.Run.{Trap, TooBig, TooDeep, Overflow, Index, Traps, Run, Gives, Ends, then_run, with_fuel, local, join, first_in, second_in, bool_in, int_in, text_in, tag_in, fields_in, divided, arith_of, compare_of, text_compare_of, choose, limited, at_index, operate, fill_of, get_of, put_of, items_in, repeated, replaced, run, run_all, run_arm}
 use Rattle.ideal_meaning.specs.Ideal.{Opened, ideal_mode}
-use Rattle.ideal_meaning.specs.Checked.{Taking, Cause, checked_mode, take_piece, digest_in}
+use Rattle.ideal_meaning.specs.PieceForms.{PieceForm}
+use Rattle.ideal_meaning.specs.Checked.{Taking, Cause, checked_mode_as, take_as, digest_in}
 use Rattle.ideal_meaning.proofs.Grows.{Grows, grows, grows_all, grows_arm, grows_then, grows_limited, grows_operate, grows_arith, grows_choose, gives}
 use Rattle.ideal_meaning.proofs.InHand.{int_fits_in, utf8_in, length_in, first_projection, second_projection, at_con, IsHeld, AreHeld, held_unit, held_bool, held_int, held_text, held_local, local_projection, held_join, join_projection, held_pair, held_first, held_second, held_con, held_parts, held_auth, at_int, at_items, item_type_at, held_items, held_elements, held_repeated, held_replaced, repeated_projection, replaced_projection}
 use Rattle.ideal_meaning.proofs.Relation.{InStep, Agree, agree_then, agree_gives, agree_traps, agree_if}
-use Rattle.ideal_meaning.proofs.Opening.{ReadsBack, opens}
+use Rattle.ideal_meaning.proofs.Opening.{IsFormOf, ReadsBackAs, opens}
 
 -- a fact about a function that is there
 on_function : (o : Option Function) (Q : Function → Type 0) → OnFunction o Q → Q (unwrap_or o no_function)
@@ -65,7 +66,7 @@ StepOnTwo = (C W : Type 0) → Value → Value → ℕ → W → Run C W Value
 
 -- In all that follows k is the fuel left, s what was opened so far, w the verifier's state, y says that w fits s, and i that the
 -- locals are known as values in hand.
-module _ (hash : Hash) (P : Program) (format : IsFormat P.format) (Deep : Type 0) (began : Taking) where
+module _ (hash : Hash) (P : Program) (form : PieceForm) (format : IsFormat P.format) (Deep : Type 0) (began : Taking) where
   abbrev Projected : Ty → Value → Value
   Projected t v = projection hash P t v
 
@@ -76,14 +77,14 @@ module _ (hash : Hash) (P : Program) (format : IsFormat P.format) (Deep : Type 0
   Held t v = IsHeld P Deep t v
 
   abbrev Synced : List Opened → Taking → Type 0
-  Synced s w = InStep hash P Deep began s w
+  Synced s w = InStep hash P form Deep began s w
 
   -- the runs agree at a value of type t, and at values of these types
   abbrev pub Both : Ty → IdealRun Value → CheckedRun Value → Type 0
-  Both t ideal checked = Agree hash P Deep began (IsHeld P Deep t) (projection hash P t) ideal checked
+  Both t ideal checked = Agree hash P form Deep began (IsHeld P Deep t) (projection hash P t) ideal checked
 
   abbrev pub BothAll : List Ty → IdealRun Values → CheckedRun Values → Type 0
-  BothAll ts ideal checked = Agree hash P Deep began (AreHeld P Deep ts) (projections hash P ts) ideal checked
+  BothAll ts ideal checked = Agree hash P form Deep began (AreHeld P Deep ts) (projections hash P ts) ideal checked
 
   -- a value, and what goes on behind it
   after : (a t : Ty) (ideal : IdealRun Value) (checked : CheckedRun Value) (f : IdealStep) (g : CheckedStep)
@@ -91,7 +92,7 @@ module _ (hash : Hash) (P : Program) (format : IsFormat P.format) (Deep : Type 0
       → ((v : Value) (k : ℕ) (s : List Opened) (w : Taking) → Held a v → Synced s w → Both t (f v k s) (g (Projected a v) k w))
       → Both t (then_run ideal f) (then_run checked g)
   after a t ideal checked f g h grow on =
-      agree_then hash P Deep began (IsHeld P Deep a) (projection hash P a) (IsHeld P Deep t) (projection hash P t) ideal checked f g h grow on
+      agree_then hash P form Deep began (IsHeld P Deep a) (projection hash P a) (IsHeld P Deep t) (projection hash P t) ideal checked f g h grow on
 
   -- values, and what goes on behind them
   after_all : (us : List Ty) (t : Ty) (ideal : IdealRun Values) (checked : CheckedRun Values) (f : IdealStepOnAll) (g : CheckedStepOnAll)
@@ -99,18 +100,18 @@ module _ (hash : Hash) (P : Program) (format : IsFormat P.format) (Deep : Type 0
       → ((vs : Values) (k : ℕ) (s : List Opened) (w : Taking) → AreHeld P Deep us vs → Synced s w → Both t (f vs k s) (g (AllProjected us vs) k w))
       → Both t (then_run ideal f) (then_run checked g)
   after_all us t ideal checked f g h grow on =
-      agree_then hash P Deep began (AreHeld P Deep us) (projections hash P us) (IsHeld P Deep t) (projection hash P t) ideal checked f g h grow on
+      agree_then hash P form Deep began (AreHeld P Deep us) (projections hash P us) (IsHeld P Deep t) (projection hash P t) ideal checked f g h grow on
 
   -- both give a value, or trap, or take the same branch
   both_gives : (t : Ty) (v shallow : Value) (k : ℕ) (s : List Opened) (w : Taking) → Held t v → shallow ≡ Projected t v → Synced s w → Both t (Gives v k s) (Gives shallow k w)
-  both_gives t v shallow k s w h e y = agree_gives hash P Deep began (IsHeld P Deep t) (projection hash P t) v shallow k s w h e y
+  both_gives t v shallow k s w h e y = agree_gives hash P form Deep began (IsHeld P Deep t) (projection hash P t) v shallow k s w h e y
 
   both_traps : (t : Ty) (trap : Trap) (k : ℕ) (s : List Opened) (w : Taking) → Synced s w → Both t (Ends (Traps trap) k s) (Ends (Traps trap) k w)
-  both_traps t trap k s w y = agree_traps hash P Deep began (IsHeld P Deep t) (projection hash P t) trap k s w y
+  both_traps t trap k s w y = agree_traps hash P form Deep began (IsHeld P Deep t) (projection hash P t) trap k s w y
 
   both_if : (t : Ty) (b c : Bool) (r1 r2 : IdealRun Value) (q1 q2 : CheckedRun Value)
       → c ≡ b → (b ≡ true → Both t r1 q1) → (b ≡ false → Both t r2 q2) → Both t (if b then r1 else r2) (if c then q1 else q2)
-  both_if t b c r1 r2 q1 q2 e h j = agree_if hash P Deep began (IsHeld P Deep t) (projection hash P t) b c r1 r2 q1 q2 e h j
+  both_if t b c r1 r2 q1 q2 e h j = agree_if hash P form Deep began (IsHeld P Deep t) (projection hash P t) b c r1 r2 q1 q2 e h j
 
   both_choose : (t : Ty) (b : Bool) (f1 f2 : IdealStepOnAll) (g1 g2 : CheckedStepOnAll) (env shallow : Values) (k : ℕ) (s : List Opened) (w : Taking)
       → Both t (f1 env k s) (g1 shallow k w) → Both t (f2 env k s) (g2 shallow k w) → Both t (choose b f1 f2 env k s) (choose b g1 g2 shallow k w)
@@ -201,7 +202,7 @@ module _ (hash : Hash) (P : Program) (format : IsFormat P.format) (Deep : Type 0
   both_operate (VecPut n t) (AndV u (AndV z (AndV v (AndV r vs)))) k s w h y = elim h.1.1.1 [ ]
 
   -- Expressions, where calls agree.
-  module _ (reads_back : (t : Ty) (v : Value) → IsIdeal P.types t v → ReadsBack hash P t v)
+  module _ (is_form : IsFormOf hash P form) (reads_back : (t : Ty) (v : Value) → IsIdeal P.types t v → ReadsBackAs hash P form t v)
       (ideal_call : ℕ → IdealStepOnAll) (checked_call : ℕ → CheckedStepOnAll)
       (ideal_grows : (f : ℕ) (vs : Values) (k : ℕ) (s : List Opened) → Grows s (ideal_call f vs k s))
       (calls : (f : ℕ) (vs : Values) (k : ℕ) (s : List Opened) (w : Taking) → AreHeld P Deep (function_at P f).parameters vs → Synced s w
@@ -211,19 +212,19 @@ module _ (hash : Hash) (P : Program) (format : IsFormat P.format) (Deep : Type 0
     ideal_run e env k s = run P ideal_mode ideal_call e env k s
 
     abbrev checked_run : Expression → CheckedStepOnAll
-    checked_run e env k w = run P (checked_mode hash P) checked_call e env k w
+    checked_run e env k w = run P (checked_mode_as hash P form) checked_call e env k w
 
     abbrev ideal_run_all : Expressions → Values → ℕ → List Opened → IdealRun Values
     ideal_run_all xs env k s = run_all P ideal_mode ideal_call xs env k s
 
     abbrev checked_run_all : Expressions → Values → ℕ → Taking → CheckedRun Values
-    checked_run_all xs env k w = run_all P (checked_mode hash P) checked_call xs env k w
+    checked_run_all xs env k w = run_all P (checked_mode_as hash P form) checked_call xs env k w
 
     abbrev ideal_arm : Arms → ℕ → IdealStepOnAll
     ideal_arm arms tag env k s = run_arm P ideal_mode ideal_call arms tag env k s
 
     abbrev checked_arm : Arms → ℕ → CheckedStepOnAll
-    checked_arm arms tag env k w = run_arm P (checked_mode hash P) checked_call arms tag env k w
+    checked_arm arms tag env k w = run_arm P (checked_mode_as hash P form) checked_call arms tag env k w
 
     -- the ideal run only adds to what was opened
     grow : (e : Expression) (env : Values) (k : ℕ) (s : List Opened) → Grows s (ideal_run e env k s)
@@ -306,9 +307,9 @@ module _ (hash : Hash) (P : Program) (format : IsFormat P.format) (Deep : Type 0
       sim (UnauthE a x) ts t h env k s w i y =
           subst (Agrees (UnauthE a x) ts env k s w) h.0
           (after (AuthTy a) a (ideal_run x env k s) (checked_run x (AllProjected ts env) k w) (λ v k s. Gives v k (s ++ record { ty = a; value = v } ∷ []))
-          (λ v k w. with_fuel k (take_piece hash P a (digest_in v) w.place w.more w))
+          (λ v k w. with_fuel k (take_as hash P form a (digest_in v) w.place w.more w))
           (sim x ts (AuthTy a) h.1 env k s w i y) (λ v k s. record { added = _; is = refl })
-          (λ v k s w hv y. opens hash P reads_back Deep began a v hv k s w y))
+          (λ v k s w hv y. opens hash P form is_form reads_back Deep began a v hv k s w y))
       sim (ConE number tag xs) ts t h env k s w i y =
           let q = on_fields (fields_at P.types number tag) (λ us. HaveTypes P ts xs us) h.1 in
           subst (Agrees (ConE number tag xs) ts env k s w) h.0
@@ -375,20 +376,20 @@ module _ (hash : Hash) (P : Program) (format : IsFormat P.format) (Deep : Type 0
       -- operands
       sim_all : (xs : Expressions) (ts us : List Ty) → HaveTypes P ts xs us → (env : Values) (k : ℕ) (s : List Opened) (w : Taking)
           → AreHeld P Deep ts env → Synced s w → BothAll us (ideal_run_all xs env k s) (checked_run_all xs (AllProjected ts env) k w)
-      sim_all NoE ts [] h env k s w i y = agree_gives hash P Deep began (AreHeld P Deep []) (projections hash P []) NoV NoV k s w tt refl y
+      sim_all NoE ts [] h env k s w i y = agree_gives hash P form Deep began (AreHeld P Deep []) (projections hash P []) NoV NoV k s w tt refl y
       sim_all NoE ts (u ∷ us) h env k s w i y = elim h [ ]
       sim_all (AndE x xs) ts [] h env k s w i y = elim h [ ]
       sim_all (AndE x xs) ts (u ∷ us) h env k s w i y =
-          agree_then hash P Deep began (IsHeld P Deep u) (projection hash P u) (AreHeld P Deep (u ∷ us)) (projections hash P (u ∷ us)) (ideal_run x env k s)
+          agree_then hash P form Deep began (IsHeld P Deep u) (projection hash P u) (AreHeld P Deep (u ∷ us)) (projections hash P (u ∷ us)) (ideal_run x env k s)
           (checked_run x (AllProjected ts env) k w)
           (λ v k s. then_run (ideal_run_all xs env k s) (λ vs k s. Gives (AndV v vs) k s)) (λ v k w. then_run (checked_run_all xs (AllProjected ts env) k w) (λ vs k w. Gives (AndV v vs) k w))
           (sim x ts u h.0 env k s w i y)
           (λ v k s. grows_then s _ _ (grows_all P ideal_call ideal_grows xs env k s) (λ vs k s. gives _ k s))
-          (λ v k s w hv y. agree_then hash P Deep began (AreHeld P Deep us) (projections hash P us) (AreHeld P Deep (u ∷ us)) (projections hash P (u ∷ us))
+          (λ v k s w hv y. agree_then hash P form Deep began (AreHeld P Deep us) (projections hash P us) (AreHeld P Deep (u ∷ us)) (projections hash P (u ∷ us))
           (ideal_run_all xs env k s) (checked_run_all xs (AllProjected ts env) k w)
           (λ vs k s. Gives (AndV v vs) k s) (λ vs k w. Gives (AndV (Projected u v) vs) k w)
           (sim_all xs ts us h.1 env k s w i y) (λ vs k s. gives _ k s)
-          (λ vs k s w hvs y. agree_gives hash P Deep began (AreHeld P Deep (u ∷ us)) (projections hash P (u ∷ us)) (AndV v vs) (AndV (Projected u v) (AllProjected us vs)) k s w (hv, hvs) refl y))
+          (λ vs k s w hvs y. agree_gives hash P form Deep began (AreHeld P Deep (u ∷ us)) (projections hash P (u ∷ us)) (AndV v vs) (AndV (Projected u v) (AllProjected us vs)) k s w (hv, hvs) refl y))
 
       -- the arm of a tag, with the fields as locals behind the ones there
       sim_arm : (arms : Arms) (ts : List Ty) (cs : List (List Ty)) (t : Ty) → HaveArms P ts cs arms t → (tag : ℕ) (us : List Ty) → slice_get cs tag ≡ Some us

@@ -1,13 +1,13 @@
 -- What programs on arrays do in ideal mode. Each equation holds by computing both sides.
 use Rattle.std.specs.Prelude.{◌≡◌, ℕ, zero, suc, List, [], ◌∷◌, codes, replicate, pos, negsuc, true, refl}
-use Rattle.core_terms.specs.Types.{Ty, BoolTy, IntTy, TextTy, PairTy, AuthTy, VecTy}
-use Rattle.core_terms.specs.Values.{Value, BoolV, IntV, TextV, PairV, ItemsV, Values, NoV, AndV}
-use Rattle.core_terms.specs.Terms.{Expression, IntE, TextE, LocalE, AuthE, UnauthE, ArithE, OperateE, VecFill, VecGet, VecPut, NoE, AndE, Inner, Init, Query, Program}
+use Rattle.core_terms.specs.Types.{Ty, IntTy, TextTy, AuthTy, VecTy}
+use Rattle.core_terms.specs.Values.{Value, IntV, TextV, ItemsV, NoV, AndV}
+use Rattle.core_terms.specs.Terms.{Expression, IntE, TextE, LocalE, UnauthE, ArithE, OperateE, VecFill, VecGet, VecPut, Query, Program}
 use Rattle.core_terms.specs.declared.term.Arith.TheVariants.{Add, Div}
 use Rattle.core_terms.specs.Typing.{is_typed}
 use Rattle.core_terms.specs.ArrayRows.{around, seven_and_nine}
-use Rattle.ideal_meaning.specs.Run.{Run, Gives, Ends, Traps, Index, TooBig, TooDeep, DivZero, Overflow}
-use Rattle.ideal_meaning.specs.Ideal.{Opened, ideal, outcome, Done, Trapped}
+use Rattle.ideal_meaning.specs.Run.{Run, Gives, Ends, Traps, Index, TooBig, TooDeep, DivZero}
+use Rattle.ideal_meaning.specs.Ideal.{Opened, ideal, outcome, Trapped}
 use Rattle.ideal_meaning.specs.Headline.{call_of}
 use Rattle.ideal_meaning.specs.Examples.{values, operands, function, program, expression_program}
 use Rattle.ideal_meaning.specs.ExampleRuns.{alone}

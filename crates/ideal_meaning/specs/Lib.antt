@@ -1,6 +1,7 @@
 pub mod Run
 pub mod Ideal
 pub mod Wire
+pub mod PieceForms
 pub mod Frames
 pub mod Checked
 pub mod Fetched

@@ -7,17 +7,18 @@ use Rattle.core_terms.specs.Terms.{Program, IsTyped, function_at}
 use Rattle.core_terms.specs.Projection.{digest_at}
 use Rattle.ideal_meaning.specs.Run.{Gives, Ends, call_from}
 use Rattle.ideal_meaning.specs.Ideal.{Opened, ideal_mode}
-use Rattle.ideal_meaning.specs.Checked.{Cause, Taking, checked_mode}
+use Rattle.ideal_meaning.specs.PieceForms.{as_whole}
+use Rattle.ideal_meaning.specs.Checked.{Cause, Taking, checked_mode, checked_mode_as}
 use Rattle.code_gen.specs.Code.{Body, code_at, generated}
 use Rattle.code_meaning.specs.Execution.{Coded, Ran, Stuck, then_coded, call_code_from}
 use Rattle.code_meaning.specs.Accept.{Shape, shape, IsFine}
 use Rattle.code_meaning.specs.Modes.{ideal_kind, digest_kind}
 use Rattle.code_meaning.proofs.Follows.{right, code_found}
-use Rattle.code_meaning.proofs.ModeLaws.{ideal_laws, checked_laws, ideals_are, shallows_are}
+use Rattle.code_meaning.proofs.ModeLaws.{ideal_laws, checked_laws, fetched_laws, ideals_are, shallows_are}
 use Rattle.code_meaning.proofs.Generated.{generated_accepted}
 use Rattle.value_store.specs.Nodes.{Node}
 use Rattle.value_store.specs.Standing.{IdealNodes, ProverNodes, VerifierNodes, AllStandFor}
-use Rattle.value_store.specs.Markings.{Marking, IdealMarking, ProverMarking, VerifierMarking, kind_of}
+use Rattle.value_store.specs.Markings.{Marking, IdealMarking, ProverMarking, VerifierMarking, FetcherMarking, kind_of}
 use Rattle.value_store.specs.CodeNodes.{numbers_of}
 use Rattle.value_store.specs.declared.node.Ref.{Ref}
 use Rattle.value_store.proofs.TypedNodes.{ideal_refers, ideal_stands, prover_refers, shallow_stands}
@@ -67,6 +68,9 @@ module _ (P : Program) (nodes : List Node) where
       (ideals_are P.types (function_at P f).parameters vs (all_ideal_too (digest_at hash P) rs (function_at P f).parameters vs h))
   code_is_right typed (VerifierMarking hash) f rs vs h k w =
       right Cause Taking P typed (checked_mode hash P) digest_kind (checked_laws hash P) f vs k w
+      (shallows_are P.types (function_at P f).parameters vs (all_shallow rs (function_at P f).parameters vs h))
+  code_is_right typed (FetcherMarking hash) f rs vs h k w =
+      right Cause Taking P typed (checked_mode_as hash P (as_whole hash P)) digest_kind (fetched_laws hash P) f vs k w
       (shallows_are P.types (function_at P f).parameters vs (all_shallow rs (function_at P f).parameters vs h))
 
 module _ (m : Marking) (P : Program) (typed : IsTyped P) (f : ℕ) (there : f < length P.functions) (args : List Ref) (k : ℕ) (state : State) (starts : Starts f args k state)

@@ -2,7 +2,6 @@
 use Rattle.std.proofs.Common.{◌≡◌, ℕ, suc, List, bytes_eq, if◌then◌else◌, Option, Result, Ok, Err, refl, sym, ap, ◌∙◌, subst}
 use Rattle.core_terms.specs.Formats.{Hash}
 use Rattle.core_terms.specs.Programs.{meaning}
-use Rattle.core_terms.specs.Projection.{digest_at, read_at}
 use Rattle.core_terms.specs.ProgramTypes.{named_table, program_with, types_by_number, types_meaning}
 use Rattle.core_terms.specs.Reading.{Read, Good, BadAt}
 use Rattle.core_terms.specs.Types.{AuthTy, Ty}
@@ -13,11 +12,12 @@ use Rattle.core_terms.specs.declared.term.Function.{Function}
 use Rattle.core_terms.specs.declared.program.Program.{Program}
 use Rattle.core_terms.specs.declared.program_types.Types.{Types}
 use Rattle.ideal_meaning.specs.Run.{Refuses}
+use Rattle.ideal_meaning.specs.PieceForms.{PieceForm, as_spelled, as_whole}
 use Rattle.ideal_meaning.specs.Frames.{Offer, NoMore, Offers}
-use Rattle.ideal_meaning.specs.Checked.{Taking, WrongPiece, digest_in, opened, take_piece}
+use Rattle.ideal_meaning.specs.Checked.{Taking, WrongPiece, digest_in, opened, take_as, take_piece}
 use Rattle.value_store.specs.Nodes.{Node}
 use Rattle.value_store.specs.Standing.{StandsFor}
-use Rattle.value_store.specs.Markings.{Marking, IdealMarking, ProverMarking, VerifierMarking, kind_of}
+use Rattle.value_store.specs.Markings.{Marking, IdealMarking, ProverMarking, VerifierMarking, FetcherMarking, kind_of}
 use Rattle.value_store.specs.declared.node.Ref.{Ref}
 use Rattle.mode_vm.specs.Meanings.{CauseOf, StateOf, mode_of}
 use Rattle.mode_vm.specs.Openings.{OpensAs, OpensSome, Stands}
@@ -30,29 +30,41 @@ module _ (hash : Hash) (t : Types) (fs : List Function) where
   same_opened (Good v rest end) place w = refl
   same_opened (BadAt offset) place w = refl
 
+  -- one form of pieces, by the types alone and by the program
+  module _ (form : PieceForm) where
+    same_taken : (ty : Ty) (want : List ℕ) (place : ℕ) (o : Offer) (w : Taking)
+        → take_as hash (types_meaning t) form ty want place o w ≡ take_as hash (program_with t fs) form ty want place o w
+    same_taken ty want place (NoMore e) w = refl
+    same_taken ty want place (Offers bytes left more) w =
+        ap (λ o. if bytes_eq (form.digest ty bytes) want then o else Refuses (WrongPiece place want (form.digest ty bytes)) w)
+        (same_opened (form.reading ty bytes) place (record { place = suc place; left = left; more = more }))
+
   same_piece : (ty : Ty) (want : List ℕ) (place : ℕ) (o : Offer) (w : Taking)
       → take_piece hash (types_meaning t) ty want place o w ≡ take_piece hash (program_with t fs) ty want place o w
-  same_piece ty want place (NoMore e) w = refl
-  same_piece ty want place (Offers bytes left more) w =
-      let digest = digest_at hash (types_meaning t) ty bytes in
-      ap (λ o. if bytes_eq digest want then o else Refuses (WrongPiece place want digest) w)
-      (same_opened (read_at (types_meaning t) ty bytes) place (record { place = suc place; left = left; more = more }))
+  same_piece ty want place o w = same_taken (as_spelled hash (types_meaning t)) ty want place o w
+
+  same_whole : (ty : Ty) (want : List ℕ) (place : ℕ) (o : Offer) (w : Taking)
+      → take_as hash (types_meaning t) (as_whole hash (types_meaning t)) ty want place o w ≡ take_as hash (program_with t fs) (as_whole hash (program_with t fs)) ty want place o w
+  same_whole ty want place o w = same_taken (as_whole hash (types_meaning t)) ty want place o w
 
 same_kind : (m : Marking) (t : Types) (fs : List Function) → kind_of m (types_meaning t) ≡ kind_of m (program_with t fs)
 same_kind IdealMarking t fs = refl
 same_kind (ProverMarking hash) t fs = refl
 same_kind (VerifierMarking hash) t fs = refl
+same_kind (FetcherMarking hash) t fs = refl
 
 same_auth : (m : Marking) (t : Types) (fs : List Function) (ty : Ty) (x : Value) → (mode_of m (types_meaning t)).auth ty x ≡ (mode_of m (program_with t fs)).auth ty x
 same_auth IdealMarking t fs ty x = refl
 same_auth (ProverMarking hash) t fs ty x = refl
 same_auth (VerifierMarking hash) t fs ty x = refl
+same_auth (FetcherMarking hash) t fs ty x = refl
 
 same_unauth : (m : Marking) (t : Types) (fs : List Function) (ty : Ty) (x : Value) (w : StateOf m)
     → (mode_of m (types_meaning t)).unauth ty x w ≡ (mode_of m (program_with t fs)).unauth ty x w
 same_unauth IdealMarking t fs ty x w = refl
 same_unauth (ProverMarking hash) t fs ty x w = refl
 same_unauth (VerifierMarking hash) t fs ty x w = same_piece hash t fs ty (digest_in x) w.place w.more w
+same_unauth (FetcherMarking hash) t fs ty x w = same_whole hash t fs ty (digest_in x) w.place w.more w
 
 module _ (m : Marking) (t : Types) (fs : List Function) (nodes : List Node) where
   pub stands_in : (r : ℕ) (ty : Ty) (v : Value) → Stands m (types_meaning t) nodes r ty v → Stands m (program_with t fs) nodes r ty v

@@ -66,6 +66,7 @@ impl Nodes for Store {
 
     ghost first = { λ s. refl };
 
+    #[inline(always)]
     fn put(&mut self, form: Form, size: u32, depth: u32) -> Result<Ref, AllocError> {
         let r = Ref(self.nodes.len());
         add(&mut self.nodes, Node { form, size, depth })?;
