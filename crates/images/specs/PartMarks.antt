@@ -7,9 +7,10 @@ use Rattle.core_terms.specs.declared.types.TyId.{TyId}
 use Rattle.core_terms.specs.declared.term.Constructor.{Constructor}
 use Rattle.core_terms.specs.declared.term.NamedType.{NamedType}
 use Rattle.core_terms.specs.declared.types.TyForm.{TyForm}
-use Rattle.core_terms.specs.declared.types.TyForm.TheVariants.{AuthForm, PairForm, VecForm}
+use Rattle.core_terms.specs.declared.types.TyForm.TheVariants.{AuthForm, BoolForm, IntForm, PairForm, TextForm, UnitForm, VecForm}
 use Rattle.core_terms.specs.declared.program_types.Types.{Types}
 use Rattle.images.specs.Parts.{is_part, is_part_within}
+use Rattle.images.specs.declared.parts.Leaves.{Leaves}
 use Rattle.images.specs.declared.parts.PartMarks.{PartMarks}
 
 -- the type with a number
@@ -29,16 +30,24 @@ ArePartMarks types marks = (length marks ≡ length (types_by_number types))
     × ((t : Ty) → is_part (types_meaning types).types t (types_meaning types).state ≡ true
     → (i : ℕ) × (i < length (types_by_number types)) × (type_of types i ≡ t))
 
--- those are the marks of the program
-abbrev pub IsMarksOf : Types → PartMarks → Type 0
-IsMarksOf types parts = ArePartMarks types parts.marks.items
-
 -- the number of the form's type, which is the state's or a part of it; or the form's type is neither
 abbrev pub IsPartOfState : Types → TyForm → Option TyId → Type 0
 IsPartOfState types form None = is_part (types_meaning types).types (type_of_form (types_by_number types) form) (types_meaning types).state ≡ false
 IsPartOfState types form (Some ty) = (is_part (types_meaning types).types (type_of_form (types_by_number types) form) (types_meaning types).state ≡ true)
     × (type_of types ty.0 ≡ type_of_form (types_by_number types) form)
     × (ty.0 < length (types_by_number types))
+
+-- of each type without parts its number, where it is the state's or a part of it
+pub record AreLeaves (types : Types) (leaves : Leaves) : Type 0 where
+  pub unit : IsPartOfState types UnitForm leaves.unit
+  pub bool : IsPartOfState types BoolForm leaves.bool
+  pub int : IsPartOfState types IntForm leaves.int
+  pub text : IsPartOfState types TextForm leaves.text
+
+-- those are the marks of the program
+pub record IsMarksOf (types : Types) (parts : PartMarks) : Type 0 where
+  pub marks : ArePartMarks types parts.marks.items
+  pub leaves : AreLeaves types parts.leaves
 
 -- the parts that are found by opening so many named types at most are marked, and nothing else is
 abbrev pub AreLevelMarks : Types → ℕ → List Bool → Type 0

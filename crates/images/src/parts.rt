@@ -10,7 +10,7 @@ ghost use Rattle.core_terms.specs.TypeTables.{stands_behind};
 ghost use Rattle.core_terms.specs.ProgramTypes.{types_by_number, types_meaning};
 ghost use Rattle.core_terms.specs.declared.program_types.Types as code;
 ghost use Rattle.images.specs.Parts.{is_part};
-ghost use Rattle.images.specs.PartMarks.{AddsMarks, AreLevelMarks, ArePartMarks, IsAmong, IsMarked, IsMarksOf, IsOfField, IsOpened, IsPartOfForm, IsPartOfState, IsSpread, constructors_in, type_of};
+ghost use Rattle.images.specs.PartMarks.{AddsMarks, AreLeaves, AreLevelMarks, ArePartMarks, IsAmong, IsMarked, IsMarksOf, IsOfField, IsOpened, IsPartOfForm, IsPartOfState, IsSpread, constructors_in, type_of};
 
 use core_terms::{Constructor, TyForm, TyId, Types};
 use std::alloc::{AllocError, Global};
@@ -19,6 +19,16 @@ use std::alloc::{AllocError, Global};
 #[derive(Drop)]
 pub(crate) struct PartMarks {
     marks: Vec<bool>,
+    leaves: Leaves,
+}
+
+/// The types without parts, each where it is the state's or a part of it. Most records are of one, so they are looked up once.
+#[derive(Clone, Copy, Drop)]
+struct Leaves {
+    unit: Option<TyId>,
+    bool: Option<TyId>,
+    int: Option<TyId>,
+    text: Option<TyId>,
 }
 
 impl PartMarks {
@@ -28,29 +38,53 @@ impl PartMarks {
         ensures { IfOk result (λ parts. IsMarksOf types.now parts) }
     {
         let marks = part_marks(alloc, types)?;
-        Ok(PartMarks { marks })
-    }
-
-    /// Whether the type, which is one of the program's, is the state's or a part of it.
-    pub fn is_part(&self, ty: TyId) -> bool
-        ensures { (types : code.Types) → IsMarksOf types self.now → ty.0 < length (types_by_number types) → result ≡ is_part (types_meaning types).types (type_of types ty.0) (types_meaning types).state }
-    {
-        match self.marks.get(ty.0) {
-            Some(mark) => *mark,
-            None => false,
-        }
+        let leaves = Leaves::of(types, &marks);
+        Ok(PartMarks { marks, leaves })
     }
 
     /// The type of this form, where it is the state's or a part of it. The form's parts are types of the program.
-    // Where it is called the kind of form is known: inlined, most of its hash is too.
+    // Where it is called the kind of form is known: inlined, a leaf is read, and of the others most of the hash is known too.
     #[inline(always)]
     pub fn part_of(&self, types: &Types, form: TyForm) -> Option<TyId>
         requires marks { IsMarksOf types.now self.now }
         requires parts { stands_behind (length (types_by_number types.now)) form ≡ true }
         ensures { IsPartOfState types.now form result }
     {
-        let ty = types.type_of(form)?;
-        if self.is_part(ty) { Some(ty) } else { None }
+        match form {
+            TyForm::UnitForm => self.leaves.unit,
+            TyForm::BoolForm => self.leaves.bool,
+            TyForm::IntForm => self.leaves.int,
+            TyForm::TextForm => self.leaves.text,
+            form => marked(types, &self.marks, form),
+        }
+    }
+}
+
+impl Leaves {
+    fn of(types: &Types, marks: &[bool]) -> Self
+        requires { ArePartMarks types.now marks.now }
+        ensures { AreLeaves types.now result }
+    {
+        Leaves {
+            unit: marked(types, marks, TyForm::UnitForm),
+            bool: marked(types, marks, TyForm::BoolForm),
+            int: marked(types, marks, TyForm::IntForm),
+            text: marked(types, marks, TyForm::TextForm),
+        }
+    }
+}
+
+/// The type of this form, where it is marked. The form's parts are types of the program.
+#[inline(always)]
+fn marked(types: &Types, marks: &[bool], form: TyForm) -> Option<TyId>
+    requires marks { ArePartMarks types.now marks.now }
+    requires parts { stands_behind (length (types_by_number types.now)) form ≡ true }
+    ensures { IsPartOfState types.now form result }
+{
+    let ty = types.type_of(form)?;
+    match marks.get(ty.0) {
+        Some(true) => Some(ty),
+        _ => None,
     }
 }
 

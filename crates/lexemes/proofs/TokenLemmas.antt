@@ -4,25 +4,19 @@ use Rattle.std.proofs.lemmas.Bool.{eqb-true}
 use Rattle.std.proofs.lemmas.Bool.Decides.{nat_tests}
 use Rattle.std.proofs.lemmas.List.Sums.{prefix_len-le-length}
 use Rattle.std.proofs.lemmas.List.Folds.{length-prefix_len}
-use Rattle.std.specs.Prelude.{option_map, ◌==◌, nat_le, nat_lt, ◌^◌, bytes_eq}
-use Rattle.std.specs.List.{prefix_len, find}
+use Rattle.std.specs.Prelude.{option_map, ◌==◌, nat_le, nat_lt, ◌^◌}
+use Rattle.std.specs.List.{prefix_len}
 use Rattle.std.specs.Char.{is_ascii_lowercase, is_ascii_uppercase, is_ascii_digit}
 use Rattle.std.specs.Str.Parse.{digits_value}
 use Rattle.std.specs.Str.{is_utf8}
 use Rattle.lexemes.specs.Places.{behind, behind_byte}
-use Rattle.lexemes.specs.Tokens.{Token, Next, End, Faulty, is_in_line, is_name_byte, is_blank, mark_of, mark_piece, word_of, keyword_among, keyword_text, name_limit, name_piece, lower_piece, LowerToken, int_piece, digits_of, minus_piece, Escape, escape_of, is_control, Quoted, Closed, CutOff, WrongAt, put, with_escape, quoted_behind, text_piece, text_limit, Piece, PassedOver, Taken, Wrong, first_piece, from_piece, tokens_behind, tokens_from}
+use Rattle.lexemes.specs.Tokens.{Token, Next, End, Faulty, is_in_line, is_name_byte, is_blank, mark_of, mark_piece, word_of, name_limit, name_piece, lower_piece, LowerToken, int_piece, digits_of, minus_piece, Escape, escape_of, is_control, Quoted, Closed, CutOff, WrongAt, put, with_escape, quoted_behind, text_piece, text_limit, Piece, PassedOver, Taken, Wrong, first_piece, from_piece, tokens_behind, tokens_from}
 use Rattle.lexemes.specs.PieceViews.{head_piece, piece_view}
 use Rattle.lexemes.specs.declared.lexer.pieces.Piece.{Piece as PieceCode}
 use Rattle.lexemes.specs.declared.fault.LexicalFault.{LexicalFault}
 use Rattle.lexemes.specs.declared.place.Place.{Place}
 use Rattle.lexemes.specs.declared.token.Keyword.{Keyword}
 use Rattle.lexemes.specs.declared.token.Mark.{Mark}
-
--- the keyword of a text is the first that is written so
-pub keyword_among-find : (keywords : List Keyword) (word : List ℕ) → keyword_among keywords word ≡ find (λ keyword. bytes_eq word (keyword_text keyword)) keywords
-keyword_among-find [] word = refl
-keyword_among-find (keyword ∷ others) word =
-    ap (λ rest. cond (bytes_eq word (keyword_text keyword)) (Some keyword) rest) (keyword_among-find others word)
 
 -- A piece has at least one byte of a text of so many, and no more than all; a fault stands within it.
 abbrev pub IsPart : ℕ → Piece → Type 0

@@ -1,7 +1,7 @@
 -- A read into a buffer behind the bytes that it holds.
 use Rattle.std.proofs.Common.{◌≡◌, ℕ, suc, ◌+◌, ◌≤◌, List, [], ◌∷◌, ◌++◌, length, take, refl, ap, ◌∙◌, append_assoc, arith}
 use Rattle.std.proofs.Math.Seq.{take-append-add}
-use Rattle.std.proofs.lemmas.List.{take-append-le, take-take, take_all}
+use Rattle.std.proofs.lemmas.List.{take-append-le, take_all}
 
 -- the bytes that are held stay where the buffer is made longer
 pub front_kept : (held fill grown : List ℕ) (start n : ℕ) → start ≡ length held → start ≤ n → grown ≡ take n held ++ fill → take start grown ≡ held
@@ -14,16 +14,16 @@ front_kept held fill grown start n is fits made =
     nothing_behind [] = refl
     nothing_behind (x ∷ l) = ap (λ m. x ∷ m) (nothing_behind l)
 
--- what was read stands behind them, and all else is cut off
-pub read_behind : (held front into post rest : List ℕ) (start count n : ℕ) → front ≡ held → start ≡ length held → count ≤ length into → start + count ≤ n
-    → take (start + count) (take n (front ++ (into ++ post) ++ rest)) ≡ held ++ take count into
-read_behind held front into post rest start count n same is some fits =
+-- what was read stands behind them, as far as the buffer goes
+pub read_behind : (held front into post rest : List ℕ) (start count n : ℕ) → front ≡ held → start ≡ length held → count ≤ length into → start + count ≡ n
+    → take n (front ++ (into ++ post) ++ rest) ≡ held ++ take count into
+read_behind held front into post rest start count n same is some whole =
     let more = (into ++ post) ++ rest in
     let within : count ≤ length (into ++ post) = longer into some in
-    ap (λ l. take (start + count) (take n l)) (append_assoc front (into ++ post) rest)
-    ∙ take-take (start + count) n (front ++ more) fits
-    ∙ ap (λ l. take (start + count) (l ++ more)) same
-    ∙ ap (λ k. take (k + count) (held ++ more)) is
+    let long : n ≡ length held + count = omega (arith, is, whole) in
+    ap (take n) (append_assoc front (into ++ post) rest)
+    ∙ ap (λ l. take n (l ++ more)) same
+    ∙ ap (λ k. take k (held ++ more)) long
     ∙ take-append-add held more count
     ∙ ap (λ l. held ++ l) (take-append-le count (into ++ post) rest within ∙ take-append-le count into post some)
   where

@@ -7,8 +7,8 @@ use crate::FrameEnd;
 use byteorder::{BigEndian, ByteOrder};
 use lam_outside::{Source, fill};
 
-/// How many bytes are asked for at once.
-const CHUNK: usize = 4096;
+/// By how many bytes the buffer of a piece grows at once, at most.
+const CHUNK: usize = 16_384;
 
 /// The first byte of the next frame.
 pub fn read_kind<S: Source>(source: &mut S) -> Result<u8, FrameEnd>
@@ -77,11 +77,10 @@ pub fn read_piece<S: Source>(
         let start = piece.len();
         let most = CHUNK.min(len - start);
         piece.resize(start + most, 0)?;
-        let count = source.read(&mut piece[start..])?;
-        if count == 0 {
+        let count = fill(source, &mut piece[start..])?;
+        if count < most {
             return Err(FrameEnd::Cut);
         }
-        piece.truncate(start + count);
     }
     Ok(())
 }

@@ -48,7 +48,8 @@ impl ReadAhead {
     }
 
     /// Gives some of the bytes that are left, from their front. Where none are, it reads from the source first: as much as comes by one read
-    /// of 512 bytes, and of more, up to 8,192, once a read gave all that there was room for; or straight into a buffer that has room for as many.
+    /// of 512 bytes, and of more, up to 8,192, once a read gave all that there was room for; or straight into a buffer that has room for as many,
+    /// or for 8,192.
     /// Where there is no memory for that room, reads are shorter, or straight.
     ///
     /// An `Err` is the source's, which is asked where no byte is left.
@@ -58,6 +59,9 @@ impl ReadAhead {
     {
         if self.begin < self.end {
             return Ok(self.give(into));
+        }
+        if into.len() >= MOST_ROOM {
+            return source.read(into);
         }
         self.make_room();
         if into.len() >= self.bytes.len() {

@@ -19,46 +19,6 @@ pub(crate) fn word_len(text: &[u8]) -> usize
         .count()
 }
 
-const KEYWORDS: [Keyword; 37] = [
-    Keyword::Type,
-    Keyword::State,
-    Keyword::Fun,
-    Keyword::Init,
-    Keyword::Query,
-    Keyword::Update,
-    Keyword::Let,
-    Keyword::In,
-    Keyword::Match,
-    Keyword::With,
-    Keyword::End,
-    Keyword::If,
-    Keyword::Then,
-    Keyword::Else,
-    Keyword::Auth,
-    Keyword::Unauth,
-    Keyword::Fst,
-    Keyword::Snd,
-    Keyword::Unit,
-    Keyword::Bool,
-    Keyword::Int,
-    Keyword::Text,
-    Keyword::True,
-    Keyword::False,
-    Keyword::Len,
-    Keyword::Not,
-    Keyword::Binary(BinaryOperator::Arith(Arith::Add)),
-    Keyword::Binary(BinaryOperator::Arith(Arith::Sub)),
-    Keyword::Binary(BinaryOperator::Arith(Arith::Mul)),
-    Keyword::Binary(BinaryOperator::Arith(Arith::Div)),
-    Keyword::Binary(BinaryOperator::Arith(Arith::Rem)),
-    Keyword::Binary(BinaryOperator::Compare(Compare::Eq)),
-    Keyword::Binary(BinaryOperator::Compare(Compare::Lt)),
-    Keyword::Binary(BinaryOperator::Compare(Compare::Le)),
-    Keyword::Binary(BinaryOperator::TextCompare(TextCompare::Eq)),
-    Keyword::Binary(BinaryOperator::TextCompare(TextCompare::Lt)),
-    Keyword::Binary(BinaryOperator::Cat),
-];
-
 /// The text of a keyword.
 pub fn keyword_text(keyword: Keyword) -> &'static [u8]
     ensures { result.now ≡ keyword_text keyword }
@@ -116,10 +76,46 @@ fn operator_text(operator: BinaryOperator) -> &'static [u8]
 fn keyword_of(word: &[u8]) -> Option<Keyword>
     ensures { result ≡ keyword_of word.now }
 {
-    KEYWORDS
-        .iter()
-        .find(|keyword| word == keyword_text(**keyword))
-        .copied()
+    match word {
+        b"type" => Some(Keyword::Type),
+        b"state" => Some(Keyword::State),
+        b"fun" => Some(Keyword::Fun),
+        b"init" => Some(Keyword::Init),
+        b"query" => Some(Keyword::Query),
+        b"update" => Some(Keyword::Update),
+        b"let" => Some(Keyword::Let),
+        b"in" => Some(Keyword::In),
+        b"match" => Some(Keyword::Match),
+        b"with" => Some(Keyword::With),
+        b"end" => Some(Keyword::End),
+        b"if" => Some(Keyword::If),
+        b"then" => Some(Keyword::Then),
+        b"else" => Some(Keyword::Else),
+        b"auth" => Some(Keyword::Auth),
+        b"unauth" => Some(Keyword::Unauth),
+        b"fst" => Some(Keyword::Fst),
+        b"snd" => Some(Keyword::Snd),
+        b"unit" => Some(Keyword::Unit),
+        b"bool" => Some(Keyword::Bool),
+        b"int" => Some(Keyword::Int),
+        b"text" => Some(Keyword::Text),
+        b"true" => Some(Keyword::True),
+        b"false" => Some(Keyword::False),
+        b"len" => Some(Keyword::Len),
+        b"not" => Some(Keyword::Not),
+        b"add" => Some(Keyword::Binary(BinaryOperator::Arith(Arith::Add))),
+        b"sub" => Some(Keyword::Binary(BinaryOperator::Arith(Arith::Sub))),
+        b"mul" => Some(Keyword::Binary(BinaryOperator::Arith(Arith::Mul))),
+        b"div" => Some(Keyword::Binary(BinaryOperator::Arith(Arith::Div))),
+        b"rem" => Some(Keyword::Binary(BinaryOperator::Arith(Arith::Rem))),
+        b"eq" => Some(Keyword::Binary(BinaryOperator::Compare(Compare::Eq))),
+        b"lt" => Some(Keyword::Binary(BinaryOperator::Compare(Compare::Lt))),
+        b"le" => Some(Keyword::Binary(BinaryOperator::Compare(Compare::Le))),
+        b"teq" => Some(Keyword::Binary(BinaryOperator::TextCompare(TextCompare::Eq))),
+        b"tlt" => Some(Keyword::Binary(BinaryOperator::TextCompare(TextCompare::Lt))),
+        b"cat" => Some(Keyword::Binary(BinaryOperator::Cat)),
+        _ => None,
+    }
 }
 
 /// A word that begins with a small letter: a keyword, or else a lower name.

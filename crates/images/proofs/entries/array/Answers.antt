@@ -26,7 +26,7 @@ returns-then-count-gt-MOST_ITEMS-clause-loaded c marking entries stored size =
     let p = c.args.parts.now.types.now in
     let first = sym c.in-Some.is ∙ c.first_record.ensures.found in
     no_array marking p (nodes_in c.args.store.now) c.args.store.now.sound c.args.loaded.now entries stored size c.args.number c.args.count c.args.numbers.now c.in-Some.first first
-    (too_long p c.args.parts.now.marks.now.marks.items c.requires.marked c.args.count
+    (too_long p c.args.parts.now.marks.now.marks.items c.requires.marked.marks c.args.count
     (item marking p (nodes_in c.args.store.now) c.args.store.now.sound c.args.loaded.now entries stored size c.args.number c.args.count c.args.numbers.now c.in-Some.first first)
     (omega (arith, c.if-count-gt-MOST_ITEMS.true)))
 

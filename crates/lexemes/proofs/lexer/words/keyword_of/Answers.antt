@@ -1,14 +1,24 @@
-use Rattle.std.proofs.Common.{◌∙◌, sym, rules, tests}
-use Rattle.std.specs.Prelude.{bytes_eq}
-use Rattle.std.proofs.lemmas.Iterator.{YieldsList-from_slice}
-use Rattle.std.proofs.lemmas.Iterator.Search.{find_from_yields_List}
-use Rattle.lexemes.specs.Tokens.{keywords, keyword_text}
-use Rattle.lexemes.proofs.TokenLemmas.{keyword_among-find}
+use Rattle.std.proofs.Common.{rules, sym, ap, arith}
+use Rattle.std.specs.Prelude.{codes}
+use Rattle.std.proofs.lemmas.Grind.{common_steps}
+use Rattle.std.proofs.lemmas.Slice.Eq.{text_from_reads}
+use Rattle.lexemes.specs.Tokens.{keyword_of}
 use Rattle.lexemes.proofs.lexer.words.keyword_of.Goals as goal
 
-pub returns : goal.returns
-returns c =
-    let word = c.args.word.now in
-    c.copied.ensures
-    ∙ (find_from_yields_List (λ keyword. bytes_eq word (keyword_text keyword)) _ _ c.find.result c.find.ensures.ran (YieldsList-from_slice keywords cc) (λ x b q k. search (rules, tests))
-    ∙ sym (keyword_among-find keywords word))
+pub returns-in-state : goal.returns-in-state
+returns-in-state c = sym (ap keyword_of (text_from_reads c.args.word.now (codes "state") (grind (arith, common_steps)) (search (rules))))
+
+pub returns-in-query : goal.returns-in-query
+returns-in-query c = sym (ap keyword_of (text_from_reads c.args.word.now (codes "query") (grind (arith, common_steps)) (search (rules))))
+
+pub returns-in-match : goal.returns-in-match
+returns-in-match c = sym (ap keyword_of (text_from_reads c.args.word.now (codes "match") (grind (arith, common_steps)) (search (rules))))
+
+pub returns-in-false : goal.returns-in-false
+returns-in-false c = sym (ap keyword_of (text_from_reads c.args.word.now (codes "false") (grind (arith, common_steps)) (search (rules))))
+
+pub returns-in-update : goal.returns-in-update
+returns-in-update c = sym (ap keyword_of (text_from_reads c.args.word.now (codes "update") (grind (arith, common_steps)) (search (rules))))
+
+pub returns-in-unauth : goal.returns-in-unauth
+returns-in-unauth c = sym (ap keyword_of (text_from_reads c.args.word.now (codes "unauth") (grind (arith, common_steps)) (search (rules))))
