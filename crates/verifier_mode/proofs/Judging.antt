@@ -28,13 +28,14 @@ use Rattle.proof_stream.specs.TakenFrames.{CountsLeft}
 use Rattle.reuse_buffer.specs.Kept.{Kept, kept}
 use Rattle.verifier_mode.specs.declared.verifier.VerifierFault.{VerifierFault}
 use Rattle.verifier_mode.specs.declared.verifier.VerifierFault.TheVariants as fault
-use Rattle.verifier_mode.specs.declared.verdict.Verdict.{Verdict}
-use Rattle.verifier_mode.specs.declared.verdict.Verdict.TheVariants.{Rejected, BadState, BadArgument, ReadFault, NoMemory}
+use Rattle.verifier_mode.specs.declared.verdict.Verdict.TheVariants.{Rejected}
+use Rattle.verifier_mode.specs.declared.verdict.CallFault.{CallFault}
+use Rattle.verifier_mode.specs.declared.verdict.CallFault.TheVariants.{BadState, BadArgument, NoMemory}
 use Rattle.verifier_mode.specs.CallParts.{ArePut, IsReadAs}
 use Rattle.verifier_mode.specs.CheckedRuns.{CameTo, IsChecked, IsLeft}
 use Rattle.verifier_mode.specs.Spelled.{IsSpelledAs, OutcomeStands}
 use Rattle.verifier_mode.specs.Takings.{HasCome}
-use Rattle.verifier_mode.specs.Verdicts.{Answers, AnswersWithRing, IsTold, Tells, VerdictCause, verdict_of}
+use Rattle.verifier_mode.specs.Verdicts.{Answers, AnswersWithRing, IsTold, Tells, VerdictCause, call_verdict, verdict_of}
 use Rattle.verifier_mode.proofs.Pieces.{some_same}
 
 -- a run that was stopped
@@ -141,12 +142,10 @@ module _ (hash : Hash) (P : Program) (f : ℕ) (state argument : List ℕ) (k : 
         → on_frames ≡ checked.judge hash P f (AndV s (AndV a NoV)) k bytes n recent
     on_good_call s a e e' = on_good_state s e ∙ ap (λ r. checked.on_argument hash P s r f k bytes n recent) e'.1
 
-    pub refused_on : (nodes : List Node) (v : Verdict) → ArePut P nodes ty state argument (Err v) → AnswersWithRing P f on_frames (Err v)
+    pub refused_on : (nodes : List Node) (refusal : CallFault) → ArePut P nodes ty state argument (Err refusal) → AnswersWithRing P f on_frames (Err (call_verdict refusal))
     refused_on nodes (BadState offset) h = ap (λ r. checked.on_state hash P ty r argument f k bytes n recent) h
     refused_on nodes (BadArgument offset) (s, e, h) = on_good_state s e ∙ ap (λ r. checked.on_argument hash P s r f k bytes n recent) h
     refused_on nodes NoMemory h = tt
-    refused_on nodes (Rejected cause) h = absurd h
-    refused_on nodes ReadFault h = absurd h
 
   module _ (bytes : List ℕ) where
     -- of a file
@@ -161,17 +160,13 @@ module _ (hash : Hash) (P : Program) (f : ℕ) (state argument : List ℕ) (k : 
     good_call s a e e' found is =
         good_state s e ∙ ap (λ r. checked.with_argument hash P s r f k bytes) e'.1 ∙ ap (λ found. checked.with_header hash P found f (AndV s (AndV a NoV)) k bytes) is
 
-    pub refused : (nodes : List Node) (v : Verdict) → ArePut P nodes ty state argument (Err v) → Answers P f on_file (Err v)
+    pub refused : (nodes : List Node) (refusal : CallFault) → ArePut P nodes ty state argument (Err refusal) → Answers P f on_file (Err (call_verdict refusal))
     refused nodes (BadState offset) h = ap (λ r. checked.with_state hash P ty r argument f k bytes) h
     refused nodes (BadArgument offset) (s, e, h) = good_state s e ∙ ap (λ r. checked.with_argument hash P s r f k bytes) h
     refused nodes NoMemory h = tt
-    refused nodes (Rejected cause) h = absurd h
-    refused nodes ReadFault h = absurd h
 
-pub put_cause : (T : Type 0) (P : Program) (nodes : List Node) (t : Ty) (state argument : List ℕ) (before : ℕ) (v : Verdict) → ArePut P nodes t state argument (Err v)
-    → VerdictCause {T = T} before before (Err v)
+pub put_cause : (T : Type 0) (P : Program) (nodes : List Node) (t : Ty) (state argument : List ℕ) (before : ℕ) (refusal : CallFault) → ArePut P nodes t state argument (Err refusal)
+    → VerdictCause {T = T} before before (Err (call_verdict refusal))
 put_cause T P nodes t state argument before (BadState offset) h = refl
 put_cause T P nodes t state argument before (BadArgument offset) h = refl
 put_cause T P nodes t state argument before NoMemory h = refl
-put_cause T P nodes t state argument before (Rejected cause) h = absurd h
-put_cause T P nodes t state argument before ReadFault h = absurd h

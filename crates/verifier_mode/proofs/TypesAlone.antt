@@ -16,18 +16,16 @@ use Rattle.value_store.specs.Nodes.{Node}
 use Rattle.value_store.specs.declared.node.Ref.{Ref}
 use Rattle.verifier_mode.specs.CallParts.{ArePut}
 use Rattle.verifier_mode.specs.Spelled.{IsSpelledAs, OutcomeStands}
-use Rattle.verifier_mode.specs.declared.verdict.Verdict.{Verdict}
-use Rattle.verifier_mode.specs.declared.verdict.Verdict.TheVariants.{Rejected, BadState, BadArgument, ReadFault, NoMemory}
+use Rattle.verifier_mode.specs.declared.verdict.CallFault.{CallFault}
+use Rattle.verifier_mode.specs.declared.verdict.CallFault.TheVariants.{BadState, BadArgument, NoMemory}
 
 module _ (t : Types) (fs : List Function) (nodes : List Node) (u : Ty) where
-  put_in : (state argument : List ℕ) (result : Result (List Ref) Verdict) → ArePut (types_meaning t) nodes u state argument result
+  put_in : (state argument : List ℕ) (result : Result (List Ref) CallFault) → ArePut (types_meaning t) nodes u state argument result
       → ArePut (program_with t fs) nodes u state argument result
   put_in state argument (Ok refs) h = h
   put_in state argument (Err (BadState offset)) h = h
   put_in state argument (Err (BadArgument offset)) h = h
   put_in state argument (Err NoMemory) h = h
-  put_in state argument (Err (Rejected cause)) h = h
-  put_in state argument (Err ReadFault) h = h
 
   stands_in : (o : Outcome Ref) → OutcomeStands (program_with t fs) nodes u o → OutcomeStands (types_meaning t) nodes u o
   stands_in (Done r) h = h
@@ -36,7 +34,7 @@ module _ (t : Types) (fs : List Function) (nodes : List Node) (u : Ty) where
 
 -- The code gives the types of its program.
 module _ (p : Program) (given : Types) (is : given ≡ p.types) (nodes : List Node) (id : TyId) (u : Ty) (at : type_at (types_of p) id ≡ u) where
-  pub put_by : (state argument : List ℕ) (result : Result (List Ref) Verdict) → ArePut (types_meaning given) nodes (type_at (types_by_number given) id) state argument result
+  pub put_by : (state argument : List ℕ) (result : Result (List Ref) CallFault) → ArePut (types_meaning given) nodes (type_at (types_by_number given) id) state argument result
       → ArePut (meaning p) nodes u state argument result
   put_by state argument result h =
       subst (λ u. ArePut (meaning p) nodes u state argument result) at

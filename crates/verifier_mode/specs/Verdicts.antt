@@ -24,6 +24,8 @@ use Rattle.proof_stream.specs.declared.frame.HeadEnd.TheVariants as head_end
 use Rattle.reuse_buffer.specs.Kept.{Kept}
 use Rattle.verifier_mode.specs.declared.verifier.VerifierFault.{VerifierFault}
 use Rattle.verifier_mode.specs.declared.verifier.VerifierFault.TheVariants as fault
+use Rattle.verifier_mode.specs.declared.verdict.CallFault.{CallFault}
+use Rattle.verifier_mode.specs.declared.verdict.CallFault.TheVariants as call
 use Rattle.verifier_mode.specs.declared.verdict.Verdict.{Verdict}
 use Rattle.verifier_mode.specs.declared.verdict.Verdict.TheVariants.{Rejected, BadState, BadArgument, ReadFault, NoMemory}
 
@@ -36,6 +38,12 @@ verdict_of stop.NoMemory = NoMemory
 abbrev pub verdict_at : HeadEnd → Verdict
 verdict_at head_end.Header = Rejected cause.Header
 verdict_at head_end.ReadFault = ReadFault
+
+-- that on a call whose state and argument aren't put into a store
+abbrev pub call_verdict : CallFault → Verdict
+call_verdict (call.BadState offset) = BadState offset
+call_verdict (call.BadArgument offset) = BadArgument offset
+call_verdict call.NoMemory = NoMemory
 
 -- it tells some outcome
 abbrev pub IsTold : Program → Ty → Outcome Spelling → Type 0

@@ -23,7 +23,7 @@ ghost use Rattle.verifier_mode.specs.Spelled.{IsSpelledAs, OutcomeStands};
 ghost use Rattle.verifier_mode.specs.Verdicts.{Answers, AnswersWithRing, IsTold, SaysTrue, SaysTrueOn, VerdictCause};
 
 use crate::checked_runs::checked_run;
-use crate::verdict::Verdict;
+use crate::verdict::{CallFault, Verdict};
 use code_gen::Code;
 use core_terms::{Cause, FunctionId, Hash32, Outcome, Program, Spelling, TyId, Types};
 use lam_outside::Source;
@@ -114,6 +114,10 @@ pub fn argument_of(program: &Program, role: FunctionId) -> TyId
 }
 
 /// Puts the state of a call and its argument, which is of this type, into the store.
+///
+/// # Errors
+///
+/// `BadState` and `BadArgument`, in this order, name the offset of the first fault. `NoMemory` comes where there is no memory for the nodes.
 pub fn put_call(
     alloc: Global,
     types: &Types,
@@ -121,20 +125,20 @@ pub fn put_call(
     state: &[u8],
     argument: &[u8],
     ty: TyId,
-) -> Result<[Ref; 2], Verdict>
+) -> Result<[Ref; 2], CallFault>
     requires { HasLimit (types_meaning types.now) (store_lent store.old) }
     ensures limit { store.new.limit ≡ store.old.limit }
     ensures put { ArePut (types_meaning types.now) (nodes_in store.new) (type_at (types_by_number types.now) ty) state.now argument.now result }
 {
     let state = match unspell(alloc, types, store, state, types.state_type()) {
         Ok(state) => state,
-        Err(UnspellFault::Bad(offset)) => return Err(Verdict::BadState(offset)),
-        Err(UnspellFault::NoMemory) => return Err(Verdict::NoMemory),
+        Err(UnspellFault::Bad(offset)) => return Err(CallFault::BadState(offset)),
+        Err(UnspellFault::NoMemory) => return Err(CallFault::NoMemory),
     };
     match unspell(alloc, types, store, argument, ty) {
         Ok(argument) => Ok([state, argument]),
-        Err(UnspellFault::Bad(offset)) => Err(Verdict::BadArgument(offset)),
-        Err(UnspellFault::NoMemory) => Err(Verdict::NoMemory),
+        Err(UnspellFault::Bad(offset)) => Err(CallFault::BadArgument(offset)),
+        Err(UnspellFault::NoMemory) => Err(CallFault::NoMemory),
     }
 }
 

@@ -15,6 +15,6 @@ mod verifier;
 
 pub use checked_runs::checked_run;
 pub use judge::{argument_of, put_call, spelled, verify, verify_on};
-pub use opening::stop_of;
-pub use verdict::Verdict;
+pub use opening::{Asked, are_same, held_digest, stop_of};
+pub use verdict::{CallFault, Verdict};
 pub use verifier::{Verifier, VerifierFault};

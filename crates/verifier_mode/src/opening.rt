@@ -29,9 +29,9 @@ use value_store::{Held, Nodes, Ref, View};
 
 /// The piece that is asked for: its number, and the digest that is held.
 #[derive(Clone, Copy)]
-pub(crate) struct Asked {
-    pub(crate) place: u64,
-    pub(crate) want: Digest,
+pub struct Asked {
+    pub place: u64,
+    pub want: Digest,
 }
 
 /// Opens a piece, whose digest is `found`, as the one that is asked for at a type. Where it is the last new piece, at the same type,
@@ -96,14 +96,14 @@ pub fn stop_of(end: FrameEnd, place: u64) -> Stop<VerifierFault>
 }
 
 /// Whether two digests are the same, in all of their bytes.
-fn are_same(a: Digest, b: Digest) -> bool
+pub fn are_same(a: Digest, b: Digest) -> bool
     ensures { result ≡ bytes_eq a.0 b.0 }
 {
     a.0.as_slice() == b.0.as_slice()
 }
 
 /// The digest that the node of an authenticated value holds.
-pub(crate) fn held_digest<N: Nodes>(store: &N, r: Ref) -> Digest
+pub fn held_digest<N: Nodes>(store: &N, r: Ref) -> Digest
     requires { (types : Table) × (t : Ty) × (x : Value) × StandsFor VerifierNodes types (N.nodes store.now) r.0 (AuthTy t) x }
     ensures { (types : Table) (t : Ty) (x : Value) → StandsFor VerifierNodes types (N.nodes store.now) r.0 (AuthTy t) x → x ≡ DigestV result.0 }
 {

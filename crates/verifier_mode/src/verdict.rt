@@ -1,6 +1,6 @@
 // The verdict on a call.
 ghost use Rattle.std.specs.Prelude.{◌≡◌};
-ghost use Rattle.verifier_mode.specs.Verdicts.{verdict_at, verdict_of};
+ghost use Rattle.verifier_mode.specs.Verdicts.{call_verdict, verdict_at, verdict_of};
 ghost use Rattle.verifier_mode.specs.declared.verdict.Verdict.TheVariants as verdict;
 
 use crate::verifier::VerifierFault;
@@ -23,6 +23,29 @@ pub enum Verdict {
     ReadFault,
     /// Memory was wanting.
     NoMemory,
+}
+
+/// Why the state and the argument of a call aren't put into a store.
+#[derive(Clone, Copy)]
+pub enum CallFault {
+    /// The state's bytes are no spelling at the state's type: the offset of the first fault.
+    BadState(u32),
+    /// The argument's bytes are no spelling at the argument's type: the offset of the first fault.
+    BadArgument(u32),
+    /// Memory was wanting.
+    NoMemory,
+}
+
+impl From<CallFault> for Verdict {
+    ghost from_gives = { λ fault result. result ≡ call_verdict fault };
+
+    fn from(fault: CallFault) -> Self {
+        match fault {
+            CallFault::BadState(offset) => Verdict::BadState(offset),
+            CallFault::BadArgument(offset) => Verdict::BadArgument(offset),
+            CallFault::NoMemory => Verdict::NoMemory,
+        }
+    }
 }
 
 impl From<Stop<VerifierFault>> for Verdict {
