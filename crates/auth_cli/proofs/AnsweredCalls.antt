@@ -14,13 +14,14 @@ use Rattle.core_terms.specs.Spelling.{spelling}
 use Rattle.core_terms.specs.Terms.{Program, function_at}
 use Rattle.core_terms.specs.Values.{Value}
 use Rattle.images.specs.Images.{Image, Root, Refused}
+use Rattle.piece_mirror.specs.Files.{Mirrored, Holds, Faulty}
 use Rattle.printed_syntax.specs.Literals.{Literal, IsValue, FirstFault}
 use Rattle.printed_lines.specs.declared.refusal.Argument.{Argument}
 use Rattle.printed_lines.specs.declared.refusal.Argument.TheVariants as named
 use Rattle.printed_lines.specs.declared.refusal.InputFault.{InputFault}
 use Rattle.printed_lines.specs.declared.refusal.InputFault.TheVariants.{RoleKind, TooLong}
-use Rattle.file_commands.specs.Answer.{Answer, RoleCall, answer_with, audited_answer, call_audit_answer, command_answer, image_read, input_refused, judged_answer, max_file, max_program, callee_of, proof_answer, proved_answer, state_read, verified_answer}
-use Rattle.file_commands.specs.Answer.{with_bytes, with_file, with_fuel, with_fueled_role, with_ideal_call, with_image, with_kept, with_program_file, with_text, with_literal, with_number, with_passed, with_program, with_role_at, with_role_call, with_root, with_state, with_state_read}
+use Rattle.file_commands.specs.Answer.{Answer, RoleCall, answer_with, audited_answer, call_audit_answer, command_answer, fetched_answer, image_read, input_refused, judged_answer, max_file, max_program, mirror_read, mirrored_answer, callee_of, proof_answer, proved_answer, state_read, verified_answer}
+use Rattle.file_commands.specs.Answer.{with_bytes, with_file, with_fuel, with_fueled_role, with_ideal_call, with_image, with_kept, with_program_file, with_text, with_literal, with_mirror, with_mirror_file, with_number, with_passed, with_pieces, with_program, with_role_at, with_role_call, with_root, with_state, with_state_read}
 use Rattle.file_commands.specs.Arguments.{fuel_of}
 use Rattle.number_words.specs.Numbers.{number_within}
 use Rattle.file_commands.specs.AuditedCalls.{CallsAudit, TellsAnAudit}
@@ -99,6 +100,10 @@ module _ (a : Answer) (tells : TellsAnAudit (code a.status)) where
   root_read : (found : Image) (go : Value → Option Answer) → IsAnswer (with_root found go) → (v : Value) × (found ≡ Root v) × IsAnswer (go v)
   root_read (Root v) go is = (v, refl, is)
   root_read (Refused fault) go is = refusal_is _ is (lit< tt) (lit< tt)
+
+  pieces_read : (found : Mirrored) (go : List (List ℕ) → Option Answer) → IsAnswer (with_pieces found go) → (pieces : List (List ℕ)) × (found ≡ Holds pieces) × IsAnswer (go pieces)
+  pieces_read (Holds pieces) go is = (pieces, refl, is)
+  pieces_read (Faulty fault) go is = refusal_is _ is (lit< tt) (lit< tt)
 
   role_read : (callee : Callee) (P : Program) (found : Option ℕ) (go : ℕ → Option Answer) → IsAnswer (with_role_at callee P found go)
       → (f : ℕ) × (found ≡ Some f) × (is_called callee (function_at P f).kind ≡ true) × IsAnswer (go f)
@@ -245,3 +250,18 @@ module _ (a : Answer) (tells : TellsAnAudit (code a.status)) where
       let call : RoleCall = record { role = role_is.0; state = inputs.0; argument = spelling inputs.1 } in
       let read = bytes_read (files proof) (λ bytes. Some (verified_answer out call bytes)) inputs.4 in
       (role_is.0, inputs.0, inputs.1, read.0, role_is.1, inputs.2, inputs.3, read.1, read.2)
+
+  -- `fetch`: it is the verdict on a call over the pieces of a mirror
+  pub fetch_means : (program role state argument fuel mirror : List ℕ) (files : Contents) → IsAnswer (fetched_answer program role state argument fuel mirror files)
+      → (r : FueledRole) × (s : List ℕ) × (x : Value) × (bytes : List ℕ) × (pieces : List (List ℕ)) × NamesRole OfState program role fuel files r × (files state ≡ Some s)
+      × (passed_literal r argument ≡ IsValue x) × (files mirror ≡ Some bytes) × (mirror_read bytes ≡ Holds pieces)
+      × IsAnswer (Some (mirrored_answer (record { role = r; state = s; argument = spelling x }) pieces))
+  fetch_means program role state argument fuel mirror files is =
+      let on_call : RoleCall → Option Answer = λ call. with_mirror_file (files mirror) (λ pieces. Some (mirrored_answer call pieces)) in
+      let role_is = role_is_named OfState program role fuel files (λ r. with_role_call r state argument files on_call) is in
+      let inputs = spelled_are_named role_is.0 state argument files on_call role_is.2 in
+      let call : RoleCall = record { role = role_is.0; state = inputs.0; argument = spelling inputs.1 } in
+      let told : List (List ℕ) → Option Answer = λ pieces. Some (mirrored_answer call pieces) in
+      let read = file_read max_file named.Mirror (files mirror) (λ bytes. with_mirror bytes told) inputs.4 in
+      let held = pieces_read (mirror_read read.0) told read.3 in
+      (role_is.0, inputs.0, inputs.1, read.0, held.0, role_is.1, inputs.2, inputs.3, read.1, held.1, held.2)

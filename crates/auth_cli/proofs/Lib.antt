@@ -23,3 +23,4 @@ pub mod AnsweredRuns  -- `run`: clauses `companion`, `proves`, `audited`, `split
 pub mod Answered  -- `run`: by the number of its status
 pub mod NetRuns  -- `carry_out`, `ended`, `run`: words that may call a command on the net
 pub mod TrueLine  -- `run`: clause `headline`
+pub mod TrueFetch  -- `run`: clause `fetched`

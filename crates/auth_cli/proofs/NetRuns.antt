@@ -3,22 +3,24 @@ use Rattle.std.proofs.Common.{◌≡◌, ◌≢◌, ◌⊎◌, ◌↔◌, ◌<�
 use Rattle.std.specs.Option.{ForSome}
 use Rattle.command_words.specs.Invocations.{Invocation, invocation_of}
 use Rattle.command_words.specs.declared.command.Command.{Command}
-use Rattle.command_words.specs.declared.command.Command.TheVariants.{Check, Init, Ideal, Step, Shallow, Prove, Verify, Audit, Library, Gen, Serve, Ask}
+use Rattle.command_words.specs.declared.command.Command.TheVariants.{Check, Init, Ideal, Step, Shallow, Prove, Verify, Audit, Library, Gen, Serve, Ask, Pieces, Fetch}
 use Rattle.lam_outside.specs.Causes.{Rose}
 use Rattle.lam_outside.specs.Told.{Contents, Names}
 use Rattle.file_commands.specs.Answer.{Answer, answer, answer_with, called_answer, usage_answer}
-use Rattle.auth_cli.specs.Asking.{AskCounts, IsAsk}
+use Rattle.auth_cli.specs.Asking.{IsAsk}
 use Rattle.file_commands.specs.Codes.{code}
 use Rattle.file_commands.specs.Ending.{EndsAs, Outside}
 use Rattle.auth_cli.specs.NetFaults.{NetFaults, NetRose}
 use Rattle.auth_cli.specs.NetRuns.{CallsNoDial, CallsNoListen, DialsNone, EndsCommand, EndsRun, IsOffline, IsReadFaultAt, ListensToNone, UsesNoNet}
 use Rattle.file_commands.specs.Reaching.{IsReached, ReachedAt}
 use Rattle.auth_cli.specs.OnlineRuns.{CountsBy, NetSeen}
-use Rattle.auth_cli.specs.Serving.{IsServe, ServeCounts}
+use Rattle.auth_cli.specs.Serving.{IsServe}
+use Rattle.file_commands.specs.TrueFetches.{IsTrueFetch}
 use Rattle.file_commands.specs.TrueLines.{IsTrueLine}
 use Rattle.file_commands.specs.declared.status.Status.{Status}
 use Rattle.file_commands.specs.declared.status.Status.TheVariants as status
 use Rattle.auth_cli.proofs.Answered.{fault_rose, fault_told, no_rise, none_rose, write_told}
+use Rattle.auth_cli.proofs.TrueFetch.{true_fetch}
 use Rattle.auth_cli.proofs.TrueLine.{true_line}
 
 -- ---- commands
@@ -35,6 +37,8 @@ not_online Verify no_serve no_ask = tt
 not_online Audit no_serve no_ask = tt
 not_online Library no_serve no_ask = tt
 not_online Gen no_serve no_ask = tt
+not_online Pieces no_serve no_ask = tt
+not_online Fetch no_serve no_ask = tt
 not_online Serve no_serve no_ask = absurd (no_serve refl)
 not_online Ask no_serve no_ask = absurd (no_ask refl)
 
@@ -51,6 +55,8 @@ module _ (texts : List (List ℕ)) (old new : Outside) (net net' : NetSeen) (end
   ends_offline Audit offline ends same = (ends, same)
   ends_offline Library offline ends same = (ends, same)
   ends_offline Gen offline ends same = (ends, same)
+  ends_offline Pieces offline ends same = (ends, same)
+  ends_offline Fetch offline ends same = (ends, same)
   ends_offline Serve offline ends same = absurd offline
   ends_offline Ask offline ends same = absurd offline
 
@@ -65,6 +71,8 @@ module _ (texts : List (List ℕ)) (old new : Outside) (net net' : NetSeen) (end
   command_offline Audit offline ends = ends.0
   command_offline Library offline ends = ends.0
   command_offline Gen offline ends = ends.0
+  command_offline Pieces offline ends = ends.0
+  command_offline Fetch offline ends = ends.0
   command_offline Serve offline ends = absurd offline
   command_offline Ask offline ends = absurd offline
 
@@ -85,6 +93,8 @@ command_counted Verify texts old new net net' ended ends = inl (answer_with Veri
 command_counted Audit texts old new net net' ended ends = inl (answer_with Audit texts, ends.0, ends.1)
 command_counted Library texts old new net net' ended ends = inl (answer_with Library texts, ends.0, ends.1)
 command_counted Gen texts old new net net' ended ends = inl (answer_with Gen texts, ends.0, ends.1)
+command_counted Pieces texts old new net net' ended ends = inl (answer_with Pieces texts, ends.0, ends.1)
+command_counted Fetch texts old new net net' ended ends = inl (answer_with Fetch texts, ends.0, ends.1)
 command_counted Serve texts old new net net' ended ends = inr ends.1.by_status
 command_counted Ask texts old new net net' ended ends = inr ends.1.by_status
 
@@ -182,6 +192,8 @@ run_memory (Some called) old new net net' ended ends same = by called.command
     by Audit = (ends (answer_with Audit called.texts), same)
     by Library = (ends (answer_with Library called.texts), same)
     by Gen = (ends (answer_with Gen called.texts), same)
+    by Pieces = (ends (answer_with Pieces called.texts), same)
+    by Fetch = (ends (answer_with Fetch called.texts), same)
 
 -- ---- counts
 
@@ -295,6 +307,8 @@ module _ (old new : Outside) (net net' : NetSeen) where
   command_dials Audit texts ended none ends = ap (λ (n : NetSeen). n.faults.dials) ends.1
   command_dials Library texts ended none ends = ap (λ (n : NetSeen). n.faults.dials) ends.1
   command_dials Gen texts ended none ends = ap (λ (n : NetSeen). n.faults.dials) ends.1
+  command_dials Pieces texts ended none ends = ap (λ (n : NetSeen). n.faults.dials) ends.1
+  command_dials Fetch texts ended none ends = ap (λ (n : NetSeen). n.faults.dials) ends.1
 
   pub run_dials : (found : Option Invocation) (ended : Status) → CallsNoDial found → EndsRun found old new net net' ended → net'.faults.dials ≡ net.faults.dials
   run_dials None ended none ends = ap (λ (n : NetSeen). n.faults.dials) ends.1
@@ -320,6 +334,8 @@ module _ (old new : Outside) (net net' : NetSeen) where
   command_listens Audit texts ended none ends = listens_as_before ends.1
   command_listens Library texts ended none ends = listens_as_before ends.1
   command_listens Gen texts ended none ends = listens_as_before ends.1
+  command_listens Pieces texts ended none ends = listens_as_before ends.1
+  command_listens Fetch texts ended none ends = listens_as_before ends.1
 
   pub run_listens : (found : Option Invocation) (ended : Status) → CallsNoListen found → EndsRun found old new net net' ended → Listens
   run_listens None ended none ends = listens_as_before ends.1
@@ -332,6 +348,12 @@ pub true_run : (line : List (List ℕ)) (old new : Outside) (net net' : NetSeen)
     → ForSome old.contents (λ files. IsTrueLine line files old new (code ended))
 true_run line old new net net' ended ends files known r state argument proof out calls tells =
     true_line line old new ended (run_offline line old new net net' ended (called_offline (invocation_of line) _ calls.words tt) ends) files known r state argument proof out calls tells
+
+-- and so is one of words that call `fetch`
+pub fetched_run : (line : List (List ℕ)) (old new : Outside) (net net' : NetSeen) (ended : Status) → EndsRun (invocation_of line) old new net net' ended
+    → ForSome old.contents (λ files. IsTrueFetch line files old new (code ended))
+fetched_run line old new net net' ended ends files known r state argument pieces calls tells =
+    true_fetch line old new ended (run_offline line old new net net' ended (called_offline (invocation_of line) _ calls.words tt) ends) files known r state argument pieces calls tells
 
 -- what is said of a read fault of a command that is known
 pub online_read : (command known : Command) (texts : List (List ℕ)) (contents : Option Contents) (asked : Option Names) (before now : ℕ) (ended : Status) → command ≡ known

@@ -56,7 +56,7 @@ module _ (callee : Callee) (program role fuel : List ℕ) (files : Contents) (na
       ∙ ap (λ (k : ℕ). record { program = r.program; role = r.role; fuel = k }) same_fuel
 
 -- a verdict that is answered with an outcome's number is an accepted one
-accepted : (tells : Outcome → Answer) (v : Verdict) → TellsOutcome (code (verdict_answer tells v).status) → (o : Outcome) × (v ≡ Accepted o)
+pub accepted : (tells : Outcome → Answer) (v : Verdict) → TellsOutcome (code (verdict_answer tells v).status) → (o : Outcome) × (v ≡ Accepted o)
 accepted tells (BadState offset) number = absurd (no_outcome 7 (lit< tt) number)
 accepted tells (BadArgument offset) number = absurd (no_outcome 7 (lit< tt) number)
 accepted tells (Rejected cause) number = absurd (no_outcome 5 (lit< tt) number)

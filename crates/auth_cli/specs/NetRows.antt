@@ -2,7 +2,7 @@
 use Rattle.std.specs.Prelude.{◌≡◌, ◌⊎◌, ◌≤◌, ℕ, List, Option, Some, None, refl}
 use Rattle.std.proofs.Common.{arith, ap, inl, inr}
 use Rattle.command_words.specs.Invocations.{Invocation}
-use Rattle.command_words.specs.declared.command.Command.TheVariants.{Check, Init, Ideal, Step, Shallow, Prove, Verify, Audit, Library, Gen, Serve, Ask}
+use Rattle.command_words.specs.declared.command.Command.TheVariants.{Check, Init, Ideal, Step, Shallow, Prove, Verify, Audit, Library, Gen, Serve, Ask, Pieces, Fetch}
 use Rattle.lam_outside.specs.Causes.{Rose}
 use Rattle.lam_outside.specs.Told.{Contents, Names}
 use Rattle.file_commands.specs.Answer.{Answer, answer_with, usage_answer}
@@ -56,7 +56,8 @@ not_done c = let e : 4 ≡ 3 = ap (λ (f : NetFaults). f.dials) c.1 in omega (ar
 
 -- COMMANDS
 pub use_no_net : UsesNoNet Check × UsesNoNet Init × UsesNoNet Ideal × UsesNoNet Step × UsesNoNet Shallow × UsesNoNet Prove × UsesNoNet Verify × UsesNoNet Audit × UsesNoNet Library × UsesNoNet Gen
-use_no_net = (tt, tt, tt, tt, tt, tt, tt, tt, tt, tt)
+    × UsesNoNet Pieces × UsesNoNet Fetch
+use_no_net = (tt, tt, tt, tt, tt, tt, tt, tt, tt, tt, tt, tt)
 
 pub use_a_net : (UsesNoNet Serve → ⊥) × (UsesNoNet Ask → ⊥)
 use_a_net = ((λ u. u), (λ u. u))

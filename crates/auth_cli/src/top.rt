@@ -21,14 +21,16 @@ ghost use Rattle.file_commands.specs.ProvedCalls.{CallsProve, IsProved};
 ghost use Rattle.file_commands.specs.Reaching.{IsReached, ReachedAt};
 ghost use Rattle.auth_cli.specs.Serving.{IsServe};
 ghost use Rattle.file_commands.specs.Statuses.{MayAnswer};
+ghost use Rattle.file_commands.specs.TrueFetches.{IsTrueFetch};
 ghost use Rattle.file_commands.specs.TrueLines.{IsTrueLine, TellsOutcome};
 ghost use Rattle.file_commands.specs.declared.status.Status.{Status};
 
 use crate::{ask_command, serve_command};
 use command_words::{Command, WordsFault, read};
 use file_commands::{
-    Halt, Status, audit_command, check_command, gen_command, ideal_command, init_command,
-    library_command, prove_command, shallow_command, step_command, tell, verify_command,
+    Halt, Status, audit_command, check_command, fetch_command, gen_command, ideal_command,
+    init_command, library_command, pieces_command, prove_command, shallow_command, step_command,
+    tell, verify_command,
 };
 use lam_outside::{Files, Net, Sink};
 use std::alloc::Global;
@@ -45,6 +47,7 @@ use std::thread::Threads;
 /// | 0 | `calls C done D new A used U bytes B` | `gen`: of C calls D ended with a value; together their proofs have A pieces of their own and name U again, and their files have B bytes |
 /// | 0 | `state VALUE` | `shallow`: the projection of the state has this value, and its spelling is stored; `gen`, behind the line of its calls: that of the last state has it |
 /// | 0 | the text | `library`: the program of the library, unchanged |
+/// | 0 | `pieces N` | `pieces`: the mirror that is stored has N pieces |
 /// | 0 | `done VALUE` | the outcome has this value, in projection; the image of the state that `init` or `step` made is stored, and the spelling of the one that `verify` names a file for |
 /// | 0, 3, 4 | `proof new A used U bytes B` | `prove`, behind the outcome's line: the proof has A pieces of its own, names U again, and the file that is stored has B bytes |
 /// | 0, 7, 8, 10 | `listening PORT` | `serve`, as soon as it listens; other lines follow |
@@ -55,11 +58,11 @@ use std::thread::Threads;
 /// | 3 | `trap NAME` | the outcome is this trap: `overflow`, `divzero`, `toobig`, `toodeep` |
 /// | 4 | `out of fuel` | the outcome is the want of fuel |
 /// | 0, 3, 4 | `agrees ` and such a line | `audit`: the proof is accepted with this outcome, which is the projection of the ideal one |
-/// | 5 | `rejected CAUSE` | the proof is rejected, for the cause below; in `audit` it shows no collision |
+/// | 5 | `rejected CAUSE` | the proof is rejected, or a piece of the mirror, for the cause below; in `audit` it shows no collision |
 /// | 5 | `S rejected CAUSE` | `ask`, as the last line: the proof of a call of session S is rejected |
 /// | 5 | `bad reply S stranger`, `bad reply S wrong KIND`, `server closed CODE`, `bad message KIND OFFSET`, `message too long BYTES`, `reply cut`, `reply ended` | `ask`, as the last line: another reply came than one that is waited for, or none |
 /// | 6 | `program refused: KIND LINE COLUMN` | the text is no program: its first fault |
-/// | 7 | `input refused: too long ARGUMENT` | the file that `P`, `STATE`, `IMG` or `SCRIPT` names is too long, or the image for `OUT` would be |
+/// | 7 | `input refused: too long ARGUMENT` | the file that `P`, `STATE`, `IMG`, `SCRIPT` or `MIRROR` names is too long, or the image or the mirror for `OUT` would be |
 /// | 7 | `input refused: library unknown` | the library has no program of this name |
 /// | 7 | `input refused: role unknown` | the program has no role of this name |
 /// | 7 | `input refused: role kind` | the role is not of the kind that the command calls: an init for `init`, an update for `step` and for `verify` with `OUT`, else a query or an update |
@@ -79,6 +82,9 @@ use std::thread::Threads;
 /// | 7 | `input refused: image too deep NUMBER` | the record's value is too deep |
 /// | 7 | `input refused: image root` | the last record hasn't the type of the state, or there is none |
 /// | 7 | `input refused: image leftover BYTES` | so many bytes stand behind the last record |
+/// | 7 | `input refused: mirror cut BYTES` | the mirror ends too early: how many bytes it has |
+/// | 7 | `input refused: mirror field OFFSET` | the field of the mirror is not allowed: its first bytes, the length of a piece over 1,048,608, or that of a piece that stood before |
+/// | 7 | `input refused: mirror leftover BYTES` | so many bytes stand behind the last piece |
 /// | 7 | `input refused: argument KIND OFFSET` | the argument is no literal of its type: the first fault |
 /// | 7 | `input refused: script LINE` | the line of the script with this number, from 1, asks for nothing: the first such line |
 /// | 8 | `read fault` | a file could not be read |
@@ -99,12 +105,13 @@ use std::thread::Threads;
 /// | `bad-use PLACE NUMBER HELD` | the frame names a kept piece, and fewer are kept |
 /// | `wrong-piece PLACE WANT FOUND` | the digest held, and that of the piece |
 /// | `bad-piece PLACE OFFSET` | the digests agree, and the piece is no spelling |
+/// | `missing PLACE WANT` | `fetch`: the mirror has no piece with the digest held |
 /// | `leftover BYTES` | the run ended, and so many bytes are left, or 65536 where there are more |
 ///
 /// The program's text has at most 262,144 bytes, each other file at most 67,108,864, but that a proof that is judged may
 /// have any length. What is refused first in this order ends the run: the words, the program, the role, the fuel, the number of
 /// pieces that are kept, the port, the number of connections, the number of calls in a turn, the state or the image, the argument,
-/// the script, the proof; of `gen` the words, the name, the seed, the number of rounds, the number of pieces that are kept. A file is
+/// the script, the proof, the mirror; of `gen` the words, the name, the seed, the number of rounds, the number of pieces that are kept. A file is
 /// opened when all that stands before it is well-formed, so `read fault` comes only from a file that this order had reached. A file is
 /// stored before any line is written, but by `serve` and `ask`: they write their lines as they arise, and behind them `serve` stores the
 /// last version, however it ended once its words and files were in order, and `ask` the state told last, once it dialled. Behind
@@ -159,6 +166,11 @@ pub fn run<F: Files, O: Sink, N: Net, R: Threads + Sync>(
     // What a told outcome says of the ideal run, and the new state that is stored, whoever made the proof.
     ensures headline { let seen = outside F.contents F.stores F.faults F.store_faults O.written O.faults in
         ForSome (F.contents files.old) (λ told. IsTrueLine (texts words.now) told (seen files.old out.old) (seen files.new out.new) result) }
+
+    // What an outcome that `fetch` tells says of the ideal run, whoever made the mirror: its answers are the honest pieces and the outcome is true, or
+    // two different pieces have one digest.
+    ensures fetched { let seen = outside F.contents F.stores F.faults F.store_faults O.written O.faults in
+        ForSome (F.contents files.old) (λ told. IsTrueFetch (texts words.now) told (seen files.old out.old) (seen files.new out.new) result) }
 
     // What `prove` stores is accepted: `verify` answers it, from the projected state alone, with the very status and line of the run.
     ensures companion { let seen = outside F.contents F.stores F.faults F.store_faults O.written O.faults in
@@ -304,6 +316,8 @@ fn carry_out_offline<F: Files, O: Sink>(
         Command::Audit => audit_command(alloc, words, files, out),
         Command::Library => library_command(alloc, words, out),
         Command::Gen => gen_command(alloc, words, out),
+        Command::Pieces => pieces_command(alloc, words, files, out),
+        Command::Fetch => fetch_command(alloc, words, files, out),
         Command::Serve | Command::Ask => unreachable!(),
     }
 }

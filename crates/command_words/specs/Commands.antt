@@ -2,7 +2,7 @@
 use Rattle.std.specs.Prelude.{◌≡◌, ◌⊎◌, ◌≤◌, ℕ, List, [], ◌∷◌, ◌++◌, length, map, find, bytes_eq, codes, Option}
 use Rattle.std.specs.Borrow.{Bor}
 use Rattle.command_words.specs.declared.command.Command.{Command}
-use Rattle.command_words.specs.declared.command.Command.TheVariants.{Check, Init, Ideal, Step, Shallow, Prove, Verify, Audit, Library, Gen, Serve, Ask}
+use Rattle.command_words.specs.declared.command.Command.TheVariants.{Check, Init, Ideal, Step, Shallow, Prove, Verify, Audit, Library, Gen, Serve, Ask, Pieces, Fetch}
 
 abbrev pub Text : Type 0
 Text = List ℕ
@@ -41,6 +41,8 @@ commands =
     row Gen (codes "gen") (codes "NAME" ∷ codes "SEED" ∷ codes "COUNT" ∷ codes "N" ∷ []) ∷
     row Serve (codes "serve") (codes "P" ∷ codes "IMG" ∷ codes "PORT" ∷ codes "CONNS" ∷ codes "SLICE" ∷ codes "OUT" ∷ []) ∷
     row Ask (codes "ask") (codes "P" ∷ codes "STATE" ∷ codes "PORT" ∷ codes "SCRIPT" ∷ codes "OUT" ∷ []) ∷
+    row Pieces (codes "pieces") (codes "P" ∷ codes "IMG" ∷ codes "OUT" ∷ []) ∷
+    row Fetch (codes "fetch") (codes "P" ∷ codes "ROLE" ∷ codes "STATE" ∷ codes "ARG" ∷ codes "FUEL" ∷ codes "MIRROR" ∷ []) ∷
     []
 
 -- the row of this name

@@ -18,6 +18,8 @@ pub enum Command {
     Gen,
     Serve,
     Ask,
+    Pieces,
+    Fetch,
 }
 
 /// A command that words call, with the texts of its arguments.
@@ -40,7 +42,7 @@ pub struct Row {
 
 /// The commands.
 #[rattlefmt::skip]
-static COMMANDS: [Row; 12] = [
+static COMMANDS: [Row; 14] = [
     Row { command: Command::Check, name: "check", arguments: &["P"], least: 1 },
     Row { command: Command::Init, name: "init", arguments: &["P", "ROLE", "ARG", "FUEL", "OUT"], least: 5 },
     Row { command: Command::Ideal, name: "ideal", arguments: &["P", "ROLE", "IMG", "ARG", "FUEL"], least: 5 },
@@ -53,6 +55,8 @@ static COMMANDS: [Row; 12] = [
     Row { command: Command::Gen, name: "gen", arguments: &["NAME", "SEED", "COUNT", "N"], least: 4 },
     Row { command: Command::Serve, name: "serve", arguments: &["P", "IMG", "PORT", "CONNS", "SLICE", "OUT"], least: 6 },
     Row { command: Command::Ask, name: "ask", arguments: &["P", "STATE", "PORT", "SCRIPT", "OUT"], least: 5 },
+    Row { command: Command::Pieces, name: "pieces", arguments: &["P", "IMG", "OUT"], least: 3 },
+    Row { command: Command::Fetch, name: "fetch", arguments: &["P", "ROLE", "STATE", "ARG", "FUEL", "MIRROR"], least: 6 },
 ];
 
 /// The table of the commands.

@@ -17,7 +17,7 @@ pub mod MarkedStates  -- `load_state`, `spell_state`, `value_line`, `role_output
 pub mod StateOutputs  -- `spell_state`
 pub mod EndedRuns  -- `read_ideal_call`, `run_init`, `run_call`
 pub mod RoleReports  -- `value_line`, `role_report`, `state_made`
-pub mod StoredOutputs  -- `role_output`
+pub mod StoredOutputs  -- `role_output`, `mirror_output`
 pub mod RoleSteps  -- `call_init`, `call_role` and the finders on them
 pub mod JudgedRoles  -- `find_judgement`, `judge_proof`, `outcome_output`, `new_state`; `outcome_report`
 pub mod JudgedAudits  -- `audit_named`, `audit_started`
@@ -30,3 +30,5 @@ pub mod TextFormats  -- the law `programs_are_sound`
 pub mod OnProofs  -- `run`; the law `verdicts_are_on_proofs`
 pub mod NamedConstructors  -- the law `constructors_are_named`
 pub mod ClientStates  -- the law `shallow_stores_the_clients_state`
+pub mod MirrorSteps  -- `load_mirror`, `load_mirror_file`, `mirror_output`
+pub mod FetchedTold  -- `fetched_outcome`, `fetch_from`, `fetch_named`

@@ -1,9 +1,9 @@
 -- Roles of sound programs that read a state, and the headline of a call of one.
-use Rattle.std.proofs.Common.{◌≡◌, ℕ, ◌<◌, true, List, [], drop, length, Some, Option, None, slice_index_or, refl, sym, ap, subst}
+use Rattle.std.proofs.Common.{◌≡◌, ℕ, ◌<◌, true, List, [], ◌++◌, drop, length, Some, Option, None, slice_index_or, unwrap_or, refl, sym, ap, subst}
 use Rattle.sha2.specs.Sha256.{sha256}
 use Rattle.sha2.proofs.Facts256.{length-sha256}
 use Rattle.lam_outside.specs.Told.{Contents}
-use Rattle.core_terms.specs.Formats.{IsFormat}
+use Rattle.core_terms.specs.Formats.{Format, IsFormat}
 use Rattle.core_terms.specs.Types.{Ty, UnitTy}
 use Rattle.core_terms.specs.Values.{Value, IsIdeal}
 use Rattle.core_terms.specs.Spelling.{spelling}
@@ -14,11 +14,14 @@ use Rattle.core_terms.proofs.CodePrograms.{there}
 use Rattle.core_terms.proofs.LawProofs.{typing_test_is_exact, shape_test_is_exact}
 use Rattle.ideal_meaning.specs.Ideal.{Outcome}
 use Rattle.ideal_meaning.specs.Checked.{Accepted}
+use Rattle.ideal_meaning.specs.Fetched.{Got, TrueFromOrSplit, answered}
 use Rattle.ideal_meaning.specs.Frames.{offered, offered_pieces, header}
 use Rattle.ideal_meaning.specs.Headline.{TrueOrSplit, call_of}
+use Rattle.ideal_meaning.specs.PieceForms.{IsOfWhole}
 use Rattle.ideal_meaning.proofs.Headline.{headline}
 use Rattle.ideal_meaning.proofs.RoleCalls.{parameters_are, result_is}
-use Rattle.file_commands.specs.Answer.{callee_of, role_verdict}
+use Rattle.file_commands.specs.Answer.{callee_of, fetched_verdict, given_by, role_verdict}
+use Rattle.fetched_verdicts.specs.Verdicts.{AreAnswersOf}
 use Rattle.file_commands.specs.FueledRoles.{FueledRole}
 use Rattle.file_commands.specs.NamedCalls.{NamesRole}
 use Rattle.file_commands.specs.RoleCalls.{kind_called, program_called, result_called}
@@ -28,6 +31,7 @@ use Rattle.file_commands.specs.declared.roles.Callee.{Callee}
 use Rattle.file_commands.proofs.RoleShapes.{calls_reads}
 use Rattle.file_commands.proofs.RolesByName.{role_within}
 use Rattle.file_commands.proofs.SoundTexts.{sound_format, text_is_sound}
+use Rattle.fetched_verdicts.proofs.TrueOverStores.{true_over}
 
 -- the roles that `verify` calls read a state
 pub callee_reads : (out : Option (List ℕ)) → CallsOnStates (callee_of out)
@@ -92,3 +96,28 @@ reader_headline r state argument proof o reader ideal_state ideal_argument accep
     argument ideal_state ideal_argument r.fuel proof o accepted in
     let pieces = offered_pieces (offered P.format.limit (drop 6 proof) said.0 []) in
     (said.0, said.1, subst (λ t. TrueOrSplit sha256 P f t (call_of state argument) r.fuel pieces o) (sym reader.result) said.2)
+
+-- a piece of a text's program that is fetched is what the digest is of
+pub named_whole : (callee : Callee) (program role fuel : List ℕ) (files : Contents) (r : FueledRole) → NamesRole callee program role fuel files r → IsOfWhole sha256 (program_called r)
+named_whole callee program role fuel files r names =
+    let sound = text_is_sound names.program_file.text (program_called r) names.program_file.program in
+    λ t bytes. subst (λ (F : Format). F.digest sha256 t bytes ≡ sha256 (unwrap_or (F.print sha256 t) [] ++ bytes)) (sym sound.format) refl
+
+-- what is accepted of a call over a mirror is true, or there is a split
+pub reader_fetched : (r : FueledRole) (state argument : Value) (pieces : List (List ℕ)) (o : Outcome) → IsReader (program_called r) r.role → IsOfWhole sha256 (program_called r)
+    → IsIdeal (program_called r).types (program_called r).state state → IsIdeal (program_called r).types (argument_type (program_called r) r.role) argument
+    → fetched_verdict (record {
+      role = r;
+      state = spelling (projection sha256 (program_called r) (program_called r).state state);
+      argument = spelling (projection sha256 (program_called r) (argument_type (program_called r) r.role) argument);
+    }) pieces ≡ Accepted o
+    → (answers : List Got) × AreAnswersOf sha256 (given_by pieces) answers (Accepted o)
+    × TrueFromOrSplit sha256 (program_called r) r.role (result_called r) (call_of state argument) r.fuel (offered_pieces (answered answers)) [] o
+unfolding fetched_verdict
+reader_fetched r state argument pieces o reader whole ideal_state ideal_argument accepted =
+    let P = program_called r in
+    let f = r.role in
+    let said =
+    true_over sha256 length-sha256 P reader.format reader.typed whole f (function_at P f).kind (argument_type P f) reader.answer reader.role reader.reads state
+    argument ideal_state ideal_argument r.fuel (given_by pieces) o accepted in
+    (said.0, said.1, subst (λ t. TrueFromOrSplit sha256 P f t (call_of state argument) r.fuel (offered_pieces (answered said.0)) [] o) (sym reader.result) said.2)

@@ -19,15 +19,15 @@ use Rattle.file_commands.specs.declared.report.Output.{Output}
 use Rattle.file_commands.specs.declared.report.Report.{Report}
 use Rattle.file_commands.proofs.Ends.{one_line}
 
-first_of : (b : Bool) (x y : Answer) → b ≡ true → (if b then x else y) ≡ x
+pub first_of : (b : Bool) (x y : Answer) → b ≡ true → (if b then x else y) ≡ x
 first_of true x y e = refl
 first_of false x y e = absurd (cc)
 
-second_of : (b : Bool) (x y : Answer) → b ≡ false → (if b then x else y) ≡ y
+pub second_of : (b : Bool) (x y : Answer) → b ≡ false → (if b then x else y) ≡ y
 second_of false x y e = refl
 second_of true x y e = absurd (cc)
 
-too_great : (n most : ℕ) → most < n → nat_le n most ≡ false
+pub too_great : (n most : ℕ) → most < n → nat_le n most ≡ false
 too_great n most great = grind (arith, common_steps)
 
 -- an image that can't be stored is refused

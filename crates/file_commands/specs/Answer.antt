@@ -3,7 +3,7 @@ use Rattle.std.specs.Prelude.{ℕ, List, [], ◌∷◌, ◌++◌, length, map, B
 use Rattle.sha2.specs.Sha256.{sha256}
 use Rattle.command_words.specs.Invocations.{Invocation, invocation_of}
 use Rattle.command_words.specs.declared.command.Command.{Command}
-use Rattle.command_words.specs.declared.command.Command.TheVariants.{Check, Init, Ideal, Step, Shallow, Prove, Verify, Audit, Library, Gen, Serve, Ask}
+use Rattle.command_words.specs.declared.command.Command.TheVariants.{Check, Init, Ideal, Step, Shallow, Prove, Verify, Audit, Library, Gen, Serve, Ask, Pieces, Fetch}
 use Rattle.ads_library.specs.Texts.{library_text}
 use Rattle.lam_outside.specs.Told.{Contents, Stores}
 use Rattle.core_terms.specs.ProgramFormats.{most_kept_pieces}
@@ -21,13 +21,20 @@ use Rattle.ideal_meaning.specs.Checked as checked
 use Rattle.ideal_meaning.specs.Checked.{verdict}
 use Rattle.images.specs.Images as images
 use Rattle.images.specs.SavedImages.{saved_image}
-use Rattle.printed_lines.specs.Lines.{agrees_line, calls_line, collision_line, named_done_line, ok_line, out_line, refusal_line, rejected_line, state_line, trap_line}
+use Rattle.piece_mirror.specs.Answers.{answer_of}
+use Rattle.piece_mirror.specs.Files.{FileFault, IsCut, IsBad, IsLeftover, Mirrored, Holds, Faulty, mirror_file, read_mirror}
+use Rattle.piece_mirror.specs.Filled.{all_added, pieces_in}
+use Rattle.piece_mirror.specs.Mirrors.{first_with}
+use Rattle.ideal_meaning.specs.Fetched.{Got}
+use Rattle.printed_lines.specs.Lines.{agrees_line, calls_line, collision_line, named_done_line, ok_line, out_line, pieces_line, refusal_line, rejected_line, state_line, trap_line}
 use Rattle.printed_lines.specs.declared.refusal.Argument.{Argument}
 use Rattle.printed_lines.specs.declared.refusal.Argument.TheVariants as named
 use Rattle.printed_lines.specs.declared.refusal.ImageKind.{ImageKind}
 use Rattle.printed_lines.specs.declared.refusal.ImageKind.TheVariants as kind
 use Rattle.printed_lines.specs.declared.refusal.InputFault.{InputFault}
-use Rattle.printed_lines.specs.declared.refusal.InputFault.TheVariants.{TooLong, LibraryUnknown, RoleUnknown, RoleKind, Number, State, Literal as BadLiteral, Image as BadImage, Script as BadScript}
+use Rattle.printed_lines.specs.declared.refusal.InputFault.TheVariants.{TooLong, LibraryUnknown, RoleUnknown, RoleKind, Number, State, Literal as BadLiteral, Image as BadImage, Mirror as BadMirror, Script as BadScript}
+use Rattle.printed_lines.specs.declared.refusal.MirrorKind.{MirrorKind}
+use Rattle.printed_lines.specs.declared.refusal.MirrorKind.TheVariants as mirror
 use Rattle.printed_lines.specs.declared.refusal.Refusal.{Refusal}
 use Rattle.printed_lines.specs.declared.refusal.Refusal.TheVariants as refusal
 use Rattle.ask_script.specs.Scripts.{Script, Steps, FaultyLine, UserStep, script_of}
@@ -38,6 +45,7 @@ use Rattle.workloads.specs.declared.tally.Tally.{Tally}
 use Rattle.workloads.specs.declared.workload.Workload.{Workload}
 use Rattle.file_commands.specs.Arguments.{fuel_of, most_links, most_port, most_rounds, most_seed, most_slice, positive_within}
 use Rattle.number_words.specs.Numbers.{number_within}
+use Rattle.fetched_verdicts.specs.Verdicts.{verdict_over}
 use Rattle.file_commands.specs.FueledRoles.{DigestedProgram, FueledRole, NamedProgram}
 use Rattle.file_commands.specs.IdealCalls.{IdealCall, call_audit, call_proof, call_proof_line, ended_call, projected_outcome}
 use Rattle.file_commands.specs.RoleCalls.{EndedRole, ended_with, is_called, kind_called, passed_literal, program_called, projection_called, result_called, state_made}
@@ -190,6 +198,27 @@ abbrev pub spelled_answer : (program image out : List ℕ) → Contents → Opti
 spelled_answer program image out files =
     with_program_file (files program) (λ p. with_image_file p.digested (files image) (λ v. Some (state_answer p v out)))
 
+-- the pieces of an ideal state, as they are put into a mirror: of each authenticated part one, and equal pieces once
+unfoldable pub state_pieces : Program → Value → List (List ℕ)
+state_pieces P v = all_added [] (pieces_in sha256 P v)
+
+-- the file of a mirror with these pieces
+unfoldable pub pieces_file : List (List ℕ) → List ℕ
+pieces_file pieces = mirror_file pieces
+
+-- what is answered for pieces of which a mirror's file is stored under a name, where it isn't too long to be stored: how many there are
+abbrev pub pieces_answer : List (List ℕ) → List ℕ → Answer
+pieces_answer pieces name =
+    let file = pieces_file pieces in
+    if nat_le (length file) max_file
+    then record { status = Done; lines = pieces_line (length pieces) ∷ []; stored = (name, file) ∷ [] }
+    else input_refused (TooLong named.Out)
+
+-- `pieces P IMG OUT`: the pieces of the state that an image keeps
+abbrev pub filed_answer : (program image out : List ℕ) → Contents → Option Answer
+filed_answer program image out files =
+    with_program_file (files program) (λ p. with_image_file p.digested (files image) (λ v. Some (pieces_answer (state_pieces p.digested.program v) out)))
+
 -- goes on with the role of this number, where it is one that the command calls
 abbrev pub with_role_at : Callee → Program → Option ℕ → (ℕ → Option Answer) → Option Answer
 with_role_at callee P None go = Some (input_refused RoleUnknown)
@@ -326,6 +355,51 @@ judged_answer program role state argument fuel proof out files =
     with_fueled_role (callee_of out) p role fuel (λ r.
     with_role_call r state argument files (λ call.
     with_bytes (files proof) (λ bytes. Some (verified_answer out call bytes)))))
+
+-- why the bytes of a mirror are refused
+abbrev pub mirror_kind : FileFault → MirrorKind
+mirror_kind (IsCut bytes) = mirror.Cut bytes
+mirror_kind (IsBad offset) = mirror.BadField offset
+mirror_kind (IsLeftover bytes) = mirror.Leftover bytes
+
+-- goes on with the pieces of a mirror
+abbrev pub with_pieces : Mirrored → (List (List ℕ) → Option Answer) → Option Answer
+with_pieces (Holds pieces) go = go pieces
+with_pieces (Faulty fault) go = Some (input_refused (BadMirror (mirror_kind fault)))
+
+-- bytes as the file of a mirror
+unfoldable pub mirror_read : List ℕ → Mirrored
+mirror_read bytes = read_mirror bytes
+
+-- goes on with the pieces of the mirror that these bytes are, and with those of the one in a file
+abbrev pub with_mirror : List ℕ → (List (List ℕ) → Option Answer) → Option Answer
+with_mirror bytes go = with_pieces (mirror_read bytes) go
+
+abbrev pub with_mirror_file : Option (List ℕ) → (List (List ℕ) → Option Answer) → Option Answer
+with_mirror_file file go = with_file max_file named.Mirror file (λ bytes. with_mirror bytes go)
+
+-- what a mirror with these pieces answers to a digest: the first piece that has it
+abbrev pub given_by : List (List ℕ) → List ℕ → Got
+given_by pieces digest = answer_of (first_with sha256 digest pieces)
+
+-- the verdict on a call, over a mirror with these pieces
+unfoldable pub fetched_verdict : RoleCall → List (List ℕ) → checked.Verdict
+fetched_verdict call pieces =
+    let r = call.role in
+    let P = program_called r in
+    verdict_over sha256 P (given_by pieces) (argument_type P r.role) r.role call.state call.argument r.fuel
+
+-- what is answered for a call over a mirror with these pieces
+abbrev pub mirrored_answer : RoleCall → List (List ℕ) → Answer
+mirrored_answer call pieces = verdict_answer (shallow_told call.role) (fetched_verdict call pieces)
+
+-- `fetch P ROLE STATE ARG FUEL MIRROR`: the verdict over a mirror, which is read when all else is well-formed
+abbrev pub fetched_answer : (program role state argument fuel mirror : List ℕ) → Contents → Option Answer
+fetched_answer program role state argument fuel mirror files =
+    with_program_file (files program) (λ p.
+    with_fueled_role callee.OfState p role fuel (λ r.
+    with_role_call r state argument files (λ call.
+    with_mirror_file (files mirror) (λ pieces. Some (mirrored_answer call pieces)))))
 
 -- goes on with the number of pieces that a proof asks to be kept
 abbrev pub with_kept : Program → List ℕ → (ℕ → Option Answer) → Option Answer
@@ -549,8 +623,8 @@ unasked_answer program state port script files = with_asking program state port 
 
 -- What is answered to a command with the texts of its arguments: `check P`, `init P ROLE ARG FUEL OUT`, `ideal P ROLE IMG ARG FUEL`,
 -- `step P ROLE IMG ARG FUEL OUT`, `shallow P IMG OUT`, `prove P ROLE IMG ARG FUEL N OUT`, `verify P ROLE STATE ARG FUEL PROOF`, or this with `OUT` behind it, `audit P ROLE IMG ARG FUEL PROOF`,
--- `library NAME`, `gen NAME SEED COUNT N`, `serve P IMG PORT CONNS SLICE OUT` as long as it doesn't listen, and `ask P STATE PORT SCRIPT OUT` as
--- long as it doesn't dial. No command is called with more texts or fewer.
+-- `library NAME`, `gen NAME SEED COUNT N`, `serve P IMG PORT CONNS SLICE OUT` as long as it doesn't listen, `ask P STATE PORT SCRIPT OUT` as
+-- long as it doesn't dial, `pieces P IMG OUT`, and `fetch P ROLE STATE ARG FUEL MIRROR`. No command is called with more texts or fewer.
 abbrev pub answer_with : Command → List (List ℕ) → Contents → Option Answer
 answer_with Check (program ∷ []) = checked_answer program
 answer_with Init (program ∷ role ∷ argument ∷ fuel ∷ out ∷ []) = initial_answer program role argument fuel out
@@ -565,6 +639,8 @@ answer_with Library (name ∷ []) = library_answer name
 answer_with Gen (name ∷ seed ∷ count ∷ kept ∷ []) = generated_answer name seed count kept
 answer_with Serve (program ∷ image ∷ port ∷ links ∷ slice ∷ out ∷ []) = unserved_answer program image port links slice
 answer_with Ask (program ∷ state ∷ port ∷ script ∷ out ∷ []) = unasked_answer program state port script
+answer_with Pieces (program ∷ image ∷ out ∷ []) = filed_answer program image out
+answer_with Fetch (program ∷ role ∷ state ∷ argument ∷ fuel ∷ mirror ∷ []) = fetched_answer program role state argument fuel mirror
 answer_with command texts = λ files. None
 
 abbrev pub command_answer : Invocation → Contents → Option Answer

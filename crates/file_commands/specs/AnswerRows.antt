@@ -6,7 +6,7 @@ use Rattle.auth_syntax.specs.Parsing as parsing
 use Rattle.auth_syntax.specs.Syntax.{Program as ProgramSyntax}
 use Rattle.auth_types.specs.CheckedPrograms.{constructors_in}
 use Rattle.command_words.specs.Invocations.{Invocation}
-use Rattle.command_words.specs.declared.command.Command.TheVariants.{Check, Init, Ideal, Step, Shallow, Prove, Verify, Audit, Library, Gen, Serve, Ask}
+use Rattle.command_words.specs.declared.command.Command.TheVariants.{Check, Init, Ideal, Step, Shallow, Prove, Verify, Audit, Library, Gen, Serve, Ask, Pieces, Fetch}
 use Rattle.core_terms.specs.Programs.{meaning, types_of}
 use Rattle.core_terms.specs.Projection.{digest_at}
 use Rattle.core_terms.specs.Reading.{BadAt}
@@ -18,7 +18,6 @@ use Rattle.core_terms.specs.Terms.{Query, Update, function_at}
 use Rattle.core_terms.specs.TypeTables.{type_at}
 use Rattle.core_terms.specs.Types.{UnitTy, IntTy, PairTy}
 use Rattle.core_terms.specs.Values.{Value}
-use Rattle.core_terms.specs.declared.cause.Cause.{Cause}
 use Rattle.core_terms.specs.declared.program.Program.{Program}
 use Rattle.core_terms.specs.declared.roles.Role.{Role}
 use Rattle.ideal_meaning.specs.Checked as checked
@@ -33,13 +32,14 @@ use Rattle.printed_lines.specs.declared.refusal.InputFault.{InputFault}
 use Rattle.printed_lines.specs.declared.refusal.InputFault.TheVariants.{TooLong, LibraryUnknown, RoleUnknown, RoleKind, Number, State, Literal as BadLiteral}
 use Rattle.printed_lines.specs.declared.refusal.ProgramKind.{ProgramKind}
 use Rattle.printed_lines.specs.declared.refusal.Refusal.TheVariants as refusal
+use Rattle.printed_lines.specs.declared.refusal.Rejection.{Rejection}
 use Rattle.printed_syntax.specs.declared.fault.LiteralKind.TheVariants.{Mismatch}
 use Rattle.value_store.specs.Markings.{HasLimit}
 use Rattle.value_store.specs.Nodes.{Node}
 use Rattle.value_store.specs.Standing.{ProverNodes, StandsFor}
 use Rattle.value_store.specs.Stores.{nodes_in, store_lent}
 use Rattle.value_store.specs.declared.node.Ref.{Ref}
-use Rattle.file_commands.specs.Answer.{Answer, answer_with, audited_answer, called_answer, callee_of, checked_answer, command_answer, first_argument, first_role, generated_answer, ideal_answer, initial_answer, input_refused, is_entry, is_get, is_key, is_put, judged_answer, keys_of, library_answer, max_file, max_program, proved_answer, refusal_status, shallow_told, spelled_answer, spelling_stored, state_image, stepped_answer, storing, unasked_answer, unserved_answer, usage_answer, verdict_answer, with_ended_init, with_file, with_first, with_number, with_role_at, with_source, with_state_read}
+use Rattle.file_commands.specs.Answer.{Answer, answer_with, audited_answer, called_answer, callee_of, checked_answer, command_answer, fetched_answer, filed_answer, first_argument, first_role, generated_answer, ideal_answer, initial_answer, input_refused, is_entry, is_get, is_key, is_put, judged_answer, keys_of, library_answer, max_file, max_program, proved_answer, refusal_status, shallow_told, spelled_answer, spelling_stored, state_image, stepped_answer, storing, unasked_answer, unserved_answer, usage_answer, verdict_answer, with_ended_init, with_file, with_first, with_number, with_role_at, with_source, with_state_read}
 use Rattle.file_commands.specs.CallsInStores.{HoldsCall, HoldsSome}
 use Rattle.file_commands.specs.FueledRoles.{DigestedProgram, FueledRole, NamedProgram}
 use Rattle.file_commands.specs.IdealCalls.{IdealCall}
@@ -57,7 +57,7 @@ use Rattle.file_commands.specs.declared.roles.Callee.TheVariants as callee
 use Rattle.file_commands.specs.declared.status.Status.TheVariants as status
 
 -- REFUSALS
-pub refusals : (kind : ProgramKind) (line column : ℕ) (fault : InputFault) (cause : Cause)
+pub refusals : (kind : ProgramKind) (line column : ℕ) (fault : InputFault) (cause : Rejection)
     → map refusal_status (refusal.Program kind line column ∷ refusal.Input fault ∷ refusal.Proof cause ∷ []) ≡ status.ProgramRefused ∷ status.InputRefused ∷ status.Rejected ∷ []
 refusals kind line column fault cause = refl
 
@@ -155,6 +155,9 @@ module _ (p a b c d e f : List ℕ) (files : Contents) where
   pub on_links : (answer_with Serve (p ∷ a ∷ b ∷ c ∷ d ∷ e ∷ []) files ≡ unserved_answer p a b c d files)
       × (answer_with Ask (p ∷ a ∷ b ∷ c ∷ d ∷ []) files ≡ unasked_answer p a b c files)
   on_links = (refl, refl)
+
+  pub on_mirrors : (answer_with Pieces (p ∷ a ∷ b ∷ []) files ≡ filed_answer p a b files) × (answer_with Fetch (p ∷ a ∷ b ∷ c ∷ d ∷ e ∷ []) files ≡ fetched_answer p a b c d e files)
+  on_mirrors = (refl, refl)
 
   -- no command is called with fewer texts, or with more
   pub no_command : (answer_with Check [] files ≡ None) × (answer_with Check (p ∷ a ∷ []) files ≡ None)

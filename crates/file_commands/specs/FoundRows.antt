@@ -3,7 +3,6 @@ use Rattle.std.specs.Prelude.{◌≡◌, ℕ, List, [], ◌∷◌, ◌++◌, map
 use Rattle.std.specs.List.{concat}
 use Rattle.std.proofs.Common.{lit≤}
 use Rattle.core_terms.specs.declared.byte_string.ByteString.{ByteString as Spelling}
-use Rattle.core_terms.specs.declared.cause.Cause.{Cause}
 use Rattle.core_terms.specs.declared.outcome.Outcome.{Outcome}
 use Rattle.ideal_meaning.specs.Ideal as ideal
 use Rattle.lam_outside.specs.Causes.{Rose}
@@ -12,6 +11,7 @@ use Rattle.printed_lines.specs.Lines.{proof_line, refusal_line}
 use Rattle.printed_lines.specs.declared.refusal.InputFault.TheVariants as input_fault
 use Rattle.printed_lines.specs.declared.refusal.Refusal.{Refusal}
 use Rattle.printed_lines.specs.declared.refusal.Refusal.TheVariants as refusal
+use Rattle.printed_lines.specs.declared.refusal.Rejection.{Rejection}
 use Rattle.printed_syntax.specs.declared.fault.LiteralKind.TheVariants.{Mismatch}
 use Rattle.prover_mode.specs.declared.proving.Proved.{Proved}
 use Rattle.verifier_mode.specs.declared.verdict.Verdict.TheVariants as verdict
@@ -68,7 +68,7 @@ pub without_files : (Says : Found → Type 0) (report : Report) (what : Refusal)
     × (WithoutFiles Says (Err (Refused what)) → Says (Err (Refused what))) × (WithoutFiles Says (Err NoMemory) → Says (Err NoMemory)) × (WithoutFiles Says (Ok report) → Says (Ok report))
 without_files Says report what = ((λ w. w), (λ w. w), (λ w. w), (λ w. w), (λ w. w))
 
-pub in_hand : (Says : Found → Type 0) (report : Report) (cause : Cause) → (InHand Says (Err (Refused (refusal.Proof cause))) → ⊥) × (InHand Says (Err ReadFault) → ⊥)
+pub in_hand : (Says : Found → Type 0) (report : Report) (cause : Rejection) → (InHand Says (Err (Refused (refusal.Proof cause))) → ⊥) × (InHand Says (Err ReadFault) → ⊥)
     × (InHand Says (Err NoMemory) → Says (Err NoMemory)) × (InHand Says (Ok report) → Says (Ok report))
 in_hand Says report cause = ((λ i. i), (λ i. i), (λ i. i), (λ i. i))
 
@@ -88,7 +88,7 @@ pub halts_judging : (what : Refusal) → (MayHaltJudging 3 3 Usage → ⊥) × M
 halts_judging what = ((λ m. m), lit≤ tt, refl, refl, (λ m. m))
 
 -- and no proof is rejected where none is judged
-pub halts_unjudging : (cause : Cause) → (MayHalt 3 3 (Refused (refusal.Proof cause)) → ⊥) × (MayHalt 3 3 Usage → ⊥) × MayHalt 3 4 ReadFault × MayHalt 3 3 NoMemory
+pub halts_unjudging : (cause : Rejection) → (MayHalt 3 3 (Refused (refusal.Proof cause)) → ⊥) × (MayHalt 3 3 Usage → ⊥) × MayHalt 3 4 ReadFault × MayHalt 3 3 NoMemory
 halts_unjudging cause = ((λ m. m), (λ m. m), lit≤ tt, refl)
 
 pub by_halt : (before now : ℕ) (halt : Halt) → (JudgementCause {T = ℕ} before now (Ok 0) → now ≡ before) × (JudgementCause {T = ℕ} before now (Err halt) → MayHaltJudging before now halt)

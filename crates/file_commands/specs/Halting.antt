@@ -15,7 +15,11 @@ use Rattle.printed_lines.specs.Lines.{refusal_line}
 use Rattle.printed_lines.specs.declared.refusal.Argument.TheVariants as argument
 use Rattle.printed_lines.specs.declared.refusal.ImageKind.TheVariants as kind
 use Rattle.printed_lines.specs.declared.refusal.InputFault.TheVariants as input_fault
+use Rattle.printed_lines.specs.declared.refusal.MirrorKind.TheVariants as mirror_kind
 use Rattle.printed_lines.specs.declared.refusal.Refusal.TheVariants as refusal
+use Rattle.printed_lines.specs.declared.refusal.Rejection.TheVariants as rejection
+use Rattle.piece_mirror.specs.declared.fault.MirrorFault.{MirrorFault}
+use Rattle.piece_mirror.specs.declared.fault.MirrorFault.TheVariants as mirror_fault
 use Rattle.collision_audit.specs.declared.audited.AuditFault.{AuditFault}
 use Rattle.collision_audit.specs.declared.audited.AuditFault.TheVariants as audit_fault
 use Rattle.verifier_mode.specs.declared.verdict.Verdict.{Verdict}
@@ -63,7 +67,7 @@ abbrev pub line_of : Found → List ℕ
 line_of (Ok report) = report.text.items
 line_of (Err halt) = halt_line halt
 
--- the halts that faults of a program, of a literal, of an image, of a call and of an audit are
+-- the halts that faults of a program, of a literal, of an image, of a mirror, of a call and of an audit are
 abbrev pub of_program_fault : ProgramFault → Halt
 of_program_fault (program_fault.At kind line column) = Refused (refusal.Program kind line column)
 of_program_fault program_fault.NoMemory = NoMemory
@@ -91,8 +95,15 @@ abbrev pub of_script_fault : ScriptFault → Halt
 of_script_fault (script_fault.Line number) = Refused (refusal.Input (input_fault.Script number))
 of_script_fault script_fault.NoMemory = NoMemory
 
+abbrev pub of_mirror_fault : MirrorFault → Halt
+of_mirror_fault (mirror_fault.Cut bytes) = Refused (refusal.Input (input_fault.Mirror (mirror_kind.Cut bytes)))
+of_mirror_fault (mirror_fault.BadField offset) = Refused (refusal.Input (input_fault.Mirror (mirror_kind.BadField offset)))
+of_mirror_fault (mirror_fault.Leftover bytes) = Refused (refusal.Input (input_fault.Mirror (mirror_kind.Leftover bytes)))
+of_mirror_fault mirror_fault.TooLong = Refused (refusal.Input (input_fault.TooLong argument.Out))
+of_mirror_fault mirror_fault.NoMemory = NoMemory
+
 abbrev pub of_verdict : Verdict → Halt
-of_verdict (verdict.Rejected cause) = Refused (refusal.Proof cause)
+of_verdict (verdict.Rejected cause) = Refused (refusal.Proof (rejection.Cause cause))
 of_verdict (verdict.BadState offset) = Refused (refusal.Input (input_fault.State offset))
 of_verdict (verdict.BadArgument offset) = Refused (refusal.Input (input_fault.Literal Mismatch offset))
 of_verdict verdict.ReadFault = ReadFault

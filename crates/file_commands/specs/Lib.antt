@@ -5,6 +5,8 @@ pub mod CallsInStores
 pub mod Codes
 pub mod Ending
 pub mod EndRows
+pub mod FetchedCalls
+pub mod FetchRows
 pub mod FoundRows
 pub mod FueledRoles
 pub mod GeneratedCalls
@@ -30,5 +32,6 @@ pub mod Storing
 pub mod Telling
 pub mod TextLaws
 pub mod TextPrograms
+pub mod TrueFetches
 pub mod TrueLines
 pub mod VerdictLaws

@@ -3,7 +3,7 @@ use Rattle.std.specs.Prelude.{◌≡◌, List, [], ◌∷◌, ℕ, Option, Some,
 use Rattle.std.specs.Option.{ForSome}
 use Rattle.std.proofs.Common.{subst}
 use Rattle.command_words.specs.declared.command.Command.{Command}
-use Rattle.command_words.specs.declared.command.Command.TheVariants.{Check, Init, Ideal, Step, Shallow, Prove, Verify, Audit, Library, Gen, Serve, Ask}
+use Rattle.command_words.specs.declared.command.Command.TheVariants.{Check, Init, Ideal, Step, Shallow, Prove, Verify, Audit, Library, Gen, Serve, Ask, Pieces, Fetch}
 use Rattle.lam_outside.specs.Told.{Contents, Names}
 use Rattle.file_commands.specs.Answer.{Answer}
 use Rattle.file_commands.specs.EndRows.{answer, answers}
@@ -76,17 +76,18 @@ pub faults_at_last : (asked : Option Names) → (ForSome asked (λ names. IsLast
 faults_at_last asked = ((λ l. l), tt)
 
 -- STATUSES
-pub functions_run : RunsAFunction Init × RunsAFunction Ideal × RunsAFunction Step × RunsAFunction Prove × RunsAFunction Verify × RunsAFunction Audit × RunsAFunction Gen
-functions_run = (tt, tt, tt, tt, tt, tt, tt)
+pub functions_run : RunsAFunction Init × RunsAFunction Ideal × RunsAFunction Step × RunsAFunction Prove × RunsAFunction Verify × RunsAFunction Audit × RunsAFunction Gen × RunsAFunction Fetch
+functions_run = (tt, tt, tt, tt, tt, tt, tt, tt)
 
-pub none_run : (RunsAFunction Check → ⊥) × (RunsAFunction Shallow → ⊥) × (RunsAFunction Library → ⊥) × (RunsAFunction Serve → ⊥) × (RunsAFunction Ask → ⊥)
-none_run = ((λ r. r), (λ r. r), (λ r. r), (λ r. r), (λ r. r))
+pub none_run : (RunsAFunction Check → ⊥) × (RunsAFunction Shallow → ⊥) × (RunsAFunction Library → ⊥) × (RunsAFunction Serve → ⊥) × (RunsAFunction Ask → ⊥) × (RunsAFunction Pieces → ⊥)
+none_run = ((λ r. r), (λ r. r), (λ r. r), (λ r. r), (λ r. r), (λ r. r))
 
-pub proofs_judged : JudgesAProof Verify × JudgesAProof Audit × JudgesAProof Ask × (JudgesAProof Prove → ⊥) × (JudgesAProof Gen → ⊥) × (JudgesAProof Serve → ⊥)
-proofs_judged = (tt, tt, tt, (λ j. j), (λ j. j), (λ j. j))
+pub proofs_judged : JudgesAProof Verify × JudgesAProof Audit × JudgesAProof Ask × JudgesAProof Fetch × (JudgesAProof Prove → ⊥) × (JudgesAProof Gen → ⊥) × (JudgesAProof Serve → ⊥)
+    × (JudgesAProof Pieces → ⊥)
+proofs_judged = (tt, tt, tt, tt, (λ j. j), (λ j. j), (λ j. j), (λ j. j))
 
-pub files_read : ReadsFiles Check × ReadsFiles Ask × ReadsFiles Verify × (ReadsFiles Library → ⊥) × (ReadsFiles Gen → ⊥)
-files_read = (tt, tt, tt, (λ r. r), (λ r. r))
+pub files_read : ReadsFiles Check × ReadsFiles Ask × ReadsFiles Verify × ReadsFiles Pieces × ReadsFiles Fetch × (ReadsFiles Library → ⊥) × (ReadsFiles Gen → ⊥)
+files_read = (tt, tt, tt, tt, tt, (λ r. r), (λ r. r))
 
 pub programs_read : ReadsAProgram Check × ReadsAProgram Gen × ReadsAProgram Serve × (ReadsAProgram Library → ⊥)
 programs_read = (tt, tt, tt, (λ r. r))

@@ -1,7 +1,7 @@
 -- The statuses that a command may answer, whatever the files hold.
 use Rattle.std.specs.Prelude.{◌≡◌}
 use Rattle.command_words.specs.declared.command.Command.{Command}
-use Rattle.command_words.specs.declared.command.Command.TheVariants.{Check, Shallow, Verify, Audit, Library, Gen, Serve, Ask}
+use Rattle.command_words.specs.declared.command.Command.TheVariants.{Check, Shallow, Verify, Audit, Library, Gen, Serve, Ask, Pieces, Fetch}
 use Rattle.file_commands.specs.declared.status.Status.{Status}
 use Rattle.file_commands.specs.declared.status.Status.TheVariants.{Usage, Trap, OutOfFuel, Rejected, ProgramRefused, ReadFault, Collision}
 
@@ -12,13 +12,15 @@ RunsAFunction Shallow = ⊥
 RunsAFunction Library = ⊥
 RunsAFunction Serve = ⊥
 RunsAFunction Ask = ⊥
+RunsAFunction Pieces = ⊥
 RunsAFunction command = Unit {0}
 
--- the command judges a proof, or a server's replies, which it may reject
+-- the command judges a proof, a server's replies or the pieces of a mirror, which it may reject
 abbrev pub JudgesAProof : Command → Type 0
 JudgesAProof Verify = Unit {0}
 JudgesAProof Audit = Unit {0}
 JudgesAProof Ask = Unit {0}
+JudgesAProof Fetch = Unit {0}
 JudgesAProof command = ⊥
 
 -- the command reads files, and the text of a program

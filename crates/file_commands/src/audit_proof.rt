@@ -35,7 +35,7 @@ use core_terms::{Outcome, Program, Spelling};
 use digest_layer::Sha;
 use lam_outside::{Files, Sink};
 use printed_lines::lines::{agrees_line, collision_line};
-use printed_lines::refusal::Refusal;
+use printed_lines::refusal::{Refusal, Rejection};
 use std::alloc::{AllocError, Global};
 use value_store::Store;
 
@@ -176,7 +176,7 @@ fn report_audit(
     match audited {
         Audited::Agrees(outcome) => Ok(agreement(alloc, program, called, &outcome)?),
         Audited::Collision(collision) => Ok(report_collision(alloc, &collision)?),
-        Audited::Rejected(cause) => Err(Halt::Refused(Refusal::Proof(cause))),
+        Audited::Rejected(cause) => Err(Halt::Refused(Refusal::Proof(Rejection::Cause(cause)))),
     }
 }
 

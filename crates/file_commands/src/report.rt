@@ -5,7 +5,7 @@ ghost use Rattle.printed_lines.specs.declared.refusal.Refusal.TheVariants.{Input
 ghost use Rattle.file_commands.specs.declared.report.Halt.TheVariants.{NoMemory, ReadFault, Refused};
 ghost use Rattle.file_commands.specs.Reaching.{FaultsAt};
 ghost use Rattle.file_commands.specs.Answer.{refusal_status, with_file};
-ghost use Rattle.file_commands.specs.Halting.{GoesOn, HaltCause, ending_status, of_audit_fault, of_image_fault, of_literal_fault, of_program_fault, of_save_fault, of_script_fault, of_verdict};
+ghost use Rattle.file_commands.specs.Halting.{GoesOn, HaltCause, ending_status, of_audit_fault, of_image_fault, of_literal_fault, of_mirror_fault, of_program_fault, of_save_fault, of_script_fault, of_verdict};
 ghost use Rattle.file_commands.specs.Telling.{Tells, TellsText};
 
 use crate::Status;
@@ -14,8 +14,9 @@ use ask_script::ScriptFault;
 use collision_audit::AuditFault;
 use images::{ImageFault, SaveFault};
 use lam_outside::{Failed, Files, Load, Sink, load_all, write_all};
+use piece_mirror::MirrorFault;
 use printed_lines::lines::refusal_line;
-use printed_lines::refusal::{Argument, ImageKind, InputFault, Refusal};
+use printed_lines::refusal::{Argument, ImageKind, InputFault, MirrorKind, Refusal, Rejection};
 use printed_syntax::fault::{LiteralFault, LiteralKind};
 use std::alloc::{AllocError, Global};
 use verifier_mode::Verdict;
@@ -150,12 +151,27 @@ impl From<ScriptFault> for Halt {
     }
 }
 
+impl From<MirrorFault> for Halt {
+    ghost from_gives = { λ fault halt. halt ≡ of_mirror_fault fault };
+
+    fn from(fault: MirrorFault) -> Self {
+        let refused = match fault {
+            MirrorFault::Cut(bytes) => InputFault::Mirror(MirrorKind::Cut(bytes)),
+            MirrorFault::BadField(offset) => InputFault::Mirror(MirrorKind::BadField(offset)),
+            MirrorFault::Leftover(bytes) => InputFault::Mirror(MirrorKind::Leftover(bytes)),
+            MirrorFault::TooLong => InputFault::TooLong(Argument::Out),
+            MirrorFault::NoMemory => return Halt::NoMemory,
+        };
+        Halt::Refused(Refusal::Input(refused))
+    }
+}
+
 impl From<Verdict> for Halt {
     ghost from_gives = { λ verdict halt. halt ≡ of_verdict verdict };
 
     fn from(verdict: Verdict) -> Self {
         match verdict {
-            Verdict::Rejected(cause) => Halt::Refused(Refusal::Proof(cause)),
+            Verdict::Rejected(cause) => Halt::Refused(Refusal::Proof(Rejection::Cause(cause))),
             Verdict::BadState(offset) => Halt::Refused(Refusal::Input(InputFault::State(offset))),
             Verdict::BadArgument(offset) => Halt::Refused(Refusal::Input(InputFault::Literal(
                 LiteralKind::Mismatch,

@@ -4,8 +4,8 @@ ghost use Rattle.std.specs.Prelude.{◌≡◌};
 /// How a run ends.
 #[derive(Clone, Copy)]
 pub enum Status {
-    /// The work was done: the outcome has a value, the program is accepted, the text, the state or the sums were told, `serve` served its
-    /// connections, or `ask` played its script to the end, whatever outcomes came in it.
+    /// The work was done: the outcome has a value, the program is accepted, the text, the state, the sums or the number of pieces were told,
+    /// `serve` served its connections, or `ask` played its script to the end, whatever outcomes came in it.
     Done,
     /// The words call no command.
     Usage,
@@ -13,12 +13,12 @@ pub enum Status {
     Trap,
     /// The outcome is the want of fuel.
     OutOfFuel,
-    /// The proof is rejected; or the play of a script ended by a rejected proof, or by another reply than one that is waited for, or none.
+    /// The proof is rejected, or what a mirror gives in its place; or the play of a script ended by a rejected proof, or by another reply than one that is waited for, or none.
     Rejected,
     /// The text is no program.
     ProgramRefused,
-    /// A file is too long, or the image that would be stored; or a name of the library, a role, a number, a state, an image, an argument or a
-    /// script is refused.
+    /// A file is too long, or the image or the mirror that would be stored; or a name of the library, a role, a number, a state, an image, a
+    /// mirror, an argument or a script is refused.
     InputRefused,
     /// A file could not be read; or a read or a send on a link, an `accept`, a `listen` or a `dial` failed.
     ReadFault,

@@ -1,10 +1,16 @@
--- Lines of audits and of rejections. Each equation holds by computing both sides.
-use Rattle.std.specs.Prelude.{◌≡◌, [], ◌∷◌, Some, None, codes, refl}
+-- Lines of audits, of mirrors and of rejections. Each equation holds by computing both sides.
+use Rattle.std.specs.Prelude.{◌≡◌, [], ◌∷◌, Some, None, codes, map, refl}
 use Rattle.std.specs.Fmt.{digits}
 use Rattle.hex.specs.Hex.{encode_with}
 use Rattle.ideal_meaning.specs.Checked.{Missing, Broken}
 use Rattle.ideal_meaning.specs.Wire.{AtEnd, IsCut, TooLong, BadMessage}
-use Rattle.printed_lines.specs.Lines.{agrees_line, collision_line, out_line, rejected_line}
+use Rattle.printed_lines.specs.Lines.{agrees_line, collision_line, out_line, pieces_line, refusal_line, rejected_line}
+use Rattle.printed_lines.specs.declared.refusal.Argument.TheVariants as argument
+use Rattle.printed_lines.specs.declared.refusal.InputFault.TheVariants.{Mirror, TooLong as LongFile}
+use Rattle.printed_lines.specs.declared.refusal.MirrorKind.TheVariants.{Cut, BadField, Leftover}
+use Rattle.printed_lines.specs.declared.refusal.Refusal.TheVariants.{Input, Proof}
+use Rattle.printed_lines.specs.declared.refusal.Rejection.TheVariants as rejection
+use Rattle.wire_form.specs.declared.got.Wire.TheVariants as wire
 
 -- a piece that differs, and one without bytes
 pub both_pieces_are_told : collision_line 0 (0 ∷ 0 ∷ 0 ∷ 0 ∷ 0 ∷ 0 ∷ 2 ∷ 1 ∷ []) (0 ∷ 0 ∷ 0 ∷ 0 ∷ 0 ∷ 0 ∷ 1 ∷ 2 ∷ []) None ≡ codes "collision 0 0000000000000201 0000000000000102\n"
@@ -42,3 +48,19 @@ length_is_told = refl
 pub bad_message_is_told : rejected_line (Broken 2 [] (BadMessage 134 1)) ≡ codes "bad message 134 1\n"
 unfolding digits
 bad_message_is_told = refl
+
+-- the number of pieces of a mirror, and why bytes are none
+pub pieces_are_told : pieces_line 2 ≡ codes "pieces 2\n"
+unfolding digits
+pieces_are_told = refl
+
+pub mirror_faults_are_told : map refusal_line (Input (Mirror (Cut 5)) ∷ Input (Mirror (BadField 8)) ∷ Input (Mirror (Leftover 2)) ∷ Input (LongFile argument.Mirror) ∷ [])
+    ≡ codes "input refused: mirror cut 5\n" ∷ codes "input refused: mirror field 8\n" ∷ codes "input refused: mirror leftover 2\n" ∷ codes "input refused: too long MIRROR\n" ∷ []
+unfolding digits
+mirror_faults_are_told = refl
+
+-- the code's rejections have these lines too
+pub rejections_are_told : map refusal_line (Proof (rejection.Missing 12 (record { 0 = 0xAF ∷ [] })) ∷ Proof (rejection.Broken wire.End) ∷ Proof (rejection.Broken (wire.TooLong 16777217)) ∷ [])
+    ≡ codes "rejected missing 12 af\n" ∷ codes "reply ended\n" ∷ codes "message too long 16777217\n" ∷ []
+unfolding encode_with digits
+rejections_are_told = refl

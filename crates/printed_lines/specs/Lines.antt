@@ -27,9 +27,14 @@ use Rattle.printed_lines.specs.declared.refusal.Argument.TheVariants as argument
 use Rattle.printed_lines.specs.declared.refusal.ImageKind.{ImageKind}
 use Rattle.printed_lines.specs.declared.refusal.ImageKind.TheVariants as image
 use Rattle.printed_lines.specs.declared.refusal.InputFault.{InputFault}
-use Rattle.printed_lines.specs.declared.refusal.InputFault.TheVariants.{TooLong, LibraryUnknown, RoleUnknown, RoleKind, Number, State, Literal, Image, Script}
+use Rattle.printed_lines.specs.declared.refusal.InputFault.TheVariants.{TooLong, LibraryUnknown, RoleUnknown, RoleKind, Number, State, Literal, Image, Mirror, Script}
+use Rattle.printed_lines.specs.declared.refusal.MirrorKind.{MirrorKind}
+use Rattle.printed_lines.specs.declared.refusal.MirrorKind.TheVariants as mirror
 use Rattle.printed_lines.specs.declared.refusal.Refusal.{Refusal}
 use Rattle.printed_lines.specs.declared.refusal.Refusal.TheVariants as refusal
+use Rattle.printed_lines.specs.declared.refusal.Rejection.{Rejection}
+use Rattle.printed_lines.specs.declared.refusal.Rejection.TheVariants as rejection
+use Rattle.wire_form.specs.Gots.{wire_meant}
 
 -- a text, and a number, behind a blank
 abbrev pub word : List ℕ → List ℕ
@@ -103,6 +108,7 @@ argument_name argument.Port = codes "PORT"
 argument_name argument.Connections = codes "CONNS"
 argument_name argument.Slice = codes "SLICE"
 argument_name argument.Script = codes "SCRIPT"
+argument_name argument.Mirror = codes "MIRROR"
 
 -- why bytes are no image
 abbrev pub image_text : ImageKind → List ℕ
@@ -115,6 +121,12 @@ image_text (image.TooBig number) = codes "image too big" ++ also number
 image_text (image.TooDeep number) = codes "image too deep" ++ also number
 image_text (image.Leftover bytes) = codes "image leftover" ++ also bytes
 
+-- why bytes are no mirror
+abbrev pub mirror_text : MirrorKind → List ℕ
+mirror_text (mirror.Cut bytes) = codes "mirror cut" ++ also bytes
+mirror_text (mirror.BadField offset) = codes "mirror field" ++ also offset
+mirror_text (mirror.Leftover bytes) = codes "mirror leftover" ++ also bytes
+
 -- why an input is refused
 abbrev pub input_text : InputFault → List ℕ
 input_text (TooLong argument) = codes "too long" ++ word (argument_name argument)
@@ -125,6 +137,7 @@ input_text (Number argument) = codes "number" ++ word (argument_name argument)
 input_text (State offset) = codes "state" ++ also offset
 input_text (Literal kind offset) = codes "argument" ++ (word (literal_name kind) ++ also offset)
 input_text (Image kind) = image_text kind
+input_text (Mirror kind) = mirror_text kind
 input_text (Script line) = codes "script" ++ also line
 
 -- that a frame names a kept piece which isn't there
@@ -134,6 +147,10 @@ bad_use_text place k held = codes "bad-use" ++ (also place ++ (also k ++ also he
 -- that a piece has another digest than the one held, both in hexadecimal digits
 abbrev pub wrong_piece_text : ℕ → List ℕ → List ℕ → List ℕ
 wrong_piece_text place want found = codes "wrong-piece" ++ (also place ++ (word want ++ word found))
+
+-- that no piece has the digest held, in hexadecimal digits
+abbrev pub missing_text : ℕ → List ℕ → List ℕ
+missing_text place want = codes "missing" ++ (also place ++ word want)
 
 -- a line of two parts
 abbrev pub line_of : List ℕ → List ℕ → List ℕ
@@ -173,8 +190,14 @@ rejected_line (BadUse place k held) = reason_line (bad_use_text place k held)
 rejected_line (WrongPiece place want found) = reason_line (wrong_piece_text place (encode_lower want) (encode_lower found))
 rejected_line (BadPiece place offset) = reason_line (codes "bad-piece" ++ also place ++ also offset)
 rejected_line (Leftover bytes) = reason_line (codes "leftover" ++ also bytes)
-rejected_line (Missing place want) = reason_line (codes "missing" ++ (also place ++ word (encode_lower want)))
+rejected_line (Missing place want) = reason_line (missing_text place (encode_lower want))
 rejected_line (Broken place want why) = wire_line why
+
+-- the same of why the code rejects
+abbrev pub rejection_line : Rejection → List ℕ
+rejection_line (rejection.Cause cause) = rejected_line (cause_told cause)
+rejection_line (rejection.Missing place want) = rejected_line (Missing place want.0)
+rejection_line (rejection.Broken wire) = wire_line (wire_meant wire)
 
 -- the line of a refusal
 abbrev pub program_line : ProgramKind → ℕ → ℕ → List ℕ
@@ -183,7 +206,7 @@ program_line kind line column = line_of (codes "program refused: ") (program_nam
 abbrev pub refusal_line : Refusal → List ℕ
 refusal_line (refusal.Program kind line column) = program_line kind line column
 refusal_line (refusal.Input fault) = line_of (codes "input refused: ") (input_text fault)
-refusal_line (refusal.Proof cause) = rejected_line (cause_told cause)
+refusal_line (refusal.Proof why) = rejection_line why
 
 -- the lines of outcomes without a value
 abbrev pub trap_name : Trap → List ℕ
@@ -220,6 +243,10 @@ proofs_text fresh again bytes = codes "new" ++ (also fresh ++ (codes " used" ++ 
 -- the line of a proof
 abbrev pub proof_line : (fresh again bytes : ℕ) → List ℕ
 proof_line fresh again bytes = line_of (codes "proof ") (proofs_text fresh again bytes)
+
+-- the line of a mirror: how many pieces it has
+abbrev pub pieces_line : ℕ → List ℕ
+pieces_line count = line_of (codes "pieces ") (decimal count)
 
 -- the line of many calls: how many there were, how many of them ended with a value, and what their proofs have together
 abbrev pub calls_text : (calls done : ℕ) → List ℕ

@@ -6,4 +6,5 @@
 pub mod lines;
 mod names;
 pub mod refusal;
+mod rejections;
 pub mod session_lines;

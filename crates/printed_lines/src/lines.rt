@@ -1,18 +1,18 @@
 // The lines of outcomes and refusals.
 
 ghost use Rattle.std.specs.Prelude.{◌≡◌, ◌<◌, ◌^◌, ◌++◌, length, option_map, IfOk, string_bytes};
-ghost use Rattle.hex.specs.Hex.{encode_lower};
 ghost use Rattle.core_terms.specs.Programs.{constructor_names, meaning, types_of};
 ghost use Rattle.core_terms.specs.Spelling.{spelling};
 ghost use Rattle.core_terms.specs.TypeTables.{type_at};
 ghost use Rattle.core_terms.specs.Values.{IsShallow, Value};
 ghost use Rattle.core_terms.specs.declared.digest.Digest.{Digest};
-ghost use Rattle.ideal_meaning.specs.Told.{cause_told, trap_told};
+ghost use Rattle.ideal_meaning.specs.Told.{trap_told};
 ghost use Rattle.printed_lines.specs.Lines as def;
 
 use crate::names::{argument_name, literal_name, program_name};
-use crate::refusal::{ImageKind, InputFault, ProgramKind, Refusal};
-use core_terms::{Cause, Digest, Program, Trap, TyId};
+use crate::refusal::{ImageKind, InputFault, MirrorKind, ProgramKind, Refusal};
+use crate::rejections::rejection_line;
+use core_terms::{Digest, Program, Trap, TyId};
 use printed_syntax::printing::print_value;
 use std::alloc::{AllocError, Global};
 
@@ -26,10 +26,7 @@ pub fn refusal_line(alloc: Global, refusal: &Refusal) -> Result<Vec<u8>, AllocEr
             let text = input_text(alloc, fault)?;
             between(alloc, b"input refused: ", text.as_bytes())
         }
-        Refusal::Proof(cause) => {
-            let text = cause_text(alloc, cause)?;
-            between(alloc, b"rejected ", text.as_bytes())
-        }
+        Refusal::Proof(why) => rejection_line(alloc, why),
     }
 }
 
@@ -69,6 +66,7 @@ fn input_text(alloc: Global, fault: InputFault) -> Result<String, AllocError>
             format!(in alloc; "argument {kind} {offset}")
         }
         InputFault::Image(kind) => image_text(alloc, kind),
+        InputFault::Mirror(kind) => mirror_text(alloc, kind),
         InputFault::Script(line) => format!(in alloc; "script {line}"),
     }
 }
@@ -89,54 +87,15 @@ fn image_text(alloc: Global, kind: ImageKind) -> Result<String, AllocError>
     }
 }
 
-/// Why a proof is rejected.
-fn cause_text(alloc: Global, cause: Cause) -> Result<String, AllocError>
-    ensures { IfOk result (λ text. def.reason_line (string_bytes text) ≡ def.rejected_line (cause_told cause)) }
+/// Why bytes are no mirror.
+fn mirror_text(alloc: Global, kind: MirrorKind) -> Result<String, AllocError>
+    ensures { IfOk result (λ text. string_bytes text ≡ def.mirror_text kind) }
 {
-    match cause {
-        Cause::Header => format!(in alloc; "header"),
-        Cause::Short(place) => format!(in alloc; "short {place}"),
-        Cause::BadKind(place, byte) => format!(in alloc; "bad-kind {place} {byte}"),
-        Cause::Cut(place) => format!(in alloc; "cut {place}"),
-        Cause::PieceLong(place, len) => format!(in alloc; "piece-long {place} {len}"),
-        Cause::BadUse(place, k, held) => bad_use_text(alloc, place, k, held),
-        Cause::WrongPiece(place, want, found) => wrong_piece_text(alloc, place, &want, &found),
-        Cause::BadPiece(place, offset) => format!(in alloc; "bad-piece {place} {offset}"),
-        Cause::Leftover(bytes) => format!(in alloc; "leftover {bytes}"),
+    match kind {
+        MirrorKind::Cut(bytes) => format!(in alloc; "mirror cut {bytes}"),
+        MirrorKind::BadField(offset) => format!(in alloc; "mirror field {offset}"),
+        MirrorKind::Leftover(bytes) => format!(in alloc; "mirror leftover {bytes}"),
     }
-}
-
-/// That a frame names a kept piece which isn't there.
-fn bad_use_text(alloc: Global, place: u64, k: u16, held: u16) -> Result<String, AllocError>
-    ensures { IfOk result (λ text. string_bytes text ≡ def.bad_use_text place k held) }
-{
-    format!(in alloc; "bad-use {place} {k} {held}")
-}
-
-/// That a piece has another digest than the one held.
-fn wrong_piece_text(
-    alloc: Global,
-    place: u64,
-    want: &Digest,
-    found: &Digest,
-) -> Result<String, AllocError>
-    ensures { IfOk result (λ text. string_bytes text ≡ def.wrong_piece_text place (encode_lower want.now.0) (encode_lower found.now.0)) }
-{
-    let want = hex::encode(alloc, &want.0)?;
-    let found = hex::encode(alloc, &found.0)?;
-    wrong_digests_text(alloc, place, &want, &found)
-}
-
-/// The same, with the digests in hexadecimal digits.
-fn wrong_digests_text(
-    alloc: Global,
-    place: u64,
-    want: &str,
-    found: &str,
-) -> Result<String, AllocError>
-    ensures { IfOk result (λ text. string_bytes text ≡ def.wrong_piece_text place want.now found.now) }
-{
-    format!(in alloc; "wrong-piece {place} {want} {found}")
 }
 
 /// The line of an outcome with a value of a type of the program, which these bytes spell, fewer than 2^32. Constructors are
@@ -227,6 +186,14 @@ fn proofs_text(alloc: Global, fresh: u128, again: u128, bytes: u128) -> Result<S
     ensures { IfOk result (λ text. string_bytes text ≡ def.proofs_text fresh again bytes) }
 {
     format!(in alloc; "new {fresh} used {again} bytes {bytes}")
+}
+
+/// The line of a mirror that is stored: how many pieces it has.
+pub fn pieces_line(alloc: Global, count: usize) -> Result<Vec<u8>, AllocError>
+    ensures { IfOk result (λ line. line.items ≡ def.pieces_line count) }
+{
+    let count = format!(in alloc; "{count}")?;
+    between(alloc, b"pieces ", count.as_bytes())
 }
 
 /// The line of a collision: the number of the piece, what the proof offers and what an honest prover writes, each in lower-case

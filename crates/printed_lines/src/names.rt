@@ -100,5 +100,6 @@ pub(crate) fn argument_name(argument: Argument) -> &'static str
         Argument::Connections => "CONNS",
         Argument::Slice => "SLICE",
         Argument::Script => "SCRIPT",
+        Argument::Mirror => "MIRROR",
     }
 }

@@ -1,9 +1,10 @@
 // What a command refuses.
 
-use core_terms::Cause;
+use core_terms::{Cause, Digest};
 use declared_types::fault::TypeKind;
 use lexemes::fault::SyntaxKind;
 use printed_syntax::fault::LiteralKind;
+use wire_form::Wire;
 
 /// Why a text is no program.
 #[derive(Clone, Copy)]
@@ -41,6 +42,8 @@ pub enum Argument {
     Slice,
     /// `SCRIPT`, the file of a user's script.
     Script,
+    /// `MIRROR`, the file of a mirror.
+    Mirror,
 }
 
 /// Why bytes are no image of a program: the first fault. Records are numbered from 0.
@@ -64,6 +67,17 @@ pub enum ImageKind {
     Leftover(usize),
 }
 
+/// Why bytes are no mirror: the first fault.
+#[derive(Clone, Copy)]
+pub enum MirrorKind {
+    /// They end inside a field or a piece: how many they are.
+    Cut(u32),
+    /// The field at this offset is not allowed.
+    BadField(u32),
+    /// So many bytes stand behind the last piece.
+    Leftover(u32),
+}
+
 /// Why an input is refused.
 #[derive(Clone, Copy)]
 pub enum InputFault {
@@ -83,8 +97,21 @@ pub enum InputFault {
     Literal(LiteralKind, usize),
     /// The image's bytes are none of the program.
     Image(ImageKind),
+    /// The bytes are no mirror.
+    Mirror(MirrorKind),
     /// A line of the script asks for no step: the number of the first one, from 1.
     Script(usize),
+}
+
+/// Why a proof is rejected, or what is fetched in its place. Pieces are numbered from 0, as they are asked for.
+#[derive(Clone, Copy)]
+pub enum Rejection {
+    /// For what is there: a piece, or the form of the proof.
+    Cause(Cause),
+    /// No piece has this digest, which is held where the one with this number is asked for.
+    Missing(u64, Digest),
+    /// No answer is read where a piece is asked for.
+    Broken(Wire),
 }
 
 /// What a command refuses, once its words are in order.
@@ -94,6 +121,6 @@ pub enum Refusal {
     Program(ProgramKind, usize, usize),
     /// An input is refused.
     Input(InputFault),
-    /// The proof is rejected.
-    Proof(Cause),
+    /// The proof is rejected, or what is fetched in its place.
+    Proof(Rejection),
 }

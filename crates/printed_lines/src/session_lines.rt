@@ -5,8 +5,9 @@ ghost use Rattle.ideal_meaning.specs.Told.{cause_told};
 ghost use Rattle.printed_lines.specs.Lines as parts;
 ghost use Rattle.printed_lines.specs.SessionLines as def;
 
-use crate::lines::{between, refusal_line};
-use crate::refusal::Refusal;
+use crate::lines::between;
+use crate::refusal::Rejection;
+use crate::rejections::rejection_line;
 use core_terms::Cause;
 use std::alloc::{AllocError, Global};
 
@@ -76,7 +77,7 @@ fn cause_text(alloc: Global, cause: u8) -> Result<String, AllocError>
 pub fn rejected_line(alloc: Global, session: u16, cause: Cause) -> Result<Vec<u8>, AllocError>
     ensures { IfOk result (λ line. line.items ≡ def.session_line session (parts.rejected_line (cause_told cause))) }
 {
-    let line = refusal_line(alloc, &Refusal::Proof(cause))?;
+    let line = rejection_line(alloc, Rejection::Cause(cause))?;
     session_line(alloc, session, &line)
 }
 

@@ -1,6 +1,6 @@
-use Rattle.std.proofs.Common.{None, Err, refl, sym, subst}
+use Rattle.std.proofs.Common.{None, refl, sym, subst}
 use Rattle.command_words.specs.Commands.{IsOfCommand, texts}
-use Rattle.command_words.specs.declared.command.Command.TheVariants.{Check, Init, Ideal, Step, Shallow, Prove, Verify, Audit, Library, Gen}
+use Rattle.command_words.specs.declared.command.Command.TheVariants.{Check, Init, Ideal, Step, Shallow, Prove, Verify, Audit, Library, Gen, Pieces, Fetch}
 use Rattle.file_commands.specs.Statuses.{MayAnswer}
 use Rattle.file_commands.proofs.Words.{counted, ends_known, reached_known, within}
 use Rattle.auth_cli.proofs.top.carry_out_offline.Goals as goal
@@ -127,3 +127,27 @@ returns-in-Gen-clause-possible g c = subst (λ command. MayAnswer command c.gen_
 
 pub returns-in-Gen-clause-reached : goal.returns-in-Gen-clause-reached
 returns-in-Gen-clause-reached g c = λ is. absurd (subst (MayAnswer Gen) is c.gen_command.ensures.possible)
+
+pub pieces_command-requires : goal.pieces_command-requires
+pieces_command-requires g c = counted Pieces c.args.words.now refl (subst (λ command. IsOfCommand command (texts c.args.words.now)) c.in-Pieces.is c.requires.command)
+
+pub returns-in-Pieces-clause-ends : goal.returns-in-Pieces-clause-ends
+returns-in-Pieces-clause-ends g c = ends_known c.args.command Pieces (texts c.args.words.now) _ _ c.pieces_command.result c.in-Pieces.is c.pieces_command.ensures.ends
+
+pub returns-in-Pieces-clause-possible : goal.returns-in-Pieces-clause-possible
+returns-in-Pieces-clause-possible g c = subst (λ command. MayAnswer command c.pieces_command.result) (sym c.in-Pieces.is) c.pieces_command.ensures.possible
+
+pub returns-in-Pieces-clause-reached : goal.returns-in-Pieces-clause-reached
+returns-in-Pieces-clause-reached g c = λ is. reached_known c.args.command Pieces (texts c.args.words.now) _ _ c.in-Pieces.is (c.pieces_command.ensures.reached is)
+
+pub fetch_command-requires : goal.fetch_command-requires
+fetch_command-requires g c = counted Fetch c.args.words.now refl (subst (λ command. IsOfCommand command (texts c.args.words.now)) c.in-Fetch.is c.requires.command)
+
+pub returns-in-Fetch-clause-ends : goal.returns-in-Fetch-clause-ends
+returns-in-Fetch-clause-ends g c = ends_known c.args.command Fetch (texts c.args.words.now) _ _ c.fetch_command.result c.in-Fetch.is c.fetch_command.ensures.ends
+
+pub returns-in-Fetch-clause-possible : goal.returns-in-Fetch-clause-possible
+returns-in-Fetch-clause-possible g c = subst (λ command. MayAnswer command c.fetch_command.result) (sym c.in-Fetch.is) c.fetch_command.ensures.possible
+
+pub returns-in-Fetch-clause-reached : goal.returns-in-Fetch-clause-reached
+returns-in-Fetch-clause-reached g c = λ is. reached_known c.args.command Fetch (texts c.args.words.now) _ _ c.in-Fetch.is (c.fetch_command.ensures.reached is)

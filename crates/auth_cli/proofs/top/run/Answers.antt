@@ -11,7 +11,7 @@ use Rattle.auth_cli.proofs.AnsweredRuns.{audited_run, prove_tells, proved_run, s
 use Rattle.auth_cli.proofs.Answered.{answered, fault_line, memory_line, part_written, stored, stored_first}
 use Rattle.auth_cli.proofs.AskTruths.{texts_truth}
 use Rattle.auth_cli.proofs.Called.{refused_code}
-use Rattle.auth_cli.proofs.NetRuns.{AreBelow, command_is_offline, reached_risen, run_asks, run_dials, run_fault, run_listens, run_offline, run_rose, run_serves, run_writes, true_run}
+use Rattle.auth_cli.proofs.NetRuns.{AreBelow, command_is_offline, fetched_run, reached_risen, run_asks, run_dials, run_fault, run_listens, run_offline, run_rose, run_serves, run_writes, true_run}
 use Rattle.file_commands.proofs.Possible.{collision_alone, usage_alone}
 use Rattle.file_commands.proofs.Reached.{read_fault_of_code}
 use Rattle.auth_cli.proofs.top.run.Goals as goal
@@ -30,6 +30,9 @@ returns-clause-told_truth g c = λ called is ask asking name calls. texts_truth 
 
 pub returns-clause-headline : goal.returns-clause-headline
 returns-clause-headline g c = rw c.code.ensures (true_run (texts c.args.words.now) _ _ _ _ c.ended.result c.ended.ensures.ends)
+
+pub returns-clause-fetched : goal.returns-clause-fetched
+returns-clause-fetched g c = rw c.code.ensures (fetched_run (texts c.args.words.now) _ _ _ _ c.ended.result c.ended.ensures.ends)
 
 pub returns-clause-companion : goal.returns-clause-companion
 returns-clause-companion g c = λ called is command tells told known.

@@ -1,0 +1,77 @@
+-- The steps of the commands on mirrors: a mirror that is read from its file, and the file that is made of one.
+use Rattle.std.proofs.Common.{◌≡◌, ℕ, List, [], ◌∷◌, length, Option, Some, Vec, Result, Ok, Err, IsErrAnd, nat_le, refl, sym, ap, ◌∙◌, subst, le-leb}
+use Rattle.std.specs.declared.alloc.Global.{Global}
+use Rattle.piece_mirror.specs.Files.{Holds, mirror_file, read_mirror}
+use Rattle.piece_mirror.specs.Loads.{Saves, TellsFault}
+use Rattle.piece_mirror.specs.declared.fault.MirrorFault.{MirrorFault}
+use Rattle.piece_mirror.specs.declared.fault.MirrorFault.TheVariants as mirror_fault
+use Rattle.printed_lines.specs.Lines.{pieces_line}
+use Rattle.printed_lines.specs.declared.refusal.Refusal.TheVariants as refusal
+use Rattle.file_commands.specs.Answer.{Answer, max_file, mirror_read, pieces_answer, pieces_file, with_mirror, with_pieces}
+use Rattle.file_commands.specs.Halting.{GoesOn, InHand, of_mirror_fault}
+use Rattle.file_commands.specs.Storing.{FindsOutput}
+use Rattle.file_commands.specs.declared.report.Ending.TheVariants.{Done}
+use Rattle.file_commands.specs.declared.report.Halt.{Halt}
+use Rattle.file_commands.specs.declared.report.Halt.TheVariants.{Usage, Refused, ReadFault, NoMemory}
+use Rattle.file_commands.specs.declared.report.Output.{Output}
+use Rattle.file_commands.proofs.Ends.{one_line}
+use Rattle.file_commands.proofs.Steps.{halts_behind}
+use Rattle.file_commands.proofs.StoredOutputs.{first_of, second_of, too_great}
+
+-- bytes that are no mirror halt the work
+pub mirror_refused : {T : Type 0} (bytes : List ℕ) (value : T → List (List ℕ)) (fault : MirrorFault) (result : Result T Halt) → IsErrAnd result (λ halt. halt ≡ of_mirror_fault fault)
+    → TellsFault (read_mirror bytes) fault → InHand (GoesOn (with_mirror bytes) value) result
+unfolding mirror_read
+mirror_refused bytes value fault (Ok t) halt is = absurd halt
+mirror_refused bytes value fault (Err h) halt is = subst (λ h. InHand (GoesOn (with_mirror bytes) value) (Err h)) (sym halt) (by fault is)
+  where
+    by : (fault : MirrorFault) → TellsFault (read_mirror bytes) fault → InHand (GoesOn (with_mirror bytes) value) (Err (of_mirror_fault fault))
+    by (mirror_fault.Cut n) is = λ go. ap (λ m. with_pieces m go) is
+    by (mirror_fault.BadField n) is = λ go. ap (λ m. with_pieces m go) is
+    by (mirror_fault.Leftover n) is = λ go. ap (λ m. with_pieces m go) is
+    by mirror_fault.TooLong is = absurd is
+    by mirror_fault.NoMemory is = λ go. tt
+
+-- a mirror's pieces are gone on with
+pub mirror_goes : (bytes : List ℕ) (pieces : List (List ℕ)) → read_mirror bytes ≡ Holds pieces → (go : List (List ℕ) → Option Answer) → with_mirror bytes go ≡ go pieces
+unfolding mirror_read
+mirror_goes bytes pieces is go = ap (λ m. with_pieces m go) is
+
+-- a file that can't be stored is refused
+pub file_refused : (pieces : List (List ℕ)) (fault : MirrorFault) (result : Result Output Halt) → IsErrAnd result (λ halt. halt ≡ of_mirror_fault fault)
+    → Saves (mirror_file pieces) (Err fault) → (name : List ℕ) → InHand (FindsOutput name (Some (pieces_answer pieces name))) result
+unfolding pieces_file
+file_refused pieces fault (Ok output) halt is name = absurd halt
+file_refused pieces fault (Err h) halt is name = subst (λ h. InHand (FindsOutput name (Some (pieces_answer pieces name))) (Err h)) (sym halt) (by fault is)
+  where
+    by : (fault : MirrorFault) → Saves (mirror_file pieces) (Err fault) → InHand (FindsOutput name (Some (pieces_answer pieces name))) (Err (of_mirror_fault fault))
+    by (mirror_fault.Cut n) is = absurd is
+    by (mirror_fault.BadField n) is = absurd is
+    by (mirror_fault.Leftover n) is = absurd is
+    by mirror_fault.TooLong is = ap Some (second_of (nat_le (length (pieces_file pieces)) max_file) _ _ (too_great (length (pieces_file pieces)) max_file is))
+    by mirror_fault.NoMemory is = tt
+
+-- else it is stored, and the number of its pieces told
+pub file_told : (pieces : List (List ℕ)) (text file : Vec ℕ Global) → text.items ≡ pieces_line (length pieces) → Saves (mirror_file pieces) (Ok file)
+    → (name : List ℕ) → InHand (FindsOutput name (Some (pieces_answer pieces name))) (Ok (record { report = record { ending = Done; text = text }; file = Some file }))
+unfolding pieces_file
+file_told pieces text file is saved name = (
+  _,
+  ap Some (first_of (nat_le (length (pieces_file pieces)) max_file) _ _ (le-leb (length (pieces_file pieces)) max_file saved.1)),
+  record {
+    status = refl;
+    lines = one_line (pieces_line (length pieces)) ∙ sym is;
+    stored = ap (λ bytes. (name, bytes) ∷ []) (sym saved.0);
+  },
+)
+
+-- a step on what is in hand, behind one that goes on with it
+pub goes_on_behind : {A B T : Type 0} (first : (A → Option Answer) → Option Answer) (a : A) (next : A → (B → Option Answer) → Option Answer) (value : T → B) (result : Result T Halt)
+    → ((go : A → Option Answer) → first go ≡ go a) → InHand (GoesOn (next a) value) result → GoesOn (λ go. first (λ a. next a go)) value result
+goes_on_behind first a next value (Ok t) is goes = λ go. is (λ a. next a go) ∙ goes go
+goes_on_behind first a next value (Err Usage) is goes = absurd goes
+goes_on_behind first a next value (Err (Refused (refusal.Program kind line column))) is goes = λ go. halts_behind _ _ (Refused (refusal.Program kind line column)) (is (λ a. next a go)) (goes go)
+goes_on_behind first a next value (Err (Refused (refusal.Input fault))) is goes = λ go. halts_behind _ _ (Refused (refusal.Input fault)) (is (λ a. next a go)) (goes go)
+goes_on_behind first a next value (Err (Refused (refusal.Proof why))) is goes = absurd goes
+goes_on_behind first a next value (Err ReadFault) is goes = absurd goes
+goes_on_behind first a next value (Err NoMemory) is goes = λ go. tt

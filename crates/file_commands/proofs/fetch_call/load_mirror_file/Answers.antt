@@ -1,0 +1,18 @@
+use Rattle.std.proofs.Common.{ap, sym, ◌∙◌}
+use Rattle.std.proofs.lemmas.Result.{err_from_is_err_and}
+use Rattle.piece_mirror.specs.Tables.{bytes_of}
+use Rattle.printed_lines.specs.declared.refusal.Argument.TheVariants.{Mirror}
+use Rattle.file_commands.specs.Answer.{max_file, with_file, with_mirror}
+use Rattle.file_commands.proofs.MirrorSteps.{goes_on_behind}
+use Rattle.file_commands.proofs.Steps.{halts_first}
+use Rattle.file_commands.proofs.fetch_call.load_mirror_file.Goals as goal
+
+pub returns-in_err-bytes-clause-goes : goal.returns-in_err-bytes-clause-goes
+returns-in_err-bytes-clause-goes g c = λ told known.
+    let halted = err_from_is_err_and c.from_residual.result c.from_residual.ensures.1 in
+    halts_first (with_file max_file Mirror (told c.args.name.now)) with_mirror (λ mirror. bytes_of mirror.pieces) c.from_residual.result _ (cc) (c.in_err-bytes.ensures.goes told known)
+
+pub returns-clause-goes : goal.returns-clause-goes
+returns-clause-goes g c = λ told known.
+    goes_on_behind (with_file max_file Mirror (told c.args.name.now)) c.deref.result.now with_mirror (λ mirror. bytes_of mirror.pieces)
+    c.load_mirror.result (λ go. c.in_ok-bytes.ensures.goes told known go ∙ ap go (sym c.deref.ensures.value)) c.load_mirror.ensures

@@ -1,0 +1,28 @@
+use Rattle.command_words.specs.declared.command.Command.TheVariants.{Pieces}
+use Rattle.file_commands.specs.Answer.{filed_answer}
+use Rattle.file_commands.proofs.EndsStored.{ends_stored}
+use Rattle.file_commands.proofs.Possible.{output_possible, stored_possible}
+use Rattle.file_commands.proofs.Words.{ends_apart, text_at}
+use Rattle.file_commands.proofs.Reached.{stored_reached}
+use Rattle.file_commands.proofs.Words.{reached_apart}
+use Rattle.file_commands.proofs.file_pieces.pieces_command.Goals as goal
+
+pub returns-clause-ends : goal.returns-clause-ends
+returns-clause-ends g c =
+    let text = text_at c.args.words.now in
+    let found = c.find_pieces-found in
+    ends_apart Pieces c.args.words.now 3 _ _ c.store_and_tell.result c.requires
+    (ends_stored (filed_answer (text 0) (text 1) (text 2)) _ _ _ found.result c.store_and_tell.result _ _ _
+    (found.ensures.finds (text 2)) found.ensures.cause found.ensures.stores found.ensures.store_faults c.store_and_tell.ensures.faults c.store_and_tell.ensures.ends)
+
+pub returns-clause-possible : goal.returns-clause-possible
+returns-clause-possible g c =
+    let found = c.find_pieces-found in
+    stored_possible Pieces _ found.result c.store_and_tell.result _ _ _ _ _ _ _ _ c.store_and_tell.ensures.ends (output_possible Pieces tt tt _ _ found.result found.ensures.cause found.ensures.ending)
+
+pub returns-clause-reached : goal.returns-clause-reached
+returns-clause-reached g c = λ is.
+    let text = text_at c.args.words.now in
+    let found = c.find_pieces-found in
+    reached_apart Pieces c.args.words.now 3 _ _ _ c.requires c.store_and_tell.ensures.asked
+    (stored_reached (filed_answer (text 0) (text 1) (text 2)) _ _ _ found.result c.store_and_tell.result _ _ _ _ _ _ _ _ c.store_and_tell.ensures.ends (found.ensures.reached (text 2)) is)

@@ -1,0 +1,63 @@
+-- What the code tells of a call whose pieces come from a mirror, and what it holds of one.
+use Rattle.std.specs.Prelude.{◌≡◌, Result, Ok, Err, Option, Some, ⊤}
+use Rattle.core_terms.specs.Terms.{Program}
+use Rattle.core_terms.specs.Types.{Ty}
+use Rattle.core_terms.specs.declared.cause.Cause.TheVariants as frames
+use Rattle.core_terms.specs.declared.outcome.Outcome.{Outcome}
+use Rattle.core_terms.specs.declared.byte_string.ByteString.{ByteString as Spelling}
+use Rattle.ideal_meaning.specs.Checked as checked
+use Rattle.ideal_meaning.specs.Ideal as ideal
+use Rattle.lam_outside.specs.Told.{Contents}
+use Rattle.mode_vm.specs.StateCalls.{SpellsOutcome}
+use Rattle.piece_fetch.specs.Verdicts.{Tells}
+use Rattle.piece_fetch.specs.declared.verdict.FetchCause.{FetchCause}
+use Rattle.piece_fetch.specs.declared.verdict.FetchCause.TheVariants.{Missing, Broken, WrongPiece, BadPiece}
+use Rattle.piece_fetch.specs.declared.verdict.FetchVerdict.{FetchVerdict}
+use Rattle.piece_fetch.specs.declared.verdict.FetchVerdict.TheVariants as verdict
+use Rattle.printed_lines.specs.declared.refusal.InputFault.TheVariants as input_fault
+use Rattle.printed_lines.specs.declared.refusal.Refusal.TheVariants as refusal
+use Rattle.printed_lines.specs.declared.refusal.Rejection.{Rejection}
+use Rattle.printed_lines.specs.declared.refusal.Rejection.TheVariants as rejection
+use Rattle.printed_syntax.specs.declared.fault.LiteralKind.TheVariants.{Mismatch}
+use Rattle.file_commands.specs.Answer.{Answer, mirrored_answer, with_mirror_file}
+use Rattle.file_commands.specs.FueledRoles.{NamedProgram}
+use Rattle.file_commands.specs.RolesJudged.{with_named_call}
+use Rattle.file_commands.specs.declared.fetch_call.FetchWords.{FetchWords}
+use Rattle.file_commands.specs.declared.report.Halt.{Halt}
+use Rattle.file_commands.specs.declared.report.Halt.TheVariants.{Refused, NoMemory}
+use Rattle.file_commands.specs.declared.roles.Callee.TheVariants.{OfState}
+
+-- The verdict is told with the outcome, whose value has type t, or with its cause or its offset. A mirror never fails; where memory was
+-- wanting nothing is told.
+abbrev pub TellsVerdict : Program → Ty → checked.Verdict → Result (Outcome Spelling) FetchVerdict → Type 0
+TellsVerdict P t found (Ok told) = (o : ideal.Outcome) × (found ≡ checked.Accepted o) × SpellsOutcome P t o told
+TellsVerdict P t found (Err (verdict.Rejected cause)) = (c : checked.Cause) × (found ≡ checked.Rejected c) × Tells cause c
+TellsVerdict P t found (Err (verdict.BadState offset)) = found ≡ checked.BadState offset
+TellsVerdict P t found (Err (verdict.BadArgument offset)) = found ≡ checked.BadArgument offset
+TellsVerdict P t found (Err verdict.FetchFault) = ⊥
+TellsVerdict P t found (Err verdict.NoMemory) = ⊤
+
+-- the rejection that is told for a cause
+abbrev pub rejection_of : FetchCause → Rejection
+rejection_of (Missing place want) = rejection.Missing place want
+rejection_of (Broken place wire) = rejection.Broken wire
+rejection_of (WrongPiece place want found) = rejection.Cause (frames.WrongPiece place want found)
+rejection_of (BadPiece place offset) = rejection.Cause (frames.BadPiece place offset)
+
+-- what ends the work for a verdict; none comes of a store that fails
+abbrev pub HaltsFor : FetchVerdict → Halt → Type 0
+HaltsFor (verdict.Rejected cause) halt = halt ≡ Refused (refusal.Proof (rejection_of cause))
+HaltsFor (verdict.BadState offset) halt = halt ≡ Refused (refusal.Input (input_fault.State offset))
+HaltsFor (verdict.BadArgument offset) halt = halt ≡ Refused (refusal.Input (input_fault.Literal Mismatch offset))
+HaltsFor verdict.FetchFault halt = ⊥
+HaltsFor verdict.NoMemory halt = halt ≡ NoMemory
+
+abbrev pub IsOfStore : FetchVerdict → Type 0
+IsOfStore verdict.FetchFault = ⊥
+IsOfStore verdict = Unit {0}
+
+-- what is answered to the words behind the program
+abbrev pub fetched_behind : NamedProgram → FetchWords → Contents → Option Answer
+fetched_behind p words files =
+    with_named_call OfState p words.call.role.now words.call.fuel.now words.state.now words.call.argument.now files (λ call.
+    with_mirror_file (files words.mirror.now) (λ pieces. Some (mirrored_answer call pieces)))

@@ -1,0 +1,66 @@
+-- What a run of `fetch` says of the ideal run, in the words of its command line and its files.
+use Rattle.std.specs.Prelude.{◌≡◌, ℕ, true, List, [], ◌∷◌, Some}
+use Rattle.std.specs.List.{concat}
+use Rattle.std.specs.Io.KnownBytes.{append_known}
+use Rattle.command_words.specs.Invocations.{calls, invocation_of}
+use Rattle.command_words.specs.declared.command.Command.TheVariants.{Fetch}
+use Rattle.sha2.specs.Sha256.{sha256}
+use Rattle.lam_outside.specs.Told.{Contents, AddsStores}
+use Rattle.core_terms.specs.Values.{Value, IsIdeal}
+use Rattle.core_terms.specs.Spelling.{spelling}
+use Rattle.core_terms.specs.Projection.{projection}
+use Rattle.core_terms.specs.Roles.{argument_type, role_named}
+use Rattle.printed_syntax.specs.Literals.{IsValue}
+use Rattle.ideal_meaning.specs.Checked.{Accepted}
+use Rattle.ideal_meaning.specs.Fetched.{Got, TrueFromOrSplit, answered}
+use Rattle.ideal_meaning.specs.Frames.{offered_pieces}
+use Rattle.ideal_meaning.specs.Headline.{call_of}
+use Rattle.ideal_meaning.specs.Ideal.{Outcome}
+use Rattle.piece_mirror.specs.Files.{Holds}
+use Rattle.file_commands.specs.Answer.{given_by, mirror_read, shallow_told}
+use Rattle.file_commands.specs.Arguments.{fuel_of}
+use Rattle.file_commands.specs.Ending.{Outside}
+use Rattle.fetched_verdicts.specs.Verdicts.{AreAnswersOf}
+use Rattle.file_commands.specs.FueledRoles.{FueledRole}
+use Rattle.file_commands.specs.NamedCalls.{named_program}
+use Rattle.file_commands.specs.RoleCalls.{is_called, kind_called, passed_literal, program_called, result_called}
+use Rattle.file_commands.specs.TextPrograms.{IsProgram, program_of_text}
+use Rattle.file_commands.specs.TrueLines.{TellsOutcome}
+use Rattle.file_commands.specs.declared.roles.Callee.TheVariants.{OfState}
+
+-- The words call `fetch` on files and arguments that mean these: a query or an update of a program with so much fuel, on an ideal state and an
+-- ideal argument, over a mirror with these pieces, which anybody may have made. The state's file has the spelling of its projection, and the
+-- argument is a literal of its own.
+pub record CallsFetch (line : List (List ℕ)) (files : Contents) (r : FueledRole) (state argument : Value) (pieces : List (List ℕ)) : Type 0 where
+  pub program_name : List ℕ
+  pub role_name : List ℕ
+  pub state_name : List ℕ
+  pub argument_text : List ℕ
+  pub fuel_text : List ℕ
+  pub mirror_name : List ℕ
+  pub words : invocation_of line ≡ Some (calls Fetch (program_name ∷ role_name ∷ state_name ∷ argument_text ∷ fuel_text ∷ mirror_name ∷ []))
+  pub text : List ℕ
+  pub program_file : files program_name ≡ Some text
+  pub program : program_of_text text ≡ IsProgram (program_called r)
+  pub named : r.program ≡ named_program text (program_called r)
+  pub role : role_named (program_called r) role_name ≡ Some r.role
+  pub called : is_called OfState (kind_called r) ≡ true
+  pub fuel : fuel_of fuel_text ≡ Some r.fuel
+  pub ideal_state : IsIdeal (program_called r).types (program_called r).state state
+  pub state_file : files state_name ≡ Some (spelling (projection sha256 (program_called r) (program_called r).state state))
+  pub ideal_argument : IsIdeal (program_called r).types (argument_type (program_called r) r.role) argument
+  pub argument_is : passed_literal r argument_text ≡ IsValue (projection sha256 (program_called r) (argument_type (program_called r) r.role) argument)
+  pub mirror : List ℕ
+  pub mirror_file : files mirror_name ≡ Some mirror
+  pub held : mirror_read mirror ≡ Holds pieces
+
+-- Whatever ideal state and argument and whatever mirror the words and files stand for: where the status is that of an outcome, the line of an
+-- outcome was written and nothing stored. The mirror gave answers, each to the digest then held, up to the end of the run with this outcome;
+-- and their pieces are the honest ones and the outcome is the projection of the ideal one, or the first piece that differs from the honest one
+-- has its digest, and its place is named.
+abbrev pub IsTrueFetch : List (List ℕ) → Contents → Outside → Outside → ℕ → Type 0
+IsTrueFetch line files old new number =
+    (r : FueledRole) (state argument : Value) (pieces : List (List ℕ)) → CallsFetch line files r state argument pieces → TellsOutcome number
+    → (o : Outcome) × (new.written ≡ append_known old.written (concat (shallow_told r o).lines)) × AddsStores old.stores new.stores []
+    × ((answers : List Got) × AreAnswersOf sha256 (given_by pieces) answers (Accepted o)
+    × TrueFromOrSplit sha256 (program_called r) r.role (result_called r) (call_of state argument) r.fuel (offered_pieces (answered answers)) [] o)

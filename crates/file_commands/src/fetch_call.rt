@@ -1,0 +1,213 @@
+// The command `fetch`.
+ghost use Rattle.std.specs.Prelude.{◌≡◌, ◌≤◌, Some, IfOk, length};
+ghost use Rattle.std.specs.Option.{ForSome};
+ghost use Rattle.command_words.specs.Commands.{texts};
+ghost use Rattle.command_words.specs.declared.command.Command.TheVariants.{Fetch};
+ghost use Rattle.core_terms.specs.Programs.{meaning};
+ghost use Rattle.code_gen.specs.Programs.{program_in};
+ghost use Rattle.piece_mirror.specs.Tables.{bytes_of};
+ghost use Rattle.file_commands.specs.Answer.{answer_with, fetched_answer, fetched_verdict, max_file, mirrored_answer, with_mirror, with_mirror_file};
+ghost use Rattle.file_commands.specs.Ending.{EndsAs, outside};
+ghost use Rattle.file_commands.specs.FetchedCalls.{HaltsFor, IsOfStore, TellsVerdict, fetched_behind, rejection_of};
+ghost use Rattle.file_commands.specs.Halting.{Finds, GoesOn, HaltCause, InHand, JudgementCause, WithoutFiles, ending_status};
+ghost use Rattle.file_commands.specs.Reaching.{FaultsAt, FaultsAtReached, ReachedAt};
+ghost use Rattle.file_commands.specs.ReadPrograms.{named_of};
+ghost use Rattle.file_commands.specs.RoleCalls.{result_called};
+ghost use Rattle.file_commands.specs.RolesCalled.{IsCalled, role_of};
+ghost use Rattle.file_commands.specs.RolesJudged.{call_of};
+ghost use Rattle.file_commands.specs.SoundPrograms.{IsOutcome};
+ghost use Rattle.file_commands.specs.Statuses.{MayAnswer};
+ghost use Rattle.file_commands.specs.declared.roles.Callee.TheVariants.{OfState};
+
+use crate::calls::{MAX_FILE, RoleCall, read_role_call};
+use crate::machine_calls::read_code;
+use crate::outcomes::outcome_report;
+use crate::report::{load, tell};
+use crate::roles::{CallWords, CalledRole, Callee};
+use crate::{Halt, Report, Status};
+use code_gen::Code;
+use core_terms::{Cause, Outcome, Spelling};
+use digest_layer::Sha;
+use lam_outside::{Files, Sink};
+use piece_fetch::{FetchCause, FetchVerdict, verify_from};
+use piece_mirror::Mirror;
+use printed_lines::refusal::{Argument, InputFault, Refusal, Rejection};
+use printed_syntax::fault::LiteralKind;
+use std::alloc::Global;
+
+/// The words behind the command: those of a call, and the files of its state and of a mirror.
+#[derive(Clone, Copy)]
+pub struct FetchWords<'a> {
+    pub call: CallWords<'a>,
+    pub state: &'a str,
+    pub mirror: &'a str,
+}
+
+/// Judges a call of a query or an update, whose pieces a mirror gives, and tells the outcome. The words behind the command are
+/// `P ROLE STATE ARG FUEL MIRROR`.
+pub fn fetch_command<F: Files, O: Sink>(
+    alloc: Global,
+    words: &[&str],
+    files: &mut F,
+    out: &mut O,
+) -> Status
+    requires { length words.now ≡ 6 }
+    ensures ends { let seen = outside F.contents F.stores F.faults F.store_faults O.written O.faults in
+        EndsAs (answer_with Fetch (texts words.now)) (seen files.old out.old) (seen files.new out.new) result }
+    ensures reached { ReachedAt result (answer_with Fetch (texts words.now)) (F.contents files.old) (F.asked files.new) }
+    ensures possible { MayAnswer Fetch result }
+{
+    let [program, role, state, argument, fuel, mirror] = words else {
+        unreachable!()
+    };
+    let words = FetchWords {
+        call: CallWords {
+            program,
+            role,
+            argument,
+            fuel,
+        },
+        state,
+        mirror,
+    };
+    let found = find_fetched(alloc, &words, files);
+    tell(alloc, out, found)
+}
+
+/// What is found of a call and a mirror, which is read when all else is well-formed.
+fn find_fetched<F: Files>(
+    alloc: Global,
+    words: &FetchWords<'_>,
+    files: &mut F,
+) -> Result<Report, Halt>
+    ensures finds { let words = words.now in ForSome (F.contents files.old) (λ told.
+        Finds (fetched_answer words.call.program.now words.call.role.now words.state.now words.call.argument.now words.call.fuel.now words.mirror.now told) result) }
+    ensures ending { IfOk result (λ report. IsOutcome (ending_status report.ending)) }
+    ensures reached { let words = words.now in FaultsAtReached
+        (fetched_answer words.call.program.now words.call.role.now words.state.now words.call.argument.now words.call.fuel.now words.mirror.now) (F.contents files.old) (F.asked files.new) result }
+    ensures cause { JudgementCause (F.faults files.old) (F.faults files.new) result }
+    ensures stores { F.stores files.new ≡ F.stores files.old }
+    ensures store_faults { F.store_faults files.new ≡ F.store_faults files.old }
+{
+    let code = read_code(alloc, files, words.call.program)?;
+    fetch_named(alloc, files, &code, words)
+}
+
+/// The same of the code of a program.
+fn fetch_named<F: Files>(
+    alloc: Global,
+    files: &mut F,
+    code: &Code,
+    words: &FetchWords<'_>,
+) -> Result<Report, Halt>
+    ensures finds { let p = named_of (program_in code.now) in
+        ForSome (F.contents files.old) (λ told. Finds (fetched_behind p words.now told) result) }
+    ensures ending { IfOk result (λ report. IsOutcome (ending_status report.ending)) }
+    ensures reached { let p = named_of (program_in code.now) in FaultsAtReached (fetched_behind p words.now) (F.contents files.old) (F.asked files.new) result }
+    ensures cause { JudgementCause (F.faults files.old) (F.faults files.new) result }
+    ensures stores { F.stores files.new ≡ F.stores files.old }
+    ensures store_faults { F.store_faults files.new ≡ F.store_faults files.old }
+{
+    let program = code.program();
+    let call = read_role_call(
+        alloc,
+        files,
+        program,
+        Callee::OfState,
+        &words.call,
+        words.state,
+    )?;
+    let mut mirror = load_mirror_file(alloc, files, words.mirror)?;
+    fetch_from(alloc, code, &call, &mut mirror)
+}
+
+/// The mirror in a file.
+fn load_mirror_file<F: Files>(alloc: Global, files: &mut F, name: &str) -> Result<Mirror<Sha>, Halt>
+    ensures goes { ForSome (F.contents files.old) (λ told. GoesOn (with_mirror_file (told name.now)) (λ mirror. bytes_of mirror.pieces) result) }
+    ensures asked { FaultsAt name.now (F.asked files.new) result }
+    ensures cause { HaltCause (F.faults files.old) (F.faults files.new) result }
+    ensures contents { F.contents files.new ≡ F.contents files.old }
+    ensures stores { F.stores files.new ≡ F.stores files.old }
+    ensures store_faults { F.store_faults files.new ≡ F.store_faults files.old }
+{
+    let bytes = load(alloc, files, Argument::Mirror, name, MAX_FILE)?;
+    load_mirror(alloc, &bytes)
+}
+
+/// The mirror that these bytes are the file of.
+fn load_mirror(alloc: Global, bytes: &[u8]) -> Result<Mirror<Sha>, Halt>
+    requires { length bytes.now ≤ max_file }
+    ensures { InHand (GoesOn (with_mirror bytes.now) (λ mirror. bytes_of mirror.pieces)) result }
+{
+    Ok(Mirror::load(alloc, bytes)?)
+}
+
+/// The report of a call whose pieces a mirror gives.
+fn fetch_from(
+    alloc: Global,
+    code: &Code,
+    call: &RoleCall,
+    mirror: &mut Mirror<Sha>,
+) -> Result<Report, Halt>
+    requires { IsCalled OfState (program_in code.now) call.now.called }
+    ensures finds { WithoutFiles (Finds (Some (mirrored_answer (call_of (program_in code.now) call.now) (bytes_of mirror.old.pieces)))) result }
+    ensures ending { IfOk result (λ report. IsOutcome (ending_status report.ending)) }
+{
+    match fetched_outcome(alloc, code, call, mirror) {
+        Ok(outcome) => Ok(outcome_report(alloc, code.program(), &call.called, &outcome)?),
+        Err(verdict) => Err(halt_of(verdict)),
+    }
+}
+
+/// The verdict on a call whose pieces a mirror gives.
+fn fetched_outcome(
+    alloc: Global,
+    code: &Code,
+    call: &RoleCall,
+    mirror: &mut Mirror<Sha>,
+) -> Result<Outcome<Spelling>, FetchVerdict>
+    requires { IsCalled OfState (program_in code.now) call.now.called }
+    ensures { let p = program_in code.now in
+        TellsVerdict (meaning p) (result_called (role_of p call.now.called)) (fetched_verdict (call_of p call.now) (bytes_of mirror.old.pieces)) result }
+{
+    let CalledRole { function, fuel, .. } = call.called;
+    verify_from::<Sha, Mirror<Sha>>(
+        alloc,
+        code,
+        function,
+        &call.state,
+        call.argument.as_bytes(),
+        fuel,
+        mirror,
+    )
+}
+
+/// What ends the work for a verdict over a mirror, which never fails.
+fn halt_of(verdict: FetchVerdict) -> Halt
+    requires { IsOfStore verdict }
+    ensures { HaltsFor verdict result }
+{
+    match verdict {
+        FetchVerdict::Rejected(cause) => Halt::Refused(Refusal::Proof(rejection_of(cause))),
+        FetchVerdict::BadState(offset) => InputFault::State(offset).into(),
+        FetchVerdict::BadArgument(offset) => {
+            InputFault::Literal(LiteralKind::Mismatch, offset as usize).into()
+        }
+        FetchVerdict::FetchFault => unreachable!(),
+        FetchVerdict::NoMemory => Halt::NoMemory,
+    }
+}
+
+/// The rejection for a cause.
+fn rejection_of(cause: FetchCause) -> Rejection
+    ensures { result ≡ rejection_of cause }
+{
+    match cause {
+        FetchCause::Missing(place, want) => Rejection::Missing(place, want),
+        FetchCause::Broken(_, wire) => Rejection::Broken(wire),
+        FetchCause::WrongPiece(place, want, found) => {
+            Rejection::Cause(Cause::WrongPiece(place, want, found))
+        }
+        FetchCause::BadPiece(place, offset) => Rejection::Cause(Cause::BadPiece(place, offset)),
+    }
+}
