@@ -442,6 +442,19 @@ def play_number(task):
     return counts, difference
 
 
+def play_all(play, tasks, jobs):
+    """Plays each task, which gives counts and a difference or none; tells the differences and the sums of the counts. Gives the status."""
+    counts = collections.Counter({"differences": 0})
+    with multiprocessing.Pool(jobs) as pool:
+        for told, difference in pool.imap_unordered(play, tasks, 4):
+            counts.update(told)
+            if difference:
+                print(difference, flush=True)
+    for name in sorted(counts):
+        print(f"{name} {counts[name]}")
+    return 1 if counts["differences"] else 0
+
+
 def main():
     parser = argparse.ArgumentParser(description=__doc__.split("\n")[0])
     parser.add_argument("lamauth", help="the built program")
@@ -456,16 +469,7 @@ def main():
     parser.add_argument("--root", default=os.path.dirname(here))
     options = parser.parse_args()
     options.lamauth = os.path.abspath(options.lamauth)
-    tasks = [(options, number) for number in range(options.first, options.first + options.programs)]
-    counts = collections.Counter({"differences": 0})
-    with multiprocessing.Pool(options.jobs) as pool:
-        for told, difference in pool.imap_unordered(play_number, tasks, 4):
-            counts.update(told)
-            if difference:
-                print(difference, flush=True)
-    for name in sorted(counts):
-        print(f"{name} {counts[name]}")
-    return 1 if counts["differences"] else 0
+    return play_all(play_number, [(options, number) for number in range(options.first, options.first + options.programs)], options.jobs)
 
 
 if __name__ == "__main__":

@@ -90,9 +90,10 @@ SWITCH = (
     "state auth bool; init make(x: bool): auth bool = auth(x); query both(s: auth bool, x: unit): (bool, bool) = (unauth(s), unauth(s)); "
     "update flip(s: auth bool, x: unit): (auth bool, bool) = let b = unauth(s) in (auth(not(b)), b);"
 )
+MIRROR, OTHER_MIRROR = b"LAM1\0\0\0\1\0\0\0\1\1", b"LAM1\0\0\0\1\0\0\0\1\0"
 ONE, TWICE = b"LAP1\0\0\0\0\0\0\1\1", b"LAP1\0\0\0\0\0\0\1\1\0\0\0\0\1\1"
 
-# a program, the literal of its state, the words of a command, and a proof where it judges one; `library` and `gen` read no file
+# a program, the literal of its state, the words of a command, and a proof or a mirror where it judges a call by one; `library` and `gen` read no file
 COMMANDS = [
     (FIRST, "()", ["verify", "p", "open", "s", "()", "1", "q"], b"LAP1\0\0\0\0\0\0\0"),
     (FIRST, "()", ["verify", "p", "open", "s", "()", "1", "q"], b"LAP1\0\0\0\0\0"),
@@ -107,6 +108,10 @@ COMMANDS = [
     (SWITCH, "true", ["verify", "p", "flip", "s", "()", "1", "q", "o"], ONE),
     (SWITCH, "true", ["audit", "p", "flip", "i", "()", "1", "q"], ONE),
     (SWITCH, "true", ["audit", "p"], b""),
+    (SWITCH, "true", ["pieces", "p", "i", "o"], b""),
+    (SWITCH, "true", ["fetch", "p", "both", "s", "()", "1", "q"], MIRROR),
+    (SWITCH, "true", ["fetch", "p", "both", "s", "()", "1", "q"], OTHER_MIRROR),
+    (SWITCH, "true", ["fetch", "p", "both", "s", "()", "1", "q"], MIRROR + b"\0"),
     (FIRST, "()", ["library", "bst"], b""),
     (FIRST, "()", ["gen", "bst", "1", "1", "1"], b""),
 ]

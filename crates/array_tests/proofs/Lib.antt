@@ -1,6 +1,2 @@
--- the cycle of judge.rt
-pub mod Fitted
--- parts.rt: a program of parts that fit
-pub mod FittingParts
 -- `ends_as` of stage.rt
 pub mod OneInt

@@ -1,11 +1,12 @@
 // Random programs of four functions.
-use crate::kinds::{CHAIN, DRAWN_TYPES, INT, LENGTHS, at, chain, name, types_of};
+use crate::kinds::{CHAIN, DRAWN_TYPES, INT, LENGTHS, at, chain, types_of};
 use crate::limits::{LIMITS, Limit};
 use crate::maker::{Maker, Signature};
 use crate::numbers::Numbers;
-use crate::parts::program_of;
 use core_terms::{Function, Kind, Program, Term, TyId};
 use std::alloc::{AllocError, Global};
+use term_stage::parts::program_of;
+use term_stage::tables::name;
 
 /// How many levels the body of a function has at most.
 const LEVELS: u8 = 8;

@@ -1,10 +1,7 @@
 // The types of the random programs: arrays by themselves, in one another, in pairs, in constructors, and authenticated.
-ghost use Rattle.std.specs.Prelude.{◌≡◌, true, length, IsTrue};
-ghost use Rattle.core_terms.specs.Programs.{types_in};
-ghost use Rattle.core_terms.specs.TypeTables.{is_form_in, stands_behind};
-
-use core_terms::{Constructor, Format, Name, NameRef, NamedId, NamedType, TyForm, TyId, TyTable};
+use core_terms::{Constructor, Format, NamedId, NamedType, TyForm, TyId, TyTable};
 use std::alloc::{AllocError, Global};
+use term_stage::tables::{may_stand, name};
 
 /// How many elements an array has.
 #[derive(Clone, Copy)]
@@ -96,22 +93,6 @@ fn form_of(shape: Shape, ids: &[TyId], lengths: &[u8]) -> TyForm {
     }
 }
 
-/// Whether a type of this form may be one of a table of the second format.
-fn may_stand(types: &TyTable, form: TyForm) -> bool
-    ensures parts { IsTrue result → stands_behind (length (types_in types.now)) form ≡ true }
-    ensures format { IsTrue result → is_form_in types.now.format form ≡ true }
-{
-    let count = types.len();
-    match form {
-        TyForm::AuthForm(part) => part.0 < count,
-        TyForm::PairForm(first, second) => first.0 < count && second.0 < count,
-        TyForm::VecForm(len, item) => {
-            types.format() == Format::Second && item.0 < count && len >= 1 && len <= 64
-        }
-        _ => true,
-    }
-}
-
 /// The types, where the drawn lengths are these, and the numbers of the types by their places.
 pub fn types_of(lengths: &[u8], alloc: Global) -> Result<(Box<TyTable>, Vec<TyId>), AllocError> {
     let mut types = Box::new(alloc, TyTable::new(Format::Second, alloc))?;
@@ -125,14 +106,6 @@ pub fn types_of(lengths: &[u8], alloc: Global) -> Result<(Box<TyTable>, Vec<TyId
         ids.push(ty)?;
     }
     Ok((types, ids))
-}
-
-/// A name of these bytes; an error where they are none.
-pub fn name(bytes: &[u8], alloc: Global) -> Result<Name, AllocError> {
-    match NameRef::new(bytes) {
-        Some(name) => name.to_name(alloc),
-        None => Err(AllocError),
-    }
 }
 
 /// A constructor with fields of the types at these places.

@@ -4,10 +4,6 @@
 #[cfg(test)]
 mod drawn;
 #[cfg(test)]
-mod flat;
-#[cfg(test)]
-mod judge;
-#[cfg(test)]
 mod kinds;
 #[cfg(test)]
 mod limits;
@@ -15,8 +11,6 @@ mod limits;
 mod maker;
 #[cfg(test)]
 mod numbers;
-#[cfg(test)]
-mod parts;
 #[cfg(test)]
 mod random;
 #[cfg(test)]

@@ -1,5 +1,4 @@
 // Random terms of a type.
-use crate::judge::extended;
 use crate::kinds::{DRAWN_TYPES, at};
 use crate::numbers::Numbers;
 use core_terms::{
@@ -7,6 +6,7 @@ use core_terms::{
     TyTable,
 };
 use std::alloc::{AllocError, Global};
+use term_stage::judge::extended;
 
 /// How many levels a term needs whose type's parts are each made: what is drawn has more.
 const PLAIN_LEVELS: u8 = 5;

@@ -9,6 +9,9 @@ use std::alloc::{AllocError, Global};
 use std::test::Fail;
 use std::thread::Threads;
 
+/// The mirror of a unit's piece.
+const MIRROR: &[u8] = b"LAM1\0\0\0\x01\0\0\0\0";
+
 /// The proof of one new piece, the byte 1, and that of the same piece twice.
 const ONE: &[u8] = b"LAP1\0\0\0\0\0\0\x01\x01";
 
@@ -21,14 +24,14 @@ const UNIT: Made = (FIRST, "()");
 
 const BOOL: Made = (SWITCH, "true");
 
-/// A state; the words of a command, and a proof where it judges one; how much one read gives at most, how many calls of the files read
-/// them, and whether a call behind these stores one.
+/// A state; the words of a command, and a proof or a mirror where it judges a call by one; how much one read gives at most, how many calls
+/// of the files read them, and whether a call behind these stores one.
 ///
-/// Of a program, an image and a state there are a start, a read of all and a read at the end; of a proof a start, and reads of the header,
-/// of each frame's kind, of its length and of its piece, and at the end.
+/// Of a program, an image, a state and a mirror there are a start, a read of all and a read at the end; of a proof a start, and reads of the
+/// header, of each frame's kind, of its length and of its piece, and at the end.
 type Row = (Made, &'static str, &'static [u8], [u64; 2], bool);
 
-static ROWS: [Row; 13] = [
+static ROWS: [Row; 15] = [
     (UNIT, "check p", b"", [4096, 3], false),
     (BOOL, "init p make true 1 o", b"", [4096, 3], true),
     (BOOL, "ideal p over q () 1", b"", [4096, 6], false),
@@ -42,6 +45,8 @@ static ROWS: [Row; 13] = [
     (BOOL, "verify p both s () 1 q", TWICE, [4096, 15], false),
     (BOOL, "verify p flip s () 1 q o", ONE, [4096, 12], true),
     (BOOL, "audit p flip s () 1 q", ONE, [4096, 12], false),
+    (UNIT, "pieces p q o", b"", [4096, 6], true),
+    (UNIT, "fetch p open s () 1 q", MIRROR, [4096, 9], false),
 ];
 
 /// What both sides have of the state of a row.
@@ -69,13 +74,13 @@ fn run_row<R: Threads + Sync>(
     run_failing(rt, alloc, &stage_of(row, sides), &words, failing, writes)
 }
 
-/// The files of a command: beside a proof what a client keeps, or what the owner has, else the image alone.
+/// The files of a command: beside a proof or a mirror what a client keeps, or what the owner has, else the image alone.
 fn stage_of<'a>(row: &Row, sides: &'a Sides) -> Stage<'a>
     ensures { 0 < result.most_read }
 {
     let (_, words, proof, [most_read, _], _) = *row;
     let most_read = (most_read as usize).max(1);
-    let (state, proof) = if words.starts_with("verify") {
+    let (state, proof) = if words.starts_with("verify") || words.starts_with("fetch") {
         (sides.state.as_slice(), proof)
     } else if words.starts_with("audit") {
         (sides.image.as_slice(), proof)

@@ -1,5 +1,5 @@
-//! Tests of the top call: the proofs that it makes, what it says of proofs, and audits; and of all commands where a file is cut, or a
-//! call of the files or of the output fails.
+//! Tests of the top call: the proofs that it makes, what it says of proofs and of mirrors, and audits; and of all commands where a file is
+//! cut, or a call of the files or of the output fails.
 #![tactic(auto)]
 
 #[cfg(test)]
@@ -8,6 +8,8 @@ mod calls;
 mod cuts;
 #[cfg(test)]
 mod faults;
+#[cfg(test)]
+mod mirrors;
 #[cfg(test)]
 mod refused;
 #[cfg(test)]

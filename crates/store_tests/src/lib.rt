@@ -12,6 +12,8 @@ mod faults;
 #[cfg(test)]
 mod large;
 #[cfg(test)]
+mod mirror_files;
+#[cfg(test)]
 mod mirrors;
 #[cfg(test)]
 mod nodes;
