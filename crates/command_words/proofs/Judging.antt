@@ -7,19 +7,20 @@ use Rattle.std.specs.Str.{bytes_eq}
 use Rattle.std.proofs.lemmas.List.{take_rest}
 use Rattle.std.proofs.lemmas.Slice.Eq.{bytes_eq-Decides}
 use Rattle.clap.specs.Words.{fault_of}
+use Rattle.clap.specs.Faults.{is_simple_and_free}
+use Rattle.clap.proofs.OnLiterals.{clap_on_literals}
 use Rattle.clap.specs.Lexer.{usize_max}
 use Rattle.clap.specs.Walk.{idle, subcommand_met}
-use Rattle.command_words.specs.CommandLine.{AreRefused, command_line}
-use Rattle.command_words.specs.Commands.{AreCounted, IsOfCommand, IsOfOneOf, Row, Text, commands, row_named, texts}
+use Rattle.command_words.specs.CommandLine.{AreRefused, command_line, naming_one, with_command}
+use Rattle.command_words.specs.Commands.{AreCounted, IsNamedBy, IsOfCommand, IsOfOneOf, Row, Text, commands, row_named, texts}
 use Rattle.command_words.specs.Invocations.{Invocation, are_counted, called, calls, invocation_behind, invocation_of, is_refused, is_refused_word}
 use Rattle.command_words.specs.Reading.{IsJudged, Reads}
-use Rattle.command_words.specs.declared.command.Command.{Command}
 use Rattle.command_words.specs.declared.fault.WordsFault.{WordsFault}
 use Rattle.command_words.specs.declared.fault.WordsFault.TheVariants as fault
 use Rattle.command_words.proofs.Counts.{IsCounted, both_parts, counted, fits, no_negation, refused}
-use Rattle.command_words.proofs.Leaves.{finds, leaf_of, meets, most_of, names}
+use Rattle.command_words.proofs.Leaves.{finds, leaf_of, line_of, meets, most_of, names, row_in}
 use Rattle.command_words.proofs.Levels.{faults_behind, no_name_refused, no_words_refused, unknown_refused}
-use Rattle.command_words.proofs.PlainWords.{ArePlain, IsPlainWord, either_false, plain_word, plain_words}
+use Rattle.command_words.proofs.PlainWords.{either_false, plain_word, plain_words}
 
 -- clap takes the words, and they call this
 pub record IsTaken (words : List Text) : Type 0 where
@@ -79,79 +80,110 @@ among p row texts as_many (r ∷ rows) e = go (p r) e (among p row texts as_many
     go true here later = let same : r ≡ row = cc in inl (ap (λ (r : Row). r.command) same, subst (λ (r : Row). AreCounted r texts) (sym same) as_many)
     go false here later = inr (later here)
 
+-- the row of a name has this name
+is_of_name : (rows : List Row) (name : Text) (row : Row) → row_in rows name ≡ Some row → row.name ≡ name
+is_of_name rows name row is = (bytes_eq-Decides row.name name).0 (found_passes (λ r. bytes_eq r.name name) row rows is)
+
 -- ---- the verdict
 
-module _ (program name : Text) (ws : List Text) (plain : IsPlainWord name) (rest : ArePlain ws) (help : bytes_eq name (codes "help") ≡ false) where
+module _ (program name : Text) (ws : List Text) (own : is_refused (program ∷ name ∷ ws) ≡ false) where
+  parts : (bytes_eq name (codes "help") ≡ false) × ((is_refused_word name || list_any is_refused_word ws) ≡ false)
+  parts = either_false (bytes_eq name (codes "help")) (is_refused_word name || list_any is_refused_word ws) own
+
+  no_flags : (is_refused_word name ≡ false) × (list_any is_refused_word ws ≡ false)
+  no_flags = either_false (is_refused_word name) (list_any is_refused_word ws) parts.1
+
   other : bytes_eq (codes "help") name ≡ false
-  other = other_way name (codes "help") help
+  other = other_way name (codes "help") parts.0
 
   unnamed : row_named name ≡ None → IsDecided (program ∷ name ∷ ws)
+  unfolding row_named
   unnamed is = inr (record {
-    fails = unknown_refused program name ws plain (meets name other ∙ ap (option_map (λ row. row.name)) is);
+    fails = unknown_refused commands program name ws (plain_word name no_flags.0) (meets commands name other ∙ ap (option_map (λ row. row.name)) is);
     uncalled = ap (option_and_then (called ws)) is;
   })
 
-  module _ (row : Row) (is : row_named name ≡ Some row) where
-    same : row.name ≡ name
-    unfolding row_named
-    same = (bytes_eq-Decides row.name name).0 (found_passes (λ r. bytes_eq r.name name) row commands is)
+  module _ (row : Row) where
+    -- whatever the other rows are, the verdict is that on its own command
+    faults : (rows : List Row) → row_in rows name ≡ Some row
+        → fault_of (line_of rows) (program ∷ name ∷ ws) ≡ refused row.name row.least (most_of row) (length row.arguments) ws
+    faults rows is = faults_behind rows name (leaf_of row) met parts.0 (finds rows name other ∙ ap (option_map leaf_of) is) program ws
+      where
+        met : subcommand_met (names rows) idle name ≡ Some name
+        met = meets rows name other ∙ ap (option_map (λ row. row.name)) is ∙ ap (λ n. Some n) (is_of_name rows name row is)
 
-    some : 1 ≤ row.least
-    unfolding row_named
-    some = ltb-true 0 row.least (found_holds (λ r. bytes_eq r.name name) row (λ r. nat_lt 0 r.least) commands refl is)
+    module _ (is : row_named name ≡ Some row) where
+      holds : (q : Row → Bool) → list_all q commands ≡ true → q row ≡ true
+      unfolding row_named
+      holds q all = found_holds (λ r. bytes_eq r.name name) row q commands all is
 
-    bounded : (most_of row == usize_max) ≡ false
-    unfolding row_named
-    bounded = no_negation (most_of row == usize_max) (found_holds (λ r. bytes_eq r.name name) row (λ r. not (most_of r == usize_max)) commands refl is)
+      some : 1 ≤ row.least
+      some = ltb-true 0 row.least (holds (λ r. nat_lt 0 r.least) refl)
 
-    most : most_of row ≡ length row.arguments
-    unfolding row_named
-    most = eqb-true (most_of row) (length row.arguments) (found_holds (λ r. bytes_eq r.name name) row (λ r. most_of r == length r.arguments) commands refl is)
+      bounded : (most_of row == usize_max) ≡ false
+      bounded = no_negation (most_of row == usize_max) (holds (λ r. not (most_of r == usize_max)) refl)
 
-    met : subcommand_met names idle name ≡ Some name
-    met = meets name other ∙ ap (option_map (λ row. row.name)) is ∙ ap (λ n. Some n) same
+      most : most_of row ≡ length row.arguments
+      most = eqb-true (most_of row) (length row.arguments) (holds (λ r. most_of r == length r.arguments) refl)
 
-    faults : fault_of command_line (program ∷ name ∷ ws) ≡ refused row.name row.least (most_of row) (length row.arguments) ws
-    faults = faults_behind name (leaf_of row) met help (finds name other ∙ ap (option_map leaf_of) is) program ws
+      over_all : fault_of command_line (program ∷ name ∷ ws) ≡ refused row.name row.least (most_of row) (length row.arguments) ws
+      unfolding row_named
+      over_all = faults commands is
 
-    texts_counted : AreCounted row ws → IsOfCommand row.command ws
-    unfolding row_named
-    texts_counted as_many = among (λ r. bytes_eq r.name name) row ws as_many commands is
+      over_one : fault_of (with_command naming_one row) (program ∷ name ∷ ws) ≡ refused row.name row.least (most_of row) (length row.arguments) ws
+      unfolding row_named
+      over_one = faults (row ∷ []) (rw (found_passes (λ r. bytes_eq r.name name) row commands is) refl)
 
-    same_count : fits row.least (most_of row) ws ≡ are_counted ws row
-    same_count = ap (λ k. fits row.least k ws) most
+      texts_counted : AreCounted row ws → IsOfCommand row.command ws
+      unfolding row_named
+      texts_counted as_many = among (λ r. bytes_eq r.name name) row ws as_many commands is
 
-    by_count : IsCounted row.name row.least (most_of row) (length row.arguments) ws → IsDecided (program ∷ name ∷ ws)
-    by_count (inl (as_many, passes)) =
-        let parts = both_parts (nat_le row.least (length ws)) (nat_le (length ws) (length row.arguments)) (sym same_count ∙ as_many) in
-        inl (record {
-          invocation = calls row.command ws;
-          passes = faults ∙ passes;
-          behind = ap (option_and_then (called ws)) is ∙ ap (λ b. if b then Some (calls row.command ws) else None) (sym same_count ∙ as_many);
-          counted = texts_counted (leb-true row.least (length ws) parts.0, leb-true (length ws) (length row.arguments) parts.1);
-        })
-    by_count (inr (not_so_many, fails)) = inr (record {
-      fails = λ none. fails (sym faults ∙ none);
-      uncalled = ap (option_and_then (called ws)) is ∙ ap (λ b. if b then Some (calls row.command ws) else None) (sym same_count ∙ not_so_many);
-    })
+      same_count : fits row.least (most_of row) ws ≡ are_counted ws row
+      same_count = ap (λ k. fits row.least k ws) most
 
-    named : IsDecided (program ∷ name ∷ ws)
-    named = by_count (counted row.name row.least (most_of row) (length row.arguments) some bounded ws rest)
+      by_count : IsCounted row.name row.least (most_of row) (length row.arguments) ws → IsDecided (program ∷ name ∷ ws)
+      by_count (inl (as_many, passes)) =
+          let parts = both_parts (nat_le row.least (length ws)) (nat_le (length ws) (length row.arguments)) (sym same_count ∙ as_many) in
+          inl (record {
+            invocation = calls row.command ws;
+            passes = over_all ∙ passes;
+            behind = ap (option_and_then (called ws)) is ∙ ap (λ b. if b then Some (calls row.command ws) else None) (sym same_count ∙ as_many);
+            counted = texts_counted (leb-true row.least (length ws) parts.0, leb-true (length ws) (length row.arguments) parts.1);
+          })
+      by_count (inr (not_so_many, fails)) = inr (record {
+        fails = λ none. fails (sym over_all ∙ none);
+        uncalled = ap (option_and_then (called ws)) is ∙ ap (λ b. if b then Some (calls row.command ws) else None) (sym same_count ∙ not_so_many);
+      })
+
+      named : IsDecided (program ∷ name ∷ ws)
+      named = by_count (counted row.name row.least (most_of row) (length row.arguments) some bounded ws (plain_words ws no_flags.1))
 
   by_row : (o : Option Row) → row_named name ≡ o → IsDecided (program ∷ name ∷ ws)
   by_row None is = unnamed is
   by_row (Some row) is = named row is
 
 decided : (words : List Text) → is_refused words ≡ false → IsDecided words
-decided [] e = inr (record { fails = no_words_refused; uncalled = refl })
-decided (program ∷ []) e = inr (record { fails = no_name_refused program; uncalled = refl })
-decided (program ∷ name ∷ ws) e =
-    let help = either_false (bytes_eq name (codes "help")) (is_refused_word name || list_any is_refused_word ws) e in
-    let words = either_false (is_refused_word name) (list_any is_refused_word ws) help.1 in
-    by_row program name ws (plain_word name words.0) (plain_words ws words.1) help.0 (row_named name) refl
+decided [] own = inr (record { fails = no_words_refused commands; uncalled = refl })
+decided (program ∷ []) own = inr (record { fails = no_name_refused commands program; uncalled = refl })
+decided (program ∷ name ∷ ws) own = by_row program name ws own (row_named name) refl
+
+-- ---- the line of the one command that the words name
+
+-- it refuses as the whole line does
+pub refuses_as_all : (row : Row) (words : List Text) → is_refused words ≡ false → IsNamedBy row words
+    → fault_of (with_command naming_one row) words ≡ fault_of command_line words
+refuses_as_all row [] own is = absurd is
+refuses_as_all row (program ∷ []) own is = absurd is
+refuses_as_all row (program ∷ name ∷ ws) own is = over_one program name ws own row is ∙ sym (over_all program name ws own row is)
+
+pub is_free : (row : Row) (words : List Text) → is_refused words ≡ false → IsNamedBy row words → is_simple_and_free (with_command naming_one row) ≡ true
+unfolding clap_on_literals
+is_free row [] own is = absurd is
+is_free row (program ∷ []) own is = absurd is
+is_free row (program ∷ name ∷ ws) own is = holds program name ws own row is (λ r. is_simple_and_free (with_command naming_one r)) refl
 
 -- what the own test lets through and clap takes calls a command
-pub taken : (words : List Text) → is_refused words ≡ false → fault_of command_line words ≡ [] → IsTaken words
+taken : (words : List Text) → is_refused words ≡ false → fault_of command_line words ≡ [] → IsTaken words
 taken words own passes = by (decided words own)
   where
     by : IsDecided words → IsTaken words
@@ -182,48 +214,28 @@ pub halted : (A : Type 0) (words : List Text) (f : WordsFault) → IsJudged {A =
 halted A words fault.Refused fails = (refused_exactly words).1 (inr fails)
 halted A words fault.NoMemory fails = tt
 
--- ---- words that are taken, as the code takes them apart
-
--- there are at least two
-pub two_words : (words : List (Bor Text)) → IsTaken (texts words) → 2 ≤ length words
-two_words [] given = absurd (not_both None given.invocation given.behind refl)
-two_words (program ∷ []) given = absurd (not_both None given.invocation given.behind refl)
-two_words (program ∷ name ∷ ws) given = omega arith
+-- ---- the words as the code takes them apart
 
 abbrev no_word : Bor Text
 no_word = record { ref_ptr = (0, 0); now = [] }
 
 -- what is called has the command of the row, and these texts
-of_row : (name : Text) (ws : List Text) (i : Invocation) → option_and_then (called ws) (row_named name) ≡ Some i → (option_map (λ row. row.command) (row_named name) ≡ Some i.command) × (ws ≡ i.texts)
-of_row name ws i is = by (row_named name) is
+of_row : (row : Row) (ws : List Text) (i : Invocation) → called ws row ≡ Some i → calls row.command ws ≡ i
+of_row row ws i is = by (are_counted ws row) is
   where
-    by_count : (row : Row) (b : Bool) → (if b then Some (calls row.command ws) else None) ≡ Some i → (Some row.command ≡ Some i.command) × (ws ≡ i.texts)
-    by_count row true e = let same : calls row.command ws ≡ i = cc in (ap (λ (i : Invocation). Some i.command) same, ap (λ (i : Invocation). i.texts) same)
-    by_count row false e = absurd (cc)
+    by : (b : Bool) → (if b then Some (calls row.command ws) else None) ≡ Some i → calls row.command ws ≡ i
+    by true e = cc
+    by false e = absurd (cc)
 
-    by : (o : Option Row) → option_and_then (called ws) o ≡ Some i → (option_map (λ row. row.command) o ≡ Some i.command) × (ws ≡ i.texts)
-    by None e = absurd (cc)
-    by (Some row) e = by_count row (are_counted ws row) e
-
-named_second : (words : List (Bor Text)) (given : IsTaken (texts words)) → (option_map (λ row. row.command) (row_named (get_or words 1 no_word).now) ≡ Some given.invocation.command)
-    × (texts (drop 2 words) ≡ given.invocation.texts)
-named_second [] given = absurd (not_both None given.invocation given.behind refl)
-named_second (program ∷ []) given = absurd (not_both None given.invocation given.behind refl)
-named_second (program ∷ name ∷ ws) given = of_row name.now (texts ws) given.invocation given.behind
-
--- the second word names a command
-pub some_named : (words : List (Bor Text)) → IsTaken (texts words) → option_map (λ row. row.command) (row_named (get_or words 1 no_word).now) ≡ None → ⊥
-some_named words given none = not_both _ given.invocation.command (named_second words given).0 none
-
--- it is called, with the words behind it
-pub called_with : (words : List (Bor Text)) → is_refused (texts words) ≡ false → IsTaken (texts words) → (command : Command)
-    → Some command ≡ option_map (λ row. row.command) (row_named (get_or words 1 no_word).now)
-    → (invocation_of (texts words) ≡ Some (calls command (texts (take (length words - 2) (drop 2 words))))) × IsOfCommand command (texts (take (length words - 2) (drop 2 words)))
-called_with words own given command is =
-    let second = named_second words given in
-    let same : given.invocation.command ≡ command = some_same _ _ (sym second.0 ∙ sym is) in
-    let behind : texts (take (length words - 2) (drop 2 words)) ≡ given.invocation.texts = ap texts (take_rest words 2) ∙ second.1 in
-    (rw (← same, behind) (rw own given.behind), rw (← same, behind) given.counted)
-  where
-    some_same : (a b : Command) → Some a ≡ Some b → a ≡ b
-    some_same a b e = cc
+-- words that clap takes call the command of the row that the second names, with the texts behind it
+pub called_with : (words : List (Bor Text)) (row : Row) → is_refused (texts words) ≡ false → fault_of command_line (texts words) ≡ []
+    → 2 ≤ length words → row_named (get_or words 1 no_word).now ≡ Some row
+    → (invocation_of (texts words) ≡ Some (calls row.command (texts (take (length words - 2) (drop 2 words)))))
+    × IsOfCommand row.command (texts (take (length words - 2) (drop 2 words)))
+called_with [] row own passes two is = absurd (omega (arith, two))
+called_with (program ∷ []) row own passes two is = absurd (omega (arith, two))
+called_with (program ∷ name ∷ ws) row own passes two is =
+    let given = taken (texts (program ∷ name ∷ ws)) own passes in
+    let same : given.invocation ≡ calls row.command (texts ws) = sym (of_row row (texts ws) given.invocation (sym (ap (option_and_then (called (texts ws))) is) ∙ given.behind)) in
+    let behind : texts (take (length (program ∷ name ∷ ws) - 2) (drop 2 (program ∷ name ∷ ws))) ≡ texts ws = ap texts (take_rest (program ∷ name ∷ ws) 2) in
+    (rw behind (rw own (given.behind ∙ ap (λ i. Some i) same)), rw behind (subst (λ (i : Invocation). IsOfCommand i.command i.texts) same given.counted))

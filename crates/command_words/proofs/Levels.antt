@@ -11,9 +11,9 @@ use Rattle.clap.specs.declared.error.kind.ErrorKind.TheVariants as kind
 use Rattle.clap.proofs.WalkLemmas.{walk_stopped}
 use Rattle.clap.proofs.FaultLemmas.{stopped_fault}
 use Rattle.clap.proofs.OnLiterals.{clap_on_literals}
-use Rattle.command_words.proofs.Leaves.{line, names}
+use Rattle.command_words.proofs.Leaves.{line, line_of, names}
 use Rattle.command_words.proofs.PlainWords.{IsPlainWord}
-use Rattle.command_words.specs.CommandLine.{command_line}
+use Rattle.command_words.specs.Commands.{Row}
 
 -- the walk once it has met a command's name, and behind it these words
 abbrev pub at_name : Text → List Text → Walk
@@ -36,51 +36,57 @@ module _ (s : Shape) (names : Names) (i : ℕ) (w : Text) (h : Held) (none : sub
   goes_on : turn_fault s names (record { held = h; waiting = idle; position = i; is_trailing = false; stopped = None }) w ≡ step_fault s i h value
   goes_on = rw (meets_none, none, p.1, p.0, p.0) refl
 
--- what a parse refuses behind its walk over the words
-abbrev after : Walk → Kinds
-after v = or_else (entered_fault line v.stopped) (or_else (settle_fault line.top.rules line.top.args_override_self v.held)
-    (or_else (defaults_fault (settled line.top.rules v.held).rows line.top.rules) (check_fault line.top (finished line.top.rules v.held) (is_some (entered line v.stopped)))))
-
--- the same of a walk that met a command's name, by the command that was found
-abbrev parse_at : List Text → Option Shape → Kinds
-parse_at ws found = or_else (option_map_or (λ s. level_fault s [] nothing_held ws false []) found [])
-    (or_else (defaults_fault [] line.top.rules) (check_fault line.top (finished line.top.rules nothing_held) (is_some (option_map (λ s. rows_at s ws) found))))
-
 or_nothing : (k : Kinds) → or_else k [] ≡ k
 or_nothing [] = refl
 or_nothing (x ∷ xs) = refl
 
--- a name that clap finds to be that of this command
-module _ (name : Text) (s : Shape) (met : subcommand_met names idle name ≡ Some name) (other : bytes_eq name (codes "help") ≡ false)
-    (finds : find (λ s. answers_to name (label_of s)) line.subs ≡ Some s) where
-  by_walk : (ws : List Text) → walk_fault line.top names (walk_from nothing_held) (name ∷ ws) ≡ []
-  unfolding walk_fault
-  by_walk ws = rw (passes line.top names name met other, enters line.top names name met) (stopped_fault line.top names (at_name name []) (name, []) ws)
+-- the command line of these rows
+module _ (rows : List Row) where
+  abbrev top : Shape
+  top = (line rows).top
 
-  stands : (ws : List Text) → at_name name ws ≡ fold (walked line.top.rules names) (walked line.top.rules names (walk_from nothing_held) name) ws
-  stands ws = rw (enters line.top names name met) (walk_stopped line.top.rules names (at_name name []) name [] ws)
+  -- what a parse refuses behind its walk over the words
+  abbrev after : Walk → Kinds
+  after v = or_else (entered_fault (line rows) v.stopped) (or_else (settle_fault top.rules top.args_override_self v.held)
+      (or_else (defaults_fault (settled top.rules v.held).rows top.rules) (check_fault top (finished top.rules v.held) (is_some (entered (line rows) v.stopped)))))
 
-  -- the faults are those of the texts behind it
-  pub faults_behind : (program : Text) (ws : List Text) → fault_of command_line (program ∷ name ∷ ws) ≡ level_fault s [] nothing_held ws false []
+  -- the same of a walk that met a command's name, by the command that was found
+  abbrev parse_at : List Text → Option Shape → Kinds
+  parse_at ws found = or_else (option_map_or (λ s. level_fault s [] nothing_held ws false []) found [])
+      (or_else (defaults_fault [] top.rules) (check_fault top (finished top.rules nothing_held) (is_some (option_map (λ s. rows_at s ws) found))))
+
+  -- a name that clap finds to be that of this command
+  module _ (name : Text) (s : Shape) (met : subcommand_met (names rows) idle name ≡ Some name) (other : bytes_eq name (codes "help") ≡ false)
+      (finds : find (λ s. answers_to name (label_of s)) (line rows).subs ≡ Some s) where
+    by_walk : (ws : List Text) → walk_fault top (names rows) (walk_from nothing_held) (name ∷ ws) ≡ []
+    unfolding walk_fault
+    by_walk ws = rw (passes top (names rows) name met other, enters top (names rows) name met) (stopped_fault top (names rows) (at_name name []) (name, []) ws)
+
+    stands : (ws : List Text) → at_name name ws ≡ fold (walked top.rules (names rows)) (walked top.rules (names rows) (walk_from nothing_held) name) ws
+    stands ws = rw (enters top (names rows) name met) (walk_stopped top.rules (names rows) (at_name name []) name [] ws)
+
+    -- the faults are those of the texts behind it
+    pub faults_behind : (program : Text) (ws : List Text) → fault_of (line_of rows) (program ∷ name ∷ ws) ≡ level_fault s [] nothing_held ws false []
+    unfolding clap_on_literals
+    faults_behind program ws =
+        ap₂ (λ f v. or_else f (after v)) (by_walk ws) (sym (stands ws)) ∙ ap (parse_at ws) finds ∙ or_nothing (level_fault s [] nothing_held ws false [])
+
+  -- a name that no command has
+  pub unknown_refused : (program name : Text) (ws : List Text) → IsPlainWord name → subcommand_met (names rows) idle name ≡ None
+      → fault_of (line_of rows) (program ∷ name ∷ ws) ≢ []
   unfolding clap_on_literals
-  faults_behind program ws =
-      ap₂ (λ f v. or_else f (after v)) (by_walk ws) (sym (stands ws)) ∙ ap (parse_at ws) finds ∙ or_nothing (level_fault s [] nothing_held ws false [])
+  unknown_refused program name ws p none h = cc (sym (ap (λ k. or_else (or_else k rest) (after (walk top.rules (names rows) nothing_held (name ∷ ws)))) strays) ∙ h)
+    where
+      rest : Kinds
+      rest = walk_fault top (names rows) (walked top.rules (names rows) (walk_from nothing_held) name) ws
 
--- a name that no command has
-pub unknown_refused : (program name : Text) (ws : List Text) → IsPlainWord name → subcommand_met names idle name ≡ None → fault_of command_line (program ∷ name ∷ ws) ≢ []
-unfolding clap_on_literals
-unknown_refused program name ws p none h = cc (sym (ap (λ k. or_else (or_else k rest) (after (walk line.top.rules names nothing_held (name ∷ ws)))) strays) ∙ h)
-  where
-    rest : Kinds
-    rest = walk_fault line.top names (walked line.top.rules names (walk_from nothing_held) name) ws
+      strays : turn_fault top (names rows) (walk_from nothing_held) name ≡ kind.UnknownArgument ∷ kind.InvalidSubcommand ∷ []
+      strays = goes_on top (names rows) 1 name nothing_held none p
 
-    strays : turn_fault line.top names (walk_from nothing_held) name ≡ kind.UnknownArgument ∷ kind.InvalidSubcommand ∷ []
-    strays = goes_on line.top names 1 name nothing_held none p
+  pub no_words_refused : fault_of (line_of rows) [] ≢ []
+  unfolding clap_on_literals
+  no_words_refused h = cc h
 
-pub no_words_refused : fault_of command_line [] ≢ []
-unfolding clap_on_literals
-no_words_refused h = cc h
-
-pub no_name_refused : (program : Text) → fault_of command_line (program ∷ []) ≢ []
-unfolding clap_on_literals
-no_name_refused program h = cc h
+  pub no_name_refused : (program : Text) → fault_of (line_of rows) (program ∷ []) ≢ []
+  unfolding clap_on_literals
+  no_name_refused program h = cc h

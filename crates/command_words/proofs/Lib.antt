@@ -5,4 +5,3 @@ pub mod Counts  -- `read`: clap takes as many texts as a command has arguments
 pub mod Levels  -- `read`: clap's verdict on a command's name
 pub mod Judging  -- `read` and the law `refused_exactly`
 pub mod ClapErrors  -- `judge`
-pub mod Found  -- `command_named`

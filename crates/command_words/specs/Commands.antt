@@ -1,8 +1,8 @@
 -- The commands.
-use Rattle.std.specs.Prelude.{◌≡◌, ◌⊎◌, ◌≤◌, ℕ, List, [], ◌∷◌, ◌++◌, length, map, find, bytes_eq, codes, Option}
+use Rattle.std.specs.Prelude.{◌≡◌, ◌⊎◌, ◌≤◌, ℕ, List, [], ◌∷◌, ◌++◌, length, map, find, bytes_eq, codes, Option, Some}
 use Rattle.std.specs.Borrow.{Bor}
 use Rattle.command_words.specs.declared.command.Command.{Command}
-use Rattle.command_words.specs.declared.command.Command.TheVariants.{Check, Init, Ideal, Step, Shallow, Prove, Verify, Audit, Library, Gen, Serve, Ask, Pieces, Fetch}
+use Rattle.command_words.specs.declared.command.Command.TheVariants.{Check, Init, Ideal, Step, Shallow, Prove, Verify, Audit, Library, Gen, Serve, Ask, Pieces, Fetch, Mirror, Draw}
 
 abbrev pub Text : Type 0
 Text = List ℕ
@@ -43,11 +43,18 @@ commands =
     row Ask (codes "ask") (codes "P" ∷ codes "STATE" ∷ codes "PORT" ∷ codes "SCRIPT" ∷ codes "OUT" ∷ []) ∷
     row Pieces (codes "pieces") (codes "P" ∷ codes "IMG" ∷ codes "OUT" ∷ []) ∷
     row Fetch (codes "fetch") (codes "P" ∷ codes "ROLE" ∷ codes "STATE" ∷ codes "ARG" ∷ codes "FUEL" ∷ codes "MIRROR" ∷ []) ∷
+    row Mirror (codes "mirror") (codes "MIRROR" ∷ codes "PORT" ∷ codes "CONNS" ∷ []) ∷
+    row Draw (codes "draw") (codes "P" ∷ codes "ROLE" ∷ codes "STATE" ∷ codes "ARG" ∷ codes "FUEL" ∷ codes "PORT" ∷ []) ∷
     []
 
 -- the row of this name
 unfoldable pub row_named : Text → Option Row
 row_named name = find (λ row. bytes_eq row.name name) commands
+
+-- this is the row that the words name, the program's name first
+abbrev pub IsNamedBy : Row → List Text → Type 0
+IsNamedBy row (program ∷ name ∷ texts) = row_named name ≡ Some row
+IsNamedBy row words = ⊥
 
 -- the texts are as many as the command takes
 abbrev pub AreCounted : Row → List Text → Type 0

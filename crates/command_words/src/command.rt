@@ -1,5 +1,5 @@
 // The program's commands.
-ghost use Rattle.std.specs.Prelude.{◌≡◌, find, map, option_map, bytes_eq};
+ghost use Rattle.std.specs.Prelude.{◌≡◌, map, option_map};
 ghost use Rattle.command_words.specs.Commands.{commands, row_named};
 ghost use Rattle.command_words.specs.Rows.{row_of};
 
@@ -20,6 +20,8 @@ pub enum Command {
     Ask,
     Pieces,
     Fetch,
+    Mirror,
+    Draw,
 }
 
 /// A command that words call, with the texts of its arguments.
@@ -42,7 +44,7 @@ pub struct Row {
 
 /// The commands.
 #[rattlefmt::skip]
-static COMMANDS: [Row; 14] = [
+static COMMANDS: [Row; 16] = [
     Row { command: Command::Check, name: "check", arguments: &["P"], least: 1 },
     Row { command: Command::Init, name: "init", arguments: &["P", "ROLE", "ARG", "FUEL", "OUT"], least: 5 },
     Row { command: Command::Ideal, name: "ideal", arguments: &["P", "ROLE", "IMG", "ARG", "FUEL"], least: 5 },
@@ -57,6 +59,8 @@ static COMMANDS: [Row; 14] = [
     Row { command: Command::Ask, name: "ask", arguments: &["P", "STATE", "PORT", "SCRIPT", "OUT"], least: 5 },
     Row { command: Command::Pieces, name: "pieces", arguments: &["P", "IMG", "OUT"], least: 3 },
     Row { command: Command::Fetch, name: "fetch", arguments: &["P", "ROLE", "STATE", "ARG", "FUEL", "MIRROR"], least: 6 },
+    Row { command: Command::Mirror, name: "mirror", arguments: &["MIRROR", "PORT", "CONNS"], least: 3 },
+    Row { command: Command::Draw, name: "draw", arguments: &["P", "ROLE", "STATE", "ARG", "FUEL", "PORT"], least: 6 },
 ];
 
 /// The table of the commands.
@@ -66,17 +70,9 @@ pub fn commands() -> &'static [Row]
     &COMMANDS
 }
 
-/// The command of this name.
-pub fn command_named(name: &str) -> Option<Command>
-    ensures { result ≡ option_map (λ row. row.command) (row_named name.now) }
-{
-    let row = row_named(commands(), name)?;
-    Some(row.command)
-}
-
 /// The row of this name.
-fn row_named<'a>(rows: &'a [Row], name: &str) -> Option<&'a Row>
-    ensures { option_map (λ row. row.now) result ≡ find (λ row. bytes_eq row.name.now name.now) rows.now }
+pub fn row_named(name: &str) -> Option<&'static Row>
+    ensures { option_map (λ row. row_of row.now) result ≡ row_named name.now }
 {
-    rows.iter().find(|row| row.name == name)
+    commands().iter().find(|row| row.name == name)
 }

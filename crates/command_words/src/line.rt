@@ -1,31 +1,20 @@
 // The command line, as clap reads it.
 ghost use Rattle.std.specs.Prelude.{◌≡◌, IfOk, map, false};
-ghost use Rattle.clap.specs.Words.{app_of, rule_of, with_subcommand};
+ghost use Rattle.clap.specs.Words.{app_of, rule_of};
 ghost use Rattle.clap.specs.declared.builder.command.Command.TheViews.{out-Command};
-ghost use Rattle.command_words.specs.CommandLine.{command, command_line, naming_one, required_texts};
+ghost use Rattle.command_words.specs.CommandLine.{command, naming_one, required_texts, with_command};
 ghost use Rattle.command_words.specs.Rows.{row_of};
 
-use crate::command::{Row, commands};
+use crate::command::Row;
 use clap::{Arg, Command};
 use std::alloc::{AllocError, Global};
 
-/// The command line: one level of commands, one of which has to be named.
-pub fn command_line<'a>(alloc: Global) -> Result<Command<'a>, AllocError>
-    ensures { IfOk result (λ line. app_of line ≡ command_line) }
-{
-    let mut line = naming_one(alloc);
-    for row in commands() {
-        line = with_command(alloc, line, row)?;
-    }
-    Ok(line)
-}
-
-/// A command line with one command more.
-fn with_command<'a>(alloc: Global, line: Command<'a>, row: &Row) -> Result<Command<'a>, AllocError>
-    ensures { IfOk result (λ made. app_of made ≡ with_subcommand (app_of line.entry) (command (row_of row.now)).top) }
+/// The command line that has this one command, which has to be named.
+pub fn command_line<'a>(alloc: Global, row: &Row) -> Result<Command<'a>, AllocError>
+    ensures { IfOk result (λ line. app_of line ≡ with_command naming_one (row_of row.now)) }
 {
     let command = command(alloc, row)?;
-    line.subcommand(command)
+    naming_one(alloc).subcommand(command)
 }
 
 /// A command line that has to name a command, and has none yet.

@@ -1,11 +1,12 @@
 // The words of a command line, read.
-ghost use Rattle.std.specs.Prelude.{◌≡◌, IfOk};
+ghost use Rattle.std.specs.Prelude.{◌≡◌, IfOk, false};
 ghost use Rattle.std.specs.List.{list_any};
-ghost use Rattle.command_words.specs.Commands.{IsOfCommand, texts};
+ghost use Rattle.command_words.specs.Commands.{IsNamedBy, IsOfCommand, texts};
 ghost use Rattle.command_words.specs.Invocations.{is_refused, is_refused_word};
 ghost use Rattle.command_words.specs.Reading.{IsJudged, Reads};
+ghost use Rattle.command_words.specs.Rows.{row_of};
 
-use crate::command::command_named;
+use crate::command::{Row, row_named};
 use crate::line::command_line;
 use crate::{Invocation, WordsFault};
 use std::alloc::Global;
@@ -23,21 +24,29 @@ pub fn read<'a>(alloc: Global, words: &'a [&'a str]) -> Result<Invocation<'a>, W
     if is_refused(words) {
         return Err(WordsFault::Refused);
     }
-    judge(alloc, words)?;
     let [_, name, texts @ ..] = words else {
-        unreachable!()
+        return Err(WordsFault::Refused);
     };
-    let Some(command) = command_named(name) else {
-        unreachable!()
+    let Some(row) = row_named(name) else {
+        return Err(WordsFault::Refused);
     };
-    Ok(Invocation { command, texts })
+    // of this command alone: to build all of them takes longer than to read the words
+    judge(alloc, row, words)?;
+    Ok(Invocation {
+        command: row.command,
+        texts,
+    })
 }
 
-/// Judges the words by clap. `Refused` exactly where it refuses them for another cause than memory; `NoMemory` where memory was wanting.
-fn judge(alloc: Global, words: &[&str]) -> Result<(), WordsFault>
+/// Judges words of this row by clap. `Refused` exactly where it refuses them for another cause than memory; `NoMemory` where memory was
+/// wanting.
+fn judge(alloc: Global, row: &Row, words: &[&str]) -> Result<(), WordsFault>
+    requires own { is_refused (texts words.now) ≡ false }
+    requires named { IsNamedBy (row_of row.now) (texts words.now) }
     ensures { IsJudged (texts words.now) result }
 {
-    command_line(alloc)?.try_get_matches_from(words)?;
+    // clap is asked about the one command that is named, since building all of them costs more than reading the words
+    command_line(alloc, row)?.try_get_matches_from(words)?;
     Ok(())
 }
 
