@@ -1,24 +1,20 @@
 -- A message that is answered, and what that makes of the connection: for answer and serve_message.
 use Rattle.std.proofs.Common.{inl, inr, ◌≡◌, ℕ, Bool, true, false, List, [], ◌∷◌, take, not, ◌&&◌, Option, Some, None, Result, Ok, Err, IsErrAnd, refl, sym, ap, subst, ◌∙◌, arith}
 use Rattle.std.specs.Io.KnownBytes.{append_known}
-use Rattle.std.proofs.lemmas.List.{append-nil}
+use Rattle.lam_outside.proofs.Moved.{append_none}
 use Rattle.core_terms.specs.Formats.{Hash}
 use Rattle.session_meaning.specs.Server as meant
 use Rattle.session_meaning.specs.Server.{Server, Hears, HearsBad, HearsEnd, handle, server_after, messages_limit}
 use Rattle.session_meaning.specs.ReplyLaws.{IsHeard}
 use Rattle.serve_core.specs.Serving.{Serves}
 use Rattle.serve_core.specs.declared.server.ServeCore.{ServeCore}
+use Rattle.link_ends.specs.declared.halt.Halt.{Halt}
+use Rattle.link_ends.specs.declared.halt.Halt.TheVariants as halt
 use Rattle.serve_links.specs.Connections.{bytes_of}
 use Rattle.serve_links.specs.Histories.{HasServed, HasSameCode, own_digest, program_served, step_of, turns_of}
 use Rattle.serve_links.specs.Messages.{Answers, AnswersPart, BreaksOff, ComesNext, CountsMessage, HearsNext, ServesMessage, StaysServing, asks}
-use Rattle.serve_links.specs.declared.halt.Halt.{Halt}
-use Rattle.serve_links.specs.declared.halt.Halt.TheVariants as halt
 use Rattle.serve_links.proofs.Broken.{first_cut, first_part, first_stopped, none_cut, none_heard, over_at}
 use Rattle.serve_links.proofs.Serving.{open_counts, served_more}
-
-pub append_nothing : (w : Option (List ℕ)) → append_known w [] ≡ w
-append_nothing None = refl
-append_nothing (Some xs) = ap Some (append-nil xs)
 
 module _ (hash : Hash) {A G : Type 0} (old new : ServeCore A G) (server : Server) (sent sent' : Option (List ℕ)) where
   -- a message was read and answered
@@ -93,7 +89,7 @@ module _ (hash : Hash) {A G : Type 0} (old new : ServeCore A G) (server : Server
         takes = next.1;
         out = [];
         behind = stopped.1.0;
-        sends = stopped.0 ∙ sym (append_nothing sent);
+        sends = stopped.0 ∙ sym (append_none sent);
         served = first_stopped hash (program_served old) (own_digest old) (turns_of old) server bytes next.0 left' m stopped.1.0 next stopped.1.1;
         serves = stopped.1.2;
       }
@@ -129,7 +125,7 @@ unread hash core server sent sent' bytes left' stop (Err e) handed same hears se
       taken = hears.0;
       takes = hears.1;
       out = [];
-      sends = same ∙ sym (append_nothing sent);
+      sends = same ∙ sym (append_none sent);
       cut = none_cut hash (program_served core) (own_digest core) (turns_of core) server hears.0 hears.2;
       broken = none_heard hash (program_served core) (own_digest core) (turns_of core) server bytes;
       serves = serves;
@@ -139,7 +135,7 @@ unread hash core server sent sent' bytes left' stop (Err e) handed same hears se
       takes = hears.1;
       out = [];
       behind = server;
-      sends = same ∙ sym (append_nothing sent);
+      sends = same ∙ sym (append_none sent);
       served = ([], none_heard hash (program_served core) (own_digest core) (turns_of core) server bytes, inl refl);
       serves = serves;
     }

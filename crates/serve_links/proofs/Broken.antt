@@ -8,10 +8,11 @@ use Rattle.session_meaning.specs.Connections.{heard_stop, served, if_closing, Se
 use Rattle.session_meaning.specs.Messages.{Request, Reply, reply_bytes, Stop, NoMore, Then, request_of, messages}
 use Rattle.session_meaning.specs.Server.{Server, Heard, Hears, HearsBad, HearsEnd, Step, handle, replies_of}
 use Rattle.session_meaning.specs.Stopped.{IsStopped}
-use Rattle.serve_links.specs.Connections.{but_last, bytes_of, heard_in, heard_on, replied, GoOn, IsBrokenOff, IsCutAt, IsSentPart, IsServed, LeavesNoMemory}
+use Rattle.link_ends.specs.MoreLinks.{but_last}
+use Rattle.link_ends.specs.declared.end.ConnectionEnd.{ConnectionEnd}
+use Rattle.link_ends.specs.declared.end.ConnectionEnd.TheVariants.{Over, LinkFault, NoMemory}
+use Rattle.serve_links.specs.Connections.{bytes_of, heard_in, heard_on, replied, GoOn, IsBrokenOff, IsCutAt, IsSentPart, IsServed, LeavesNoMemory}
 use Rattle.serve_links.specs.Messages.{ComesNext, IsReadAs}
-use Rattle.serve_links.specs.declared.connection.ConnectionEnd.{ConnectionEnd}
-use Rattle.serve_links.specs.declared.connection.ConnectionEnd.TheVariants.{Over, LinkFault, NoMemory}
 
 pub bytes_more : (a b : List Reply) → bytes_of (a ++ b) ≡ bytes_of a ++ bytes_of b
 bytes_more [] b = refl

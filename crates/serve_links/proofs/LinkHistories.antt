@@ -7,11 +7,12 @@ use Rattle.session_meaning.specs.Connections.{ConnectionsAreHeard}
 use Rattle.session_meaning.specs.Messages.{messages, request_of}
 use Rattle.session_meaning.specs.Server.{Server as TheServer, Heard, HearsEnd, server_after}
 use Rattle.session_meaning.specs.Stopped.{HistoryGoesOn, StopsKeepHistory}
+use Rattle.link_ends.specs.MoreLinks.{bytes_on}
+use Rattle.link_ends.specs.declared.end.ConnectionEnd.{ConnectionEnd}
+use Rattle.link_ends.specs.declared.end.ConnectionEnd.TheVariants as connection
 use Rattle.serve_links.specs.Connections.{IsServed, LeavesNoMemory, left_by_end}
 use Rattle.serve_links.specs.LinkLaws.{KeepsHistory, LinksKeepHistory, PartsKeepHistory}
-use Rattle.serve_links.specs.ServedLinks.{AreServed, bytes_on}
-use Rattle.serve_links.specs.declared.connection.ConnectionEnd.{ConnectionEnd}
-use Rattle.serve_links.specs.declared.connection.ConnectionEnd.TheVariants as connection
+use Rattle.serve_links.specs.ServedLinks.{AreServed}
 
 module _ (goes_on : HistoryGoesOn) (stopped : StopsKeepHistory) (heard_on : ConnectionsAreHeard) where
   module _ (hash : Hash) (P : Program) (own : List ℕ) (ending : ℕ → ℕ) where

@@ -16,69 +16,18 @@ use Rattle.session_meaning.specs.Server.{Server, last_turn}
 use Rattle.wire_form.specs.MovedBytes.{Moves}
 use Rattle.serve_core.specs.Serving.{Serves}
 use Rattle.serve_core.specs.declared.server.ServeCore.{ServeCore}
+use Rattle.link_ends.specs.declared.halt.Halt.{Halt}
+use Rattle.link_ends.specs.declared.halt.Halt.TheVariants as halt
+use Rattle.link_ends.specs.declared.end.ConnectionEnd.{ConnectionEnd}
+use Rattle.link_ends.specs.declared.end.ConnectionEnd.TheVariants as connection
+use Rattle.link_ends.proofs.FaultsTold.{or_others}
+use Rattle.link_ends.proofs.OneMore.{are_more}
+use Rattle.link_ends.proofs.StandingLink.{all_stood, from_nothing, nothing_sent, told}
 use Rattle.serve_links.specs.Connections.{IsServed}
 use Rattle.serve_links.specs.Histories.{HasSameCode, own_digest, program_served, turns_of}
-use Rattle.serve_links.specs.Messages.{Ends, HaltCause}
+use Rattle.serve_links.specs.Messages.{Ends}
 use Rattle.serve_links.specs.Prompt.{IsPrompt}
-use Rattle.serve_links.specs.ServedLinks.{AreCounted, AreMore, AreMoreInPart, AreMoreServed, AreServed, IsLinkServed, IsOneServed, IsOneWhole, IsServedOn, LinkCause, ServesNext}
-use Rattle.serve_links.specs.declared.halt.Halt.{Halt}
-use Rattle.serve_links.specs.declared.halt.Halt.TheVariants as halt
-use Rattle.serve_links.specs.declared.connection.ConnectionEnd.{ConnectionEnd}
-use Rattle.serve_links.specs.declared.connection.ConnectionEnd.TheVariants as connection
-
--- What is told of the link that stands, where the links are told.
-pub record IsTold (ended : Option (List Linked)) (port : ℕ) (given left sent : Option (List ℕ)) (reads : Option (List Moment)) (after : List Linked) : Type 0 where
-  pub before : List Linked
-  pub read : List ℕ
-  pub rest : List ℕ
-  pub out : List ℕ
-  pub begun : List Moment
-  pub ended_is : ended ≡ Some before
-  pub given_is : given ≡ Some read
-  pub left_is : left ≡ Some rest
-  pub sent_is : sent ≡ Some out
-  pub reads_are : reads ≡ Some begun
-  pub all : after ≡ before ++ record { port = port; given = read; left = rest; sent = out; reads = begun } ∷ []
-
-pub told : (ended : Option (List Linked)) (port : ℕ) (given left sent : Option (List ℕ)) (reads : Option (List Moment)) (after : List Linked)
-    → links_so_far ended (Some port) given left sent reads ≡ Some after → IsTold ended port given left sent reads after
-told (Some before) port (Some read) (Some rest) (Some out) (Some begun) after is = record {
-  before = before;
-  read = read;
-  rest = rest;
-  out = out;
-  begun = begun;
-  ended_is = refl;
-  given_is = refl;
-  left_is = refl;
-  sent_is = refl;
-  reads_are = refl;
-  all = sym (cc (is));
-}
-told None port given left sent reads after is = absurd (let clash : None ≡ Some after = is in cc)
-told (Some before) port None left sent reads after is = absurd (let clash : None ≡ Some after = is in cc)
-told (Some before) port (Some read) None sent reads after is = absurd (let clash : None ≡ Some after = is in cc)
-told (Some before) port (Some read) (Some rest) None reads after is = absurd (let clash : None ≡ Some after = is in cc)
-told (Some before) port (Some read) (Some rest) (Some out) None after is = absurd (let clash : None ≡ Some after = is in cc)
-
--- bytes behind nothing are these bytes, where they are told
-pub from_nothing : (first given : Option (List ℕ)) (more all : List ℕ) → first ≡ nothing_yet given → Some all ≡ append_known first more → all ≡ more
-from_nothing first (Some bytes) more all none is =
-    let e : Some all ≡ Some more = is ∙ ap (λ w. append_known w more) none in cc
-from_nothing first None more all none is = absurd (let clash : Some all ≡ None = is ∙ ap (λ w. append_known w more) none in cc)
-
--- nothing was sent by now on a link that tells what is sent later
-pub nothing_sent : (first sent : Option (List ℕ)) (out more : List ℕ) → first ≡ nothing_yet sent → Some out ≡ append_known first more → first ≡ Some []
-nothing_sent first (Some bytes) out more none is = none
-nothing_sent first None out more none is = absurd (let clash : Some out ≡ None = is ∙ ap (λ w. append_known w more) none in cc)
-
--- what stood at each read since the link was made stood at all of its reads
-pub all_stood : (Q : Moment → Type 0) (reads reads' : Option (List Moment)) (begun : List Moment) → ForSome reads (λ moments. moments ≡ []) → reads' ≡ Some begun
-    → AtEachRead Q reads reads' → AllByRecursion Q begun
-all_stood Q reads reads' begun none are stood =
-    let each = stood begun are in
-    let same : begun ≡ each.more = each.all ∙ ap (λ moments. moments ++ each.more) (none each.before each.told) in
-    subst (AllByRecursion Q) (sym same) each.stood
+use Rattle.serve_links.specs.ServedLinks.{AreCounted, AreMoreInPart, AreMoreServed, AreServed, IsLinkServed, IsOneServed, IsOneWhole, IsServedOn, ServesNext}
 
 module _ (hash : Hash) {A G : Type 0} (old new : ServeCore A G) (server : Server) (port : ℕ) where
   abbrev IsPromptOn : List ℕ → Option (List ℕ) → Moment → Type 0
@@ -142,17 +91,8 @@ module _ (hash : Hash) (P : Program) (own : List ℕ) (ending : ℕ → ℕ) whe
     are.2,
     are.3,
     all_served links link are.2 next behind are.1 fault are.4 one,
-    ap (λ (f : Bool). f || fault) are.5 ∙ either are.0 are.1 fault,
+    ap (λ (f : Bool). f || fault) are.5 ∙ or_others are.0 are.1 fault,
   )
-    where
-      either : (a b c : Bool) → ((a || b) || c) ≡ (a || (b || c))
-      either true b c = refl
-      either false b c = refl
-
-ports_more : (port : ℕ) (links : List Linked) (link : Linked) → AllByRecursion (λ (link : Linked). link.port ≡ port) links → link.port ≡ port
-    → AllByRecursion (λ (link : Linked). link.port ≡ port) (links ++ link ∷ [])
-ports_more port [] link all at = (at, tt)
-ports_more port (first ∷ links) link all at = (all.0, ports_more port links link all.1 at)
 
 module _ (hash : Hash) {A G : Type 0} (old now new : ServeCore A G) (same : HasSameCode old now) (server : Server) (port : ℕ) where
   abbrev IsServedBy : Code → ℕ → Server → Linked → ConnectionEnd → Server → Type 0
@@ -164,15 +104,6 @@ module _ (hash : Hash) {A G : Type 0} (old now new : ServeCore A G) (same : HasS
       let OfCode : Code → Type 0 = λ code. IsServedBy code now.slice s link end behind in
       let OfSlice : ℕ → Type 0 = λ slice. IsServedBy old.code slice s link end behind in
       subst OfSlice same.slice (subst OfCode same.code is)
-
-  are_more : (links : Option (List Linked)) (between after more : List Linked) (link : Linked) → AreMore port links between more
-      → after ≡ between ++ link ∷ [] → link.port ≡ port → AreMore port links after (more ++ link ∷ [])
-  are_more links between after more link are all at = record {
-    before = are.before;
-    told = are.told;
-    all = all ∙ ap (λ l. l ++ link ∷ []) are.all ∙ append_assoc are.before more (link ∷ []);
-    at_port = ports_more port more link are.at_port at;
-  }
 
   -- One link more was served.
   pub link_more : (links between : Option (List Linked)) (after : List Linked) (faulted fault flag : Bool) (count : ℕ) → flag ≡ (faulted || fault)
@@ -186,7 +117,7 @@ module _ (hash : Hash) {A G : Type 0} (old now new : ServeCore A G) (same : HasS
       let last = whole served.behind served.serves in
       let next = last.one in
       let same_before : first.before ≡ next.before = let e : Some first.before ≡ Some next.before = sym first.told ∙ next.told in cc in
-      let more = are_more links first.before after served.more next.link served.are (next.all ∙ ap (λ l. l ++ next.link ∷ []) (sym same_before)) next.at_port in
+      let more = are_more port links first.before after served.more next.link served.are (next.all ∙ ap (λ l. l ++ next.link ∷ []) (sym same_before)) next.at_port in
       let OfFlag : Bool → Type 0 = λ flag. AreMoreServed hash old new server port links after flag (count + 1) in
       subst OfFlag (sym told) (record {
         more = served.more ++ next.link ∷ [];
@@ -209,7 +140,7 @@ module _ (hash : Hash) {A G : Type 0} (old now new : ServeCore A G) (same : HasS
       let served = so_far first.before first.told in
       let next = one served.behind served.serves in
       let same_before : first.before ≡ next.before = let e : Some first.before ≡ Some next.before = sym first.told ∙ next.told in cc in
-      let more = are_more links first.before after served.more next.link served.are (next.all ∙ ap (λ l. l ++ next.link ∷ []) (sym same_before)) next.at_port in
+      let more = are_more port links first.before after served.more next.link served.are (next.all ∙ ap (λ l. l ++ next.link ∷ []) (sym same_before)) next.at_port in
       let size = length-append served.more (next.link ∷ []) in
       record {
         more = served.more ++ next.link ∷ [];
@@ -234,9 +165,6 @@ pub next_at : (hash : Hash) {A G : Type 0} (old new : ServeCore A G) (server : S
 next_at hash old new server port links links' r known is serves =
     let Of : Result Bool Halt → Type 0 = λ r. ServesNext hash old new server port links links' r in subst Of is serves
 
-pub rose_at : (before now : ℕ) (stop : Halt) → stop ≡ halt.LinkFault → HaltCause {T = Bool} before now (Err stop) → Rose before now
-rose_at before now stop is cause = let Of : Halt → Type 0 = λ stop. HaltCause {T = Bool} before now (Err stop) in subst Of is cause
-
 -- No link was accepted: those so far are all.
 pub no_more : (hash : Hash) {A G : Type 0} (old now new : ServeCore A G) (server : Server) (port : ℕ) (links : Option (List Linked)) (after : List Linked) (faulted : Bool)
     (count connections accepts before accepts' : ℕ) → new ≡ now → count < connections → before ≡ accepts → Rose before accepts'
@@ -245,24 +173,3 @@ no_more hash {A = A} {G = G} old now new server port links after faulted count c
     let OfCore : ServeCore A G → Type 0 = λ core. AreMoreServed hash old core server port links after faulted count in
     let From : ℕ → Type 0 = λ n. Rose n accepts' in
     record { faulted = faulted; count = count; served = subst OfCore (sym kept) so_far; number = inr (fewer, refl, subst From same rose) }
-
--- a count that rose, or that stayed
-abbrev pub IsFaultTold : (link_fault : Bool) → (before now : ℕ) → Type 0
-IsFaultTold true before now = Rose before now
-IsFaultTold false before now = now ≡ before
-
--- what is told of faults behind one link more
-pub fault_told : (link_fault fault : Bool) (before between now : ℕ) → IsFaultTold link_fault before between → LinkCause between now (Ok fault)
-    → IsFaultTold (link_fault || fault) before now
-fault_told true true before between now first next = omega (arith, first, next)
-fault_told true false before between now first next = omega (arith, first, next)
-fault_told false true before between now first next = omega (arith, first, next)
-fault_told false false before between now first next = next ∙ first
-
-pub or_none : (b : Bool) → b ≡ (b || false)
-or_none true = refl
-or_none false = refl
-
-pub or_one : (b : Bool) → true ≡ (b || true)
-or_one true = refl
-or_one false = refl

@@ -14,8 +14,9 @@ use Rattle.session_meaning.proofs.WholeMessages.{requests_stop}
 use Rattle.wire_form.specs.ReadMessages.{StopsShort}
 use Rattle.wire_form.specs.Waits.{WaitsInside}
 use Rattle.wire_form.proofs.Coming.{short_read}
+use Rattle.link_ends.proofs.Taken.{took}
 use Rattle.serve_links.specs.Connections.{bytes_of, heard_in, heard_on}
-use Rattle.serve_links.specs.Messages.{IsReadAs, Takes}
+use Rattle.serve_links.specs.Messages.{IsReadAs}
 use Rattle.serve_links.specs.Prompt.{IsPrompt, WaitsForOne}
 use Rattle.serve_links.proofs.Broken.{bytes_more}
 
@@ -30,7 +31,7 @@ waits_for_one bytes sent reads reads' waits =
       stood.0,
       (
         take stood.1.taken bytes,
-        (drop stood.1.taken bytes, sym (take-append-drop stood.1.taken bytes), stood.1.left),
+        took stood.1.taken bytes m.left stood.1.left,
         short_heard (take stood.1.taken bytes) (short_read request_of (take stood.1.taken bytes) stood.1.unfinished),
       ),
     )) reads reads' waits

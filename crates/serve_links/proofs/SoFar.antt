@@ -1,7 +1,7 @@
 -- A connection that goes on, message by message: for serve_link.
 use Rattle.std.proofs.Common.{inl, inr, ◌≡◌, ℕ, Bool, List, [], ◌++◌, Option, Some, None, Result, Err, refl, sym, ap, subst, subst₂, ◌∙◌, append_assoc}
 use Rattle.std.specs.Io.KnownBytes.{append_known, prepend_known}
-use Rattle.lam_outside.proofs.Moved.{append_twice}
+use Rattle.lam_outside.proofs.Moved.{append_none, append_twice}
 use Rattle.core_terms.specs.Formats.{Hash}
 use Rattle.code_gen.specs.declared.code.Code.{Code}
 use Rattle.code_gen.specs.Programs.{program_in}
@@ -10,15 +10,14 @@ use Rattle.session_meaning.specs.Server.{Server, Hears, HearsEnd, last_turn}
 use Rattle.wire_form.specs.MovedBytes.{Moves}
 use Rattle.serve_core.specs.Serving.{Serves}
 use Rattle.serve_core.specs.declared.server.ServeCore.{ServeCore}
+use Rattle.link_ends.specs.declared.end.ConnectionEnd.{ConnectionEnd}
+use Rattle.link_ends.specs.declared.end.ConnectionEnd.TheVariants.{Over, LinkFault, NoMemory}
+use Rattle.link_ends.specs.declared.halt.Halt.{Halt}
+use Rattle.link_ends.specs.declared.halt.Halt.TheVariants as halt
 use Rattle.serve_links.specs.Connections.{IsServed, bytes_of, left_by_end}
 use Rattle.serve_links.specs.Ends.{IsBroken, StaysServer}
 use Rattle.serve_links.specs.Histories.{HasSameCode, HasServed, own_digest, program_served, step_of, turns_of}
 use Rattle.serve_links.specs.Messages.{BreaksOff, Ends, GoesOn, ServesMessage, StaysServing}
-use Rattle.serve_links.specs.declared.connection.ConnectionEnd.{ConnectionEnd}
-use Rattle.serve_links.specs.declared.connection.ConnectionEnd.TheVariants.{Over, LinkFault, NoMemory}
-use Rattle.serve_links.specs.declared.halt.Halt.{Halt}
-use Rattle.serve_links.specs.declared.halt.Halt.TheVariants as halt
-use Rattle.serve_links.proofs.Answering.{append_nothing}
 use Rattle.serve_links.proofs.Broken.{goes_on}
 use Rattle.serve_links.proofs.Prompting.{prompt_now, replied_on}
 use Rattle.lam_outside.specs.Moments.{AtEachRead, Moment}
@@ -26,14 +25,6 @@ use Rattle.lam_outside.proofs.Waiting.{reads_on, reads_weaken}
 use Rattle.session_meaning.specs.Connections.{bytes_sent}
 use Rattle.serve_links.specs.Prompt.{IsPrompt, WaitsForOne}
 use Rattle.serve_links.proofs.Serving.{served_more}
-
-prepend_nothing : (w : Option (List ℕ)) → w ≡ prepend_known [] w
-prepend_nothing None = refl
-prepend_nothing (Some xs) = refl
-
--- no byte moved
-pub none_moved : (given left : Option (List ℕ)) → Moves given left given left
-none_moved given left = ([], prepend_nothing left, sym (append_nothing given))
 
 module _ (hash : Hash) where
   -- what a server of this code and these turns sends, and leaves
@@ -88,7 +79,7 @@ module _ (hash : Hash) {A G : Type 0} where
     taken = [];
     rest = bytes;
     current = server;
-    sends = sym (append_nothing sent);
+    sends = sym (append_none sent);
     all = refl;
     told = told;
     serves = serves;

@@ -10,16 +10,10 @@ use Rattle.wire_form.specs.MessageViews.{request_meant}
 use Rattle.wire_form.specs.ReadMessages.{ReadsMessage, StopsShort}
 use Rattle.wire_form.specs.declared.message.ReadStop.{ReadStop}
 use Rattle.wire_form.specs.declared.message.ReadStop.TheVariants.{BadMessage, TooLong, End, Cut, LinkFault, NoMemory}
+use Rattle.link_ends.specs.MoreLinks.{Takes}
+use Rattle.link_ends.proofs.Taken.{took, took_all}
 use Rattle.serve_links.specs.Connections.{heard_in, heard_on}
-use Rattle.serve_links.specs.Messages.{ComesNext, Takes}
-
--- so many bytes were taken
-took : (n : ℕ) (bytes : List ℕ) (left' : Option (List ℕ)) → left' ≡ Some (drop n bytes) → Takes bytes (take n bytes) left'
-took n bytes left' is = (drop n bytes, sym (take-append-drop n bytes), is)
-
--- all were
-took_all : (bytes : List ℕ) (left' : Option (List ℕ)) → left' ≡ Some [] → Takes bytes bytes left'
-took_all bytes left' is = ([], sym (append-nil bytes), is)
+use Rattle.serve_links.specs.Messages.{ComesNext}
 
 -- a request was read
 pub request_next : (bytes rest : List ℕ) (left' : Option (List ℕ)) (r : TheRequest) → read_request bytes ≡ Got r rest → left' ≡ Some rest → ComesNext bytes left' (Hears r)

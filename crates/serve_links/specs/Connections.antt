@@ -7,8 +7,9 @@ use Rattle.session_meaning.specs.Connections.{heard_stop, served, bytes_sent}
 use Rattle.session_meaning.specs.Messages.{Request, Reply, reply_bytes, Messages, NoMore, Then, request_of, messages}
 use Rattle.session_meaning.specs.Server.{Server, Heard, Hears, HearsEnd, handle, server_after, replies_of}
 use Rattle.session_meaning.specs.Stopped.{IsStopped}
-use Rattle.serve_links.specs.declared.connection.ConnectionEnd.{ConnectionEnd}
-use Rattle.serve_links.specs.declared.connection.ConnectionEnd.TheVariants.{Over, LinkFault, NoMemory}
+use Rattle.link_ends.specs.MoreLinks.{but_last}
+use Rattle.link_ends.specs.declared.end.ConnectionEnd.{ConnectionEnd}
+use Rattle.link_ends.specs.declared.end.ConnectionEnd.TheVariants.{Over, LinkFault, NoMemory}
 
 -- what a server hears of messages: each request, and then what it hears of their end
 abbrev pub heard_on : Messages Request → List Heard
@@ -18,12 +19,6 @@ heard_on (Then request more) = Hears request ∷ heard_on more
 -- what it hears of the messages of bytes
 abbrev pub heard_in : List ℕ → List Heard
 heard_in bytes = heard_on (messages request_of bytes)
-
--- a list without its last item
-abbrev pub but_last : {A : Type 0} → List A → List A
-but_last [] = []
-but_last (a ∷ []) = []
-but_last (a ∷ next ∷ more) = a ∷ but_last (next ∷ more)
 
 -- the bytes of replies
 abbrev pub bytes_of : List Reply → List ℕ

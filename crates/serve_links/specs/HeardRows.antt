@@ -7,7 +7,6 @@ use Rattle.core_terms.specs.Formats.{Hash}
 use Rattle.core_terms.specs.Projection.{Fits}
 use Rattle.core_terms.specs.Terms.{Program}
 use Rattle.core_terms.specs.Values.{AuthWithin, IsIdeal}
-use Rattle.lam_outside.specs.Causes.{Rose}
 use Rattle.session_meaning.specs.MessageRows.{bye_bytes, hello_bytes}
 use Rattle.session_meaning.specs.Messages.{AtEnd, IsCut, BadMessage, Request, Bye, Then, messages, request_of}
 use Rattle.session_meaning.specs.ReplyLaws.{IsHeard}
@@ -17,22 +16,14 @@ use Rattle.session_meaning.specs.Stopped.{IsStopped}
 use Rattle.serve_core.specs.Serving.{Serves}
 use Rattle.serve_core.specs.declared.heard.Heard.TheVariants as heard
 use Rattle.serve_core.specs.declared.server.ServeCore.{ServeCore}
+use Rattle.link_ends.specs.declared.end.ConnectionEnd.TheVariants.{Over, NoMemory}
+use Rattle.link_ends.specs.declared.halt.Halt.TheVariants as halt
 use Rattle.serve_links.specs.Connections.{IsBrokenOff, IsCutAt, bytes_of}
 use Rattle.serve_links.specs.Histories.{HasHistory, HasSameCode, HasServed, own_digest, program_served, step_of, turns_of}
-use Rattle.serve_links.specs.Messages.{Answers, AnswersPart, BreaksOff, ComesNext, CountsMessage, Ends, GoesOn, HaltCause, HearsNext, IsHeardOf, IsReadAs, IsStoppedAt, ServesMessage, StaysServing, Takes, halt_of}
+use Rattle.serve_links.specs.Messages.{Answers, AnswersPart, BreaksOff, ComesNext, CountsMessage, Ends, GoesOn, HearsNext, IsHeardOf, IsReadAs, IsStoppedAt, ServesMessage, StaysServing}
 use Rattle.serve_links.specs.Prompt.{WaitsForOne}
-use Rattle.serve_links.specs.declared.connection.ConnectionEnd.TheVariants.{Over, NoMemory}
-use Rattle.serve_links.specs.declared.halt.Halt.TheVariants as halt
-use Rattle.wire_form.specs.declared.message.WriteStop.TheVariants as write
 
 -- BYTES
--- a front of the bytes was taken, and what is behind it is left
-pub takes : Takes (hello_bytes ++ bye_bytes) hello_bytes (Some bye_bytes)
-takes = (bye_bytes, refl, refl)
-
-pub takes_no_others : Takes [] bye_bytes (Some []) → ⊥
-takes_no_others (rest, all, left) = let e : [] ≡ 0 ∷ 0 ∷ 0 ∷ 3 ∷ 4 ∷ 0 ∷ 1 ∷ rest = all in cc (e)
-
 -- what is read as a request is so whatever stands behind it
 pub read_as : IsReadAs bye_bytes (Bye 1) → messages request_of (bye_bytes ++ hello_bytes) ≡ Then (Bye 1) (messages request_of hello_bytes)
 read_as reads = reads hello_bytes
@@ -50,7 +41,7 @@ comes_next = (0 ∷ 0 ∷ 0 ∷ 1 ∷ 9 ∷ [], (bye_bytes, refl, refl), (BadMes
 -- Where the link failed no message stood whole in what was taken; where memory was wanting any front may have been.
 pub heard_next : HearsNext (0 ∷ 0 ∷ 0 ∷ 1 ∷ 9 ∷ bye_bytes) (Some bye_bytes) (Ok heard.Bad)
     × HearsNext (0 ∷ 0 ∷ bye_bytes) (Some bye_bytes) (Err halt.LinkFault) × HearsNext (hello_bytes ++ bye_bytes) (Some bye_bytes) (Err halt.NoMemory)
-heard_next = (comes_next, (0 ∷ 0 ∷ [], (bye_bytes, refl, refl), refl), (hello_bytes, takes))
+heard_next = (comes_next, (0 ∷ 0 ∷ [], (bye_bytes, refl, refl), refl), (hello_bytes, (bye_bytes, refl, refl)))
 
 -- A message is waited for where none can be read of what was taken.
 pub waits : WaitsForOne bye_bytes (Some []) (record { left = Some (4 ∷ 0 ∷ 1 ∷ []); sent = Some [] })
@@ -60,13 +51,6 @@ pub waits_unsent : (taken : Option (List ℕ)) → WaitsForOne bye_bytes (Some (
 waits_unsent taken waits = let e : Some [] ≡ Some (9 ∷ []) = waits.0 in cc (e)
 
 -- COUNTS
-pub causes : (before now : ℕ) → Rose before now → HaltCause {T = Bool} before before (Ok true) × HaltCause {T = Bool} before now (Err halt.LinkFault)
-    × HaltCause {T = Bool} before before (Err halt.NoMemory)
-causes before now rose = (refl, rose, refl)
-
-pub stops : (halt_of write.LinkFault ≡ halt.LinkFault) × (halt_of write.NoMemory ≡ halt.NoMemory)
-stops = (refl, refl)
-
 -- the 1,000,000th message goes on, and none behind it
 pub last_counted : CountsMessage 999999 1000000 (Ok true)
 last_counted = (refl, lit< tt)
@@ -116,7 +100,7 @@ module _ (hash : Hash) {A G : Type 0} (old new : ServeCore A G) (server : Server
       → IsBrokenOff hash (program_served old) (own_digest old) (turns_of old) server (hello_bytes ++ bye_bytes) heard out
       → Serves hash new (server_after hash (program_served old) (own_digest old) (turns_of old) server heard)
       → BreaksOff hash old new server sent sent' (hello_bytes ++ bye_bytes) (Some bye_bytes)
-  broke_off heard out sends cut broken serves = record { heard = heard; taken = hello_bytes; out = out; takes = takes; sends = sends; cut = cut; broken = broken; serves = serves }
+  broke_off heard out sends cut broken serves = record { heard = heard; taken = hello_bytes; out = out; takes = (bye_bytes, refl, refl); sends = sends; cut = cut; broken = broken; serves = serves }
 
   -- what a message comes to, by its answer
   pub went_on : (bytes : List ℕ) (left : Option (List ℕ)) → GoesOn hash old new server sent sent' bytes left → ServesMessage hash old new server sent sent' bytes left (Ok true)

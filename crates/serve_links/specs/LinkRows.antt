@@ -8,19 +8,17 @@ use Rattle.session_meaning.specs.Connections.{bytes_sent}
 use Rattle.session_meaning.specs.Messages.{Request, Hello, Bye}
 use Rattle.session_meaning.specs.MessageRows.{hello_bytes, text_digest}
 use Rattle.session_meaning.specs.Server.{Server, Heard, Hears, HearsBad, HearsEnd, last_turn, new_server}
-use Rattle.serve_links.specs.Connections.{IsSentPart, but_last}
-use Rattle.serve_links.specs.Messages.{CountsMessage, HaltCause, asks}
+use Rattle.link_ends.specs.MoreLinks.{but_last}
+use Rattle.link_ends.specs.declared.end.ConnectionEnd.TheVariants as connection
+use Rattle.link_ends.specs.declared.halt.Halt.TheVariants as halt
+use Rattle.link_ends.specs.declared.end.ServingEnd.TheVariants.{Served, NoMemory}
+use Rattle.serve_links.specs.Connections.{IsSentPart}
+use Rattle.serve_links.specs.Messages.{CountsMessage, asks}
 use Rattle.serve_links.specs.Prompt.{IsPrompt}
-use Rattle.serve_links.specs.ServedLinks.{AreServed, LinkCause, ServingCause, is_fault}
-use Rattle.serve_links.specs.declared.connection.ConnectionEnd.TheVariants as connection
-use Rattle.serve_links.specs.declared.halt.Halt.TheVariants as halt
-use Rattle.serve_links.specs.declared.net.ServingEnd.TheVariants.{Served, NoMemory}
+use Rattle.serve_links.specs.ServedLinks.{AreServed}
 
 pub asking : (r : Request) → map asks (Hears r ∷ HearsBad ∷ HearsEnd ∷ []) ≡ true ∷ false ∷ false ∷ []
 asking r = refl
-
-pub faults : map is_fault (connection.Over ∷ connection.LinkFault ∷ connection.NoMemory ∷ []) ≡ false ∷ true ∷ false ∷ []
-faults = refl
 
 pub all_but_last : (but_last {A = ℕ} [] ≡ []) × (but_last {A = ℕ} (1 ∷ []) ≡ []) × (but_last {A = ℕ} (1 ∷ 2 ∷ 3 ∷ []) ≡ 1 ∷ 2 ∷ [])
 all_but_last = (refl, refl, refl)
@@ -34,16 +32,6 @@ not_none_sent (suc n, least, most, is) = cc (is)
 pub none_served : (server : Server) → AreServed toy unit_program text_digest (last_turn 1) server [] false server
     × (AreServed toy unit_program text_digest (last_turn 1) server [] true server → ⊥)
 none_served server = ((refl, refl), (λ s. let clash : true ≡ false = s.0 in cc))
-
--- causes
-pub link_causes : (before now : ℕ) → (LinkCause before now (Ok true) → Rose before now) × (LinkCause before now (Ok false) → now ≡ before) × (LinkCause before now (Err halt.LinkFault) → now ≡ before)
-link_causes before now = ((λ c. c), (λ c. c), (λ c. c))
-
-pub serving_causes : (f f' a a' : ℕ) → (ServingCause f f' a a' (Served false) → (f' ≡ f) × (a' ≡ a)) × (ServingCause f f' a a' NoMemory → a' ≡ a)
-serving_causes f f' a a' = ((λ c. c), (λ c. c))
-
-pub halt_causes : (before now : ℕ) → (HaltCause {T = Bool} before now (Err halt.LinkFault) → Rose before now) × (HaltCause {T = Bool} before now (Err halt.NoMemory) → now ≡ before)
-halt_causes before now = ((λ c. c), (λ c. c))
 
 pub counted : (before now : ℕ) → CountsMessage before now (Ok true) → now ≡ before + 1
 counted before now c = c.0

@@ -2,33 +2,27 @@
 use Rattle.std.specs.Prelude.{◌≡◌, ◌⊎◌, ℕ, ◌+◌, ◌<◌, ◌≤◌, Bool, true, false, List, [], ◌∷◌, ◌++◌, length, take, Option, Some, Result, Ok, Err, ⊤}
 use Rattle.std.specs.Io.KnownBytes.{append_known}
 use Rattle.core_terms.specs.Formats.{Hash}
-use Rattle.lam_outside.specs.Causes.{Rose}
 use Rattle.session_meaning.specs.Connections.{heard_stop}
 use Rattle.session_meaning.specs.Messages.{Request, Stop, NoMore, Then, request_of, messages}
 use Rattle.session_meaning.specs.Server as meant
 use Rattle.session_meaning.specs.Server.{Server, server_after, messages_limit}
 use Rattle.session_meaning.specs.Stopped.{IsStopped}
-use Rattle.wire_form.specs.declared.message.WriteStop.{WriteStop}
-use Rattle.wire_form.specs.declared.message.WriteStop.TheVariants as write
 use Rattle.serve_core.specs.Serving.{Serves, heard_meant}
 use Rattle.serve_core.specs.declared.server.ServeCore.{ServeCore}
 use Rattle.serve_core.specs.declared.heard.Heard.{Heard}
+use Rattle.link_ends.specs.MoreLinks.{Takes}
+use Rattle.link_ends.specs.declared.end.ConnectionEnd.{ConnectionEnd}
+use Rattle.link_ends.specs.declared.end.ConnectionEnd.TheVariants.{Over, NoMemory}
+use Rattle.link_ends.specs.declared.halt.Halt.{Halt}
+use Rattle.link_ends.specs.declared.halt.Halt.TheVariants as halt
 use Rattle.serve_links.specs.Connections.{IsBrokenOff, IsCutAt, IsServed, bytes_of, heard_in}
 use Rattle.serve_links.specs.Histories.{HasServed, own_digest, program_served, step_of, turns_of}
-use Rattle.serve_links.specs.declared.connection.ConnectionEnd.{ConnectionEnd}
-use Rattle.serve_links.specs.declared.connection.ConnectionEnd.TheVariants.{Over, NoMemory}
-use Rattle.serve_links.specs.declared.halt.Halt.{Halt}
-use Rattle.serve_links.specs.declared.halt.Halt.TheVariants as halt
 
 -- it is a request
 abbrev pub asks : meant.Heard → Bool
 asks (meant.Hears request) = true
 asks meant.HearsBad = false
 asks meant.HearsEnd = false
-
--- of the bytes that come these were taken, and those behind them are left
-abbrev pub Takes : (bytes taken : List ℕ) (left' : Option (List ℕ)) → Type 0
-Takes bytes taken left' = (rest : List ℕ) × (bytes ≡ taken ++ rest) × (left' ≡ Some rest)
 
 -- the bytes are a message, which is read as this request, whatever stands behind it
 abbrev pub IsReadAs : List ℕ → Request → Type 0
@@ -49,17 +43,6 @@ abbrev pub HearsNext : List ℕ → Option (List ℕ) → Result Heard Halt → 
 HearsNext bytes left' (Ok heard) = ComesNext bytes left' (heard_meant heard)
 HearsNext bytes left' (Err halt.LinkFault) = (taken : List ℕ) × Takes bytes taken left' × (heard_in taken ≡ meant.HearsEnd ∷ [])
 HearsNext bytes left' (Err halt.NoMemory) = (taken : List ℕ) × Takes bytes taken left'
-
--- the count of the link's faults rose at a link fault, and nowhere else
-abbrev pub HaltCause : {T : Type 0} → ℕ → ℕ → Result T Halt → Type 0
-HaltCause before now (Ok done) = now ≡ before
-HaltCause before now (Err halt.LinkFault) = Rose before now
-HaltCause before now (Err halt.NoMemory) = now ≡ before
-
--- why a reply was not written whole, as why a connection breaks off
-abbrev pub halt_of : WriteStop → Halt
-halt_of write.LinkFault = halt.LinkFault
-halt_of write.NoMemory = halt.NoMemory
 
 -- The core goes on as a server with a history, unless memory was wanting: then it is a server still.
 abbrev pub StaysServing : {A G T : Type 0} → Hash → ServeCore A G → Result T Halt → Type 0

@@ -6,8 +6,8 @@ use Rattle.core_terms.specs.Terms.{Program}
 use Rattle.lam_outside.specs.Moments.{Moment}
 use Rattle.session_meaning.specs.Connections.{bytes_sent}
 use Rattle.session_meaning.specs.Server.{Server, HearsEnd}
+use Rattle.link_ends.specs.MoreLinks.{Takes}
 use Rattle.serve_links.specs.Connections.{heard_in}
-use Rattle.serve_links.specs.Messages.{Takes}
 
 -- A message is waited for: of those that were taken of these bytes none can be read yet, and no more had been sent than this.
 abbrev pub WaitsForOne : List ℕ → Option (List ℕ) → Moment → Type 0

@@ -8,25 +8,17 @@ use Rattle.lam_outside.specs.Links.{Linked}
 use Rattle.session_meaning.specs.Server.{Server}
 use Rattle.serve_core.specs.Serving.{Serves}
 use Rattle.serve_core.specs.declared.server.ServeCore.{ServeCore}
+use Rattle.link_ends.specs.Ends.{is_fault}
+use Rattle.link_ends.specs.MoreLinks.{AreMore, bytes_on}
+use Rattle.link_ends.specs.declared.end.ConnectionEnd.{ConnectionEnd}
+use Rattle.link_ends.specs.declared.end.ConnectionEnd.TheVariants as connection
+use Rattle.link_ends.specs.declared.halt.Halt.{Halt}
+use Rattle.link_ends.specs.declared.halt.Halt.TheVariants as halt
+use Rattle.link_ends.specs.declared.end.ServingEnd.{ServingEnd}
+use Rattle.link_ends.specs.declared.end.ServingEnd.TheVariants.{Served, NoMemory}
 use Rattle.serve_links.specs.Connections.{IsServed}
 use Rattle.serve_links.specs.Histories.{HasServed, own_digest, program_served, turns_of}
 use Rattle.serve_links.specs.Prompt.{IsPrompt}
-use Rattle.serve_links.specs.declared.connection.ConnectionEnd.{ConnectionEnd}
-use Rattle.serve_links.specs.declared.connection.ConnectionEnd.TheVariants as connection
-use Rattle.serve_links.specs.declared.halt.Halt.{Halt}
-use Rattle.serve_links.specs.declared.halt.Halt.TheVariants as halt
-use Rattle.serve_links.specs.declared.net.ServingEnd.{ServingEnd}
-use Rattle.serve_links.specs.declared.net.ServingEnd.TheVariants.{Served, NoMemory}
-
--- the bytes that come on a link: those that were read from it, and those that are left
-abbrev pub bytes_on : Linked → List ℕ
-bytes_on link = link.given ++ link.left
-
--- it ended in a link fault
-abbrev pub is_fault : ConnectionEnd → Bool
-is_fault connection.Over = false
-is_fault connection.LinkFault = true
-is_fault connection.NoMemory = false
 
 module _ (hash : Hash) (P : Program) (own : List ℕ) (ending : ℕ → ℕ) where
   -- This link was served, and ended so; and at each read all that is replied to the messages of the bytes that were taken by then had been sent, and
@@ -58,13 +50,6 @@ module _ (hash : Hash) (P : Program) (own : List ℕ) (ending : ℕ → ℕ) whe
     pub next : Server
     pub served : AreServed server before faulted next
     pub broken : IsServedOn next last connection.NoMemory behind
-
--- Where the links are told, there are some more, all to this port.
-pub record AreMore (port : ℕ) (links : Option (List Linked)) (after : List Linked) (more : List Linked) : Type 0 where
-  pub before : List Linked
-  pub told : links ≡ Some before
-  pub all : after ≡ before ++ more
-  pub at_port : AllByRecursion (λ (link : Linked). link.port ≡ port) more
 
 -- A core served a server, on a net that listens to a port.
 module _ (hash : Hash) {A G : Type 0} (old new : ServeCore A G) (server : Server) (port : ℕ) where
@@ -128,16 +113,3 @@ module _ (hash : Hash) {A G : Type 0} (old new : ServeCore A G) (server : Server
 abbrev pub StaysOn : Hash → {A G : Type 0} → ServeCore A G → ServingEnd → Type 0
 StaysOn hash core (Served link_fault) = HasServed hash core
 StaysOn hash core NoMemory = (server : Server) × Serves hash core server
-
--- The count of the links' faults rose exactly where a connection ended in a link fault; memory may be wanting behind a fault too.
-abbrev pub LinkCause : (before now : ℕ) → Result Bool Halt → Type 0
-LinkCause before now (Ok true) = Rose before now
-LinkCause before now (Ok false) = now ≡ before
-LinkCause before now (Err halt.LinkFault) = now ≡ before
-LinkCause before now (Err halt.NoMemory) = (now ≡ before) ⊎ Rose before now
-
--- A fault is told exactly where the count of the links' faults rose, or that of `accept`. Where memory was wanting, no accept failed.
-abbrev pub ServingCause : (faults faults' accepts accepts' : ℕ) → ServingEnd → Type 0
-ServingCause faults faults' accepts accepts' (Served true) = Rose faults faults' ⊎ Rose accepts accepts'
-ServingCause faults faults' accepts accepts' (Served false) = (faults' ≡ faults) × (accepts' ≡ accepts)
-ServingCause faults faults' accepts accepts' NoMemory = accepts' ≡ accepts

@@ -13,15 +13,16 @@ use Rattle.session_meaning.specs.MessageRows.{bye_bytes, hello_bytes, text_diges
 use Rattle.session_meaning.specs.Server.{Server, Heard, Hears, HearsBad, HearsEnd, last_turn, new_server, server_after}
 use Rattle.serve_core.specs.Serving.{Serves}
 use Rattle.serve_core.specs.declared.server.ServeCore.{ServeCore}
+use Rattle.link_ends.specs.MoreLinks.{AreMore}
+use Rattle.link_ends.specs.declared.end.ConnectionEnd.{ConnectionEnd}
+use Rattle.link_ends.specs.declared.end.ConnectionEnd.TheVariants.{Over, LinkFault, NoMemory}
+use Rattle.link_ends.specs.declared.halt.Halt.TheVariants as halt
+use Rattle.link_ends.specs.declared.end.ServingEnd.TheVariants as serving_end
 use Rattle.serve_links.specs.Connections.{GoOn, IsBrokenOff, IsCutAt, IsSentPart, IsServed, IsWithoutMemory, LeavesNoMemory}
-use Rattle.serve_links.specs.Ends.{EndCause, IsBroken, StaysServer}
+use Rattle.serve_links.specs.Ends.{IsBroken, StaysServer}
 use Rattle.serve_links.specs.Histories.{HasServed, own_digest, program_served, turns_of}
 use Rattle.serve_links.specs.LinkLaws.{KeepsHistory}
-use Rattle.serve_links.specs.ServedLinks.{AreCounted, AreMore, AreMoreInPart, AreMoreServed, AreServed, AreServedInPart, IsLinkServed, IsOneServed, IsOneWhole, IsServedOn, LinkCause, ServesLinks, ServesNext, ServingCause, StaysOn}
-use Rattle.serve_links.specs.declared.connection.ConnectionEnd.{ConnectionEnd}
-use Rattle.serve_links.specs.declared.connection.ConnectionEnd.TheVariants.{Over, LinkFault, NoMemory}
-use Rattle.serve_links.specs.declared.halt.Halt.TheVariants as halt
-use Rattle.serve_links.specs.declared.net.ServingEnd.TheVariants as serving_end
+use Rattle.serve_links.specs.ServedLinks.{AreCounted, AreMoreInPart, AreMoreServed, AreServed, AreServedInPart, IsLinkServed, IsOneServed, IsOneWhole, IsServedOn, ServesLinks, ServesNext, StaysOn}
 
 -- The server before the first connection, and behind any that went so far: it has no sessions then. A greeting that it welcomes, and its reply; and
 -- a leave, and the reply to that.
@@ -200,12 +201,9 @@ pub history_is_kept : KeepsHistory bool_program serving
 history_is_kept = history
 
 -- LINKS OF A NET
--- More links are told where those before them were, all to the port.
+-- the links so far are one that failed and one that was served
 pub more_links : AreMore 4711 (Some (failed ∷ [])) (failed ∷ link ∷ []) (link ∷ [])
 more_links = record { before = failed ∷ []; told = refl; all = refl; at_port = (refl, tt) }
-
-pub none_more_untold : AreMore 4711 None (link ∷ []) (link ∷ []) → ⊥
-none_more_untold more = let told : None ≡ Some more.before = more.told in cc (told)
 
 -- A core that served a link, or links, and stands behind them.
 module _ (hash : Hash) {A G : Type 0} (old new : ServeCore A G) (server behind : Server) (serves : Serves hash new behind) where
@@ -266,17 +264,6 @@ module _ (hash : Hash) {A G : Type 0} (old new : ServeCore A G) (server : Server
       → ServesLinks hash old new server 4711 links links' 9 0 0 serving_end.NoMemory
   links_lack are = are
 
--- CAUSES
--- the count of the link's faults rose at a link fault, and may have risen where memory was wanting
-pub end_causes : (before now : ℕ) → Rose before now → EndCause before before Over × EndCause before now LinkFault × EndCause before before NoMemory × EndCause before now NoMemory
-end_causes before now rose = (refl, rose, inl refl, inr rose)
-
+-- a connection that broke off
 pub breaks_off : IsBroken LinkFault × IsBroken NoMemory × (IsBroken Over → ⊥)
 breaks_off = (tt, tt, (λ b. b))
-
-pub lack_causes : (before now : ℕ) → Rose before now → LinkCause before before (Err halt.NoMemory) × LinkCause before now (Err halt.NoMemory)
-lack_causes before now rose = (inl refl, inr rose)
-
--- a fault that is told is of a link or of an accept
-pub fault_causes : (before now : ℕ) → Rose before now → ServingCause before now 0 0 (serving_end.Served true) × ServingCause 0 0 before now (serving_end.Served true)
-fault_causes before now rose = (inl rose, inr rose)

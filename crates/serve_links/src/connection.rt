@@ -3,32 +3,22 @@ ghost use Rattle.std.specs.Prelude.{◌≡◌};
 ghost use Rattle.std.specs.Option.{ForSome};
 ghost use Rattle.session_meaning.specs.Server.{HearsEnd, Server};
 ghost use Rattle.serve_core.specs.Serving.{Serves};
-ghost use Rattle.serve_links.specs.Ends.{EndCause, IsBroken, StaysServer};
+ghost use Rattle.link_ends.specs.Ends.{EndCause};
+ghost use Rattle.serve_links.specs.Ends.{IsBroken, StaysServer};
 ghost use Rattle.serve_links.specs.Histories.{HasSameCode, HasServed, own_digest, program_served, step_of, turns_of};
 ghost use Rattle.serve_links.specs.Messages.{Ends};
 ghost use Rattle.serve_links.specs.Prompt.{IsPrompt};
 ghost use Rattle.wire_form.specs.MovedBytes.{Moves};
 ghost use Rattle.lam_outside.specs.Moments.{AtEachRead};
 
-use crate::halt::Halt;
 use crate::message::serve_message;
 use core_terms::Hash32;
 use lam_outside::Link;
+use link_ends::{ConnectionEnd, Halt};
 use serve_core::{Heard, ServeCore};
 use session_turns::Gate;
 use std::alloc::Global;
 use std::thread::Threads;
-
-/// How a connection ended.
-#[derive(Clone, Copy)]
-pub enum ConnectionEnd {
-    /// The server closed it, or the input ended.
-    Over,
-    /// The link failed, and its count of faults rose.
-    LinkFault,
-    /// Memory was wanting.
-    NoMemory,
-}
 
 /// Serves a link until the server closes the connection or the input ends. The server closes it at the latest behind 1,000,000
 /// messages, so it ends whatever comes.

@@ -5,11 +5,11 @@
 #![tactic(auto)]
 
 mod connection;
-mod halt;
 pub mod laws;
 mod message;
 mod net;
 mod sending;
 
-pub use connection::{ConnectionEnd, serve_link};
-pub use net::{ServingEnd, serve_links};
+pub use connection::serve_link;
+pub use link_ends::{ConnectionEnd, ServingEnd};
+pub use net::serve_links;

@@ -3,31 +3,21 @@ ghost use Rattle.std.specs.Prelude.{◌≡◌, ◌<◌, length};
 ghost use Rattle.std.specs.Option.{ForSome};
 ghost use Rattle.session_meaning.specs.Server.{Server};
 ghost use Rattle.lam_outside.specs.Links.{links_so_far};
+ghost use Rattle.link_ends.specs.Ends.{LinkCause, ServingCause};
+ghost use Rattle.link_ends.specs.Halts.{HaltCause};
 ghost use Rattle.serve_core.specs.Serving.{Serves};
 ghost use Rattle.serve_links.specs.Histories.{HasSameCode, HasServed};
-ghost use Rattle.serve_links.specs.Messages.{HaltCause, StaysServing};
-ghost use Rattle.serve_links.specs.ServedLinks.{LinkCause, ServesLinks, ServesNext, ServingCause, StaysOn};
+ghost use Rattle.serve_links.specs.Messages.{StaysServing};
+ghost use Rattle.serve_links.specs.ServedLinks.{ServesLinks, ServesNext, StaysOn};
 
-use crate::connection::{ConnectionEnd, serve_link};
-use crate::halt::Halt;
+use crate::connection::serve_link;
 use core_terms::Hash32;
 use lam_outside::Net;
+use link_ends::{ConnectionEnd, Halt, ServingEnd};
 use serve_core::ServeCore;
 use session_turns::Gate;
 use std::alloc::Global;
 use std::thread::Threads;
-
-/// How the serving of a net ended.
-#[derive(Clone, Copy)]
-pub enum ServingEnd {
-    /// All links were served that were to be, or an accept failed.
-    Served {
-        /// Whether a link failed, or an accept.
-        link_fault: bool,
-    },
-    /// Memory was wanting.
-    NoMemory,
-}
 
 /// Accepts so many links, one after another, and serves each until its connection ends.
 ///

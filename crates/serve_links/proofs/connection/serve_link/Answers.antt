@@ -1,8 +1,9 @@
 use Rattle.std.proofs.Common.{Ok, Err, ap, ◌∙◌, true, false, refl}
-use Rattle.serve_links.specs.declared.connection.ConnectionEnd.TheVariants.{Over, NoMemory}
-use Rattle.serve_links.specs.declared.halt.Halt.TheVariants as halt
 use Rattle.wire_form.proofs.Moving.{moves_on}
-use Rattle.serve_links.proofs.SoFar.{at_first, breaks_now, code_more, ends_now, none_moved, one_more, served_at, stays_at_end, stays_halted_fault, waits_more}
+use Rattle.link_ends.specs.declared.end.ConnectionEnd.TheVariants.{Over, NoMemory}
+use Rattle.link_ends.specs.declared.halt.Halt.TheVariants as halt
+use Rattle.link_ends.proofs.Taken.{none_moved}
+use Rattle.serve_links.proofs.SoFar.{at_first, breaks_now, code_more, ends_now, one_more, served_at, stays_at_end, stays_halted_fault, waits_more}
 use Rattle.lam_outside.proofs.Waiting.{none_read}
 use Rattle.serve_links.proofs.connection.serve_link.Goals as goal
 

@@ -1,7 +1,8 @@
 use Rattle.std.proofs.Common.{◌≡◌, ◌||◌, ap, sym, subst, ◌∙◌, Err, Bool}
 use Rattle.lam_outside.specs.Links.{links_so_far}
-use Rattle.serve_links.specs.declared.halt.Halt.TheVariants as halt
-use Rattle.serve_links.proofs.Linking.{IsFaultTold, fault_told, link_in_part, link_more, next_at, no_more, or_none, or_one, rose_at}
+use Rattle.link_ends.specs.declared.halt.Halt.TheVariants as halt
+use Rattle.link_ends.proofs.FaultsTold.{IsFaultTold, fault_told, or_none, or_one, rose_at}
+use Rattle.serve_links.proofs.Linking.{link_in_part, link_more, next_at, no_more}
 use Rattle.serve_links.proofs.SoFar.{code_more}
 use Rattle.serve_links.proofs.net.serve_links.Goals as goal
 use Rattle.serve_links.proofs.net.serve_links.Goals.{then-faulted, else-faulted}
@@ -33,7 +34,7 @@ returns-in-Err-LinkFault-clause-served g c = λ port listening server serves aft
     (ap Err c.in-Err-LinkFault.field-0-is) (c.in-Err-LinkFault.ensures.served port (loop.listened ∙ listening) loop.history.server loop.history.serves) in
     no_more g.H.Hash32.hash c.args.core.now c.loop.core c.serve_next.new.core server port told_old after c.loop.link_fault c.loop.counter c.args.connections
     (g.N.Net.accept_faults old) (g.N.Net.accept_faults now) (g.N.Net.accept_faults new) same.1 c.loop-test.true loop.accepts
-    (rose_at (g.N.Net.accept_faults now) (g.N.Net.accept_faults new) c.in-Err-LinkFault.field-0 c.in-Err-LinkFault.field-0-is c.in-Err-LinkFault.ensures.accepts)
+    (rose_at Bool (g.N.Net.accept_faults now) (g.N.Net.accept_faults new) c.in-Err-LinkFault.field-0 c.in-Err-LinkFault.field-0-is c.in-Err-LinkFault.ensures.accepts)
     (loop.served port listening server serves after (sym same.0 ∙ is))
 
 pub loop-preserved : goal.loop-preserved

@@ -3,9 +3,9 @@ use Rattle.std.specs.Option.{ForSome}
 use Rattle.lam_outside.specs.Links.{Linked, links_so_far}
 use Rattle.session_meaning.specs.Server.{Server}
 use Rattle.serve_core.specs.Serving.{Serves}
+use Rattle.link_ends.proofs.FaultsTold.{IsFaultTold}
 use Rattle.serve_links.specs.Histories.{HasSameCode, HasServed}
 use Rattle.serve_links.specs.ServedLinks.{AreMoreServed}
-use Rattle.serve_links.proofs.Linking.{IsFaultTold}
 use Rattle.serve_links.proofs.net.serve_links.Given as goal
 
 abbrev pub invariant-loop : goal.invariant-loop

@@ -1,6 +1,6 @@
 use Rattle.std.proofs.Common.{rules, ◌≡◌, refl}
 use Rattle.lam_outside.specs.Links.{links_so_far}
-use Rattle.serve_links.specs.declared.connection.ConnectionEnd.TheVariants.{Over, LinkFault, NoMemory}
+use Rattle.link_ends.specs.declared.end.ConnectionEnd.TheVariants.{Over, LinkFault, NoMemory}
 use Rattle.serve_links.proofs.Linking.{one_served}
 use Rattle.serve_links.proofs.net.serve_next.Goals as goal
 

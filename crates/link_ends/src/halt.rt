@@ -1,6 +1,6 @@
 // Why serving breaks off.
 ghost use Rattle.std.specs.Prelude.{◌≡◌};
-ghost use Rattle.serve_links.specs.declared.halt.Halt.TheVariants.{LinkFault, NoMemory};
+ghost use Rattle.link_ends.specs.declared.halt.Halt.TheVariants.{LinkFault, NoMemory};
 
 use lam_outside::Failed;
 use std::alloc::AllocError;
@@ -32,7 +32,7 @@ impl From<AllocError> for Halt {
 }
 
 impl From<WriteStop> for Halt {
-    ghost use Rattle.serve_links.specs.Messages.{halt_of};
+    ghost use Rattle.link_ends.specs.Halts.{halt_of};
 
     ghost from_gives = { λ stop halt. halt ≡ halt_of stop };
 

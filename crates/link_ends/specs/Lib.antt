@@ -1,0 +1,4 @@
+pub mod Halts
+pub mod Ends
+pub mod MoreLinks
+pub mod Rows

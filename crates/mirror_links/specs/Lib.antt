@@ -1,0 +1,5 @@
+pub mod Answered
+pub mod Prompt
+pub mod AnsweredLinks
+pub mod Rows
+pub mod Steps
