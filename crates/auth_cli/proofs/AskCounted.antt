@@ -12,14 +12,14 @@ use Rattle.auth_cli.specs.OnlineRuns.{CountsBy, NetSeen}
 use Rattle.file_commands.specs.Statuses.{MayAnswer}
 use Rattle.file_commands.specs.declared.status.Status.{Status}
 use Rattle.file_commands.specs.declared.status.Status.TheVariants as status
-use Rattle.auth_cli.proofs.ServeCounted.{unserved_by}
+use Rattle.auth_cli.proofs.OnlineRuns.{unlinked_by}
 
 -- a run that doesn't come to dial
 pub unasked_counted : (answer : Contents → Option Answer) (old new : Outside) (net : NetFaults) (ended : Status) → EndsAs answer old new ended → AskCounts old new net net ended
-unasked_counted answer old new net ended ends = record { by_status = unserved_by answer old new net ended ends; listens = refl; accepts = refl }
+unasked_counted answer old new net ended ends = record { by_status = unlinked_by answer old new net ended ends; listens = refl; accepts = refl }
 
 module _ (old new : Outside) (net net' : NetSeen) where
-  undialled_by : (ended : Status) → FailsToDial old new net net' ended → CountsBy old new net.faults net'.faults ended
+  pub undialled_by : (ended : Status) → FailsToDial old new net net' ended → CountsBy old new net.faults net'.faults ended
   undialled_by ended fails = elim fails.told [
     | inl told ↦ subst (λ s. CountsBy old new net.faults net'.faults s) (sym told.0) (inr (inr (inr (inr fails.rose))), fails.store_faults, told.2)
     | inr told ↦ subst (λ s. CountsBy old new net.faults net'.faults s) (sym told.0) (inl told.2)

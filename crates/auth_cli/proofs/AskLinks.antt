@@ -15,7 +15,6 @@ use Rattle.script_play.specs.Playing.{PlayCause, PlaysAs, World, first_sent, wor
 use Rattle.script_play.specs.Plays.{Play}
 use Rattle.script_play.specs.Prompt.{IsPromptOn}
 use Rattle.script_play.specs.declared.halt.Halt.TheVariants as halt
-use Rattle.serve_links.proofs.Linking.{all_stood, from_nothing, nothing_sent, told}
 use Rattle.session_meaning.specs.Client.{Client}
 use Rattle.session_meaning.specs.Messages.{Messages, Reply, messages, reply_of}
 use Rattle.wire_form.specs.MovedBytes.{Moves}
@@ -26,7 +25,8 @@ use Rattle.file_commands.specs.Telling.{TellsText}
 use Rattle.file_commands.specs.declared.status.Status.{Status}
 use Rattle.file_commands.specs.declared.status.Status.TheVariants.{ReadFault}
 use Rattle.lam_outside.proofs.Moved.{append_twice}
-use Rattle.auth_cli.proofs.ServeGone.{counts_as, same_faults}
+use Rattle.auth_cli.proofs.OnlineRuns.{counts_as, same_faults}
+use Rattle.link_ends.proofs.StandingLink.{all_stood, from_nothing, nothing_sent, told}
 
 module _ (P : Program) (names : ConstructorNames) (left' : Option (List ℕ)) (w w' : World) (p : Play) where
   -- whatever client is left

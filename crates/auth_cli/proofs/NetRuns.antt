@@ -3,11 +3,13 @@ use Rattle.std.proofs.Common.{◌≡◌, ◌≢◌, ◌⊎◌, ◌↔◌, ◌<�
 use Rattle.std.specs.Option.{ForSome}
 use Rattle.command_words.specs.Invocations.{Invocation, invocation_of}
 use Rattle.command_words.specs.declared.command.Command.{Command}
-use Rattle.command_words.specs.declared.command.Command.TheVariants.{Check, Init, Ideal, Step, Shallow, Prove, Verify, Audit, Library, Gen, Serve, Ask, Pieces, Fetch}
+use Rattle.command_words.specs.declared.command.Command.TheVariants.{Check, Init, Ideal, Step, Shallow, Prove, Verify, Audit, Library, Gen, Serve, Ask, Pieces, Fetch, Mirror, Draw}
 use Rattle.lam_outside.specs.Causes.{Rose}
 use Rattle.lam_outside.specs.Told.{Contents, Names}
 use Rattle.file_commands.specs.Answer.{Answer, answer, answer_with, called_answer, usage_answer}
 use Rattle.auth_cli.specs.Asking.{IsAsk}
+use Rattle.auth_cli.specs.Drawing.{IsDraw}
+use Rattle.auth_cli.specs.Mirroring.{IsMirror}
 use Rattle.file_commands.specs.Codes.{code}
 use Rattle.file_commands.specs.Ending.{EndsAs, Outside}
 use Rattle.auth_cli.specs.NetFaults.{NetFaults, NetRose}
@@ -20,27 +22,30 @@ use Rattle.file_commands.specs.TrueLines.{IsTrueLine}
 use Rattle.file_commands.specs.declared.status.Status.{Status}
 use Rattle.file_commands.specs.declared.status.Status.TheVariants as status
 use Rattle.auth_cli.proofs.Answered.{fault_rose, fault_told, no_rise, none_rose, write_told}
+use Rattle.auth_cli.proofs.OnlineRuns.{unlinked_by}
 use Rattle.auth_cli.proofs.TrueFetch.{true_fetch}
 use Rattle.auth_cli.proofs.TrueLine.{true_line}
 
 -- ---- commands
 
--- all commands but `serve` and `ask`
-pub not_online : (command : Command) → command ≢ Serve → command ≢ Ask → UsesNoNet command
-not_online Check no_serve no_ask = tt
-not_online Init no_serve no_ask = tt
-not_online Ideal no_serve no_ask = tt
-not_online Step no_serve no_ask = tt
-not_online Shallow no_serve no_ask = tt
-not_online Prove no_serve no_ask = tt
-not_online Verify no_serve no_ask = tt
-not_online Audit no_serve no_ask = tt
-not_online Library no_serve no_ask = tt
-not_online Gen no_serve no_ask = tt
-not_online Pieces no_serve no_ask = tt
-not_online Fetch no_serve no_ask = tt
-not_online Serve no_serve no_ask = absurd (no_serve refl)
-not_online Ask no_serve no_ask = absurd (no_ask refl)
+-- all commands but `serve`, `ask`, `mirror` and `draw`
+pub not_online : (command : Command) → command ≢ Serve → command ≢ Ask → command ≢ Mirror → command ≢ Draw → UsesNoNet command
+not_online Check no_serve no_ask no_mirror no_draw = tt
+not_online Init no_serve no_ask no_mirror no_draw = tt
+not_online Ideal no_serve no_ask no_mirror no_draw = tt
+not_online Step no_serve no_ask no_mirror no_draw = tt
+not_online Shallow no_serve no_ask no_mirror no_draw = tt
+not_online Prove no_serve no_ask no_mirror no_draw = tt
+not_online Verify no_serve no_ask no_mirror no_draw = tt
+not_online Audit no_serve no_ask no_mirror no_draw = tt
+not_online Library no_serve no_ask no_mirror no_draw = tt
+not_online Gen no_serve no_ask no_mirror no_draw = tt
+not_online Pieces no_serve no_ask no_mirror no_draw = tt
+not_online Fetch no_serve no_ask no_mirror no_draw = tt
+not_online Serve no_serve no_ask no_mirror no_draw = absurd (no_serve refl)
+not_online Ask no_serve no_ask no_mirror no_draw = absurd (no_ask refl)
+not_online Mirror no_serve no_ask no_mirror no_draw = absurd (no_mirror refl)
+not_online Draw no_serve no_ask no_mirror no_draw = absurd (no_draw refl)
 
 module _ (texts : List (List ℕ)) (old new : Outside) (net net' : NetSeen) (ended : Status) where
   -- such a command ends by its answer
@@ -59,6 +64,8 @@ module _ (texts : List (List ℕ)) (old new : Outside) (net net' : NetSeen) (end
   ends_offline Fetch offline ends same = (ends, same)
   ends_offline Serve offline ends same = absurd offline
   ends_offline Ask offline ends same = absurd offline
+  ends_offline Mirror offline ends same = absurd offline
+  ends_offline Draw offline ends same = absurd offline
 
   command_offline : (command : Command) → UsesNoNet command → EndsCommand command texts old new net net' ended → EndsAs (answer_with command texts) old new ended
   command_offline Check offline ends = ends.0
@@ -75,8 +82,10 @@ module _ (texts : List (List ℕ)) (old new : Outside) (net net' : NetSeen) (end
   command_offline Fetch offline ends = ends.0
   command_offline Serve offline ends = absurd offline
   command_offline Ask offline ends = absurd offline
+  command_offline Mirror offline ends = absurd offline
+  command_offline Draw offline ends = absurd offline
 
--- it ended by an answer, with the net's counts as they were; or as `serve` or `ask` does, whose counts tell its status
+-- it ended by an answer, with the net's counts as they were; or as one of a command on the net does, whose counts tell its status
 abbrev IsCounted : (old new : Outside) → (net net' : NetSeen) → Status → Type 0
 IsCounted old new net net' ended =
     ((found : Contents → Option Answer) × EndsAs found old new ended × (net' ≡ net)) ⊎ CountsBy old new net.faults net'.faults ended
@@ -97,6 +106,8 @@ command_counted Pieces texts old new net net' ended ends = inl (answer_with Piec
 command_counted Fetch texts old new net net' ended ends = inl (answer_with Fetch texts, ends.0, ends.1)
 command_counted Serve texts old new net net' ended ends = inr ends.1.by_status
 command_counted Ask texts old new net net' ended ends = inr ends.1.by_status
+command_counted Mirror texts old new net net' ended ends = inr ends.1.by_status
+command_counted Draw texts old new net net' ended ends = inr ends.1.by_status
 
 -- ---- runs
 
@@ -124,12 +135,26 @@ run_serves found called old new net net' ended is serve ends =
     let run = subst (λ (found : Option Invocation). EndsRun found old new net net' ended) is ends in
     (subst (λ (command : Command). EndsCommand command called.texts old new net net' ended) serve run).0
 
--- and one of `ask`
+-- one of `ask`
 pub run_asks : (found : Option Invocation) (called : Invocation) (old new : Outside) (net net' : NetSeen) (ended : Status) → found ≡ Some called → called.command ≡ Ask
     → EndsRun found old new net net' ended → IsAsk called.texts old new net net' ended
 run_asks found called old new net net' ended is ask ends =
     let run = subst (λ (found : Option Invocation). EndsRun found old new net net' ended) is ends in
     (subst (λ (command : Command). EndsCommand command called.texts old new net net' ended) ask run).0
+
+-- one of `mirror`
+pub run_mirrors : (found : Option Invocation) (called : Invocation) (old new : Outside) (net net' : NetSeen) (ended : Status) → found ≡ Some called → called.command ≡ Mirror
+    → EndsRun found old new net net' ended → IsMirror called.texts old new net net' ended
+run_mirrors found called old new net net' ended is mirror ends =
+    let run = subst (λ (found : Option Invocation). EndsRun found old new net net' ended) is ends in
+    (subst (λ (command : Command). EndsCommand command called.texts old new net net' ended) mirror run).0
+
+-- and one of `draw`
+pub run_draws : (found : Option Invocation) (called : Invocation) (old new : Outside) (net net' : NetSeen) (ended : Status) → found ≡ Some called → called.command ≡ Draw
+    → EndsRun found old new net net' ended → IsDraw called.texts old new net net' ended
+run_draws found called old new net net' ended is draw ends =
+    let run = subst (λ (found : Option Invocation). EndsRun found old new net net' ended) is ends in
+    (subst (λ (command : Command). EndsCommand command called.texts old new net net' ended) draw run).0
 
 counted : (found : Option Invocation) (old new : Outside) (net net' : NetSeen) (ended : Status) → EndsRun found old new net net' ended → IsCounted old new net net' ended
 counted None old new net net' ended ends = inl ((λ files. Some usage_answer), ends.0, ends.1)
@@ -147,18 +172,7 @@ run_refused words old new net net' ended is ends same = subst (λ (found : Optio
 -- the counts of a run that ended by an answer
 ends_counted : (found : Contents → Option Answer) (old new : Outside) (net net' : NetSeen) (ended : Status) → EndsAs found old new ended → net' ≡ net
     → CountsBy old new net.faults net'.faults ended
-ends_counted found old new net net' status.ReadFault ends same = (inl ends.rose, ends.stores, ends.writes)
-ends_counted found old new net net' status.WriteFault (inl fails) same = inl fails.rose
-ends_counted found old new net net' status.WriteFault (inr fails) same = inr fails.rose
-ends_counted found old new net net' status.NoMemory ends same = (ends.stores, ends.writes)
-ends_counted found old new net net' status.Done ends same = (ends.reads, ap (λ (n : NetSeen). n.faults) same, ends.stores, ends.writes)
-ends_counted found old new net net' status.Usage ends same = (ends.reads, ap (λ (n : NetSeen). n.faults) same, ends.stores, ends.writes)
-ends_counted found old new net net' status.Trap ends same = (ends.reads, ap (λ (n : NetSeen). n.faults) same, ends.stores, ends.writes)
-ends_counted found old new net net' status.OutOfFuel ends same = (ends.reads, ap (λ (n : NetSeen). n.faults) same, ends.stores, ends.writes)
-ends_counted found old new net net' status.Rejected ends same = (ends.reads, ap (λ (n : NetSeen). n.faults) same, ends.stores, ends.writes)
-ends_counted found old new net net' status.ProgramRefused ends same = (ends.reads, ap (λ (n : NetSeen). n.faults) same, ends.stores, ends.writes)
-ends_counted found old new net net' status.InputRefused ends same = (ends.reads, ap (λ (n : NetSeen). n.faults) same, ends.stores, ends.writes)
-ends_counted found old new net net' status.Collision ends same = (ends.reads, ap (λ (n : NetSeen). n.faults) same, ends.stores, ends.writes)
+ends_counted found old new net net' ended ends same = subst (λ (n : NetSeen). CountsBy old new net.faults n.faults ended) (sym same) (unlinked_by found old new net.faults ended ends)
 
 -- Words for which memory was wanting: whatever they call, the run ended as one may.
 pub run_memory : (found : Option Invocation) (old new : Outside) (net net' : NetSeen) (ended : Status) → ((answer : Contents → Option Answer) → EndsAs answer old new ended) → net' ≡ net
@@ -178,6 +192,21 @@ run_memory (Some called) old new net net' ended ends same = by called.command
       inl (ends (answer_with Ask called.texts), same),
       record {
         by_status = ends_counted (answer_with Ask called.texts) old new net net' ended (ends (answer_with Ask called.texts)) same;
+        listens = ap (λ (n : NetSeen). n.faults.listens) same;
+        accepts = ap (λ (n : NetSeen). n.faults.accepts) same;
+      },
+    )
+    by Mirror = (
+      inl (ends (answer_with Mirror called.texts), same),
+      record {
+        by_status = ends_counted (answer_with Mirror called.texts) old new net net' ended (ends (answer_with Mirror called.texts)) same;
+        dials = ap (λ (n : NetSeen). n.faults.dials) same;
+      },
+    )
+    by Draw = (
+      inl (ends (answer_with Draw called.texts), same),
+      record {
+        by_status = ends_counted (answer_with Draw called.texts) old new net net' ended (ends (answer_with Draw called.texts)) same;
         listens = ap (λ (n : NetSeen). n.faults.listens) same;
         accepts = ap (λ (n : NetSeen). n.faults.accepts) same;
       },
@@ -293,10 +322,12 @@ module _ (old new : Outside) (net net' : NetSeen) where
       | inr serve ↦ serve_writes ended serve
     ]
 
-  -- `ask` alone dials
+  -- `ask` and `draw` alone dial
   command_dials : (command : Command) (texts : List (List ℕ)) (ended : Status) → DialsNone command → EndsCommand command texts old new net net' ended → net'.faults.dials ≡ net.faults.dials
   command_dials Ask texts ended none ends = absurd none
+  command_dials Draw texts ended none ends = absurd none
   command_dials Serve texts ended none ends = ends.1.dials
+  command_dials Mirror texts ended none ends = ends.1.dials
   command_dials Check texts ended none ends = ap (λ (n : NetSeen). n.faults.dials) ends.1
   command_dials Init texts ended none ends = ap (λ (n : NetSeen). n.faults.dials) ends.1
   command_dials Ideal texts ended none ends = ap (λ (n : NetSeen). n.faults.dials) ends.1
@@ -314,7 +345,7 @@ module _ (old new : Outside) (net net' : NetSeen) where
   run_dials None ended none ends = ap (λ (n : NetSeen). n.faults.dials) ends.1
   run_dials (Some called) ended none ends = command_dials called.command called.texts ended none ends
 
-  -- `serve` alone listens, and accepts
+  -- `serve` and `mirror` alone listen, and accept
   abbrev Listens : Type 0
   Listens = (net'.faults.listens ≡ net.faults.listens) × (net'.faults.accepts ≡ net.faults.accepts)
 
@@ -323,7 +354,9 @@ module _ (old new : Outside) (net net' : NetSeen) where
 
   command_listens : (command : Command) (texts : List (List ℕ)) (ended : Status) → ListensToNone command → EndsCommand command texts old new net net' ended → Listens
   command_listens Serve texts ended none ends = absurd none
+  command_listens Mirror texts ended none ends = absurd none
   command_listens Ask texts ended none ends = (ends.1.listens, ends.1.accepts)
+  command_listens Draw texts ended none ends = (ends.1.listens, ends.1.accepts)
   command_listens Check texts ended none ends = listens_as_before ends.1
   command_listens Init texts ended none ends = listens_as_before ends.1
   command_listens Ideal texts ended none ends = listens_as_before ends.1

@@ -1,71 +1,39 @@
 -- The counts behind a run of `serve`, and the statuses that it may answer.
-use Rattle.std.proofs.Common.{◌≡◌, ◌⊎◌, inl, inr, ℕ, List, Bool, true, false, Option, refl, sym, ap, subst, ◌∙◌}
+use Rattle.std.proofs.Common.{◌≡◌, ◌⊎◌, inl, inr, ℕ, List, true, false, Option, refl, sym, subst}
 use Rattle.command_words.specs.declared.command.Command.TheVariants.{Serve}
-use Rattle.lam_outside.specs.Causes.{Rose}
-use Rattle.lam_outside.specs.Told.{Contents, Stores}
+use Rattle.lam_outside.specs.Told.{Contents}
 use Rattle.file_commands.specs.Answer.{Answer, Serving}
-use Rattle.file_commands.specs.Ending.{EndsAnswered, EndsAs, Outside}
-use Rattle.auth_cli.specs.NetFaults.{NetFaults, NetRose}
+use Rattle.file_commands.specs.Ending.{EndsAs, Outside}
+use Rattle.auth_cli.specs.NetFaults.{NetFaults}
 use Rattle.auth_cli.specs.OnlineRuns.{CountsBy, NetSeen}
-use Rattle.auth_cli.specs.Serving.{Course, EndsServing, HasFaults, IsListening, IsStored, IsStoredBy, IsTooLong, LacksMemory, NotListening, NotWritten, ServeCounts, Served, Storage, StoreFails, TellsPart, TellsWhole, WithoutMemory, course_status, storage_status}
+use Rattle.auth_cli.specs.Courses.{Course, HasFaults, IsListening, NotListening, NotWritten, Served, WithoutMemory, course_status}
+use Rattle.auth_cli.specs.Serving.{EndsServing, IsStored, IsStoredBy, IsTooLong, LacksMemory, ServeCounts, Storage, StoreFails, TellsPart, TellsWhole, storage_status}
 use Rattle.file_commands.specs.Statuses.{MayAnswer}
 use Rattle.file_commands.specs.declared.status.Status.{Status}
-use Rattle.file_commands.specs.declared.status.Status.TheVariants as status
+use Rattle.auth_cli.proofs.Courses.{course_by, net_rises, no_dials}
+use Rattle.auth_cli.proofs.OnlineRuns.{unlinked_by}
 
 -- ---- a run that doesn't come to listen
 
-module _ (answer : Contents → Option Answer) (old new : Outside) (net : NetFaults) where
-  answered : (ended : Status) → EndsAnswered answer old new ended → (new.read_faults ≡ old.read_faults) × (net ≡ net) × (new.store_faults ≡ old.store_faults) × (new.write_faults ≡ old.write_faults)
-  answered ended ends = (ends.reads, refl, ends.stores, ends.writes)
-
-  pub unserved_by : (ended : Status) → EndsAs answer old new ended → CountsBy old new net net ended
-  unserved_by status.ReadFault ends = (inl ends.rose, ends.stores, ends.writes)
-  unserved_by status.WriteFault (inl fails) = inl fails.rose
-  unserved_by status.WriteFault (inr fails) = inr fails.rose
-  unserved_by status.NoMemory ends = (ends.stores, ends.writes)
-  unserved_by status.Done ends = answered status.Done ends
-  unserved_by status.Usage ends = answered status.Usage ends
-  unserved_by status.Trap ends = answered status.Trap ends
-  unserved_by status.OutOfFuel ends = answered status.OutOfFuel ends
-  unserved_by status.Rejected ends = answered status.Rejected ends
-  unserved_by status.ProgramRefused ends = answered status.ProgramRefused ends
-  unserved_by status.InputRefused ends = answered status.InputRefused ends
-  unserved_by status.Collision ends = answered status.Collision ends
-
-  pub unserved_counted : (ended : Status) → EndsAs answer old new ended → ServeCounts old new net net ended
-  unserved_counted ended ends = record { by_status = unserved_by ended ends; dials = refl }
+pub unserved_counted : (answer : Contents → Option Answer) (old new : Outside) (net : NetFaults) (ended : Status) → EndsAs answer old new ended → ServeCounts old new net net ended
+unserved_counted answer old new net ended ends = record { by_status = unlinked_by answer old new net ended ends; dials = refl }
 
 -- ---- a serving
-
-no_dials : (course : Course) (faults faults' : NetFaults) → HasFaults course faults faults' → faults'.dials ≡ faults.dials
-no_dials NotListening faults faults' has = has.3
-no_dials NotWritten faults faults' has = ap (λ (f : NetFaults). f.dials) has
-no_dials (Served true) faults faults' has = has.2
-no_dials (Served false) faults faults' has = ap (λ (f : NetFaults). f.dials) has
-no_dials WithoutMemory faults faults' has = has.1
-
-net_rises : (faults faults' : NetFaults) → Rose faults.links faults'.links ⊎ Rose faults.accepts faults'.accepts → NetRose faults faults'
-net_rises faults faults' (inl rose) = inl rose
-net_rises faults faults' (inr rose) = inr (inr (inl rose))
 
 -- all lines were written
 whole_by : (course : Course) (storage : Storage) (image name : List ℕ) (old new : Outside) (faults faults' : NetFaults) → HasFaults course faults faults'
     → IsStoredBy storage image name old.stores new.stores old.store_faults new.store_faults → new.read_faults ≡ old.read_faults → new.write_faults ≡ old.write_faults
     → (course ≡ NotWritten → ⊥) → CountsBy old new faults faults' (storage_status storage (course_status course))
 whole_by course StoreFails image name old new faults faults' has stored reads writes listening = inr stored.2
-whole_by NotWritten IsStored image name old new faults faults' has stored reads writes listening = absurd (listening refl)
+whole_by course IsStored image name old new faults faults' has stored reads writes listening = course_by course old new faults faults' has reads stored.2 writes listening
 whole_by NotWritten IsTooLong image name old new faults faults' has stored reads writes listening = absurd (listening refl)
 whole_by NotWritten LacksMemory image name old new faults faults' has stored reads writes listening = absurd (listening refl)
-whole_by NotListening IsStored image name old new faults faults' has stored reads writes listening = (inr (inr (inl has.0)), stored.2, writes)
 whole_by NotListening IsTooLong image name old new faults faults' has stored reads writes listening = (inr (inr (inl has.0)), stored.2, writes)
 whole_by NotListening LacksMemory image name old new faults faults' has stored reads writes listening = (stored.1, writes)
-whole_by (Served true) IsStored image name old new faults faults' has stored reads writes listening = (inr (net_rises faults faults' has.0), stored.2, writes)
 whole_by (Served true) IsTooLong image name old new faults faults' has stored reads writes listening = (inr (net_rises faults faults' has.0), stored.2, writes)
 whole_by (Served true) LacksMemory image name old new faults faults' has stored reads writes listening = (stored.1, writes)
-whole_by (Served false) IsStored image name old new faults faults' has stored reads writes listening = (reads, has, stored.2, writes)
 whole_by (Served false) IsTooLong image name old new faults faults' has stored reads writes listening = (reads, has, stored.2, writes)
 whole_by (Served false) LacksMemory image name old new faults faults' has stored reads writes listening = (stored.1, writes)
-whole_by WithoutMemory IsStored image name old new faults faults' has stored reads writes listening = (stored.2, writes)
 whole_by WithoutMemory IsTooLong image name old new faults faults' has stored reads writes listening = (stored.2, writes)
 whole_by WithoutMemory LacksMemory image name old new faults faults' has stored reads writes listening = (stored.1, writes)
 

@@ -9,9 +9,10 @@ use Rattle.lam_outside.specs.Links.{Linked}
 use Rattle.printed_lines.specs.Lines.{listening_line}
 use Rattle.serve_core.specs.Serving.{Serves}
 use Rattle.serve_core.specs.declared.server.ServeCore.{ServeCore}
-use Rattle.serve_links.specs.ServedLinks.{ServesLinks, ServingCause, StaysOn}
-use Rattle.serve_links.specs.declared.net.ServingEnd.{ServingEnd}
-use Rattle.serve_links.specs.declared.net.ServingEnd.TheVariants as end
+use Rattle.link_ends.specs.Ends.{ServingCause}
+use Rattle.link_ends.specs.declared.end.ServingEnd.{ServingEnd}
+use Rattle.link_ends.specs.declared.end.ServingEnd.TheVariants as end
+use Rattle.serve_links.specs.ServedLinks.{ServesLinks, StaysOn}
 use Rattle.session_meaning.specs.Server.{Server}
 use Rattle.session_turns.specs.Sharing.{IsCommit}
 use Rattle.session_turns.specs.Versions.{IsVersion}
@@ -23,12 +24,14 @@ use Rattle.auth_cli.specs.NetFaults.{NetFaults}
 use Rattle.file_commands.specs.ReadPrograms.{digested_of}
 use Rattle.auth_cli.specs.ServeSteps.{IsEndTold, TellsCourse}
 use Rattle.auth_cli.specs.OnlineRuns.{NetSeen}
-use Rattle.auth_cli.specs.Serving.{HasFaults, Served, WithoutMemory, count_lines, course_status, first_server, server_lines}
+use Rattle.auth_cli.specs.Courses.{HasFaults, Served, WithoutMemory, course_status}
+use Rattle.auth_cli.specs.Serving.{count_lines, course_lines, first_server, server_lines}
 use Rattle.file_commands.specs.Telling.{TellsText}
 use Rattle.file_commands.specs.declared.status.Status.{Status}
 use Rattle.file_commands.specs.declared.status.Status.TheVariants as status
-use Rattle.auth_cli.proofs.ServeGone.{IsLeft, lacking_left, left_gone, line_lacking, same_faults, served_left}
-use Rattle.auth_cli.proofs.ServeTexts.{course_told}
+use Rattle.auth_cli.proofs.Courses.{course_told}
+use Rattle.auth_cli.proofs.OnlineRuns.{same_faults}
+use Rattle.auth_cli.proofs.ServeGone.{IsLeft, lacking_left, left_gone, line_lacking, served_left}
 
 -- the lines of the core are those of the server that it is
 same_lines : {A G : Type 0} (core : ServeCore A G) (server : Server) → Serves sha256 core server → (fault : Bool)
@@ -52,7 +55,7 @@ module _ {A G : Type 0} (s : Serving) (net net' : NetSeen) (old core : ServeCore
     server = left.server;
     gone = left_gone s (Served fault) net net' core left listened faults;
     server_left = record { serves = left.serves; some = some };
-    is_told = course_told s (Served fault) left.server (listening_line s.port) (concat (server_lines left.server fault)) refl tt (omega arith) ended written between written' before mid now first same
+    is_told = course_told s.port (Served fault) (course_lines s (Served fault) left.server) (listening_line s.port) (concat (server_lines left.server fault)) refl tt (omega arith) ended written between written' before mid now first same
         (subst (λ (lines : List (List ℕ)). TellsText (course_status (Served fault)) (concat lines) ended between written' mid now) (same_lines core left.server left.serves fault) told);
   }
 
@@ -64,7 +67,7 @@ module _ {A G : Type 0} (s : Serving) (net net' : NetSeen) (old core : ServeCore
     server = left.server;
     gone = left_gone s WithoutMemory net net' core left listened (listens, dials);
     server_left = record { serves = left.serves; some = some };
-    is_told = course_told s WithoutMemory left.server (listening_line s.port) (codes "no memory\n") refl tt (omega arith) ended written between written' before mid now first same told;
+    is_told = course_told s.port WithoutMemory (course_lines s WithoutMemory left.server) (listening_line s.port) (codes "no memory\n") refl tt (omega arith) ended written between written' before mid now first same told;
   }
 
   module _ (port connections : ℕ) (program : digested_of (program_in old.code) ≡ s.program) (slice : old.slice ≡ s.slice) (at : port ≡ s.port) (most : connections ≡ s.links) where

@@ -1,37 +1,25 @@
 -- How a serving went, by what `listen` and the serving of links left.
-use Rattle.std.proofs.Common.{◌≡◌, ◌⊎◌, ◌≤◌, ◌<◌, inl, inr, ℕ, Bool, true, false, List, [], ◌∷◌, ◌++◌, length, Option, Some, None, append-nil, refl, ap, sym, ◌∙◌, subst, subst₂, arith}
+use Rattle.std.proofs.Common.{◌≡◌, ◌≤◌, inl, inr, ℕ, Bool, List, [], length, Option, Some, None, append-nil, refl, sym, ◌∙◌, subst, subst₂, arith}
 use Rattle.std.specs.List.{AllByRecursion}
 use Rattle.std.specs.Option.{ForSome}
 use Rattle.sha2.specs.Sha256.{sha256}
 use Rattle.lam_outside.specs.Causes.{Rose}
-use Rattle.lam_outside.specs.Links.{Linked, links_so_far}
-use Rattle.lam_outside.specs.Moments.{Moment}
-use Rattle.session_meaning.specs.Server.{Server, last_turn, new_server}
+use Rattle.lam_outside.specs.Links.{Linked}
+use Rattle.session_meaning.specs.Server.{Server, last_turn}
 use Rattle.serve_core.specs.Serving.{Serves}
 use Rattle.serve_core.specs.declared.server.ServeCore.{ServeCore}
-use Rattle.serve_links.specs.Histories.{HasServed, own_digest, program_served, turns_of}
+use Rattle.link_ends.specs.MoreLinks.{AreMore}
+use Rattle.link_ends.specs.declared.end.ServingEnd.TheVariants as end
+use Rattle.serve_links.specs.Histories.{own_digest, program_served, turns_of}
 use Rattle.code_gen.specs.Programs.{program_in}
-use Rattle.serve_links.specs.ServedLinks.{AreCounted, AreMore, AreMoreInPart, AreMoreServed, AreServed, AreServedInPart, ServesLinks, StaysOn}
-use Rattle.serve_links.specs.declared.net.ServingEnd.{ServingEnd}
-use Rattle.serve_links.specs.declared.net.ServingEnd.TheVariants as end
+use Rattle.serve_links.specs.ServedLinks.{AreCounted, AreMoreInPart, AreServed, AreServedInPart, ServesLinks, StaysOn}
 use Rattle.file_commands.specs.Answer.{Serving}
 use Rattle.file_commands.specs.FueledRoles.{DigestedProgram}
-use Rattle.auth_cli.specs.NetFaults.{NetFaults}
 use Rattle.file_commands.specs.ReadPrograms.{digested_of}
 use Rattle.auth_cli.specs.OnlineRuns.{NetSeen}
-use Rattle.auth_cli.specs.Serving.{AreMade, AreServedLacking, AreServedOn, Course, HasFaults, HasGone, HasMade, MakesLinks, NotListening, NotWritten, Served, WithoutMemory, first_server, listened_behind}
-
-pub same_links : (ended ended' : Option (List Linked)) (linked linked' : Option ℕ) (given given' left left' sent sent' : Option (List ℕ)) (reads reads' : Option (List Moment))
-    → ended' ≡ ended → linked' ≡ linked → given' ≡ given → left' ≡ left → sent' ≡ sent → reads' ≡ reads
-    → links_so_far ended' linked' given' left' sent' reads' ≡ links_so_far ended linked given left sent reads
-same_links ended ended' linked linked' given given' left left' sent sent' reads reads' a b c d e f = rw (a, b, c, d, e, f) refl
-
-abbrev pub counts_as : (links listens accepts dials : ℕ) → NetFaults
-counts_as links listens accepts dials = record { links = links; listens = listens; accepts = accepts; dials = dials }
-
-pub same_faults : (links links' listens listens' accepts accepts' dials dials' : ℕ) → links' ≡ links → listens' ≡ listens → accepts' ≡ accepts → dials' ≡ dials
-    → counts_as links' listens' accepts' dials' ≡ counts_as links listens accepts dials
-same_faults links links' listens listens' accepts accepts' dials dials' a b c d = rw (a, b, c, d) refl
+use Rattle.auth_cli.specs.Courses.{AreMade, Course, HasFaults, NotListening, NotWritten, Served, WithoutMemory, listened_behind}
+use Rattle.auth_cli.specs.Serving.{AreServedLacking, AreServedOn, HasGone, HasMade, MakesLinks, first_server}
+use Rattle.auth_cli.proofs.Courses.{are_made}
 
 -- no link was made
 made_none : (s : Serving) (links links' : Option (List Linked)) (accepts accepts' : ℕ) → links' ≡ links → ForSome links' (λ after. HasMade s NotWritten links after accepts accepts' (first_server s))
@@ -118,16 +106,12 @@ module _ {A G : Type 0} (s : Serving) (old core : ServeCore A G) (port connectio
   counted_left fault after told h = record {
     server = h.served.behind;
     made = for_told (Served fault) after h.served.behind told
-        (made_of (Served fault) after h.served.more h.served.behind h.served.are (h.faulted, as_served h.served.more h.faulted h.served.behind h.served.served, by h.number));
+        (made_of (Served fault) after h.served.more h.served.behind h.served.are (h.faulted, as_served h.served.more h.faulted h.served.behind h.served.served, number));
     serves = h.served.serves;
   }
     where
-      number : length h.served.more ≡ h.count
-      number = h.served.number
-
-      by : ((h.count ≡ connections) × (fault ≡ h.faulted)) ⊎ ((h.count < connections) × (fault ≡ true) × Rose accepts accepts') → AreMade s h.served.more h.faulted fault accepts accepts'
-      by (inl (all, same)) = inl (number ∙ all ∙ most, same)
-      by (inr (few, is, rose)) = inr (omega (arith, few, number, most), is, rose)
+      number : AreMade s.links h.served.more h.faulted fault accepts accepts'
+      number = are_made connections s.links h.count h.served.more h.faulted fault accepts accepts' h.served.number most h.number
 
   part_left : (after : List Linked) → links' ≡ Some after → AreMoreInPart sha256 old core (first_server s) port links after connections → Left WithoutMemory
   part_left after told h = record {
@@ -172,11 +156,11 @@ line_lacking s fault links links' accepts accepts' core left = record {
   serves = left.serves;
 }
   where
-    within : (made : List Linked) (some : Bool) → AreMade s made some fault accepts accepts' → length made ≤ s.links
+    within : (made : List Linked) (some : Bool) → AreMade s.links made some fault accepts accepts' → length made ≤ s.links
     within made some (inl (all, same)) = omega (arith, all)
     within made some (inr (few, is, rose)) = omega (arith, few)
 
 -- what was listened to and the counts stand so behind it
 pub left_gone : {A G : Type 0} (s : Serving) (course : Course) (net net' : NetSeen) (core : ServeCore A G) (left : IsLeft s course net.links net'.links net.faults.accepts net'.faults.accepts core)
-    → net'.listened ≡ listened_behind s course net.listened → HasFaults course net.faults net'.faults → HasGone s net net' course left.server
+    → net'.listened ≡ listened_behind s.port course net.listened → HasFaults course net.faults net'.faults → HasGone s net net' course left.server
 left_gone s course net net' core left listened faults = record { links = left.made; listened = listened; faults = faults }

@@ -1,33 +1,19 @@
 -- A run of `serve`, from what was read and what was served.
-use Rattle.std.proofs.Common.{◌≡◌, ◌⊎◌, inl, inr, ℕ, List, length, Option, Some, None, Err, refl, sym, subst, ◌∙◌}
+use Rattle.std.proofs.Common.{◌≡◌, ◌⊎◌, inl, inr, ℕ, List, length, Option, Some, None, refl, sym, subst}
 use Rattle.std.specs.Borrow.{Bor}
 use Rattle.std.specs.Option.{ForSome}
 use Rattle.command_words.specs.Commands.{texts}
 use Rattle.command_words.specs.declared.command.Command.TheVariants.{Serve}
-use Rattle.lam_outside.specs.Told.{Contents, Names, Stores}
-use Rattle.printed_lines.specs.declared.refusal.Refusal.TheVariants as refusal
+use Rattle.lam_outside.specs.Told.{Contents, Names}
 use Rattle.file_commands.specs.Answer.{Answer, Serving, ServingNumbers, answer_with, unserved_answer, with_serving}
 use Rattle.file_commands.specs.Ending.{Outside}
-use Rattle.file_commands.specs.Halting.{MayHalt}
-use Rattle.file_commands.specs.Reaching.{HaltsAtReached, IsReached}
+use Rattle.file_commands.specs.Reaching.{IsReached}
 use Rattle.auth_cli.specs.PreparedServers.{TellNumbers, IsPrepared, numbers_held, numbers_served}
 use Rattle.auth_cli.specs.OnlineRuns.{NetSeen}
 use Rattle.auth_cli.specs.Serving.{EndsServing, IsOfWords, MeansServing}
 use Rattle.auth_cli.specs.declared.serving.PreparedServer.{PreparedServer}
-use Rattle.file_commands.specs.declared.report.Halt.{Halt}
-use Rattle.file_commands.specs.declared.report.Halt.TheVariants.{Usage, Refused, ReadFault, NoMemory}
 use Rattle.file_commands.specs.declared.status.Status.{Status}
 use Rattle.file_commands.proofs.Words.{apart, reached_apart, text_at}
-
-abbrev seen_as : Option Contents → Option Stores → Option (List ℕ) → (reads store_faults writes : ℕ) → Outside
-seen_as contents stores written reads store_faults writes =
-    record { contents = contents; stores = stores; written = written; read_faults = reads; store_faults = store_faults; write_faults = writes }
-
--- the files tell what they told
-pub same_seen : (contents contents' : Option Contents) (stores stores' : Option Stores) (written : Option (List ℕ)) (reads reads' store_faults store_faults' writes : ℕ)
-    → contents' ≡ contents → stores' ≡ stores → reads' ≡ reads → store_faults' ≡ store_faults
-    → seen_as contents' stores' written reads' store_faults' writes ≡ seen_as contents stores written reads store_faults writes
-same_seen contents contents' stores stores' written reads reads' store_faults store_faults' writes a b c d = rw (a, b, c, d) refl
 
 -- one serving for both: what was prepared, and what the files mean where they tell
 pub record IsBoth (contents : Option Contents) (Means : Contents → Serving → Type 0) (Prepared : Serving → Type 0) : Type 0 where
@@ -44,16 +30,6 @@ both (Some files) Means Prepared told some =
       prepared = s.2;
       means = λ other known. let same : files ≡ other = cc in subst (λ files. Means files s.0) same s.1;
     }
-
--- what halted the reading is a read fault of a file that was reached, or no read failed
-pub halted_at : (answer : Contents → Option Answer) (contents : Option Contents) (asked : Option Names) (before now : ℕ) (halt : Halt) → MayHalt before now halt
-    → HaltsAtReached answer contents asked halt → (now ≡ before) ⊎ IsReached answer contents asked
-halted_at answer contents asked before now Usage cause faults = absurd cause
-halted_at answer contents asked before now (Refused (refusal.Program kind line column)) cause faults = inl cause
-halted_at answer contents asked before now (Refused (refusal.Input fault)) cause faults = inl cause
-halted_at answer contents asked before now (Refused (refusal.Proof why)) cause faults = absurd cause
-halted_at answer contents asked before now ReadFault cause faults = inr faults
-halted_at answer contents asked before now NoMemory cause faults = inl cause
 
 -- ---- the words of `serve`
 

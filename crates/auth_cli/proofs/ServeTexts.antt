@@ -1,5 +1,5 @@
--- Texts of `serve` that are written one behind another, and fronts of them.
-use Rattle.std.proofs.Common.{◌≡◌, ◌⊎◌, ℕ, zero, suc, ◌≤◌, ◌+◌, ◌-◌, List, [], ◌∷◌, ◌++◌, length, length-append, take, codes, Option, inl, inr, refl, ap, sym, ◌∙◌, subst, arith}
+-- The text of `serve`: the lines of its course, and what follows of the storing.
+use Rattle.std.proofs.Common.{◌≡◌, ◌⊎◌, ℕ, zero, suc, ◌≤◌, List, [], ◌∷◌, ◌++◌, length, length-append, take, codes, Option, inl, inr, refl, ap, sym, ◌∙◌, subst, arith}
 use Rattle.std.specs.List.{concat}
 use Rattle.std.specs.Io.KnownBytes.{append_known}
 use Rattle.std.proofs.lemmas.List.Folds.{concat-append}
@@ -7,51 +7,14 @@ use Rattle.lam_outside.specs.Causes.{Rose}
 use Rattle.printed_lines.specs.Lines.{listening_line}
 use Rattle.session_meaning.specs.Server.{Server}
 use Rattle.file_commands.specs.Answer.{Serving}
-use Rattle.file_commands.specs.Ending.{Outside, WritesPart}
+use Rattle.file_commands.specs.Ending.{Outside}
 use Rattle.auth_cli.specs.ServeSteps.{IsCourseTold, IsStorageTold}
-use Rattle.auth_cli.specs.Serving.{Course, IsListening, IsStored, IsTooLong, LacksMemory, NotListening, NotWritten, Served, Storage, StoreFails, TellsPart, TellsWhole, WithoutMemory, WritesFront, course_lines, course_status, greeting_of, server_lines, serving_text, storage_lines, storage_status}
-use Rattle.file_commands.specs.Telling.{TellsText}
+use Rattle.auth_cli.specs.Courses.{Course, IsListening, NotListening, NotWritten, Served, WithoutMemory, WritesFront, course_status, greeting_of}
+use Rattle.auth_cli.specs.Serving.{IsStored, IsTooLong, LacksMemory, Storage, StoreFails, TellsPart, TellsWhole, course_lines, server_lines, serving_text, storage_lines, storage_status}
 use Rattle.file_commands.specs.declared.status.Status.{Status}
 use Rattle.file_commands.specs.declared.status.Status.TheVariants.{WriteFault}
-use Rattle.lam_outside.proofs.Moved.{append_none, append_twice}
-
--- a front of a text is one of the text with more behind it
-front_more : (least n : ℕ) (a b : List ℕ) → least ≤ n → least ≤ length a → (m : ℕ) × (least ≤ m) × (take n a ≡ take m (a ++ b))
-front_more least zero a b some within = (0, some, refl)
-front_more least (suc n) [] b some within = (0, within, refl)
-front_more least (suc n) (x ∷ a) b some within =
-    let rest = front_more (least - 1) n a b (omega (arith, some)) (omega (arith, within)) in
-    (suc rest.0, omega (arith, rest.1), ap (λ xs. x ∷ xs) rest.2)
-
--- and a text with a front of another behind it is one of both
-more_front : (a b : List ℕ) (n : ℕ) → (m : ℕ) × (length a ≤ m) × (a ++ take n b ≡ take m (a ++ b))
-more_front [] b n = (n, omega arith, refl)
-more_front (x ∷ a) b n = let rest = more_front a b n in (suc rest.0, omega (arith, rest.1), ap (λ xs. x ∷ xs) rest.2)
-
-pub part_of_more : (least : ℕ) (old new : Option (List ℕ)) (a b : List ℕ) → least ≤ length a → WritesFront least old new a → WritesFront least old new (a ++ b)
-part_of_more least old new a b within (n, some, is) = let more = front_more least n a b some within in (more.0, more.1, is ∙ ap (append_known old) more.2)
-
-pub whole_behind : (old mid new : Option (List ℕ)) (a b : List ℕ) → mid ≡ append_known old a → new ≡ append_known mid b → new ≡ append_known old (a ++ b)
-whole_behind old mid new a b first then = then ∙ ap (λ w. append_known w b) first ∙ append_twice old a b
-
-pub part_behind : (least : ℕ) (old mid new : Option (List ℕ)) (a b : List ℕ) → least ≤ length a → mid ≡ append_known old a → WritesPart mid new b → WritesFront least old new (a ++ b)
-part_behind least old mid new a b within first (n, then) =
-    let more = more_front a b n in
-    (more.0, omega (arith, within, more.1), whole_behind old mid new a (take n b) first then ∙ ap (append_known old) more.2)
-
--- ---- the lines of a course
-
--- a first text was written, and then the rest was told
-pub course_told : (s : Serving) (course : Course) (server : Server) (first text : List ℕ) → concat (course_lines s course server) ≡ first ++ text → IsListening course
-    → length (greeting_of s course) ≤ length first → (told : Status) (old mid new : Option (List ℕ)) (before between now : ℕ) → mid ≡ append_known old first → between ≡ before
-    → TellsText (course_status course) text told mid new between now → IsCourseTold s course server told old new before now
-course_told s course server first text is listening within told old mid new before between now written same (inl whole) =
-    inl (listening, whole.0, whole_behind old mid new first text written whole.1 ∙ ap (append_known old) (sym is), whole.2 ∙ same)
-course_told s course server first text is listening within told old mid new before between now written same (inr part) =
-    let least = length (greeting_of s course) in
-    inr (part.0, subst (WritesFront least old new) (sym is) (part_behind least old mid new first text within written part.1), subst (λ n. Rose n now) same part.2)
-
--- ---- what follows of the storing
+use Rattle.auth_cli.proofs.Courses.{part_behind, part_of_more, whole_behind}
+use Rattle.lam_outside.proofs.Moved.{append_none}
 
 no_front : (n : ℕ) → take {A = ℕ} n [] ≡ []
 no_front zero = refl
@@ -81,14 +44,14 @@ module _ (s : Serving) (course : Course) (server : Server) (storage : Storage) (
   text_is = sym (concat-append (course_lines s course server) (storage_lines storage (course_status course)))
 
   -- the line that stands before the links is one of those of the course
-  greeting_within : (course : Course) → length (greeting_of s course) ≤ length (concat (course_lines s course server))
+  greeting_within : (course : Course) → length (greeting_of s.port course) ≤ length (concat (course_lines s course server))
   greeting_within (Served faulted) = omega (arith, length-append (listening_line s.port) (concat (server_lines server faulted)))
   greeting_within WithoutMemory = omega (arith, length-append (listening_line s.port) (concat (codes "no memory\n" ∷ [])))
   greeting_within NotListening = omega arith
   greeting_within NotWritten = omega arith
 
   abbrev Writes : List ℕ → Type 0
-  Writes text = WritesFront (length (greeting_of s course)) old.written new.written text
+  Writes text = WritesFront (length (greeting_of s.port course)) old.written new.written text
 
   -- where all lines of the course were written
   behind_whole : IsListening course → mid ≡ append_known old.written (concat (course_lines s course server)) → between ≡ old.write_faults
@@ -101,14 +64,14 @@ module _ (s : Serving) (course : Course) (server : Server) (storage : Storage) (
   })
   behind_whole listening written same (inr part) = inr (record {
     status = part.0;
-    part = subst Writes text_is (part_behind (length (greeting_of s course)) old.written mid new.written _ _ (greeting_within course) written part.1);
+    part = subst Writes text_is (part_behind (length (greeting_of s.port course)) old.written mid new.written _ _ (greeting_within course) written part.1);
     rose = subst (λ n. Rose n new.write_faults) same part.2;
   })
 
   -- where the sink failed at them
-  part_grows : WritesFront (length (greeting_of s course)) old.written mid (concat (course_lines s course server)) → new.written ≡ mid → Writes (serving_text s course server storage)
+  part_grows : WritesFront (length (greeting_of s.port course)) old.written mid (concat (course_lines s course server)) → new.written ≡ mid → Writes (serving_text s course server storage)
   part_grows part same =
-      let least = length (greeting_of s course) in
+      let least = length (greeting_of s.port course) in
       subst Writes text_is
       (part_of_more least old.written new.written _ _ (greeting_within course) (subst (λ w. WritesFront least old.written w (concat (course_lines s course server))) (sym same) part))
 
@@ -118,7 +81,7 @@ module _ (s : Serving) (course : Course) (server : Server) (storage : Storage) (
   all_nothing : new.written ≡ append_known mid (concat (storage_lines storage WriteFault)) → new.written ≡ mid
   all_nothing is = is ∙ ap (λ (lines : List (List ℕ)). append_known mid (concat lines)) (no_lines storage) ∙ append_none mid
 
-  behind_part : WritesFront (length (greeting_of s course)) old.written mid (concat (course_lines s course server)) → Rose old.write_faults between
+  behind_part : WritesFront (length (greeting_of s.port course)) old.written mid (concat (course_lines s course server)) → Rose old.write_faults between
       → IsStorageTold storage WriteFault ended mid new.written between new.write_faults → Told
   behind_part part rose (inl whole) = inr (record {
     status = whole.0 ∙ stays_fault storage;

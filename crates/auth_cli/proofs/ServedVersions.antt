@@ -5,7 +5,8 @@ use Rattle.session_meaning.specs.Server.{Server as TheServer, last_turn}
 use Rattle.serve_links.specs.LinkLaws.{KeepsHistory, LinksKeepHistory, PartsKeepHistory}
 use Rattle.file_commands.specs.Answer.{Serving as TheServing}
 use Rattle.auth_cli.specs.ServedHistories.{VersionsAreServed}
-use Rattle.auth_cli.specs.Serving.{NotListening, NotWritten, Served, WithoutMemory, first_server}
+use Rattle.auth_cli.specs.Courses.{NotListening, NotWritten, Served, WithoutMemory}
+use Rattle.auth_cli.specs.Serving.{first_server}
 
 pub versions_are_served : LinksKeepHistory → PartsKeepHistory → VersionsAreServed
 versions_are_served links parts s NotListening made accepts accepts' server m = subst (KeepsHistory s.program.program) (sym m.1) tt

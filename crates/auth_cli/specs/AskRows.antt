@@ -15,7 +15,6 @@ use Rattle.script_play.specs.PlayRuns.{TellsTruth}
 use Rattle.script_play.specs.Playing.{PlaysAs, world}
 use Rattle.script_play.specs.Prompt.{IsPromptOn}
 use Rattle.script_play.specs.declared.halt.Halt.TheVariants as halt
-use Rattle.serve_links.specs.ServedLinks.{bytes_on}
 use Rattle.session_meaning.specs.Messages.{Messages, Reply, messages, reply_of}
 use Rattle.file_commands.specs.Answer.{Answer, Asking, answer_with, with_asking}
 use Rattle.file_commands.specs.Ending.{EndsAs, Outside}
@@ -28,6 +27,7 @@ use Rattle.auth_cli.specs.OnlineRuns.{CountsBy, NetSeen}
 use Rattle.auth_cli.specs.PreparedClients.{TellsPort}
 use Rattle.file_commands.specs.declared.status.Status.{Status}
 use Rattle.file_commands.specs.declared.status.Status.TheVariants.{Done, Rejected, ReadFault, WriteFault, NoMemory}
+use Rattle.link_ends.specs.MoreLinks.{bytes_on}
 
 -- BY THE END OF A PLAY
 abbrev pub played : PlayEnd

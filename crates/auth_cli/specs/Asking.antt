@@ -17,7 +17,6 @@ use Rattle.script_play.specs.Plays.{Play, play}
 use Rattle.script_play.specs.Prompt.{IsPromptOn}
 use Rattle.script_play.specs.declared.halt.Halt.{Halt}
 use Rattle.script_play.specs.declared.halt.Halt.TheVariants as halt
-use Rattle.serve_links.specs.ServedLinks.{bytes_on}
 use Rattle.session_meaning.specs.Client.{new_client}
 use Rattle.session_meaning.specs.Messages.{Messages, Reply, messages, reply_of}
 use Rattle.file_commands.specs.Answer.{Answer, Asking, answer_with, with_asking}
@@ -30,6 +29,7 @@ use Rattle.file_commands.specs.SoundPrograms.{IsOfText}
 use Rattle.file_commands.specs.Telling.{TellsText}
 use Rattle.file_commands.specs.declared.status.Status.{Status}
 use Rattle.file_commands.specs.declared.status.Status.TheVariants.{Done, Rejected, ReadFault, WriteFault, NoMemory}
+use Rattle.link_ends.specs.MoreLinks.{bytes_on}
 
 -- PLAYS
 -- what playing the script does, where these replies come: a client without sessions is asked what the script's lines say

@@ -18,16 +18,18 @@ use Rattle.session_meaning.specs.MessageRows.{text_digest}
 use Rattle.session_meaning.specs.Server.{Server, last_turn, new_server}
 use Rattle.serve_core.specs.Serving.{Serves}
 use Rattle.serve_core.specs.declared.server.ServeCore.{ServeCore}
+use Rattle.link_ends.specs.declared.end.ServingEnd.TheVariants as end
 use Rattle.serve_links.specs.ServedLinks.{AreServedInPart}
-use Rattle.serve_links.specs.declared.net.ServingEnd.TheVariants as end
 use Rattle.file_commands.specs.Answer.{Answer, Serving, answer_with, with_serving}
 use Rattle.file_commands.specs.Ending.{EndsAs, Outside}
 use Rattle.auth_cli.specs.NetFaults.{NetFaults}
 use Rattle.auth_cli.specs.OnlineRuns.{CountsBy, NetSeen}
 use Rattle.auth_cli.specs.PreparedServers.{TellNumbers, numbers_served}
 use Rattle.auth_cli.specs.ServeSteps.{IsCourseTold, IsEndTold, IsServer, IsStorageTold, IsUnstoredTold, StoresLast, TellsCourse}
-use Rattle.auth_cli.specs.Serving.{AreMade, AreServedLacking, AreServedOn, Course, EndsServing, HasFaults, HasGone, HasMade, IsListening, IsOfWords, IsServe, IsServing, IsStoredBy, MakesLinks, MeansServing, ServeCounts, Storage, TellsPart, TellsWhole, WritesFront}
-use Rattle.auth_cli.specs.Serving.{NotListening, NotWritten, Served, WithoutMemory, IsStored, StoreFails, IsTooLong, LacksMemory, course_lines, course_status, last_image, last_version, listened_behind, serving_text, storage_lines, storage_status}
+use Rattle.auth_cli.specs.Courses.{AreMade, Course, HasFaults, IsListening, WritesFront}
+use Rattle.auth_cli.specs.Serving.{AreServedLacking, AreServedOn, EndsServing, HasGone, HasMade, IsOfWords, IsServe, IsServing, IsStoredBy, MakesLinks, MeansServing, ServeCounts, Storage, TellsPart, TellsWhole}
+use Rattle.auth_cli.specs.Courses.{NotListening, NotWritten, Served, WithoutMemory, course_status, listened_behind}
+use Rattle.auth_cli.specs.Serving.{IsStored, StoreFails, IsTooLong, LacksMemory, course_lines, last_image, last_version, serving_text, storage_lines, storage_status}
 use Rattle.file_commands.specs.declared.status.Status.{Status}
 use Rattle.file_commands.specs.declared.status.Status.TheVariants.{Done, InputRefused, ReadFault, WriteFault, NoMemory}
 
@@ -49,10 +51,10 @@ pub served_lacking : (made : List Linked) (server : Server) → AreServedInPart 
 served_lacking made server are = are
 
 -- as many as were to be served; or fewer, behind a failed accept
-pub all_are_made : AreMade (serving_of 0) [] false false 3 3 × AreMade (serving_of 1) [] false true 3 4
+pub all_are_made : AreMade 0 [] false false 3 3 × AreMade 1 [] false true 3 4
 all_are_made = (inl (refl, refl), inr (lit< tt, refl, rose))
 
-pub no_fault_is_made : AreMade (serving_of 0) [] false true 3 4 → ⊥
+pub no_fault_is_made : AreMade 0 [] false true 3 4 → ⊥
 no_fault_is_made (inl are) = let e : true ≡ false = are.1 in cc (e)
 no_fault_is_made (inr are) = let fewer : 0 < 0 = are.0 in omega (arith, fewer)
 
@@ -87,7 +89,7 @@ no_other_faults h = let e : 4 ≡ 3 = h.3 in omega (arith, e)
 pub none_faulted : HasFaults (Served false) (faults 3 3 3 3) (faults 4 3 3 3) → ⊥
 none_faulted h = let e : 4 ≡ 3 = ap (λ (f : NetFaults). f.links) h in omega (arith, e)
 
-pub listened : map (λ course. listened_behind (serving_of 0) course None) (NotListening ∷ NotWritten ∷ Served true ∷ WithoutMemory ∷ []) ≡ None ∷ Some 4711 ∷ Some 4711 ∷ Some 4711 ∷ []
+pub listened : map (λ course. listened_behind 4711 course None) (NotListening ∷ NotWritten ∷ Served true ∷ WithoutMemory ∷ []) ≡ None ∷ Some 4711 ∷ Some 4711 ∷ Some 4711 ∷ []
 listened = refl
 
 -- LINES
@@ -189,7 +191,7 @@ module _ (s : Serving) (name : List ℕ) (old new : Outside) (net net' : NetSeen
   tells_part course server storage t = (t.status, t.rose)
 
   pub has_gone : (course : Course) (server : Server) (g : HasGone s net net' course server)
-      → ForSome net'.links (λ after. HasMade s course net.links after net.faults.accepts net'.faults.accepts server) × (net'.listened ≡ listened_behind s course net.listened)
+      → ForSome net'.links (λ after. HasMade s course net.links after net.faults.accepts net'.faults.accepts server) × (net'.listened ≡ listened_behind s.port course net.listened)
       × HasFaults course net.faults net'.faults
   has_gone course server g = (g.links, g.listened, g.faults)
 

@@ -3,11 +3,11 @@ use Rattle.std.specs.Prelude.{◌≡◌, ℕ, zero, suc, Bool, List, [], ◌∷�
 use Rattle.std.proofs.Common.{arith}
 use Rattle.printed_lines.specs.Lines.{listening_line}
 use Rattle.file_commands.specs.Answer.{Serving}
-use Rattle.auth_cli.specs.Serving.{NotListening, NotWritten, Served, WithoutMemory, WritesFront, greeting_of}
+use Rattle.auth_cli.specs.Courses.{NotListening, NotWritten, Served, WithoutMemory, WritesFront, greeting_of}
 
 -- it stands before links that were made; where none was made there is none
-pub greetings : (s : Serving) (faulted : Bool) → (greeting_of s (Served faulted) ≡ listening_line s.port) × (greeting_of s WithoutMemory ≡ listening_line s.port)
-    × (greeting_of s NotListening ≡ []) × (greeting_of s NotWritten ≡ [])
+pub greetings : (s : Serving) (faulted : Bool) → (greeting_of s.port (Served faulted) ≡ listening_line s.port) × (greeting_of s.port WithoutMemory ≡ listening_line s.port)
+    × (greeting_of s.port NotListening ≡ []) × (greeting_of s.port NotWritten ≡ [])
 greetings s faulted = (refl, refl, refl, refl)
 
 -- a front of a byte at least is not nothing

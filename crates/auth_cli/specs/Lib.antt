@@ -1,4 +1,5 @@
 pub mod NetFaults
+pub mod Courses
 pub mod PreparedServers
 pub mod ServedHistories
 pub mod ServeSteps
@@ -7,9 +8,17 @@ pub mod Serving
 pub mod PreparedClients
 pub mod Asking
 pub mod AskSteps
+pub mod PreparedMirrors
+pub mod Mirroring
+pub mod MirrorSteps
+pub mod Drawing
+pub mod PreparedDrawings
+pub mod DrawSteps
 pub mod NetRuns
 pub mod GreetingRows
 pub mod CourseRows
+pub mod MirrorRows
 pub mod NetRows
 pub mod AskRows
+pub mod DrawRows
 pub mod PreparedRows

@@ -2,7 +2,7 @@
 use Rattle.std.specs.Prelude.{◌≡◌, ◌⊎◌, ◌≤◌, ℕ, List, Option, Some, None, refl}
 use Rattle.std.proofs.Common.{arith, ap, inl, inr}
 use Rattle.command_words.specs.Invocations.{Invocation}
-use Rattle.command_words.specs.declared.command.Command.TheVariants.{Check, Init, Ideal, Step, Shallow, Prove, Verify, Audit, Library, Gen, Serve, Ask, Pieces, Fetch}
+use Rattle.command_words.specs.declared.command.Command.TheVariants.{Check, Init, Ideal, Step, Shallow, Prove, Verify, Audit, Library, Gen, Serve, Ask, Pieces, Fetch, Mirror, Draw}
 use Rattle.lam_outside.specs.Causes.{Rose}
 use Rattle.lam_outside.specs.Told.{Contents, Names}
 use Rattle.file_commands.specs.Answer.{Answer, answer_with, usage_answer}
@@ -10,6 +10,8 @@ use Rattle.file_commands.specs.Ending.{EndsAs, Outside}
 use Rattle.file_commands.specs.Reaching.{IsReached}
 use Rattle.auth_cli.specs.Asking.{AskCounts, IsAsk}
 use Rattle.auth_cli.specs.CourseRows.{faults, rose}
+use Rattle.auth_cli.specs.Drawing.{DrawCounts, IsDraw}
+use Rattle.auth_cli.specs.Mirroring.{IsMirror, MirrorCounts}
 use Rattle.auth_cli.specs.NetFaults.{NetFaults, NetRose}
 use Rattle.auth_cli.specs.NetRuns.{CallsNoDial, CallsNoListen, DialsNone, EndsCommand, EndsRun, IsOffline, IsReadFaultAt, ListensToNone, UsesNoNet}
 use Rattle.auth_cli.specs.OnlineRuns.{CountsBy, NetSeen}
@@ -59,14 +61,14 @@ pub use_no_net : UsesNoNet Check × UsesNoNet Init × UsesNoNet Ideal × UsesNoN
     × UsesNoNet Pieces × UsesNoNet Fetch
 use_no_net = (tt, tt, tt, tt, tt, tt, tt, tt, tt, tt, tt, tt)
 
-pub use_a_net : (UsesNoNet Serve → ⊥) × (UsesNoNet Ask → ⊥)
-use_a_net = ((λ u. u), (λ u. u))
+pub use_a_net : (UsesNoNet Serve → ⊥) × (UsesNoNet Ask → ⊥) × (UsesNoNet Mirror → ⊥) × (UsesNoNet Draw → ⊥)
+use_a_net = ((λ u. u), (λ u. u), (λ u. u), (λ u. u))
 
-pub dials : DialsNone Serve × DialsNone Verify × (DialsNone Ask → ⊥)
-dials = (tt, tt, (λ d. d))
+pub dials : DialsNone Serve × DialsNone Mirror × DialsNone Verify × (DialsNone Ask → ⊥) × (DialsNone Draw → ⊥)
+dials = (tt, tt, tt, (λ d. d), (λ d. d))
 
-pub listens : ListensToNone Ask × ListensToNone Verify × (ListensToNone Serve → ⊥)
-listens = (tt, tt, (λ l. l))
+pub listens : ListensToNone Ask × ListensToNone Draw × ListensToNone Verify × (ListensToNone Serve → ⊥) × (ListensToNone Mirror → ⊥)
+listens = (tt, tt, tt, (λ l. l), (λ l. l))
 
 -- the same of words that call a command, or none
 pub calls : (called : Invocation) → (UsesNoNet called.command → IsOffline (Some called)) × (DialsNone called.command → CallsNoDial (Some called)) × (ListensToNone called.command → CallsNoListen (Some called))
@@ -82,6 +84,12 @@ module _ (texts : List (List ℕ)) (old new : Outside) (net net' : NetSeen) (sta
 
   pub ends_ask : IsAsk texts old new net net' status → AskCounts old new net.faults net'.faults status → EndsCommand Ask texts old new net net' status
   ends_ask is counts = (is, counts)
+
+  pub ends_mirror : IsMirror texts old new net net' status → MirrorCounts old new net.faults net'.faults status → EndsCommand Mirror texts old new net net' status
+  ends_mirror is counts = (is, counts)
+
+  pub ends_draw : IsDraw texts old new net net' status → DrawCounts old new net.faults net'.faults status → EndsCommand Draw texts old new net net' status
+  ends_draw is counts = (is, counts)
 
   -- all others leave the net as it was
   pub ends_others : EndsAs (answer_with Verify texts) old new status → EndsCommand Verify texts old new net net status

@@ -2,12 +2,14 @@
 use Rattle.std.specs.Prelude.{◌≡◌, ◌⊎◌, ℕ, List, Option, Some, None}
 use Rattle.command_words.specs.Invocations.{Invocation}
 use Rattle.command_words.specs.declared.command.Command.{Command}
-use Rattle.command_words.specs.declared.command.Command.TheVariants.{Ask, Serve}
+use Rattle.command_words.specs.declared.command.Command.TheVariants.{Ask, Draw, Mirror, Serve}
 use Rattle.lam_outside.specs.Told.{Contents, Names}
 use Rattle.file_commands.specs.Answer.{Answer, answer_with, usage_answer}
 use Rattle.file_commands.specs.Ending.{EndsAs, Outside}
 use Rattle.file_commands.specs.Reaching.{IsReached}
 use Rattle.auth_cli.specs.Asking.{AskCounts, IsAsk}
+use Rattle.auth_cli.specs.Drawing.{DrawCounts, IsDraw}
+use Rattle.auth_cli.specs.Mirroring.{IsMirror, MirrorCounts}
 use Rattle.auth_cli.specs.OnlineRuns.{NetSeen}
 use Rattle.auth_cli.specs.Serving.{IsServe, ServeCounts}
 use Rattle.file_commands.specs.declared.status.Status.{Status}
@@ -17,6 +19,8 @@ use Rattle.file_commands.specs.declared.status.Status.TheVariants.{ReadFault}
 abbrev pub UsesNoNet : Command → Type 0
 UsesNoNet Serve = ⊥
 UsesNoNet Ask = ⊥
+UsesNoNet Mirror = ⊥
+UsesNoNet Draw = ⊥
 UsesNoNet command = Unit {0}
 
 -- words that call such a command, or none
@@ -27,10 +31,12 @@ IsOffline (Some called) = UsesNoNet called.command
 -- the command dials no link, and it listens to no port
 abbrev pub DialsNone : Command → Type 0
 DialsNone Ask = ⊥
+DialsNone Draw = ⊥
 DialsNone command = Unit {0}
 
 abbrev pub ListensToNone : Command → Type 0
 ListensToNone Serve = ⊥
+ListensToNone Mirror = ⊥
 ListensToNone command = Unit {0}
 
 -- the same of words that call such a command, or none
@@ -42,11 +48,13 @@ abbrev pub CallsNoListen : Option Invocation → Type 0
 CallsNoListen None = Unit {0}
 CallsNoListen (Some called) = ListensToNone called.command
 
--- The end of a run of a command with these texts behind it: that of `serve` or of `ask`, or that of another command, by its answer and with the
--- net as it was.
+-- The end of a run of a command with these texts behind it: that of `serve`, `ask`, `mirror` or `draw`, or that of another command, by its answer
+-- and with the net as it was.
 abbrev pub EndsCommand : Command → List (List ℕ) → (old new : Outside) → (net net' : NetSeen) → Status → Type 0
 EndsCommand Serve texts old new net net' status = IsServe texts old new net net' status × ServeCounts old new net.faults net'.faults status
 EndsCommand Ask texts old new net net' status = IsAsk texts old new net net' status × AskCounts old new net.faults net'.faults status
+EndsCommand Mirror texts old new net net' status = IsMirror texts old new net net' status × MirrorCounts old new net.faults net'.faults status
+EndsCommand Draw texts old new net net' status = IsDraw texts old new net net' status × DrawCounts old new net.faults net'.faults status
 EndsCommand command texts old new net net' status = EndsAs (answer_with command texts) old new status × (net' ≡ net)
 
 -- the same of words that call it, or that call no command

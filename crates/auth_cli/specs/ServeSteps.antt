@@ -1,35 +1,31 @@
 -- The steps of `serve` from `listen` on: what a step leaves, and how much of it was told.
-use Rattle.std.specs.Prelude.{◌≡◌, ◌⊎◌, ◌<◌, ℕ, Bool, true, false, List, length, codes, Option}
+use Rattle.std.specs.Prelude.{◌⊎◌, ◌<◌, ℕ, List, length, codes, Option}
 use Rattle.std.specs.List.{concat}
-use Rattle.std.specs.Io.KnownBytes.{append_known}
 use Rattle.sha2.specs.Sha256.{sha256}
-use Rattle.lam_outside.specs.Causes.{Rose}
 use Rattle.lam_outside.specs.Told.{Stores}
 use Rattle.serve_core.specs.Serving.{Serves}
 use Rattle.serve_core.specs.declared.server.ServeCore.{ServeCore}
-use Rattle.serve_links.specs.declared.net.ServingEnd.{ServingEnd}
-use Rattle.serve_links.specs.declared.net.ServingEnd.TheVariants as end
 use Rattle.session_meaning.specs.Server.{Server}
 use Rattle.file_commands.specs.Answer.{Serving}
 use Rattle.auth_cli.specs.OnlineRuns.{NetSeen}
-use Rattle.auth_cli.specs.Serving.{Course, IsListening, IsStoredBy, IsTooLong, LacksMemory, HasGone, NotListening, NotWritten, Served, Storage, WithoutMemory, WritesFront, course_lines, course_status, last_image, count_lines, greeting_of, storage_lines, storage_status}
+use Rattle.auth_cli.specs.Courses.{AreLinesTold, Course, Served, course_status}
+use Rattle.auth_cli.specs.Serving.{IsStoredBy, IsTooLong, LacksMemory, HasGone, Storage, course_lines, last_image, count_lines, storage_lines, storage_status}
 use Rattle.images.specs.declared.fault.SaveFault.{SaveFault}
 use Rattle.images.specs.declared.fault.SaveFault.TheVariants as save_fault
 use Rattle.file_commands.specs.Telling.{TellsText}
 use Rattle.file_commands.specs.declared.status.Status.{Status}
-use Rattle.file_commands.specs.declared.status.Status.TheVariants.{NoMemory, WriteFault}
+use Rattle.file_commands.specs.declared.status.Status.TheVariants.{NoMemory}
+use Rattle.link_ends.specs.declared.end.ServingEnd.{ServingEnd}
+use Rattle.link_ends.specs.declared.end.ServingEnd.TheVariants as end
 
 -- The core is this server, and has a version.
 pub record IsServer {A G : Type 0} (core : ServeCore A G) (server : Server) : Type 0 where
   pub serves : Serves sha256 core server
   pub some : 0 < length core.shared.versions.items
 
--- All lines of the course were written, and the status is that of the course; or the sink failed, and a front of their text was written, in which is
--- the line that stands before the links.
+-- the lines of the course were told
 abbrev pub IsCourseTold : Serving → Course → Server → Status → (old new : Option (List ℕ)) → (before now : ℕ) → Type 0
-IsCourseTold s course server told old new before now =
-    (IsListening course × (told ≡ course_status course) × (new ≡ append_known old (concat (course_lines s course server))) × (now ≡ before))
-    ⊎ ((told ≡ WriteFault) × WritesFront (length (greeting_of s course)) old new (concat (course_lines s course server)) × Rose before now)
+IsCourseTold s course server told old new before now = AreLinesTold s.port course (course_lines s course server) told old new before now
 
 -- The serving went some course, which was told, and the core is the server that is left.
 pub record TellsCourse {A G : Type 0} (s : Serving) (net net' : NetSeen) (core : ServeCore A G) (told : Status) (old new : Option (List ℕ)) (before now : ℕ) : Type 0 where

@@ -4,7 +4,8 @@ use Rattle.lam_outside.specs.Links.{Linked}
 use Rattle.session_meaning.specs.Server.{Server}
 use Rattle.session_meaning.specs.ServerLaws.{IsHistory}
 use Rattle.file_commands.specs.Answer.{Serving}
-use Rattle.auth_cli.specs.Serving.{Course, MakesLinks}
+use Rattle.auth_cli.specs.Courses.{Course}
+use Rattle.auth_cli.specs.Serving.{MakesLinks}
 
 -- Whatever course a serving takes, and whatever comes on its links: each version that the server has in the end, but the first, is what the ideal
 -- run of an update makes of the one before it, which its commit names. So the last one, whose image is stored, is made by all of them in turn.

@@ -1,6 +1,6 @@
 -- How `serve` ends, once the words and the files are in order: by the links that were made and what came on them, by what could be written, and
 -- by how the last version was stored.
-use Rattle.std.specs.Prelude.{◌≡◌, ◌⊎◌, ◌≤◌, ◌<◌, ◌-◌, ℕ, Bool, true, false, List, [], ◌∷◌, ◌++◌, length, take, codes, Option, Some, None}
+use Rattle.std.specs.Prelude.{◌≡◌, ◌⊎◌, ◌≤◌, ◌<◌, ◌-◌, ℕ, Bool, List, [], ◌∷◌, ◌++◌, length, codes, Option, Some}
 use Rattle.std.specs.List.{AllByRecursion, concat}
 use Rattle.std.specs.Option.{ForSome}
 use Rattle.std.specs.Io.KnownBytes.{append_known}
@@ -18,6 +18,7 @@ use Rattle.serve_links.specs.ServedLinks.{AreServed, AreServedInPart}
 use Rattle.session_meaning.specs.Server.{Server, last_turn, new_server, version_at}
 use Rattle.file_commands.specs.Answer.{Answer, Serving, answer_with, max_file, state_image, with_serving}
 use Rattle.file_commands.specs.Ending.{Outside, EndsAs}
+use Rattle.auth_cli.specs.Courses.{AreMade, Course, HasFaults, IsListening, NotListening, NotWritten, Served, WithoutMemory, WritesFront, course_status, fault_lines, greeting_of, listened_behind}
 use Rattle.auth_cli.specs.NetFaults.{NetFaults}
 use Rattle.auth_cli.specs.OnlineRuns.{CountsBy, NetSeen}
 use Rattle.auth_cli.specs.PreparedServers.{TellNumbers, numbers_served}
@@ -38,41 +39,14 @@ abbrev pub AreServedLacking : Serving → List Linked → Server → Type 0
 AreServedLacking s made server = AreServedInPart sha256 s.program.program s.program.digest (last_turn s.slice) (first_server s) made server
 
 -- COURSES
--- How the serving went: it could not listen; it listened, and the line that says so could not be written; it served links, and whether one of
--- them or an `accept` failed; or memory was wanting, for a connection or for the line behind the last one.
-pub data Course : Type 0 where
-  NotListening NotWritten WithoutMemory : Course
-  Served : (faulted : Bool) → Course
-
--- Of the links that were made: they are as many as were to be served, and there is a fault where one of them ended in one; or fewer, since an
--- `accept` failed, which is a fault.
-abbrev pub AreMade : Serving → (made : List Linked) → (some_faulted faulted : Bool) → (accepts accepts' : ℕ) → Type 0
-AreMade s made some_faulted faulted accepts accepts' =
-    ((length made ≡ s.links) × (faulted ≡ some_faulted)) ⊎ ((length made < s.links) × (faulted ≡ true) × Rose accepts accepts')
-
 -- These links were made and served, and left this server.
 abbrev pub MakesLinks : Serving → Course → (made : List Linked) → (accepts accepts' : ℕ) → Server → Type 0
 MakesLinks s NotListening made accepts accepts' server = (made ≡ []) × (server ≡ first_server s)
 MakesLinks s NotWritten made accepts accepts' server = (made ≡ []) × (server ≡ first_server s)
 MakesLinks s (Served faulted) made accepts accepts' server =
-    (some_faulted : Bool) × AreServedOn s made some_faulted server × AreMade s made some_faulted faulted accepts accepts'
+    (some_faulted : Bool) × AreServedOn s made some_faulted server × AreMade s.links made some_faulted faulted accepts accepts'
 MakesLinks s WithoutMemory made accepts accepts' server =
     (length made ≤ s.links) × (((some_faulted : Bool) × AreServedOn s made some_faulted server) ⊎ AreServedLacking s made server)
-
--- the counts of the net: that of `listen` rose where it could not listen, one of the others exactly where a link or an `accept` failed
-abbrev pub HasFaults : Course → NetFaults → NetFaults → Type 0
-HasFaults NotListening faults faults' =
-    Rose faults.listens faults'.listens × (faults'.links ≡ faults.links) × (faults'.accepts ≡ faults.accepts) × (faults'.dials ≡ faults.dials)
-HasFaults NotWritten faults faults' = faults' ≡ faults
-HasFaults (Served false) faults faults' = faults' ≡ faults
-HasFaults (Served true) faults faults' =
-    (Rose faults.links faults'.links ⊎ Rose faults.accepts faults'.accepts) × (faults'.listens ≡ faults.listens) × (faults'.dials ≡ faults.dials)
-HasFaults WithoutMemory faults faults' = (faults'.listens ≡ faults.listens) × (faults'.dials ≡ faults.dials)
-
--- what is listened to
-abbrev pub listened_behind : Serving → Course → Option ℕ → Option ℕ
-listened_behind s NotListening before = before
-listened_behind s course before = Some s.port
 
 -- Where the links behind the serving are told, those before it are; they are these and more, all to the port, which were so made and served.
 pub record HasMade (s : Serving) (course : Course) (links : Option (List Linked)) (after : List Linked) (accepts accepts' : ℕ) (server : Server) : Type 0 where
@@ -86,15 +60,11 @@ pub record HasMade (s : Serving) (course : Course) (links : Option (List Linked)
 -- The serving went so, and left this server.
 pub record HasGone (s : Serving) (net net' : NetSeen) (course : Course) (server : Server) : Type 0 where
   pub links : ForSome net'.links (λ after. HasMade s course net.links after net.faults.accepts net'.faults.accepts server)
-  pub listened : net'.listened ≡ listened_behind s course net.listened
+  pub listened : net'.listened ≡ listened_behind s.port course net.listened
   pub faults : HasFaults course net.faults net'.faults
 
 -- LINES
 -- the line of so many versions and commits, and behind it that of a fault; and those that the server has
-abbrev pub fault_lines : Bool → List (List ℕ)
-fault_lines true = link_fault_line ∷ []
-fault_lines false = []
-
 abbrev pub count_lines : (versions commits : ℕ) → (faulted : Bool) → List (List ℕ)
 count_lines versions commits faulted = versions_line versions commits ∷ fault_lines faulted
 
@@ -107,24 +77,6 @@ course_lines s NotListening server = link_fault_line ∷ []
 course_lines s NotWritten server = listening_line s.port ∷ []
 course_lines s (Served faulted) server = listening_line s.port ∷ server_lines server faulted
 course_lines s WithoutMemory server = listening_line s.port ∷ codes "no memory\n" ∷ []
-
--- the line that was written whole before a link was made; none where none was
-abbrev pub greeting_of : Serving → Course → List ℕ
-greeting_of s (Served faulted) = listening_line s.port
-greeting_of s WithoutMemory = listening_line s.port
-greeting_of s NotListening = []
-greeting_of s NotWritten = []
-
--- a front of the text was written, of so many bytes at least
-abbrev pub WritesFront : (least : ℕ) → (old new : Option (List ℕ)) → List ℕ → Type 0
-WritesFront least old new text = (n : ℕ) × (least ≤ n) × (new ≡ append_known old (take n text))
-
-abbrev pub course_status : Course → Status
-course_status NotListening = ReadFault
-course_status NotWritten = WriteFault
-course_status (Served true) = ReadFault
-course_status (Served false) = Done
-course_status WithoutMemory = NoMemory
 
 -- STORING
 -- How the image of the last version was stored: `store` took it, or failed; it was too long to be stored; or memory was wanting for it.
@@ -164,11 +116,6 @@ storage_status storage status = status
 abbrev pub serving_text : Serving → Course → Server → Storage → List ℕ
 serving_text s course server storage = concat (course_lines s course server ++ storage_lines storage (course_status course))
 
--- the first line could be written, where there was one
-abbrev pub IsListening : Course → Type 0
-IsListening NotWritten = ⊥
-IsListening course = Unit {0}
-
 -- All lines were written, the sink's count stayed, and the status is that of the course and of the storing.
 pub record TellsWhole (s : Serving) (course : Course) (server : Server) (storage : Storage) (old new : Outside) (ended : Status) : Type 0 where
   pub listening : IsListening course
@@ -179,7 +126,7 @@ pub record TellsWhole (s : Serving) (course : Course) (server : Server) (storage
 -- The sink failed, and a front of their text was written; where links were made, the line that stands before them is in it.
 pub record TellsPart (s : Serving) (course : Course) (server : Server) (storage : Storage) (old new : Outside) (ended : Status) : Type 0 where
   pub status : ended ≡ WriteFault
-  pub part : WritesFront (length (greeting_of s course)) old.written new.written (serving_text s course server storage)
+  pub part : WritesFront (length (greeting_of s.port course)) old.written new.written (serving_text s course server storage)
   pub rose : Rose old.write_faults new.write_faults
 
 -- How a serving ends. Its course and its server, what is written of them, and the last version, which is stored however it ended.

@@ -3,12 +3,19 @@
 
 mod ask;
 mod asking;
+mod course_end;
+mod draw;
+mod drawing;
 mod last_version;
 pub mod laws;
+mod mirror;
+mod mirroring;
 mod serve;
 mod serving;
 mod top;
 
 pub use ask::ask_command;
+pub use draw::draw_command;
+pub use mirror::mirror_command;
 pub use serve::serve_command;
 pub use top::run;

@@ -10,10 +10,11 @@ ghost use Rattle.auth_cli.specs.NetFaults.{net_faults};
 ghost use Rattle.auth_cli.specs.PreparedServers.{IsPrepared};
 ghost use Rattle.file_commands.specs.Reaching.{IsReached};
 ghost use Rattle.auth_cli.specs.ServeSteps.{IsEndTold, TellsCourse};
-ghost use Rattle.auth_cli.specs.Serving.{EndsServing, IsServe, ServeCounts, Served, count_lines, course_status, fault_lines};
+ghost use Rattle.auth_cli.specs.Serving.{EndsServing, IsServe, ServeCounts, count_lines};
 ghost use Rattle.auth_cli.specs.OnlineRuns.{net_seen};
 ghost use Rattle.file_commands.specs.Statuses.{MayAnswer};
 
+use crate::course_end::{end_status, fault_text};
 use crate::last_version::store_last;
 use crate::serving::{PreparedServer, ServeWords, read_serving};
 use digest_layer::Sha;
@@ -127,17 +128,6 @@ fn tell_end<O: Sink>(
     }
 }
 
-/// The status of a serving, whether a link failed or not.
-fn end_status(link_fault: bool) -> Status
-    ensures { result ≡ course_status (Served link_fault) }
-{
-    if link_fault {
-        Status::ReadFault
-    } else {
-        Status::Done
-    }
-}
-
 /// The line of the versions and the commits, and that of a link that failed.
 fn end_text(
     alloc: Global,
@@ -149,11 +139,4 @@ fn end_text(
     let mut text = versions_line(alloc, core.versions().len(), core.commits().len())?;
     text.extend_from_slice(fault_text(link_fault).as_bytes())?;
     Ok(text)
-}
-
-/// The line of a link that failed, where one did.
-fn fault_text(link_fault: bool) -> &'static str
-    ensures { result.now ≡ concat (fault_lines link_fault) }
-{
-    if link_fault { link_fault_line() } else { "" }
 }

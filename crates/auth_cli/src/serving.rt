@@ -128,7 +128,7 @@ fn read_numbers(words: &ServeWords<'_>) -> Result<Numbers, Halt>
 /// The greatest number of a port.
 pub const MOST_PORT: u64 = 65_535;
 /// The greatest number of connections.
-const MOST_CONNECTIONS: u64 = 1_000;
+pub const MOST_CONNECTIONS: u64 = 1_000;
 /// The greatest slice, in calls of functions.
 const MOST_SLICE: u64 = 1_000_000;
 

@@ -5,13 +5,15 @@ ghost use Rattle.std.specs.Io.KnownBytes.{append_known};
 ghost use Rattle.command_words.specs.CommandLine.{AreRefused};
 ghost use Rattle.command_words.specs.Commands.{IsOfCommand, texts};
 ghost use Rattle.command_words.specs.Invocations.{Invocation, invocation_of};
-ghost use Rattle.command_words.specs.declared.command.Command.TheVariants.{Ask, Audit, Prove, Serve};
+ghost use Rattle.command_words.specs.declared.command.Command.TheVariants.{Ask, Audit, Draw, Mirror, Prove, Serve};
 ghost use Rattle.collision_audit.specs.Splits.{Split};
 ghost use Rattle.lam_outside.specs.Causes.{Rose};
-ghost use Rattle.file_commands.specs.Answer.{Asking, answer, answer_with};
+ghost use Rattle.file_commands.specs.Answer.{Asking, Drawing, answer, answer_with};
 ghost use Rattle.auth_cli.specs.Asking.{CallsAsk, IsAsk, TellsTrueOutcomes};
 ghost use Rattle.file_commands.specs.AuditedCalls.{CallsAudit, IsAudited, SplitsAt, TellsAnAudit};
 ghost use Rattle.file_commands.specs.Codes.{code};
+ghost use Rattle.auth_cli.specs.Drawing.{CallsDraw, DrawsTrueOutcomes, IsDraw};
+ghost use Rattle.auth_cli.specs.Mirroring.{IsMirror};
 ghost use Rattle.file_commands.specs.Ending.{outside, EndsAs, IsOfFault, IsOfRefused, IsToldByCode, MayWrite, NoneRose, StoresSome, WritesPart, no_memory_text};
 ghost use Rattle.file_commands.specs.IdealCalls.{IdealCall};
 ghost use Rattle.auth_cli.specs.NetFaults.{NetRose, net_faults};
@@ -25,7 +27,7 @@ ghost use Rattle.file_commands.specs.TrueFetches.{IsTrueFetch};
 ghost use Rattle.file_commands.specs.TrueLines.{IsTrueLine, TellsOutcome};
 ghost use Rattle.file_commands.specs.declared.status.Status.{Status};
 
-use crate::{ask_command, serve_command};
+use crate::{ask_command, draw_command, mirror_command, serve_command};
 use command_words::{Command, WordsFault, read};
 use file_commands::{
     Halt, Status, audit_command, check_command, fetch_command, gen_command, ideal_command,
@@ -50,7 +52,7 @@ use std::thread::Threads;
 /// | 0 | `pieces N` | `pieces`: the mirror that is stored has N pieces |
 /// | 0 | `done VALUE` | the outcome has this value, in projection; the image of the state that `init` or `step` made is stored, and the spelling of the one that `verify` names a file for |
 /// | 0, 3, 4 | `proof new A used U bytes B` | `prove`, behind the outcome's line: the proof has A pieces of its own, names U again, and the file that is stored has B bytes |
-/// | 0, 7, 8, 10 | `listening PORT` | `serve`, as soon as it listens; other lines follow |
+/// | 0, 7, 8, 10 | `listening PORT` | `serve` and `mirror`, as soon as they listen; other lines may follow |
 /// | 0, 7, 8, 10 | `versions V commits C` | `serve`, behind its last connection: it has so many versions of the state, and commits that made them |
 /// | 0, 5, 8, 10 | `S welcome`, `S done VALUE`, `S trap NAME`, `S out of fuel`, `S stale`, `S refused CODE`, `S closed` | `ask`: what session S is told; other lines may follow |
 /// | 0, 5, 8, 10 | `S out of turn` | `ask`: the script asks what session S can't do as it stands; other lines may follow |
@@ -60,7 +62,7 @@ use std::thread::Threads;
 /// | 0, 3, 4 | `agrees ` and such a line | `audit`: the proof is accepted with this outcome, which is the projection of the ideal one |
 /// | 5 | `rejected CAUSE` | the proof is rejected, or a piece of the mirror, for the cause below; in `audit` it shows no collision |
 /// | 5 | `S rejected CAUSE` | `ask`, as the last line: the proof of a call of session S is rejected |
-/// | 5 | `bad reply S stranger`, `bad reply S wrong KIND`, `server closed CODE`, `bad message KIND OFFSET`, `message too long BYTES`, `reply cut`, `reply ended` | `ask`, as the last line: another reply came than one that is waited for, or none |
+/// | 5 | `bad reply S stranger`, `bad reply S wrong KIND`, `server closed CODE`, `bad message KIND OFFSET`, `message too long BYTES`, `reply cut`, `reply ended` | `ask`, as the last line: another reply came than one that is waited for, or none; the last four also of `draw`, of what comes where an answer is waited for |
 /// | 6 | `program refused: KIND LINE COLUMN` | the text is no program: its first fault |
 /// | 7 | `input refused: too long ARGUMENT` | the file that `P`, `STATE`, `IMG`, `SCRIPT` or `MIRROR` names is too long, or the image or the mirror for `OUT` would be |
 /// | 7 | `input refused: library unknown` | the library has no program of this name |
@@ -88,7 +90,7 @@ use std::thread::Threads;
 /// | 7 | `input refused: argument KIND OFFSET` | the argument is no literal of its type: the first fault |
 /// | 7 | `input refused: script LINE` | the line of the script with this number, from 1, asks for nothing: the first such line |
 /// | 8 | `read fault` | a file could not be read |
-/// | 8, 10 | `link fault` | `serve`: it could not listen; `ask`: it could not dial; or, as the last line, a link or an accept failed. 10 where memory was wanting for the image that `serve` stores |
+/// | 8, 10 | `link fault` | `serve`, `mirror`: they could not listen; `ask`, `draw`: they could not dial; or, as the last line, a link or an accept failed. 10 where memory was wanting for the image that `serve` stores |
 /// | 9 | a front of the lines, which may end inside of one | the sink failed, or a file could not be stored: then nothing is written, but by `serve` and `ask` all lines, or a front of them where the sink failed too |
 /// | 10 | `no memory` | memory was wanting; of `serve`, behind `versions V commits C` where it was for the image to store |
 /// | 11 | `collision PLACE OFFERED HONEST` | `audit`: the first offered piece that differs from the honest one has its digest: the place, and both pieces in lower-case hexadecimal digits, one without bytes as `-` |
@@ -105,7 +107,7 @@ use std::thread::Threads;
 /// | `bad-use PLACE NUMBER HELD` | the frame names a kept piece, and fewer are kept |
 /// | `wrong-piece PLACE WANT FOUND` | the digest held, and that of the piece |
 /// | `bad-piece PLACE OFFSET` | the digests agree, and the piece is no spelling |
-/// | `missing PLACE WANT` | `fetch`: the mirror has no piece with the digest held |
+/// | `missing PLACE WANT` | `fetch`, `draw`: the mirror has no piece with the digest held |
 /// | `leftover BYTES` | the run ended, and so many bytes are left, or 65536 where there are more |
 ///
 /// The program's text has at most 262,144 bytes, each other file at most 67,108,864, but that a proof that is judged may
@@ -116,7 +118,8 @@ use std::thread::Threads;
 /// stored before any line is written, but by `serve` and `ask`: they write their lines as they arise, and behind them `serve` stores the
 /// last version, however it ended once its words and files were in order, and `ask` the state told last, once it dialled. Behind
 /// `link fault` and `no memory` no line says that the image wasn't stored: where memory was wanting for it the status is 10, and where it
-/// would be too long it is as before. They alone use the net, and wait for peers; `serve` alone starts threads, for the turns of a round.
+/// would be too long it is as before. `serve`, `ask`, `mirror` and
+/// `draw` alone use the net, and wait for peers; `serve` alone starts threads, for the turns of a round.
 pub fn run<F: Files, O: Sink, N: Net, R: Threads + Sync>(
     rt: &R,
     alloc: Global,
@@ -157,6 +160,23 @@ pub fn run<F: Files, O: Sink, N: Net, R: Threads + Sync>(
     // is the projection of the ideal one, up to the first proof that shows a collision at a named place.
     ensures told_truth { (called : Invocation) → invocation_of (texts words.now) ≡ Some called → called.command ≡ Ask
         → (asking : Asking) (name : List ℕ) → CallsAsk called.texts (F.contents files.old) asking name → TellsTrueOutcomes asking }
+
+    // The one of `mirror`: what was sent on each link that was made, and what was written of it.
+    ensures mirrors { let seen = outside F.contents F.stores F.faults F.store_faults O.written O.faults in
+        let links = net_seen N.ended N.linked N.given N.left N.sent N.reads N.listened (net_faults N.faults N.listen_faults N.accept_faults N.dial_faults) in
+        (called : Invocation) → invocation_of (texts words.now) ≡ Some called → called.command ≡ Mirror
+        → (status : Status) × (result ≡ code status) × IsMirror called.texts (seen files.old out.old) (seen files.new out.new) (links net.old) (links net.new) status }
+
+    // The one of `draw`: what was asked for on the link that was made, and the verdict over the answers that came.
+    ensures draws { let seen = outside F.contents F.stores F.faults F.store_faults O.written O.faults in
+        let links = net_seen N.ended N.linked N.given N.left N.sent N.reads N.listened (net_faults N.faults N.listen_faults N.accept_faults N.dial_faults) in
+        (called : Invocation) → invocation_of (texts words.now) ≡ Some called → called.command ≡ Draw
+        → (status : Status) × (result ≡ code status) × IsDraw called.texts (seen files.old out.old) (seen files.new out.new) (links net.old) (links net.new) status }
+
+    // What `draw` accepts is true, whoever answers and whatever comes: the outcome is the projection of the ideal one, or the first piece that differs
+    // from the honest one has its digest.
+    ensures drawn_truth { (called : Invocation) → invocation_of (texts words.now) ≡ Some called → called.command ≡ Draw
+        → (drawing : Drawing) → CallsDraw called.texts (F.contents files.old) drawing → DrawsTrueOutcomes drawing.call }
 
     // Where no count rose, status, lines and stored files are those of the defined answer, or memory was wanting.
     ensures answered { IsOffline (invocation_of (texts words.now)) → let seen = outside F.contents F.stores F.faults F.store_faults O.written O.faults in
@@ -210,7 +230,7 @@ pub fn run<F: Files, O: Sink, N: Net, R: Threads + Sync>(
         Rose (F.faults files.old) (F.faults files.new) ⊎ NetRose (counts net.old) (counts net.new) → (result ≡ 8) ⊎ ((result ≡ 9) ⊎ (result ≡ 10)) }
     ensures read_fault_line { IsOffline (invocation_of (texts words.now)) → result ≡ 8 → O.written out.new ≡ append_known (O.written out.old) (codes "read fault\n") }
 
-    // Words that call no command on the net leave it as it was; `ask` alone dials, and `serve` alone listens and accepts.
+    // Words that call no command on the net leave it as it was; `ask` and `draw` alone dial, and `serve` and `mirror` alone listen and accept.
     ensures unused { IsOffline (invocation_of (texts words.now)) → net.new ≡ net.old }
     ensures dials { CallsNoDial (invocation_of (texts words.now)) → N.dial_faults net.new ≡ N.dial_faults net.old }
     ensures listens { CallsNoListen (invocation_of (texts words.now))
@@ -286,6 +306,8 @@ fn carry_out<F: Files, O: Sink, N: Net, R: Threads + Sync>(
     match command {
         Command::Serve => serve_command(rt, alloc, words, files, out, net),
         Command::Ask => ask_command(alloc, words, files, out, net),
+        Command::Mirror => mirror_command(alloc, words, files, out, net),
+        Command::Draw => draw_command(alloc, words, files, out, net),
         _ => carry_out_offline(alloc, command, words, files, out),
     }
 }
@@ -318,6 +340,6 @@ fn carry_out_offline<F: Files, O: Sink>(
         Command::Gen => gen_command(alloc, words, out),
         Command::Pieces => pieces_command(alloc, words, files, out),
         Command::Fetch => fetch_command(alloc, words, files, out),
-        Command::Serve | Command::Ask => unreachable!(),
+        Command::Serve | Command::Ask | Command::Mirror | Command::Draw => unreachable!(),
     }
 }

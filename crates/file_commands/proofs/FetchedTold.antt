@@ -1,5 +1,5 @@
 -- What the code tells of a call over a mirror is the verdict over its pieces.
-use Rattle.std.proofs.Common.{◌≡◌, ℕ, Bool, true, false, List, [], ◌∷◌, Option, Some, Result, Ok, Err, bytes_eq, if◌then◌else◌, refl, sym, ap, ◌∙◌, subst, arith}
+use Rattle.std.proofs.Common.{◌≡◌, ℕ, Bool, true, false, List, [], ◌∷◌, Option, Some, Result, Ok, Err, IfErr, bytes_eq, if◌then◌else◌, refl, sym, ap, ◌∙◌, subst, arith}
 use Rattle.std.proofs.lemmas.Slice.Eq.{bytes_eq-Decides}
 use Rattle.core_terms.specs.Formats.{Hash}
 use Rattle.core_terms.specs.Roles.{argument_type}
@@ -20,7 +20,7 @@ use Rattle.piece_mirror.specs.Answers.{answer_of}
 use Rattle.piece_mirror.specs.Mirrors.{first_with}
 use Rattle.printed_lines.specs.Lines.{rejected_line, rejection_line}
 use Rattle.file_commands.specs.Answer.{Answer, says, shallow_told, verdict_answer}
-use Rattle.file_commands.specs.FetchedCalls.{HaltsFor, IsOfStore, TellsVerdict, rejection_of}
+use Rattle.file_commands.specs.FetchedCalls.{HaltsFor, IsNoFault, ReportsVerdict, TellsVerdict, rejection_of}
 use Rattle.fetched_verdicts.specs.Verdicts.{AreAnswersOf, verdict_over}
 use Rattle.file_commands.specs.FueledRoles.{FueledRole}
 use Rattle.file_commands.specs.Halting.{Finds, Found, JudgementCause, WithoutFiles, ending_status}
@@ -94,13 +94,17 @@ module _ {U : Type 0} (pieces : U → List (List ℕ)) (hash : Hash) where
     told_over (Err verdict.FetchFault) h rose = omega (arith, rose)
     told_over (Err verdict.NoMemory) h same = tt
 
--- none is of a store that failed
-pub of_store : (P : Program) (t : Ty) (meant : Verdict) (v : FetchVerdict) → TellsVerdict P t meant (Err v) → IsOfStore v
-of_store P t meant (verdict.Rejected why) told = tt
-of_store P t meant (verdict.BadState offset) told = tt
-of_store P t meant (verdict.BadArgument offset) told = tt
-of_store P t meant verdict.FetchFault told = told
-of_store P t meant verdict.NoMemory told = tt
+-- none is that a store failed
+no_fault : (P : Program) (t : Ty) (meant : Verdict) (v : FetchVerdict) → TellsVerdict P t meant (Err v) → IsNoFault v
+no_fault P t meant (verdict.Rejected why) told = tt
+no_fault P t meant (verdict.BadState offset) told = tt
+no_fault P t meant (verdict.BadArgument offset) told = tt
+no_fault P t meant verdict.FetchFault told = told
+no_fault P t meant verdict.NoMemory told = tt
+
+pub no_fault_told : (P : Program) (t : Ty) (meant : Verdict) (judged : Result (Outcome Spelling) FetchVerdict) → TellsVerdict P t meant judged → IfErr judged IsNoFault
+no_fault_told P t meant (Ok told) tells = tt
+no_fault_told P t meant (Err v) tells = no_fault P t meant v tells
 
 -- the line of a rejection
 rejected_as : (why : FetchCause) (c : Cause) → Tells why c → rejected_line c ≡ rejection_line (rejection_of why)
@@ -110,7 +114,7 @@ rejected_as (cause.WrongPiece place want found) c is = ap rejected_line is
 rejected_as (cause.BadPiece place offset) c is = ap rejected_line is
 
 -- what halts the work is what the answer says
-pub halted_over : (tells : ideal.Outcome → Answer) (P : Program) (t : Ty) (meant : Verdict) (v : FetchVerdict) (halt : Halt) → TellsVerdict P t meant (Err v) → HaltsFor v halt
+halted_over : (tells : ideal.Outcome → Answer) (P : Program) (t : Ty) (meant : Verdict) (v : FetchVerdict) (halt : Halt) → TellsVerdict P t meant (Err v) → HaltsFor v halt
     → WithoutFiles (Finds (Some (verdict_answer tells meant))) (Err halt)
 halted_over tells P t meant (verdict.Rejected why) halt told is =
     subst (λ h. WithoutFiles (Finds (Some (verdict_answer tells meant))) (Err h)) (sym is)
@@ -123,9 +127,17 @@ halted_over tells P t meant verdict.FetchFault halt told is = absurd told
 halted_over tells P t meant verdict.NoMemory halt told is = subst (λ h. WithoutFiles (Finds (Some (verdict_answer tells meant))) (Err h)) (sym is) tt
 
 -- so is the report of an outcome
-pub reported_over : (r : FueledRole) (meant : Verdict) (told : Outcome Spelling) (report : Report) → TellsVerdict (program_called r) (result_called r) meant (Ok told) → Reports r told report
+reported_over : (r : FueledRole) (meant : Verdict) (told : Outcome Spelling) (report : Report) → TellsVerdict (program_called r) (result_called r) meant (Ok told) → Reports r told report
     → Some (verdict_answer (shallow_told r) meant) ≡ Some (says (ending_status report.ending) report.text.items)
 reported_over r meant told report (o, is, spelled) reports = ap (λ v. Some (verdict_answer (shallow_told r) v)) is ∙ ap Some (reports o spelled)
+
+-- and that of a verdict
+pub verdict_reported : (r : FueledRole) (meant : Verdict) (judged : Result (Outcome Spelling) FetchVerdict) (result : Found) → TellsVerdict (program_called r) (result_called r) meant judged
+    → ReportsVerdict r judged result → WithoutFiles (Finds (Some (verdict_answer (shallow_told r) meant))) result
+verdict_reported r meant (Ok told) (Ok report) tells reports = reported_over r meant told report tells reports
+verdict_reported r meant (Ok told) (Err halt) tells is = subst (λ h. WithoutFiles (Finds (Some (verdict_answer (shallow_told r) meant))) (Err h)) (sym is) tt
+verdict_reported r meant (Err v) (Ok report) tells reports = absurd reports
+verdict_reported r meant (Err v) (Err halt) tells reports = halted_over (shallow_told r) (program_called r) (result_called r) meant v halt tells reports
 
 -- what is found without reading files leaves the count of their faults
 pub found_judging : (answer : Option Answer) (result : Found) (before now : ℕ) → WithoutFiles (Finds answer) result → now ≡ before → JudgementCause before now result

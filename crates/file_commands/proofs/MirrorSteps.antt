@@ -1,19 +1,21 @@
 -- The steps of the commands on mirrors: a mirror that is read from its file, and the file that is made of one.
-use Rattle.std.proofs.Common.{◌≡◌, ℕ, List, [], ◌∷◌, length, Option, Some, Vec, Result, Ok, Err, IsErrAnd, nat_le, refl, sym, ap, ◌∙◌, subst, le-leb}
+use Rattle.std.proofs.Common.{◌≡◌, ℕ, List, [], ◌∷◌, length, Option, Some, None, Vec, Result, Ok, Err, IsErrAnd, nat_le, refl, sym, ap, ◌∙◌, subst, le-leb}
 use Rattle.std.specs.declared.alloc.Global.{Global}
-use Rattle.piece_mirror.specs.Files.{Holds, mirror_file, read_mirror}
+use Rattle.piece_mirror.specs.Files.{Faulty, Holds, Mirrored, mirror_file, read_mirror}
 use Rattle.piece_mirror.specs.Loads.{Saves, TellsFault}
 use Rattle.piece_mirror.specs.declared.fault.MirrorFault.{MirrorFault}
 use Rattle.piece_mirror.specs.declared.fault.MirrorFault.TheVariants as mirror_fault
 use Rattle.printed_lines.specs.Lines.{pieces_line}
+use Rattle.printed_lines.specs.declared.refusal.InputFault.TheVariants.{Mirror as BadMirror}
 use Rattle.printed_lines.specs.declared.refusal.Refusal.TheVariants as refusal
-use Rattle.file_commands.specs.Answer.{Answer, max_file, mirror_read, pieces_answer, pieces_file, with_mirror, with_pieces}
+use Rattle.file_commands.specs.Answer.{Answer, input_refused, max_file, mirror_kind, mirror_read, pieces_answer, pieces_file, with_mirror, with_pieces}
 use Rattle.file_commands.specs.Halting.{GoesOn, InHand, of_mirror_fault}
 use Rattle.file_commands.specs.Storing.{FindsOutput}
 use Rattle.file_commands.specs.declared.report.Ending.TheVariants.{Done}
 use Rattle.file_commands.specs.declared.report.Halt.{Halt}
 use Rattle.file_commands.specs.declared.report.Halt.TheVariants.{Usage, Refused, ReadFault, NoMemory}
 use Rattle.file_commands.specs.declared.report.Output.{Output}
+use Rattle.file_commands.specs.declared.status.Status.TheVariants.{InputRefused}
 use Rattle.file_commands.proofs.Ends.{one_line}
 use Rattle.file_commands.proofs.Steps.{halts_behind}
 use Rattle.file_commands.proofs.StoredOutputs.{first_of, second_of, too_great}
@@ -36,6 +38,14 @@ mirror_refused bytes value fault (Err h) halt is = subst (λ h. InHand (GoesOn (
 pub mirror_goes : (bytes : List ℕ) (pieces : List (List ℕ)) → read_mirror bytes ≡ Holds pieces → (go : List (List ℕ) → Option Answer) → with_mirror bytes go ≡ go pieces
 unfolding mirror_read
 mirror_goes bytes pieces is go = ap (λ m. with_pieces m go) is
+
+-- bytes that are none are refused as an input
+pub mirror_inputs : (bytes : List ℕ) (a : Answer) → with_mirror bytes (λ pieces. None) ≡ Some a → a.status ≡ InputRefused
+mirror_inputs bytes a is = by (mirror_read bytes) is
+  where
+    by : (m : Mirrored) → with_pieces m (λ pieces. None) ≡ Some a → a.status ≡ InputRefused
+    by (Holds pieces) is = absurd (cc)
+    by (Faulty fault) is = let same : input_refused (BadMirror (mirror_kind fault)) ≡ a = cc in ap (λ (a : Answer). a.status) (sym same)
 
 -- a file that can't be stored is refused
 pub file_refused : (pieces : List (List ℕ)) (fault : MirrorFault) (result : Result Output Halt) → IsErrAnd result (λ halt. halt ≡ of_mirror_fault fault)

@@ -1,13 +1,14 @@
 -- The statuses that a command may answer, from what its work found and how that was told.
-use Rattle.std.proofs.Common.{◌≡◌, inl, inr, ℕ, List, Option, Some, None, Result, Ok, Err, IfOk, refl, sym, subst, arith}
+use Rattle.std.proofs.Common.{◌≡◌, inl, inr, ℕ, List, Option, Some, None, Result, Ok, Err, IfErr, IfOk, refl, sym, subst, arith}
 use Rattle.command_words.specs.Invocations.{Invocation}
 use Rattle.command_words.specs.declared.command.Command.{Command}
 use Rattle.command_words.specs.declared.command.Command.TheVariants.{Audit}
 use Rattle.lam_outside.specs.Told.{Stores}
 use Rattle.printed_lines.specs.declared.refusal.Refusal.TheVariants as refusal
+use Rattle.file_commands.specs.Answer.{Answer}
 use Rattle.file_commands.specs.Codes.{code}
 use Rattle.file_commands.specs.Ending.{IsOfRefused}
-use Rattle.file_commands.specs.Halting.{Found, HaltCause, JudgementCause, MayHalt, ending_status, halt_status, status_of}
+use Rattle.file_commands.specs.Halting.{Found, GoesOn, HaltCause, InHand, JudgementCause, MayHalt, ending_status, halt_status, status_of}
 use Rattle.file_commands.specs.SoundPrograms.{IsOutcome}
 use Rattle.file_commands.specs.Statuses.{JudgesAProof, MayAnswer, ReadsAProgram, ReadsFiles, RunsAFunction}
 use Rattle.file_commands.specs.Storing.{StoresAndTells, output_status}
@@ -53,6 +54,27 @@ module _ (command : Command) where
   -- what halted the work
   pub halted_possible : (found : Found) (halt : Halt) → found ≡ Err halt → MayAnswer command (halt_status halt) → MayAnswer command (status_of found)
   halted_possible found halt is may = subst (λ (found : Found). MayAnswer command (status_of found)) (sym is) may
+
+  -- the same of a step
+  pub err_possible : {T : Type 0} (result : Result T Halt) (halt : Halt) → result ≡ Err halt → MayAnswer command (halt_status halt) → IfErr result (λ halt. MayAnswer command (halt_status halt))
+  err_possible result halt is may = subst (λ result. IfErr result (λ halt. MayAnswer command (halt_status halt))) (sym is) may
+
+no_program : status.ProgramRefused ≡ status.InputRefused → ⊥
+no_program e = cc (e)
+
+-- a step on what is in hand that refuses inputs alone
+module _ {A T : Type 0} (step : (A → Option Answer) → Option Answer) (value : T → A) (inputs : (a : Answer) → step (λ x. None) ≡ Some a → a.status ≡ status.InputRefused) (command : Command) where
+  pub hand_halt_possible : (halt : Halt) → InHand (GoesOn step value) (Err halt) → MayAnswer command (halt_status halt)
+  hand_halt_possible Usage goes = absurd goes
+  hand_halt_possible (Refused (refusal.Program kind line column)) goes = absurd (no_program (inputs _ (goes (λ x. None))))
+  hand_halt_possible (Refused (refusal.Input fault)) goes = tt
+  hand_halt_possible (Refused (refusal.Proof why)) goes = absurd goes
+  hand_halt_possible ReadFault goes = absurd goes
+  hand_halt_possible NoMemory goes = tt
+
+  pub hand_step_possible : (result : Result T Halt) → InHand (GoesOn step value) result → IfErr result (λ halt. MayAnswer command (halt_status halt))
+  hand_step_possible (Ok t) goes = tt
+  hand_step_possible (Err halt) goes = hand_halt_possible halt goes
 
 -- a command that reads files, and so a program
 module _ (command : Command) (reads : ReadsFiles command) (program : ReadsAProgram command) where

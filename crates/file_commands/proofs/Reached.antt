@@ -73,6 +73,21 @@ pub at_reached : {U : Type 0} (answer : Contents → Option Answer) (name : List
 at_reached answer name contents asked (Ok t) needs faults = tt
 at_reached answer name contents asked (Err halt) needs faults = halt_at answer name contents asked halt needs faults
 
+-- the same of an answer that is another one for all files
+pub reached_as : {U : Type 0} (answer other : Contents → Option Answer) (contents : Option Contents) (asked : Option Names) (result : Result U Halt)
+    → ((files : Contents) → answer files ≡ other files) → FaultsAtReached other contents asked result → FaultsAtReached answer contents asked result
+reached_as answer other contents asked (Ok t) same faults = tt
+reached_as answer other contents asked (Err Usage) same faults = tt
+reached_as answer other contents asked (Err (Refused what)) same faults = tt
+reached_as answer other contents asked (Err ReadFault) same reached =
+    λ files known names told. let last = reached files known names told in (last.0, last.1, same (without last.0 files) ∙ last.2)
+reached_as answer other contents asked (Err NoMemory) same faults = tt
+
+-- and of what it halts
+pub same_fault : {U : Type 0} (answer other : Contents → Option Answer) (contents : Option Contents) (asked : Option Names) (halt : Halt) (result : Result U Halt) → result ≡ Err halt
+    → ((files : Contents) → answer files ≡ other files) → HaltsAtReached other contents asked halt → FaultsAtReached answer contents asked result
+same_fault answer other contents asked halt result is same faults = subst (FaultsAtReached answer contents asked) (sym is) (reached_as {U = ℕ} answer other contents asked (Err halt) same faults)
+
 -- whatever is found behind the last file, where it may fail at each of its reads
 pub any_reached : {U : Type 0} (answer : Contents → Option Answer) (name : List ℕ) (contents : Option Contents) (asked : Option Names) (result : Result U Halt)
     → ForSome contents (λ files. answer (without name files) ≡ None) → ForSome asked (λ names. IsLast name names) → FaultsAtReached answer contents asked result

@@ -20,7 +20,8 @@ use Rattle.ideal_meaning.specs.Headline.{TrueOrSplit, call_of}
 use Rattle.ideal_meaning.specs.PieceForms.{IsOfWhole}
 use Rattle.ideal_meaning.proofs.Headline.{headline}
 use Rattle.ideal_meaning.proofs.RoleCalls.{parameters_are, result_is}
-use Rattle.file_commands.specs.Answer.{callee_of, fetched_verdict, given_by, role_verdict}
+use Rattle.piece_mirror.specs.Answers.{given_by}
+use Rattle.file_commands.specs.Answer.{callee_of, fetched_verdict, role_verdict}
 use Rattle.fetched_verdicts.specs.Verdicts.{AreAnswersOf}
 use Rattle.file_commands.specs.FueledRoles.{FueledRole}
 use Rattle.file_commands.specs.NamedCalls.{NamesRole}
@@ -53,7 +54,8 @@ pub record IsReader (P : Program) (f : ℕ) : Type 0 where
   pub role : IsRole P f (function_at P f).kind (argument_type P f) answer
   pub result : (function_at P f).result ≡ role_result (function_at P f).kind P.state answer
 
-reader : (P : Program) (f : ℕ) → IsSound P → f < length P.functions → ReadsState (function_at P f).kind → IsReader P f
+-- a role of one that reads a state is such
+pub reader : (P : Program) (f : ℕ) → IsSound P → f < length P.functions → ReadsState (function_at P f).kind → IsReader P f
 reader P f sound within reads =
     let g = function_at P f in
     let found = (shape_test_is_exact P).0 sound.shaped f g (there P f within) (reader_entered g.kind reads) in
@@ -97,11 +99,12 @@ reader_headline r state argument proof o reader ideal_state ideal_argument accep
     let pieces = offered_pieces (offered P.format.limit (drop 6 proof) said.0 []) in
     (said.0, said.1, subst (λ t. TrueOrSplit sha256 P f t (call_of state argument) r.fuel pieces o) (sym reader.result) said.2)
 
--- a piece of a text's program that is fetched is what the digest is of
+-- a piece of a sound program that is fetched is what the digest is of
+pub sound_whole : (P : Program) → IsSound P → IsOfWhole sha256 P
+sound_whole P sound = λ t bytes. subst (λ (F : Format). F.digest sha256 t bytes ≡ sha256 (unwrap_or (F.print sha256 t) [] ++ bytes)) (sym sound.format) refl
+
 pub named_whole : (callee : Callee) (program role fuel : List ℕ) (files : Contents) (r : FueledRole) → NamesRole callee program role fuel files r → IsOfWhole sha256 (program_called r)
-named_whole callee program role fuel files r names =
-    let sound = text_is_sound names.program_file.text (program_called r) names.program_file.program in
-    λ t bytes. subst (λ (F : Format). F.digest sha256 t bytes ≡ sha256 (unwrap_or (F.print sha256 t) [] ++ bytes)) (sym sound.format) refl
+named_whole callee program role fuel files r names = sound_whole (program_called r) (text_is_sound names.program_file.text (program_called r) names.program_file.program)
 
 -- what is accepted of a call over a mirror is true, or there is a split
 pub reader_fetched : (r : FueledRole) (state argument : Value) (pieces : List (List ℕ)) (o : Outcome) → IsReader (program_called r) r.role → IsOfWhole sha256 (program_called r)
@@ -111,7 +114,7 @@ pub reader_fetched : (r : FueledRole) (state argument : Value) (pieces : List (L
       state = spelling (projection sha256 (program_called r) (program_called r).state state);
       argument = spelling (projection sha256 (program_called r) (argument_type (program_called r) r.role) argument);
     }) pieces ≡ Accepted o
-    → (answers : List Got) × AreAnswersOf sha256 (given_by pieces) answers (Accepted o)
+    → (answers : List Got) × AreAnswersOf sha256 (given_by sha256 pieces) answers (Accepted o)
     × TrueFromOrSplit sha256 (program_called r) r.role (result_called r) (call_of state argument) r.fuel (offered_pieces (answered answers)) [] o
 unfolding fetched_verdict
 reader_fetched r state argument pieces o reader whole ideal_state ideal_argument accepted =
@@ -119,5 +122,5 @@ reader_fetched r state argument pieces o reader whole ideal_state ideal_argument
     let f = r.role in
     let said =
     true_over sha256 length-sha256 P reader.format reader.typed whole f (function_at P f).kind (argument_type P f) reader.answer reader.role reader.reads state
-    argument ideal_state ideal_argument r.fuel (given_by pieces) o accepted in
+    argument ideal_state ideal_argument r.fuel (given_by sha256 pieces) o accepted in
     (said.0, said.1, subst (λ t. TrueFromOrSplit sha256 P f t (call_of state argument) r.fuel (offered_pieces (answered said.0)) [] o) (sym reader.result) said.2)

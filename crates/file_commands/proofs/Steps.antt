@@ -54,6 +54,12 @@ pub follows : {A B T : Type 0} (first : (A → Option Answer) → Option Answer)
 follows first a next Stands (Ok t) is goes = (goes.0, (λ go. is (λ a. next a go) ∙ goes.1 go), goes.2)
 follows first a next Stands (Err halt) is goes = λ go. halts_behind _ _ halt (is (λ a. next a go)) (goes go)
 
+-- the same where the step gives the value itself
+pub follows_on : {A B T : Type 0} (first : (A → Option Answer) → Option Answer) (a : A) (next : A → (B → Option Answer) → Option Answer) (value : T → B) (result : Result T Halt)
+    → ((go : A → Option Answer) → first go ≡ go a) → GoesOn (next a) value result → GoesOn (λ go. first (λ a. next a go)) value result
+follows_on first a next value (Ok t) is goes = λ go. is (λ a. next a go) ∙ goes go
+follows_on first a next value (Err halt) is goes = λ go. halts_behind _ _ halt (is (λ a. next a go)) (goes go)
+
 -- what halts a step on what is in hand
 pub hand_halts : {A T : Type 0} (step : (A → Option Answer) → Option Answer) (value : T → A) (halt : Halt) → InHand (GoesOn step value) (Err halt) → (go : A → Option Answer) → HaltsAs (step go) halt
 hand_halts step value Usage goes = absurd goes

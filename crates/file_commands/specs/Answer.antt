@@ -3,7 +3,7 @@ use Rattle.std.specs.Prelude.{ℕ, List, [], ◌∷◌, ◌++◌, length, map, B
 use Rattle.sha2.specs.Sha256.{sha256}
 use Rattle.command_words.specs.Invocations.{Invocation, invocation_of}
 use Rattle.command_words.specs.declared.command.Command.{Command}
-use Rattle.command_words.specs.declared.command.Command.TheVariants.{Check, Init, Ideal, Step, Shallow, Prove, Verify, Audit, Library, Gen, Serve, Ask, Pieces, Fetch}
+use Rattle.command_words.specs.declared.command.Command.TheVariants.{Check, Init, Ideal, Step, Shallow, Prove, Verify, Audit, Library, Gen, Serve, Ask, Pieces, Fetch, Mirror, Draw}
 use Rattle.ads_library.specs.Texts.{library_text}
 use Rattle.lam_outside.specs.Told.{Contents, Stores}
 use Rattle.core_terms.specs.ProgramFormats.{most_kept_pieces}
@@ -21,11 +21,9 @@ use Rattle.ideal_meaning.specs.Checked as checked
 use Rattle.ideal_meaning.specs.Checked.{verdict}
 use Rattle.images.specs.Images as images
 use Rattle.images.specs.SavedImages.{saved_image}
-use Rattle.piece_mirror.specs.Answers.{answer_of}
+use Rattle.piece_mirror.specs.Answers.{given_by}
 use Rattle.piece_mirror.specs.Files.{FileFault, IsCut, IsBad, IsLeftover, Mirrored, Holds, Faulty, mirror_file, read_mirror}
 use Rattle.piece_mirror.specs.Filled.{all_added, pieces_in}
-use Rattle.piece_mirror.specs.Mirrors.{first_with}
-use Rattle.ideal_meaning.specs.Fetched.{Got}
 use Rattle.printed_lines.specs.Lines.{agrees_line, calls_line, collision_line, named_done_line, ok_line, out_line, pieces_line, refusal_line, rejected_line, state_line, trap_line}
 use Rattle.printed_lines.specs.declared.refusal.Argument.{Argument}
 use Rattle.printed_lines.specs.declared.refusal.Argument.TheVariants as named
@@ -378,16 +376,12 @@ with_mirror bytes go = with_pieces (mirror_read bytes) go
 abbrev pub with_mirror_file : Option (List ℕ) → (List (List ℕ) → Option Answer) → Option Answer
 with_mirror_file file go = with_file max_file named.Mirror file (λ bytes. with_mirror bytes go)
 
--- what a mirror with these pieces answers to a digest: the first piece that has it
-abbrev pub given_by : List (List ℕ) → List ℕ → Got
-given_by pieces digest = answer_of (first_with sha256 digest pieces)
-
 -- the verdict on a call, over a mirror with these pieces
 unfoldable pub fetched_verdict : RoleCall → List (List ℕ) → checked.Verdict
 fetched_verdict call pieces =
     let r = call.role in
     let P = program_called r in
-    verdict_over sha256 P (given_by pieces) (argument_type P r.role) r.role call.state call.argument r.fuel
+    verdict_over sha256 P (given_by sha256 pieces) (argument_type P r.role) r.role call.state call.argument r.fuel
 
 -- what is answered for a call over a mirror with these pieces
 abbrev pub mirrored_answer : RoleCall → List (List ℕ) → Answer
@@ -621,10 +615,51 @@ with_asking program state port script files go = with_program_file (files progra
 abbrev pub unasked_answer : (program state port script : List ℕ) → Contents → Option Answer
 unasked_answer program state port script files = with_asking program state port script files (λ asking. None)
 
+-- what a mirror answers from on a net: its pieces, the port that is listened to, and the number of links that are answered
+pub record Mirroring : Type 0 where
+  pub pieces : List (List ℕ)
+  pub port : ℕ
+  pub links : ℕ
+
+-- Goes on with the mirror that the words and the files mean: the numbers from left to right, and then the mirror are judged.
+abbrev pub with_mirroring : (mirror port links : List ℕ) → Contents → (Mirroring → Option Answer) → Option Answer
+with_mirroring mirror port links files go =
+    with_number named.Port (positive_within most_port port) (λ n.
+    with_number named.Connections (positive_within most_links links) (λ m.
+    with_mirror_file (files mirror) (λ pieces. go (record { pieces = pieces; port = n; links = m }))))
+
+-- What `mirror MIRROR PORT CONNS` answers where it never comes to listen. How it ends from there on depends on the links, and stands in
+-- `Mirroring.antt`.
+abbrev pub unmirrored_answer : (mirror port links : List ℕ) → Contents → Option Answer
+unmirrored_answer mirror port links files = with_mirroring mirror port links files (λ m. None)
+
+-- a call whose pieces are asked for at a port
+pub record Drawing : Type 0 where
+  pub call : RoleCall
+  pub port : ℕ
+
+-- Goes on with the call that the words and the files mean: the program's file, the role, the fuel, the port, the state and the argument are
+-- judged in this order.
+abbrev pub with_drawn : NamedProgram → (role state argument fuel port : List ℕ) → Contents → (Drawing → Option Answer) → Option Answer
+with_drawn p role state argument fuel port files go =
+    with_fueled_role callee.OfState p role fuel (λ r.
+    with_number named.Port (positive_within most_port port) (λ n.
+    with_role_call r state argument files (λ call. go (record { call = call; port = n }))))
+
+abbrev pub with_drawing : (program role state argument fuel port : List ℕ) → Contents → (Drawing → Option Answer) → Option Answer
+with_drawing program role state argument fuel port files go =
+    with_program_file (files program) (λ p. with_drawn p role state argument fuel port files go)
+
+-- What `draw P ROLE STATE ARG FUEL PORT` answers where it never comes to dial. How it ends from there on depends on the link, and stands in
+-- `Drawing.antt`.
+abbrev pub undrawn_answer : (program role state argument fuel port : List ℕ) → Contents → Option Answer
+undrawn_answer program role state argument fuel port files = with_drawing program role state argument fuel port files (λ d. None)
+
 -- What is answered to a command with the texts of its arguments: `check P`, `init P ROLE ARG FUEL OUT`, `ideal P ROLE IMG ARG FUEL`,
 -- `step P ROLE IMG ARG FUEL OUT`, `shallow P IMG OUT`, `prove P ROLE IMG ARG FUEL N OUT`, `verify P ROLE STATE ARG FUEL PROOF`, or this with `OUT` behind it, `audit P ROLE IMG ARG FUEL PROOF`,
 -- `library NAME`, `gen NAME SEED COUNT N`, `serve P IMG PORT CONNS SLICE OUT` as long as it doesn't listen, `ask P STATE PORT SCRIPT OUT` as
--- long as it doesn't dial, `pieces P IMG OUT`, and `fetch P ROLE STATE ARG FUEL MIRROR`. No command is called with more texts or fewer.
+-- long as it doesn't dial, `pieces P IMG OUT`, `fetch P ROLE STATE ARG FUEL MIRROR`, `mirror MIRROR PORT CONNS` as long as it doesn't listen, and
+-- `draw P ROLE STATE ARG FUEL PORT` as long as it doesn't dial. No command is called with more texts or fewer.
 abbrev pub answer_with : Command → List (List ℕ) → Contents → Option Answer
 answer_with Check (program ∷ []) = checked_answer program
 answer_with Init (program ∷ role ∷ argument ∷ fuel ∷ out ∷ []) = initial_answer program role argument fuel out
@@ -641,6 +676,8 @@ answer_with Serve (program ∷ image ∷ port ∷ links ∷ slice ∷ out ∷ []
 answer_with Ask (program ∷ state ∷ port ∷ script ∷ out ∷ []) = unasked_answer program state port script
 answer_with Pieces (program ∷ image ∷ out ∷ []) = filed_answer program image out
 answer_with Fetch (program ∷ role ∷ state ∷ argument ∷ fuel ∷ mirror ∷ []) = fetched_answer program role state argument fuel mirror
+answer_with Mirror (mirror ∷ port ∷ links ∷ []) = unmirrored_answer mirror port links
+answer_with Draw (program ∷ role ∷ state ∷ argument ∷ fuel ∷ port ∷ []) = undrawn_answer program role state argument fuel port
 answer_with command texts = λ files. None
 
 abbrev pub command_answer : Invocation → Contents → Option Answer

@@ -6,7 +6,7 @@ use Rattle.auth_syntax.specs.Parsing as parsing
 use Rattle.auth_syntax.specs.Syntax.{Program as ProgramSyntax}
 use Rattle.auth_types.specs.CheckedPrograms.{constructors_in}
 use Rattle.command_words.specs.Invocations.{Invocation}
-use Rattle.command_words.specs.declared.command.Command.TheVariants.{Check, Init, Ideal, Step, Shallow, Prove, Verify, Audit, Library, Gen, Serve, Ask, Pieces, Fetch}
+use Rattle.command_words.specs.declared.command.Command.TheVariants.{Check, Init, Ideal, Step, Shallow, Prove, Verify, Audit, Library, Gen, Serve, Ask, Pieces, Fetch, Mirror, Draw}
 use Rattle.core_terms.specs.Programs.{meaning, types_of}
 use Rattle.core_terms.specs.Projection.{digest_at}
 use Rattle.core_terms.specs.Reading.{BadAt}
@@ -39,7 +39,7 @@ use Rattle.value_store.specs.Nodes.{Node}
 use Rattle.value_store.specs.Standing.{ProverNodes, StandsFor}
 use Rattle.value_store.specs.Stores.{nodes_in, store_lent}
 use Rattle.value_store.specs.declared.node.Ref.{Ref}
-use Rattle.file_commands.specs.Answer.{Answer, answer_with, audited_answer, called_answer, callee_of, checked_answer, command_answer, fetched_answer, filed_answer, first_argument, first_role, generated_answer, ideal_answer, initial_answer, input_refused, is_entry, is_get, is_key, is_put, judged_answer, keys_of, library_answer, max_file, max_program, proved_answer, refusal_status, shallow_told, spelled_answer, spelling_stored, state_image, stepped_answer, storing, unasked_answer, unserved_answer, usage_answer, verdict_answer, with_ended_init, with_file, with_first, with_number, with_role_at, with_source, with_state_read}
+use Rattle.file_commands.specs.Answer.{Answer, Drawing, Mirroring, answer_with, audited_answer, called_answer, callee_of, checked_answer, command_answer, fetched_answer, filed_answer, first_argument, first_role, generated_answer, ideal_answer, initial_answer, input_refused, is_entry, is_get, is_key, is_put, judged_answer, keys_of, library_answer, max_file, max_program, proved_answer, refusal_status, shallow_told, spelled_answer, spelling_stored, state_image, stepped_answer, storing, unasked_answer, undrawn_answer, unmirrored_answer, unserved_answer, usage_answer, verdict_answer, with_drawing, with_drawn, with_ended_init, with_file, with_first, with_fueled_role, with_mirror_file, with_mirroring, with_number, with_role_at, with_role_call, with_source, with_state_read}
 use Rattle.file_commands.specs.CallsInStores.{HoldsCall, HoldsSome}
 use Rattle.file_commands.specs.FueledRoles.{DigestedProgram, FueledRole, NamedProgram}
 use Rattle.file_commands.specs.IdealCalls.{IdealCall}
@@ -159,12 +159,38 @@ module _ (p a b c d e f : List ℕ) (files : Contents) where
   pub on_mirrors : (answer_with Pieces (p ∷ a ∷ b ∷ []) files ≡ filed_answer p a b files) × (answer_with Fetch (p ∷ a ∷ b ∷ c ∷ d ∷ e ∷ []) files ≡ fetched_answer p a b c d e files)
   on_mirrors = (refl, refl)
 
+  pub on_mirror_links : (answer_with Mirror (p ∷ a ∷ b ∷ []) files ≡ unmirrored_answer p a b files) × (answer_with Draw (p ∷ a ∷ b ∷ c ∷ d ∷ e ∷ []) files ≡ undrawn_answer p a b c d e files)
+  on_mirror_links = (refl, refl)
+
   -- no command is called with fewer texts, or with more
   pub no_command : (answer_with Check [] files ≡ None) × (answer_with Check (p ∷ a ∷ []) files ≡ None)
   no_command = (refl, refl)
 
   pub words : (invocation : Invocation) → (called_answer None files ≡ Some usage_answer) × (called_answer (Some invocation) files ≡ command_answer invocation files)
   words invocation = (refl, refl)
+
+-- ON A NET
+-- of a mirror the port is judged first, then the number of links, and then its file
+module _ (mirror links : List ℕ) (files : Contents) (go : Mirroring → Option Answer) where
+  pub mirroring : (with_mirroring mirror (codes "0") links files go ≡ Some (input_refused (Number named.Port)))
+      × (with_mirroring mirror (codes "4711") (codes "0") files go ≡ Some (input_refused (Number named.Connections)))
+      × (with_mirroring mirror (codes "4711") (codes "9") files go ≡ with_mirror_file (files mirror) (λ pieces. go (record { pieces = pieces; port = 4711; links = 9 })))
+  mirroring = (refl, refl, refl)
+
+  pub unmirrored : unmirrored_answer mirror (codes "4711") (codes "9") files ≡ with_mirror_file (files mirror) (λ pieces. None)
+  unmirrored = refl
+
+-- of a call the role and the fuel are judged first, then the port, and then the state and the argument
+module _ (p : NamedProgram) (role state argument fuel : List ℕ) (files : Contents) (go : Drawing → Option Answer) where
+  pub drawn : (with_drawn p role state argument fuel (codes "0") files go ≡ with_fueled_role callee.OfState p role fuel (λ r. Some (input_refused (Number named.Port))))
+      × (with_drawn p role state argument fuel (codes "4711") files go
+      ≡ with_fueled_role callee.OfState p role fuel (λ r. with_role_call r state argument files (λ call. go (record { call = call; port = 4711 }))))
+  drawn = (refl, refl)
+
+  -- there is no answer without the program's file
+  pub drawing : (program port : List ℕ) → (with_drawing program role state argument fuel port (λ name. None) go ≡ None)
+      × (undrawn_answer program role state argument fuel port files ≡ with_drawing program role state argument fuel port files (λ d. None))
+  drawing program port = (refl, refl)
 
 -- PROGRAMS
 module _ {A : Type 0} (means : A → tree.Program) (found : TextProgram) (p : A) (kind : ProgramKind) (line column : ℕ) where

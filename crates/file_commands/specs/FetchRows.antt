@@ -1,17 +1,27 @@
 -- Rows for mirrors: what is filed of pieces, how a mirror's file is read, and the verdict over its pieces. Each holds by computing both sides.
-use Rattle.std.specs.Prelude.{◌≡◌, ℕ, List, [], ◌∷◌, codes, Option, Some, None, refl}
+use Rattle.std.specs.Prelude.{◌≡◌, ℕ, List, [], ◌∷◌, codes, Option, Some, None, Ok, Err, refl}
 use Rattle.std.specs.Fmt.{digits}
 use Rattle.core_terms.specs.Types.{UnitTy}
+use Rattle.core_terms.specs.declared.outcome.Outcome.{Outcome as Told}
+use Rattle.core_terms.specs.declared.byte_string.ByteString.{ByteString as Spelling}
 use Rattle.core_terms.specs.Values.{UnitV}
 use Rattle.ideal_meaning.specs.Checked.{Verdict, Accepted, BadArgument, BadPiece, BadState, Broken, Missing, Rejected, WrongPiece}
 use Rattle.ideal_meaning.specs.Examples.{toy, unit_program}
 use Rattle.ideal_meaning.specs.Fetched.{Got, IsBroken, IsPiece}
 use Rattle.ideal_meaning.specs.Ideal.{Done, Out}
 use Rattle.ideal_meaning.specs.Wire.{AtEnd}
+use Rattle.piece_fetch.specs.declared.verdict.FetchVerdict.{FetchVerdict}
+use Rattle.piece_fetch.specs.declared.verdict.FetchVerdict.TheVariants as judged
 use Rattle.piece_mirror.specs.Answers.{answer_of}
 use Rattle.piece_mirror.specs.Mirrors.{first_with}
 use Rattle.file_commands.specs.Answer.{Answer, mirror_read, pieces_answer, pieces_file, says, verdict_answer, with_mirror, with_mirror_file}
 use Rattle.fetched_verdicts.specs.Verdicts.{verdict_over}
+use Rattle.file_commands.specs.FetchedCalls.{HaltsFor, IsNoFault, ReportsVerdict}
+use Rattle.file_commands.specs.FueledRoles.{FueledRole}
+use Rattle.file_commands.specs.Reporting.{Reports}
+use Rattle.file_commands.specs.declared.report.Halt.{Halt}
+use Rattle.file_commands.specs.declared.report.Halt.TheVariants.{NoMemory}
+use Rattle.file_commands.specs.declared.report.Report.{Report}
 use Rattle.file_commands.specs.declared.status.Status.TheVariants.{Done as DoneStatus, InputRefused, Rejected as RejectedStatus}
 
 -- WHAT IS FILED
@@ -90,3 +100,17 @@ argument_is_read_next = refl
 -- and the line of a rejection
 pub rejection_is_told : (told : List ℕ) → verdict_answer (λ o. says DoneStatus told) (over (λ d. IsBroken AtEnd) 1) ≡ says RejectedStatus (codes "reply ended\n")
 rejection_is_told told = refl
+
+-- of what is told the outcome is reported, where there is memory for its line, and else what ends the work for the verdict
+module _ (r : FueledRole) (told : Told Spelling) (verdict : FetchVerdict) (report : Report) (halt : Halt) where
+  pub reports_outcome : (ReportsVerdict r (Ok told) (Ok report) → Reports r told report) × (ReportsVerdict r (Ok told) (Err halt) → halt ≡ NoMemory)
+  reports_outcome = ((λ r. r), (λ r. r))
+
+  pub reports_halt : (ReportsVerdict r (Err verdict) (Ok report) → ⊥) × (ReportsVerdict r (Err verdict) (Err halt) → HaltsFor verdict halt)
+  reports_halt = ((λ r. r), (λ r. r))
+
+  pub halts_for : (HaltsFor judged.NoMemory halt → halt ≡ NoMemory) × (HaltsFor judged.FetchFault halt → ⊥)
+  halts_for = ((λ h. h), (λ h. h))
+
+pub no_faults : IsNoFault judged.NoMemory × (IsNoFault judged.FetchFault → ⊥)
+no_faults = (tt, (λ n. n))

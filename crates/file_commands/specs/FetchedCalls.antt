@@ -20,7 +20,9 @@ use Rattle.printed_lines.specs.declared.refusal.Rejection.{Rejection}
 use Rattle.printed_lines.specs.declared.refusal.Rejection.TheVariants as rejection
 use Rattle.printed_syntax.specs.declared.fault.LiteralKind.TheVariants.{Mismatch}
 use Rattle.file_commands.specs.Answer.{Answer, mirrored_answer, with_mirror_file}
-use Rattle.file_commands.specs.FueledRoles.{NamedProgram}
+use Rattle.file_commands.specs.FueledRoles.{FueledRole, NamedProgram}
+use Rattle.file_commands.specs.Halting.{Found}
+use Rattle.file_commands.specs.Reporting.{Reports}
 use Rattle.file_commands.specs.RolesJudged.{with_named_call}
 use Rattle.file_commands.specs.declared.fetch_call.FetchWords.{FetchWords}
 use Rattle.file_commands.specs.declared.report.Halt.{Halt}
@@ -44,7 +46,7 @@ rejection_of (Broken place wire) = rejection.Broken wire
 rejection_of (WrongPiece place want found) = rejection.Cause (frames.WrongPiece place want found)
 rejection_of (BadPiece place offset) = rejection.Cause (frames.BadPiece place offset)
 
--- what ends the work for a verdict; none comes of a store that fails
+-- what ends the work for a verdict; that whoever gives the pieces failed is none on the call
 abbrev pub HaltsFor : FetchVerdict → Halt → Type 0
 HaltsFor (verdict.Rejected cause) halt = halt ≡ Refused (refusal.Proof (rejection_of cause))
 HaltsFor (verdict.BadState offset) halt = halt ≡ Refused (refusal.Input (input_fault.State offset))
@@ -52,9 +54,16 @@ HaltsFor (verdict.BadArgument offset) halt = halt ≡ Refused (refusal.Input (in
 HaltsFor verdict.FetchFault halt = ⊥
 HaltsFor verdict.NoMemory halt = halt ≡ NoMemory
 
-abbrev pub IsOfStore : FetchVerdict → Type 0
-IsOfStore verdict.FetchFault = ⊥
-IsOfStore verdict = Unit {0}
+abbrev pub IsNoFault : FetchVerdict → Type 0
+IsNoFault verdict.FetchFault = ⊥
+IsNoFault verdict = Unit {0}
+
+-- What is reported of what is told: the outcome, where there was memory for its line, or what ends the work for a verdict.
+abbrev pub ReportsVerdict : FueledRole → Result (Outcome Spelling) FetchVerdict → Found → Type 0
+ReportsVerdict r (Ok told) (Ok report) = Reports r told report
+ReportsVerdict r (Ok told) (Err halt) = halt ≡ NoMemory
+ReportsVerdict r (Err verdict) (Ok report) = ⊥
+ReportsVerdict r (Err verdict) (Err halt) = HaltsFor verdict halt
 
 -- what is answered to the words behind the program
 abbrev pub fetched_behind : NamedProgram → FetchWords → Contents → Option Answer

@@ -1,7 +1,7 @@
 -- The statuses that a command may answer, whatever the files hold.
 use Rattle.std.specs.Prelude.{◌≡◌}
 use Rattle.command_words.specs.declared.command.Command.{Command}
-use Rattle.command_words.specs.declared.command.Command.TheVariants.{Check, Shallow, Verify, Audit, Library, Gen, Serve, Ask, Pieces, Fetch}
+use Rattle.command_words.specs.declared.command.Command.TheVariants.{Check, Shallow, Verify, Audit, Library, Gen, Serve, Ask, Pieces, Fetch, Mirror, Draw}
 use Rattle.file_commands.specs.declared.status.Status.{Status}
 use Rattle.file_commands.specs.declared.status.Status.TheVariants.{Usage, Trap, OutOfFuel, Rejected, ProgramRefused, ReadFault, Collision}
 
@@ -13,6 +13,7 @@ RunsAFunction Library = ⊥
 RunsAFunction Serve = ⊥
 RunsAFunction Ask = ⊥
 RunsAFunction Pieces = ⊥
+RunsAFunction Mirror = ⊥
 RunsAFunction command = Unit {0}
 
 -- the command judges a proof, a server's replies or the pieces of a mirror, which it may reject
@@ -21,6 +22,7 @@ JudgesAProof Verify = Unit {0}
 JudgesAProof Audit = Unit {0}
 JudgesAProof Ask = Unit {0}
 JudgesAProof Fetch = Unit {0}
+JudgesAProof Draw = Unit {0}
 JudgesAProof command = ⊥
 
 -- the command reads files, and the text of a program
@@ -31,6 +33,7 @@ ReadsFiles command = Unit {0}
 
 abbrev pub ReadsAProgram : Command → Type 0
 ReadsAProgram Library = ⊥
+ReadsAProgram Mirror = ⊥
 ReadsAProgram command = Unit {0}
 
 -- None answers as to words that call no command, and an audit alone answers that there is a collision. Each may find a value or an

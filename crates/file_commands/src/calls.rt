@@ -4,7 +4,7 @@ ghost use Rattle.std.specs.Option.{ForSome};
 ghost use Rattle.core_terms.specs.Programs.{meaning};
 ghost use Rattle.lam_outside.specs.Told.{Contents};
 ghost use Rattle.file_commands.specs.Reaching.{FaultsAt, FaultsAtReached};
-ghost use Rattle.file_commands.specs.Answer.{Answer, with_fueled_role, with_state, with_state_file};
+ghost use Rattle.file_commands.specs.Answer.{Answer, with_fueled_role, with_role_call, with_state, with_state_file};
 ghost use Rattle.file_commands.specs.Answer as meant;
 ghost use Rattle.file_commands.specs.FueledRoles.{FueledRole};
 ghost use Rattle.file_commands.specs.Halting.{GoesOn, HaltCause, InHand};
@@ -58,8 +58,31 @@ pub fn read_role_call<F: Files>(
     ensures store_faults { F.store_faults files.new ≡ F.store_faults files.old }
 {
     let called = called_role(program, callee, words.role, words.fuel)?;
+    read_role_inputs(alloc, files, program, called, state, words.argument)
+}
+
+/// The call of a role that was named, on the state that a file spells. What is refused first halts it: the state, the argument.
+pub fn read_role_inputs<F: Files>(
+    alloc: Global,
+    files: &mut F,
+    program: &Program,
+    called: CalledRole,
+    state: &str,
+    argument: &str,
+) -> Result<RoleCall, Halt>
+    requires { (callee : Callee) × IsCalled callee program.now called }
+    ensures goes { let p = program.now in ForSome (F.contents files.old) (λ told.
+        GoesOn (with_role_call (role_of p called) state.now argument.now told) (call_of p) result) }
+    ensures role { IfOk result (λ call. call.called ≡ called) }
+    ensures reached { (next : Contents → meant.RoleCall → Option Answer) → FaultsAtReached
+        (λ told. with_role_call (role_of program.now called) state.now argument.now told (next told)) (F.contents files.old) (F.asked files.new) result }
+    ensures cause { HaltCause (F.faults files.old) (F.faults files.new) result }
+    ensures contents { F.contents files.new ≡ F.contents files.old }
+    ensures stores { F.stores files.new ≡ F.stores files.old }
+    ensures store_faults { F.store_faults files.new ≡ F.store_faults files.old }
+{
     let state = read_state_file(alloc, files, program, state)?;
-    let argument = read_passed(alloc, program, &called, words.argument)?;
+    let argument = read_passed(alloc, program, &called, argument)?;
     Ok(RoleCall {
         called,
         state,

@@ -1,22 +1,24 @@
 // The command `fetch`.
-ghost use Rattle.std.specs.Prelude.{◌≡◌, ◌≤◌, Some, IfOk, length};
+ghost use Rattle.std.specs.Prelude.{◌≡◌, ◌≤◌, Some, IfErr, IfOk, length};
 ghost use Rattle.std.specs.Option.{ForSome};
 ghost use Rattle.command_words.specs.Commands.{texts};
+ghost use Rattle.command_words.specs.declared.command.Command.{Command};
 ghost use Rattle.command_words.specs.declared.command.Command.TheVariants.{Fetch};
 ghost use Rattle.core_terms.specs.Programs.{meaning};
 ghost use Rattle.code_gen.specs.Programs.{program_in};
 ghost use Rattle.piece_mirror.specs.Tables.{bytes_of};
 ghost use Rattle.file_commands.specs.Answer.{answer_with, fetched_answer, fetched_verdict, max_file, mirrored_answer, with_mirror, with_mirror_file};
 ghost use Rattle.file_commands.specs.Ending.{EndsAs, outside};
-ghost use Rattle.file_commands.specs.FetchedCalls.{HaltsFor, IsOfStore, TellsVerdict, fetched_behind, rejection_of};
-ghost use Rattle.file_commands.specs.Halting.{Finds, GoesOn, HaltCause, InHand, JudgementCause, WithoutFiles, ending_status};
+ghost use Rattle.file_commands.specs.FetchedCalls.{HaltsFor, IsNoFault, ReportsVerdict, TellsVerdict, fetched_behind, rejection_of};
+ghost use Rattle.file_commands.specs.Halting.{Finds, GoesOn, HaltCause, InHand, JudgementCause, WithoutFiles, ending_status, halt_status};
 ghost use Rattle.file_commands.specs.Reaching.{FaultsAt, FaultsAtReached, ReachedAt};
 ghost use Rattle.file_commands.specs.ReadPrograms.{named_of};
 ghost use Rattle.file_commands.specs.RoleCalls.{result_called};
 ghost use Rattle.file_commands.specs.RolesCalled.{IsCalled, role_of};
 ghost use Rattle.file_commands.specs.RolesJudged.{call_of};
 ghost use Rattle.file_commands.specs.SoundPrograms.{IsOutcome};
-ghost use Rattle.file_commands.specs.Statuses.{MayAnswer};
+ghost use Rattle.file_commands.specs.Statuses.{MayAnswer, ReadsFiles};
+ghost use Rattle.file_commands.specs.declared.roles.Callee.{Callee};
 ghost use Rattle.file_commands.specs.declared.roles.Callee.TheVariants.{OfState};
 
 use crate::calls::{MAX_FILE, RoleCall, read_role_call};
@@ -26,7 +28,7 @@ use crate::report::{load, tell};
 use crate::roles::{CallWords, CalledRole, Callee};
 use crate::{Halt, Report, Status};
 use code_gen::Code;
-use core_terms::{Cause, Outcome, Spelling};
+use core_terms::{Cause, Outcome, Program, Spelling};
 use digest_layer::Sha;
 use lam_outside::{Files, Sink};
 use piece_fetch::{FetchCause, FetchVerdict, verify_from};
@@ -122,10 +124,15 @@ fn fetch_named<F: Files>(
 }
 
 /// The mirror in a file.
-fn load_mirror_file<F: Files>(alloc: Global, files: &mut F, name: &str) -> Result<Mirror<Sha>, Halt>
+pub fn load_mirror_file<F: Files>(
+    alloc: Global,
+    files: &mut F,
+    name: &str,
+) -> Result<Mirror<Sha>, Halt>
     ensures goes { ForSome (F.contents files.old) (λ told. GoesOn (with_mirror_file (told name.now)) (λ mirror. bytes_of mirror.pieces) result) }
     ensures asked { FaultsAt name.now (F.asked files.new) result }
     ensures cause { HaltCause (F.faults files.old) (F.faults files.new) result }
+    ensures possible { (command : Command) → ReadsFiles command → IfErr result (λ halt. MayAnswer command (halt_status halt)) }
     ensures contents { F.contents files.new ≡ F.contents files.old }
     ensures stores { F.stores files.new ≡ F.stores files.old }
     ensures store_faults { F.store_faults files.new ≡ F.store_faults files.old }
@@ -153,10 +160,8 @@ fn fetch_from(
     ensures finds { WithoutFiles (Finds (Some (mirrored_answer (call_of (program_in code.now) call.now) (bytes_of mirror.old.pieces)))) result }
     ensures ending { IfOk result (λ report. IsOutcome (ending_status report.ending)) }
 {
-    match fetched_outcome(alloc, code, call, mirror) {
-        Ok(outcome) => Ok(outcome_report(alloc, code.program(), &call.called, &outcome)?),
-        Err(verdict) => Err(halt_of(verdict)),
-    }
+    let judged = fetched_outcome(alloc, code, call, mirror);
+    verdict_report(alloc, code.program(), &call.called, judged)
 }
 
 /// The verdict on a call whose pieces a mirror gives.
@@ -182,9 +187,27 @@ fn fetched_outcome(
     )
 }
 
-/// What ends the work for a verdict over a mirror, which never fails.
-fn halt_of(verdict: FetchVerdict) -> Halt
-    requires { IsOfStore verdict }
+/// The report of a verdict on a call: that of its outcome, or what ends the work. Whoever gave the pieces did not fail.
+pub fn verdict_report(
+    alloc: Global,
+    program: &Program,
+    called: &CalledRole,
+    judged: Result<Outcome<Spelling>, FetchVerdict>,
+) -> Result<Report, Halt>
+    requires called { (callee : Callee) × IsCalled callee program.now called.now }
+    requires no_fault { IfErr judged IsNoFault }
+    ensures reports { ReportsVerdict (role_of program.now called.now) judged result }
+    ensures ending { IfOk result (λ report. IsOutcome (ending_status report.ending)) }
+{
+    match judged {
+        Ok(outcome) => Ok(outcome_report(alloc, program, called, &outcome)?),
+        Err(verdict) => Err(verdict_halt(verdict)),
+    }
+}
+
+/// What ends the work for a verdict, where whoever gave the pieces did not fail.
+fn verdict_halt(verdict: FetchVerdict) -> Halt
+    requires { IsNoFault verdict }
     ensures { HaltsFor verdict result }
 {
     match verdict {

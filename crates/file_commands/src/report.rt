@@ -1,11 +1,13 @@
 // What a command's work found, and how it is told.
-ghost use Rattle.std.specs.Prelude.{◌≡◌, ◌≤◌, length, Some, IfOk};
+ghost use Rattle.std.specs.Prelude.{◌≡◌, ◌≤◌, length, Some, IfErr, IfOk};
 ghost use Rattle.std.specs.Option.{ForSome};
+ghost use Rattle.command_words.specs.declared.command.Command.{Command};
 ghost use Rattle.printed_lines.specs.declared.refusal.Refusal.TheVariants.{Input};
 ghost use Rattle.file_commands.specs.declared.report.Halt.TheVariants.{NoMemory, ReadFault, Refused};
 ghost use Rattle.file_commands.specs.Reaching.{FaultsAt};
 ghost use Rattle.file_commands.specs.Answer.{refusal_status, with_file};
-ghost use Rattle.file_commands.specs.Halting.{GoesOn, HaltCause, ending_status, of_audit_fault, of_image_fault, of_literal_fault, of_mirror_fault, of_program_fault, of_save_fault, of_script_fault, of_verdict};
+ghost use Rattle.file_commands.specs.Halting.{GoesOn, HaltCause, ending_status, halt_status, of_audit_fault, of_image_fault, of_literal_fault, of_mirror_fault, of_program_fault, of_save_fault, of_script_fault, of_verdict};
+ghost use Rattle.file_commands.specs.Statuses.{MayAnswer, ReadsFiles};
 ghost use Rattle.file_commands.specs.Telling.{Tells, TellsText};
 
 use crate::Status;
@@ -226,6 +228,7 @@ pub fn load<F: Files>(
     ensures fits { IfOk result (λ bytes. length bytes.items ≤ max) }
     ensures asked { FaultsAt name.now (F.asked files.new) result }
     ensures cause { HaltCause (F.faults files.old) (F.faults files.new) result }
+    ensures possible { (command : Command) → ReadsFiles command → IfErr result (λ halt. MayAnswer command (halt_status halt)) }
     ensures contents { F.contents files.new ≡ F.contents files.old }
     ensures stores { F.stores files.new ≡ F.stores files.old }
     ensures store_faults { F.store_faults files.new ≡ F.store_faults files.old }

@@ -5,7 +5,7 @@ ghost use Rattle.std.specs.Prelude.{◌≡◌};
 #[derive(Clone, Copy)]
 pub enum Status {
     /// The work was done: the outcome has a value, the program is accepted, the text, the state, the sums or the number of pieces were told,
-    /// `serve` served its connections, or `ask` played its script to the end, whatever outcomes came in it.
+    /// `serve` or `mirror` served its connections, or `ask` played its script to the end, whatever outcomes came in it.
     Done,
     /// The words call no command.
     Usage,

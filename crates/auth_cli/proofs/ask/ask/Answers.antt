@@ -2,7 +2,7 @@ use Rattle.std.proofs.Common.{rules, ◌≡◌, inl, inr, refl, ◌∙◌}
 use Rattle.lam_outside.specs.Links.{links_so_far}
 use Rattle.auth_cli.specs.PreparedClients.{asked_by}
 use Rattle.auth_cli.proofs.AskLinks.{line_told, net_counts, played_on}
-use Rattle.auth_cli.proofs.ServeGone.{same_links}
+use Rattle.auth_cli.proofs.OnlineRuns.{same_links}
 use Rattle.auth_cli.proofs.ask.ask.Goals as goal
 
 pub returns-in-Ok-clause-ends : goal.returns-in-Ok-clause-ends

@@ -7,7 +7,7 @@ use Rattle.auth_cli.proofs.AskCounted.{asking_counted, asking_possible, asking_r
 use Rattle.auth_cli.proofs.AskRuns.{asked_from, asked_of_words, asking_apart, unasked_apart}
 use Rattle.file_commands.proofs.Ends.{ends_as, judging}
 use Rattle.file_commands.proofs.Possible.{found_possible, told_possible}
-use Rattle.auth_cli.proofs.ServeRuns.{halted_at, same_seen}
+use Rattle.auth_cli.proofs.OnlineRuns.{halted_at, same_seen}
 use Rattle.file_commands.proofs.Words.{ends_apart, text_at}
 use Rattle.auth_cli.proofs.ask.ask_command.Goals as goal
 

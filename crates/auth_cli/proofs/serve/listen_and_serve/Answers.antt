@@ -1,11 +1,13 @@
 use Rattle.std.proofs.Common.{◌≡◌, List, [], ◌++◌, take, ℕ, Some, inl, inr, refl, ap, sym, ◌∙◌, append-nil, arith}
 use Rattle.std.specs.Io.KnownBytes.{append_known}
 use Rattle.printed_lines.specs.Lines.{listening_line}
-use Rattle.auth_cli.specs.Serving.{NotListening, NotWritten, first_server}
+use Rattle.auth_cli.specs.Courses.{NotListening, NotWritten}
+use Rattle.auth_cli.specs.Serving.{course_lines, first_server}
 use Rattle.lam_outside.proofs.Moved.{append_none}
 use Rattle.auth_cli.proofs.ServeCourses.{links_told}
-use Rattle.auth_cli.proofs.ServeGone.{not_listening, not_written, same_faults, same_links}
-use Rattle.auth_cli.proofs.ServeTexts.{course_told}
+use Rattle.auth_cli.proofs.Courses.{course_told}
+use Rattle.auth_cli.proofs.OnlineRuns.{same_faults, same_links}
+use Rattle.auth_cli.proofs.ServeGone.{not_listening, not_written}
 use Rattle.auth_cli.proofs.serve.listen_and_serve.Goals as goal
 
 pub returns-in-Ok-write_all-clause-course : goal.returns-in-Ok-write_all-clause-course
@@ -46,6 +48,6 @@ returns-in-Err-clause-course g c = λ s prepared.
       server = first_server s;
       gone = not_listening s _ _ (same_links _ _ _ _ _ _ _ _ _ _ _ _ fails.ended fails.linked fails.given fails.left fails.sent fails.reads) fails.as_before fails.cause.failed fails.faults fails.accepts fails.dials;
       server_left = record { serves = prepared.serves; some = prepared.some };
-      is_told = course_told s NotListening (first_server s) [] c.as_bytes.result.now (ap (λ (line : List ℕ). line ++ []) (sym c.link_fault_line.ensures ∙ sym c.as_bytes.ensures.value) ∙ append-nil _) tt (omega arith)
+      is_told = course_told s.port NotListening (course_lines s NotListening (first_server s)) [] c.as_bytes.result.now (ap (λ (line : List ℕ). line ++ []) (sym c.link_fault_line.ensures ∙ sym c.as_bytes.ensures.value) ∙ append-nil _) tt (omega arith)
           c.tell_text.result _ _ _ _ _ _ (sym (append_none _)) refl c.tell_text.ensures;
     }

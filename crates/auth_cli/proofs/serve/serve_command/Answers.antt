@@ -8,7 +8,8 @@ use Rattle.file_commands.specs.declared.report.Report.{Report}
 use Rattle.file_commands.proofs.Ends.{ends_as, judging}
 use Rattle.file_commands.proofs.Possible.{found_possible, told_possible}
 use Rattle.auth_cli.proofs.ServeCounted.{serving_counted, serving_possible, unserved_counted}
-use Rattle.auth_cli.proofs.ServeRuns.{both, either_apart, from_seen, halted_at, means_apart, of_words_apart, prepared_at, same_numbers, same_seen}
+use Rattle.auth_cli.proofs.OnlineRuns.{halted_at, same_seen}
+use Rattle.auth_cli.proofs.ServeRuns.{both, either_apart, from_seen, means_apart, of_words_apart, prepared_at, same_numbers}
 use Rattle.file_commands.proofs.Words.{ends_apart, text_at}
 use Rattle.auth_cli.proofs.serve.serve_command.Goals as goal
 

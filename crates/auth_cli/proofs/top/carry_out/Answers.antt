@@ -1,5 +1,5 @@
 use Rattle.command_words.specs.Commands.{texts}
-use Rattle.command_words.specs.declared.command.Command.TheVariants.{Ask, Serve}
+use Rattle.command_words.specs.declared.command.Command.TheVariants.{Ask, Draw, Mirror, Serve}
 use Rattle.auth_cli.proofs.NetRuns.{online_read}
 use Rattle.auth_cli.proofs.top.carry_out.Goals as goal
 
@@ -8,3 +8,9 @@ returns-in-Serve-clause-reached g c = online_read c.args.command Serve (texts c.
 
 pub returns-in-Ask-clause-reached : goal.returns-in-Ask-clause-reached
 returns-in-Ask-clause-reached g c = online_read c.args.command Ask (texts c.args.words.now) _ _ _ _ c.ask_command.result c.in-Ask.is c.ask_command.ensures.reached
+
+pub returns-in-Mirror-clause-reached : goal.returns-in-Mirror-clause-reached
+returns-in-Mirror-clause-reached g c = online_read c.args.command Mirror (texts c.args.words.now) _ _ _ _ c.mirror_command.result c.in-Mirror.is c.mirror_command.ensures.reached
+
+pub returns-in-Draw-clause-reached : goal.returns-in-Draw-clause-reached
+returns-in-Draw-clause-reached g c = online_read c.args.command Draw (texts c.args.words.now) _ _ _ _ c.draw_command.result c.in-Draw.is c.draw_command.ensures.reached

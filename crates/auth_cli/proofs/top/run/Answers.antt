@@ -11,7 +11,8 @@ use Rattle.auth_cli.proofs.AnsweredRuns.{audited_run, prove_tells, proved_run, s
 use Rattle.auth_cli.proofs.Answered.{answered, fault_line, memory_line, part_written, stored, stored_first}
 use Rattle.auth_cli.proofs.AskTruths.{texts_truth}
 use Rattle.auth_cli.proofs.Called.{refused_code}
-use Rattle.auth_cli.proofs.NetRuns.{AreBelow, command_is_offline, fetched_run, reached_risen, run_asks, run_dials, run_fault, run_listens, run_offline, run_rose, run_serves, run_writes, true_run}
+use Rattle.auth_cli.proofs.DrawTruths.{drawn_truth}
+use Rattle.auth_cli.proofs.NetRuns.{AreBelow, command_is_offline, fetched_run, reached_risen, run_asks, run_dials, run_draws, run_fault, run_listens, run_mirrors, run_offline, run_rose, run_serves, run_writes, true_run}
 use Rattle.file_commands.proofs.Possible.{collision_alone, usage_alone}
 use Rattle.file_commands.proofs.Reached.{read_fault_of_code}
 use Rattle.auth_cli.proofs.top.run.Goals as goal
@@ -27,6 +28,15 @@ returns-clause-asks g c = λ called is ask. (c.ended.result, c.code.ensures, run
 
 pub returns-clause-told_truth : goal.returns-clause-told_truth
 returns-clause-told_truth g c = λ called is ask asking name calls. texts_truth asking calls.of_texts
+
+pub returns-clause-mirrors : goal.returns-clause-mirrors
+returns-clause-mirrors g c = λ called is mirror. (c.ended.result, c.code.ensures, run_mirrors (invocation_of (texts c.args.words.now)) called _ _ _ _ c.ended.result is mirror c.ended.ensures.ends)
+
+pub returns-clause-draws : goal.returns-clause-draws
+returns-clause-draws g c = λ called is draw. (c.ended.result, c.code.ensures, run_draws (invocation_of (texts c.args.words.now)) called _ _ _ _ c.ended.result is draw c.ended.ensures.ends)
+
+pub returns-clause-drawn_truth : goal.returns-clause-drawn_truth
+returns-clause-drawn_truth g c = λ called is draw drawing calls. drawn_truth called.texts drawing calls.of_texts
 
 pub returns-clause-headline : goal.returns-clause-headline
 returns-clause-headline g c = rw c.code.ensures (true_run (texts c.args.words.now) _ _ _ _ c.ended.result c.ended.ensures.ends)

@@ -1,18 +1,14 @@
-use Rattle.std.proofs.Common.{ℕ, List, Option, ap, ◌∙◌}
-use Rattle.std.proofs.lemmas.Result.{err_from_is_err_and}
-use Rattle.file_commands.specs.Answer.{Answer, RoleCall, with_fueled_role, with_role_call}
+use Rattle.std.proofs.Common.{◌≡◌, Option, sym, subst}
+use Rattle.std.proofs.lemmas.Result.{IfOk-weaker, err_from_is_err_and}
+use Rattle.file_commands.specs.Answer.{Answer, with_fueled_role, with_role_call}
 use Rattle.file_commands.specs.FueledRoles.{FueledRole}
 use Rattle.file_commands.specs.ReadPrograms.{named_of}
-use Rattle.file_commands.specs.Reaching.{without}
-use Rattle.file_commands.specs.RolesCalled.{role_of}
-use Rattle.file_commands.specs.RolesJudged.{call_of, with_named_call, with_spelled}
-use Rattle.file_commands.proofs.Reached.{call_step, faults_reached, hand_reached, is_missing}
-use Rattle.file_commands.proofs.Steps.{halted, halts_behind, halts_first, hand_halts}
+use Rattle.file_commands.specs.RolesCalled.{IsCalled, role_of}
+use Rattle.file_commands.specs.RolesJudged.{call_of, with_named_call}
+use Rattle.file_commands.specs.declared.calls.RoleCall.{RoleCall as Call}
+use Rattle.file_commands.proofs.Reached.{hand_reached, reached_as}
+use Rattle.file_commands.proofs.Steps.{follows_on, halts_first, hand_halts}
 use Rattle.file_commands.proofs.calls.read_role_call.Goals as goal
-
--- what stands behind the state
-abbrev behind_state : (argument : List ℕ) → FueledRole → (RoleCall → Option Answer) → List ℕ → Option Answer
-behind_state argument r go s = with_spelled r argument (λ a. go (record { role = r; state = s; argument = a }))
 
 pub returns-in_err-called-clause-goes : goal.returns-in_err-called-clause-goes
 returns-in_err-called-clause-goes g c = λ told known.
@@ -30,55 +26,32 @@ returns-in_err-called-clause-reached g c = λ next.
     hand_reached (with_fueled_role c.args.callee (named_of p) words.role.now words.fuel.now) (role_of p)
     (λ told. with_named_call c.args.callee (named_of p) words.role.now words.fuel.now c.args.state.now words.argument.now told (next told)) _ _ _ c.from_residual.result (cc) c.in_err-called.ensures.goes
 
-pub returns-in_err-state-clause-goes : goal.returns-in_err-state-clause-goes
-returns-in_err-state-clause-goes g c = λ told known.
-    let p = c.args.program.now in
-    let words = c.args.words.now in
-    let r = role_of p c.in_ok-called.called in
-    let err = err_from_is_err_and c.from_residual-in_err-state.result c.from_residual-in_err-state.ensures.1 in
-    halted (with_named_call c.args.callee (named_of p) words.role.now words.fuel.now c.args.state.now words.argument.now told) (call_of p) c.from_residual-in_err-state.result _ (cc)
-    (λ go. halts_behind _ _ _ (c.in_ok-called.ensures.goes (λ r. with_role_call r c.args.state.now words.argument.now told go)) (c.in_err-state.ensures.goes told known (behind_state words.argument.now r go)))
-
-pub returns-in_err-state-clause-reached : goal.returns-in_err-state-clause-reached
-returns-in_err-state-clause-reached g c = λ next.
-    let p = c.args.program.now in
-    let words = c.args.words.now in
-    let state = c.args.state.now in
-    let r = role_of p c.in_ok-called.called in
-    let err = err_from_is_err_and c.from_residual-in_err-state.result c.from_residual-in_err-state.ensures.1 in
-    faults_reached (λ told. with_named_call c.args.callee (named_of p) words.role.now words.fuel.now state words.argument.now told (next told)) state _ _ _ c.from_residual-in_err-state.result (cc)
-    (λ files known. c.in_ok-called.ensures.goes (λ r. with_role_call r state words.argument.now (without state files) (next (without state files)))
-    ∙ ap (λ file. call_step r words.argument.now file (next (without state files))) (is_missing state files)) c.in_err-state.ensures.asked
-
-pub returns-in_err-argument-clause-goes : goal.returns-in_err-argument-clause-goes
-returns-in_err-argument-clause-goes g c = λ told known.
-    let p = c.args.program.now in
-    let words = c.args.words.now in
-    let r = role_of p c.in_ok-called.called in
-    let state = c.in_ok-state.state.items in
-    let err = err_from_is_err_and c.from_residual-in_err-argument.result c.from_residual-in_err-argument.ensures.1 in
-    halted (with_named_call c.args.callee (named_of p) words.role.now words.fuel.now c.args.state.now words.argument.now told) (call_of p) c.from_residual-in_err-argument.result _ (cc)
-    (λ go. halts_behind _ _ _ (c.in_ok-called.ensures.goes (λ r. with_role_call r c.args.state.now words.argument.now told go)
-    ∙ c.in_ok-state.ensures.goes told known (behind_state words.argument.now r go))
-    (hand_halts (with_spelled r words.argument.now) (λ (a : List ℕ). a) _ c.in_err-argument.ensures (λ a. go (record { role = r; state = state; argument = a }))))
-
-pub returns-in_err-argument-clause-reached : goal.returns-in_err-argument-clause-reached
-returns-in_err-argument-clause-reached g c = λ next.
-    let p = c.args.program.now in
-    let words = c.args.words.now in
-    let r = role_of p c.in_ok-called.called in
-    let err = err_from_is_err_and c.from_residual-in_err-argument.result c.from_residual-in_err-argument.ensures.1 in
-    hand_reached (with_spelled r words.argument.now) (λ (a : List ℕ). a)
-    (λ told. with_named_call c.args.callee (named_of p) words.role.now words.fuel.now c.args.state.now words.argument.now told (next told)) _ _ _ c.from_residual-in_err-argument.result (cc) c.in_err-argument.ensures
-
-pub read_passed-requires : goal.read_passed-requires
-read_passed-requires g c = (c.args.callee, c.in_ok-called.ensures.valid)
+pub read_role_inputs-requires : goal.read_role_inputs-requires
+read_role_inputs-requires g c = (c.args.callee, c.in_ok-called.ensures.valid)
 
 pub returns-clause-goes : goal.returns-clause-goes
-returns-clause-goes g c = λ told known go.
+returns-clause-goes g c = λ told known.
+    let p = c.args.program.now in
     let words = c.args.words.now in
-    let r = role_of c.args.program.now c.in_ok-called.called in
-    let state = c.in_ok-state.state.items in
-    c.in_ok-called.ensures.goes (λ r. with_role_call r c.args.state.now words.argument.now told go)
-    ∙ (c.in_ok-state.ensures.goes told known (behind_state words.argument.now r go)
-    ∙ c.in_ok-argument.ensures (λ a. go (record { role = r; state = state; argument = a })))
+    follows_on (with_fueled_role c.args.callee (named_of p) words.role.now words.fuel.now) (role_of p c.in_ok-called.called)
+    (λ r go. with_role_call r c.args.state.now words.argument.now told go) (call_of p) c.read_role_inputs.result c.in_ok-called.ensures.goes (c.read_role_inputs.ensures.goes told known)
+
+pub returns-clause-role : goal.returns-clause-role
+returns-clause-role g c =
+    let p = c.args.program.now in
+    let words = c.args.words.now in
+    IfOk-weaker c.read_role_inputs.result _ _ (λ (call : Call) is (go : FueledRole → Option Answer).
+    subst (λ called. with_fueled_role c.args.callee (named_of p) words.role.now words.fuel.now go ≡ go (role_of p called)) (sym is) (c.in_ok-called.ensures.goes go)) c.read_role_inputs.ensures.role
+
+pub returns-clause-valid : goal.returns-clause-valid
+returns-clause-valid g c =
+    IfOk-weaker c.read_role_inputs.result _ _ (λ (call : Call) is. subst (λ called. IsCalled c.args.callee c.args.program.now called) (sym is) c.in_ok-called.ensures.valid) c.read_role_inputs.ensures.role
+
+pub returns-clause-reached : goal.returns-clause-reached
+returns-clause-reached g c = λ next.
+    let p = c.args.program.now in
+    let words = c.args.words.now in
+    let r = role_of p c.in_ok-called.called in
+    reached_as (λ told. with_named_call c.args.callee (named_of p) words.role.now words.fuel.now c.args.state.now words.argument.now told (next told))
+    (λ told. with_role_call r c.args.state.now words.argument.now told (next told)) _ _ c.read_role_inputs.result
+    (λ files. c.in_ok-called.ensures.goes (λ r. with_role_call r c.args.state.now words.argument.now files (next files))) (c.read_role_inputs.ensures.reached next)

@@ -7,8 +7,9 @@ use Rattle.core_terms.specs.Roles.{argument_type}
 use Rattle.core_terms.specs.TypeTables.{type_at}
 use Rattle.core_terms.specs.Terms.{function_at}
 use Rattle.fetched_verdicts.specs.Verdicts.{verdict_over}
+use Rattle.piece_mirror.specs.Answers.{given_by}
 use Rattle.piece_mirror.specs.Tables.{bytes_of}
-use Rattle.file_commands.specs.Answer.{fetched_verdict, given_by}
+use Rattle.file_commands.specs.Answer.{fetched_verdict}
 use Rattle.file_commands.specs.FetchedCalls.{TellsVerdict}
 use Rattle.file_commands.specs.declared.roles.Callee.TheVariants.{OfState}
 use Rattle.file_commands.proofs.FetchedTold.{told_over}
@@ -36,7 +37,7 @@ returns c =
     let P = meaning (program_in c.args.code.now) in
     let call = c.args.call.now in
     let f = call.called.function.0 in
-    let get = given_by (bytes_of c.args.mirror.now.pieces) in
+    let get = given_by sha256 (bytes_of c.args.mirror.now.pieces) in
     subst (λ s. TellsVerdict P (function_at P f).result (verdict_over sha256 P get (argument_type P f) f s call.argument call.called.fuel) c.verify_from.result) c.deref.ensures.value
     (subst (λ a. TellsVerdict P (function_at P f).result (verdict_over sha256 P get (argument_type P f) f c.deref.result.now a call.called.fuel) c.verify_from.result) c.as_bytes.ensures
     (told_over (λ mirror. bytes_of mirror.pieces) sha256 P f c.deref.result.now c.as_bytes.result.now call.called.fuel c.args.mirror.now c.verify_from.new.from c.verify_from.result

@@ -3,7 +3,8 @@ use Rattle.std.proofs.lemmas.Result.{err_from_is_err_and}
 use Rattle.piece_mirror.specs.Tables.{bytes_of}
 use Rattle.printed_lines.specs.declared.refusal.Argument.TheVariants.{Mirror}
 use Rattle.file_commands.specs.Answer.{max_file, with_file, with_mirror}
-use Rattle.file_commands.proofs.MirrorSteps.{goes_on_behind}
+use Rattle.file_commands.proofs.MirrorSteps.{goes_on_behind, mirror_inputs}
+use Rattle.file_commands.proofs.Possible.{err_possible, hand_step_possible}
 use Rattle.file_commands.proofs.Steps.{halts_first}
 use Rattle.file_commands.proofs.fetch_call.load_mirror_file.Goals as goal
 
@@ -16,3 +17,12 @@ pub returns-clause-goes : goal.returns-clause-goes
 returns-clause-goes g c = λ told known.
     goes_on_behind (with_file max_file Mirror (told c.args.name.now)) c.deref.result.now with_mirror (λ mirror. bytes_of mirror.pieces)
     c.load_mirror.result (λ go. c.in_ok-bytes.ensures.goes told known go ∙ ap go (sym c.deref.ensures.value)) c.load_mirror.ensures
+
+pub returns-in_err-bytes-clause-possible : goal.returns-in_err-bytes-clause-possible
+returns-in_err-bytes-clause-possible g c = λ command reads.
+    let halted = err_from_is_err_and c.from_residual.result c.from_residual.ensures.1 in
+    err_possible command c.from_residual.result _ (cc) (c.in_err-bytes.ensures.possible command reads)
+
+pub returns-clause-possible : goal.returns-clause-possible
+returns-clause-possible g c = λ command reads.
+    hand_step_possible (with_mirror c.deref.result.now) (λ mirror. bytes_of mirror.pieces) (mirror_inputs c.deref.result.now) command c.load_mirror.result c.load_mirror.ensures

@@ -1,0 +1,31 @@
+-- What the code holds of a call before its link is made.
+use Rattle.std.specs.Prelude.{◌≡◌, ℕ, List, [], ◌∷◌, Option}
+use Rattle.code_gen.specs.Programs.{program_in}
+use Rattle.core_terms.specs.declared.program.Program.{Program}
+use Rattle.file_commands.specs.Answer.{Answer, Drawing, with_fueled_role}
+use Rattle.file_commands.specs.FueledRoles.{FueledRole, NamedProgram}
+use Rattle.file_commands.specs.RolesCalled.{IsCalled}
+use Rattle.file_commands.specs.RolesJudged.{call_of}
+use Rattle.file_commands.specs.declared.roles.Callee.TheVariants.{OfState}
+use Rattle.auth_cli.specs.declared.drawing.DrawInputs.{DrawInputs}
+use Rattle.auth_cli.specs.declared.drawing.DrawWords.{DrawWords}
+use Rattle.auth_cli.specs.declared.drawing.PreparedDrawing.{PreparedDrawing}
+
+-- the texts that the words are
+abbrev pub texts_of : DrawWords → List (List ℕ)
+texts_of words = words.call.program.now ∷ words.call.role.now ∷ words.state.now ∷ words.call.argument.now ∷ words.call.fuel.now ∷ words.port.now ∷ []
+
+-- what is to be judged of a program with these inputs, and what is held of it
+abbrev pub drawn_with : Program → DrawInputs → Drawing
+drawn_with p inputs = record { call = call_of p inputs.call; port = inputs.port }
+
+abbrev pub drawing_of : PreparedDrawing → Drawing
+drawing_of held = record { call = call_of (program_in held.code) held.call; port = held.port }
+
+-- The words tell this role and its fuel: with them it is gone on, whatever the files hold.
+abbrev pub TellsRole : NamedProgram → (role fuel : List ℕ) → FueledRole → Type 0
+TellsRole p role fuel r = (go : FueledRole → Option Answer) → with_fueled_role OfState p role fuel go ≡ go r
+
+-- the role is one of the program's that read a state, and is called with as much fuel as there may be
+abbrev pub IsReady : PreparedDrawing → Type 0
+IsReady held = IsCalled OfState (program_in held.code) held.call.called
