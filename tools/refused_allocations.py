@@ -9,7 +9,8 @@ tells how many allocations a run makes, and of how many refusals it answers `no 
 the refusal was of more room than was needed, or of what a run can do without, it may answer what it answers with none refused. Any
 other answer is told, and the status is 1 then.
 
-`serve` has a client of its own, which sends all of its requests and reads to the end; and `ask` a server, which sends all of its replies.
+`serve` and `mirror` have a client, which sends all of its requests and reads to the end; and `ask` and `draw` a server, which sends all of its
+replies.
 What was sent behind a refusal has to be a front of what is sent with none refused, and a stored version one of those that the requests make.
 """
 import argparse
@@ -160,6 +161,10 @@ SERVED = [
     (SPIN, "true", 1, hello(1, SPIN, digest(TRUE)) + hello(2, SPIN, digest(TRUE)) + call(1, 1, 100, integer(3) + TRUE) + call(2, 1, 100, integer(0) + FALSE) + go(10)),
 ]
 
+# what is sent to `mirror`, and what is replied to `draw`: a piece that is there, and one that isn't; the piece twice, and a false one
+FETCHES = message(5, 0, TRUE) + message(5, 0, NONE)
+ANSWERS = [message(0x86, 0, b"\1") * 2, message(0x86, 0, b"\0")]
+
 # a program, the literal of its state, a script of `ask`, and what is replied
 ASKED = [
     (FIRST, "()", "open 1 0\ncall 1 open 1 ()\ngo\nclose 1\n", message(0x81, 1) + message(0x82, 1, bytes(5)) + message(0x85, 1, bytes(1))),
@@ -233,6 +238,10 @@ def cases(refusals):
         yield ["serve", "p", "i", "PORT", "1", str(piece), "o"], files_of(refusals, program, literal), ServedClient(requests)
     for program, literal, script, replies in ASKED:
         yield ["ask", "p", "s", "PORT", "t", "o"], files_of(refusals, program, literal, t=script.encode()), AskedServer(replies)
+    switch = files_of(refusals, SWITCH, "true", q=MIRROR)
+    yield ["mirror", "q", "PORT", "1"], switch, ServedClient(FETCHES)
+    for answers in ANSWERS:
+        yield ["draw", "p", "both", "s", "()", "1", "PORT"], switch, AskedServer(answers)
 
 
 def main():

@@ -1,9 +1,9 @@
 //! `lamauth COMMAND ARGUMENTS`: the real files, standard output and links of this machine, handed to the top call.
 #![tactic(auto)]
 
-mod ending;
 #[cfg(test)]
-mod link_ends;
+mod ended_links;
+mod ending;
 mod net;
 
 use ending::{RunEnd, ended};

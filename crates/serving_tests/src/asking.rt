@@ -14,14 +14,14 @@ const SCRIPT: &[u8] = b"open 1 0\ncall 1 open 1 ()\ngo\nclose 1\n";
 
 /// The calls of the net, of the files and of the output that fail.
 #[derive(Clone, Copy)]
-struct Failing<'a> {
-    net: &'a [u64],
-    files: &'a [u64],
-    writes: &'a [u64],
+pub struct Failing<'a> {
+    pub net: &'a [u64],
+    pub files: &'a [u64],
+    pub writes: &'a [u64],
 }
 
 /// None of them.
-static NONE: Failing<'static> = Failing {
+pub static NONE: Failing<'static> = Failing {
     net: &[],
     files: &[],
     writes: &[],

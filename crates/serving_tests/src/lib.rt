@@ -1,11 +1,17 @@
-//! Tests of the commands `serve` and `ask` over a net in memory: what it writes, stores and sends, and where a call of the net, of the output or of
-//! the files fails.
+//! Tests of the commands `serve`, `ask`, `mirror` and `draw` over a net in memory: what it writes, stores and sends, and where a call of the net,
+//! of the output or of the files fails.
 #![tactic(auto)]
 
 #[cfg(test)]
 mod asking;
 #[cfg(test)]
+mod drawing;
+#[cfg(test)]
+mod lies;
+#[cfg(test)]
 mod messages;
+#[cfg(test)]
+mod mirroring;
 #[cfg(test)]
 mod serving;
 #[cfg(test)]

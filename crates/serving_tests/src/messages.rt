@@ -47,3 +47,24 @@ pub fn answers(alloc: Global, frames: &[u8]) -> Result<Vec<u8>, AllocError> {
     add(&mut bytes, &[0x85, 0, 1, 0], &[])?;
     Ok(bytes)
 }
+
+/// Messages that ask a mirror for the pieces of these bytes.
+pub fn fetches(alloc: Global, pieces: &[&[u8]]) -> Result<Vec<u8>, AllocError> {
+    let mut bytes = Vec::new(alloc);
+    for piece in pieces {
+        add(&mut bytes, &[5, 0, 0], &Sha::of(piece).0)?;
+    }
+    Ok(bytes)
+}
+
+/// Answers that give these pieces; a piece that isn't there is lacking.
+pub fn given(alloc: Global, pieces: &[Option<&[u8]>]) -> Result<Vec<u8>, AllocError> {
+    let mut bytes = Vec::new(alloc);
+    for piece in pieces {
+        match piece {
+            Some(piece) => add(&mut bytes, &[0x86, 0, 0], piece)?,
+            None => add(&mut bytes, &[0x87, 0, 0], &[])?,
+        }
+    }
+    Ok(bytes)
+}
