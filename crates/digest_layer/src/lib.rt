@@ -28,6 +28,8 @@ impl Hash32 for Sha {
         Digest(Sha256::digest(bytes))
     }
 
+    // A digest is made for each authenticated value, and LLVM would not inline it by itself.
+    #[inline(always)]
     fn of_pair(first: &[u8], second: &[u8]) -> Digest {
         // The first format has no front, and one call costs less than three.
         if first.is_empty() {

@@ -150,7 +150,7 @@ module _ (p : Types) (nodes : List Node) where
   module _ (records : Records) (entries : List Entry) (kept : AreKeptFor (types_meaning p).types nodes entries records) where
     -- before the first
     pub ordering_first : AreBehind (types_meaning p).types [] entries → All (λ (e : Entry). is_part (types_meaning p).types e.of_type (types_meaning p).state ≡ true) entries
-        → Ordering records entries [] [] records.nodes.items
+        → Ordering records entries [] [] records.first_nodes.nodes.items
     ordering_first behind parts =
         record { done = []; rest = entries; all = refl; typed = tt; ordered = tt; stand = kept.stand; have = kept.have; behind = behind; parts = parts }
 
@@ -207,7 +207,7 @@ module _ (p : Types) (nodes : List Node) where
     first_of (x ∷ xs) = refl
 
     -- as the code begins
-    pub ordering_begins : (known : List TyId) (order : List (TyId × Ref)) (items : List Ref) → known ≡ [] → order ≡ [] → items ≡ records.nodes.items
+    pub ordering_begins : (known : List TyId) (order : List (TyId × Ref)) (items : List Ref) → known ≡ [] → order ≡ [] → items ≡ records.first_nodes.nodes.items
         → AreBehind (types_meaning p).types [] entries → All (λ (e : Entry). is_part (types_meaning p).types e.of_type (types_meaning p).state ≡ true) entries
         → Ordering records entries known order (drop 0 items)
     ordering_begins known order items no_known no_order same behind parts =

@@ -10,7 +10,7 @@ use Rattle.value_store.specs.declared.node.Ref.{Ref}
 use Rattle.images.specs.FormTypes.{inner_told}
 use Rattle.images.specs.Frames.{frame_of}
 use Rattle.images.specs.Reached.{AllReached, OrderReached, PartOf, Reaches}
-use Rattle.images.specs.SavedRecords.{IsAdded, IsAmongOld, IsBehindOld, node_numbers, record_for}
+use Rattle.images.specs.SavedRecords.{IsAdded, IsAmongOld, IsBehindOld, KeepsNodes, node_numbers, record_for}
 use Rattle.images.specs.declared.save.Frame.{Frame}
 use Rattle.images.specs.declared.save.records.Records.{Records}
 use Rattle.images.proofs.NodeEntries.{refs_at}
@@ -20,6 +20,10 @@ module _ (nodes : List Node) (root : ℕ) where
   FramesReached [] = Unit {0}
   FramesReached (f ∷ fs) = Reaches nodes root f.node.0 × FramesReached fs
 
+  -- the first nodes are met, where they are kept
+  abbrev pub FirstReached : Records → Type 0
+  FirstReached records = KeepsNodes records → AllReached nodes root (node_numbers records)
+
   pub reached_part : (f : Frame) (fs : List Frame) (p : Ref) → slice_get (refs_at nodes f.node.0) f.next ≡ Some p.0 → FramesReached (f ∷ fs)
       → FramesReached (frame_of p 0 ∷ frame_of f.node (f.next + 1) ∷ fs)
   reached_part f fs p at h = (PartOf f.node.0 f.next p.0 h.0 at, (h.0, h.1))
@@ -28,13 +32,12 @@ module _ (nodes : List Node) (root : ℕ) where
   all_push [] r h last = (last, tt)
   all_push (x ∷ rs) r h last = (h.0, all_push rs r h.1 last)
 
-  pub reached_add : (node : ℕ) (form : Form) (old new : Records) → IsAdded node form old new → Reaches nodes root node → AllReached nodes root (node_numbers old)
-      → AllReached nodes root (node_numbers new)
-  reached_add node form old new added h all = by added.1.1
+  pub reached_add : (node : ℕ) (form : Form) (old new : Records) → IsAdded node form old new → Reaches nodes root node → FirstReached old → FirstReached new
+  reached_add node form old new added h all keeps = by added.1.1
     where
       by : IsAmongOld old new ⊎ IsBehindOld node (record_for old form) old new → AllReached nodes root (node_numbers new)
-      by (inl there) = subst (AllReached nodes root) (sym there.1) all
-      by (inr behind) = subst (AllReached nodes root) (sym behind.2) (all_push (node_numbers old) node all h)
+      by (inl there) = let kept = there.1 keeps in subst (AllReached nodes root) (sym kept.1) (all kept.0)
+      by (inr behind) = let kept = behind.2 keeps in subst (AllReached nodes root) (sym kept.1) (all_push (node_numbers old) node (all kept.0) h)
 
   order_append : (a b : List (TyId × Ref)) → OrderReached nodes root a → OrderReached nodes root b → OrderReached nodes root (a ++ b)
   order_append [] b h j = j

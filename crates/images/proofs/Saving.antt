@@ -7,7 +7,7 @@ use Rattle.images.specs.Parts.{HasLength}
 use Rattle.images.specs.SavedImages.{distinct, record_bytes, records_bytes, walk}
 use Rattle.value_store.specs.Nodes.{Node}
 use Rattle.images.specs.FormRecords.{joined}
-use Rattle.images.specs.SavedRecords.{bytes_in, node_numbers, number_at, records_in}
+use Rattle.images.specs.SavedRecords.{KeepsNodes, bytes_in, node_numbers, number_at, records_in}
 use Rattle.images.specs.declared.save.Frame.{Frame}
 use Rattle.images.specs.declared.save.records.Records.{Records}
 use Rattle.images.proofs.AmongEntries.{IsAmong, AreAmong}
@@ -23,13 +23,14 @@ pub record IsPlaced (types : Table) (done : List Entry) (e : Entry) : Type 0 whe
   pub has_length : HasLength e.of_type
   pub walked : AreAmong done (walk types e.of_type e.value)
 
--- the records are those of these entries, each behind its parts, and the nodes with numbers stand for them
+-- The records are those of these entries, each behind its parts, and the nodes with numbers stand for them; the first nodes too, where
+-- they are kept.
 pub record AreNumbered (types : Table) (nodes : List Node) (done : List Entry) (records : Records) : Type 0 where
   pub keys : records_in records ≡ map (record_of types done) done
   pub placed : (e : Entry) → IsAmong done e → IsPlaced types done e
   pub once : AreOnce done
-  pub have : AllHave types nodes records (node_numbers records)
-  pub stand : StandAs types nodes (node_numbers records) done
+  pub have : KeepsNodes records → AllHave types nodes records (node_numbers records)
+  pub stand : KeepsNodes records → StandAs types nodes (node_numbers records) done
   pub numbers : (r n : ℕ) → number_at records r ≡ Some n → (e : Entry) × StandsAs types nodes r e × (slice_get done n ≡ Some e)
 
 -- the entries that are still to be met, where these nodes wait, the one that is walked now first

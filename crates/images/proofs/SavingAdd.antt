@@ -140,8 +140,8 @@ module _ (types : Table) (few_types : length types ≤ 65536) (nodes : List Node
           keys = keys;
           placed = numbered.placed;
           once = numbered.once;
-          have = subst (λ rs. AllHave types nodes new rs) (sym there.1) (all_more old new r n now (node_numbers old) numbered.have);
-          stand = subst (λ rs. StandAs types nodes rs done) (sym there.1) numbered.stand;
+          have = λ keeps. (let kept = there.1 keeps in subst (λ rs. AllHave types nodes new rs) (sym kept.1) (all_more old new r n now (node_numbers old) (numbered.have kept.0)));
+          stand = λ keeps. (let kept = there.1 keeps in subst (λ rs. StandAs types nodes rs done) (sym kept.1) (numbered.stand kept.0));
           numbers = numbers_new done old new r n e is.stands found numbered.numbers now;
         };
         met = λ ys. distinct_there done e ys (among_at e done n found);
@@ -201,9 +201,10 @@ module _ (types : Table) (few_types : length types ≤ 65536) (nodes : List Node
           keys = keys;
           placed = placed;
           once = once_more done e numbered.once fresh;
-          have = subst (λ rs. AllHave types nodes new rs) (sym behind.2)
-              (all_push new (node_numbers old) r (all_more old new r n now (node_numbers old) numbered.have) (have_more old new r n now (refs_at nodes r) is.have));
-          stand = subst (λ rs. StandAs types nodes rs all) (sym behind.2) (stand_more (node_numbers old) done r e numbered.stand is.stands);
+          have = λ keeps. (let kept = behind.2 keeps in subst (λ rs. AllHave types nodes new rs) (sym kept.1)
+              (all_push new (node_numbers old) r (all_more old new r n now (node_numbers old) (numbered.have kept.0)) (have_more old new r n now (refs_at nodes r) is.have)));
+          stand = λ keeps. (let kept = behind.2 keeps in subst (λ rs. StandAs types nodes rs all) (sym kept.1)
+              (stand_more (node_numbers old) done r e (numbered.stand kept.0) is.stands));
           numbers = numbers_new all old new r n e is.stands found before now;
         };
         met = λ ys. distinct_new done e ys fresh;

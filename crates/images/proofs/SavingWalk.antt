@@ -6,7 +6,7 @@ use Rattle.images.specs.SavedImages.{distinct, records_bytes, walk}
 use Rattle.value_store.specs.Nodes.{Node}
 use Rattle.value_store.specs.declared.node.Ref.{Ref}
 use Rattle.images.specs.Frames.{frame_of}
-use Rattle.images.specs.SavedRecords.{AreSaved, bytes_in, node_numbers, number_at, records_in}
+use Rattle.images.specs.SavedRecords.{AreSaved, KeepsNodes, bytes_in, node_numbers, number_at, records_in}
 use Rattle.images.specs.KeptNodes.{AllHave, AreKeptFor}
 use Rattle.images.specs.declared.save.Frame.{Frame}
 use Rattle.images.specs.declared.save.records.Records.{Records}
@@ -116,8 +116,8 @@ module _ (types : Table) (nodes : List Node) where
           keys = keys;
           placed = λ x h. absurd (true≢false (sym h));
           once = λ i x h. absurd (nothing_at i x h);
-          have = subst (λ rs. AllHave types nodes records rs) (sym none_stand) tt;
-          stand = subst (λ rs. StandAs types nodes rs []) (sym none_stand) tt;
+          have = λ keeps. subst (λ rs. AllHave types nodes records rs) (sym none_stand) tt;
+          stand = λ keeps. subst (λ rs. StandAs types nodes rs []) (sym none_stand) tt;
           numbers = λ r n h. absurd (none_some (number_at records r) n (none r) h);
         };
         left = walk types e.of_type e.value;
@@ -131,8 +131,8 @@ module _ (types : Table) (nodes : List Node) where
       let same : h.done ≡ wanted = ap (distinct h.done) (sym h.are_left) ∙ h.met in
       (ap length h.numbered.keys ∙ length-map (record_of types h.done) h.done ∙ ap length same, bytes_numbered types nodes h.done records h.numbered ∙ ap (λ es. records_bytes types es es) same, short)
 
-  pub saving_kept : (wanted : List Entry) (records : Records) → Saving types nodes wanted records [] → AreKeptFor types nodes wanted records
-  saving_kept wanted records h =
+  pub saving_kept : (wanted : List Entry) (records : Records) → KeepsNodes records → Saving types nodes wanted records [] → AreKeptFor types nodes wanted records
+  saving_kept wanted records keeps h =
       let same : h.done ≡ wanted = ap (distinct h.done) (sym h.are_left) ∙ h.met in
       let P : List Entry → Type 0 = λ es. AreKeptFor types nodes es records in
-      subst P same (record { stand = h.numbered.stand; have = h.numbered.have; once = h.numbered.once; numbers = h.numbered.numbers })
+      subst P same (record { stand = h.numbered.stand keeps; have = h.numbered.have keeps; once = h.numbered.once; numbers = h.numbered.numbers })

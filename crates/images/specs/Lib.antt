@@ -12,6 +12,7 @@ pub mod ReadRecords
 pub mod KeptRecords
 pub mod StoredRecords
 pub mod LoadedRecords
+pub mod FirstNodes
 pub mod FormRecords
 pub mod NodeNumbers
 pub mod SavedRecords

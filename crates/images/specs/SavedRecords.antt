@@ -6,6 +6,7 @@ use Rattle.images.specs.SavedImages.{records_bytes}
 use Rattle.images.specs.declared.fault.SaveFault.{SaveFault}
 use Rattle.images.specs.declared.fault.SaveFault.TheVariants.{TooLong, NoMemory}
 use Rattle.value_store.specs.Nodes.{Form}
+use Rattle.images.specs.FirstNodes.{KeepsFirst}
 use Rattle.images.specs.FormRecords.{bytes_of, joined, record_at}
 use Rattle.images.specs.NodeNumbers.{number_in}
 use Rattle.images.specs.declared.save.records.Records.{Records}
@@ -19,9 +20,12 @@ records_in records = map bytes_of records.records.keys
 abbrev pub bytes_in : Records → List ℕ
 bytes_in records = joined (records_in records)
 
--- a node of each record
+-- the first node of each record is kept, and is one of these
+abbrev pub KeepsNodes : Records → Type 0
+KeepsNodes records = KeepsFirst records.first_nodes
+
 abbrev pub node_numbers : Records → List ℕ
-node_numbers records = map (λ (r : Ref). r.0) records.nodes.items
+node_numbers records = map (λ (r : Ref). r.0) records.first_nodes.nodes.items
 
 -- the number of the record of a node that has one
 abbrev pub number_at : Records → ℕ → Option ℕ
@@ -43,13 +47,14 @@ record_for records form = record_at (number_or_first records) form
 abbrev pub IsNew : List ℕ → Records → Type 0
 IsNew found records = (i : ℕ) → slice_get (records_in records) i ≢ Some found
 
--- the record was there, or is added behind the others with its node
+-- the record was there, or is added behind the others, with its node where these are kept
 abbrev pub IsAmongOld : (old new : Records) → Type 0
-IsAmongOld old new = (records_in new ≡ records_in old) × (node_numbers new ≡ node_numbers old)
+IsAmongOld old new = (records_in new ≡ records_in old) × (KeepsNodes new → KeepsNodes old × (node_numbers new ≡ node_numbers old))
 
 abbrev pub IsBehindOld : ℕ → List ℕ → (old new : Records) → Type 0
 IsBehindOld node found old new =
-    IsNew found old × (records_in new ≡ records_in old ++ found ∷ []) × (node_numbers new ≡ node_numbers old ++ node ∷ [])
+    IsNew found old × (records_in new ≡ records_in old ++ found ∷ [])
+    × (KeepsNodes new → KeepsNodes old × (node_numbers new ≡ node_numbers old ++ node ∷ []))
 
 -- the record of a node is there once, with this number
 abbrev pub HasNumber : ℕ → List ℕ → (old new : Records) → ℕ → Type 0

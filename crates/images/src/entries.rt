@@ -181,6 +181,8 @@ pub(crate) fn authenticated<M: Marker>(
 }
 
 /// A constructor value, by the numbers of the records of its fields, which must be earlier ones of the fields' types.
+// Of the records of a state most are constructors, and two loaders put them.
+#[inline(always)]
 pub(crate) fn constructor(
     alloc: Global,
     parts: &PartTypes,

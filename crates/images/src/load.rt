@@ -113,6 +113,8 @@ fn load_records<'a, M: Marker>(
 }
 
 /// The record with this number, at the front of some bytes of an image of `size`.
+// For each record of an image, in both loaders (a state's and a journal's), so LLVM would call it.
+#[inline(always)]
 fn next_front<'a>(
     parts: &PartTypes<'a>,
     number: u32,

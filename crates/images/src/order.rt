@@ -37,7 +37,7 @@ pub fn auth_order(
         → IfOk result (λ order. AreInOrder types.now (nodes_in store.now) (auth_entries (types_meaning types.now).types (types_meaning types.now).state v) order.items) }
 {
     // No records are too long here: what is wanting is memory.
-    let Ok(found) = records_of(alloc, store, root, usize::MAX) else {
+    let Ok(found) = records_of(alloc, store, root, usize::MAX, true) else {
         return Err(AllocError);
     };
     let records = &found;

@@ -55,6 +55,8 @@ pub(crate) enum RecordFault {
 }
 
 /// The record that the bytes begin with. It may be one of an array where `arrays` says so.
+// As `next_front`, which calls it.
+#[inline(always)]
 pub(crate) fn read_record<'a>(
     types: &'a Types,
     parts: &PartMarks,

@@ -1,4 +1,5 @@
 // Writing the image of a value that stands in a store.
+mod first_nodes;
 mod numbers;
 pub(crate) mod record;
 pub(crate) mod records;
@@ -50,7 +51,7 @@ pub fn save_image(
     ensures loads { (v : Value) → IsStateAt (types_meaning types.now) store.now root v → IfOk result (λ image. image_of (types_meaning types.now) text_digest.now.0 image.items ≡ Root v) }
 {
     let digest = text_digest.as_bytes();
-    let records = records_of(alloc, store, root, MOST_BYTES)?;
+    let records = records_of(alloc, store, root, MOST_BYTES, false)?;
     let mut image = write_header(alloc, types, digest, records.count() as u32)?;
     records.write(&mut image)?;
     Ok(image)
@@ -64,21 +65,23 @@ struct Frame {
 }
 
 /// The records of what a node stands for, each once, where all have no more than so many bytes. Nodes on the way to their records wait in
-/// a list, so the depth of the value costs no stack; a node that has its record is not walked again.
+/// a list, so the depth of the value costs no stack; a node that has its record is not walked again. The first node of each record is kept
+/// where it is asked for.
 pub(crate) fn records_of(
     alloc: Global,
     store: &Store,
     root: Ref,
     most: usize,
+    keeps_nodes: bool,
 ) -> Result<Records, SaveFault>
     requires { root.0 < length (nodes_in store.now) }
     ensures saved { (types : Table) (t : Ty) (v : Value) → has_numbers types ≡ true → StandsFor IdealNodes types (nodes_in store.now) root.0 t v
         → AreSaved most types (distinct [] (walk types t v)) result }
-    ensures reached { IfOk result (λ records. AllReached (nodes_in store.now) root.0 (node_numbers records)) }
-    ensures kept { (types : Table) (t : Ty) (v : Value) → has_numbers types ≡ true → StandsFor IdealNodes types (nodes_in store.now) root.0 t v
+    ensures reached { keeps_nodes ≡ true → IfOk result (λ records. AllReached (nodes_in store.now) root.0 (node_numbers records)) }
+    ensures kept { keeps_nodes ≡ true → (types : Table) (t : Ty) (v : Value) → has_numbers types ≡ true → StandsFor IdealNodes types (nodes_in store.now) root.0 t v
         → IfOk result (λ records. AreKeptFor types (nodes_in store.now) (distinct [] (walk types t v)) records) }
 {
-    let mut records = Records::new(alloc, most);
+    let mut records = Records::new(alloc, most, keeps_nodes);
     let mut frames = Vec::new(alloc);
     add(&mut frames, root, 0)?;
     while let Some(frame) = frames.pop() {

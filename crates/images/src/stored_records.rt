@@ -67,6 +67,8 @@ impl StoredRecords {
     }
 
     /// Adds a record. One of a type behind the first 2^32 finds no room.
+    // For each record of an image, in two loaders.
+    #[inline(always)]
     pub fn push(&mut self, found: StoredRecord) -> Result<(), AllocError>
         ensures { OnOk result (self.new ≡ self.old ++ found ∷ []) }
     {

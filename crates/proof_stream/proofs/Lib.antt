@@ -1,7 +1,6 @@
 -- next, next_new, next_back: what bytes offer by their next frame, and the frame from the parts that came
 pub mod Offering
 pub mod Taking
-pub mod Filling
 -- header
 pub mod Heads
 -- put_header, put_new

@@ -1,8 +1,8 @@
 -- The next frame, from the parts that came.
 use Rattle.std.proofs.Common.{◌≡◌, ◌≢◌, ℕ, ◌+◌, ◌<◌, ◌≤◌, List, [], ◌∷◌, ◌++◌, length, length-append, take, drop, Option, Some, None, Result, Ok, Err, IsErrAnd, slice_index, sym, ap, subst, ◌∙◌, arith}
-use Rattle.std.proofs.Math.Seq.{drop-append_seam, drop-append-add}
-use Rattle.std.proofs.lemmas.List.{drop-drop}
-use Rattle.std.specs.Io.KnownBytes.{IsAtEnd, prepend_known}
+use Rattle.std.proofs.Math.Seq.{drop-append_seam}
+use Rattle.std.proofs.lemmas.List.{drop-drop, take-append-le, take_all}
+use Rattle.std.specs.Io.KnownBytes.{prepend_known}
 use Rattle.ideal_meaning.specs.Frames.{NoByte, KindIs, LongBy}
 use Rattle.proof_stream.specs.declared.frame.Frame.{Frame}
 use Rattle.proof_stream.specs.declared.frame.Frame.TheVariants.{New, Back}
@@ -104,13 +104,17 @@ took_one len bytes body left0 (Some rest) told first fits =
     let whole : bytes ≡ body ++ rest = cc in
     (length body, fits, ap Some (sym (ap (drop (length body)) whole ∙ drop-append_seam body rest)))
 
--- less than a piece came, and nothing is left
-pub cut_short : (len : ℕ) (bytes body : List ℕ) (left0 left1 : Option (List ℕ)) → left0 ≡ Some bytes → left0 ≡ prepend_known body left1 → IsAtEnd left1 → length body < len
-    → (length bytes < len) × (left1 ≡ Some [])
-cut_short len bytes body left0 None told first at_end few = absurd (let clash : Some bytes ≡ None = sym told ∙ first in cc)
-cut_short len bytes body left0 (Some rest) told first at_end few =
-    let same : Some bytes ≡ Some (body ++ rest) = sym told ∙ first in
-    let whole : bytes ≡ body ++ rest = cc in
-    let long : length bytes ≡ length body + length rest = ap length whole ∙ length-append body rest in
-    let none : length rest ≡ 0 = ap length at_end in
-    (omega (arith, long, none, few), ap Some at_end)
+-- all of a piece came
+pub all_came : (len : ℕ) (bytes piece : List ℕ) (left0 left1 : Option (List ℕ)) → left0 ≡ Some bytes → left0 ≡ prepend_known piece left1 → length piece ≡ len
+    → PieceCame len bytes piece left1 (Ok tt)
+all_came len bytes piece left0 None told first whole = absurd (let clash : Some bytes ≡ None = sym told ∙ first in cc)
+all_came len bytes piece left0 (Some rest) told first whole =
+    let same : Some bytes ≡ Some (piece ++ rest) = sym told ∙ first in
+    let parted : bytes ≡ piece ++ rest = cc in
+    let long : length bytes ≡ length piece + length rest = ap length parted ∙ length-append piece rest in
+    let within : len ≤ length piece = omega (arith, whole) in
+    let reaches : length piece ≤ len = omega (arith, whole) in (
+      omega (arith, long, whole),
+      sym (ap (take len) parted ∙ take-append-le len piece rest within ∙ take_all len piece reaches),
+      ap Some (sym (ap (drop len) parted ∙ ap (λ n. drop n (piece ++ rest)) (sym whole) ∙ drop-append_seam piece rest)),
+    )

@@ -26,6 +26,8 @@ pub struct FrameReader {
     alloc: Global,
     limit: usize,
     piece: Vec<u8>,
+    /// The memory of the next piece.
+    spare: Vec<u8>,
 }
 
 impl FrameReader {
@@ -40,6 +42,7 @@ impl FrameReader {
             alloc,
             limit,
             piece: Vec::new(alloc),
+            spare: Vec::new(alloc),
         }
     }
 
@@ -102,7 +105,8 @@ impl FrameReader {
         ensures cause { FrameCause (S.faults source.old) (S.faults source.new) result }
     {
         let len = read_length(source, self.limit)?;
-        read_piece(source, len as usize, &mut self.piece)?;
+        read_piece(source, len as usize, &mut self.spare)?;
+        mem::swap(&mut self.piece, &mut self.spare);
         Ok(Frame::New)
     }
 
@@ -127,9 +131,10 @@ impl FrameReader {
         ensures piece { piece_of self.new ≡ [] }
         ensures limit { limit_of self.new ≡ limit_of self.old }
     {
-        let mut buffer = spare.unwrap_or(Vec::new(self.alloc));
-        buffer.clear();
-        self.piece = buffer;
+        self.piece.clear();
+        if let Some(spare) = spare {
+            self.spare = spare;
+        }
     }
 
     /// Takes the bytes that are left, at most 65,536, and gives their number.

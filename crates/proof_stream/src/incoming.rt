@@ -1,11 +1,12 @@
 // The parts of a frame as they come: its first byte, numbers, and the bytes of a piece.
-ghost use Rattle.std.specs.Prelude.{◌≡◌, ◌≤◌, length, IfOk, OnOk};
+ghost use Rattle.std.specs.Prelude.{◌≡◌, ◌<◌, ◌≤◌, length, take, IfOk, OnOk};
 ghost use Rattle.std.specs.Option.{ForSome};
 ghost use Rattle.proof_stream.specs.Incoming.{FrameCause, IsWithin, KindCame, LengthCame, NumberCame, PieceCame};
 
 use crate::FrameEnd;
 use byteorder::{BigEndian, ByteOrder};
 use lam_outside::{Source, fill};
+use std::alloc::AllocError;
 
 /// By how many bytes the buffer of a piece grows at once, at most.
 const CHUNK: usize = 16_384;
@@ -61,7 +62,7 @@ fn within(len: u32, limit: usize) -> Result<u32, FrameEnd>
 }
 
 /// The bytes of a piece of this length, in place of those that were in the buffer. It takes memory for no more than
-/// comes and one chunk.
+/// comes and one chunk, beside what the buffer has: its bytes are written over, which costs less than clearing them first.
 pub fn read_piece<S: Source>(
     source: &mut S,
     len: usize,
@@ -72,15 +73,33 @@ pub fn read_piece<S: Source>(
     ensures rest { S.rest source.new ≡ S.rest source.old }
     ensures cause { FrameCause (S.faults source.old) (S.faults source.new) result }
 {
-    piece.clear();
-    while piece.len() < len {
-        let start = piece.len();
-        let most = CHUNK.min(len - start);
-        piece.resize(start + most, 0)?;
+    piece.truncate(len);
+    let mut start = 0;
+    while start < len {
+        make_room(piece, start, len)?;
+        let most = piece.len() - start;
         let count = fill(source, &mut piece[start..])?;
         if count < most {
             return Err(FrameEnd::Cut);
         }
+        start += most;
     }
+    Ok(())
+}
+
+/// Makes the buffer longer than its first bytes, by one chunk at most, where it isn't.
+fn make_room(piece: &mut Vec<u8>, start: usize, len: usize) -> Result<(), AllocError>
+    requires below { start < len }
+    requires there { start ≤ length piece.old.items }
+    requires fits { length piece.old.items ≤ len }
+    ensures kept { take start piece.new.items ≡ take start piece.old.items }
+    ensures room { OnOk result (start < length piece.new.items) }
+    ensures within { length piece.new.items ≤ len }
+{
+    if start < piece.len() {
+        return Ok(());
+    }
+    let most = CHUNK.min(len - start);
+    piece.resize(start + most, 0)?;
     Ok(())
 }

@@ -1,7 +1,7 @@
 //! The frames of a proof: read from a source one at a time, and written.
 //!
-//! What frames offer is defined in `ideal_meaning`. A reader keeps the piece in hand alone, and a piece takes no more memory
-//! than comes of it.
+//! What frames offer is defined in `ideal_meaning`. A reader keeps the piece in hand, and the memory of one that is out of
+//! use for the next; a piece takes no more memory than comes of it and one chunk.
 #![tactic(auto)]
 
 mod frame;

@@ -6,6 +6,7 @@ ghost use Rattle.value_store.specs.Views.{form_shown};
 ghost use Rattle.images.specs.FormRecords.{HasShortText, bytes_of, joined, most_records};
 ghost use Rattle.images.specs.NodeNumbers.{number_in};
 
+use super::first_nodes::FirstNodes;
 use super::numbers::Numbers;
 use super::record::{Record, head, part};
 use crate::SaveFault;
@@ -22,8 +23,8 @@ pub(crate) struct Records {
     records: IndexSet<Record>,
     /// The number of the record of each node that has one.
     numbers: Numbers,
-    /// To each record the first node that got it.
-    nodes: Vec<Ref>,
+    /// To each record the first node that got it, where these are kept.
+    first_nodes: FirstNodes,
     /// The number of bytes of all records.
     byte_count: usize,
     /// The greatest number of them.
@@ -39,9 +40,10 @@ pub(crate) struct Records {
 impl Records {
     ghost use Rattle.images.specs.SavedRecords.{HasNumber, HaveRecords, IsAdded, IsTooMuch, bytes_in, node_numbers, number_at, record_for, records_in};
 
-    /// No records, where all may have so many bytes.
-    pub fn new(alloc: Global, most: usize) -> Self
+    /// No records, where all may have so many bytes, and the first node of each is kept or isn't.
+    pub fn new(alloc: Global, most: usize, keeps_nodes: bool) -> Self
         ensures most { result.most ≡ most }
+        ensures keeps { result.first_nodes.are_kept ≡ keeps_nodes }
         ensures records { records_in result ≡ [] }
         ensures nodes { node_numbers result ≡ [] }
         ensures numbers { (r : ℕ) → number_at result r ≡ None }
@@ -49,7 +51,7 @@ impl Records {
         Records {
             records: IndexSet::new(alloc),
             numbers: Numbers::new(alloc),
-            nodes: Vec::new(alloc),
+            first_nodes: FirstNodes::new(alloc, keeps_nodes),
             byte_count: 0,
             most,
             alloc,
@@ -74,11 +76,11 @@ impl Records {
         Ok(())
     }
 
-    /// A node of each record, in the order of the image.
+    /// A node of each record, in the order of the image, where they are kept.
     pub fn nodes(&self) -> &[Ref]
-        ensures { result.now ≡ self.now.nodes.items }
+        ensures { result.now ≡ self.now.first_nodes.nodes.items }
     {
-        &self.nodes
+        self.first_nodes.nodes()
     }
 
     /// The number of the record of a node, where it has one.
@@ -95,6 +97,7 @@ impl Records {
         ensures added { IfOk result (λ _. IsAdded node.0 (form_shown view.entry) self.old self.new) }
         ensures long { IfErr result (IsTooMuch (record_for self.old (form_shown view.entry)) self.old) }
         ensures most { self.new.most ≡ self.old.most }
+        ensures keeps { self.new.first_nodes.are_kept ≡ self.old.first_nodes.are_kept }
     {
         let record = self.record_of(view)?;
         let number = self.number_for(node, record)?;
@@ -127,6 +130,7 @@ impl Records {
         ensures same { (r : ℕ) → number_at self.new r ≡ number_at self.old r }
         ensures long { IfErr result (IsTooMuch (bytes_of found) self.old) }
         ensures most { self.new.most ≡ self.old.most }
+        ensures keeps { self.new.first_nodes.are_kept ≡ self.old.first_nodes.are_kept }
     {
         if let Some(number) = self.records.get_index_of(&found) {
             return Ok(number);
@@ -139,7 +143,7 @@ impl Records {
             return Err(SaveFault::NoMemory);
         }
         // Where no memory is left behind this, all records are given up.
-        let Ok(_) = self.nodes.push(node) else {
+        let Ok(_) = self.first_nodes.push(node) else {
             return Err(SaveFault::NoMemory);
         };
         let Ok((number, _)) = self.records.insert_full(found) else {

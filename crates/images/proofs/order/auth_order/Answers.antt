@@ -37,7 +37,7 @@ loop-node-init c = record {
       let entries = distinct [] (walk P.types P.state v) in
       let IsPart : Entry → Type 0 = λ e. is_part P.types e.of_type P.state ≡ true in
       let are_parts = part_walk P nodes c.args.store.now.sound v c.args.root.0 h (itself P.types (length P.types) P.state) in
-      ordering_begins p nodes c.in-Ok.found entries (c.in-Ok.ensures.kept P.types P.state v p.numbers h) c.new-known.result.items c.new-order.result.items c.nodes-node-items.result.now
+      ordering_begins p nodes c.in-Ok.found entries (c.in-Ok.ensures.kept refl P.types P.state v p.numbers h) c.new-known.result.items c.new-order.result.items c.nodes-node-items.result.now
       c.new-known.ensures.items c.new-order.ensures.items c.nodes-node-items.ensures
       (behind_distinct P.types [] (walk P.types P.state v) tt (walk_behind P.types P.state v []))
       (all_distinct IsPart [] (walk P.types P.state v) (All-nil IsPart) are_parts);
@@ -49,7 +49,7 @@ view-view-requires c =
     let P = types_meaning p in
     let v = c.requires.0 in
     let h = c.requires.1 in
-    there p (nodes_in c.args.store.now) c.in-Ok.found (distinct [] (walk P.types P.state v)) (c.in-Ok.ensures.kept P.types P.state v p.numbers h)
+    there p (nodes_in c.args.store.now) c.in-Ok.found (distinct [] (walk P.types P.state v)) (c.in-Ok.ensures.kept refl P.types P.state v p.numbers h)
     c.loop-node.known.items c.loop-node.order.items c.nodes-node-items.result.now c.loop-node.node-index _ c.loop-node-test.true (c.loop-node.invariant.ordering v h)
 
 pub part-requires-clause-behind : goal.part-requires-clause-behind
@@ -59,7 +59,7 @@ part-requires-clause-behind c =
     let v = c.requires.0 in
     let h = c.requires.1 in
     let found = c.in-Ok.found in
-    let step = ordering_next p (nodes_in c.args.store.now) found (distinct [] (walk P.types P.state v)) (c.in-Ok.ensures.kept P.types P.state v p.numbers h)
+    let step = ordering_next p (nodes_in c.args.store.now) found (distinct [] (walk P.types P.state v)) (c.in-Ok.ensures.kept refl P.types P.state v p.numbers h)
     c.loop-node.known.items c.loop-node.order.items c.nodes-node-items.result.now c.loop-node.node-index _ (form_shown c.view-view.result) c.loop-node-test.true
     c.view-view.ensures.form (c.loop-node.invariant.ordering v h) in
     let same : c.form_of-form.result ≡ form_told (id_in c.loop-node.known.items found) (form_shown c.view-view.result) =
@@ -73,7 +73,7 @@ unreachable-requires c =
     let v = c.requires.0 in
     let h = c.requires.1 in
     let found = c.in-Ok.found in
-    let step = ordering_next p (nodes_in c.args.store.now) found (distinct [] (walk P.types P.state v)) (c.in-Ok.ensures.kept P.types P.state v p.numbers h)
+    let step = ordering_next p (nodes_in c.args.store.now) found (distinct [] (walk P.types P.state v)) (c.in-Ok.ensures.kept refl P.types P.state v p.numbers h)
     c.loop-node.known.items c.loop-node.order.items c.nodes-node-items.result.now c.loop-node.node-index _ (form_shown c.view-view.result) c.loop-node-test.true
     c.view-view.ensures.form (c.loop-node.invariant.ordering v h) in
     let same : c.form_of-form.result ≡ form_told (id_in c.loop-node.known.items found) (form_shown c.view-view.result) =
@@ -87,7 +87,7 @@ loop-node-preserved c = record {
       subst (OrderReached (nodes_in c.args.store.now) c.args.root.0) (sym c.in_ok-push_inner.ensures)
       (order_reached (nodes_in c.args.store.now) c.args.root.0 c.loop-node.order.items c.nodes-node-items.result.now c.loop-node.node-index _ c.form_of-form.result
       (form_shown c.view-view.result) c.loop-node-test.true
-      (subst (λ items. AllReached (nodes_in c.args.store.now) c.args.root.0 (numbers_of items)) (sym c.nodes-node-items.ensures) c.in-Ok.ensures.reached)
+      (subst (λ items. AllReached (nodes_in c.args.store.now) c.args.root.0 (numbers_of items)) (sym c.nodes-node-items.ensures) (c.in-Ok.ensures.reached refl))
       c.view-view.ensures.form c.loop-node.invariant.reached);
   ordering = λ v h.
       let p = c.args.types.now in
@@ -96,7 +96,7 @@ loop-node-preserved c = record {
       let entries = distinct [] (walk P.types P.state v) in
       let items = c.nodes-node-items.result.now in
       let i = c.loop-node.node-index in
-      let step = ordering_next p (nodes_in c.args.store.now) found entries (c.in-Ok.ensures.kept P.types P.state v p.numbers h)
+      let step = ordering_next p (nodes_in c.args.store.now) found entries (c.in-Ok.ensures.kept refl P.types P.state v p.numbers h)
       c.loop-node.known.items c.loop-node.order.items items i _ (form_shown c.view-view.result) c.loop-node-test.true
       c.view-view.ensures.form (c.loop-node.invariant.ordering v h) in
       let told = form_told (id_in c.loop-node.known.items found) (form_shown c.view-view.result) in
@@ -116,6 +116,6 @@ returns c = record {
   order = λ v h.
       let p = c.args.types.now in
       let P = types_meaning p in
-      ordering_ends p (nodes_in c.args.store.now) c.in-Ok.found (distinct [] (walk P.types P.state v)) (c.in-Ok.ensures.kept P.types P.state v p.numbers h)
+      ordering_ends p (nodes_in c.args.store.now) c.in-Ok.found (distinct [] (walk P.types P.state v)) (c.in-Ok.ensures.kept refl P.types P.state v p.numbers h)
       c.loop-node.known.items c.loop-node.order.items c.nodes-node-items.result.now c.loop-node.node-index (omega (arith, c.loop-node-test.false)) (c.loop-node.invariant.ordering v h);
 }

@@ -29,7 +29,8 @@ loop-frame-init c =
     let back : frame_of root 0 ∷ [] ≡ reverse c.add.new.frames.items = sym (ap reverse items) in
     record {
       most = c.new-records.ensures.most;
-      reached = (subst (FramesReached nodes root.0) back (Itself, tt), subst (AllReached nodes root.0) (sym c.new-records.ensures.nodes) tt);
+      keeps = λ asked. c.new-records.ensures.keeps ∙ asked;
+      reached = (subst (FramesReached nodes root.0) back (Itself, tt), λ keeps. subst (AllReached nodes root.0) (sym c.new-records.ensures.nodes) tt);
       waiting = subst (AreWaiting nodes (HasRecord records)) back (waiting_first nodes (HasRecord records) root c.requires);
       saving = λ (types : Table) (t : Ty) (v : Value) numbers h.
           subst (Saving types nodes (distinct [] (walk types t v)) records) back
@@ -65,6 +66,7 @@ loop-frame-preserved-in-Continue-branch-3 c =
     sym (turned c.add-then-is_none.new.frames.items c.add-in-Some-part.new.frames.items (frame_of p 0) c.in_ok-add-in-Some-part-2.ensures ∙ ap (λ xs. frame_of p 0 ∷ xs) middle) in
     record {
       most = c.loop-frame.invariant.most;
+      keeps = c.loop-frame.invariant.keeps;
       reached = (subst (FramesReached nodes c.args.root.0) back (reached_part nodes c.args.root.0 f (reverse rest) p at (subst (FramesReached nodes c.args.root.0) was c.loop-frame.invariant.reached.0)), c.loop-frame.invariant.reached.1);
       waiting = subst (AreWaiting nodes (HasRecord records)) back (waiting_part nodes (HasRecord records) (reverse rest) f p at inside waited);
       saving = λ (types : Table) (t : Ty) (v : Value) numbers h.
@@ -107,6 +109,7 @@ loop-frame-preserved-else-is_none c =
     sym (turned c.add-in-Some-part.new.frames.items rest (frame_of f.node (f.next + 1)) c.in_ok-add-in-Some-part.ensures) in
     record {
       most = c.loop-frame.invariant.most;
+      keeps = c.loop-frame.invariant.keeps;
       reached = (subst (FramesReached nodes c.args.root.0) back (subst (FramesReached nodes c.args.root.0) was c.loop-frame.invariant.reached.0), c.loop-frame.invariant.reached.1);
       waiting = subst (AreWaiting nodes (HasRecord records)) back
           (waiting_next nodes (HasRecord records) (reverse rest) f p.0 at has (subst (AreWaiting nodes (HasRecord records)) was c.loop-frame.invariant.waiting));
@@ -148,6 +151,7 @@ loop-frame-preserved c =
     let added = c.in_ok-add-in-None.ensures.added in
     record {
       most = c.in_ok-add-in-None.ensures.most ∙ c.loop-frame.invariant.most;
+      keeps = λ asked. c.in_ok-add-in-None.ensures.keeps ∙ c.loop-frame.invariant.keeps asked;
       reached = (let met = subst (FramesReached nodes c.args.root.0) was c.loop-frame.invariant.reached.0 in (met.1, reached_add nodes c.args.root.0 f.node.0 form records new added met.0 c.loop-frame.invariant.reached.1));
       waiting = waiting_rest nodes (HasRecord records) (HasRecord new) (reverse rest) f (has_more form f records new added) waited;
       saving = λ (types : Table) (t : Ty) (v : Value) numbers h.
@@ -167,7 +171,7 @@ returns-in_err-add-in-None c =
     let waited = subst (AreWaiting nodes (HasRecord records)) was c.loop-frame.invariant.waiting in
     let have = subst (HaveRecords records) (refs_shown nodes f.node.0 form c.view-view.ensures.form) (waiting_whole nodes records (reverse rest) f over waited) in
     record {
-      reached = subst (λ (r : Result Records SaveFault). IfOk r (λ records. AllReached nodes c.args.root.0 (node_numbers records)))
+      reached = λ asked. subst (λ (r : Result Records SaveFault). IfOk r (λ records. AllReached nodes c.args.root.0 (node_numbers records)))
           (sym (same_error c.from_residual-in_err-add-in-None.result c.in_err-add-in-None.field-0.0 c.from_residual-in_err-add-in-None.ensures)) tt;
       saved = λ (types : Table) (t : Ty) (v : Value) numbers h.
           subst (AreSaved c.args.most types (distinct [] (walk types t v)))
@@ -176,7 +180,7 @@ returns-in_err-add-in-None c =
           (saving_refused types nodes (few_types types numbers) (distinct [] (walk types t v)) records form f (reverse rest) c.view-view.ensures.form over have
           (subst (Saving types nodes (distinct [] (walk types t v)) records) was (c.loop-frame.invariant.saving types t v numbers h))
           c.in_err-add-in-None.field-0.0 c.in_err-add-in-None.ensures.long));
-      kept = λ (types : Table) (t : Ty) (v : Value) numbers h.
+      kept = λ asked (types : Table) (t : Ty) (v : Value) numbers h.
           subst (λ (r : Result Records SaveFault). IfOk r (λ records. AreKeptFor types nodes (distinct [] (walk types t v)) records))
           (sym (same_error c.from_residual-in_err-add-in-None.result c.in_err-add-in-None.field-0.0 c.from_residual-in_err-add-in-None.ensures)) tt;
     }
@@ -188,11 +192,11 @@ returns c =
     let none : c.loop-frame.frames.items ≡ [] = emptied c.loop-frame.frames.items (omega (arith, c.in_default.ensures.cases.0, c.loop-frame.frames.ok.0)) in
     let short : length (bytes_in records) ≤ c.args.most = omega (arith, records.counted, records.short, c.loop-frame.invariant.most) in
     record {
-      reached = c.loop-frame.invariant.reached.1;
+      reached = λ asked. c.loop-frame.invariant.reached.1 (c.loop-frame.invariant.keeps asked);
       saved = λ (types : Table) (t : Ty) (v : Value) numbers h.
           saving_last types nodes c.args.most (distinct [] (walk types t v)) records short
           (subst (Saving types nodes (distinct [] (walk types t v)) records) (ap reverse none) (c.loop-frame.invariant.saving types t v numbers h));
-      kept = λ (types : Table) (t : Ty) (v : Value) numbers h.
-          saving_kept types nodes (distinct [] (walk types t v)) records
+      kept = λ asked (types : Table) (t : Ty) (v : Value) numbers h.
+          saving_kept types nodes (distinct [] (walk types t v)) records (c.loop-frame.invariant.keeps asked)
           (subst (Saving types nodes (distinct [] (walk types t v)) records) (ap reverse none) (c.loop-frame.invariant.saving types t v numbers h));
     }

@@ -6,7 +6,7 @@ use Rattle.images.proofs.SameRecords.{absent, added, joined_push, placed, same_a
 use Rattle.images.proofs.save.records.Records.number_for.Goals as goal
 
 pub returns-in-Some-clause-number : goal.returns-in-Some-clause-number
-returns-in-Some-clause-number c = (placed c.args.self.now.records.keys c.args.found c.in-Some.number (sym c.in-Some.ensures.index), inl (refl, refl))
+returns-in-Some-clause-number c = (placed c.args.self.now.records.keys c.args.found c.in-Some.number (sym c.in-Some.ensures.index), inl (refl, λ keeps. (keeps, refl)))
 
 pub returns-then-added-self-clause-long : goal.returns-then-added-self-clause-long
 returns-then-added-self-clause-long c = (
@@ -20,9 +20,15 @@ returns-clause-number c =
     let keys = c.args.self.now.records.keys in
     let none = sym c.in_default.ensures.found in
     let stored = c.in-Ok-insert_full.ensures.stored in
-    let pushed = ap (map (λ (r : Ref). r.0)) c.in-Ok.ensures.items ∙ map_push (λ (r : Ref). r.0) c.args.self.now.nodes.items c.args.node in
-    let now = ap (map bytes_of) c.in-Ok-insert_full.ensures.keys ∙ added keys found none in
-    (same_at c.insert_full.new.self.keys found stored.0 _ stored.1 stored.2, inr (absent keys found none, now, pushed))
+    let now = ap (map bytes_of) c.in-Ok-insert_full.ensures.keys ∙ added keys found none in (
+      same_at c.insert_full.new.self.keys found stored.0 _ stored.1 stored.2,
+      inr (
+        absent keys found none,
+        now,
+        λ keeps. (let kept = c.in-Ok.ensures.pushed keeps in
+            (kept.0, ap (map (λ (r : Ref). r.0)) kept.1 ∙ map_push (λ (r : Ref). r.0) c.args.self.now.first_nodes.nodes.items c.args.node)),
+      ),
+    )
 
 pub invariant_of-self-2-clause-counted : goal.invariant_of-self-2-clause-counted
 invariant_of-self-2-clause-counted c =
